@@ -1,0 +1,7 @@
+//! What every layer speaks of: the limits of the profile, its error codes, and the packets of a sample.
+#![tactic(auto)]
+
+mod err_code;
+pub mod limits;
+
+pub use err_code::ErrCode;

@@ -1,0 +1,46 @@
+//! The limits of the profile (own), each of the type in which it is used.
+
+/// The most event channels.
+pub const MAX_CHANNELS: u16 = 8;
+
+/// The most DAQ lists.
+pub const MAX_LISTS: u16 = 16;
+
+/// The most ODTs of one DAQ list, and so the most packets of one sample.
+pub const MAX_ODTS: usize = 8;
+
+/// The most ODTs of all DAQ lists, so that each PID stays at or below 0x7B before the overload bit.
+pub const MAX_ODTS_IN_ALL: usize = 124;
+
+/// The most entries of one ODT.
+pub const MAX_ENTRIES: usize = 32;
+
+/// MAX_DTO: the longest packet, in bytes.
+pub const MAX_DTO: usize = 64;
+
+/// The longest ODT entry, in bytes; the shortest has one.
+pub const MAX_ENTRY_SIZE: u8 = 63;
+
+/// The longest memory image, in bytes; the shortest has one.
+pub const MAX_IMAGE_LEN: usize = 4096;
+
+/// The one address extension that there is.
+pub const ADDRESS_EXTENSION: u8 = 0;
+
+/// The most triggers that one event channel accepts: 2^59.
+pub const MAX_TRIGGERS: u64 = 0x0800_0000_0000_0000;
+
+/// From so many items taken on, 2^62, a transmitter takes no more.
+pub const MAX_TAKEN: u64 = 0x4000_0000_0000_0000;
+
+/// The greatest capacity of a ring of samples, in items; the least is one.
+pub const MAX_SAMPLE_RING: usize = 1024;
+
+/// The least capacity of a ring of bytes, in bytes: the longest record.
+pub const MIN_BYTE_RING: usize = 532;
+
+/// The greatest capacity of a ring of bytes, in bytes.
+pub const MAX_BYTE_RING: usize = 65536;
+
+/// The greatest capacity of a ring of orders, in orders; the least is one.
+pub const MAX_CONTROL_RING: usize = 64;
