@@ -1,1 +1,3 @@
 pub mod ErrorCodes
+pub mod Packets
+pub mod PacketsBody

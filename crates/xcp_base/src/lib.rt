@@ -3,5 +3,9 @@
 
 mod err_code;
 pub mod limits;
+mod packets;
+#[cfg(test)]
+mod tests;
 
 pub use err_code::ErrCode;
+pub use packets::{Full, Packets};

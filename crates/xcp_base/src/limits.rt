@@ -44,3 +44,6 @@ pub const MAX_BYTE_RING: usize = 65536;
 
 /// The greatest capacity of a ring of orders, in orders; the least is one.
 pub const MAX_CONTROL_RING: usize = 64;
+
+/// The packets of a sample at their longest, each behind its length, in bytes.
+pub(crate) const MAX_BODY: usize = 520;

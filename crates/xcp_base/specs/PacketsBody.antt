@@ -1,0 +1,27 @@
+-- How `Packets` keeps its packets: one behind another in one body, each behind a byte that has its length.
+use Rattle.std.specs.Prelude.{◌≡◌, ℕ, zero, suc, ◌≤◌, List, [], ◌∷◌, ◌++◌, length, take, drop}
+use Rattle.xcp_base.specs.declared.limits.TheConstants.{MAX_ODTS}
+use Rattle.xcp_base.specs.declared.packets.Packets.TheInside.{Inside}
+use Rattle.xcp_base.specs.Packets.{ArePackets}
+
+-- the body of some packets
+unfoldable pub body_of : List (List ℕ) → List ℕ
+body_of [] = []
+body_of (q ∷ qs) = length q ∷ q ++ body_of qs
+
+-- the first n packets of a body
+unfoldable pub packets_in : ℕ → List ℕ → List (List ℕ)
+packets_in zero bytes = []
+packets_in (suc n) [] = []
+packets_in (suc n) (len ∷ rest) = take len rest ∷ packets_in n (drop len rest)
+
+-- the packets that are kept
+abbrev pub packets_view : Inside → List (List ℕ)
+packets_view a = packets_in a.count a.body.items
+
+-- the body is that of the packets, of which there are at most eight
+pub record IsBody (a : Inside) : Type 0 where
+  pub body : a.body.items ≡ body_of (packets_view a)
+  pub count : length (packets_view a) ≡ a.count
+  pub room : a.count ≤ MAX_ODTS
+  pub each : ArePackets (packets_view a)

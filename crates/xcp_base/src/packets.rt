@@ -1,0 +1,116 @@
+ghost use Rattle.std.specs.Prelude.{◌≡◌, ◌<◌, ◌≤◌, ◌+◌, [], ◌∷◌, ◌++◌, ◌↔◌, IfSome, IsOk, OnErr, OnOk, drop, length, slice_get, slice_index, take};
+ghost use Rattle.std.specs.Option.{option_copied};
+ghost use Rattle.arrayvec.specs.ArrayVec.{array_vec_len};
+ghost use Rattle.xcp_base.specs.Packets.{ArePackets, IsPacket};
+
+use crate::limits::{MAX_BODY, MAX_DTO, MAX_ODTS};
+use arrayvec::ArrayVec;
+use std::marker::Model;
+use thiserror::Error;
+
+/// There is no room for another packet: as many are there as a DAQ list may have ODTs.
+#[derive(Clone, Copy, Debug, PartialEq, Eq, Error)]
+#[error("there is no room for another packet")]
+pub struct Full;
+
+/// The packets of a sample: at most `MAX_ODTS`, each of 1 to `MAX_DTO` bytes, in a value of fixed size.
+#[derive(Debug, Drop)]
+pub struct Packets {
+    body: ArrayVec<u8, MAX_BODY>,
+    count: usize,
+}
+
+impl Model for Packets {
+    ghost use Rattle.std.specs.Prelude.{List, ℕ};
+    ghost use Rattle.xcp_base.specs.PacketsBody.{IsBody, packets_view};
+
+    ghost Value = { List (List ℕ) };
+
+    ghost view = { packets_view };
+
+    ghost invariant = { IsBody };
+}
+
+impl Packets {
+    /// No packet.
+    #[tactic(auto, unfolding(crate::specs::PacketsBody::packets_in, crate::specs::PacketsBody::body_of))]
+    pub fn new() -> Packets
+        ensures { result ≡ [] }
+    {
+        Packets {
+            body: ArrayVec::new(),
+            count: 0,
+        }
+    }
+
+    /// The number of packets.
+    pub fn len(&self) -> usize
+        ensures value { result ≡ length self.now }
+        ensures limit { result ≤ MAX_ODTS }
+        ensures each { ArePackets self.now }
+    {
+        self.count
+    }
+
+    /// Appends a packet; refused with `Full` exactly where `MAX_ODTS` packets are there, which then stay as they are.
+    pub fn push(&mut self, packet: &[u8]) -> Result<(), Full>
+        requires not_empty { 0 < length packet.now }
+        requires fits { length packet.now ≤ MAX_DTO }
+        ensures succeeds { IsOk result ↔ (length self.old < MAX_ODTS) }
+        ensures ok { OnOk result (self.new ≡ self.old ++ packet.now ∷ []) }
+        ensures full { OnErr result (length self.old ≡ MAX_ODTS) }
+        ensures err { OnErr result (self.new ≡ self.old) }
+    {
+        if self.count == MAX_ODTS {
+            return Err(Full);
+        }
+        append(&mut self.body, packet);
+        self.count += 1;
+        Ok(())
+    }
+
+    /// The packet at an index, counted from 0; `None` exactly where there is none.
+    pub fn get(&self, index: usize) -> Option<&[u8]>
+        ensures value { option_copied result ≡ slice_get self.now index }
+        ensures packet { IfSome result (λ q. IsPacket q.now) }
+    {
+        if index >= self.count {
+            return None;
+        }
+        let mut rest = self.body.as_slice();
+        for _ in 0..index {
+            rest = after_first(rest);
+        }
+        Some(first(rest))
+    }
+}
+
+/// Appends a packet behind its length.
+fn append(body: &mut ArrayVec<u8, MAX_BODY>, packet: &[u8])
+    requires room { array_vec_len body.old + length packet.now < MAX_BODY }
+    requires fits { length packet.now ≤ MAX_DTO }
+    ensures { body.new.items ≡ body.old.items ++ length packet.now ∷ packet.now }
+{
+    body.push(packet.len() as u8);
+    let Ok(()) = body.try_extend_from_slice(packet) else {
+        unreachable!();
+    };
+}
+
+/// The packet that stands first in a body.
+fn first(body: &[u8]) -> &[u8]
+    requires some { 0 < length body.now }
+    requires whole { 1 + slice_index body.now 0 ≤ length body.now }
+    ensures { result.now ≡ take (slice_index body.now 0) (drop 1 body.now) }
+{
+    &body[1..1 + body[0] as usize]
+}
+
+/// What stands behind the first packet of a body.
+fn after_first(body: &[u8]) -> &[u8]
+    requires some { 0 < length body.now }
+    requires whole { 1 + slice_index body.now 0 ≤ length body.now }
+    ensures { result.now ≡ drop (1 + slice_index body.now 0) body.now }
+{
+    &body[1 + body[0] as usize..]
+}
