@@ -1,0 +1,6 @@
+//! Whole runs: from memory images to the frames of their packets.
+#![tactic(auto)]
+
+mod fixed;
+
+pub use fixed::fixed_run;

@@ -1,0 +1,6 @@
+pub mod Counts
+pub mod Frame
+pub mod MemoryOuts
+pub mod Shown
+pub mod Split
+pub mod Writing

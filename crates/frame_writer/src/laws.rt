@@ -1,0 +1,12 @@
+//! Laws of the definitions: each is the contract of a function that does nothing.
+ghost use Rattle.frame_writer.specs.Split.{SplitIsUnique, SplitOfText};
+
+/// Bytes are the frames of at most one list of counters and packets.
+pub fn split_is_unique()
+    ensures { SplitIsUnique }
+{}
+
+/// What is written of packets splits into just these packets, with counters that rise by one modulo 65536.
+pub fn split_of_text()
+    ensures { SplitOfText }
+{}

@@ -1,0 +1,15 @@
+//! XCP on Ethernet: packets are written as frames to a writer, and read back from bytes.
+#![tactic(auto)]
+
+mod fuse_out;
+pub mod laws;
+mod out;
+mod reader;
+mod vec_out;
+mod writer;
+
+pub use fuse_out::FuseOut;
+pub use out::{Out, OutFault};
+pub use reader::next_frame;
+pub use vec_out::VecOut;
+pub use writer::{FrameWriter, WriteFault};
