@@ -2,5 +2,7 @@
 #![tactic(auto)]
 
 mod fixed;
+#[cfg(test)]
+mod tests;
 
 pub use fixed::fixed_run;

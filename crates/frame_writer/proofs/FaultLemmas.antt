@@ -1,6 +1,6 @@
 -- Which fault an open frame writer answers.
-use Rattle.std.proofs.Common.{◌≡◌, Bool, false, true, refl, sym, ◌∙◌}
-use Rattle.std.specs.Prelude.{Err, IsErrOf, Result}
+use Rattle.std.proofs.Common.{◌≡◌, Bool, false, true, refl}
+use Rattle.std.specs.Prelude.{Err, IsErrOf}
 use Rattle.frame_writer.specs.declared.writer.WriteFault.{WriteFault}
 use Rattle.frame_writer.specs.declared.writer.WriteFault.TheVariants.{Failed, Closed}
 

@@ -1,3 +1,4 @@
 pub mod FaultLemmas
 pub mod SplitLemmas
+mod StandardFacts
 pub mod TextLemmas

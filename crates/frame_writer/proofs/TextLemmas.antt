@@ -1,5 +1,5 @@
 -- What is written of packets, one after another.
-use Rattle.std.proofs.Common.{◌≡◌, ◌≢◌, ℕ, ◌+◌, ◌%◌, ◌<◌, ◌≤◌, List, [], ◌∷◌, ◌++◌, length, take, refl, sym, ap, ◌∙◌, subst, arith, append_assoc, append-nil, length-append}
+use Rattle.std.proofs.Common.{◌≡◌, ℕ, ◌+◌, ◌%◌, ◌<◌, List, [], ◌∷◌, ◌++◌, length, take, refl, sym, ap, ◌∙◌, arith, append_assoc, append-nil, length-append}
 use Rattle.std.proofs.Math.Seq.{take-append-add}
 use Rattle.std.proofs.lemmas.List.{take-append-le}
 use Rattle.frame_writer.specs.Counts.{OneRose}
@@ -32,11 +32,11 @@ after_text-nil a = record { out = ap (λ (xs : List ℕ). record a.out { content
 pub after_text-push : (a b : WriterState) (qs : List (List ℕ)) (q : List ℕ) → AfterText a b qs → AfterText a (after_frame b q) (qs ++ q ∷ [])
 after_text-push a b qs q sent =
     let last : frame b.counter q ≡ text (a.counter + length qs) (q ∷ []) =
-        frame-mod b.counter (a.counter + length qs) q sent.counter ∙ sym (append-nil (frame (a.counter + length qs) q)) in
+    frame-mod b.counter (a.counter + length qs) q sent.counter ∙ sym (append-nil (frame (a.counter + length qs) q)) in
     let whole : text a.counter (qs ++ q ∷ []) ≡ text a.counter qs ++ frame b.counter q =
-        text-append a.counter qs (q ∷ []) ∙ ap (λ t. text a.counter qs ++ t) (sym last) in
+    text-append a.counter qs (q ∷ []) ∙ ap (λ t. text a.counter qs ++ t) (sym last) in
     let contents : (a.out.contents ++ text a.counter qs) ++ frame b.counter q ≡ a.out.contents ++ text a.counter (qs ++ q ∷ []) =
-        append_assoc a.out.contents (text a.counter qs) (frame b.counter q) ∙ ap (λ t. a.out.contents ++ t) (sym whole) in
+    append_assoc a.out.contents (text a.counter qs) (frame b.counter q) ∙ ap (λ t. a.out.contents ++ t) (sym whole) in
     record {
       out = ap (λ (o : OutState). after_bytes o (frame b.counter q)) sent.out ∙ ap (λ (xs : List ℕ). record a.out { contents = xs }) contents;
       counter = omega (arith, sent.counter, length-append qs (q ∷ []));
@@ -56,12 +56,12 @@ breaks_off-text a b c qs q rest all sent fails e =
     let back : List ℕ = text (a.counter + length qs + 1) rest in
     let k : ℕ = fails.out.kept in
     let whole : text a.counter all ≡ front ++ (middle ++ back) =
-        ap (text a.counter) e ∙ text-append a.counter qs (q ∷ rest)
-        ∙ ap (λ f. front ++ (f ++ back)) (frame-mod (a.counter + length qs) b.counter q (sym sent.counter)) in
+    ap (text a.counter) e ∙ text-append a.counter qs (q ∷ rest)
+    ∙ ap (λ f. front ++ (f ++ back)) (frame-mod (a.counter + length qs) b.counter q (sym sent.counter)) in
     let contents : c.out.contents ≡ a.out.contents ++ take (length front + k) (front ++ (middle ++ back)) =
-        fails.out.contents ∙ ap (λ (o : OutState). o.contents ++ take k middle) sent.out
-        ∙ append_assoc a.out.contents front (take k middle)
-        ∙ ap (λ t. a.out.contents ++ t) (sym (take_within front middle back k fails.out.proper)) in
+    fails.out.contents ∙ ap (λ (o : OutState). o.contents ++ take k middle) sent.out
+    ∙ append_assoc a.out.contents front (take k middle)
+    ∙ ap (λ t. a.out.contents ++ t) (sym (take_within front middle back k fails.out.proper)) in
     let failures : b.out.failures ≡ a.out.failures = ap (λ (o : OutState). o.failures) sent.out in
     let stalls : b.out.stalls ≡ a.out.stalls = ap (λ (o : OutState). o.stalls) sent.out in
     let rose : Rose a.out c.out = rw (← failures, ← stalls) fails.out.rose in

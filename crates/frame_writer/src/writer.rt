@@ -57,7 +57,7 @@ impl<O: Out> FrameWriter<O> {
 
         ensures failed { IsErrOf result WriteFault.Failed
             → FailsWithin (state_of O.Out self.old) (state_of O.Out self.new)
-                (frame (state_of O.Out self.old).counter packet.now) }
+            (frame (state_of O.Out self.old).counter packet.now) }
 
         ensures closed { IsErrOf result WriteFault.Closed ↔ ((state_of O.Out self.old).closed ≡ true) }
         ensures closed_keeps { IsErrOf result WriteFault.Closed → self.new ≡ self.old }

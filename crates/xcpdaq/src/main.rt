@@ -1,7 +1,7 @@
 //! The program `xcpdaq`. It takes no words, and prints the frames of a fixed run as one hexadecimal line.
 #![tactic(auto)]
 
-ghost use Rattle.std.specs.Prelude.{◌≡◌, IfOk, string_bytes};
+ghost use Rattle.std.specs.Prelude.{◌≡◌, IfErr, IfOk, string_bytes};
 ghost use Rattle.daq_sim.specs.Fixed.{fixed_packets};
 ghost use Rattle.frame_writer.specs.Frame.{text};
 ghost use Rattle.hex.specs.Hex.{encode_lower};
@@ -62,7 +62,8 @@ fn takes_no_words(rt: &(impl Alloc + Env)) -> Result<(), Fault> {
 
 /// The frames of the fixed run, in lower case hexadecimal.
 fn hexadecimal_run(alloc: Global) -> Result<String, Fault>
-    ensures { IfOk result (λ line. string_bytes line ≡ encode_lower (text 0 (fixed_packets IMAGES))) }
+    ensures line { IfOk result (λ line. string_bytes line ≡ encode_lower (text 0 (fixed_packets IMAGES))) }
+    ensures memory { IfErr result (λ fault. fault ≡ Fault.Memory) }
 {
     let Ok(written) = fixed_run(&IMAGES, VecOut::new(alloc)) else {
         return Err(Fault::Memory);

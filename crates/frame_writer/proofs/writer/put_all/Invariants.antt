@@ -7,7 +7,7 @@ invariant-loop-done g l = record {
   within : l.done ≤ length l.bytes;
   taken : g.O.Out.contents l.out ≡ g.O.Out.contents l.fn.out ++ take l.done l.bytes;
   failures : g.O.Out.failures l.out ≡ g.O.Out.failures l.fn.out;
-  stalls : g.O.Out.stalls l.out ≡ g.O.Out.stalls l.fn.out
+  stalls : g.O.Out.stalls l.out ≡ g.O.Out.stalls l.fn.out;
 }
 
 abbrev pub decreases-loop-done : goal.decreases-loop-done
