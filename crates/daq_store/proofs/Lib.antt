@@ -1,0 +1,6 @@
+pub mod TableLemmas
+pub mod StandingLemmas
+pub mod FaultLemmas
+pub mod EffectLemmas
+pub mod InvariantLemmas
+pub mod ReadyLemmas

@@ -1,0 +1,29 @@
+-- one packet is too long; one ODT more is filled and short
+use Rattle.std.proofs.Common.{◌≡◌, ◌∙◌, ◌+◌, ◌<◌, slice_index_or, length, refl, sym, arith, nat_le, ℕ}
+use Rattle.std.proofs.lemmas.Grind.{common_steps}
+use Rattle.daq_store.specs.Configuration.{odt_entries, packet_len, is_filled}
+use Rattle.daq_store.proofs.ReadyLemmas.{all_more, all_taken, short_is, long_packet, odt_at}
+use Rattle.daq_store.proofs.list_conf.ListConf.ready.Goals as goal
+
+pub returns-then-stamp_len-bytes-gt-MAX_DTO : goal.returns-then-stamp_len-bytes-gt-MAX_DTO
+returns-then-stamp_len-bytes-gt-MAX_DTO c =
+    let inside : c.loop-k.k < length c.args.self.now.odts = grind (arith, common_steps) in
+    let is : c.odt-item.result ≡ slice_index_or c.args.self.now.odts c.loop-k.k c.odt-item.result = grind (arith, common_steps) in
+    let entries : odt_entries c.args.self.now c.loop-k.k ≡ c.odt-item.result = odt_at c.args.self.now c.loop-k.k c.odt-item.result inside is in
+    let len : packet_len c.args.self.now c.loop-k.k ≡ 1 + c.stamp_len.result + c.bytes.result
+    = rw (entries, ← c.stamp_len.ensures.value, ← c.bytes.ensures.value) refl in
+    long_packet c.args.image_len c.args.self.now c.loop-k.k inside (omega (arith, len))
+
+pub loop-k-preserved : goal.loop-k-preserved
+loop-k-preserved c =
+    let inside : c.loop-k.k < length c.args.self.now.odts = grind (arith, common_steps) in
+    let is : c.odt-item.result ≡ slice_index_or c.args.self.now.odts c.loop-k.k c.odt-item.result = grind (arith, common_steps) in
+    let entries : odt_entries c.args.self.now c.loop-k.k ≡ c.odt-item.result = odt_at c.args.self.now c.loop-k.k c.odt-item.result inside is in
+    let len : packet_len c.args.self.now c.loop-k.k ≡ 1 + c.stamp_len.result + c.bytes.result
+    = rw (entries, ← c.stamp_len.ensures.value, ← c.bytes.ensures.value) refl in
+    record {
+      filled = all_taken (is_filled c.args.image_len) c.args.self.now.odts c.loop-k.k c.odt-item.result inside is
+          c.loop-k.invariant.filled (sym c.is_filled.ensures ∙ c.if-not-is_filled.false);
+      short = all_more (λ (i : ℕ). nat_le (packet_len c.args.self.now i) 64) c.loop-k.k c.loop-k.invariant.short
+          (short_is (packet_len c.args.self.now c.loop-k.k) (omega (arith, len)));
+    }

@@ -1,0 +1,10 @@
+pub mod Calls
+pub mod Shape
+pub mod Pointer
+pub mod Entries
+pub mod Modes
+pub mod Running
+pub mod Configuration
+pub mod Answer
+pub mod Standing
+pub mod Effects

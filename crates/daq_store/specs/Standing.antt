@@ -1,0 +1,95 @@
+-- What a store shows, and when it stands after a list of calls.
+use Rattle.std.specs.Prelude.{◌≡◌, ℕ, ◌<◌, ◌≤◌, Bool, true, false, if◌then◌else◌, List, length, map, sum_by, take, slice_get, unwrap_or, option_map, IfSome, All, Option, Some, None}
+use Rattle.xcp_base.specs.declared.err_code.ErrCode.{ErrCode}
+use Rattle.daq_store.specs.declared.command.Command.{Command}
+use Rattle.daq_store.specs.declared.phase.Phase.{Phase}
+use Rattle.daq_store.specs.declared.refusal.Refusal.{Refusal}
+use Rattle.daq_store.specs.declared.refusal.Refusal.TheVariants.{Code, Memory}
+use Rattle.daq_store.specs.declared.reply.Reply.{Reply}
+use Rattle.daq_store.specs.declared.reply.Reply.TheVariants.{Error}
+use Rattle.daq_store.specs.declared.list_state.ListState.{ListState}
+use Rattle.daq_store.specs.Calls.{Profile, and_then, numbers_below}
+use Rattle.daq_store.specs.Shape.{list_count, phase_of, has_list, odts_before}
+use Rattle.daq_store.specs.Pointer.{pointer}
+use Rattle.daq_store.specs.Running.{is_running, is_selected}
+use Rattle.daq_store.specs.Configuration.{Configuration, configuration, fresh, odt_entries, is_ready}
+use Rattle.daq_store.specs.Answer.{answer, fault_of}
+
+-- what a store shows
+pub record StoreState : Type 0 where
+  pub profile : Profile
+  pub lists : List ListState
+  pub pointer : Option (ℕ × ℕ × ℕ)
+  pub phase : Phase
+
+-- list l after some calls
+abbrev pub list_after : List Command → ℕ → ListState
+list_after calls l =
+    record { conf = configuration calls l; running = is_running calls l; selected = is_selected calls l }
+
+-- the store shows what is read off the calls
+pub record StandsAfter (s : StoreState) (calls : List Command) : Type 0 where
+  pub lists : s.lists ≡ map (list_after calls) (numbers_below (list_count calls))
+  pub pointer : s.pointer ≡ pointer calls
+  pub phase : s.phase ≡ phase_of calls
+
+-- after all calls that the old store stands after, this reply is the answer to the call, and the new store stands after
+-- these calls and the call
+abbrev pub Accepts : StoreState → StoreState → Command → Reply → Type 0
+Accepts old new call reply =
+    (calls : List Command) → StandsAfter old calls
+    → (answer old.profile calls call ≡ reply) × StandsAfter new (and_then calls call)
+
+-- after all calls that the store stands after, every check of the call passes
+abbrev pub PassesAll : StoreState → Command → Type 0
+PassesAll s call = (calls : List Command) → StandsAfter s calls → fault_of s.profile calls call ≡ None
+
+-- after all calls that the store stands after, this error is the first check of the call that fails
+abbrev pub FailsBy : StoreState → Command → ErrCode → Type 0
+FailsBy s call code = (calls : List Command) → StandsAfter s calls → fault_of s.profile calls call ≡ Some code
+
+-- an error is the answer to the call; want of memory comes only where every check passes
+abbrev pub Refuses : StoreState → Command → Refusal → Type 0
+Refuses s call (Code code) =
+    (calls : List Command) → StandsAfter s calls → answer s.profile calls call ≡ Error code
+Refuses s call Memory = PassesAll s call
+
+-- what is set of list l; what a fresh list has where there is no list l
+abbrev pub conf_of : StoreState → ℕ → Configuration
+conf_of s l = unwrap_or (option_map (λ x. x.conf) (slice_get s.lists l)) fresh
+
+-- list l exists and runs, exists and is selected
+abbrev pub shows_running : StoreState → ℕ → Bool
+shows_running s l = unwrap_or (option_map (λ x. x.running) (slice_get s.lists l)) false
+
+abbrev pub shows_selected : StoreState → ℕ → Bool
+shows_selected s l = unwrap_or (option_map (λ x. x.selected) (slice_get s.lists l)) false
+
+-- the ODTs of a list
+abbrev pub odts_of : ListState → ℕ
+odts_of x = length x.conf.odts
+
+-- the ODTs of the lists before l
+abbrev pub first_pid_of : StoreState → ℕ → ℕ
+first_pid_of s l = sum_by odts_of (take l s.lists)
+
+-- FIRST_PID of list l, if there is one
+abbrev pub first_pid_after : List Command → ℕ → Option ℕ
+first_pid_after calls l = if has_list calls l then Some (odts_before calls l) else None
+
+-- a list that runs is ready
+abbrev pub RunsReady : ℕ → ListState → Type 0
+RunsReady image_len x = x.running ≡ true → is_ready image_len x.conf ≡ true
+
+-- the place is that of an entry
+abbrev pub IsAtEntry : StoreState → ℕ × ℕ × ℕ → Type 0
+IsAtEntry s p = p.2 < length (odt_entries (conf_of s p.0) p.1)
+
+-- what every store keeps to
+pub record IsStore (s : StoreState) : Type 0 where
+  pub channels : (1 ≤ s.profile.channels) × (s.profile.channels ≤ 8)
+  pub image_len : (1 ≤ s.profile.image_len) × (s.profile.image_len ≤ 4096)
+  pub lists : length s.lists ≤ 16
+  pub odts : sum_by odts_of s.lists ≤ 124
+  pub running : All (RunsReady s.profile.image_len) s.lists
+  pub pointer : IfSome s.pointer (IsAtEntry s)

@@ -1,0 +1,313 @@
+//! The checks of each call, in their order: active list, sequence, numbers and ranges, mode,
+//! configuration, limits of allocation (own).
+
+ghost use Rattle.std.specs.Prelude.{◌≡◌, ◌+◌, ◌<◌, ◌≤◌, ◌&&◌, ◌==◌, true, false, IfErr, IfOk, OnOk, length, Some};
+ghost use Rattle.std.specs.List.{list_any};
+ghost use Rattle.daq_store.specs.Answer.{is_bad_entry};
+ghost use Rattle.daq_store.specs.Effects.{some_runs, shows_list, shows_odt, shows_entry, other_odts, shows_too_many, shows_unready, is_unready, is_bad_target, is_bad_mode, allocation_fault, Passes, Fails};
+
+use crate::command::Command;
+use crate::list_state::{SELECT, START};
+use crate::mode::TIMESTAMP;
+use crate::store::Store;
+use xcp_base::ErrCode;
+use xcp_base::limits::{
+    ADDRESS_EXTENSION, MAX_ENTRIES, MAX_ENTRY_SIZE, MAX_LISTS, MAX_ODTS, MAX_ODTS_IN_ALL,
+};
+
+impl Store {
+    ghost use Rattle.daq_store.specs.Standing.{first_pid_of, shows_running};
+
+    /// The checks of ALLOC_DAQ.
+    pub(crate) fn check_alloc_daq(&self, count: u16) -> Result<(), ErrCode>
+        ensures passes { OnOk result (Passes self.now (Command.AllocDaq count)) }
+        ensures fails { IfErr result (Fails self.now (Command.AllocDaq count)) }
+        ensures limit { OnOk result (count ≤ 16) }
+    {
+        self.check_allocation(self.phase.forbids_lists())?;
+        if count > MAX_LISTS {
+            return Err(ErrCode::MemoryOverflow);
+        }
+        Ok(())
+    }
+
+    /// The checks of ALLOC_ODT.
+    pub(crate) fn check_alloc_odt(&self, list: u16, count: u8) -> Result<(), ErrCode>
+        ensures passes { OnOk result (Passes self.now (Command.AllocOdt list count)) }
+        ensures fails { IfErr result (Fails self.now (Command.AllocOdt list count)) }
+        ensures stopped { OnOk result (some_runs self.now ≡ false) }
+        ensures there { OnOk result (list < length self.now.lists) }
+        ensures limit { OnOk result (count ≤ 8) }
+        ensures total { OnOk result (other_odts self.now list + count ≤ 124) }
+    {
+        self.check_allocation(self.phase.forbids_odts())?;
+        if !self.has_list(list) {
+            return Err(ErrCode::OutOfRange);
+        }
+        if self.has_too_many(list, count) {
+            return Err(ErrCode::MemoryOverflow);
+        }
+        Ok(())
+    }
+
+    /// The checks of ALLOC_ODT_ENTRY.
+    pub(crate) fn check_alloc_odt_entry(&self, list: u16, odt: u8, count: u8) -> Result<(), ErrCode>
+        ensures passes { OnOk result (Passes self.now (Command.AllocOdtEntry list odt count)) }
+        ensures fails { IfErr result (Fails self.now (Command.AllocOdtEntry list odt count)) }
+        ensures stopped { OnOk result (some_runs self.now ≡ false) }
+        ensures there { OnOk result (shows_odt self.now list odt ≡ true) }
+        ensures limit { OnOk result (count ≤ 32) }
+    {
+        self.check_allocation(self.phase.forbids_entries())?;
+        if !self.has_odt(list, odt) {
+            return Err(ErrCode::OutOfRange);
+        }
+        if count as usize > MAX_ENTRIES {
+            return Err(ErrCode::MemoryOverflow);
+        }
+        Ok(())
+    }
+
+    /// The first two checks of each allocation: no list runs, and the phase admits it.
+    fn check_allocation(&self, forbidden: bool) -> Result<(), ErrCode>
+        ensures passes { OnOk result (allocation_fault self.now forbidden ≡ None) }
+        ensures fails { IfErr result (λ code. allocation_fault self.now forbidden ≡ Some code) }
+        ensures stopped { OnOk result (some_runs self.now ≡ false) }
+    {
+        // A list that runs is named before the phase is.
+        if self.some_runs() {
+            return Err(ErrCode::DaqActive);
+        }
+        if forbidden {
+            return Err(ErrCode::Sequence);
+        }
+        Ok(())
+    }
+
+    /// The checks of SET_DAQ_PTR.
+    pub(crate) fn check_set_ptr(&self, list: u16, odt: u8, entry: u8) -> Result<(), ErrCode>
+        ensures passes { OnOk result (Passes self.now (Command.SetDaqPtr list odt entry)) }
+        ensures fails { IfErr result (Fails self.now (Command.SetDaqPtr list odt entry)) }
+        ensures there { OnOk result (shows_entry self.now list odt entry ≡ true) }
+    {
+        // The entries of a list that runs stay, so no pointer is set to one.
+        if self.running(list) {
+            return Err(ErrCode::DaqActive);
+        }
+        if !self.has_entry(list, odt, entry) {
+            return Err(ErrCode::OutOfRange);
+        }
+        Ok(())
+    }
+
+    /// The checks of WRITE_DAQ; where they pass, the place of the entry.
+    pub(crate) fn check_write(
+        &self,
+        bit: u8,
+        size: u8,
+        ext: u8,
+        addr: u32,
+    ) -> Result<(u16, u8, u8), ErrCode>
+        ensures passes { OnOk result (Passes self.now (Command.WriteDaq bit size ext addr)) }
+        ensures fails { IfErr result (Fails self.now (Command.WriteDaq bit size ext addr)) }
+        ensures place { IfOk result (λ place. self.now.pointer ≡ Some place) }
+        ensures there { IfOk result
+            (λ place. shows_entry self.now place.0 place.1 place.2 ≡ true) }
+        ensures stopped { IfOk result (λ place. shows_running self.now place.0 ≡ false) }
+        ensures size { OnOk result ((0 < size) × (size ≤ 63)) }
+    {
+        // Only a pointer that is defined has a list that may run.
+        let Some((list, odt, entry)) = self.pointer else {
+            return Err(ErrCode::Sequence);
+        };
+        if self.running(list) {
+            return Err(ErrCode::DaqActive);
+        }
+        if is_bad_entry(self.image_len, bit, size, ext, addr) {
+            return Err(ErrCode::OutOfRange);
+        }
+        Ok((list, odt, entry))
+    }
+
+    /// The checks of SET_DAQ_LIST_MODE.
+    pub(crate) fn check_set_mode(
+        &self,
+        mode: u8,
+        list: u16,
+        channel: u16,
+        prescaler: u8,
+        priority: u8,
+    ) -> Result<(), ErrCode>
+        ensures passes { OnOk result (Passes self.now
+            (Command.SetDaqListMode mode list channel prescaler priority)) }
+        ensures fails { IfErr result (Fails self.now
+            (Command.SetDaqListMode mode list channel prescaler priority)) }
+        ensures stopped { OnOk result (shows_running self.now list ≡ false) }
+        ensures there { OnOk result (list < length self.now.lists) }
+        ensures channel { OnOk result (channel < 8) }
+        ensures prescaler { OnOk result (0 < prescaler) }
+    {
+        // The mode of a list that runs stays.
+        if self.running(list) {
+            return Err(ErrCode::DaqActive);
+        }
+        if self.is_bad_target(list, channel, prescaler) {
+            return Err(ErrCode::OutOfRange);
+        }
+        if is_bad_mode(mode) {
+            return Err(ErrCode::ModeNotValid);
+        }
+        Ok(())
+    }
+
+    /// The checks of START_STOP_DAQ_LIST.
+    pub(crate) fn check_start_stop(&self, mode: u8, list: u16) -> Result<(), ErrCode>
+        ensures passes { OnOk result (Passes self.now (Command.StartStopDaqList mode list)) }
+        ensures fails { IfErr result (Fails self.now (Command.StartStopDaqList mode list)) }
+        ensures there { OnOk result (list < length self.now.lists) }
+        ensures ready { OnOk result ((mode == 1 && shows_unready self.now list) ≡ false) }
+    {
+        // No mode makes a list that isn't there.
+        if !self.has_list(list) {
+            return Err(ErrCode::OutOfRange);
+        }
+        if mode > SELECT {
+            return Err(ErrCode::ModeNotValid);
+        }
+        if self.starts_unready(mode, list) {
+            return Err(ErrCode::DaqConfig);
+        }
+        Ok(())
+    }
+
+    /// The checks of START_STOP_SYNCH.
+    pub(crate) fn check_synch(&self, mode: u8) -> Result<(), ErrCode>
+        ensures passes { OnOk result (Passes self.now (Command.StartStopSynch mode)) }
+        ensures fails { IfErr result (Fails self.now (Command.StartStopSynch mode)) }
+        ensures ready { OnOk result
+            ((mode == 1 && list_any (is_unready self.now.profile.image_len) self.now.lists) ≡ false) }
+    {
+        if mode > SELECT {
+            return Err(ErrCode::ModeNotValid);
+        }
+        if mode == START && self.selects_unready() {
+            return Err(ErrCode::DaqConfig);
+        }
+        Ok(())
+    }
+
+    /// Whether some list runs.
+    fn some_runs(&self) -> bool
+        ensures { result ≡ some_runs self.now }
+    {
+        self.lists.iter().any(|list| list.running)
+    }
+
+    /// Whether there is such a list.
+    fn has_list(&self, list: u16) -> bool
+        ensures { result ≡ shows_list self.now list }
+    {
+        (list as usize) < self.lists.len()
+    }
+
+    /// Whether there is such an ODT.
+    fn has_odt(&self, list: u16, odt: u8) -> bool
+        ensures { result ≡ shows_odt self.now list odt }
+    {
+        match self.lists.get(list as usize) {
+            Some(list) => (odt as usize) < list.conf.odts(),
+            None => false,
+        }
+    }
+
+    /// Whether there is such an entry.
+    fn has_entry(&self, list: u16, odt: u8, entry: u8) -> bool
+        ensures { result ≡ shows_entry self.now list odt entry }
+    {
+        match self.lists.get(list as usize) {
+            Some(list) => (entry as usize) < list.conf.entries(odt as usize),
+            None => false,
+        }
+    }
+
+    /// The number of the ODTs of the lists before a list.
+    pub(crate) fn odts_before(&self, list: usize) -> usize
+        requires { list ≤ length self.now.lists }
+        ensures value { result ≡ first_pid_of self.now list }
+        ensures limit { result ≤ 124 }
+    {
+        let mut odts = 0;
+        for state in &self.lists[..list] {
+            odts += state.conf.odts();
+        }
+        odts
+    }
+
+    /// The number of the ODTs of all lists but one.
+    fn other_odts(&self, list: u16) -> usize
+        ensures value { result ≡ other_odts self.now list }
+        ensures limit { result ≤ 124 }
+    {
+        let odts = self.odts_before(self.lists.len());
+        match self.lists.get(list as usize) {
+            Some(list) => odts - list.conf.odts(),
+            None => odts,
+        }
+    }
+
+    /// Whether so many ODTs of a list, in place of those that it has, are over a limit.
+    fn has_too_many(&self, list: u16, count: u8) -> bool
+        ensures { result ≡ shows_too_many self.now list count }
+    {
+        let count = count as usize;
+        count > MAX_ODTS || self.other_odts(list) + count > MAX_ODTS_IN_ALL
+    }
+
+    /// Whether there is no such list or event channel, or the prescaler is 0.
+    fn is_bad_target(&self, list: u16, channel: u16, prescaler: u8) -> bool
+        ensures value { result ≡ is_bad_target self.now list channel prescaler }
+        ensures channel { result ≡ false → channel < 8 }
+    {
+        !self.has_list(list) || channel >= self.channels || prescaler == 0
+    }
+
+    /// Whether this is the start of a list that isn't ready.
+    fn starts_unready(&self, mode: u8, list: u16) -> bool
+        ensures { result ≡ (mode == 1 && shows_unready self.now list) }
+    {
+        mode == START && self.plan(list).is_none()
+    }
+
+    /// Whether a selected list isn't ready.
+    fn selects_unready(&self) -> bool
+        ensures { result ≡ list_any (is_unready self.now.profile.image_len) self.now.lists }
+    {
+        let image_len = self.image_len;
+        self.lists
+            .iter()
+            .any(|list| list.selected && !list.conf.ready(image_len))
+    }
+}
+
+/// Whether an entry is a bit, has no byte or over 63, has an address extension, or ends after the
+/// image.
+fn is_bad_entry(image_len: usize, bit: u8, size: u8, ext: u8, addr: u32) -> bool
+    ensures value { result ≡ is_bad_entry image_len bit size ext addr }
+    ensures size { result ≡ false → (0 < size) × (size ≤ 63) }
+{
+    bit != NO_BIT
+        || size == 0
+        || size > MAX_ENTRY_SIZE
+        || ext != ADDRESS_EXTENSION
+        || addr as usize + size as usize > image_len
+}
+
+/// The bit offset of WRITE_DAQ that names whole bytes.
+const NO_BIT: u8 = 0xFF;
+
+/// Whether a mode byte has another bit than TIMESTAMP.
+fn is_bad_mode(mode: u8) -> bool
+    ensures { result ≡ is_bad_mode mode }
+{
+    mode != 0 && mode != TIMESTAMP
+}

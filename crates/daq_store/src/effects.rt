@@ -1,0 +1,137 @@
+//! What each accepted call changes.
+
+ghost use Rattle.std.specs.Prelude.{◌≡◌, ◌+◌, ◌<◌, ◌≤◌, ◌&&◌, ◌==◌, true, false, OnOk, OnErr, length, map, nat_lt, if◌then◌else◌};
+ghost use Rattle.std.specs.List.{list_any};
+ghost use Rattle.daq_store.specs.Configuration.{IsMode};
+ghost use Rattle.daq_store.specs.Effects.{some_runs, shows_odt, shows_entry, shows_unready, is_unready, other_odts, lists_put, odts_put, entries_put, entry_put, mode_put, start_stop_put, synch_put, synched};
+
+use crate::entry::Entry;
+use crate::list_state::{ListState, fresh_lists};
+use crate::mode::Mode;
+use crate::phase::Phase;
+use crate::store::Store;
+use std::alloc::AllocError;
+
+impl Store {
+    ghost use Rattle.daq_store.specs.Standing.{shows_running};
+
+    /// ALLOC_DAQ: puts fresh lists in the place of all.
+    pub(crate) fn put_lists(&mut self, count: u16) -> Result<(), AllocError>
+        requires { count ≤ 16 }
+        ensures ok { OnOk result (self.new ≡ lists_put self.old count) }
+        ensures err { OnErr result (self.new ≡ self.old) }
+    {
+        let lists = fresh_lists(self.alloc, count as usize)?;
+        self.lists = lists;
+        self.pointer = None;
+        self.phase = Phase::Daq;
+        Ok(())
+    }
+
+    /// ALLOC_ODT: puts ODTs without entries in the place of those of a list.
+    pub(crate) fn put_odts(&mut self, list: u16, count: u8) -> Result<(), AllocError>
+        requires there { list < length self.old.lists }
+        requires limit { count ≤ 8 }
+        requires total { other_odts self.old list + count ≤ 124 }
+        requires stopped { some_runs self.old ≡ false }
+        ensures ok { OnOk result (self.new ≡ odts_put self.old list count) }
+        ensures err { OnErr result (self.new ≡ self.old) }
+    {
+        let alloc = self.alloc;
+        let state = &mut self.lists[list as usize];
+        state.conf.allocate_odts(alloc, count as usize)?;
+        self.pointer = None;
+        self.phase = Phase::Odt;
+        Ok(())
+    }
+
+    /// ALLOC_ODT_ENTRY: puts unwritten entries in the place of those of an ODT.
+    pub(crate) fn put_entries(&mut self, list: u16, odt: u8, count: u8) -> Result<(), AllocError>
+        requires there { shows_odt self.old list odt ≡ true }
+        requires limit { count ≤ 32 }
+        requires stopped { some_runs self.old ≡ false }
+        ensures ok { OnOk result (self.new ≡ entries_put self.old list odt count) }
+        ensures err { OnErr result (self.new ≡ self.old) }
+    {
+        let alloc = self.alloc;
+        let state = &mut self.lists[list as usize];
+        state
+            .conf
+            .allocate_entries(alloc, odt as usize, count as usize)?;
+        self.pointer = None;
+        self.phase = Phase::Entry;
+        Ok(())
+    }
+
+    /// SET_DAQ_PTR: puts the pointer at an entry.
+    pub(crate) fn put_pointer(&mut self, list: u16, odt: u8, entry: u8)
+        requires { shows_entry self.old list odt entry ≡ true }
+        ensures { self.new ≡ record self.old { pointer = Some (list, odt, entry) } }
+    {
+        self.pointer = Some((list, odt, entry));
+    }
+
+    /// WRITE_DAQ: writes an entry, and moves the pointer to the next one of the ODT, if there is one.
+    pub(crate) fn put_entry(&mut self, list: u16, odt: u8, entry: u8, value: Entry)
+        requires there { shows_entry self.old list odt entry ≡ true }
+        requires stopped { shows_running self.old list ≡ false }
+        requires size { (0 < value.size) × (value.size ≤ 63) }
+        ensures { self.new ≡ entry_put self.old list odt entry value }
+    {
+        let state = &mut self.lists[list as usize];
+        let entries = state.conf.entries(odt as usize);
+        state.conf.write(odt as usize, entry as usize, value);
+        self.pointer = next_place(list, odt, entry, entries);
+    }
+
+    /// SET_DAQ_LIST_MODE: sets the mode of a list.
+    pub(crate) fn put_mode(&mut self, list: u16, mode: Mode)
+        requires there { list < length self.old.lists }
+        requires stopped { shows_running self.old list ≡ false }
+        requires mode { IsMode mode }
+        ensures { self.new ≡ mode_put self.old list mode }
+    {
+        let state = &mut self.lists[list as usize];
+        state.conf.set_mode(mode);
+    }
+
+    /// START_STOP_DAQ_LIST: stops, starts or selects a list.
+    pub(crate) fn put_start_stop(&mut self, mode: u8, list: u16)
+        requires there { list < length self.old.lists }
+        requires ready { (mode == 1 && shows_unready self.old list) ≡ false }
+        ensures { self.new ≡ start_stop_put self.old mode list }
+    {
+        let state = &mut self.lists[list as usize];
+        state.start_stop(mode);
+    }
+
+    /// START_STOP_SYNCH: stops all lists, or starts or stops the selected ones.
+    pub(crate) fn put_synch(&mut self, mode: u8)
+        requires { (mode == 1 && list_any (is_unready self.old.profile.image_len) self.old.lists)
+            ≡ false }
+        ensures { self.new ≡ synch_put self.old mode }
+    {
+        synch_all(&mut self.lists, mode);
+    }
+}
+
+/// Stops or starts the lists of a table as START_STOP_SYNCH does.
+fn synch_all(lists: &mut [ListState], mode: u8)
+    ensures { lists.new ≡ map (synched mode) lists.old }
+{
+    for state in lists.iter_mut() {
+        state.synch(mode);
+    }
+}
+
+/// The place of the next entry of an ODT with so many entries, if there is one.
+fn next_place(list: u16, odt: u8, entry: u8, entries: usize) -> Option<(u16, u8, u8)>
+    requires { entries ≤ 32 }
+    ensures { result ≡ (if nat_lt (entry + 1) entries then Some (list, odt, entry + 1) else None) }
+{
+    if entry as usize + 1 < entries {
+        Some((list, odt, entry + 1))
+    } else {
+        None
+    }
+}

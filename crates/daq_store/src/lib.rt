@@ -1,0 +1,23 @@
+//! The store of an XCP slave: its DAQ lists, as the calls that it accepted set them.
+#![tactic(auto)]
+
+mod checks;
+pub mod command;
+mod effects;
+mod entry;
+mod list_conf;
+mod list_state;
+mod mode;
+mod odt;
+mod phase;
+mod readers;
+mod refusal;
+mod reply;
+mod store;
+#[cfg(test)]
+mod tests;
+
+pub use list_conf::ListConf;
+pub use refusal::{BadLimits, Refusal};
+pub use reply::Reply;
+pub use store::Store;

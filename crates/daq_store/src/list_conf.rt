@@ -1,0 +1,196 @@
+ghost use Rattle.std.specs.Prelude.{◌≡◌, ◌<◌, ◌≤◌, IfOk, IfSome, OnOk, OnErr, IsSome, [], None, Some, length, option_map, replicate, slice_set};
+ghost use Rattle.daq_store.specs.Configuration.{channel_of, prescaler_of, priority_of, is_stamped, odt_entries, entry_of, is_ready, stamp_len, fresh, IsMode};
+
+use crate::entry::Entry;
+use crate::mode::Mode;
+use crate::odt::Odt;
+use std::alloc::{AllocError, Global};
+use std::marker::Model;
+use xcp_base::limits::MAX_DTO;
+
+/// What is set of a DAQ list: its mode, and the entries of its ODTs.
+#[derive(Drop)]
+pub struct ListConf {
+    mode: Option<Mode>,
+    odts: Vec<Odt>,
+}
+
+impl Model for ListConf {
+    ghost use Rattle.daq_store.specs.Configuration.{Configuration, IsWithinLimits};
+
+    ghost Value = { Configuration };
+
+    ghost view = { λ a. record { mode = a.mode; odts = a.odts.items } };
+
+    ghost invariant = { λ a. IsWithinLimits (record { mode = a.mode; odts = a.odts.items }) };
+}
+
+impl ListConf {
+    /// The event channel; 0 without a mode.
+    pub fn channel(&self) -> u8
+        ensures value { result ≡ channel_of self.now.mode }
+        ensures limit { result < 8 }
+    {
+        match self.mode {
+            Some(mode) => mode.channel,
+            None => 0,
+        }
+    }
+
+    /// The prescaler; 0 without a mode.
+    pub fn prescaler(&self) -> u8
+        ensures value { result ≡ prescaler_of self.now.mode }
+        ensures positive { IsSome self.now.mode → 0 < result }
+    {
+        match self.mode {
+            Some(mode) => mode.prescaler,
+            None => 0,
+        }
+    }
+
+    /// TIMESTAMP: whether samples carry one; not without a mode.
+    pub fn stamped(&self) -> bool
+        ensures { result ≡ is_stamped self.now.mode }
+    {
+        match self.mode {
+            Some(mode) => mode.stamped,
+            None => false,
+        }
+    }
+
+    /// The priority; 0 without a mode.
+    pub fn priority(&self) -> u8
+        ensures { result ≡ priority_of self.now.mode }
+    {
+        match self.mode {
+            Some(mode) => mode.priority,
+            None => 0,
+        }
+    }
+
+    /// The number of ODTs.
+    pub fn odts(&self) -> usize
+        ensures count { result ≡ length self.now.odts }
+        ensures limit { result ≤ 8 }
+    {
+        self.odts.len()
+    }
+
+    /// The number of entries of an ODT; 0 where there is no such ODT.
+    pub fn entries(&self, odt: usize) -> usize
+        ensures count { result ≡ length (odt_entries self.now odt) }
+        ensures limit { result ≤ 32 }
+    {
+        match self.odts.get(odt) {
+            Some(odt) => odt.entries(),
+            None => 0,
+        }
+    }
+
+    /// The address and the size in bytes of an entry, where it is there and written.
+    pub fn entry(&self, odt: usize, entry: usize) -> Option<(u32, u8)>
+        ensures value { result ≡ option_map (λ x. (x.address, x.size)) (entry_of self.now odt entry) }
+        ensures size { IfSome result (λ x. (0 < x.1) × (x.1 ≤ 63)) }
+    {
+        let entry = self.odts.get(odt)?.entry(entry)?;
+        Some((entry.address, entry.size))
+    }
+
+    /// Whether a mode was set, there is an ODT, each ODT has an entry, each entry is written and
+    /// ends within the image, and each packet has at most MAX_DTO bytes.
+    pub fn ready(&self, image_len: usize) -> bool
+        ensures { result ≡ is_ready image_len self.now }
+    {
+        if self.mode.is_none() {
+            return false;
+        }
+        for (k, odt) in self.odts.iter().enumerate() {
+            if !odt.is_filled(image_len) {
+                return false;
+            }
+            if 1 + self.stamp_len(k) + odt.bytes() > MAX_DTO {
+                return false;
+            }
+        }
+        !self.odts.is_empty()
+    }
+
+    /// The bytes of the timestamp in the packet of an ODT: 4 in ODT 0 of a stamped list.
+    fn stamp_len(&self, odt: usize) -> usize
+        ensures value { result ≡ stamp_len self.now odt }
+        ensures limit { result ≤ 4 }
+    {
+        if odt == 0 && self.stamped() { 4 } else { 0 }
+    }
+
+    /// A list as it is when it is allocated.
+    pub(crate) fn new(alloc: Global) -> ListConf
+        ensures { result ≡ fresh }
+    {
+        ListConf {
+            mode: None,
+            odts: Vec::new(alloc),
+        }
+    }
+
+    /// Sets the mode.
+    pub(crate) fn set_mode(&mut self, mode: Mode)
+        requires { IsMode mode }
+        ensures { self.new ≡ record self.old { mode = Some mode } }
+    {
+        self.mode = Some(mode);
+    }
+
+    /// Puts ODTs without entries in the place of the earlier ones.
+    pub(crate) fn allocate_odts(&mut self, alloc: Global, count: usize) -> Result<(), AllocError>
+        requires { count ≤ 8 }
+        ensures ok { OnOk result (self.new ≡ record self.old { odts = replicate count [] }) }
+        ensures err { OnErr result (self.new ≡ self.old) }
+    {
+        let odts = empty_odts(alloc, count)?;
+        self.odts = odts;
+        Ok(())
+    }
+
+    /// Puts unwritten entries in the place of the earlier ones of an ODT.
+    pub(crate) fn allocate_entries(
+        &mut self,
+        alloc: Global,
+        odt: usize,
+        count: usize,
+    ) -> Result<(), AllocError>
+        requires odt { odt < length self.old.odts }
+        requires count { count ≤ 32 }
+        ensures ok { OnOk result (self.new
+            ≡ record self.old { odts = slice_set self.old.odts odt (replicate count None) }) }
+        ensures err { OnErr result (self.new ≡ self.old) }
+    {
+        let entries = Odt::unwritten(alloc, count)?;
+        self.odts[odt] = entries;
+        Ok(())
+    }
+
+    /// Writes an entry.
+    pub(crate) fn write(&mut self, odt: usize, entry: usize, value: Entry)
+        requires entry { entry < length (odt_entries self.old odt) }
+        requires size { (0 < value.size) × (value.size ≤ 63) }
+        ensures { self.new ≡ record self.old {
+          odts =
+              slice_set self.old.odts odt (slice_set (odt_entries self.old odt) entry (Some value));
+        } }
+    {
+        let odt = &mut self.odts[odt];
+        odt.write(entry, value);
+    }
+}
+
+/// So many ODTs without entries.
+fn empty_odts(alloc: Global, count: usize) -> Result<Vec<Odt>, AllocError>
+    ensures { IfOk result (λ odts. odts.items ≡ replicate count []) }
+{
+    let mut odts = Vec::with_capacity(alloc, count)?;
+    for _ in 0..count {
+        odts.push(Odt::new(alloc))?;
+    }
+    Ok(odts)
+}

@@ -1,0 +1,11 @@
+/// SET_DAQ_LIST_MODE: the mode of a DAQ list.
+#[derive(Clone, Copy, Debug, PartialEq, Eq)]
+pub struct Mode {
+    pub channel: u8,
+    pub prescaler: u8,
+    pub stamped: bool,
+    pub priority: u8,
+}
+
+/// TIMESTAMP: the one bit of the mode byte that is accepted (own).
+pub const TIMESTAMP: u8 = 0x10;

@@ -1,0 +1,255 @@
+ghost use Rattle.std.specs.Prelude.{◌≡◌, ◌≢◌, ◌≤◌, ◌↔◌, [], IsOk, IfOk, IfErr, OnOk, OnErr};
+
+use crate::command::Command;
+use crate::entry::Entry;
+use crate::list_state::ListState;
+use crate::mode::{Mode, TIMESTAMP};
+use crate::phase::Phase;
+use crate::refusal::{BadLimits, Refusal};
+use crate::reply::Reply;
+use std::alloc::Global;
+use std::marker::Model;
+use xcp_base::limits::{MAX_CHANNELS, MAX_IMAGE_LEN};
+
+/// The DAQ lists of a slave, the DAQ pointer and the phase of the allocation.
+///
+/// Contracts speak of a store by the calls that it accepted since the last FREE_DAQ: it *stands
+/// after* them. A refused call leaves it as it was.
+#[derive(Drop)]
+pub struct Store {
+    pub(crate) alloc: Global,
+    pub(crate) channels: u16,
+    pub(crate) image_len: usize,
+    pub(crate) lists: Vec<ListState>,
+    pub(crate) pointer: Option<(u16, u8, u8)>,
+    pub(crate) phase: Phase,
+}
+
+impl Model for Store {
+    ghost use Rattle.daq_store.specs.Standing.{StoreState};
+
+    ghost Value = { StoreState };
+
+    ghost use Rattle.daq_store.specs.Standing.{IsStore};
+
+    ghost view = { λ a. record {
+      profile = record { channels = a.channels; image_len = a.image_len };
+      lists = a.lists.items;
+      pointer = a.pointer;
+      phase = a.phase;
+    } };
+
+    ghost invariant = { λ a. IsStore (record {
+      profile = record { channels = a.channels; image_len = a.image_len };
+      lists = a.lists.items;
+      pointer = a.pointer;
+      phase = a.phase;
+    }) };
+}
+
+impl Store {
+    ghost use Rattle.daq_store.specs.Standing.{StandsAfter, Accepts, Refuses};
+
+    /// A store without lists, as after FREE_DAQ, for 1 to 8 event channels and images of 1 to 4096
+    /// bytes. It takes no memory; the allocator is kept for the three allocations.
+    pub fn new(alloc: Global, channels: u16, image_len: usize) -> Result<Store, BadLimits>
+        ensures limits { IsOk result
+            ↔ ((1 ≤ channels) × (channels ≤ 8) × (1 ≤ image_len) × (image_len ≤ 4096)) }
+        ensures profile { IfOk result
+            (λ s. s.profile ≡ record { channels = channels; image_len = image_len }) }
+        ensures fresh { IfOk result (λ s. StandsAfter s []) }
+    {
+        if channels == 0 || channels > MAX_CHANNELS {
+            return Err(BadLimits);
+        }
+        if image_len == 0 || image_len > MAX_IMAGE_LEN {
+            return Err(BadLimits);
+        }
+        Ok(Store {
+            alloc,
+            channels,
+            image_len,
+            lists: Vec::new(alloc),
+            pointer: None,
+            phase: Phase::Free,
+        })
+    }
+
+    /// FREE_DAQ: gives up all DAQ lists, also those that run (own); the pointer is undefined.
+    pub fn free_daq(&mut self)
+        ensures fresh { StandsAfter self.new [] }
+        ensures profile { self.new.profile ≡ self.old.profile }
+    {
+        self.lists = Vec::new(self.alloc);
+        self.pointer = None;
+        self.phase = Phase::Free;
+    }
+
+    /// ALLOC_DAQ: `count` fresh DAQ lists in place of all earlier ones; 0 is accepted (own).
+    ///
+    /// Refused in this order: ERR_DAQ_ACTIVE while a list runs, ERR_SEQUENCE after ALLOC_ODT or
+    /// ALLOC_ODT_ENTRY, ERR_MEMORY_OVERFLOW over 16 lists, want of memory.
+    pub fn alloc_daq(&mut self, count: u16) -> Result<(), Refusal>
+        ensures accepted { OnOk result
+            (Accepts self.old self.new (Command.AllocDaq count) Reply.Positive) }
+        ensures refused { IfErr result (Refuses self.old (Command.AllocDaq count)) }
+        ensures unchanged { OnErr result (self.new ≡ self.old) }
+        ensures profile { self.new.profile ≡ self.old.profile }
+    {
+        self.check_alloc_daq(count)?;
+        self.put_lists(count)?;
+        Ok(())
+    }
+
+    /// ALLOC_ODT: `count` ODTs without entries in place of those of the DAQ list, whose mode and
+    /// selection stay; the pointer is undefined; 0 is accepted (own).
+    ///
+    /// Refused in this order: ERR_DAQ_ACTIVE while a list runs, ERR_SEQUENCE before ALLOC_DAQ or
+    /// after ALLOC_ODT_ENTRY, ERR_OUT_OF_RANGE without such a list, ERR_MEMORY_OVERFLOW over 8 ODTs
+    /// or over 124 of all lists, want of memory.
+    pub fn alloc_odt(&mut self, list: u16, count: u8) -> Result<(), Refusal>
+        ensures accepted { OnOk result
+            (Accepts self.old self.new (Command.AllocOdt list count) Reply.Positive) }
+        ensures refused { IfErr result (Refuses self.old (Command.AllocOdt list count)) }
+        ensures unchanged { OnErr result (self.new ≡ self.old) }
+        ensures profile { self.new.profile ≡ self.old.profile }
+    {
+        self.check_alloc_odt(list, count)?;
+        self.put_odts(list, count)?;
+        Ok(())
+    }
+
+    /// ALLOC_ODT_ENTRY: `count` unwritten entries in place of those of the ODT; the pointer is
+    /// undefined; 0 is accepted (own).
+    ///
+    /// Refused in this order: ERR_DAQ_ACTIVE while a list runs, ERR_SEQUENCE before ALLOC_ODT,
+    /// ERR_OUT_OF_RANGE without such a list or ODT, ERR_MEMORY_OVERFLOW over 32 entries, want of
+    /// memory.
+    pub fn alloc_odt_entry(&mut self, list: u16, odt: u8, count: u8) -> Result<(), Refusal>
+        ensures accepted { OnOk result
+            (Accepts self.old self.new (Command.AllocOdtEntry list odt count) Reply.Positive) }
+        ensures refused { IfErr result (Refuses self.old (Command.AllocOdtEntry list odt count)) }
+        ensures unchanged { OnErr result (self.new ≡ self.old) }
+        ensures profile { self.new.profile ≡ self.old.profile }
+    {
+        self.check_alloc_odt_entry(list, odt, count)?;
+        self.put_entries(list, odt, count)?;
+        Ok(())
+    }
+
+    /// SET_DAQ_PTR: the pointer is at this entry.
+    ///
+    /// Refused in this order: ERR_DAQ_ACTIVE while the list runs, ERR_OUT_OF_RANGE without such a
+    /// list, ODT or entry.
+    pub fn set_ptr(&mut self, list: u16, odt: u8, entry: u8) -> Result<(), Refusal>
+        ensures accepted { OnOk result
+            (Accepts self.old self.new (Command.SetDaqPtr list odt entry) Reply.Positive) }
+        ensures refused { IfErr result (Refuses self.old (Command.SetDaqPtr list odt entry)) }
+        ensures memory { result ≢ Err Refusal.Memory }
+        ensures unchanged { OnErr result (self.new ≡ self.old) }
+        ensures profile { self.new.profile ≡ self.old.profile }
+    {
+        self.check_set_ptr(list, odt, entry)?;
+        self.put_pointer(list, odt, entry);
+        Ok(())
+    }
+
+    /// WRITE_DAQ: the entry at the pointer has this address and size in bytes, and the pointer
+    /// moves to the next entry of the same ODT; after the last one it is undefined.
+    ///
+    /// Refused in this order: ERR_DAQ_ACTIVE while the list at the pointer runs, ERR_SEQUENCE with
+    /// an undefined pointer (own), ERR_OUT_OF_RANGE for a bit offset other than 0xFF, a size of 0
+    /// or over 63, an address extension other than 0, or an end after the image.
+    pub fn write(&mut self, bit: u8, size: u8, ext: u8, addr: u32) -> Result<(), Refusal>
+        ensures accepted { OnOk result
+            (Accepts self.old self.new (Command.WriteDaq bit size ext addr) Reply.Positive) }
+        ensures refused { IfErr result (Refuses self.old (Command.WriteDaq bit size ext addr)) }
+        ensures memory { result ≢ Err Refusal.Memory }
+        ensures unchanged { OnErr result (self.new ≡ self.old) }
+        ensures profile { self.new.profile ≡ self.old.profile }
+    {
+        let (list, odt, entry) = self.check_write(bit, size, ext, addr)?;
+        self.put_entry(
+            list,
+            odt,
+            entry,
+            Entry {
+                address: addr,
+                size,
+            },
+        );
+        Ok(())
+    }
+
+    /// SET_DAQ_LIST_MODE: channel, prescaler, timestamp (mode bit 0x10) and priority of the list;
+    /// any priority is accepted, and has no effect (own).
+    ///
+    /// Refused in this order: ERR_DAQ_ACTIVE while the list runs, ERR_OUT_OF_RANGE without such a
+    /// list or channel or for a prescaler of 0, ERR_MODE_NOT_VALID for a mode bit other than 0x10.
+    pub fn set_mode(
+        &mut self,
+        mode: u8,
+        list: u16,
+        channel: u16,
+        prescaler: u8,
+        priority: u8,
+    ) -> Result<(), Refusal>
+        ensures accepted { OnOk result (Accepts self.old self.new
+            (Command.SetDaqListMode mode list channel prescaler priority) Reply.Positive) }
+        ensures refused { IfErr result (Refuses self.old
+            (Command.SetDaqListMode mode list channel prescaler priority)) }
+        ensures memory { result ≢ Err Refusal.Memory }
+        ensures unchanged { OnErr result (self.new ≡ self.old) }
+        ensures profile { self.new.profile ≡ self.old.profile }
+    {
+        self.check_set_mode(mode, list, channel, prescaler, priority)?;
+        self.put_mode(
+            list,
+            Mode {
+                channel: channel as u8,
+                prescaler,
+                stamped: mode == TIMESTAMP,
+                priority,
+            },
+        );
+        Ok(())
+    }
+
+    /// START_STOP_DAQ_LIST: stops (mode 0), starts (1) or selects (2) the list, and answers its
+    /// FIRST_PID. A stop or start ends the selection; a start of a list that runs and a stop of one
+    /// that doesn't are accepted (own).
+    ///
+    /// Refused in this order: ERR_OUT_OF_RANGE without such a list, ERR_MODE_NOT_VALID for a mode
+    /// over 2, ERR_DAQ_CONFIG for the start of a list that isn't ready.
+    pub fn start_stop(&mut self, mode: u8, list: u16) -> Result<u8, Refusal>
+        ensures accepted { IfOk result (λ pid. Accepts self.old self.new
+            (Command.StartStopDaqList mode list) (Reply.Started pid)) }
+        ensures refused { IfErr result (Refuses self.old (Command.StartStopDaqList mode list)) }
+        ensures memory { result ≢ Err Refusal.Memory }
+        ensures unchanged { OnErr result (self.new ≡ self.old) }
+        ensures profile { self.new.profile ≡ self.old.profile }
+    {
+        self.check_start_stop(mode, list)?;
+        let first_pid = self.odts_before(list as usize) as u8;
+        self.put_start_stop(mode, list);
+        Ok(first_pid)
+    }
+
+    /// START_STOP_SYNCH: stops all lists (mode 0), starts (1) or stops (2) the selected ones; none
+    /// is selected then. With none selected, 1 and 2 change nothing (own).
+    ///
+    /// Refused in this order: ERR_MODE_NOT_VALID for a mode over 2, ERR_DAQ_CONFIG for mode 1 where
+    /// a selected list isn't ready; then no list is started.
+    pub fn synch(&mut self, mode: u8) -> Result<(), Refusal>
+        ensures accepted { OnOk result
+            (Accepts self.old self.new (Command.StartStopSynch mode) Reply.Positive) }
+        ensures refused { IfErr result (Refuses self.old (Command.StartStopSynch mode)) }
+        ensures memory { result ≢ Err Refusal.Memory }
+        ensures unchanged { OnErr result (self.new ≡ self.old) }
+        ensures profile { self.new.profile ≡ self.old.profile }
+    {
+        self.check_synch(mode)?;
+        self.put_synch(mode);
+        Ok(())
+    }
+}
