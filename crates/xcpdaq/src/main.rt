@@ -10,6 +10,7 @@ use daq_sim::fixed_run;
 use frame_writer::VecOut;
 use std::alloc::Global;
 use std::env;
+use std::io::{self, ErrorKind};
 use std::process::ExitCode;
 use std::rt::Env;
 use thiserror::Error;
@@ -52,11 +53,19 @@ fn main(rt: HostRuntime) -> ExitCode {
 
 /// Refuses any word behind the program's name.
 fn takes_no_words(rt: &(impl Alloc + Env)) -> Result<(), Fault> {
-    let words = env::args(rt).map_err(|_| Fault::CommandLine)?;
+    let words = env::args(rt).map_err(|error| command_line_fault(&error))?;
     if words.skip(1).count() == 0 {
         Ok(())
     } else {
         Err(Fault::CommandLine)
+    }
+}
+
+/// Why there is no command line: a word isn't UTF-8, or memory was refused.
+fn command_line_fault(error: &io::Error) -> Fault {
+    match error.kind() {
+        ErrorKind::OutOfMemory => Fault::Memory,
+        _ => Fault::CommandLine,
     }
 }
 
