@@ -1,11 +1,10 @@
 //! The checks of each call, in their order: active list, sequence, numbers and ranges, mode,
 //! configuration, limits of allocation (own).
 
-ghost use Rattle.std.specs.Prelude.{◌≡◌, ◌+◌, ◌<◌, ◌≤◌, ◌&&◌, ◌==◌, true, false, IfErr, IfOk, OnOk, length, sum_by, Some};
+ghost use Rattle.std.specs.Prelude.{◌≡◌, ◌+◌, ◌<◌, ◌≤◌, ◌&&◌, ◌==◌, true, false, IfErr, IfOk, OnOk, length, Some};
 ghost use Rattle.std.specs.List.{list_any};
 ghost use Rattle.daq_store.specs.Answer.{is_bad_entry};
-ghost use Rattle.daq_store.specs.Configuration.{is_ready};
-ghost use Rattle.daq_store.specs.Effects.{some_runs, shows_list, shows_odt, shows_entry, other_odts, shows_too_many, shows_unready, is_unready, is_bad_target, is_bad_mode, allocation_fault, Passes, Fails, state_of};
+ghost use Rattle.daq_store.specs.Effects.{some_runs, shows_list, shows_odt, shows_entry, other_odts, shows_too_many, shows_unready, is_unready, is_bad_target, is_bad_mode, allocation_fault, Passes, Fails};
 
 use crate::command::Command;
 use crate::list_state::{SELECT, START};
@@ -17,7 +16,7 @@ use xcp_base::limits::{
 };
 
 impl Store {
-    ghost use Rattle.daq_store.specs.Standing.{conf_of, odts_of, first_pid_of, shows_running};
+    ghost use Rattle.daq_store.specs.Standing.{first_pid_of, shows_running};
 
     /// The checks of ALLOC_DAQ.
     pub(crate) fn check_alloc_daq(&self, count: u16) -> Result<(), ErrCode>

@@ -10,9 +10,12 @@ mod list_state;
 mod mode;
 mod odt;
 mod phase;
+mod readers;
 mod refusal;
 mod reply;
 mod store;
+#[cfg(test)]
+mod tests;
 
 pub use list_conf::ListConf;
 pub use refusal::{BadLimits, Refusal};

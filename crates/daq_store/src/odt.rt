@@ -1,4 +1,4 @@
-ghost use Rattle.std.specs.Prelude.{◌≡◌, ◌<◌, ◌≤◌, [], None, Some, OnErr, IfOk, length, option_and_then, replicate, slice_get, slice_set, sum_by};
+ghost use Rattle.std.specs.Prelude.{◌≡◌, ◌<◌, ◌≤◌, [], None, Some, IfOk, length, option_and_then, replicate, slice_get, slice_set, sum_by};
 ghost use Rattle.std.specs.List.{list_all};
 ghost use Rattle.daq_store.specs.Configuration.{entry_len, is_filled, is_within};
 

@@ -1,0 +1,110 @@
+//! What the store shows.
+
+ghost use Rattle.std.specs.Prelude.{◌≡◌, ◌+◌, ◌<◌, ◌≤◌, ◌↔◌, ◌&&◌, List, true, IsTrue, IsSome, IfSome, length};
+ghost use Rattle.daq_store.specs.Shape.{list_count, has_list};
+ghost use Rattle.daq_store.specs.Pointer.{pointer};
+ghost use Rattle.daq_store.specs.Running.{is_active, is_chosen};
+ghost use Rattle.daq_store.specs.Configuration.{is_ready, list_is_ready, configuration};
+
+use crate::command::Command;
+use crate::list_conf::ListConf;
+use crate::store::Store;
+
+impl Store {
+    ghost use Rattle.daq_store.specs.Standing.{StandsAfter, conf_of, first_pid_of, first_pid_after, shows_running, shows_selected};
+
+    /// The number of event channels.
+    pub fn channels(&self) -> u16
+        ensures value { result ≡ self.now.profile.channels }
+        ensures limits { (1 ≤ result) × (result ≤ 8) }
+    {
+        self.channels
+    }
+
+    /// The length of the images, in bytes.
+    pub fn image_len(&self) -> usize
+        ensures value { result ≡ self.now.profile.image_len }
+        ensures limits { (1 ≤ result) × (result ≤ 4096) }
+    {
+        self.image_len
+    }
+
+    /// The number of DAQ lists.
+    pub fn lists(&self) -> u16
+        ensures value { result ≡ length self.now.lists }
+        ensures limit { result ≤ 16 }
+        ensures after { (calls : List Command) → StandsAfter self.now calls
+            → result ≡ list_count calls }
+    {
+        self.lists.len() as u16
+    }
+
+    /// FIRST_PID of a DAQ list, if there is one: the number of the ODTs of the lists before it (own).
+    pub fn first_pid(&self, list: u16) -> Option<u8>
+        ensures there { IsSome result ↔ (list < length self.now.lists) }
+        ensures value { IfSome result (λ pid. pid ≡ first_pid_of self.now list) }
+        ensures room { IfSome result (λ pid. pid + length (conf_of self.now list).odts ≤ 124) }
+        ensures after { (calls : List Command) → StandsAfter self.now calls
+            → result ≡ first_pid_after calls list }
+    {
+        let list = list as usize;
+        if list >= self.lists.len() {
+            return None;
+        }
+        Some(self.odts_before(list) as u8)
+    }
+
+    /// Whether a DAQ list runs; not where there is no such list.
+    pub fn running(&self, list: u16) -> bool
+        ensures value { result ≡ shows_running self.now list }
+        ensures ready { IsTrue result
+            → is_ready self.now.profile.image_len (conf_of self.now list) ≡ true }
+        ensures after { (calls : List Command) → StandsAfter self.now calls
+            → result ≡ is_active calls list }
+    {
+        match self.lists.get(list as usize) {
+            Some(list) => list.running,
+            None => false,
+        }
+    }
+
+    /// Whether a DAQ list is selected; not where there is no such list.
+    pub fn selected(&self, list: u16) -> bool
+        ensures value { result ≡ shows_selected self.now list }
+        ensures after { (calls : List Command) → StandsAfter self.now calls
+            → result ≡ is_chosen calls list }
+    {
+        match self.lists.get(list as usize) {
+            Some(list) => list.selected,
+            None => false,
+        }
+    }
+
+    /// The DAQ pointer, if it is defined: list, ODT and entry.
+    pub fn pointer(&self) -> Option<(u16, u8, u8)>
+        ensures value { result ≡ self.now.pointer }
+        ensures after { (calls : List Command) → StandsAfter self.now calls
+            → result ≡ pointer calls }
+    {
+        self.pointer
+    }
+
+    /// What is set of a DAQ list that is there and ready.
+    pub fn plan(&self, list: u16) -> Option<&ListConf>
+        ensures ready { IsSome result ↔ ((list < length self.now.lists)
+            × (is_ready self.now.profile.image_len (conf_of self.now list) ≡ true)) }
+        ensures value { IfSome result (λ conf. conf.now ≡ conf_of self.now list) }
+        ensures ready_after { (calls : List Command) → StandsAfter self.now calls
+            → IsSome result
+            ↔ ((has_list calls list && list_is_ready self.now.profile calls list) ≡ true) }
+        ensures value_after { (calls : List Command) → StandsAfter self.now calls
+            → IfSome result (λ conf. conf.now ≡ configuration calls list) }
+    {
+        let list = self.lists.get(list as usize)?;
+        if list.conf.ready(self.image_len) {
+            Some(&list.conf)
+        } else {
+            None
+        }
+    }
+}

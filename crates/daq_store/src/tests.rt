@@ -1,0 +1,7 @@
+//! What no clause says: the worked examples, and that the calls succeed.
+
+mod ask;
+mod examples;
+mod memory;
+mod plain;
+mod random;
