@@ -4,3 +4,4 @@ pub mod FaultLemmas
 pub mod EffectLemmas
 pub mod InvariantLemmas
 pub mod ReadyLemmas
+pub mod StandardFacts

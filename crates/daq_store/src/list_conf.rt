@@ -190,7 +190,7 @@ fn empty_odts(alloc: Global, count: usize) -> Result<Vec<Odt>, AllocError>
 {
     let mut odts = Vec::with_capacity(alloc, count)?;
     for _ in 0..count {
-        odts.push(Odt::new(alloc))?;
+        odts.push_reserved(Odt::new(alloc));
     }
     Ok(odts)
 }

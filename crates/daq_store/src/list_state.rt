@@ -50,11 +50,11 @@ pub fn fresh_lists(alloc: Global, count: usize) -> Result<Vec<ListState>, AllocE
 {
     let mut lists = Vec::with_capacity(alloc, count)?;
     for _ in 0..count {
-        lists.push(ListState {
+        lists.push_reserved(ListState {
             conf: ListConf::new(alloc),
             running: false,
             selected: false,
-        })?;
+        });
     }
     Ok(lists)
 }

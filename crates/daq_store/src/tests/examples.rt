@@ -5,7 +5,7 @@ use super::ask::{
     set_ptr, start_stop, started, synch, write,
 };
 use crate::command::Command;
-use crate::refusal::BadLimits;
+use crate::refusal::{BadLimits, Refusal};
 use crate::store::Store;
 use std::test::Fail;
 use xcp_base::ErrCode;
@@ -173,7 +173,10 @@ fn selected_lists_start_together_or_not_at_all(rt: HostRuntime) -> Result<(), Fa
             (alloc_odt(0, 1), ACCEPTED),
             (alloc_odt(1, 1), ACCEPTED),
             (alloc_odt_entry(0, 0, 1), ACCEPTED),
+            (alloc_odt_entry(1, 0, 1), ACCEPTED),
             (set_ptr(0, 0, 0), ACCEPTED),
+            (write(0xFF, 1, 0, 0), ACCEPTED),
+            (set_ptr(1, 0, 0), ACCEPTED),
             (write(0xFF, 1, 0, 0), ACCEPTED),
             (set_mode(0x00, 0, 0, 1), ACCEPTED),
             (start_stop(2, 0), started(0)),
@@ -234,6 +237,54 @@ fn a_running_list_is_left_alone_until_free_daq(rt: HostRuntime) -> Result<(), Fa
             (Command::FreeDaq, ACCEPTED),
             (start_stop(1, 0), range),
         ],
+    );
+    Ok(())
+}
+
+#[test]
+fn a_plan_has_what_was_set(rt: HostRuntime) -> Result<(), Fail> {
+    let mut store = Store::new(rt.alloc(), 2, 8)?;
+    ask_all(
+        &rt,
+        &mut store,
+        &[
+            (alloc_daq(1), ACCEPTED),
+            (alloc_odt(0, 1), ACCEPTED),
+            (alloc_odt_entry(0, 0, 1), ACCEPTED),
+            (set_ptr(0, 0, 0), ACCEPTED),
+            (write(0xFF, 2, 0, 6), ACCEPTED),
+        ],
+    );
+    assert_eq!(rt; store.set_mode(0x10, 0, 1, 3, 9), Ok(()));
+    assert!(rt; store.plan(1).is_none());
+    let plan = store.plan(0);
+    assert!(rt; plan.is_some());
+    if let Some(conf) = plan {
+        assert_eq!(rt; conf.channel(), 1);
+        assert_eq!(rt; conf.prescaler(), 3);
+        assert!(rt; conf.stamped());
+        assert_eq!(rt; conf.priority(), 9);
+        assert_eq!(rt; conf.odts(), 1);
+        assert_eq!(rt; conf.entries(0), 1);
+        assert_eq!(rt; conf.entries(1), 0);
+        assert_eq!(rt; conf.entry(0, 0), Some((6, 2)));
+        assert_eq!(rt; conf.entry(0, 1), None);
+        assert!(rt; conf.ready(8));
+        assert!(rt; !conf.ready(7));
+    }
+    Ok(())
+}
+
+#[test]
+fn a_refusal_says_why(rt: HostRuntime) -> Result<(), Fail> {
+    let active = format!(in rt.alloc(); "{}", Refusal::Code(ErrCode::DaqActive))?;
+    assert_eq!(rt; active.as_str(), "refused: DaqActive");
+    let memory = format!(in rt.alloc(); "{}", Refusal::Memory)?;
+    assert_eq!(rt; memory.as_str(), "want of memory");
+    let limits = format!(in rt.alloc(); "{}", BadLimits)?;
+    assert_eq!(rt;
+        limits.as_str(),
+        "event channels or image length out of their limits"
     );
     Ok(())
 }
