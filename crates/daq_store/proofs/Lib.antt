@@ -4,3 +4,5 @@ pub mod FaultLemmas
 pub mod EffectLemmas
 pub mod InvariantLemmas
 pub mod ReadyLemmas
+pub mod CommandLemmas
+pub mod ReplyLemmas
