@@ -6,3 +6,4 @@ pub mod InvariantLemmas
 pub mod ReadyLemmas
 pub mod CommandLemmas
 pub mod ReplyLemmas
+mod PacketFacts
