@@ -1,1 +1,2 @@
+pub mod SetupLemmas
 mod StandardFacts

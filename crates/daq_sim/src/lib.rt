@@ -1,8 +1,10 @@
-//! Whole runs: from memory images to the frames of their packets.
+//! Whole runs: from memory images and command packets to frames.
 #![tactic(auto)]
 
 mod fixed;
+mod setup;
 #[cfg(test)]
 mod tests;
 
 pub use fixed::fixed_run;
+pub use setup::{SetupFault, carry_all};

@@ -1,3 +1,5 @@
+mod set_up;
+
 use crate::fixed_run;
 use frame_writer::{FuseOut, VecOut, WriteFault, next_frame};
 use linked_list_allocator::LocalHeap;

@@ -4,4 +4,7 @@ pub mod FaultLemmas
 pub mod EffectLemmas
 pub mod InvariantLemmas
 pub mod ReadyLemmas
-pub mod StandardFacts
+pub mod CommandLemmas
+pub mod ReplyLemmas
+mod PacketFacts
+mod StandardFacts

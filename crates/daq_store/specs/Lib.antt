@@ -8,3 +8,5 @@ pub mod Configuration
 pub mod Answer
 pub mod Standing
 pub mod Effects
+pub mod Commands
+pub mod Replies

@@ -1,4 +1,16 @@
-//! The commands that set DAQ lists (ASAM MCD-1 XCP, protocol layer, data acquisition).
+//! The commands that set DAQ lists (ASAM MCD-1 XCP, protocol layer, data acquisition): how they are
+//! read from packets, and carried out.
+
+ghost use Rattle.std.specs.Prelude.{◌≡◌, ◌↔◌, IfOk, IfErr, OnErr};
+ghost use Rattle.std.specs.Result.{result_err};
+ghost use Rattle.daq_store.specs.Commands.{IsPacketOf, command, packet_fault};
+ghost use Rattle.daq_store.specs.Replies.{Allocates, CarriesOut, IsAccepted, KeepsOnError};
+ghost use Rattle.daq_store.specs.Standing.{PassesAll, Refuses};
+
+use crate::refusal::{NoMemory, Refusal};
+use crate::reply::Reply;
+use crate::store::Store;
+use xcp_base::ErrCode;
 
 /// A command with its fields, in the order of its packet and without the reserved bytes.
 #[derive(Clone, Copy, Debug, PartialEq, Eq)]
@@ -50,4 +62,140 @@ pub enum Command {
     StartStopSynch {
         mode: u8,
     },
+}
+
+/// Reads the command of a packet, of any bytes. A longer packet is accepted and its surplus ignored; a
+/// reserved byte may have any value (own).
+///
+/// Refused in this order (own): ERR_CMD_SYNTAX for an empty packet, ERR_CMD_UNKNOWN for the code of no
+/// command, ERR_CMD_SYNTAX for a packet that is too short for its command.
+pub fn read(packet: &[u8]) -> Result<Command, ErrCode>
+    ensures packet { (call : Command) → (result ≡ Ok call) ↔ IsPacketOf packet.now call }
+    ensures fault { result_err result ≡ packet_fault packet.now }
+    ensures value { result ≡ command packet.now }
+{
+    fields_of(packet)
+}
+
+/// The command of a packet, with the fields that stand behind its code.
+fn fields_of(packet: &[u8]) -> Result<Command, ErrCode>
+    ensures { result ≡ command packet.now }
+{
+    match packet {
+        [0xD6, ..] => Ok(Command::FreeDaq),
+        [0xD5, _, n0, n1, ..] => Ok(Command::AllocDaq {
+            count: u16::from_le_bytes([*n0, *n1]),
+        }),
+        [0xD4, _, l0, l1, count, ..] => Ok(Command::AllocOdt {
+            list: u16::from_le_bytes([*l0, *l1]),
+            count: *count,
+        }),
+        [0xD3, _, l0, l1, odt, count, ..] => Ok(Command::AllocOdtEntry {
+            list: u16::from_le_bytes([*l0, *l1]),
+            odt: *odt,
+            count: *count,
+        }),
+        [0xE2, _, l0, l1, odt, entry, ..] => Ok(Command::SetDaqPtr {
+            list: u16::from_le_bytes([*l0, *l1]),
+            odt: *odt,
+            entry: *entry,
+        }),
+        [0xE1, bit, size, ext, a0, a1, a2, a3, ..] => Ok(Command::WriteDaq {
+            bit: *bit,
+            size: *size,
+            ext: *ext,
+            addr: u32::from_le_bytes([*a0, *a1, *a2, *a3]),
+        }),
+        [0xE0, mode, l0, l1, c0, c1, prescaler, priority, ..] => Ok(Command::SetDaqListMode {
+            mode: *mode,
+            list: u16::from_le_bytes([*l0, *l1]),
+            channel: u16::from_le_bytes([*c0, *c1]),
+            prescaler: *prescaler,
+            priority: *priority,
+        }),
+        [0xDE, mode, l0, l1, ..] => Ok(Command::StartStopDaqList {
+            mode: *mode,
+            list: u16::from_le_bytes([*l0, *l1]),
+        }),
+        [0xDD, mode, ..] => Ok(Command::StartStopSynch { mode: *mode }),
+        [] | [0xD3..=0xD5 | 0xDD..=0xDE | 0xE0..=0xE2, ..] => Err(ErrCode::CmdSyntax),
+        _ => Err(ErrCode::CmdUnknown),
+    }
+}
+
+/// Carries a command out by the store's call of its name, and answers it. Want of memory is answered
+/// exactly where that call meets it: then the command isn't carried out.
+pub fn carry_out(store: &mut Store, command: Command) -> Result<Reply, NoMemory>
+    ensures ok { IfOk result (CarriesOut store.old store.new command) }
+    ensures refused { IfOk result (KeepsOnError store.old store.new) }
+
+    ensures no_memory { OnErr result (Allocates command × PassesAll store.old command) }
+    ensures unchanged { OnErr result (store.new ≡ store.old) }
+
+    ensures profile { store.new.profile ≡ store.old.profile }
+{
+    match call(store, command) {
+        Ok(reply) => Ok(reply),
+        Err(Refusal::Code(code)) => Ok(Reply::Error(code)),
+        Err(Refusal::Memory) => Err(NoMemory),
+    }
+}
+
+/// Makes the store's call with the values of a command.
+fn call(store: &mut Store, command: Command) -> Result<Reply, Refusal>
+    ensures accepted { IfOk result (IsAccepted store.old store.new command) }
+    ensures refused { IfErr result (Refuses store.old command) }
+    ensures memory { result ≡ Err Refusal.Memory → Allocates command }
+    ensures unchanged { OnErr result (store.new ≡ store.old) }
+    ensures profile { store.new.profile ≡ store.old.profile }
+{
+    match command {
+        Command::FreeDaq => {
+            store.free_daq();
+            Ok(Reply::Positive)
+        }
+        Command::AllocDaq { count } => {
+            store.alloc_daq(count)?;
+            Ok(Reply::Positive)
+        }
+        Command::AllocOdt { list, count } => {
+            store.alloc_odt(list, count)?;
+            Ok(Reply::Positive)
+        }
+        Command::AllocOdtEntry { list, odt, count } => {
+            store.alloc_odt_entry(list, odt, count)?;
+            Ok(Reply::Positive)
+        }
+        Command::SetDaqPtr { list, odt, entry } => {
+            store.set_ptr(list, odt, entry)?;
+            Ok(Reply::Positive)
+        }
+        Command::WriteDaq {
+            bit,
+            size,
+            ext,
+            addr,
+        } => {
+            store.write(bit, size, ext, addr)?;
+            Ok(Reply::Positive)
+        }
+        Command::SetDaqListMode {
+            mode,
+            list,
+            channel,
+            prescaler,
+            priority,
+        } => {
+            store.set_mode(mode, list, channel, prescaler, priority)?;
+            Ok(Reply::Positive)
+        }
+        Command::StartStopDaqList { mode, list } => {
+            let first_pid = store.start_stop(mode, list)?;
+            Ok(Reply::Started { first_pid })
+        }
+        Command::StartStopSynch { mode } => {
+            store.synch(mode)?;
+            Ok(Reply::Positive)
+        }
+    }
 }

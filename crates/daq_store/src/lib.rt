@@ -18,6 +18,6 @@ mod store;
 mod tests;
 
 pub use list_conf::ListConf;
-pub use refusal::{BadLimits, Refusal};
+pub use refusal::{BadLimits, NoMemory, Refusal};
 pub use reply::Reply;
 pub use store::Store;

@@ -34,6 +34,11 @@ impl From<AllocError> for Refusal {
     }
 }
 
+/// A command met want of memory. It isn't carried out, and the store is unchanged.
+#[derive(Clone, Copy, Debug, PartialEq, Eq, Error)]
+#[error("want of memory")]
+pub struct NoMemory;
+
 /// The number of event channels or the length of the images is out of its limits.
 #[derive(Clone, Copy, Debug, PartialEq, Eq, Error)]
 #[error("event channels or image length out of their limits")]

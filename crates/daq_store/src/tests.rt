@@ -3,5 +3,6 @@
 mod ask;
 mod examples;
 mod memory;
+mod packets;
 mod plain;
 mod random;
