@@ -1,14 +1,15 @@
 mod set_up;
+mod whole_way;
 
 use crate::fixed_run;
 use frame_writer::{FuseOut, VecOut, WriteFault, next_frame};
 use linked_list_allocator::LocalHeap;
 use std::test::Fail;
 
-const TWO_IMAGES: [[u8; 2]; 2] = [[0xAA, 0xBB], [0xCC, 0xDD]];
+pub const TWO_IMAGES: [[u8; 2]; 2] = [[0xAA, 0xBB], [0xCC, 0xDD]];
 
 /// What is written of them.
-const TWO_FRAMES: [u8; 14] = [
+pub const TWO_FRAMES: [u8; 14] = [
     0x03, 0x00, 0x00, 0x00, 0x00, 0xAA, 0xBB, 0x03, 0x00, 0x01, 0x00, 0x00, 0xCC, 0xDD,
 ];
 

@@ -7,7 +7,7 @@ use std::alloc::{AllocError, Global};
 use std::test::Fail;
 
 /// A DAQ list of one entry, which then runs.
-const ONE_LIST: [&[u8]; 8] = [
+pub const ONE_LIST: [&[u8]; 8] = [
     &[0xD6],
     &[0xD5, 0, 1, 0],
     &[0xD4, 0, 0, 0, 1],
@@ -26,7 +26,7 @@ const EIGHT_REPLIES: [u8; 41] = [
 ];
 
 /// The packets, in memory of their own.
-fn packets_of(alloc: Global, packets: &[&[u8]]) -> Result<Vec<Vec<u8>>, AllocError> {
+pub fn packets_of(alloc: Global, packets: &[&[u8]]) -> Result<Vec<Vec<u8>>, AllocError> {
     let mut all = Vec::new(alloc);
     for place in 0..packets.len() {
         all.push(Vec::from_slice(alloc, packets[place])?)?;
