@@ -19,10 +19,19 @@ impl CopyPlan {
         ensures { result ≡ packets self.now image.now stamp overload }
     {
         let mut sample = Packets::new();
-        for k in 0..self.odts() {
-            self.append_packet(&mut sample, image, stamp, overload, k);
-        }
+        self.fill_into(&mut sample, image, stamp, overload);
         sample
+    }
+
+    /// The same in place, in a value without packets: it saves the move of a sample.
+    pub fn fill_into(&self, sample: &mut Packets, image: &[u8], stamp: u32, overload: bool)
+        requires empty { sample.old ≡ [] }
+        requires image { length image.now ≡ self.now.image_len }
+        ensures { sample.new ≡ packets self.now image.now stamp overload }
+    {
+        for k in 0..self.odts() {
+            self.append_packet(sample, image, stamp, overload, k);
+        }
     }
 
     /// How many copies an ODT needs; `None` exactly where there is no such ODT.

@@ -34,26 +34,41 @@ fn store_of_one(
 ) -> Result<Store, Fail> {
     let mut store = Store::new(rt.alloc(), 1, image_len)?;
     store.alloc_daq(1)?;
-    store.alloc_odt(0, odts.len() as u8)?;
+    store.alloc_odt(0, u8::try_from(odts.len())?)?;
     for k in 0..odts.len() {
-        store.alloc_odt_entry(0, k as u8, odts[k].len() as u8)?;
+        let count = u8::try_from(odts[k].len())?;
+        store.alloc_odt_entry(0, u8::try_from(k)?, count)?;
     }
     for k in 0..odts.len() {
-        write_entries(&mut store, 0, k as u8, odts[k])?;
+        write_entries(&mut store, 0, u8::try_from(k)?, odts[k])?;
     }
     store.set_mode(mode, 0, 0, 1, 0)?;
     Ok(store)
+}
+
+/// What is answered where the plan of a list that is there and ready is made.
+fn made(rt: &HostRuntime, store: &Store, list: u8) -> Result<Result<CopyPlan, PlanFault>, Fail>
+    requires { list < 16 }
+{
+    let conf = store.plan(list as u16).ok_or("not ready")?;
+    let first_pid = store.first_pid(list as u16).ok_or("no list")?;
+    Ok(CopyPlan::of(rt.alloc(), list, conf, first_pid, store.image_len()))
 }
 
 /// The plan of a list that is there and ready.
 fn plan_of(rt: &HostRuntime, store: &Store, list: u8) -> Result<CopyPlan, Fail>
     requires { list < 16 }
 {
-    let conf = store.plan(list as u16).ok_or("not ready")?;
-    let first_pid = store.first_pid(list as u16).ok_or("no list")?;
-    Ok(CopyPlan::of(rt.alloc(), list, conf, first_pid, store.image_len())?)
+    Ok(made(rt, store, list)??)
 }
 
+/// A sample of an image that has the plan's length.
+fn filled(rt: &impl Abort, plan: &CopyPlan, image: &[u8], stamp: u32, overload: bool) -> Packets {
+    assert_eq!(rt; plan.image_len(), image.len());
+    plan.fill(image, stamp, overload)
+}
+
+/// Compares the packets of a sample.
 fn are(rt: &impl Abort, packets: &Packets, expected: &[&[u8]]) {
     assert_eq!(rt; packets.len(), expected.len());
     for k in 0..expected.len() {
@@ -69,12 +84,12 @@ fn only_odt_0_has_the_timestamp_and_the_overload(rt: HostRuntime) -> Result<(), 
     let second: [u8; 2] = [0x01, 0xBB];
     are(
         &rt,
-        &plan.fill(&image, 0x01020304, false),
+        &filled(&rt, &plan, &image, 0x01020304, false),
         &[&[0x00, 0x04, 0x03, 0x02, 0x01, 0xAA], &second],
     );
     are(
         &rt,
-        &plan.fill(&image, 0x01020304, true),
+        &filled(&rt, &plan, &image, 0x01020304, true),
         &[&[0x80, 0x04, 0x03, 0x02, 0x01, 0xAA], &second],
     );
     Ok(())
@@ -87,8 +102,16 @@ fn neighbours_are_copied_in_one_go(rt: HostRuntime) -> Result<(), Fail> {
     let image = [0, 1, 2, 3, 4, 5, 6, 7, 8];
     assert_eq!(rt; plan.runs(0), Some(2));
     assert_eq!(rt; plan.runs(1), None);
-    are(&rt, &plan.fill(&image, 0, false), &[&[0x00, 0, 1, 2, 3, 8]]);
-    are(&rt, &plan.fill(&image, 0, true), &[&[0x80, 0, 1, 2, 3, 8]]);
+    are(
+        &rt,
+        &filled(&rt, &plan, &image, 0, false),
+        &[&[0x00, 0, 1, 2, 3, 8]],
+    );
+    are(
+        &rt,
+        &filled(&rt, &plan, &image, 0, true),
+        &[&[0x80, 0, 1, 2, 3, 8]],
+    );
     Ok(())
 }
 
@@ -115,7 +138,7 @@ fn entries_are_joined_only_where_one_begins_at_the_end_of_the_other(
         let plan = plan_of(&rt, &store, 0)?;
         assert_eq!(rt; plan.runs(0), Some(runs), "at {place}");
         assert_eq!(rt;
-            plan.fill(&image, 0, false).get(0),
+            filled(&rt, &plan, &image, 0, false).get(0),
             Some(packet),
             "at {place}"
         );
@@ -131,7 +154,7 @@ fn neighbours_in_two_odts_are_copied_apart(rt: HostRuntime) -> Result<(), Fail> 
         (plan.runs(0), plan.runs(1), plan.runs(2)),
         (Some(1), Some(1), None)
     );
-    let sample = plan.fill(&[0, 1, 2, 3], 0, true);
+    let sample = filled(&rt, &plan, &[0, 1, 2, 3], 0, true);
     are(&rt, &sample, &[&[0x80, 0, 1], &[0x01, 2, 3]]);
     Ok(())
 }
@@ -155,12 +178,12 @@ fn the_last_of_124_odts_has_pid_0x7b(rt: HostRuntime) -> Result<(), Fail> {
     assert_eq!(rt; (plan.list(), plan.first_pid(), plan.odts()), (15, 0x78, 4));
     are(
         &rt,
-        &plan.fill(&[0xAA], 0, false),
+        &filled(&rt, &plan, &[0xAA], 0, false),
         &[&[0x78, 0xAA], &[0x79, 0xAA], &[0x7A, 0xAA], &[0x7B, 0xAA]],
     );
     are(
         &rt,
-        &plan.fill(&[0xAA], 0, true),
+        &filled(&rt, &plan, &[0xAA], 0, true),
         &[&[0xF8, 0xAA], &[0x79, 0xAA], &[0x7A, 0xAA], &[0x7B, 0xAA]],
     );
     Ok(())
@@ -188,7 +211,7 @@ fn a_sample_has_up_to_eight_packets_of_64_bytes(rt: HostRuntime) -> Result<(), F
     ];
     let store = store_of_one(&rt, 0, 504, &odts)?;
     let plan = plan_of(&rt, &store, 0)?;
-    let sample = plan.fill(&image, 0, false);
+    let sample = filled(&rt, &plan, &image, 0, false);
     assert_eq!(rt; sample.len(), 8);
     for k in 0..8usize {
         let Some(packet) = sample.get(k) else {
@@ -209,12 +232,13 @@ fn an_odt_has_up_to_32_entries(rt: HostRuntime) -> Result<(), Fail> {
     let store = store_of_one(&rt, STAMPED, 32, &[&entries])?;
     let plan = plan_of(&rt, &store, 0)?;
     assert_eq!(rt; plan.runs(0), Some(32));
-    let sample = plan.fill(&[0x11; 32], 1, false);
-    let Some(packet) = sample.get(0) else {
-        panic!(rt; "no packet");
-    };
-    assert_eq!(rt; &packet[..5], [0x00, 1, 0, 0, 0].as_slice());
-    assert_eq!(rt; &packet[5..], [0x11; 32].as_slice());
+    let mut packet = [0x11u8; 37];
+    packet[0] = 0x00;
+    packet[1] = 0x01;
+    packet[2] = 0x00;
+    packet[3] = 0x00;
+    packet[4] = 0x00;
+    are(&rt, &filled(&rt, &plan, &[0x11; 32], 1, false), &[&packet]);
     Ok(())
 }
 
@@ -239,16 +263,15 @@ fn the_readers_show_what_is_set(rt: HostRuntime) -> Result<(), Fail> {
 }
 
 #[test]
-fn a_refused_growth_is_want_of_memory(rt: HostRuntime) -> Result<(), Fail> {
+fn after_a_refused_growth_a_plan_can_be_made(rt: HostRuntime) -> Result<(), Fail> {
     let store = store_of_one(&rt, 0, 4, &[&[(0, 2), (2, 2)], &[(0, 1), (3, 1)]])?;
-    let conf = store.plan(0).ok_or("not ready")?;
-    let mut made = CopyPlan::of(rt.alloc(), 0, conf, 0, 4);
-    if made.as_ref().err() == Some(&PlanFault::Memory) {
-        made = CopyPlan::of(rt.alloc(), 0, conf, 0, 4);
-    }
+    let plan = match made(&rt, &store, 0)? {
+        Ok(plan) => plan,
+        Err(PlanFault::Memory) => plan_of(&rt, &store, 0)?,
+    };
     are(
         &rt,
-        &made?.fill(&[1, 2, 3, 4], 0, false),
+        &filled(&rt, &plan, &[1, 2, 3, 4], 0, false),
         &[&[0x00, 1, 2, 3, 4], &[0x01, 1, 4]],
     );
     Ok(())

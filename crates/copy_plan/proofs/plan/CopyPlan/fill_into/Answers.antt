@@ -2,7 +2,7 @@ use Rattle.std.proofs.Common.{◌≡◌, ◌++◌, [], ◌∷◌, length, map, a
 use Rattle.std.proofs.lemmas.List.FromFn.{length-map-range_with_len, map-range_with_len_more}
 use Rattle.std.specs.List.{range_with_len}
 use Rattle.copy_plan.specs.Packet.{packet, packets}
-use Rattle.copy_plan.proofs.plan.CopyPlan.fill.Goals as goal
+use Rattle.copy_plan.proofs.plan.CopyPlan.fill_into.Goals as goal
 
 -- a list has eight ODTs at most
 pub append_packet-requires-clause-room : goal.append_packet-requires-clause-room

@@ -1,7 +1,7 @@
 use Rattle.std.proofs.Common.{◌≡◌, map}
 use Rattle.std.specs.List.{range_with_len}
 use Rattle.copy_plan.specs.Packet.{packet}
-use Rattle.copy_plan.proofs.plan.CopyPlan.fill.Given as goal
+use Rattle.copy_plan.proofs.plan.CopyPlan.fill_into.Given as goal
 
 -- the packets of the ODTs so far
 abbrev pub invariant-loop-k : goal.invariant-loop-k
