@@ -1,1 +1,2 @@
 pub mod PacketsLemmas
+pub mod LastPacketLemmas

@@ -1,8 +1,8 @@
 -- How `Packets` keeps its packets: one behind another in one body, each behind a byte that has its length.
-use Rattle.std.specs.Prelude.{◌≡◌, ℕ, zero, suc, ◌≤◌, List, [], ◌∷◌, ◌++◌, length, take, drop}
+use Rattle.std.specs.Prelude.{◌≡◌, ℕ, zero, suc, ◌+◌, ◌<◌, ◌≤◌, List, [], ◌∷◌, ◌++◌, length, take, drop}
 use Rattle.xcp_base.specs.declared.limits.TheConstants.{MAX_ODTS}
 use Rattle.xcp_base.specs.declared.packets.Packets.TheInside.{Inside}
-use Rattle.xcp_base.specs.Packets.{ArePackets}
+use Rattle.xcp_base.specs.Packets.{ArePackets, last_packet}
 
 -- the body of some packets
 unfoldable pub body_of : List (List ℕ) → List ℕ
@@ -19,9 +19,15 @@ packets_in (suc n) (len ∷ rest) = take len rest ∷ packets_in n (drop len res
 abbrev pub packets_view : Inside → List (List ℕ)
 packets_view a = packets_in a.count a.body.items
 
+-- the length of the last packet of a body stands at this place, if there is a packet
+abbrev pub StandsAtLast : ℕ → List ℕ → List (List ℕ) → Type 0
+StandsAtLast last body packets =
+    0 < length packets → last + 1 + length (last_packet packets) ≡ length body
+
 -- the body is that of the packets, of which there are at most eight
 pub record IsBody (a : Inside) : Type 0 where
   pub body : a.body.items ≡ body_of (packets_view a)
   pub count : length (packets_view a) ≡ a.count
   pub room : a.count ≤ MAX_ODTS
   pub each : ArePackets (packets_view a)
+  pub last : StandsAtLast a.last a.body.items (packets_view a)

@@ -1,7 +1,7 @@
-ghost use Rattle.std.specs.Prelude.{◌≡◌, ◌<◌, ◌≤◌, ◌+◌, [], ◌∷◌, ◌++◌, ◌↔◌, IfSome, IsOk, OnErr, OnOk, drop, length, slice_get, slice_index, take};
+ghost use Rattle.std.specs.Prelude.{◌≡◌, ◌<◌, ◌≤◌, ◌+◌, [], ◌∷◌, ◌++◌, ◌↔◌, IfSome, IsOk, OnErr, OnOk, drop, length, slice_get, slice_index, slice_set, take};
 ghost use Rattle.std.specs.Option.{option_copied};
 ghost use Rattle.arrayvec.specs.ArrayVec.{array_vec_len};
-ghost use Rattle.xcp_base.specs.Packets.{ArePackets, IsPacket};
+ghost use Rattle.xcp_base.specs.Packets.{ArePackets, IsPacket, last_packet, with_longer_last};
 
 use crate::limits::{MAX_BODY, MAX_DTO, MAX_ODTS};
 use arrayvec::ArrayVec;
@@ -18,6 +18,7 @@ pub struct Full;
 pub struct Packets {
     body: ArrayVec<u8, MAX_BODY>,
     count: usize,
+    last: usize,
 }
 
 impl Model for Packets {
@@ -40,6 +41,7 @@ impl Packets {
         Packets {
             body: ArrayVec::new(),
             count: 0,
+            last: 0,
         }
     }
 
@@ -64,9 +66,20 @@ impl Packets {
         if self.count == MAX_ODTS {
             return Err(Full);
         }
+        let last = self.body.len();
         append(&mut self.body, packet);
         self.count += 1;
+        self.last = last;
         Ok(())
+    }
+
+    /// Appends bytes to the last packet, which is there and stays within `MAX_DTO` bytes.
+    pub fn append(&mut self, bytes: &[u8])
+        requires some { 0 < length self.old }
+        requires fits { length (last_packet self.old) + length bytes.now ≤ MAX_DTO }
+        ensures { self.new ≡ with_longer_last self.old bytes.now }
+    {
+        lengthen(&mut self.body, self.last, bytes);
     }
 
     /// The packet at an index, counted from 0; `None` exactly where there is none.
@@ -93,6 +106,21 @@ fn append(body: &mut ArrayVec<u8, MAX_BODY>, packet: &[u8])
 {
     body.push(packet.len() as u8);
     let Ok(()) = body.try_extend_from_slice(packet) else {
+        unreachable!();
+    };
+}
+
+/// Appends bytes to the packet that stands last in a body, whose length stands at `last`.
+fn lengthen(body: &mut ArrayVec<u8, MAX_BODY>, last: usize, bytes: &[u8])
+    requires at { last < array_vec_len body.old }
+    requires room { array_vec_len body.old + length bytes.now ≤ MAX_BODY }
+    requires fits { slice_index body.old.items last + length bytes.now ≤ MAX_DTO }
+    ensures { body.new.items
+        ≡ slice_set body.old.items last (slice_index body.old.items last + length bytes.now)
+        ++ bytes.now }
+{
+    body[last] += bytes.len() as u8;
+    let Ok(()) = body.try_extend_from_slice(bytes) else {
         unreachable!();
     };
 }

@@ -30,6 +30,27 @@ fn packets_of_any_length_come_back_as_they_were(rt: HostRuntime) {
 }
 
 #[test]
+fn bytes_are_appended_to_the_last_packet_alone(rt: HostRuntime) {
+    let longest = [0xA5; 64];
+    let mut packets = Packets::new();
+    assert_eq!(rt; packets.push(&[0x01]), Ok(()));
+    packets.append(&[]);
+    packets.append(&longest[..63]);
+    assert_eq!(rt; packets.push(&[0x02, 0x03]), Ok(()));
+    packets.append(&[0x04]);
+    packets.append(&[0x05, 0x06]);
+    assert_eq!(rt; packets.len(), 2);
+    let Some(first) = packets.get(0) else {
+        panic!(rt; "no first packet");
+    };
+    assert_eq!(rt; &first[..1], [0x01].as_slice());
+    assert_eq!(rt; &first[1..], &longest[..63]);
+    let second = [0x02, 0x03, 0x04, 0x05, 0x06];
+    assert_eq!(rt; packets.get(1), Some(second.as_slice()));
+    assert!(rt; packets.get(2).is_none());
+}
+
+#[test]
 fn error_codes_have_the_bytes_of_the_standard(rt: HostRuntime) {
     let codes = [
         (ErrCode::DaqActive, 0x11),

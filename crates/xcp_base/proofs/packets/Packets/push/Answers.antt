@@ -2,6 +2,7 @@ use Rattle.std.proofs.Common.{◌≡◌, ◌+◌, ◌<◌, ℕ, List, [], ◌∷
 use Rattle.std.proofs.lemmas.List.Elements.{All-from_get_or, All-push}
 use Rattle.xcp_base.specs.Packets.{IsPacket}
 use Rattle.xcp_base.specs.PacketsBody.{body_of, packets_in}
+use Rattle.xcp_base.proofs.LastPacketLemmas.{last_packet-push}
 use Rattle.xcp_base.proofs.PacketsLemmas.{body_of-push, length-body_of, packets_in-push}
 use Rattle.xcp_base.proofs.packets.Packets.push.Goals as goal
 
@@ -24,6 +25,7 @@ invariant_of-self c =
       count = rw e (omega (arith, length-append qs (q ∷ []), i.count));
       room = omega arith;
       each = rw e (All-push IsPacket qs q i.each packet);
+      last = λ _. rw (e, last_packet-push qs q) (omega (arith, ap length c.append.ensures, length-append c.self.inside.body.items (length q ∷ q), c.len-last.ensures.value));
     }
 
 pub returns-clause-ok : goal.returns-clause-ok

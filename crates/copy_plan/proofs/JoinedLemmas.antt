@@ -1,0 +1,183 @@
+-- The runs of an ODT copy the bytes of its entries, and there are as many as the ODT needs.
+use Rattle.std.proofs.Common.{inl, inr, Option, map, Bool, true, false, ◌==◌, not, cond, ◌≡◌, ◌≢◌, true≢false, ℕ, zero, suc, ◌+◌, ◌-◌, ◌<◌, ◌≤◌, List, [], ◌∷◌, ◌++◌, length, take, drop, get_or, zip, refl, sym, ap, ◌∙◌, append_assoc, append-nil, add-one, arith}
+use Rattle.std.specs.Prelude.{All, slice_range, count_by}
+use Rattle.std.proofs.Math.Seq.{take-add}
+use Rattle.std.proofs.lemmas.List.{drop-drop}
+use Rattle.std.proofs.lemmas.List.Sums.{sum_by-cons}
+use Rattle.std.proofs.lemmas.List.Elements.{All-nil, All-cons, All-head, All-tail}
+use Rattle.std.proofs.lemmas.Bool.Decides.{eqb_tells}
+use Rattle.copy_plan.specs.declared.runs.Run.{Run}
+use Rattle.daq_store.specs.declared.entry.Entry.{Entry}
+use Rattle.copy_plan.specs.Config.{OdtEntry, IsInside, written}
+use Rattle.copy_plan.specs.Packet.{elements}
+use Rattle.copy_plan.specs.Runs.{continues, runs_needed}
+use Rattle.copy_plan.specs.Joined.{with_bytes, joined, copied, IsRunInside}
+
+-- bytes that end where the first run begins are joined with it, other bytes are a run of their own
+joins : (start end : ℕ) (r : Run) (rs : List Run) → r.start ≡ end → with_bytes start end (r ∷ rs) ≡ record { start = start; end = r.end } ∷ rs
+joins start end r rs h =
+    elim (eqb_tells r.start end) [ inl t ↦ rw t.0 refl | inr t ↦ absurd (t.1 h) ]
+
+stands_apart : (start end : ℕ) (r : Run) (rs : List Run) → r.start ≢ end → with_bytes start end (r ∷ rs) ≡ record { start = start; end = end } ∷ r ∷ rs
+stands_apart start end r rs h =
+    elim (eqb_tells r.start end) [ inl t ↦ absurd (h t.1) | inr t ↦ rw t.0 refl ]
+
+-- the first of the runs with bytes before them begins where these do
+pub record Begins (rs : List Run) (start : ℕ) : Type 0 where
+  pub end : ℕ
+  pub rest : List Run
+  pub is : rs ≡ record { start = start; end = end } ∷ rest
+
+pub begins : (start end : ℕ) (rs : List Run) → Begins (with_bytes start end rs) start
+begins start end [] = record { end = end; rest = []; is = refl }
+begins start end (r ∷ rs) =
+    elim (eqb_tells r.start end) [
+      | inl t ↦ record { end = r.end; rest = rs; is = joins start end r rs t.1 }
+      | inr t ↦ record { end = end; rest = r ∷ rs; is = stands_apart start end r rs t.1 }
+    ]
+
+-- an entry that begins at the end of the bytes before it is joined with them
+pub with_bytes-joined : (start mid end : ℕ) (rs : List Run) → with_bytes start mid (with_bytes mid end rs) ≡ with_bytes start end rs
+with_bytes-joined start mid end [] = joins start mid (record { start = mid; end = end }) [] refl
+with_bytes-joined start mid end (r ∷ rs) =
+    elim (eqb_tells r.start end) [
+      | inl t ↦
+          ap (with_bytes start mid) (joins mid end r rs t.1)
+          ∙ joins start mid (record { start = mid; end = r.end }) rs refl
+          ∙ sym (joins start end r rs t.1)
+      | inr t ↦
+          ap (with_bytes start mid) (stands_apart mid end r rs t.1)
+          ∙ joins start mid (record { start = mid; end = end }) (r ∷ rs) refl
+          ∙ sym (stands_apart start end r rs t.1)
+    ]
+
+-- one that begins elsewhere is not
+pub with_bytes-apart : (start end next last : ℕ) (rs : List Run) → next ≢ end → with_bytes start end (with_bytes next last rs) ≡ record { start = start; end = end } ∷ with_bytes next last rs
+with_bytes-apart start end next last rs h =
+    let first : Begins (with_bytes next last rs) next = begins next last rs in
+    rw (first.is) (stands_apart start end (record { start = next; end = first.end }) first.rest h)
+
+-- two neighbouring parts are one part
+slice_range-join : (xs : List ℕ) (a b c : ℕ) → a ≤ b → b ≤ c → slice_range xs a b ++ slice_range xs b c ≡ slice_range xs a c
+slice_range-join xs a b c h k =
+    let there : drop b xs ≡ drop (b - a) (drop a xs) = ap (λ n. drop n xs) (omega arith) ∙ sym (drop-drop (b - a) a xs) in
+    ap (λ rest. take (b - a) (drop a xs) ++ take (c - b) rest) there
+    ∙ sym (take-add (b - a) (c - b) (drop a xs))
+    ∙ ap (λ n. take n (drop a xs)) (omega arith)
+
+-- what runs with bytes before them copy
+copied-with_bytes : (image : List ℕ) (start end : ℕ) (rs : List Run) → start ≤ end → All (λ (r : Run). r.start ≤ r.end) rs → copied image (with_bytes start end rs) ≡ slice_range image start end ++ copied image rs
+copied-with_bytes image start end [] h each = refl
+copied-with_bytes image start end (r ∷ rs) h each =
+    let ordered : r.start ≤ r.end = All-head (λ (r : Run). r.start ≤ r.end) r rs each in
+    elim (eqb_tells r.start end) [
+      | inl t ↦
+          let there : slice_range image start end ++ slice_range image r.start r.end ≡ slice_range image start r.end
+          = ap (λ n. slice_range image start end ++ slice_range image n r.end) t.1 ∙ slice_range-join image start end r.end h (omega (arith, ordered, t.1)) in
+          ap (copied image) (joins start end r rs t.1)
+          ∙ ap (λ bytes. bytes ++ copied image rs) (sym there)
+          ∙ append_assoc (slice_range image start end) (slice_range image r.start r.end) (copied image rs)
+      | inr t ↦ ap (copied image) (stands_apart start end r rs t.1)
+    ]
+
+ordered-with_bytes : (start end : ℕ) (rs : List Run) → start ≤ end → All (λ (r : Run). r.start ≤ r.end) rs → All (λ (r : Run). r.start ≤ r.end) (with_bytes start end rs)
+ordered-with_bytes start end [] h each =
+    let P : Run → Type 0 = λ r. r.start ≤ r.end in
+    All-cons P (record { start = start; end = end }) [] h each
+ordered-with_bytes start end (r ∷ rs) h each =
+    let P : Run → Type 0 = λ r. r.start ≤ r.end in
+    let ordered : r.start ≤ r.end = All-head P r rs each in
+    elim (eqb_tells r.start end) [
+      | inl t ↦
+          rw (joins start end r rs t.1) (All-cons P (record { start = start; end = r.end }) rs (omega (arith, h, ordered, t.1)) (All-tail P r rs each))
+      | inr t ↦ rw (stands_apart start end r rs t.1) (All-cons P (record { start = start; end = end }) (r ∷ rs) h each)
+    ]
+
+pub ordered-joined : (es : List OdtEntry) → All (λ (r : Run). r.start ≤ r.end) (joined es)
+ordered-joined [] = All-nil (λ (r : Run). r.start ≤ r.end)
+ordered-joined (e ∷ es) = ordered-with_bytes e.0 (e.0 + e.1) (joined es) (omega arith) (ordered-joined es)
+
+-- the runs copy what the entries are
+pub copied-joined : (image : List ℕ) (es : List OdtEntry) → copied image (joined es) ≡ elements image es
+copied-joined image [] = refl
+copied-joined image (e ∷ es) =
+    copied-with_bytes image e.0 (e.0 + e.1) (joined es) (omega arith) (ordered-joined es)
+    ∙ ap (λ bytes. slice_range image e.0 (e.0 + e.1) ++ bytes) (copied-joined image es)
+
+-- runs of entries within the image lie within the image
+inside-with_bytes : (n start end : ℕ) (rs : List Run) → start ≤ end → end ≤ n → All (IsRunInside n) rs → All (IsRunInside n) (with_bytes start end rs)
+inside-with_bytes n start end [] h k each =
+    All-cons (IsRunInside n) (record { start = start; end = end }) [] (record { ordered = h; inside = k }) each
+inside-with_bytes n start end (r ∷ rs) h k each =
+    let here : IsRunInside n r = All-head (IsRunInside n) r rs each in
+    elim (eqb_tells r.start end) [
+      | inl t ↦
+          let long : IsRunInside n (record { start = start; end = r.end }) = record { ordered = omega (arith, h, here.ordered, t.1); inside = here.inside } in
+          rw (joins start end r rs t.1) (All-cons (IsRunInside n) (record { start = start; end = r.end }) rs long (All-tail (IsRunInside n) r rs each))
+      | inr t ↦ rw (stands_apart start end r rs t.1) (All-cons (IsRunInside n) (record { start = start; end = end }) (r ∷ rs) (record { ordered = h; inside = k }) each)
+    ]
+
+pub inside-joined : (n : ℕ) (es : List OdtEntry) → All (IsInside n) es → All (IsRunInside n) (joined es)
+inside-joined n [] each = All-nil (IsRunInside n)
+inside-joined n (e ∷ es) each =
+    inside-with_bytes n e.0 (e.0 + e.1) (joined es) (omega arith) (All-head (IsInside n) e es each) (inside-joined n es (All-tail (IsInside n) e es each))
+
+count_by-cons : {X : Type 0} (p : X → Bool) (x : X) (xs : List X) → count_by p (x ∷ xs) ≡ cond (p x) 1 0 + count_by p xs
+count_by-cons p x xs = sum_by-cons (λ y. cond (p y) 1 0) x xs
+
+-- there is one run for each entry that does not go on where the one before it ends
+pub length-joined : (es : List OdtEntry) → 0 < length es → length (joined es) ≡ runs_needed es
+length-joined [] h = absurd (omega (arith, h))
+length-joined (e ∷ []) h = refl
+length-joined (e ∷ f ∷ es) h =
+    let first : Begins (joined (f ∷ es)) f.0 = begins f.0 (f.0 + f.1) (joined es) in
+    let ih : length (joined (f ∷ es)) ≡ runs_needed (f ∷ es) = length-joined (f ∷ es) (omega arith) in
+    let r : Run = record { start = f.0; end = first.end } in
+    let more : runs_needed (e ∷ f ∷ es) ≡ cond (not (continues (e, f))) 1 0 + runs_needed (f ∷ es)
+    = ap (λ n. 1 + n) (count_by-cons (λ (pair : OdtEntry × OdtEntry). not (continues pair)) (e, f) (zip (f ∷ es) es)) ∙ omega arith in
+    elim (eqb_tells f.0 (e.0 + e.1)) [
+      | inl t ↦
+          let one : ◌≡◌ {A = ℕ} (cond (not (continues (e, f))) 1 0) 0 = rw t.0 refl in
+          let is : joined (e ∷ f ∷ es) ≡ record { start = e.0; end = first.end } ∷ first.rest
+          = ap (with_bytes e.0 (e.0 + e.1)) first.is ∙ joins e.0 (e.0 + e.1) r first.rest t.1 in
+          omega (arith, ap length is, ap length first.is, ih, more, one)
+      | inr t ↦
+          let one : ◌≡◌ {A = ℕ} (cond (not (continues (e, f))) 1 0) 1 = rw t.0 refl in
+          let is : joined (e ∷ f ∷ es) ≡ record { start = e.0; end = e.0 + e.1 } ∷ r ∷ first.rest
+          = ap (with_bytes e.0 (e.0 + e.1)) first.is ∙ stands_apart e.0 (e.0 + e.1) r first.rest t.1 in
+          omega (arith, ap length is, ap length first.is, ih, more, one)
+    ]
+
+-- one entry more: apart from the bytes in hand, these become a run; else it is joined with them
+pub one_apart : (runs all : List Run) (start end : ℕ) (e : OdtEntry) (es : List OdtEntry) → runs ++ with_bytes start end (joined (e ∷ es)) ≡ all → e.0 ≢ end → (runs ++ record { start = start; end = end } ∷ []) ++ with_bytes e.0 (e.0 + e.1) (joined es) ≡ all
+one_apart runs all start end e es is h =
+    append_assoc runs (record { start = start; end = end } ∷ []) (with_bytes e.0 (e.0 + e.1) (joined es))
+    ∙ ap (λ rs. runs ++ rs) (sym (with_bytes-apart start end e.0 (e.0 + e.1) (joined es) h))
+    ∙ is
+
+pub one_joined : (runs all : List Run) (start end : ℕ) (e : OdtEntry) (es : List OdtEntry) → runs ++ with_bytes start end (joined (e ∷ es)) ≡ all → e.0 ≡ end → runs ++ with_bytes start (e.0 + e.1) (joined es) ≡ all
+one_joined runs all start end e es is h =
+    ap (λ rs. runs ++ rs) (sym (with_bytes-joined start e.0 (e.0 + e.1) (joined es)))
+    ∙ ap (λ n. runs ++ with_bytes start n (joined (e ∷ es))) h
+    ∙ is
+
+-- what one run more copies
+pub copied-more : (image : List ℕ) (runs : List Run) (i : ℕ) (d : Run) → i < length runs → copied image (take (i + 1) runs) ≡ copied image (take i runs) ++ slice_range image (get_or runs i d).start (get_or runs i d).end
+copied-more image [] i d h = absurd (omega (arith, h))
+copied-more image (r ∷ rs) zero d h = append-nil (slice_range image r.start r.end)
+copied-more image (r ∷ rs) (suc i) d h =
+    rw add-one (
+    ap (λ bytes. slice_range image r.start r.end ++ bytes) (rw add-one at (copied-more image rs i d (omega (arith, h))))
+    ∙ sym (append_assoc (slice_range image r.start r.end) (copied image (take i rs)) (slice_range image (get_or rs i d).start (get_or rs i d).end)))
+
+-- the runs of each of some ODTs
+pub map-joined-written : (odts : List (List (Option Entry))) → map (λ es. joined (written es)) odts ≡ map joined (map written odts)
+map-joined-written [] = refl
+map-joined-written (es ∷ odts) = ap (λ rest. joined (written es) ∷ rest) (map-joined-written odts)
+
+-- what the test of two places tells
+pub apart_if : (a b : ℕ) → (a == b) ≡ false → a ≢ b
+apart_if a b h = elim (eqb_tells a b) [ inl t ↦ absurd (true≢false (sym t.0 ∙ h)) | inr t ↦ t.1 ]
+
+pub same_if : (a b : ℕ) → (a == b) ≡ true → a ≡ b
+same_if a b h = elim (eqb_tells a b) [ inl t ↦ t.1 | inr t ↦ absurd (true≢false (sym h ∙ t.0)) ]

@@ -1,0 +1,83 @@
+-- The configuration of a ready list makes a plan.
+use Rattle.std.proofs.Common.{inl, inr, Bool, true, ◌&&◌, ◌≡◌, ℕ, ◌+◌, ◌<◌, ◌≤◌, [], length, get_or, map, sym, ap, ◌∙◌, zero-add, true≢false, arith, nat_lt, nat_le}
+use Rattle.std.specs.Prelude.{IsSome, is_some, sum_by}
+use Rattle.std.specs.List.{list_all}
+use Rattle.std.proofs.lemmas.Bool.{and_parts}
+use Rattle.std.proofs.lemmas.Bool.Decides.{leb_tells}
+use Rattle.std.proofs.lemmas.List.{get_or-map, get_or_default, length-map}
+use Rattle.std.proofs.lemmas.List.Sums.{AllPass-from_list_all}
+use Rattle.std.proofs.lemmas.List.FromFn.{get_or-range_with_len, length-range_with_len}
+use Rattle.std.proofs.lemmas.Option.{unwrap_or-slice_get}
+use Rattle.daq_store.specs.Calls.{numbers_below}
+use Rattle.daq_store.specs.Configuration.{Configuration, channel_of, prescaler_of, odt_entries, is_within, is_filled, is_ready}
+use Rattle.daq_store.specs.Configuration as store
+use Rattle.copy_plan.specs.Config.{OdtEntry, IsPlan, AreFilled, packet_len, plan_of, written}
+use Rattle.copy_plan.proofs.WrittenLemmas.{IsSome-within, inside-within, some-written, sum_by-written}
+
+-- the ODTs of a configuration
+odt_at : (conf : Configuration) (k : ℕ) → odt_entries conf k ≡ get_or conf.odts k []
+odt_at conf k = unwrap_or-slice_get conf.odts k []
+
+pub odt-written : (conf : Configuration) (k : ℕ) → k < length conf.odts → get_or (map written conf.odts) k [] ≡ written (odt_entries conf k)
+odt-written conf k h = get_or-map written conf.odts k [] [] h ∙ ap written (sym (odt_at conf k))
+
+-- what makes a configuration ready, ODT by ODT
+pub record Ready (n : ℕ) (conf : Configuration) : Type 0 where
+  pub mode : IsSome conf.mode
+  pub some : 0 < length conf.odts
+  pub entries : (k : ℕ) → k < length conf.odts → 0 < length (odt_entries conf k)
+  pub within : (k : ℕ) → k < length conf.odts → list_all (is_within n) (odt_entries conf k) ≡ true
+  pub short : (k : ℕ) → k < length conf.odts → store.packet_len conf k ≤ 64
+
+below : (a b : ℕ) → nat_le a b ≡ true → a ≤ b
+below a b h = elim (leb_tells a b) [ inl t ↦ t.1 | inr t ↦ absurd (true≢false (sym h ∙ t.0)) ]
+
+pub ready : (n : ℕ) (conf : Configuration) → is_ready n conf ≡ true → Ready n conf
+ready n conf h =
+    let test : ℕ → Bool = λ i. nat_le (store.packet_len conf i) 64 in
+    let short = and_parts (is_some conf.mode && nat_lt 0 (length conf.odts) && list_all (is_filled n) conf.odts) (list_all test (numbers_below (length conf.odts))) h in
+    let filled = and_parts (is_some conf.mode && nat_lt 0 (length conf.odts)) (list_all (is_filled n) conf.odts) short.0 in
+    let some = and_parts (is_some conf.mode) (nat_lt 0 (length conf.odts)) filled.0 in
+    let at : (k : ℕ) → k < length conf.odts → is_filled n (odt_entries conf k) ≡ true
+    = λ k l. ap (is_filled n) (odt_at conf k) ∙ AllPass-from_list_all (is_filled n) conf.odts filled.1 k [] l in
+    record {
+      mode = some.0;
+      some = below 1 (length conf.odts) some.1;
+      entries = λ k l. below 1 (length (odt_entries conf k)) (and_parts (nat_lt 0 (length (odt_entries conf k))) (list_all (is_within n) (odt_entries conf k)) (at k l)).0;
+      within = λ k l. (and_parts (nat_lt 0 (length (odt_entries conf k))) (list_all (is_within n) (odt_entries conf k)) (at k l)).1;
+      short = λ k l.
+          let place : get_or (numbers_below (length conf.odts)) k 0 ≡ k = get_or-range_with_len 0 (length conf.odts) k 0 l ∙ zero-add k in
+          let inside : k < length (numbers_below (length conf.odts)) = rw (length-range_with_len 0 (length conf.odts)) l in
+          below (store.packet_len conf k) 64 (ap test (sym place) ∙ AllPass-from_list_all test (numbers_below (length conf.odts)) short.1 k 0 inside);
+    }
+
+pub filled : (n : ℕ) (conf : Configuration) → Ready n conf → AreFilled conf
+filled n conf r = λ k d h.
+    let same : odt_entries conf k ≡ get_or conf.odts k d = odt_at conf k ∙ get_or_default conf.odts k [] d h in
+    rw (← same) (r.entries k h, IsSome-within n (odt_entries conf k) (r.within k h))
+
+-- the packet of ODT k is as long as the store takes it to be
+same_len : (l : ℕ) (conf : Configuration) (f n k : ℕ) → k < length conf.odts → packet_len (plan_of l conf f n) k ≡ store.packet_len conf k
+same_len l conf f n k h =
+    ap (λ m. 1 + store.stamp_len conf k + m) (ap (sum_by (λ (e : OdtEntry). e.1)) (odt-written conf k h) ∙ sum_by-written (odt_entries conf k))
+
+pub plan_is : (l : ℕ) (conf : Configuration) (f n : ℕ) → l < 16 → channel_of conf.mode < 8 → (IsSome conf.mode → 0 < prescaler_of conf.mode) → length conf.odts ≤ 8 → f + length conf.odts ≤ 124 → Ready n conf → IsPlan (plan_of l conf f n)
+plan_is l conf f n list channel prescaler limit pids r =
+    let count : length (map written conf.odts) ≡ length conf.odts = length-map conf.odts written in
+    record {
+      list = list;
+      channel = channel;
+      prescaler = prescaler r.mode;
+      some = omega (arith, r.some, count);
+      limit = omega (arith, limit, count);
+      pids = omega (arith, pids, count);
+      entries = λ k h.
+          let here : k < length conf.odts = omega (arith, h, count) in
+          rw (odt-written conf k here) (some-written (odt_entries conf k) (r.entries k here) (IsSome-within n (odt_entries conf k) (r.within k here)));
+      inside = λ k h.
+          let here : k < length conf.odts = omega (arith, h, count) in
+          rw (odt-written conf k here) (inside-within n (odt_entries conf k) (r.within k here));
+      short = λ k h.
+          let here : k < length conf.odts = omega (arith, h, count) in
+          omega (arith, same_len l conf f n k here, r.short k here);
+    }

@@ -1,0 +1,81 @@
+-- Worked examples, on literals: a wrong rule in specs/ does not check here.
+use Rattle.std.specs.Prelude.{◌≡◌, true, false, List, [], ◌∷◌, Some, map, refl}
+use Rattle.daq_store.specs.Configuration.{Configuration, is_ready}
+use Rattle.copy_plan.specs.Config.{ListPlan, OdtEntry, plan_of}
+use Rattle.copy_plan.specs.Packet.{packet, packets}
+use Rattle.copy_plan.specs.Pids.{pid}
+use Rattle.copy_plan.specs.Runs.{runs_needed}
+use Rattle.copy_plan.specs.Joined.{joined}
+
+-- a list of two ODTs with a timestamp, as it is set in the store
+two_odts : Configuration
+two_odts = record {
+  mode = Some (record { channel = 0; prescaler = 1; stamped = true; priority = 0 });
+  odts = (Some (record { address = 0; size = 1 }) ∷ []) ∷ (Some (record { address = 1; size = 1 }) ∷ []) ∷ [];
+}
+
+two_odts-ready : is_ready 2 two_odts ≡ true
+unfolding two_odts
+two_odts-ready = refl
+
+-- the timestamp stands in ODT 0, least significant byte first, and in no other
+packets-two_odts : packets (plan_of 0 two_odts 0 2) (0xAA ∷ 0xBB ∷ []) 0x01020304 false ≡ (0x00 ∷ 0x04 ∷ 0x03 ∷ 0x02 ∷ 0x01 ∷ 0xAA ∷ []) ∷ (0x01 ∷ 0xBB ∷ []) ∷ []
+unfolding packets packet two_odts
+packets-two_odts = refl
+
+-- the overload indication stands in ODT 0, and in no other
+packets-two_odts_marked : packets (plan_of 0 two_odts 0 2) (0xAA ∷ 0xBB ∷ []) 0x01020304 true ≡ (0x80 ∷ 0x04 ∷ 0x03 ∷ 0x02 ∷ 0x01 ∷ 0xAA ∷ []) ∷ (0x01 ∷ 0xBB ∷ []) ∷ []
+unfolding packets packet two_odts
+packets-two_odts_marked = refl
+
+-- two neighbours and one entry apart from them
+neighbours : List OdtEntry
+neighbours = (0, 2) ∷ (2, 2) ∷ (8, 1) ∷ []
+
+neighbours_plan : ListPlan
+neighbours_plan = record {
+  list = 0;
+  channel = 0;
+  prescaler = 1;
+  first_pid = 0;
+  stamped = false;
+  odts = neighbours ∷ [];
+  image_len = 9;
+}
+
+packets-neighbours : packets neighbours_plan (0 ∷ 1 ∷ 2 ∷ 3 ∷ 4 ∷ 5 ∷ 6 ∷ 7 ∷ 8 ∷ []) 0 false ≡ (0x00 ∷ 0 ∷ 1 ∷ 2 ∷ 3 ∷ 8 ∷ []) ∷ []
+unfolding packets packet neighbours neighbours_plan
+packets-neighbours = refl
+
+packets-neighbours_marked : packets neighbours_plan (0 ∷ 1 ∷ 2 ∷ 3 ∷ 4 ∷ 5 ∷ 6 ∷ 7 ∷ 8 ∷ []) 0 true ≡ (0x80 ∷ 0 ∷ 1 ∷ 2 ∷ 3 ∷ 8 ∷ []) ∷ []
+unfolding packets packet neighbours neighbours_plan
+packets-neighbours_marked = refl
+
+-- they need two copies, and these are
+runs_needed-neighbours : runs_needed neighbours ≡ 2
+unfolding neighbours
+runs_needed-neighbours = refl
+
+joined-neighbours : joined neighbours ≡ record { start = 0; end = 4 } ∷ record { start = 8; end = 9 } ∷ []
+unfolding neighbours
+joined-neighbours = refl
+
+-- the last of 124 ODTs: FIRST_PID 0x78, four ODTs
+last_plan : ListPlan
+last_plan = record {
+  list = 15;
+  channel = 0;
+  prescaler = 1;
+  first_pid = 0x78;
+  stamped = false;
+  odts = ((0, 1) ∷ []) ∷ ((0, 1) ∷ []) ∷ ((0, 1) ∷ []) ∷ ((0, 1) ∷ []) ∷ [];
+  image_len = 4;
+}
+
+pids-last : map (λ k. pid last_plan k false) (0 ∷ 1 ∷ 2 ∷ 3 ∷ []) ≡ 0x78 ∷ 0x79 ∷ 0x7A ∷ 0x7B ∷ []
+unfolding last_plan
+pids-last = refl
+
+pids-last_marked : map (λ k. pid last_plan k true) (0 ∷ 1 ∷ 2 ∷ 3 ∷ []) ≡ 0xF8 ∷ 0x79 ∷ 0x7A ∷ 0x7B ∷ []
+unfolding last_plan
+pids-last_marked = refl

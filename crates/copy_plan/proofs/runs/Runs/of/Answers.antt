@@ -1,0 +1,30 @@
+use Rattle.std.proofs.Common.{◌<◌, length, arith, ◌≡◌, ◌+◌, List, ◌∷◌, Option, drop, sym, ◌∙◌}
+use Rattle.daq_store.specs.declared.entry.Entry.{Entry}
+use Rattle.daq_store.specs.Configuration.{odt_entries}
+use Rattle.copy_plan.specs.declared.runs.Run.{Run}
+use Rattle.copy_plan.specs.Config.{OdtEntry, written}
+use Rattle.copy_plan.specs.Joined.{joined}
+use Rattle.copy_plan.proofs.WrittenLemmas.{shown-Some, written-drop}
+use Rattle.copy_plan.proofs.JoinedLemmas.{one_apart, one_joined, apart_if, same_if}
+use Rattle.copy_plan.proofs.runs.Runs.of.Goals as goal
+use Rattle.copy_plan.proofs.runs.Runs.of.Goals.{then-not-begins_at+in_ok-push, else-not-begins_at}
+
+-- the next entry begins at the end of the bytes in hand, or they are a run
+pub loop-entry-preserved : goal.loop-entry-preserved
+loop-entry-preserved c =
+    let es : List (Option Entry) = odt_entries c.args.conf.now c.args.odt in
+    let all : List Run = joined (written es) in
+    let e : OdtEntry = (c.in-Some-entry.address, c.in-Some-entry.size) in
+    let rest : List OdtEntry = written (drop (c.loop-entry.entry + 1) es) in
+    let step : written (drop c.loop-entry.entry es) ≡ e ∷ rest = written-drop es c.loop-entry.entry e c.in-Some-entry.ensures.value in
+    let here = rw step at c.loop-entry.invariant in
+    elim c.if-not-begins_at.branch [
+      | then-not-begins_at+in_ok-push w ↦ rw (w.runs-is, w.start-is, w.in_ok-push.ensures.items) (one_apart c.loop-entry.runs.items all c.loop-entry.start c.loop-entry.end e rest here (apart_if c.in-Some-entry.address c.loop-entry.end (sym c.begins_at.ensures ∙ w.if-not-begins_at.true)))
+      | else-not-begins_at w ↦ rw (w.runs-is, w.start-is) (one_joined c.loop-entry.runs.items all c.loop-entry.start c.loop-entry.end e rest here (same_if c.in-Some-entry.address c.loop-entry.end (sym c.begins_at.ensures ∙ w.if-not-begins_at.false)))
+    ]
+
+-- each entry is written
+pub unreachable-requires-in_default-entry : goal.unreachable-requires-in_default-entry
+unreachable-requires-in_default-entry c =
+    let there : c.loop-entry.entry < length (odt_entries c.args.conf.now c.args.odt) = omega (arith, c.loop-entry-test.true, c.entries-entry-end.ensures.count) in
+    shown-Some (odt_entries c.args.conf.now c.args.odt) c.loop-entry.entry there c.requires.written (sym c.entry-in-loop-entry.ensures.value ∙ c.in_default-entry.is)

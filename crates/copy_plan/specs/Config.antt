@@ -1,0 +1,64 @@
+-- What the samples of one DAQ list are made of (ASAM MCD-1 XCP, protocol layer, DAQ list, ODT, ODT entry). The limits
+-- are (own).
+use Rattle.std.specs.Prelude.{ℕ, ◌+◌, ◌<◌, ◌≤◌, ◌==◌, ◌&&◌, Bool, if◌then◌else◌, All, List, [], length, map, filter_map, slice_index_or, sum_by, Option, option_map, IsSome}
+use Rattle.xcp_base.specs.declared.limits.TheConstants.{MAX_DTO}
+use Rattle.daq_store.specs.declared.entry.Entry.{Entry}
+use Rattle.daq_store.specs.Configuration.{Configuration, channel_of, prescaler_of, is_stamped}
+
+-- an ODT entry: its address in the image and its size in bytes
+abbrev pub OdtEntry : Type 0
+OdtEntry = ℕ × ℕ
+
+-- the configuration of one ready DAQ list
+pub record ListPlan : Type 0 where
+  pub list : ℕ
+  pub channel : ℕ
+  pub prescaler : ℕ
+  pub first_pid : ℕ
+  pub stamped : Bool
+  pub odts : List (List OdtEntry)
+  pub image_len : ℕ
+
+-- the entries that are written
+abbrev pub written : List (Option Entry) → List OdtEntry
+written entries = filter_map (λ entry. option_map (λ x. (x.address, x.size)) entry) entries
+
+-- what the store has of list l, with its FIRST_PID, for images of this length
+abbrev pub plan_of : ℕ → Configuration → ℕ → ℕ → ListPlan
+plan_of l conf first_pid image_len = record {
+  list = l;
+  channel = channel_of conf.mode;
+  prescaler = prescaler_of conf.mode;
+  first_pid = first_pid;
+  stamped = is_stamped conf.mode;
+  odts = map written conf.odts;
+  image_len = image_len;
+}
+
+-- the entries of ODT k
+abbrev pub odt : ListPlan → ℕ → List OdtEntry
+odt plan k = slice_index_or plan.odts k []
+
+-- the bytes of the packet of ODT k: the PID, in ODT 0 of a stamped list a timestamp of 4 bytes, and the entries
+abbrev pub packet_len : ListPlan → ℕ → ℕ
+packet_len plan k = 1 + (if k == 0 && plan.stamped then 4 else 0) + sum_by (λ (e : OdtEntry). e.1) (odt plan k)
+
+-- the entry ends within the image
+abbrev pub IsInside : ℕ → OdtEntry → Type 0
+IsInside image_len e = e.0 + e.1 ≤ image_len
+
+-- what every plan keeps to
+pub record IsPlan (plan : ListPlan) : Type 0 where
+  pub list : plan.list < 16
+  pub channel : plan.channel < 8
+  pub prescaler : 0 < plan.prescaler
+  pub some : 0 < length plan.odts
+  pub limit : length plan.odts ≤ 8
+  pub pids : plan.first_pid + length plan.odts ≤ 124
+  pub entries : (k : ℕ) → k < length plan.odts → 0 < length (odt plan k)
+  pub inside : (k : ℕ) → k < length plan.odts → All (IsInside plan.image_len) (odt plan k)
+  pub short : (k : ℕ) → k < length plan.odts → packet_len plan k ≤ MAX_DTO
+
+-- each ODT has an entry, and each entry is written
+abbrev pub AreFilled : Configuration → Type 0
+AreFilled conf = All (λ entries. (0 < length entries) × All IsSome entries) conf.odts

@@ -1,0 +1,24 @@
+-- Inner: the runs of an ODT, which are its entries with neighbours joined, and what they copy.
+use Rattle.std.specs.Prelude.{ℕ, ◌+◌, ◌≤◌, ◌==◌, if◌then◌else◌, List, [], ◌∷◌, slice_range, flat_map}
+use Rattle.copy_plan.specs.declared.runs.Run.{Run}
+use Rattle.copy_plan.specs.Config.{OdtEntry}
+
+-- some bytes and the runs behind them: one run with the first of these where it begins at their end
+abbrev pub with_bytes : ℕ → ℕ → List Run → List Run
+with_bytes start end [] = record { start = start; end = end } ∷ []
+with_bytes start end (r ∷ rs) =
+    if r.start == end then record { start = start; end = r.end } ∷ rs else record { start = start; end = end } ∷ r ∷ rs
+
+-- the runs of some entries
+abbrev pub joined : List OdtEntry → List Run
+joined [] = []
+joined (e ∷ es) = with_bytes e.0 (e.0 + e.1) (joined es)
+
+-- what runs copy of an image
+abbrev pub copied : List ℕ → List Run → List ℕ
+copied image runs = flat_map (λ (r : Run). slice_range image r.start r.end) runs
+
+-- the run lies within the image
+pub record IsRunInside (image_len : ℕ) (r : Run) : Type 0 where
+  pub ordered : r.start ≤ r.end
+  pub inside : r.end ≤ image_len

@@ -1,0 +1,106 @@
+//! The hot copy: from an image to the packets of a sample. It takes no memory.
+ghost use Rattle.std.specs.Prelude.{◌≡◌, ◌==◌, ◌&&◌, ◌+◌, ◌<◌, ◌≤◌, ◌++◌, [], ◌∷◌, All, length, slice_get, option_map};
+ghost use Rattle.xcp_base.specs.Packets.{last_packet, with_longer_last};
+ghost use Rattle.copy_plan.specs.Config.{IsPlan, odt};
+ghost use Rattle.copy_plan.specs.Packet.{packet, packets, timestamp};
+ghost use Rattle.copy_plan.specs.Pids.{pid};
+ghost use Rattle.copy_plan.specs.Runs.{runs_needed};
+ghost use Rattle.copy_plan.specs.Joined.{IsRunInside, copied, joined};
+
+use crate::plan::CopyPlan;
+use crate::runs::Run;
+use xcp_base::Packets;
+
+impl CopyPlan {
+    /// The packets of a sample, one for each ODT in their order, all from one image and one timestamp,
+    /// which only a stamped list uses; `overload` sets the overload indication.
+    pub fn fill(&self, image: &[u8], stamp: u32, overload: bool) -> Packets
+        requires { length image.now ≡ self.now.image_len }
+        ensures { result ≡ packets self.now image.now stamp overload }
+    {
+        let mut sample = Packets::new();
+        for k in 0..self.odts() {
+            self.append_packet(&mut sample, image, stamp, overload, k);
+        }
+        sample
+    }
+
+    /// How many copies an ODT needs; `None` exactly where there is no such ODT.
+    pub fn runs(&self, k: usize) -> Option<usize>
+        ensures { result ≡ option_map runs_needed (slice_get self.now.odts k) }
+    {
+        if k >= self.odts() {
+            return None;
+        }
+        Some(self.copies_of(k).len())
+    }
+
+    /// The copies that the packet of an ODT is made of: its entries, neighbours joined.
+    fn copies_of(&self, k: usize) -> &[Run]
+        requires { k < length self.now.odts }
+        ensures runs { result.now ≡ joined (odt self.now k) }
+        ensures plan { IsPlan self.now }
+    {
+        self.odts[k].as_slice()
+    }
+
+    /// The identification field of an ODT: its PID, in ODT 0 with the overload indication.
+    fn pid(&self, k: usize, overload: bool) -> u8
+        requires { k < length self.now.odts }
+        ensures { result ≡ pid self.now k overload }
+    {
+        let pid = self.first_pid + k as u8;
+        if k == 0 && overload { pid + 0x80 } else { pid }
+    }
+
+    /// Appends the packet of an ODT.
+    fn append_packet(
+        &self,
+        sample: &mut Packets,
+        image: &[u8],
+        stamp: u32,
+        overload: bool,
+        k: usize,
+    )
+        requires image { length image.now ≡ self.now.image_len }
+        requires odt { k < length self.now.odts }
+        requires room { length sample.old < 8 }
+        ensures { sample.new ≡ sample.old ++ packet self.now image.now stamp overload k ∷ [] }
+    {
+        let Ok(()) = sample.push(&[self.pid(k, overload)]) else {
+            unreachable!();
+        };
+        self.append_timestamp(sample, stamp, k);
+        append_runs(sample, image, self.copies_of(k));
+    }
+
+    /// Appends the timestamp to the last packet, where the ODT's packet has one.
+    fn append_timestamp(&self, sample: &mut Packets, stamp: u32, k: usize)
+        requires some { 0 < length sample.old }
+        requires room { length (last_packet sample.old) ≤ 60 }
+        ensures { sample.new ≡ with_longer_last sample.old (timestamp self.now k stamp) }
+    {
+        if self.has_timestamp(k) {
+            sample.append(&stamp.to_le_bytes());
+        }
+    }
+
+    /// Whether the packet of an ODT has a timestamp: in a stamped list that of ODT 0.
+    fn has_timestamp(&self, k: usize) -> bool
+        ensures { result ≡ (k == 0 && self.now.stamped) }
+    {
+        k == 0 && self.stamped
+    }
+}
+
+/// Appends parts of an image to the last packet.
+fn append_runs(sample: &mut Packets, image: &[u8], runs: &[Run])
+    requires some { 0 < length sample.old }
+    requires inside { All (IsRunInside (length image.now)) runs.now }
+    requires room { length (last_packet sample.old) + length (copied image.now runs.now) ≤ 64 }
+    ensures { sample.new ≡ with_longer_last sample.old (copied image.now runs.now) }
+{
+    for run in runs {
+        sample.append(&image[run.start..run.end]);
+    }
+}

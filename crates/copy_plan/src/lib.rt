@@ -1,0 +1,11 @@
+//! Copy plans: from a memory image to the packets of a sample of one DAQ list.
+#![tactic(auto)]
+
+mod fill;
+pub mod laws;
+mod plan;
+mod runs;
+#[cfg(test)]
+mod tests;
+
+pub use plan::{CopyPlan, PlanFault};

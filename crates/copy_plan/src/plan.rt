@@ -1,0 +1,151 @@
+ghost use Rattle.std.specs.Prelude.{◌≡◌, ◌+◌, ◌<◌, ◌≤◌, IfOk, true, length, map};
+ghost use Rattle.daq_store.specs.Configuration.{is_ready};
+ghost use Rattle.copy_plan.specs.declared.plan.PlanFault.TheVariants.{Memory};
+ghost use Rattle.copy_plan.specs.Config.{IsPlan, AreFilled, plan_of, written};
+ghost use Rattle.copy_plan.specs.Joined.{joined};
+
+use crate::runs::Runs;
+use daq_store::ListConf;
+use std::alloc::{AllocError, Global};
+use std::error::Error;
+use std::fmt;
+use std::marker::Model;
+use std::snapshot::Snapshot;
+use thiserror::Error;
+
+/// Why no plan was made.
+#[derive(Clone, Copy, Debug, PartialEq, Eq, Error)]
+pub enum PlanFault {
+    /// Memory was wanting.
+    #[error("want of memory")]
+    Memory,
+}
+
+impl From<AllocError> for PlanFault {
+    ghost from_gives = { λ _ fault. fault ≡ Memory };
+
+    fn from(_error: AllocError) -> PlanFault {
+        PlanFault::Memory
+    }
+}
+
+/// What the samples of one ready DAQ list are made of: its ODTs, each as the parts of the image that
+/// its packet copies.
+///
+/// Contracts see the list's configuration, entry by entry. Neighbouring entries are joined once, when
+/// the plan is made; the entries themselves are not kept, `conf` has no bytes.
+#[derive(Drop)]
+pub struct CopyPlan {
+    pub(crate) list: u8,
+    pub(crate) channel: u8,
+    pub(crate) prescaler: u8,
+    pub(crate) first_pid: u8,
+    pub(crate) stamped: bool,
+    pub(crate) image_len: usize,
+    pub(crate) odts: Vec<Runs>,
+    pub(crate) conf: Snapshot<ListConf>,
+}
+
+impl Model for CopyPlan {
+    ghost use Rattle.copy_plan.specs.Config.{ListPlan};
+    ghost use Rattle.copy_plan.specs.Kept.{IsKept, plan_view};
+
+    ghost Value = { ListPlan };
+
+    ghost view = { plan_view };
+
+    ghost invariant = { IsKept };
+}
+
+impl CopyPlan {
+    /// The plan of a ready DAQ list, whose PIDs begin with FIRST_PID; images have `image_len` bytes.
+    ///
+    /// An entry that begins where the one before it in the same ODT ends is copied with it, in one go.
+    pub fn of(
+        alloc: Global,
+        list: u8,
+        conf: &ListConf,
+        first_pid: u8,
+        image_len: usize,
+    ) -> Result<CopyPlan, PlanFault>
+        requires list { list < 16 }
+        requires ready { is_ready image_len conf.now ≡ true }
+        requires pids { first_pid + length conf.now.odts ≤ 124 }
+        ensures value { IfOk result (λ plan. plan ≡ plan_of list conf.now first_pid image_len) }
+        ensures plan { IfOk result IsPlan }
+    {
+        let odts = runs_of_odts(alloc, conf)?;
+        Ok(CopyPlan {
+            list,
+            channel: conf.channel(),
+            prescaler: conf.prescaler(),
+            first_pid,
+            stamped: conf.stamped(),
+            image_len,
+            odts,
+            conf: Snapshot::of(conf),
+        })
+    }
+
+    /// The number of the DAQ list.
+    pub fn list(&self) -> u8
+        ensures value { result ≡ self.now.list }
+        ensures plan { IsPlan self.now }
+    {
+        self.list
+    }
+
+    /// The event channel of the list.
+    pub fn channel(&self) -> u8
+        ensures value { result ≡ self.now.channel }
+        ensures plan { IsPlan self.now }
+    {
+        self.channel
+    }
+
+    /// The prescaler: the list is due at each `prescaler`-th trigger.
+    pub fn prescaler(&self) -> u8
+        ensures value { result ≡ self.now.prescaler }
+        ensures plan { IsPlan self.now }
+    {
+        self.prescaler
+    }
+
+    /// FIRST_PID: the PID of the list's ODT 0.
+    pub fn first_pid(&self) -> u8
+        ensures value { result ≡ self.now.first_pid }
+        ensures plan { IsPlan self.now }
+    {
+        self.first_pid
+    }
+
+    /// The number of ODTs, and so of the packets of a sample.
+    pub fn odts(&self) -> usize
+        ensures value { result ≡ length self.now.odts }
+        ensures plan { IsPlan self.now }
+    {
+        self.odts.len()
+    }
+
+    /// The length of the images, in bytes.
+    pub fn image_len(&self) -> usize
+        ensures value { result ≡ self.now.image_len }
+        ensures plan { IsPlan self.now }
+    {
+        self.image_len
+    }
+}
+
+/// The runs of each ODT of a list.
+fn runs_of_odts(alloc: Global, conf: &ListConf) -> Result<Vec<Runs>, AllocError>
+    requires { AreFilled conf.now }
+    ensures value { IfOk result (λ odts. odts.items
+        ≡ map (λ es. joined (written es)) conf.now.odts) }
+    ensures limit { length conf.now.odts ≤ 8 }
+{
+    let mut odts = Vec::with_capacity(alloc, conf.odts())?;
+    for odt in 0..conf.odts() {
+        odts.push(Runs::of(alloc, conf, odt)?)?;
+    }
+    Ok(odts)
+}
