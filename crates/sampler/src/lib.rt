@@ -7,6 +7,8 @@ mod openings;
 mod sampler;
 mod sampler_end;
 mod taken;
+#[cfg(test)]
+mod tests;
 mod track;
 mod turn;
 
