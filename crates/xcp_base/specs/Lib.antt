@@ -1,3 +1,4 @@
 pub mod ErrorCodes
 pub mod Packets
 pub mod PacketsBody
+pub mod Samples

@@ -1,11 +1,17 @@
-//! What every layer speaks of: the limits of the profile, its error codes, and the packets of a sample.
+//! What every layer speaks of: the limits of the profile, its error codes, packets, samples and items.
 #![tactic(auto)]
 
 mod err_code;
+mod item;
 pub mod limits;
 mod packets;
+mod sample;
+mod stop_mark;
 #[cfg(test)]
 mod tests;
 
 pub use err_code::ErrCode;
+pub use item::Item;
 pub use packets::{Full, Packets};
+pub use sample::Sample;
+pub use stop_mark::StopMark;

@@ -1,4 +1,4 @@
-use crate::{ErrCode, Full, Packets};
+use crate::{ErrCode, Full, Item, Packets, Sample, StopMark};
 
 #[test]
 fn eight_packets_are_all_that_a_sample_has(rt: HostRuntime) {
@@ -65,4 +65,32 @@ fn error_codes_have_the_bytes_of_the_standard(rt: HostRuntime) {
     for (code, byte) in codes {
         assert_eq!(rt; code.byte(), byte, "{code:?}");
     }
+}
+
+#[test]
+fn a_sample_has_what_it_was_made_of(rt: HostRuntime) {
+    let first = [0x80, 0xAA];
+    let mut packets = Packets::new();
+    assert_eq!(rt; packets.push(&first), Ok(()));
+    let item = Item::Sample(Sample::new(7, 15, u64::MAX, packets));
+    let Item::Sample(sample) = &item else {
+        panic!(rt; "it is a sample");
+    };
+    assert_eq!(rt; sample.channel(), 7);
+    assert_eq!(rt; sample.list(), 15);
+    assert_eq!(rt; sample.number(), u64::MAX);
+    assert_eq!(rt; sample.packets().len(), 1);
+    let kept = sample.packets();
+    let packet = kept.get(0);
+    assert_eq!(rt; packet, Some(first.as_slice()));
+}
+
+#[test]
+fn a_marker_names_channel_and_list(rt: HostRuntime) {
+    let item = Item::Marker(StopMark::new(7, 15));
+    let Item::Marker(marker) = &item else {
+        panic!(rt; "it is a marker");
+    };
+    assert_eq!(rt; marker.channel(), 7);
+    assert_eq!(rt; marker.list(), 15);
 }

@@ -1,0 +1,14 @@
+pub mod Histories
+pub mod Drops
+pub mod Tracking
+pub mod Stands
+pub mod Places
+pub mod Orders
+pub mod Turns
+pub mod Rows
+pub mod RowItems
+pub mod Triggers
+pub mod TakenSets
+pub mod Ends
+pub mod FirstTracks
+pub mod StandardFacts

@@ -1,0 +1,80 @@
+-- What is kept of a list after one event more.
+use Rattle.std.proofs.Common.{◌≡◌, ℕ, zero, suc, ◌+◌, ◌%◌, ◌<◌, ◌≤◌, Bool, true, false, cond, not, ◌&&◌, List, [], ◌∷◌, ◌++◌, length, get_or, set, map, reverse, refl, sym, ap, ◌∙◌, arith, subst, nat_eq}
+use Rattle.std.specs.Prelude.{find, take_while, count_by, Some, None, position, if◌then◌else◌}
+use Rattle.std.proofs.Math.Nat.{zero-mod}
+use Rattle.std.proofs.lemmas.List.{reverse-append}
+use Rattle.std.proofs.lemmas.List.Sums.{sum_by-cons, take_while-cons}
+use Rattle.std.proofs.lemmas.Grind.{common_steps}
+use Rattle.copy_plan.specs.Config.{ListPlan}
+use Rattle.sampler.specs.History.{Event, Trigger, Start, Stop, Opening, due, due_at, pairs_at, runs_after, runs_since, triggers_since_start, is_trigger, is_start, is_start_or_stop, has_list}
+use Rattle.sampler.specs.Decisions.{Decided, decided, pairs_of, overload_pending}
+use Rattle.sampler.specs.Tracks.{track_of, phase_of, counts_of}
+use Rattle.sampler.specs.declared.track.Track.{Track}
+use Rattle.sampler.proofs.Histories.{due-more, append_nil}
+
+back : (h : List Event) (e : Event) → reverse (h ++ e ∷ []) ≡ e ∷ reverse h
+back h e = reverse-append h (e ∷ [])
+
+module _ (o : Opening) (h : List Event) where
+  pub runs-start : (k l : ℕ) → runs_after o (h ++ Start k ∷ []) l ≡ cond (nat_eq k l) true (runs_after o h l)
+  unfolding runs_after
+  runs-start k l = rw (back h (Start k)) (by_case (nat_eq k l))
+    where
+      by_case : (b : Bool) → runs_since (has_list o.running l) (cond b (Some (Start k)) (find (is_start_or_stop l) (reverse h))) ≡ cond b true (runs_since (has_list o.running l) (find (is_start_or_stop l) (reverse h)))
+      by_case true = refl
+      by_case false = refl
+
+  pub runs-stop : (k l : ℕ) → runs_after o (h ++ Stop k ∷ []) l ≡ cond (nat_eq k l) false (runs_after o h l)
+  unfolding runs_after
+  runs-stop k l = rw (back h (Stop k)) (by_case (nat_eq k l))
+    where
+      by_case : (b : Bool) → runs_since (has_list o.running l) (cond b (Some (Stop k)) (find (is_start_or_stop l) (reverse h))) ≡ cond b false (runs_since (has_list o.running l) (find (is_start_or_stop l) (reverse h)))
+      by_case true = refl
+      by_case false = refl
+
+  pub runs-trigger : (image : List ℕ) (stamp l : ℕ) → runs_after o (h ++ Trigger image stamp ∷ []) l ≡ runs_after o h l
+  unfolding runs_after
+  runs-trigger image stamp l = rw (back h (Trigger image stamp)) refl
+
+  pub since-start : (k l : ℕ) → triggers_since_start (h ++ Start k ∷ []) l ≡ cond (nat_eq k l) 0 (triggers_since_start h l)
+  unfolding triggers_since_start
+  since-start k l = rw (back h (Start k), take_while-cons (λ e. not (is_start l e)) (Start k) (reverse h)) (by_case (nat_eq k l))
+    where
+      by_case : (b : Bool) → count_by is_trigger (cond (not b) (Start k ∷ take_while (λ e. not (is_start l e)) (reverse h)) []) ≡ cond b 0 (count_by is_trigger (take_while (λ e. not (is_start l e)) (reverse h)))
+      by_case true = refl
+      by_case false = sum_by-cons (λ e. cond (is_trigger e) 1 0) (Start k) (take_while (λ e. not (is_start l e)) (reverse h)) ∙ omega arith
+
+  pub since-stop : (k l : ℕ) → triggers_since_start (h ++ Stop k ∷ []) l ≡ triggers_since_start h l
+  unfolding triggers_since_start
+  since-stop k l = rw (back h (Stop k), take_while-cons (λ e. not (is_start l e)) (Stop k) (reverse h)) (sum_by-cons (λ e. cond (is_trigger e) 1 0) (Stop k) (take_while (λ e. not (is_start l e)) (reverse h)) ∙ omega arith)
+
+  pub since-trigger : (image : List ℕ) (stamp l : ℕ) → triggers_since_start (h ++ Trigger image stamp ∷ []) l ≡ 1 + triggers_since_start h l
+  unfolding triggers_since_start
+  since-trigger image stamp l = rw (back h (Trigger image stamp), take_while-cons (λ e. not (is_start l e)) (Trigger image stamp) (reverse h)) (sum_by-cons (λ e. cond (is_trigger e) 1 0) (Trigger image stamp) (take_while (λ e. not (is_start l e)) (reverse h)))
+
+  -- a start and a stop add no pair
+  pub due-start : (k : ℕ) → due o (h ++ Start k ∷ []) ≡ due o h
+  unfolding due_at
+  due-start k = due-more o h (Start k) ∙ append_nil (due o h)
+
+  pub due-stop : (k : ℕ) → due o (h ++ Stop k ∷ []) ≡ due o h
+  unfolding due_at
+  due-stop k = due-more o h (Stop k) ∙ append_nil (due o h)
+
+  -- another list's start leaves what is kept
+  pub track-start_other : (d : List Bool) (k : ℕ) (plan : ListPlan) → nat_eq k plan.list ≡ false → track_of o (h ++ Start k ∷ []) d plan ≡ track_of o h d plan
+  unfolding track_of phase_of
+  track-start_other d k plan other = rw (due-start k, runs-start k plan.list, since-start k plan.list, other) refl
+
+  -- a list that is started runs, from phase 0
+  pub track-start_same : (d : List Bool) (k : ℕ) (plan : ListPlan) → nat_eq k plan.list ≡ true → runs_after o h plan.list ≡ false → track_of o (h ++ Start k ∷ []) d plan ≡ record (track_of o h d plan) { running = true }
+  unfolding track_of phase_of
+  track-start_same d k plan same stopped = rw (due-start k, runs-start k plan.list, since-start k plan.list, same, stopped) (ap (λ n. record { running = true; phase = n; pending = overload_pending (decided o h d) plan.list; counts = counts_of (pairs_of plan.list (decided o h d)) }) (zero-mod plan.prescaler))
+
+  pub track-stop_other : (d : List Bool) (k : ℕ) (plan : ListPlan) → nat_eq k plan.list ≡ false → track_of o (h ++ Stop k ∷ []) d plan ≡ track_of o h d plan
+  unfolding track_of phase_of
+  track-stop_other d k plan other = rw (due-stop k, runs-stop k plan.list, since-stop k plan.list, other) refl
+
+  pub track-stop_same : (d : List Bool) (k : ℕ) (plan : ListPlan) → nat_eq k plan.list ≡ true → track_of o (h ++ Stop k ∷ []) d plan ≡ record (track_of o h d plan) { running = false; phase = 0 }
+  unfolding track_of phase_of
+  track-stop_same d k plan same = rw (due-stop k, runs-stop k plan.list, since-stop k plan.list, same) refl

@@ -1,0 +1,8 @@
+use Rattle.std.proofs.Common.{◌≡◌, ℕ, take, nat_eq}
+use Rattle.std.specs.List.{list_any}
+use Rattle.copy_plan.specs.Config.{ListPlan}
+use Rattle.sampler.specs.Sets.{IsSetOf}
+use Rattle.sampler.proofs.openings.set_of.Given as goal
+
+abbrev pub invariant-loop-place : goal.invariant-loop-place
+invariant-loop-place l = IsSetOf l.set (take l.place l.plans)

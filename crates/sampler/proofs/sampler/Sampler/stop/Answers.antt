@@ -1,0 +1,43 @@
+use Rattle.std.proofs.Common.{◌≡◌, ◌≤◌, ℕ, List, ◌∷◌, [], ◌++◌, get_or, length, refl, sym, ap, ◌∙◌, subst, arith, Bool, true, false, not}
+use Rattle.std.specs.Prelude.{Some, None}
+use Rattle.std.proofs.Math.ListN.{length-set}
+use Rattle.xcp_base.specs.declared.item.Item.TheVariants.{Marker}
+use Rattle.sampler.specs.State.{SamplerState, place_of, track_at, is_stopped}
+use Rattle.sampler.specs.Standing.{StandsAfter}
+use Rattle.sampler.proofs.Orders.{stop-inside}
+use Rattle.sampler.proofs.Places.{track-found, list-below, no_track, IsSampler-set}
+use Rattle.sampler.proofs.sampler.Sampler.stop.Given.{Over}
+use Rattle.sampler.proofs.sampler.Sampler.stop.Goals as goal
+use Rattle.sampler.proofs.sampler.Sampler.stop.Goals.{In-Some}
+
+at_place : (g : Over) (c : In-Some g) → place_of c.args.l c.self.inside.plans.items ≡ Some c.in-Some.place
+at_place g c = ap (place_of c.args.l) (sym c.as_slice.ensures.value) ∙ sym c.place_of.ensures ∙ c.in-Some.is
+
+found : (g : Over) (c : In-Some g) → track_at c.args.self.now c.args.l ≡ Some (get_or c.self.inside.tracks c.in-Some.place no_track)
+found g c = ap (λ s. track_at s c.args.l) (sym c.self.view_is) ∙ track-found c.args.l c.self.inside.plans.items c.self.inside.tracks c.in-Some.place (at_place g c) (omega (arith, c.self.invariant.room, c.self.invariant.places))
+
+pub new-requires-clause-list_below : goal.new-requires-clause-list_below
+new-requires-clause-list_below g c =
+    list-below c.self.inside.channel c.self.inside.image_len c.args.l c.self.inside.plans.items c.in-Some.place c.self.invariant.plans_of (at_place g (goal.at.new-requires-clause-list_below g c).In-Some)
+
+pub returns-clause-not_of_channel : goal.returns-clause-not_of_channel
+returns-clause-not_of_channel g c =
+    let f = found g (goal.at.returns-clause-not_of_channel g c).In-Some in
+    ((λ e. absurd cc), (λ e. absurd (cc (f, e))))
+
+pub returns-clause-not_running : goal.returns-clause-not_running
+returns-clause-not_running g c =
+    let f = found g (goal.at.returns-clause-not_running g c).In-Some in
+    ((λ e. absurd cc), (λ e. let w : not (get_or c.self.inside.tracks c.in-Some.place no_track).running ≡ true = sym (ap is_stopped f) ∙ e in let k : false ≡ true = sym (ap not c.if-not-self-place.false) ∙ w in absurd cc))
+
+pub returns-clause-ok : goal.returns-clause-ok
+returns-clause-ok g c = λ o h d stands.
+    let E = g.S.SendEnd in
+    let R = g.S.End.RingEnd in
+    let P : SamplerState g.row.S.Denot → Type 0 = λ s. StandsAfter E R s o h d in
+    let w : In-Some g = (goal.at.returns-clause-ok g c).In-Some in
+    stop-inside E R c.self.inside.channel c.self.inside.image_len c.self.inside.plans.items c.self.inside.end c.offer.new.self c.self.inside.tracks c.stopped.result c.self.inside.triggers c.self.inside.accepted c.args.l c.in-Some.place c.self.invariant.rising (at_place g w) o h d c.stopped.ensures (c.in-Ok.ensures.ok ∙ ap (λ m. E.sent c.self.inside.end ++ Marker m ∷ []) c.new.ensures) c.offer.ensures.capacity (subst P (sym c.self.view_is) stands)
+
+pub invariant_of-self-2 : goal.invariant_of-self-2
+invariant_of-self-2 g c =
+    IsSampler-set c.self.inside.channel c.self.inside.image_len c.self.inside.plans.items c.self.inside.tracks c.self.inside.triggers c.self.inside.accepted c.in-Some.place c.stopped.result c.self.invariant (rw c.stopped.ensures (omega arith)) (rw c.stopped.ensures refl)

@@ -1,0 +1,37 @@
+use thiserror::Error;
+
+/// Why a trigger was not taken. The sampler is unchanged.
+#[derive(Clone, Copy, Debug, PartialEq, Eq, Error)]
+pub enum TriggerFault {
+    /// The image has the wrong length.
+    #[error("the image has the wrong length")]
+    WrongImage,
+    /// `MAX_TRIGGERS` triggers were accepted.
+    #[error("no more triggers are accepted")]
+    Spent,
+}
+
+/// Why a DAQ list was not started. The sampler is unchanged.
+#[derive(Clone, Copy, Debug, PartialEq, Eq, Error)]
+pub enum StartFault {
+    /// The list is not one of the event channel's.
+    #[error("the list is not of this channel")]
+    NotOfChannel,
+    /// It runs already.
+    #[error("the list runs already")]
+    Running,
+}
+
+/// Why a DAQ list was not stopped. It stands as it stood.
+#[derive(Clone, Copy, Debug, PartialEq, Eq, Error)]
+pub enum StopFault {
+    /// The list is not one of the event channel's.
+    #[error("the list is not of this channel")]
+    NotOfChannel,
+    /// It doesn't run.
+    #[error("the list doesn't run")]
+    NotRunning,
+    /// The ring had no room for the stop marker. The list still runs.
+    #[error("the ring has no room for the stop marker")]
+    NoRoom,
+}

@@ -1,0 +1,56 @@
+ghost use Rattle.std.specs.Prelude.{◌≡◌, ◌<◌};
+ghost use Rattle.sampler.specs.Sets.{IsSetOf};
+ghost use Rattle.sampler.specs.State.{counts_at};
+
+use crate::counts::ListCounts;
+use crate::openings::{place_of, set_of};
+use crate::track::Track;
+use copy_plan::CopyPlan;
+use std::marker::Model;
+
+/// What is left of a sampler that was finished: its event channel, its DAQ lists and their counts, and the end of its ring.
+#[derive(Drop)]
+pub struct SamplerEnd<E> {
+    pub(crate) channel: u8,
+    pub(crate) plans: Vec<CopyPlan>,
+    pub(crate) end: E,
+    pub(crate) tracks: [Track; 16],
+    pub(crate) capacity: usize,
+}
+
+impl<E> Model for SamplerEnd<E> {
+    ghost use Rattle.std.specs.Prelude.{◌≡◌, ◌<◌, ◌≤◌, length, take, map};
+    ghost use Rattle.sampler.specs.declared.track.Track.{Track};
+    ghost use Rattle.sampler.specs.State.{SamplerEndState, RiseFrom};
+
+    ghost Value = { SamplerEndState E };
+
+    ghost view = { λ s. record { channel = s.channel; plans = s.plans.items; end = s.end; counts = map (λ (track : Track). track.counts) (take (length s.plans.items) s.tracks); capacity = s.capacity } };
+
+    ghost invariant = { λ s. (s.channel < 8) × RiseFrom 0 s.plans.items × (length s.plans.items ≤ 16) × (length s.tracks ≡ 16) };
+}
+
+impl<E> SamplerEnd<E> {
+    /// The number of the event channel.
+    pub fn channel(&self) -> u8
+        ensures value { result ≡ self.now.channel }
+        ensures below { result < 8 }
+    {
+        self.channel
+    }
+
+    /// The set of the channel's DAQ lists.
+    pub fn lists(&self) -> u16
+        ensures { IsSetOf result self.now.plans }
+    {
+        set_of(self.plans.as_slice())
+    }
+
+    /// How often a DAQ list was due, and what became of its samples; `None` where it isn't of the channel.
+    pub fn counts(&self, l: u8) -> Option<ListCounts>
+        ensures { result ≡ counts_at self.now l }
+    {
+        let place = place_of(self.plans.as_slice(), l)?;
+        Some(self.tracks[place].counts)
+    }
+}

@@ -1,0 +1,73 @@
+ghost use Rattle.std.specs.Prelude.{◌≡◌, ◌<◌, length};
+
+use crate::limits::{MAX_CHANNELS, MAX_LISTS};
+use crate::packets::Packets;
+use std::marker::Model;
+
+/// The packets of one DAQ list, made at one trigger of its event channel.
+#[derive(Debug, Drop)]
+pub struct Sample {
+    channel: u8,
+    list: u8,
+    number: u64,
+    packets: Packets,
+}
+
+impl Model for Sample {
+    ghost use Rattle.xcp_base.specs.Samples.{IsSample, SampleParts};
+
+    ghost Value = { SampleParts };
+
+    ghost view = { λ s. record { channel = s.channel; list = s.list; number = s.number; packets = s.packets } };
+
+    ghost invariant = { λ s. IsSample (record { channel = s.channel; list = s.list; number = s.number; packets = s.packets }) };
+}
+
+impl Sample {
+    /// A sample; `number` counts the samples that the event channel accepted before it.
+    pub fn new(channel: u8, list: u8, number: u64, packets: Packets) -> Sample
+        requires channel_below { channel < MAX_CHANNELS }
+        requires list_below { list < MAX_LISTS }
+        requires some { 0 < length packets }
+        ensures { result ≡ record { channel = channel; list = list; number = number; packets = packets } }
+    {
+        let _ = packets.len();
+        Sample {
+            channel,
+            list,
+            number,
+            packets,
+        }
+    }
+
+    /// The number of the event channel.
+    pub fn channel(&self) -> u8
+        ensures value { result ≡ self.now.channel }
+        ensures below { result < MAX_CHANNELS }
+    {
+        self.channel
+    }
+
+    /// The number of the DAQ list.
+    pub fn list(&self) -> u8
+        ensures value { result ≡ self.now.list }
+        ensures below { result < MAX_LISTS }
+    {
+        self.list
+    }
+
+    /// The number of samples that the event channel accepted before this one.
+    pub fn number(&self) -> u64
+        ensures { result ≡ self.now.number }
+    {
+        self.number
+    }
+
+    /// The packets, one for each ODT of the list; there is at least one.
+    pub fn packets(&self) -> &Packets
+        ensures value { result.now ≡ self.now.packets }
+        ensures some { 0 < length result.now }
+    {
+        &self.packets
+    }
+}

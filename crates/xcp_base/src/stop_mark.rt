@@ -1,0 +1,48 @@
+ghost use Rattle.std.specs.Prelude.{◌≡◌, ◌<◌};
+
+use crate::limits::{MAX_CHANNELS, MAX_LISTS};
+use std::marker::Model;
+
+/// Marks the place in an event channel's ring at which a DAQ list was stopped (own). It writes no bytes.
+#[derive(Debug, Drop)]
+pub struct StopMark {
+    channel: u8,
+    list: u8,
+}
+
+impl Model for StopMark {
+    ghost use Rattle.xcp_base.specs.Samples.{IsMark, MarkParts};
+
+    ghost Value = { MarkParts };
+
+    ghost view = { λ m. record { channel = m.channel; list = m.list } };
+
+    ghost invariant = { λ m. IsMark (record { channel = m.channel; list = m.list }) };
+}
+
+impl StopMark {
+    /// The marker of a DAQ list of an event channel.
+    pub fn new(channel: u8, list: u8) -> StopMark
+        requires channel_below { channel < MAX_CHANNELS }
+        requires list_below { list < MAX_LISTS }
+        ensures { result ≡ record { channel = channel; list = list } }
+    {
+        StopMark { channel, list }
+    }
+
+    /// The number of the event channel.
+    pub fn channel(&self) -> u8
+        ensures value { result ≡ self.now.channel }
+        ensures below { result < MAX_CHANNELS }
+    {
+        self.channel
+    }
+
+    /// The number of the DAQ list.
+    pub fn list(&self) -> u8
+        ensures value { result ≡ self.now.list }
+        ensures below { result < MAX_LISTS }
+    {
+        self.list
+    }
+}
