@@ -16,7 +16,7 @@ use crate::sampler_end::SamplerEnd;
 use crate::taken::Taken;
 use crate::track::Track;
 use crate::turn::sample_lists;
-use channel_ring::SendEnd;
+use channel_ring::{Beside, SendEnd};
 use copy_plan::CopyPlan;
 use std::marker::Model;
 use xcp_base::limits::MAX_TRIGGERS;
@@ -225,6 +225,29 @@ impl<S: SendEnd> Sampler<S> {
         ensures ring { S.ring self.new.end ≡ S.ring self.old.end }
     {
         self.end.room()
+    }
+
+    /// Looks at all that was sent through the ring beside its take end, and answers how many items are left.
+    ///
+    /// The take end is that of the sampler's ring. From then on it knows each item left; the sampler is as it was, but that
+    /// more units may be known to be free.
+    pub fn beside<T: Beside<Send = S>>(&mut self, take: &mut T) -> usize
+        requires one_ring { S.ring self.old.end ≡ T.ring take.old }
+        ensures count { result ≡ length (T.known take.new) }
+        ensures left { T.received take.new ++ T.known take.new ≡ S.sent self.new.end }
+        ensures received { T.received take.new ≡ T.received take.old }
+        ensures take_ring { T.ring take.new ≡ T.ring take.old }
+
+        ensures stands { (opening : Opening) (h : List Event) (d : List Bool) →
+            StandsAfter S.SendEnd S.End.RingEnd self.old opening h d →
+            StandsAfter S.SendEnd S.End.RingEnd self.new opening h d }
+        ensures sampler { self.new ≡ record self.old { end = self.new.end } }
+        ensures sent { S.sent self.new.end ≡ S.sent self.old.end }
+        ensures grows { S.free self.old.end ≤ S.free self.new.end }
+        ensures capacity_stays { S.capacity self.new.end ≡ S.capacity self.old.end }
+        ensures ring { S.ring self.new.end ≡ S.ring self.old.end }
+    {
+        take.beside(&mut self.end)
     }
 
     /// Gives the sampler up; what it sent stays in the ring. `None` only where the ring's `finish` answers it.

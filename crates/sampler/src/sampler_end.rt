@@ -5,6 +5,7 @@ ghost use Rattle.sampler.specs.State.{counts_at};
 use crate::counts::ListCounts;
 use crate::openings::{place_of, set_of};
 use crate::track::Track;
+use channel_ring::{RingEnd, TakeEnd};
 use copy_plan::CopyPlan;
 use std::marker::Model;
 
@@ -52,5 +53,26 @@ impl<E> SamplerEnd<E> {
     {
         let place = place_of(self.plans.as_slice(), l)?;
         Some(self.tracks[place].counts)
+    }
+}
+
+impl<E: RingEnd + Drop> SamplerEnd<E> {
+    ghost use Rattle.std.specs.Prelude.{◌≡◌, ◌++◌, length};
+
+    /// Looks at all that was sent through the finished ring, and answers how many items are left.
+    ///
+    /// The take end is that of the ring. From then on it knows each item left; the sampler's end is as it was.
+    pub fn after<T: TakeEnd<End = E>>(&mut self, take: &mut T) -> usize
+        requires one_ring { E.ring self.old.end ≡ T.ring take.old }
+        ensures count { result ≡ length (T.known take.new) }
+        ensures left { T.received take.new ++ T.known take.new ≡ E.all_sent self.new.end }
+        ensures received { T.received take.new ≡ T.received take.old }
+        ensures take_ring { T.ring take.new ≡ T.ring take.old }
+
+        ensures rest { self.new ≡ record self.old { end = self.new.end } }
+        ensures sent { E.all_sent self.new.end ≡ E.all_sent self.old.end }
+        ensures ring { E.ring self.new.end ≡ E.ring self.old.end }
+    {
+        take.after(&mut self.end)
     }
 }
