@@ -9,6 +9,10 @@ use Rattle.frame_writer.specs.Shown.{BreaksOff, OutState, after_bytes, shown}
 abbrev pub out_of : {O : Type 0} → FrameWriter O → O
 out_of w = w.out
 
+-- whether it is closed
+abbrev pub is_closed : {O : Type 0} → FrameWriter O → Bool
+is_closed w = w.closed
+
 -- what its writer shows, the counter of the next frame, and whether it is closed
 pub record WriterState : Type 0 where
   pub out : OutState
@@ -16,7 +20,7 @@ pub record WriterState : Type 0 where
   pub closed : Bool
 
 abbrev pub state_of : {O : Type 0} → Ghosts O → FrameWriter O → WriterState
-state_of O w = record { out = shown O (out_of w); counter = w.counter; closed = w.closed }
+state_of O w = record { out = shown O (out_of w); counter = w.counter; closed = is_closed w }
 
 -- nothing was sent yet
 abbrev pub fresh : OutState → WriterState

@@ -1,0 +1,5 @@
+pub mod TakenLemmas
+pub mod PlaceLemmas
+pub mod PacketLemmas
+pub mod WrittenLemmas
+pub mod PumpLemmas

@@ -1,0 +1,156 @@
+-- A pump that has had one more turn.
+use Rattle.std.proofs.Common.{◌≡◌, ◌≢◌, ℕ, zero, suc, ◌+◌, ◌*◌, ◌<◌, ◌≤◌, Bool, true, false, ◌||◌, cond, eqb, nat_eq, List, [], ◌∷◌, ◌++◌, length, Some, None, Ok, Err, refl, sym, ap, ◌∙◌, subst, arith, append-nil, length-append, below_more}
+use Rattle.std.specs.List.{AllByRecursion, list_any}
+use Rattle.std.proofs.lemmas.List.Folds.{list_any-append}
+use Rattle.std.proofs.lemmas.Bool.Decides.{nat_tests}
+use Rattle.std.proofs.lemmas.Nat.Bits.{bit_at-zero}
+use Rattle.xcp_base.specs.Samples.{SampleParts, MarkParts}
+use Rattle.xcp_base.specs.declared.item.Item.{Item}
+use Rattle.xcp_base.specs.declared.item.Item.TheVariants.{Sample, Marker}
+use Rattle.sampler.specs.History.{has_list}
+use Rattle.transmitter.specs.Items.{packets_of, samples}
+use Rattle.transmitter.specs.Merge.{AreRising, items_taken, of_ring, taken_from}
+use Rattle.transmitter.specs.Written.{TransmitterState}
+use Rattle.transmitter.specs.Pumps.{CanPump, Fails, IsPump, IsStopped, Leads, Pumps, TakesKnownBelow, is_marker_of}
+use Rattle.transmitter.specs.declared.pumped.Pumped.{Pumped}
+use Rattle.transmitter.specs.declared.faults.PumpFault.TheVariants.{Closed, Failed, Spent}
+use Rattle.transmitter.proofs.TakenLemmas.{items_taken-push, packets_of-append, samples-append, taken_from-append, takes-none}
+use Rattle.transmitter.proofs.WrittenLemmas.{leads-append, leads-none}
+
+-- all are of rings below c
+abbrev AreBelow : ℕ → List (ℕ × Item) → Type 0
+AreBelow c qs = AllByRecursion (λ (p : ℕ × Item). p.0 < c) qs
+
+-- a pump that has had its turns at the rings below c
+pub record SoFar (a b : TransmitterState) (c : ℕ) (p : Pumped) : Type 0 where
+  pub items : List (ℕ × Item)
+  pub rising : AreRising 0 items
+  pub below : AllByRecursion (λ (p : ℕ × Item). p.0 < c) items
+  pub hand : b.hand ≡ None
+  pub leads : Leads a items b
+  pub count : p.taken ≡ length items
+  pub few : p.taken ≤ c
+  pub few_frames : p.frames ≤ 8 * c
+  pub frames : p.frames ≡ length (packets_of (samples (items_taken items)))
+  pub stops : IsStopped p.stopped (items_taken items)
+  pub known : TakesKnownBelow c a.known items
+
+rising-push : (low : ℕ) (qs : List (ℕ × Item)) (c : ℕ) (x : Item) → AreRising low qs → AreBelow c qs → low ≤ c → AreRising low (qs ++ (c, x) ∷ [])
+rising-push low [] c x r b h = (h, tt)
+rising-push low (p ∷ qs) c x r b h = (r.0, rising-push (p.0 + 1) qs c x r.1 b.1 (omega (arith, b.0)))
+
+below-next : (qs : List (ℕ × Item)) (c : ℕ) → AreBelow c qs → AreBelow (c + 1) qs
+below-next [] c b = tt
+below-next (p ∷ qs) c b = (omega (arith, b.0), below-next qs c b.1)
+
+below-push : (qs : List (ℕ × Item)) (c : ℕ) (x : Item) → AreBelow c qs → AreBelow (c + 1) (qs ++ (c, x) ∷ [])
+below-push [] c x b = (omega arith, tt)
+below-push (p ∷ qs) c x b = (omega (arith, b.0), below-push qs c x b.1)
+
+-- of a ring at c or above nothing was taken
+none_above : (c e : ℕ) (qs : List (ℕ × Item)) → AreBelow c qs → c ≤ e → taken_from e qs ≡ []
+none_above c e [] b h = refl
+none_above c e (p ∷ qs) b h =
+    let other : eqb p.0 e ≡ false = grind (arith, nat_tests, b.0, h) in
+    rw other (none_above c e qs b.1 h)
+
+frames-append : (xs ys : List Item) → length (packets_of (samples (xs ++ ys))) ≡ length (packets_of (samples xs)) + length (packets_of (samples ys))
+frames-append xs ys = ap (λ t. length (packets_of t)) (samples-append xs ys) ∙ (ap length (packets_of-append (samples xs) (samples ys)) ∙ length-append (packets_of (samples xs)) (packets_of (samples ys)))
+
+-- of ring c something was taken just now
+taken_here : (c : ℕ) (qs : List (ℕ × Item)) (x : Item) → 0 < length (taken_from c (qs ++ (c, x) ∷ []))
+taken_here c qs x =
+    let e = ap length (taken_from-append c qs ((c, x) ∷ [])) ∙ length-append (taken_from c qs) (taken_from c ((c, x) ∷ [])) in
+    let one : length (cond (eqb c c) (x ∷ []) []) ≡ 1 = grind (arith, nat_tests) in
+    omega (arith, e, one)
+
+-- and of another as before
+taken_before : (c e : ℕ) (qs : List (ℕ × Item)) (x : Item) → 0 < length (taken_from e qs) → 0 < length (taken_from e (qs ++ (c, x) ∷ []))
+taken_before c e qs x h = omega (arith, ap length (taken_from-append e qs ((c, x) ∷ [])) ∙ length-append (taken_from e qs) (taken_from e ((c, x) ∷ [])))
+
+-- the empty set has no list
+has_list-zero : (l : ℕ) → has_list 0 l ≡ false
+has_list-zero l = ap (λ n. nat_eq n 1) (bit_at-zero l)
+
+-- where a ring's list has an item, there is such a ring
+some_within : (lists : List (List Item)) (e : ℕ) → 0 < length (of_ring lists e) → e < length lists
+some_within [] e h = absurd (omega (arith, h))
+some_within (xs ∷ lists) zero h = omega arith
+some_within (xs ∷ lists) (suc e) h = omega (arith, some_within lists e h)
+
+-- before the first turn
+pub first_turn : (a : TransmitterState) (p : Pumped) → a.hand ≡ None → p.taken ≡ 0 → p.frames ≡ 0 → p.stopped ≡ 0 → SoFar a a 0 p
+first_turn a p hand taken frames stopped = record {
+  items = [];
+  rising = tt;
+  below = tt;
+  hand = hand;
+  leads = leads-none a a refl (takes-none a.received a.known) refl refl refl refl;
+  count = taken;
+  few = omega (arith, taken);
+  few_frames = omega (arith, frames);
+  frames = frames;
+  stops = λ l. rw stopped (has_list-zero l);
+  known = λ e h. absurd (omega arith);
+}
+
+-- a turn that took an item
+pub item_turn : (a b d : TransmitterState) (c : ℕ) (p q : Pumped) (x : Item) → SoFar a b c p → Leads b ((c, x) ∷ []) d → d.hand ≡ None → q.taken ≡ p.taken + 1 → q.frames ≡ p.frames + length (packets_of (samples (x ∷ []))) → length (packets_of (samples (x ∷ []))) ≤ 8 → ((l : ℕ) → has_list q.stopped l ≡ (has_list p.stopped l || list_any (is_marker_of l) (x ∷ []))) → SoFar a d (c + 1) q
+item_turn a b d c p q x s leads hand taken frames few stopped = record {
+  items = s.items ++ (c, x) ∷ [];
+  rising = rising-push 0 s.items c x s.rising s.below (omega arith);
+  below = below-push s.items c x s.below;
+  hand = hand;
+  leads = leads-append a b d s.items ((c, x) ∷ []) s.leads leads;
+  count = omega (arith, taken, s.count, length-append s.items ((c, x) ∷ []));
+  few = omega (arith, taken, s.few);
+  few_frames = omega (arith, frames, few, s.few_frames);
+  frames = rw (items_taken-push s.items c x, frames-append (items_taken s.items) (x ∷ []), frames, s.frames) refl;
+  stops = λ l. rw (items_taken-push s.items c x, list_any-append (is_marker_of l) (items_taken s.items) (x ∷ [])) (stopped l ∙ ap (λ t. t || list_any (is_marker_of l) (x ∷ [])) (s.stops l));
+  known = below_more _ _ (λ e h k. taken_before c e s.items x (s.known e h k)) (λ k. taken_here c s.items x);
+}
+
+-- what was known of a ring that gave nothing: nothing
+nothing_left : (a b : TransmitterState) (c : ℕ) (p : Pumped) (s : SoFar a b c p) → of_ring b.known c ≡ [] → 0 < length (of_ring a.known c) → ⊥
+nothing_left a b c p s none some =
+    let front = s.leads.takes.first c in
+    let all : of_ring a.known c ++ front.0 ≡ [] = front.1 ∙ (ap (λ t. t ++ of_ring b.known c) (none_above c c s.items s.below (omega arith)) ∙ none) in
+    omega (arith, some, ap length all ∙ refl, length-append (of_ring a.known c) front.0)
+
+-- a turn at a ring that gave nothing
+pub idle_turn : (a b d : TransmitterState) (c : ℕ) (p : Pumped) → SoFar a b c p → Leads b [] d → d.hand ≡ None → of_ring b.known c ≡ [] → SoFar a d (c + 1) p
+idle_turn a b d c p s leads hand none = record {
+  items = s.items;
+  rising = s.rising;
+  below = below-next s.items c s.below;
+  hand = hand;
+  leads = subst (λ qs. Leads a qs d) (append-nil s.items) (leads-append a b d s.items [] s.leads leads);
+  count = s.count;
+  few = omega (arith, s.few);
+  few_frames = omega (arith, s.few_frames);
+  frames = s.frames;
+  stops = s.stops;
+  known = below_more _ _ s.known (λ k. absurd (nothing_left a b c p s none k));
+}
+
+-- a turn at which the writer failed
+pub failed_turn : (a b d : TransmitterState) (c : ℕ) (p : Pumped) (r : SampleParts) → SoFar a b c p → Leads b ((c, Sample r) ∷ []) d → d.hand ≡ Some r → CanPump a → IsPump a d (Err Failed)
+failed_turn a b d c p r s leads hand can = record {
+  taken = s.items ++ (c, Sample r) ∷ [];
+  rising = rising-push 0 s.items c (Sample r) s.rising s.below (omega arith);
+  leads = leads-append a b d s.items ((c, Sample r) ∷ []) s.leads leads;
+  answers = record { could = can; sample = r; ring = c; before = s.items; hand = hand; last = refl; known = s.known };
+}
+
+-- after the last turn
+pub last_turn : (a b : TransmitterState) (c : ℕ) (p : Pumped) → SoFar a b c p → length a.known ≤ c → CanPump a → IsPump a b (Ok p)
+last_turn a b c p s all can = record {
+  taken = s.items;
+  rising = s.rising;
+  leads = s.leads;
+  answers = record { could = can; hand = s.hand; taken = s.count; frames = s.frames; stopped = s.stops; known = λ e k. s.known e (omega (arith, some_within a.known e k, all)) k };
+}
+
+-- a pump that is refused takes nothing
+pub refused : (a : TransmitterState) → Leads a [] a
+refused a = leads-none a a refl (takes-none a.received a.known) refl refl refl refl

@@ -1,0 +1,56 @@
+use Rattle.std.proofs.Common.{◌≡◌, ℕ, ◌+◌, ◌<◌, ◌≤◌, Bool, true, false, ◌||◌, nat_eq, [], ◌∷◌, Option, Some, None, length, map, refl, sym, ap, ◌∙◌, arith, append-nil}
+use Rattle.std.specs.Option.{is_some}
+use Rattle.std.proofs.lemmas.Bool.{false≢true}
+use Rattle.std.proofs.lemmas.List.{length-map}
+use Rattle.xcp_base.specs.declared.item.Item.TheVariants.{Sample, Marker}
+use Rattle.sampler.specs.History.{has_list}
+use Rattle.transmitter.specs.Written.{TransmitterState, transmission}
+use Rattle.transmitter.proofs.PumpLemmas.{failed_turn, first_turn, idle_turn, item_turn, last_turn}
+use Rattle.transmitter.proofs.transmitter.Transmitter.pump.Goals as goal
+use Rattle.transmitter.proofs.transmitter.Transmitter.pump.Goals.{in-Nothing, in-Wrote, in-Stopped}
+
+none_of : {X : Type 0} → (o : Option X) → is_some o ≡ false → o ≡ None
+none_of None e = refl
+none_of (Some x) e = absurd (false≢true (sym e))
+
+or_false : (b : Bool) → b ≡ (b || false)
+or_false true = refl
+or_false false = refl
+
+-- a set with one list more, which is the marker's
+one_stop : (old new list l k : ℕ) → l ≡ list → has_list new k ≡ (has_list old k || nat_eq l k) → has_list new k ≡ (has_list old k || (nat_eq list k || false))
+one_stop old new list l k is added = added ∙ (ap (λ n. has_list old k || nat_eq n k) is ∙ ap (λ b. has_list old k || b) (or_false (nat_eq list k)))
+
+-- nothing is in hand while the writer is open
+pub loop-c-init : goal.loop-c-init
+loop-c-init g c =
+    let s = c.args.self.now in
+    let none = none_of s.hand (sym s.held ∙ (sym c.closed.ensures ∙ c.if-closed.false)) in
+    record { turns = first_turn (transmission g.O.Out g.T.TakeEnd s) _ none refl refl refl; as_many = refl }
+
+pub returns-in-Broke : goal.returns-in-Broke
+returns-in-Broke g c =
+    let t = c.in-Broke.ensures.turn in
+    failed_turn _ _ _ c.loop-c.c c.loop-c.pumped t.0 c.loop-c.invariant.turns t.2 t.1 (sym c.closed.ensures ∙ c.if-closed.false, c.if-self-ge-MAX_TAKEN.false)
+
+-- one turn more
+pub loop-c-preserved : goal.loop-c-preserved
+loop-c-preserved g c =
+    let i = c.loop-c.invariant in
+    elim c.match-turn.branch [
+      | in-Nothing w ↦
+          let t = w.in-Nothing.ensures.turn in
+          record { turns = rw w.pumped-is (idle_turn _ _ _ c.loop-c.c c.loop-c.pumped i.turns t.1 t.0 t.2); as_many = w.in-Nothing.ensures.as_many ∙ i.as_many }
+      | in-Wrote w ↦
+          let t = w.in-Wrote.ensures.turn in
+          record {
+            turns = rw w.pumped-is (item_turn _ _ _ c.loop-c.c c.loop-c.pumped _ (Sample t.0) i.turns t.2 t.1 refl (rw (append-nil t.0.packets, t.3) refl) (rw (append-nil t.0.packets, ← t.3) t.4) (λ l. or_false (has_list c.loop-c.pumped.stopped l)));
+            as_many = w.in-Wrote.ensures.as_many ∙ i.as_many;
+          }
+      | in-Stopped w ↦
+          let t = w.in-Stopped.ensures.turn in
+          record {
+            turns = rw w.pumped-is (item_turn _ _ _ c.loop-c.c c.loop-c.pumped _ (Marker t.0) i.turns t.2 t.1 refl (omega arith) (omega arith) (λ k. one_stop c.loop-c.pumped.stopped w.with_list.result t.0.list w.in-Stopped.list k t.3 (w.with_list.ensures k)));
+            as_many = w.in-Stopped.ensures.as_many ∙ i.as_many;
+          }
+    ]

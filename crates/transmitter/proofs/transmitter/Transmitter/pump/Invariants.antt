@@ -1,0 +1,11 @@
+use Rattle.std.proofs.Common.{◌≡◌, ℕ, vec_len}
+use Rattle.transmitter.specs.Written.{transmission}
+use Rattle.transmitter.proofs.PumpLemmas.{SoFar}
+use Rattle.transmitter.proofs.transmitter.Transmitter.pump.Given as goal
+
+-- the pump has had its turns at the rings so far
+abbrev pub invariant-loop-c : goal.invariant-loop-c
+invariant-loop-c g l = record {
+  turns : SoFar (transmission g.O.Out g.T.TakeEnd l.fn.self) (transmission g.O.Out g.T.TakeEnd l.self) l.c l.pumped;
+  as_many : vec_len l.self.ends ≡ vec_len l.fn.self.ends;
+}

@@ -1,0 +1,4 @@
+pub mod Items
+pub mod Merge
+pub mod Written
+pub mod Pumps

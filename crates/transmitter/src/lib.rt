@@ -1,0 +1,11 @@
+//! The transmitter: it takes samples from the rings of all event channels in turn, and writes them as frames.
+#![tactic(auto)]
+
+mod faults;
+mod pumped;
+mod transmitter;
+mod turn;
+
+pub use faults::PumpFault;
+pub use pumped::Pumped;
+pub use transmitter::Transmitter;

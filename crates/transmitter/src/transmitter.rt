@@ -1,0 +1,117 @@
+ghost use Rattle.std.specs.Prelude.{◌≡◌, ℕ, ◌≤◌, is_some, slice_index, vec_len};
+ghost use Rattle.xcp_base.specs.declared.limits.TheConstants.{MAX_CHANNELS};
+ghost use Rattle.frame_writer.specs.Writing.{is_closed};
+
+use crate::faults::PumpFault;
+use crate::pumped::Pumped;
+use crate::turn::Turn;
+use channel_ring::{Beside, TakeEnd};
+use frame_writer::{FrameWriter, Out};
+use sampler::{Sampler, with_list};
+use xcp_base::Sample;
+use xcp_base::limits::MAX_TAKEN;
+
+/// The transmitter: it takes items from the rings of all event channels in turn, and writes the samples as frames.
+///
+/// Contracts speak of the items that it took: a list of pairs, each the number of a ring and an item.
+#[derive(Drop)]
+pub struct Transmitter<O, T> {
+    pub(crate) writer: FrameWriter<O>,
+    pub(crate) ends: Vec<T>,
+    pub(crate) hand: Option<Sample>,
+    pub(crate) written: [u64; 16],
+    pub(crate) taken: u64,
+    ghost few: { vec_len ends ≤ 8 },
+    ghost counted: { (l : ℕ) → slice_index written l ≤ taken },
+    ghost held: { is_closed writer ≡ is_some hand },
+}
+
+impl<O: Out, T: TakeEnd> Transmitter<O, T> {
+    ghost use Rattle.std.specs.Prelude.{◌≡◌, ℕ, ◌<◌, ◌≤◌, All, List, [], false, map, slice_index, vec_len};
+    ghost use Rattle.std.specs.Option.{option_copied};
+    ghost use Rattle.xcp_base.specs.declared.item.Item.{Item};
+    ghost use Rattle.frame_writer.specs.Writing.{WriterState, state_of};
+    ghost use Rattle.transmitter.specs.Items.{count_of};
+    ghost use Rattle.transmitter.specs.Pumps.{IsPump};
+    ghost use Rattle.transmitter.specs.Written.{HasTaken, transmission, writer_of};
+
+    /// A transmitter that writes to a frame writer, which isn't closed, what it takes from 1 to 8 rings.
+    ///
+    /// `ends` are the take ends of event channels 0, 1, .., from which nothing was taken.
+    pub fn new(writer: FrameWriter<O>, ends: Vec<T>) -> Transmitter<O, T>
+        requires some { 1 ≤ vec_len ends }
+        requires few { vec_len ends ≤ 8 }
+        requires nothing_taken { All (λ t. T.received t ≡ []) ends.items }
+        requires is_open { (state_of O.Out writer).closed ≡ false }
+        ensures stands { HasTaken (state_of O.Out writer) (transmission O.Out T.TakeEnd result) [] }
+        ensures writer { writer_of result ≡ writer }
+        ensures rings { (transmission O.Out T.TakeEnd result).rings ≡ map T.ring ends.items }
+        ensures known { (transmission O.Out T.TakeEnd result).known ≡ map T.known ends.items }
+    {
+        Transmitter {
+            writer,
+            ends,
+            hand: None,
+            written: [0; 16],
+            taken: 0,
+        }
+    }
+
+    /// Takes at most one item of each ring, in rising number of the event channel, and writes each sample's packets as frames.
+    ///
+    /// Refused with `Closed` where the writer failed earlier, with `Spent` once `MAX_TAKEN` items were taken; then nothing
+    /// is taken. `Failed` where the writer fails now: the items before are taken and written, the sample whose frames
+    /// weren't all written stays in hand, and nothing is taken from then on.
+    pub fn pump(&mut self) -> Result<Pumped, PumpFault>
+        ensures { IsPump (transmission O.Out T.TakeEnd self.old) (transmission O.Out T.TakeEnd self.new) result }
+    {
+        if self.writer.closed() {
+            return Err(PumpFault::Closed);
+        }
+        if self.taken >= MAX_TAKEN {
+            return Err(PumpFault::Spent);
+        }
+        let mut pumped = Pumped {
+            taken: 0,
+            frames: 0,
+            stopped: 0,
+        };
+        for c in 0..self.ends.len() {
+            match self.turn(c) {
+                Turn::Nothing => {}
+                Turn::Wrote(frames) => {
+                    pumped.taken += 1;
+                    pumped.frames += frames;
+                }
+                Turn::Stopped(list) => {
+                    pumped.taken += 1;
+                    pumped.stopped = with_list(pumped.stopped, list);
+                }
+                Turn::Broke => return Err(PumpFault::Failed),
+            }
+        }
+        Ok(pumped)
+    }
+
+    /// How many samples of a DAQ list were written whole; 0 for a list that never came.
+    pub fn written(&self, l: u8) -> u64
+        ensures value { result ≡ slice_index (transmission O.Out T.TakeEnd self.now).written l }
+        ensures after { (start : WriterState) (ps : List (ℕ × Item)) → (taken : HasTaken start (transmission O.Out T.TakeEnd self.now) ps) → result ≡ count_of l taken.whole }
+    {
+        self.written.get(l as usize).copied().unwrap_or(0)
+    }
+
+    /// The sample whose frames weren't all written.
+    pub fn hand(&self) -> Option<&Sample>
+        ensures { option_copied result ≡ (transmission O.Out T.TakeEnd self.now).hand }
+    {
+        self.hand.as_ref()
+    }
+
+    /// The frame writer, as it stands.
+    pub fn into_writer(self) -> FrameWriter<O>
+        ensures { result ≡ writer_of self }
+    {
+        self.writer
+    }
+}
