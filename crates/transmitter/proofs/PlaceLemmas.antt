@@ -1,16 +1,24 @@
 -- A list in which one element was changed, and what is shown of each element.
-use Rattle.std.proofs.Common.{◌≡◌, ◌≢◌, ℕ, ◌<◌, ◌⊎◌, inl, inr, List, [], ◌∷◌, ◌++◌, Option, Some, None, length, map, get_or, set, refl, sym, ap, ◌∙◌, append-nil, arith, get_or-set_same, get_or-set_other}
+use Rattle.std.proofs.Common.{◌≡◌, ◌≢◌, ℕ, ◌<◌, inl, inr, List, [], ◌∷◌, ◌++◌, Option, Some, None, length, map, get_or, set, refl, sym, ap, ◌∙◌, append-nil, arith, get_or-set_same, get_or-set_other}
 use Rattle.std.specs.Prelude.{IfSome, IsNone, IsSome}
 use mathlib.Core.List.{IsPrefix}
 use Rattle.std.proofs.lemmas.List.{map-set, get_or-map, length-map}
+use Rattle.std.specs.List.{slice_get}
+use Rattle.std.proofs.lemmas.Option.{slice_get_within}
 use Rattle.std.proofs.lemmas.Bool.{false≢true}
 use Rattle.std.proofs.lemmas.Bool.Decides.{eqb_tells}
 use Rattle.xcp_base.specs.declared.item.Item.{Item}
-use Rattle.transmitter.specs.Merge.{Takes, of_ring, taken_at, taken_from}
+use Rattle.transmitter.specs.Merge.{Takes, of_ring, taken_at}
 
 -- what is shown at the place that was changed
 pub shown_here : {A R : Type 0} → (f : A → R) (xs : List A) (c : ℕ) (new : A) (d : R) → c < length xs → get_or (map f (set xs c new)) c d ≡ f new
 shown_here f xs c new d h = ap (λ t. get_or t c d) (map-set f xs c new) ∙ get_or-set_same (map f xs) c (f new) d (rw (length-map xs f) h)
+
+-- the same where the place is known by what else is shown there
+pub shown_at : {A Q R : Type 0} → (g : A → Q) (f : A → R) (xs : List A) (k c : ℕ) (new : A) (d : R) (q : Q) → k ≡ c → slice_get (map g xs) c ≡ Some q → get_or (map f (set xs k new)) c d ≡ f new
+shown_at g f xs k c new d q same at =
+    let h : c < length xs = omega (arith, slice_get_within (map g xs) c q at, length-map xs g) in
+    rw same (shown_here f xs c new d h)
 
 -- what is shown at another place
 pub shown_elsewhere : {A R : Type 0} → (f : A → R) (xs : List A) (c e : ℕ) (new : A) (d : R) → e ≢ c → get_or (map f (set xs c new)) e d ≡ get_or (map f xs) e d

@@ -1,19 +1,19 @@
 -- A pump that has had one more turn.
-use Rattle.std.proofs.Common.{◌≡◌, ◌≢◌, ℕ, zero, suc, ◌+◌, ◌*◌, ◌<◌, ◌≤◌, Bool, true, false, ◌||◌, cond, eqb, nat_eq, List, [], ◌∷◌, ◌++◌, length, Some, None, Ok, Err, refl, sym, ap, ◌∙◌, subst, arith, append-nil, length-append, below_more}
+use Rattle.std.proofs.Common.{◌≡◌, ℕ, zero, suc, ◌+◌, ◌*◌, ◌<◌, ◌≤◌, false, ◌||◌, cond, eqb, nat_eq, List, [], ◌∷◌, ◌++◌, length, Some, None, Ok, Err, refl, ap, ◌∙◌, subst, arith, append-nil, length-append, below_more}
 use Rattle.std.specs.List.{AllByRecursion, list_any}
 use Rattle.std.proofs.lemmas.List.Folds.{list_any-append}
 use Rattle.std.proofs.lemmas.Bool.Decides.{nat_tests}
 use Rattle.std.proofs.lemmas.Nat.Bits.{bit_at-zero}
-use Rattle.xcp_base.specs.Samples.{SampleParts, MarkParts}
+use Rattle.xcp_base.specs.Samples.{SampleParts}
 use Rattle.xcp_base.specs.declared.item.Item.{Item}
-use Rattle.xcp_base.specs.declared.item.Item.TheVariants.{Sample, Marker}
+use Rattle.xcp_base.specs.declared.item.Item.TheVariants.{Sample}
 use Rattle.sampler.specs.History.{has_list}
 use Rattle.transmitter.specs.Items.{packets_of, samples}
 use Rattle.transmitter.specs.Merge.{AreRising, items_taken, of_ring, taken_from}
 use Rattle.transmitter.specs.Written.{TransmitterState}
-use Rattle.transmitter.specs.Pumps.{CanPump, Fails, IsPump, IsStopped, Leads, Pumps, TakesKnownBelow, is_marker_of}
+use Rattle.transmitter.specs.Pumps.{CanPump, IsPump, IsStopped, Leads, TakesKnownBelow, is_marker_of}
 use Rattle.transmitter.specs.declared.pumped.Pumped.{Pumped}
-use Rattle.transmitter.specs.declared.faults.PumpFault.TheVariants.{Closed, Failed, Spent}
+use Rattle.transmitter.specs.declared.faults.PumpFault.TheVariants.{Failed}
 use Rattle.transmitter.proofs.TakenLemmas.{items_taken-push, packets_of-append, samples-append, taken_from-append, takes-none}
 use Rattle.transmitter.proofs.WrittenLemmas.{leads-append, leads-none}
 

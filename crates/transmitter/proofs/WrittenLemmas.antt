@@ -1,7 +1,5 @@
 -- A transmitter that took one item more.
-use Rattle.std.proofs.Common.{◌≡◌, ℕ, ◌+◌, Bool, true, false, List, [], ◌∷◌, ◌++◌, length, Some, None, slice_index, refl, sym, ap, ◌∙◌, subst, arith, append_assoc, append-nil, length-append}
-use Rattle.std.specs.Prelude.{All}
-use Rattle.std.specs.Prelude.{Option}
+use Rattle.std.proofs.Common.{◌≡◌, ℕ, ◌+◌, List, [], ◌∷◌, ◌++◌, length, Some, None, slice_index, refl, sym, ap, ◌∙◌, subst, arith, append_assoc, append-nil, length-append}
 use Rattle.std.proofs.lemmas.List.Elements.{All-append}
 use Rattle.xcp_base.specs.Samples.{SampleParts, MarkParts}
 use Rattle.xcp_base.specs.Packets.{ArePackets, IsPacket}
@@ -10,7 +8,7 @@ use Rattle.xcp_base.specs.declared.item.Item.TheVariants.{Sample, Marker}
 use Rattle.frame_writer.specs.Writing.{AfterText, WriterState}
 use Rattle.transmitter.specs.Items.{count_of, packets_of, samples}
 use Rattle.transmitter.specs.Merge.{Takes, items_taken}
-use Rattle.transmitter.specs.Written.{BreaksWithin, HasTaken, HasWritten, IsLast, TransmitterState}
+use Rattle.transmitter.specs.Written.{BreaksWithin, HasTaken, HasWritten, TransmitterState}
 use Rattle.transmitter.specs.Pumps.{Leads}
 use Rattle.transmitter.proofs.TakenLemmas.{count_of-append, merge-takes, packets_of-push, samples-marker, samples-sample, takes-append}
 use Rattle.transmitter.proofs.PacketLemmas.{after_text-append}

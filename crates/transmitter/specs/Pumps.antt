@@ -1,6 +1,6 @@
 -- What a turn of a pump at one ring does, and what a pump does (own).
 use Rattle.std.specs.Prelude.{ℕ, ◌+◌, ◌<◌, ◌≤◌, ◌≡◌, Bool, true, false, nat_eq, List, [], ◌∷◌, ◌++◌, length, Ok, Err}
-use Rattle.std.specs.Prelude.{Option, Some, None, Result}
+use Rattle.std.specs.Prelude.{Some, None, Result}
 use Rattle.std.specs.List.{list_any}
 use Rattle.xcp_base.specs.declared.limits.TheConstants.{MAX_TAKEN}
 use Rattle.xcp_base.specs.Samples.{SampleParts, MarkParts}

@@ -1,5 +1,5 @@
 -- What a transmitter took, and what it wrote (own).
-use Rattle.std.specs.Prelude.{ℕ, ◌≡◌, Bool, false, true, List, [], ◌∷◌, ◌++◌, length, map, slice_index}
+use Rattle.std.specs.Prelude.{ℕ, ◌≡◌, ◌≢◌, false, true, List, [], ◌∷◌, ◌++◌, length, map, slice_index}
 use Rattle.std.specs.Prelude.{Option, Some, None}
 use Rattle.xcp_base.specs.Packets.{ArePackets}
 use Rattle.xcp_base.specs.Samples.{SampleParts}
@@ -13,7 +13,7 @@ use Rattle.frame_writer.specs.Writing.{AfterText, WriterState, state_of}
 use Rattle.frame_writer.specs.declared.out.Out.{Ghosts as OutGhosts}
 use Rattle.frame_writer.specs.declared.writer.FrameWriter.{FrameWriter}
 use Rattle.transmitter.specs.Items.{count_of, packets_of, samples}
-use Rattle.transmitter.specs.Merge.{IsMerge, items_taken}
+use Rattle.transmitter.specs.Merge.{IsMerge, items_taken, of_ring}
 use Rattle.transmitter.specs.declared.transmitter.Transmitter.{Transmitter}
 
 -- a transmitter: what its frame writer shows; of each ring its name, what was received from it and what is known to be
@@ -76,3 +76,8 @@ pub record HasTaken (start : WriterState) (t : TransmitterState) (ps : List (ℕ
   pub legal : ArePackets (packets_of whole)
   pub writes : HasWritten start t.writer whole t.hand
   pub written : (l : ℕ) → slice_index t.written l ≡ count_of l whole
+
+-- only what is known of ring c may have changed
+pub record Looked (c : ℕ) (a b : TransmitterState) : Type 0 where
+  pub same : b ≡ record a { known = b.known }
+  pub others : (e : ℕ) → e ≢ c → of_ring b.known e ≡ of_ring a.known e

@@ -115,3 +115,36 @@ impl<O: Out, T: TakeEnd> Transmitter<O, T> {
         self.writer
     }
 }
+
+impl<O: Out, T: Beside> Transmitter<O, T> {
+    ghost use Rattle.std.specs.Prelude.{◌≡◌, ◌≢◌, ℕ, ◌≤◌, ◌++◌, List, Bool, Some, length, slice_get};
+    ghost use Rattle.sampler.specs.History.{Event, Opening};
+    ghost use Rattle.sampler.specs.Standing.{StandsAfter};
+    ghost use Rattle.transmitter.specs.Merge.{of_ring};
+    ghost use Rattle.transmitter.specs.Written.{Looked, transmission, writer_of};
+
+    /// Looks at all that a sampler sent, beside it in one thread, and answers how many of its items are left in the ring.
+    ///
+    /// The sampler is that of the ring of its event channel. From then on each item left is known, and the sampler knows
+    /// at least as many units to be free as before.
+    pub fn beside(&mut self, sampler: &mut Sampler<T::Send>) -> usize
+        requires one_ring { slice_get (transmission O.Out T.TakeEnd self.old).rings sampler.old.channel ≡ Some (T.Send.ring sampler.old.end) }
+        ensures count { result ≡ length (of_ring (transmission O.Out T.TakeEnd self.new).known sampler.old.channel) }
+        ensures left { of_ring (transmission O.Out T.TakeEnd self.new).received sampler.old.channel ++ of_ring (transmission O.Out T.TakeEnd self.new).known sampler.old.channel ≡ T.Send.sent sampler.new.end }
+        ensures looked { Looked sampler.old.channel (transmission O.Out T.TakeEnd self.old) (transmission O.Out T.TakeEnd self.new) }
+        ensures writer { writer_of self.new ≡ writer_of self.old }
+
+        ensures stands { (opening : Opening) (h : List Event) (d : List Bool) →
+            StandsAfter T.Send.SendEnd T.Send.End.RingEnd sampler.old opening h d →
+            StandsAfter T.Send.SendEnd T.Send.End.RingEnd sampler.new opening h d }
+        ensures sampler { sampler.new ≡ record sampler.old { end = sampler.new.end } }
+        ensures sent { T.Send.sent sampler.new.end ≡ T.Send.sent sampler.old.end }
+        ensures grows { T.Send.free sampler.old.end ≤ T.Send.free sampler.new.end }
+        ensures capacity_stays { T.Send.capacity sampler.new.end ≡ T.Send.capacity sampler.old.end }
+        ensures ring { T.Send.ring sampler.new.end ≡ T.Send.ring sampler.old.end }
+    {
+        let c = sampler.channel() as usize;
+        let take = &mut self.ends[c];
+        sampler.beside(take)
+    }
+}

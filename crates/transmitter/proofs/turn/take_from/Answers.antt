@@ -1,4 +1,4 @@
-use Rattle.std.proofs.Common.{◌≡◌, ℕ, ◌<◌, length, ap, ◌∙◌, arith}
+use Rattle.std.proofs.Common.{ap, ◌∙◌, arith}
 use Rattle.std.proofs.Math.Seq.{map-set_same}
 use Rattle.transmitter.proofs.PlaceLemmas.{empty-at, takes-at}
 use Rattle.transmitter.proofs.turn.take_from.Goals as goal

@@ -1,11 +1,10 @@
-use Rattle.std.proofs.Common.{◌≡◌, ℕ, ◌+◌, ◌<◌, ◌≤◌, Bool, true, false, ◌||◌, nat_eq, [], ◌∷◌, Option, Some, None, length, map, refl, sym, ap, ◌∙◌, arith, append-nil}
+use Rattle.std.proofs.Common.{◌≡◌, ℕ, Bool, true, false, ◌||◌, nat_eq, Option, Some, None, refl, sym, ap, ◌∙◌, arith, append-nil}
 use Rattle.std.specs.Option.{is_some}
 use Rattle.std.proofs.lemmas.Bool.{false≢true}
-use Rattle.std.proofs.lemmas.List.{length-map}
 use Rattle.xcp_base.specs.declared.item.Item.TheVariants.{Sample, Marker}
 use Rattle.sampler.specs.History.{has_list}
-use Rattle.transmitter.specs.Written.{TransmitterState, transmission}
-use Rattle.transmitter.proofs.PumpLemmas.{failed_turn, first_turn, idle_turn, item_turn, last_turn}
+use Rattle.transmitter.specs.Written.{transmission}
+use Rattle.transmitter.proofs.PumpLemmas.{failed_turn, first_turn, idle_turn, item_turn}
 use Rattle.transmitter.proofs.transmitter.Transmitter.pump.Goals as goal
 use Rattle.transmitter.proofs.transmitter.Transmitter.pump.Goals.{in-Nothing, in-Wrote, in-Stopped}
 

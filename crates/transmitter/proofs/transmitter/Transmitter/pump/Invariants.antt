@@ -1,4 +1,4 @@
-use Rattle.std.proofs.Common.{◌≡◌, ℕ, vec_len}
+use Rattle.std.proofs.Common.{◌≡◌, vec_len}
 use Rattle.transmitter.specs.Written.{transmission}
 use Rattle.transmitter.proofs.PumpLemmas.{SoFar}
 use Rattle.transmitter.proofs.transmitter.Transmitter.pump.Given as goal

@@ -1,13 +1,11 @@
-use Rattle.std.proofs.Common.{◌≡◌, ℕ, ◌+◌, ◌<◌, List, [], ◌∷◌, ◌++◌, Option, Some, None, length, map, get_or, set, slice_index, cond, eqb, get_or-set_same, get_or-set_other, refl, sym, ap, ◌∙◌, arith, rules, subst}
+use Rattle.std.proofs.Common.{◌≡◌, ℕ, ◌+◌, ◌<◌, List, [], ◌∷◌, Option, Some, length, get_or, set, slice_index, cond, eqb, get_or-set_same, get_or-set_other, refl, ap, ◌∙◌, arith, subst}
 use Rattle.std.proofs.lemmas.Grind.{common_steps}
 use Rattle.std.proofs.lemmas.Bool.Decides.{nat_tests}
 use Rattle.xcp_base.specs.declared.item.Item.{Item}
-use Rattle.xcp_base.specs.declared.item.Item.TheVariants.{Sample, Marker}
 use Rattle.xcp_base.specs.Packets.{ArePackets}
-use Rattle.frame_writer.specs.Writing.{AfterText, state_of}
 use Rattle.transmitter.specs.Merge.{Takes, taken_at}
-use Rattle.transmitter.specs.Written.{BreaksWithin, transmission}
-use Rattle.transmitter.proofs.WrittenLemmas.{leads-broken, leads-marker, leads-none, leads-sample}
+use Rattle.transmitter.specs.Written.{transmission}
+use Rattle.transmitter.proofs.WrittenLemmas.{leads-broken, leads-marker, leads-sample}
 use Rattle.transmitter.proofs.transmitter.Transmitter.turn.Goals as goal
 
 -- the item that was taken, by what it is
