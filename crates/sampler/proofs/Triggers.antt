@@ -20,7 +20,7 @@ use Rattle.sampler.proofs.TakenSets.{any-due_plans, any-here, accepted-due, drop
 use Rattle.std.specs.List.{list_any}
 use Rattle.sampler.specs.declared.track.Track.{Track}
 use Rattle.sampler.specs.declared.taken.Taken.{Taken}
-use Rattle.sampler.proofs.Histories.{append_nil, items-more, length-map_of}
+use Rattle.sampler.proofs.Histories.{append_nil, items-more, length-map_of, slice_get-behind}
 use Rattle.sampler.proofs.Drops.{NewDrops}
 use Rattle.sampler.proofs.Stands.{Follows, stands-more}
 use Rattle.sampler.proofs.Turns.{units-append}
@@ -59,12 +59,6 @@ are-at o h d (x ∷ done) rest r a = are-at o h d done rest r a.1
 
 Bool-equal : (a b : Bool) → ◌≡◌ {A = Option Bool} (Some a) (Some b) → a ≡ b
 Bool-equal a b e = cc
-
-slice_get-behind : (xs ys : List Bool) (k : ℕ) → slice_get (xs ++ ys) (length xs + k) ≡ slice_get ys k
-slice_get-behind [] ys k = ap (slice_get ys) (omega arith)
-slice_get-behind (x ∷ xs) ys k =
-    let e : suc (length xs) + k ≡ suc (length xs + k) = omega arith in
-    ap (slice_get (x ∷ (xs ++ ys))) e ∙ slice_get-behind xs ys k
 
 -- the k-th due plan is a row's
 record Located (rows : List Row) (k : ℕ) (plan : ListPlan) : Type 0 where

@@ -16,7 +16,7 @@ sample opening h d j plan image stamp = Sample (record {
   channel = opening.channel;
   list = plan.list;
   number = accepted_in (take j d);
-  packets = packets plan image stamp (overload_bit opening h d j plan.list);
+  packets = packets plan image stamp (overload_bit opening h d j);
 })
 
 -- the samples of the pairs from number j on, of these plans, whose decision is true
