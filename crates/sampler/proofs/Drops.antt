@@ -1,10 +1,9 @@
 -- Drops of a longer history.
-use Rattle.std.proofs.Common.{◌≡◌, ℕ, zero, suc, ◌+◌, ◌<◌, ◌≤◌, Bool, true, false, List, [], ◌∷◌, ◌++◌, length, take, refl, sym, ap, ◌∙◌, arith, length-append, subst, inl, inr, ◌⊎◌}
-use Rattle.std.specs.Prelude.{slice_get, Some, None}
+use Rattle.std.proofs.Common.{◌≡◌, ℕ, zero, suc, ◌+◌, ◌<◌, Bool, false, List, [], ◌∷◌, ◌++◌, length, take, refl, sym, ◌∙◌, arith, subst, inl, inr, ◌⊎◌}
+use Rattle.std.specs.Prelude.{slice_get, Some}
 use Rattle.std.proofs.lemmas.List.{take-append-le}
 use Rattle.copy_plan.specs.Config.{ListPlan}
 use Rattle.xcp_base.specs.declared.item.Item.{Item}
-use Rattle.channel_ring.specs.Room.{units}
 use Rattle.sampler.specs.History.{Event, Trigger, Start, Stop, Opening, due, due_at}
 use Rattle.sampler.specs.Items.{items, sample}
 use Rattle.sampler.specs.Standing.{DropsOnlyWhenFull, ExceedsCapacity}

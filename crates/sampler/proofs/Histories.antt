@@ -1,15 +1,12 @@
 -- One event more: what a longer history adds to the due pairs, the decided pairs and the items.
-use Rattle.std.proofs.Common.{◌≡◌, ℕ, zero, suc, ◌+◌, ◌-◌, ◌<◌, ◌≤◌, Bool, true, false, List, [], ◌∷◌, ◌++◌, length, take, drop, get_or, map, reverse, refl, sym, ap, ◌∙◌, append_assoc, add-one, arith, length-append, subst, cond, not, ◌&&◌, nat_eq, inl, inr, ◌⊎◌}
-use Rattle.std.specs.Prelude.{flat_map, zip, slice_get, slice_index_or, filter_map, filter, Some, None, count_by, find, take_while}
-use Rattle.std.specs.List.{enumerate_from}
+use Rattle.std.proofs.Common.{◌≡◌, ℕ, zero, suc, ◌+◌, ◌<◌, ◌≤◌, Bool, false, List, [], ◌∷◌, ◌++◌, length, take, map, refl, sym, ap, ◌∙◌, append_assoc, arith, length-append}
+use Rattle.std.specs.Prelude.{flat_map, zip, slice_get}
 use Rattle.std.proofs.Math.ListN.{get_or-append}
-use Rattle.std.proofs.lemmas.Grind.{common_steps, flat_map-append}
-use Rattle.std.proofs.lemmas.List.{reverse-append, take-append-le}
-use Rattle.std.proofs.lemmas.List.Sums.{sum_by-append, sum_by-cons, take_while-cons}
+use Rattle.std.proofs.lemmas.Grind.{flat_map-append}
+use Rattle.std.proofs.lemmas.List.{take-append-le}
 use Rattle.copy_plan.specs.Config.{ListPlan}
-use Rattle.xcp_base.specs.declared.item.Item.{Item}
-use Rattle.sampler.specs.History.{Event, Trigger, Start, Stop, Opening, due, due_at, pairs_at, with_past, runs_after, runs_since, triggers_since_start, is_trigger, is_start, is_start_or_stop, has_list}
-use Rattle.sampler.specs.Decisions.{Decided, decided, pending_of, overload_bit, accepted_in}
+use Rattle.sampler.specs.History.{Event, Trigger, Start, Stop, Opening, due, due_at, pairs_at, with_past}
+use Rattle.sampler.specs.Decisions.{decided, pending_of, overload_bit}
 use Rattle.sampler.specs.Items.{items, items_at, sample, samples_from}
 
 pub append_nil : {X : Type 0} (xs : List X) → xs ++ [] ≡ xs

@@ -1,19 +1,17 @@
 -- The items of a trigger are those of its rows.
-use Rattle.std.proofs.Common.{◌≡◌, ℕ, zero, suc, ◌+◌, ◌<◌, ◌≤◌, Bool, true, false, cond, not, ◌&&◌, List, [], ◌∷◌, ◌++◌, length, get_or, take, drop, map, refl, sym, ap, ◌∙◌, arith, subst, append_assoc, length-append}
-use Rattle.std.specs.Prelude.{filter, zip, Option, Some, None, count_by, filter_map, if◌then◌else◌, slice_index_or, slice_get}
+use Rattle.std.proofs.Common.{◌≡◌, ℕ, zero, suc, ◌+◌, ◌≤◌, Bool, true, false, cond, ◌&&◌, List, [], ◌∷◌, ◌++◌, length, get_or, take, map, refl, sym, ap, ◌∙◌, arith, subst, append_assoc, length-append}
+use Rattle.std.specs.Prelude.{zip, Some, None, if◌then◌else◌, slice_get}
 use Rattle.std.specs.Option.{option_map}
-use Rattle.std.specs.List.{last_or, enumerate_from, cons_option}
+use Rattle.std.specs.List.{last_or, cons_option}
 use Rattle.std.proofs.Math.Seq.{take-append-add, take-append_seam, get_or-append_seam}
-use Rattle.std.proofs.lemmas.List.{take-append-le}
 use Rattle.std.proofs.lemmas.List.Elements.{filter-append}
 use Rattle.std.proofs.lemmas.List.Sums.{sum_by-append, sum_by-cons}
 use Rattle.std.proofs.lemmas.Option.{slice_get-map}
 use Rattle.xcp_base.specs.declared.item.Item.{Item}
 use Rattle.copy_plan.specs.Config.{ListPlan}
-use Rattle.copy_plan.specs.Packet.{packets}
 use Rattle.sampler.specs.History.{Event, Trigger, Opening, due, due_at, pairs_at}
-use Rattle.sampler.specs.Decisions.{Decided, decided, pairs_of, is_of_list, is_drop, overload_pending, pending_of, overload_bit, accepted_in}
-use Rattle.sampler.specs.Items.{items, items_at, sample, samples_from}
+use Rattle.sampler.specs.Decisions.{decided, pairs_of, is_of_list, is_drop, overload_pending, pending_of, overload_bit, accepted_in}
+use Rattle.sampler.specs.Items.{sample, samples_from}
 use Rattle.sampler.specs.Tracks.{track_of}
 use Rattle.sampler.specs.State.{RiseFrom}
 use Rattle.sampler.specs.Turn.{Row, due_now, item_of, row_items, row_count, rows_items, rows_count}
