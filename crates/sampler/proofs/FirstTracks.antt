@@ -164,7 +164,7 @@ no_due : (o : Opening) → due o [] ≡ []
 unfolding due with_past
 no_due o = refl
 
-no_drops : (capacity : ℕ) (cost : Item → ℕ) (o : Opening) → DropsOnlyWhenFull capacity cost o [] []
+pub no_drops : (capacity : ℕ) (cost : Item → ℕ) (o : Opening) → DropsOnlyWhenFull capacity cost o [] []
 unfolding DropsOnlyWhenFull
 no_drops capacity cost o = λ past rest image stamp k plan is. absurd (no_event past rest (Trigger image stamp) is)
 
