@@ -1,14 +1,13 @@
 -- Drops of a longer history.
-use Rattle.std.proofs.Common.{◌≡◌, ℕ, zero, suc, ◌+◌, ◌<◌, ◌≤◌, Bool, true, false, List, [], ◌∷◌, ◌++◌, length, take, refl, sym, ap, ◌∙◌, arith, length-append, subst, inl, inr, ◌⊎◌}
-use Rattle.std.specs.Prelude.{slice_get, Some, None}
+use Rattle.std.proofs.Common.{◌≡◌, ℕ, zero, suc, ◌+◌, ◌<◌, Bool, false, List, [], ◌∷◌, ◌++◌, length, take, refl, sym, ◌∙◌, arith, subst, inl, inr, ◌⊎◌}
+use Rattle.std.specs.Prelude.{slice_get, Some}
 use Rattle.std.proofs.lemmas.List.{take-append-le}
 use Rattle.copy_plan.specs.Config.{ListPlan}
 use Rattle.xcp_base.specs.declared.item.Item.{Item}
-use Rattle.channel_ring.specs.Room.{units}
 use Rattle.sampler.specs.History.{Event, Trigger, Start, Stop, Opening, due, due_at}
 use Rattle.sampler.specs.Items.{items, sample}
 use Rattle.sampler.specs.Standing.{DropsOnlyWhenFull, ExceedsCapacity}
-use Rattle.sampler.proofs.Histories.{due_below, sample-more}
+use Rattle.sampler.proofs.Histories.{due_below, sample-more, slice_get-append_lt}
 
 -- an element of a list with one more at its end is that one, or stands before it
 pub split_last : {X : Type 0} (h past rest : List X) (e x : X) → h ++ e ∷ [] ≡ past ++ x ∷ rest → ((rest ≡ []) × (h ≡ past) × (e ≡ x)) ⊎ ((r : List X) × ((rest ≡ r ++ e ∷ []) × (h ≡ past ++ x ∷ r)))
@@ -28,11 +27,6 @@ slice_get-below : {X : Type 0} (xs : List X) (k : ℕ) (y : X) → slice_get xs 
 slice_get-below [] k y h = absurd cc
 slice_get-below (x ∷ xs) zero y h = omega arith
 slice_get-below (x ∷ xs) (suc k) y h = omega (arith, slice_get-below xs k y h)
-
-pub slice_get-append_lt : {X : Type 0} (xs ys : List X) (k : ℕ) → k < length xs → slice_get (xs ++ ys) k ≡ slice_get xs k
-slice_get-append_lt [] ys k h = absurd (omega arith)
-slice_get-append_lt (x ∷ xs) ys zero h = refl
-slice_get-append_lt (x ∷ xs) ys (suc k) h = slice_get-append_lt xs ys k (omega arith)
 
 -- the new drops, of the last event
 abbrev pub NewDrops : ℕ → (Item → ℕ) → Opening → List Event → List Bool → List Bool → Event → Type 0

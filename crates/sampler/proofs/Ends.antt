@@ -1,6 +1,5 @@
 -- What is left of a sampler stands after what the sampler stood after.
-use Rattle.std.proofs.Common.{◌≡◌, ℕ, Bool, List, [], ◌∷◌, map, refl, sym, ap, ◌∙◌, subst}
-use Rattle.xcp_base.specs.declared.item.Item.{Item}
+use Rattle.std.proofs.Common.{◌≡◌, Bool, List, [], ◌∷◌, map, refl, ap, ◌∙◌}
 use Rattle.channel_ring.specs.declared.ends.SendEnd.{Ghosts as SendGhosts}
 use Rattle.channel_ring.specs.declared.ends.RingEnd.{Ghosts as EndGhosts}
 use Rattle.copy_plan.specs.Config.{ListPlan}
@@ -8,7 +7,7 @@ use Rattle.sampler.specs.History.{Event, Opening}
 use Rattle.sampler.specs.Decisions.{decided, pairs_of}
 use Rattle.sampler.specs.Tracks.{track_of, counts_of}
 use Rattle.sampler.specs.State.{SamplerState, SamplerEndState, joined}
-use Rattle.sampler.specs.Standing.{StandsAfter, EndStandsAfter, DropsOnlyWhenFull}
+use Rattle.sampler.specs.Standing.{StandsAfter, EndStandsAfter}
 use Rattle.sampler.specs.declared.track.Track.{Track}
 
 counts-tracks : (o : Opening) (h : List Event) (d : List Bool) (plans : List ListPlan) → map (λ (t : Track). t.counts) (map (track_of o h d) plans) ≡ map (λ (plan : ListPlan). counts_of (pairs_of plan.list (decided o h d))) plans

@@ -1,5 +1,5 @@
 -- What is kept at the opening, and the sets of lists.
-use Rattle.std.proofs.Common.{◌≡◌, ℕ, zero, suc, ◌+◌, ◌%◌, ◌<◌, ◌≤◌, Bool, true, false, ◌&&◌, ◌||◌, List, [], ◌∷◌, ◌++◌, length, get_or, set, take, drop, map, refl, sym, ap, ◌∙◌, arith, nat_eq, cond, length-take}
+use Rattle.std.proofs.Common.{◌≡◌, ℕ, zero, suc, ◌+◌, ◌%◌, ◌<◌, ◌≤◌, Bool, true, false, ◌&&◌, ◌||◌, List, [], ◌∷◌, ◌++◌, length, get_or, set, take, map, refl, sym, ap, ◌∙◌, arith, nat_eq, cond}
 use Rattle.std.specs.Prelude.{Option, Some, None, if◌then◌else◌}
 use Rattle.std.specs.Option.{option_and_then}
 use Rattle.std.specs.Prelude.{slice_get}
@@ -9,16 +9,16 @@ use Rattle.std.proofs.lemmas.Bool.{ne_eqb}
 use Rattle.std.proofs.lemmas.Bool.Decides.{nat_tests}
 use Rattle.std.proofs.lemmas.List.Quantifiers.{position-Some}
 use Rattle.std.proofs.lemmas.List.Sums.{fails_before_first}
-use Rattle.std.specs.Prelude.{nat_lt, position}
+use Rattle.std.specs.Prelude.{nat_lt}
 use Rattle.std.specs.List.{position_or_len}
 use Rattle.channel_ring.specs.declared.ends.SendEnd.{Ghosts as SendGhosts}
 use Rattle.channel_ring.specs.declared.ends.RingEnd.{Ghosts as EndGhosts}
 use Rattle.copy_plan.specs.Config.{ListPlan}
 use Rattle.sampler.specs.History.{Event, Trigger, Opening, has_list, runs_after, triggers_since_start, due, with_past}
-use Rattle.sampler.specs.Decisions.{decided, overload_pending}
+use Rattle.sampler.specs.Decisions.{overload_pending}
 use Rattle.sampler.specs.Items.{items}
 use Rattle.sampler.specs.Tracks.{track_of, first_track, phase_of, counts_of}
-use Rattle.sampler.specs.State.{SamplerState, ArePlansOf, RiseFrom, TracksFit, IsSampler, place_of, runs_at, is_running}
+use Rattle.sampler.specs.State.{ArePlansOf, RiseFrom, TracksFit, IsSampler, place_of, runs_at, is_running}
 use Rattle.sampler.specs.Standing.{StandsAfter, DropsOnlyWhenFull}
 use Rattle.sampler.specs.declared.track.Track.{Track}
 use Rattle.sampler.proofs.Places.{no_plan, no_track, rise_least, slice_get-get_or}
@@ -92,11 +92,11 @@ runs_among-none k (plan ∷ plans) (t ∷ tracks) h =
     ∙ ap (λ b. b || runs_among k plans tracks) (and_false t.running)
     ∙ runs_among-none k plans tracks (λ i b. h (suc i) (omega (arith, b)))
 
-no_place : (b : Bool) (i : ℕ) → cond b (Some i) None ≡ None → b ≡ false
+pub no_place : (b : Bool) (i : ℕ) → cond b (Some i) None ≡ None → b ≡ false
 no_place true i e = absurd cc
 no_place false i e = refl
 
-not_less : (a b : ℕ) → nat_lt a b ≡ false → b ≤ a
+pub not_less : (a b : ℕ) → nat_lt a b ≡ false → b ≤ a
 not_less a b e = grind (arith, nat_tests)
 
 by_place : (k : ℕ) (plans : List ListPlan) (tracks : List Track) (o : Option ℕ) → RiseFrom 0 plans → length plans ≤ length tracks → place_of k plans ≡ o → is_running (option_and_then (λ i. slice_get tracks i) o) ≡ runs_among k plans tracks
@@ -164,7 +164,7 @@ no_due : (o : Opening) → due o [] ≡ []
 unfolding due with_past
 no_due o = refl
 
-no_drops : (capacity : ℕ) (cost : Item → ℕ) (o : Opening) → DropsOnlyWhenFull capacity cost o [] []
+pub no_drops : (capacity : ℕ) (cost : Item → ℕ) (o : Opening) → DropsOnlyWhenFull capacity cost o [] []
 unfolding DropsOnlyWhenFull
 no_drops capacity cost o = λ past rest image stamp k plan is. absurd (no_event past rest (Trigger image stamp) is)
 

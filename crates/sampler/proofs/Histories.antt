@@ -1,15 +1,12 @@
 -- One event more: what a longer history adds to the due pairs, the decided pairs and the items.
-use Rattle.std.proofs.Common.{◌≡◌, ℕ, zero, suc, ◌+◌, ◌-◌, ◌<◌, ◌≤◌, Bool, true, false, List, [], ◌∷◌, ◌++◌, length, take, drop, get_or, map, reverse, refl, sym, ap, ◌∙◌, append_assoc, add-one, arith, length-append, subst, cond, not, ◌&&◌, nat_eq, inl, inr, ◌⊎◌}
-use Rattle.std.specs.Prelude.{flat_map, zip, slice_get, slice_index_or, filter_map, filter, Some, None, count_by, find, take_while}
-use Rattle.std.specs.List.{enumerate_from}
+use Rattle.std.proofs.Common.{◌≡◌, ℕ, zero, suc, ◌+◌, ◌<◌, ◌≤◌, Bool, false, List, [], ◌∷◌, ◌++◌, length, take, map, refl, sym, ap, ◌∙◌, append_assoc, arith, length-append}
+use Rattle.std.specs.Prelude.{flat_map, zip, slice_get}
 use Rattle.std.proofs.Math.ListN.{get_or-append}
-use Rattle.std.proofs.lemmas.Grind.{common_steps, flat_map-append}
-use Rattle.std.proofs.lemmas.List.{reverse-append, take-append-le}
-use Rattle.std.proofs.lemmas.List.Sums.{sum_by-append, sum_by-cons, take_while-cons}
+use Rattle.std.proofs.lemmas.Grind.{flat_map-append}
+use Rattle.std.proofs.lemmas.List.{take-append-le}
 use Rattle.copy_plan.specs.Config.{ListPlan}
-use Rattle.xcp_base.specs.declared.item.Item.{Item}
-use Rattle.sampler.specs.History.{Event, Trigger, Start, Stop, Opening, due, due_at, pairs_at, with_past, runs_after, runs_since, triggers_since_start, is_trigger, is_start, is_start_or_stop, has_list}
-use Rattle.sampler.specs.Decisions.{Decided, decided, overload_bit, overload_pending, accepted_in}
+use Rattle.sampler.specs.History.{Event, Trigger, Start, Stop, Opening, due, due_at, pairs_at, with_past}
+use Rattle.sampler.specs.Decisions.{decided, pending_of, overload_bit}
 use Rattle.sampler.specs.Items.{items, items_at, sample, samples_from}
 
 pub append_nil : {X : Type 0} (xs : List X) → xs ++ [] ≡ xs
@@ -63,6 +60,17 @@ length-zip_same [] ys h = refl
 length-zip_same (x ∷ xs) [] h = absurd (omega arith)
 length-zip_same (x ∷ xs) (y ∷ ys) h = ap (λ n. suc n) (length-zip_same xs ys (omega arith))
 
+pub slice_get-append_lt : {X : Type 0} (xs ys : List X) (k : ℕ) → k < length xs → slice_get (xs ++ ys) k ≡ slice_get xs k
+slice_get-append_lt [] ys k h = absurd (omega arith)
+slice_get-append_lt (x ∷ xs) ys zero h = refl
+slice_get-append_lt (x ∷ xs) ys (suc k) h = slice_get-append_lt xs ys k (omega arith)
+
+pub slice_get-behind : {X : Type 0} (xs ys : List X) (k : ℕ) → slice_get (xs ++ ys) (length xs + k) ≡ slice_get ys k
+slice_get-behind [] ys k = ap (slice_get ys) (omega arith)
+slice_get-behind (x ∷ xs) ys k =
+    let e : suc (length xs) + k ≡ suc (length xs + k) = omega arith in
+    ap (slice_get (x ∷ (xs ++ ys))) e ∙ slice_get-behind xs ys k
+
 module _ (o : Opening) (h : List Event) (e : Event) (d ds : List Bool) (whole : length d ≡ length (due o h)) where
   -- the decided pairs of an event come behind those before it
   pub decided-more : decided o (h ++ e ∷ []) (d ++ ds) ≡ decided o h d ++ zip (pairs_at o (h, e)) ds
@@ -74,13 +82,15 @@ module _ (o : Opening) (h : List Event) (e : Event) (d ds : List Bool) (whole : 
       ∙ take-append-le j (decided o h d) (zip (pairs_at o (h, e)) ds) (omega (arith, length-zip_same (due o h) d whole))
 
   -- an earlier pair has the same bit and sample
-  pub overload_bit-more : (j l : ℕ) → j ≤ length d → overload_bit o (h ++ e ∷ []) (d ++ ds) j l ≡ overload_bit o h d j l
+  pub overload_bit-more : (j : ℕ) → j < length d → overload_bit o (h ++ e ∷ []) (d ++ ds) j ≡ overload_bit o h d j
   unfolding overload_bit
-  overload_bit-more j l below = ap (λ pairs. overload_pending pairs l) (take_decided-more j below)
+  overload_bit-more j below =
+      ap (λ pair. pending_of pair (take j (decided o (h ++ e ∷ []) (d ++ ds)))) (ap (λ pairs. slice_get pairs j) (due-more o h e) ∙ slice_get-append_lt (due o h) (pairs_at o (h, e)) j (omega (arith, below, whole)))
+      ∙ ap (pending_of (slice_get (due o h) j)) (take_decided-more j (omega (arith, below)))
 
-  pub sample-more : (j : ℕ) (plan : ListPlan) (image : List ℕ) (stamp : ℕ) → j ≤ length d → sample o (h ++ e ∷ []) (d ++ ds) j plan image stamp ≡ sample o h d j plan image stamp
+  pub sample-more : (j : ℕ) (plan : ListPlan) (image : List ℕ) (stamp : ℕ) → j < length d → sample o (h ++ e ∷ []) (d ++ ds) j plan image stamp ≡ sample o h d j plan image stamp
   unfolding sample
-  sample-more j plan image stamp below = rw (take-append-le j d ds below, overload_bit-more j plan.list below) refl
+  sample-more j plan image stamp below = rw (take-append-le j d ds (omega (arith, below)), overload_bit-more j below) refl
 
   pub samples_from-more : (j : ℕ) (plans : List ListPlan) (image : List ℕ) (stamp : ℕ) → j + length plans ≤ length d → samples_from o (h ++ e ∷ []) (d ++ ds) j plans image stamp ≡ samples_from o h d j plans image stamp
   unfolding samples_from

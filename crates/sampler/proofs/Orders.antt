@@ -1,19 +1,18 @@
 -- A sampler stands after a start and after a stop.
-use Rattle.std.proofs.Common.{◌≡◌, ℕ, ◌+◌, Bool, true, false, List, [], ◌∷◌, ◌++◌, length, take, get_or, set, map, refl, sym, ap, ◌∙◌, arith, subst, nat_eq}
+use Rattle.std.proofs.Common.{◌≡◌, ℕ, Bool, true, false, List, [], ◌∷◌, ◌++◌, length, take, get_or, set, map, refl, sym, ap, ◌∙◌, arith, subst}
 use Rattle.std.specs.Prelude.{Some}
-use Rattle.xcp_base.specs.declared.item.Item.{Item}
 use Rattle.xcp_base.specs.declared.item.Item.TheVariants.{Marker}
 use Rattle.channel_ring.specs.declared.ends.SendEnd.{Ghosts as SendGhosts}
 use Rattle.channel_ring.specs.declared.ends.RingEnd.{Ghosts as EndGhosts}
 use Rattle.copy_plan.specs.Config.{ListPlan}
-use Rattle.sampler.specs.History.{Event, Trigger, Start, Stop, Opening, due_at, runs_after}
+use Rattle.sampler.specs.History.{Event, Start, Stop, Opening, due_at}
 use Rattle.sampler.specs.Items.{items_at}
 use Rattle.sampler.specs.Tracks.{track_of}
 use Rattle.sampler.specs.State.{SamplerState, RiseFrom, place_of}
 use Rattle.sampler.specs.Standing.{StandsAfter}
 use Rattle.sampler.specs.declared.track.Track.{Track}
 use Rattle.sampler.proofs.Histories.{append_nil}
-use Rattle.sampler.proofs.Stands.{Follows, stands-more}
+use Rattle.sampler.proofs.Stands.{stands-more}
 use Rattle.sampler.proofs.Places.{changed_at, no_track, place-below, take-set_at}
 use Rattle.std.proofs.lemmas.List.{get_or-take}
 use Rattle.sampler.proofs.Tracking.{track-start_other, track-start_same, track-stop_other, track-stop_same}

@@ -1,9 +1,9 @@
 -- The place of a list among plans whose numbers rise.
-use Rattle.std.proofs.Common.{◌≡◌, ℕ, zero, suc, ◌+◌, ◌<◌, ◌≤◌, Bool, true, false, List, [], ◌∷◌, ◌++◌, length, get_or, set, take, map, refl, sym, ap, ◌∙◌, arith, nat_eq, length-take}
-use Rattle.std.specs.Prelude.{Some, None, position, slice_get}
+use Rattle.std.proofs.Common.{◌≡◌, ℕ, zero, suc, ◌+◌, ◌<◌, ◌≤◌, true, false, List, [], ◌∷◌, length, get_or, set, take, map, refl, sym, ap, ◌∙◌, arith, nat_eq, length-take}
+use Rattle.std.specs.Prelude.{Some, slice_get}
 use Rattle.std.specs.Option.{option_and_then}
 use Rattle.std.proofs.lemmas.List.{get_or-take}
-use Rattle.std.proofs.lemmas.Bool.{ne_eqb, eqb-false}
+use Rattle.std.proofs.lemmas.Bool.{ne_eqb}
 use Rattle.std.proofs.lemmas.Bool.Decides.{nat_tests}
 use Rattle.std.proofs.lemmas.List.Quantifiers.{position-Some}
 use Rattle.copy_plan.specs.Config.{ListPlan}

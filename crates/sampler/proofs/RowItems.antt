@@ -1,30 +1,36 @@
 -- The items of a trigger are those of its rows.
-use Rattle.std.proofs.Common.{◌≡◌, ℕ, zero, suc, ◌+◌, ◌<◌, ◌≤◌, Bool, true, false, cond, not, ◌&&◌, List, [], ◌∷◌, ◌++◌, length, get_or, take, drop, map, refl, sym, ap, ◌∙◌, arith, subst, append_assoc, length-append}
-use Rattle.std.specs.Prelude.{filter, zip, Option, Some, None, count_by, filter_map, if◌then◌else◌, slice_index_or}
-use Rattle.std.specs.List.{last_or, enumerate_from, cons_option}
+use Rattle.std.proofs.Common.{◌≡◌, ℕ, zero, suc, ◌+◌, ◌≤◌, Bool, true, false, cond, ◌&&◌, List, [], ◌∷◌, ◌++◌, length, get_or, take, map, refl, sym, ap, ◌∙◌, arith, subst, append_assoc, length-append}
+use Rattle.std.specs.Prelude.{zip, Some, None, if◌then◌else◌, slice_get}
+use Rattle.std.specs.Option.{option_map}
+use Rattle.std.specs.List.{last_or, cons_option}
 use Rattle.std.proofs.Math.Seq.{take-append-add, take-append_seam, get_or-append_seam}
-use Rattle.std.proofs.lemmas.List.{take-append-le}
 use Rattle.std.proofs.lemmas.List.Elements.{filter-append}
 use Rattle.std.proofs.lemmas.List.Sums.{sum_by-append, sum_by-cons}
+use Rattle.std.proofs.lemmas.Option.{slice_get-map}
 use Rattle.xcp_base.specs.declared.item.Item.{Item}
 use Rattle.copy_plan.specs.Config.{ListPlan}
-use Rattle.copy_plan.specs.Packet.{packets}
 use Rattle.sampler.specs.History.{Event, Trigger, Opening, due, due_at, pairs_at}
-use Rattle.sampler.specs.Decisions.{Decided, decided, pairs_of, is_of_list, is_drop, overload_pending, overload_bit, accepted_in}
-use Rattle.sampler.specs.Items.{items, items_at, sample, samples_from}
+use Rattle.sampler.specs.Decisions.{decided, pairs_of, is_of_list, is_drop, overload_pending, pending_of, overload_bit, accepted_in}
+use Rattle.sampler.specs.Items.{sample, samples_from}
 use Rattle.sampler.specs.Tracks.{track_of}
 use Rattle.sampler.specs.State.{RiseFrom}
 use Rattle.sampler.specs.Turn.{Row, due_now, item_of, row_items, row_count, rows_items, rows_count}
 use Rattle.sampler.specs.declared.track.Track.{Track}
-use Rattle.sampler.proofs.Histories.{append_nil, decided-more, length-zip_same}
+use Rattle.sampler.proofs.Histories.{append_nil, due-more, decided-more, length-zip_same, slice_get-behind}
 use Rattle.sampler.proofs.Turns.{rows_count-one}
-use Rattle.sampler.proofs.Rows.{due_plans, decisions, new_pairs, plans_of, RowsAre, due_at-rows, pairs_before}
+use Rattle.sampler.proofs.Rows.{due_plans, decisions, new_pairs, plans_of, RowsAre, due_at-rows, pairs_before, length-due_plans}
 
 pub decisions-append : (a b : List Row) → decisions (a ++ b) ≡ decisions a ++ decisions b
 decisions-append [] b = refl
 decisions-append (r ∷ a) b =
     let later : decisions (a ++ b) ≡ decisions a ++ decisions b = decisions-append a b in
     elim (due_now r.track) as (λ v. cond v (r.accepted ∷ decisions (a ++ b)) (decisions (a ++ b)) ≡ cond v (r.accepted ∷ decisions a) (decisions a) ++ decisions b) [ true ↦ ap (λ ds. r.accepted ∷ ds) later | false ↦ later ]
+
+due_plans-append : (a b : List Row) → due_plans (a ++ b) ≡ due_plans a ++ due_plans b
+due_plans-append [] b = refl
+due_plans-append (r ∷ a) b =
+    let later : due_plans (a ++ b) ≡ due_plans a ++ due_plans b = due_plans-append a b in
+    elim (due_now r.track) as (λ v. cond v (r.plan ∷ due_plans (a ++ b)) (due_plans (a ++ b)) ≡ cond v (r.plan ∷ due_plans a) (due_plans a) ++ due_plans b) [ true ↦ ap (λ ps. r.plan ∷ ps) later | false ↦ later ]
 
 new_pairs-append : (i : ℕ) (a b : List Row) → new_pairs i (a ++ b) ≡ new_pairs i a ++ new_pairs i b
 new_pairs-append i [] b = refl
@@ -77,6 +83,26 @@ module _ (o : Opening) (h : List Event) (d : List Bool) (image : List ℕ) (stam
       ∙ ap (λ ps. decided o h d ++ zip (map (λ (plan : ListPlan). (length h, plan.list)) ps) (decisions pre)) (due_at-rows o h d image stamp whole all of_plans are ∙ ap due_plans is)
       ∙ ap (λ ps. decided o h d ++ ps) (zip-part (length h) pre post)
 
+  -- the pair of a row that is due
+  pair-row : (done rest post : List Row) (r : Row) → all ≡ (done ++ r ∷ rest) ++ post → due_now r.track ≡ true → slice_get (due o (h ++ Trigger image stamp ∷ [])) (length d + length (decisions done)) ≡ Some (length h, r.plan.list)
+  pair-row done rest post r is due_r =
+      let of_plan : ListPlan → ℕ × ℕ = λ plan. (length h, plan.list) in
+      let m : ℕ = length (decisions done) in
+      let later : List ListPlan = due_plans (rest ++ post) in
+      let plans : due_at o h (Trigger image stamp) ≡ due_plans done ++ r.plan ∷ later =
+      due_at-rows o h d image stamp whole all of_plans are
+      ∙ ap due_plans (is ∙ append_assoc done (r ∷ rest) post)
+      ∙ due_plans-append done (r ∷ (rest ++ post))
+      ∙ ap (λ b. due_plans done ++ cond b (r.plan ∷ later) later) due_r in
+      let n : m ≡ length (due_plans done) + 0 = omega (arith, length-due_plans done) in
+      ap (λ pairs. slice_get pairs (length d + m)) (due-more o h (Trigger image stamp))
+      ∙ ap (λ k. slice_get (due o h ++ pairs_at o (h, Trigger image stamp)) (k + m)) whole
+      ∙ slice_get-behind (due o h) (pairs_at o (h, Trigger image stamp)) m
+      ∙ slice_get-map of_plan (due_at o h (Trigger image stamp)) m
+      ∙ ap (λ ps. option_map of_plan (slice_get ps m)) plans
+      ∙ ap (λ k. option_map of_plan (slice_get (due_plans done ++ r.plan ∷ later) k)) n
+      ∙ ap (option_map of_plan) (slice_get-behind (due_plans done) (r.plan ∷ later) 0)
+
   -- the sample of a row's pair, decided by the rows up to it and some more
   pub sample-row : (done rest post : List Row) (r : Row) → all ≡ (done ++ r ∷ rest) ++ post → due_now r.track ≡ true → r.track ≡ track_of o h d r.plan → sample o (h ++ Trigger image stamp ∷ []) (d ++ decisions (done ++ r ∷ rest)) (length d + length (decisions done)) r.plan image stamp ≡ item_of o.channel r.plan image stamp (accepted_in d + rows_count done) r.track.pending
   unfolding sample item_of overload_bit overload_pending track_of
@@ -102,8 +128,9 @@ module _ (o : Opening) (h : List Event) (d : List Bool) (image : List ℕ) (stam
       ap (pairs_of r.plan.list) cut ∙ filter-append (is_of_list r.plan.list) (decided o h d) (new_pairs (length h) done)
       ∙ ap (λ ps. pairs_of r.plan.list (decided o h d) ++ ps) (pairs_before (length h) 0 done (rest ++ post) r (subst (λ (rows : List Row). RiseFrom 0 (plans_of rows)) (is ∙ append_assoc done (r ∷ rest) post) rise))
       ∙ append_nil (pairs_of r.plan.list (decided o h d)) in
-      let bit : is_drop (last_or None (pairs_of r.plan.list (take j (decided o (h ++ Trigger image stamp ∷ []) dd)))) ≡ r.track.pending =
-      ap (λ ps. is_drop (last_or None ps)) pairs ∙ sym (ap (λ (t : Track). t.pending) kept) in
+      let bit : pending_of (slice_get (due o (h ++ Trigger image stamp ∷ [])) j) (take j (decided o (h ++ Trigger image stamp ∷ []) dd)) ≡ r.track.pending =
+      ap (λ pair. pending_of pair (take j (decided o (h ++ Trigger image stamp ∷ []) dd))) (pair-row done rest post r is due_r)
+      ∙ ap (λ ps. is_drop (last_or None ps)) pairs ∙ sym (ap (λ (t : Track). t.pending) kept) in
       rw (number, bit) refl
 
   -- past the decisions nothing is sent

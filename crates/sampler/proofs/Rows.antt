@@ -1,18 +1,18 @@
 -- The rows of a trigger, and what the history and the decisions say of it.
-use Rattle.std.proofs.Common.{◌≡◌, ℕ, zero, suc, ◌+◌, ◌*◌, ◌/◌, ◌%◌, ◌<◌, ◌≤◌, Bool, true, false, cond, not, ◌&&◌, ◌||◌, List, [], ◌∷◌, ◌++◌, length, get_or, take, drop, map, refl, sym, ap, ◌∙◌, arith, subst, nat_eq, append_assoc, length-append}
+use Rattle.std.proofs.Common.{◌≡◌, ℕ, suc, ◌+◌, ◌*◌, ◌/◌, ◌%◌, ◌<◌, ◌≤◌, Bool, true, false, cond, not, ◌&&◌, List, [], ◌∷◌, ◌++◌, length, map, refl, sym, ap, ◌∙◌, arith, subst, nat_eq, length-append}
 use Rattle.std.specs.Prelude.{filter, zip, Option, Some, None, count_by, if◌then◌else◌}
 use Rattle.std.specs.List.{last_or}
 use Rattle.std.proofs.Math.Nat.{mod-add-div, add-mul-mod_self_left}
 use Rattle.std.proofs.lemmas.Bool.{ne_eqb}
 use Rattle.std.proofs.lemmas.Bool.Decides.{nat_tests}
 use Rattle.std.proofs.lemmas.List.Elements.{filter-append}
-use Rattle.std.proofs.lemmas.List.Sums.{sum_by-append, sum_by_push}
+use Rattle.std.proofs.lemmas.List.Sums.{sum_by_push}
 use Rattle.copy_plan.specs.Config.{ListPlan}
-use Rattle.sampler.specs.History.{Event, Trigger, Opening, due, due_at, pairs_at, is_due, runs_after, triggers_since_start}
+use Rattle.sampler.specs.History.{Event, Trigger, Opening, due, due_at, is_due, runs_after, triggers_since_start}
 use Rattle.sampler.specs.Decisions.{Decided, decided, pairs_of, is_of_list, is_drop, overload_pending}
 use Rattle.sampler.specs.Tracks.{track_of, phase_of, counts_of}
 use Rattle.sampler.specs.State.{RiseFrom}
-use Rattle.sampler.specs.Turn.{Row, due_now, turned, row_count, rows_count}
+use Rattle.sampler.specs.Turn.{Row, due_now, turned}
 use Rattle.sampler.specs.declared.track.Track.{Track}
 use Rattle.sampler.proofs.Histories.{append_nil, decided-more}
 use Rattle.sampler.proofs.Tracking.{runs-trigger, since-trigger}

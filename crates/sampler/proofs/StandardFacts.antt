@@ -1,6 +1,7 @@
--- Worked examples of triggers, prescaler, overload, starts and stops, computed.
-use Rattle.std.specs.Prelude.{◌≡◌, ℕ, Bool, true, false, List, [], ◌∷◌, ◌++◌, map}
-use Rattle.std.proofs.Common.{refl}
+-- Worked examples of triggers, prescaler, overload, starts, stops, counts and of a drop, computed.
+use Rattle.std.specs.Prelude.{◌≡◌, ℕ, ◌+◌, Bool, true, false, List, [], ◌∷◌, length, take, slice_get}
+use Rattle.std.specs.Prelude.{Some, None}
+use Rattle.std.proofs.Common.{refl, zero, suc, arith}
 use Rattle.xcp_base.specs.declared.item.Item.{Item}
 use Rattle.xcp_base.specs.declared.item.Item.TheVariants.{Sample, Marker}
 use Rattle.copy_plan.specs.Config.{ListPlan}
@@ -8,6 +9,11 @@ use Rattle.copy_plan.specs.Packet.{packets, packet}
 use Rattle.sampler.specs.History.{Event, Trigger, Start, Stop, Opening, due, due_at, is_due, with_past, runs_after, triggers_since_start}
 use Rattle.sampler.specs.Decisions.{overload_bit, overload_pending}
 use Rattle.sampler.specs.Items.{items, items_at, samples_from, sample}
+use Rattle.sampler.specs.Tracks.{counts_of, counts_after}
+use Rattle.sampler.specs.State.{JoinedEnd}
+use Rattle.sampler.specs.Standing.{EndStandsAfter, ExceedsCapacity}
+use Rattle.sampler.proofs.Drops.{drops-more}
+use Rattle.sampler.proofs.FirstTracks.{no_drops}
 
 abbrev plain : ℕ → ℕ → ℕ → List (List (ℕ × ℕ)) → ListPlan
 plain l p f odts = record { list = l; channel = 0; prescaler = p; first_pid = f; stamped = false; odts = odts; image_len = 2 }
@@ -74,3 +80,43 @@ a_pending_overload_outlives_stop_and_start = refl
 a_stopped_list_is_due_at_no_trigger : items (one_list 1) (T 1 1 ∷ Stop 0 ∷ T 2 2 ∷ []) (true ∷ []) ≡ one_packet 0 0 (0x00 ∷ 1 ∷ 1 ∷ []) ∷ marker 0 ∷ []
 unfolding items items_at samples_from sample overload_bit overload_pending due due_at is_due with_past runs_after triggers_since_start packets packet
 a_stopped_list_is_due_at_no_trigger = refl
+
+-- list 1 loses two samples before its first accepted one, and one behind it
+each_list_has_its_own_counts : counts_after two_lists shared_history shared_decisions 1 ≡ Some (record { due = 4; accepted = 1; dropped = 3 })
+unfolding counts_of due due_at is_due with_past runs_after triggers_since_start
+each_list_has_its_own_counts = refl
+
+a_list_of_another_channel_has_no_counts : counts_after two_lists shared_history shared_decisions 2 ≡ None
+a_list_of_another_channel_has_no_counts = refl
+
+-- one place: list 0 takes it, list 1 finds none
+abbrev one_place : JoinedEnd
+one_place = record {
+  channel = 0;
+  plans = two_lists.plans;
+  counts = record { due = 1; accepted = 1; dropped = 0 } ∷ record { due = 1; accepted = 0; dropped = 1 } ∷ [];
+  capacity = 1;
+  cost = λ item. 1;
+  sent = one_packet 0 0 (0x00 ∷ 0xAA ∷ []) ∷ [];
+}
+
+drop_at_one_place : (k : ℕ) (plan : ListPlan) →
+    slice_get (due_at two_lists [] (T 0xAA 0xBB)) k ≡ Some plan →
+    slice_get (true ∷ false ∷ []) (length (due two_lists []) + k) ≡ Some false →
+    ExceedsCapacity 1 (λ item. 1) (items two_lists (T 0xAA 0xBB ∷ []) (take (length (due two_lists []) + k) (true ∷ false ∷ []))) (sample two_lists (T 0xAA 0xBB ∷ []) (true ∷ false ∷ []) (length (due two_lists []) + k) plan (0xAA ∷ 0xBB ∷ []) 0)
+unfolding items items_at samples_from sample overload_bit overload_pending due due_at is_due with_past runs_after triggers_since_start packets packet
+drop_at_one_place zero plan at dropped = absurd cc
+drop_at_one_place (suc zero) plan at dropped = omega arith
+drop_at_one_place (suc (suc k)) plan at dropped = absurd cc
+
+-- so what is left of a sampler can stand after a history with a drop
+an_end_stands_after_a_drop : EndStandsAfter one_place two_lists (T 0xAA 0xBB ∷ []) (true ∷ false ∷ [])
+unfolding items items_at samples_from sample overload_bit overload_pending due due_at is_due with_past runs_after triggers_since_start packets packet counts_of
+an_end_stands_after_a_drop = record {
+  channel = refl;
+  plans = refl;
+  decisions = refl;
+  sent = refl;
+  counts = refl;
+  drops = drops-more 1 (λ item. 1) two_lists [] (T 0xAA 0xBB) [] (true ∷ false ∷ []) refl (no_drops 1 (λ item. 1) two_lists) drop_at_one_place;
+}

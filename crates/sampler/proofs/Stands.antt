@@ -1,17 +1,15 @@
 -- A sampler stands after one event more.
-use Rattle.std.proofs.Common.{◌≡◌, ℕ, ◌+◌, Bool, true, false, cond, List, [], ◌∷◌, ◌++◌, length, map, refl, sym, ap, ◌∙◌, arith, length-append, subst}
-use Rattle.std.specs.Prelude.{count_by}
+use Rattle.std.proofs.Common.{◌≡◌, ℕ, ◌+◌, Bool, cond, List, [], ◌∷◌, ◌++◌, length, map, sym, ap, ◌∙◌, arith, length-append}
 use Rattle.std.proofs.lemmas.List.Sums.{sum_by-append, sum_by_push}
-use Rattle.xcp_base.specs.declared.item.Item.{Item}
 use Rattle.channel_ring.specs.declared.ends.SendEnd.{Ghosts as SendGhosts}
 use Rattle.channel_ring.specs.declared.ends.RingEnd.{Ghosts as EndGhosts}
 use Rattle.copy_plan.specs.Config.{ListPlan}
 use Rattle.sampler.specs.History.{Event, Opening, is_trigger, due, due_at, pairs_at}
 use Rattle.sampler.specs.Decisions.{accepted_in}
-use Rattle.sampler.specs.Items.{items, items_at}
+use Rattle.sampler.specs.Items.{items_at}
 use Rattle.sampler.specs.Tracks.{track_of}
 use Rattle.sampler.specs.State.{SamplerState}
-use Rattle.sampler.specs.Standing.{StandsAfter, DropsOnlyWhenFull}
+use Rattle.sampler.specs.Standing.{StandsAfter}
 use Rattle.sampler.proofs.Histories.{due-more, items-more, length-map_of}
 use Rattle.sampler.proofs.Drops.{NewDrops, drops-more}
 

@@ -1,15 +1,13 @@
 -- What is kept of a list after one event more.
-use Rattle.std.proofs.Common.{◌≡◌, ℕ, zero, suc, ◌+◌, ◌%◌, ◌<◌, ◌≤◌, Bool, true, false, cond, not, ◌&&◌, List, [], ◌∷◌, ◌++◌, length, get_or, set, map, reverse, refl, sym, ap, ◌∙◌, arith, subst, nat_eq}
-use Rattle.std.specs.Prelude.{find, take_while, count_by, Some, None, position, if◌then◌else◌}
+use Rattle.std.proofs.Common.{◌≡◌, ℕ, ◌+◌, Bool, true, false, cond, not, List, [], ◌∷◌, ◌++◌, reverse, refl, ap, ◌∙◌, arith, nat_eq}
+use Rattle.std.specs.Prelude.{find, take_while, count_by, Some}
 use Rattle.std.proofs.Math.Nat.{zero-mod}
 use Rattle.std.proofs.lemmas.List.{reverse-append}
 use Rattle.std.proofs.lemmas.List.Sums.{sum_by-cons, take_while-cons}
-use Rattle.std.proofs.lemmas.Grind.{common_steps}
 use Rattle.copy_plan.specs.Config.{ListPlan}
-use Rattle.sampler.specs.History.{Event, Trigger, Start, Stop, Opening, due, due_at, pairs_at, runs_after, runs_since, triggers_since_start, is_trigger, is_start, is_start_or_stop, has_list}
-use Rattle.sampler.specs.Decisions.{Decided, decided, pairs_of, overload_pending}
+use Rattle.sampler.specs.History.{Event, Trigger, Start, Stop, Opening, due, due_at, runs_after, runs_since, triggers_since_start, is_trigger, is_start, is_start_or_stop, has_list}
+use Rattle.sampler.specs.Decisions.{decided, pairs_of, overload_pending}
 use Rattle.sampler.specs.Tracks.{track_of, phase_of, counts_of}
-use Rattle.sampler.specs.declared.track.Track.{Track}
 use Rattle.sampler.proofs.Histories.{due-more, append_nil}
 
 back : (h : List Event) (e : Event) → reverse (h ++ e ∷ []) ≡ e ∷ reverse h

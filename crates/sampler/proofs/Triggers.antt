@@ -1,28 +1,27 @@
 -- A sampler stands after a trigger.
-use Rattle.std.proofs.Common.{◌≡◌, ℕ, zero, suc, ◌+◌, ◌<◌, ◌≤◌, Bool, true, false, cond, not, ◌&&◌, ◌||◌, List, [], ◌∷◌, ◌++◌, length, get_or, take, drop, map, refl, sym, ap, ◌∙◌, arith, subst, append_assoc, length-append, nat_eq}
-use Rattle.std.specs.Prelude.{Option, Some, None, slice_get, if◌then◌else◌}
+use Rattle.std.proofs.Common.{◌≡◌, ℕ, zero, suc, ◌+◌, ◌≤◌, Bool, true, false, cond, not, ◌&&◌, ◌||◌, List, [], ◌∷◌, ◌++◌, length, take, drop, map, refl, sym, ap, ◌∙◌, arith, subst, append_assoc, nat_eq}
+use Rattle.std.specs.Prelude.{Option, Some, slice_get}
 use Rattle.std.proofs.Math.Seq.{take-append-add, take-append_seam}
 use Rattle.std.proofs.lemmas.List.{take_at}
-use Rattle.xcp_base.specs.declared.item.Item.{Item}
 use Rattle.channel_ring.specs.Room.{units}
 use Rattle.channel_ring.specs.declared.ends.SendEnd.{Ghosts as SendGhosts}
 use Rattle.channel_ring.specs.declared.ends.RingEnd.{Ghosts as EndGhosts}
 use Rattle.copy_plan.specs.Config.{ListPlan}
-use Rattle.sampler.specs.History.{Event, Trigger, Opening, due, due_at, is_trigger, has_list}
+use Rattle.sampler.specs.History.{Event, Trigger, Opening, due, due_at, has_list}
 use Rattle.sampler.specs.Decisions.{accepted_in}
 use Rattle.sampler.specs.Items.{items, items_at, sample, samples_from}
 use Rattle.sampler.specs.Tracks.{track_of}
 use Rattle.sampler.specs.State.{SamplerState, RiseFrom}
-use Rattle.sampler.specs.Turn.{Row, due_now, turned, item_of, row_items, row_count, rows_items, rows_count, IsTurn}
-use Rattle.sampler.specs.Standing.{StandsAfter, ExceedsCapacity, TakesTrigger}
+use Rattle.sampler.specs.Turn.{Row, due_now, turned, item_of, rows_items, rows_count, IsTurn}
+use Rattle.sampler.specs.Standing.{StandsAfter, TakesTrigger}
 use Rattle.sampler.specs.Sets.{are_in}
 use Rattle.sampler.proofs.TakenSets.{any-due_plans, any-here, accepted-due, dropped-due, decisions-are_in}
 use Rattle.std.specs.List.{list_any}
 use Rattle.sampler.specs.declared.track.Track.{Track}
 use Rattle.sampler.specs.declared.taken.Taken.{Taken}
-use Rattle.sampler.proofs.Histories.{append_nil, items-more, length-map_of}
+use Rattle.sampler.proofs.Histories.{append_nil, items-more, length-map_of, slice_get-behind}
 use Rattle.sampler.proofs.Drops.{NewDrops}
-use Rattle.sampler.proofs.Stands.{Follows, stands-more}
+use Rattle.sampler.proofs.Stands.{stands-more}
 use Rattle.sampler.proofs.Turns.{units-append}
 use Rattle.sampler.proofs.Rows.{due_plans, decisions, plans_of, RowsAre, due_at-rows, track-more, length-due_plans}
 use Rattle.sampler.proofs.RowItems.{samples-rows, sample-row, count-decisions, decisions-append}
@@ -59,12 +58,6 @@ are-at o h d (x ∷ done) rest r a = are-at o h d done rest r a.1
 
 Bool-equal : (a b : Bool) → ◌≡◌ {A = Option Bool} (Some a) (Some b) → a ≡ b
 Bool-equal a b e = cc
-
-slice_get-behind : (xs ys : List Bool) (k : ℕ) → slice_get (xs ++ ys) (length xs + k) ≡ slice_get ys k
-slice_get-behind [] ys k = ap (slice_get ys) (omega arith)
-slice_get-behind (x ∷ xs) ys k =
-    let e : suc (length xs) + k ≡ suc (length xs + k) = omega arith in
-    ap (slice_get (x ∷ (xs ++ ys))) e ∙ slice_get-behind xs ys k
 
 -- the k-th due plan is a row's
 record Located (rows : List Row) (k : ℕ) (plan : ListPlan) : Type 0 where

@@ -1,7 +1,8 @@
 -- The history of an event channel, and the DAQ lists that are due at its triggers.
-use Rattle.std.specs.Prelude.{◌≡◌, ℕ, ◌+◌, ◌%◌, ◌^◌, Bool, true, false, ◌&&◌, not, List, [], ◌∷◌, ◌++◌, length, map, reverse, nat_eq, filter, find, flat_map, count_by, take_while}
+use Rattle.std.specs.Prelude.{ℕ, ◌%◌, Bool, true, false, ◌&&◌, not, List, [], ◌∷◌, ◌++◌, length, map, reverse, nat_eq, filter, find, flat_map, count_by, take_while}
 use Rattle.std.specs.Prelude.{Option, None, Some}
 use Rattle.std.specs.Int.{bit_at}
+use Rattle.std.specs.List.{list_any}
 use Rattle.copy_plan.specs.Config.{ListPlan}
 
 -- what the sampler of a channel accepted: a trigger with its image and timestamp, a start or a stop of a DAQ list
@@ -19,6 +20,10 @@ pub record Opening : Type 0 where
 -- list l is in a set of lists
 abbrev pub has_list : ℕ → ℕ → Bool
 has_list set l = nat_eq (bit_at set l) 1
+
+-- list l is of the channel
+abbrev pub is_list_of : Opening → ℕ → Bool
+is_list_of opening l = list_any (λ (plan : ListPlan). nat_eq plan.list l) opening.plans
 
 abbrev pub is_trigger : Event → Bool
 is_trigger (Trigger image stamp) = true

@@ -1,10 +1,9 @@
 -- What the sampler of a channel sends: the items of its history and decisions.
-use Rattle.std.specs.Prelude.{◌≡◌, ℕ, Bool, true, false, List, [], ◌∷◌, ◌++◌, length, take, slice_index_or, flat_map, filter_map, if◌then◌else◌}
-use Rattle.std.specs.Prelude.{Option, None, Some}
+use Rattle.std.specs.Prelude.{ℕ, Bool, false, List, [], ◌∷◌, length, take, slice_index_or, flat_map, filter_map, if◌then◌else◌}
+use Rattle.std.specs.Prelude.{None, Some}
 use Rattle.std.specs.List.{enumerate_from}
 use Rattle.copy_plan.specs.Config.{ListPlan}
 use Rattle.copy_plan.specs.Packet.{packets}
-use Rattle.xcp_base.specs.Samples.{SampleParts, MarkParts}
 use Rattle.xcp_base.specs.declared.item.Item.{Item}
 use Rattle.xcp_base.specs.declared.item.Item.TheVariants.{Sample, Marker}
 use Rattle.sampler.specs.History.{Event, Trigger, Start, Stop, Opening, due, due_at, with_past}
@@ -16,7 +15,7 @@ sample opening h d j plan image stamp = Sample (record {
   channel = opening.channel;
   list = plan.list;
   number = accepted_in (take j d);
-  packets = packets plan image stamp (overload_bit opening h d j plan.list);
+  packets = packets plan image stamp (overload_bit opening h d j);
 })
 
 -- the samples of the pairs from number j on, of these plans, whose decision is true

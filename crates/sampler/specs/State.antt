@@ -44,9 +44,13 @@ pub record JoinedEnd : Type 0 where
   pub cost : Item → ℕ
   pub sent : List Item
 
--- what is left of a sampler, as it says what was sent
+-- what is left of a sampler, where an item has this cost and these items were sent
+abbrev pub joined_with : {E : Type 0} → (Item → ℕ) → List Item → SamplerEndState E → JoinedEnd
+joined_with cost sent s = record { channel = s.channel; plans = s.plans; counts = s.counts; capacity = s.capacity; cost = cost; sent = sent }
+
+-- what is left of a sampler, as its end says what was sent
 abbrev pub joined : {E : Type 0} → EndGhosts E → SamplerEndState E → JoinedEnd
-joined ring s = record { channel = s.channel; plans = s.plans; counts = s.counts; capacity = s.capacity; cost = ring.cost; sent = ring.all_sent s.end }
+joined ring s = joined_with ring.cost (ring.all_sent s.end) s
 
 -- the place of list l among the plans
 abbrev pub place_of : ℕ → List ListPlan → Option ℕ

@@ -1,7 +1,8 @@
 -- What a sampler keeps of one DAQ list, as its history and decisions say it.
-use Rattle.std.specs.Prelude.{◌≡◌, ℕ, ◌%◌, Bool, false, not, ◌&&◌, List, length, nat_eq, if◌then◌else◌, count_by}
+use Rattle.std.specs.Prelude.{ℕ, ◌%◌, Bool, false, not, List, length, if◌then◌else◌, count_by}
+use Rattle.std.specs.Prelude.{Option, Some, None}
 use Rattle.copy_plan.specs.Config.{ListPlan}
-use Rattle.sampler.specs.History.{Event, Opening, has_list, runs_after, triggers_since_start, due}
+use Rattle.sampler.specs.History.{Event, Opening, has_list, is_list_of, runs_after, triggers_since_start}
 use Rattle.sampler.specs.Decisions.{Decided, decided, pairs_of, overload_pending}
 use Rattle.sampler.specs.declared.track.Track.{Track}
 use Rattle.sampler.specs.declared.counts.ListCounts.{ListCounts}
@@ -13,6 +14,10 @@ counts_of pairs = record {
   accepted = count_by (λ (pair : Decided). pair.1) pairs;
   dropped = count_by (λ (pair : Decided). not pair.1) pairs;
 }
+
+-- the counts of list l, if it is of the channel
+abbrev pub counts_after : Opening → List Event → List Bool → ℕ → Option ListCounts
+counts_after opening h d l = if is_list_of opening l then Some (counts_of (pairs_of l (decided opening h d))) else None
 
 -- the triggers since the last start, modulo the prescaler; 0 where the list does not run
 unfoldable pub phase_of : Opening → List Event → ListPlan → ℕ

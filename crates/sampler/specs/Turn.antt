@@ -10,7 +10,6 @@ use Rattle.copy_plan.specs.Config.{ListPlan}
 use Rattle.copy_plan.specs.Packet.{packets}
 use Rattle.sampler.specs.History.{has_list}
 use Rattle.sampler.specs.declared.track.Track.{Track}
-use Rattle.sampler.specs.declared.counts.ListCounts.{ListCounts}
 use Rattle.sampler.specs.declared.taken.Taken.{Taken}
 
 -- a list at a trigger: its plan, what was kept of it before, and whether a sample of it was accepted

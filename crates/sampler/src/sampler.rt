@@ -1,12 +1,13 @@
-ghost use Rattle.std.specs.Prelude.{◌≡◌, ℕ, ◌<◌, ◌≤◌, ◌↔◌, ◌≢◌, List, Bool, true, [], ◌∷◌, ◌++◌, length, map, IfOk, OnOk, OnErr, IfSome, nat_eq, None};
+ghost use Rattle.std.specs.Prelude.{◌≡◌, ℕ, ◌<◌, ◌≤◌, ◌↔◌, ◌≢◌, ◌&&◌, List, Bool, true, [], ◌∷◌, ◌++◌, length, map, IfOk, OnOk, OnErr, IfSome, nat_eq, None};
 ghost use Rattle.std.specs.Option.{option_map};
 ghost use Rattle.std.specs.List.{list_any};
 ghost use Rattle.copy_plan.specs.Config.{ListPlan};
 ghost use Rattle.xcp_base.specs.declared.item.Item.{Item};
-ghost use Rattle.sampler.specs.History.{Event, Start, Stop, Opening, has_list};
+ghost use Rattle.sampler.specs.History.{Event, Start, Stop, Opening, has_list, is_list_of, runs_after};
 ghost use Rattle.sampler.specs.Sets.{IsSetOf};
 ghost use Rattle.sampler.specs.State.{joined, ArePlansOf, RiseFrom, track_at, runs_in, stopped_in};
 ghost use Rattle.sampler.specs.Standing.{StandsAfter, EndStandsAfter, TakesTrigger, ExceedsCapacity};
+ghost use Rattle.sampler.specs.Tracks.{counts_after};
 ghost use Rattle.sampler.specs.declared.track.Track.{Track};
 
 use crate::counts::ListCounts;
@@ -185,7 +186,10 @@ impl<S: SendEnd> Sampler<S> {
 
     /// How often a DAQ list was due, and what became of its samples; `None` where it isn't of the channel.
     pub fn counts(&self, l: u8) -> Option<ListCounts>
-        ensures { result ≡ option_map (λ (track : Track). track.counts) (track_at self.now l) }
+        ensures kept { result ≡ option_map (λ (track : Track). track.counts) (track_at self.now l) }
+        ensures after { (opening : Opening) (h : List Event) (d : List Bool) →
+            StandsAfter S.SendEnd S.End.RingEnd self.now opening h d →
+            result ≡ counts_after opening h d l }
     {
         let place = place_of(self.plans.as_slice(), l)?;
         Some(self.tracks[place].counts)
@@ -207,7 +211,10 @@ impl<S: SendEnd> Sampler<S> {
 
     /// The set of the DAQ lists that run.
     pub fn running(&self) -> u16
-        ensures { (l : ℕ) → has_list result l ≡ runs_in self.now l }
+        ensures kept { (l : ℕ) → has_list result l ≡ runs_in self.now l }
+        ensures after { (opening : Opening) (h : List Event) (d : List Bool) →
+            StandsAfter S.SendEnd S.End.RingEnd self.now opening h d →
+            (l : ℕ) → has_list result l ≡ (is_list_of opening l && runs_after opening h l) }
     {
         running_of(self.plans.as_slice(), &self.tracks)
     }

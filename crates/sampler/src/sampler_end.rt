@@ -1,6 +1,10 @@
-ghost use Rattle.std.specs.Prelude.{◌≡◌, ◌<◌};
+ghost use Rattle.std.specs.Prelude.{◌≡◌, ℕ, ◌<◌, List, Bool};
+ghost use Rattle.xcp_base.specs.declared.item.Item.{Item};
+ghost use Rattle.sampler.specs.History.{Event, Opening};
 ghost use Rattle.sampler.specs.Sets.{IsSetOf};
-ghost use Rattle.sampler.specs.State.{counts_at};
+ghost use Rattle.sampler.specs.Standing.{EndStandsAfter};
+ghost use Rattle.sampler.specs.State.{joined_with, counts_at};
+ghost use Rattle.sampler.specs.Tracks.{counts_after};
 
 use crate::counts::ListCounts;
 use crate::openings::{place_of, set_of};
@@ -49,7 +53,10 @@ impl<E> SamplerEnd<E> {
 
     /// How often a DAQ list was due, and what became of its samples; `None` where it isn't of the channel.
     pub fn counts(&self, l: u8) -> Option<ListCounts>
-        ensures { result ≡ counts_at self.now l }
+        ensures kept { result ≡ counts_at self.now l }
+        ensures after { (cost : Item → ℕ) (sent : List Item) (opening : Opening) (h : List Event) (d : List Bool) →
+            EndStandsAfter (joined_with cost sent self.now) opening h d →
+            result ≡ counts_after opening h d l }
     {
         let place = place_of(self.plans.as_slice(), l)?;
         Some(self.tracks[place].counts)

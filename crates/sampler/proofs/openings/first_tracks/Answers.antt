@@ -1,4 +1,4 @@
-use Rattle.std.proofs.Common.{◌≡◌, ◌+◌, ℕ, List, ◌∷◌, [], ◌++◌, map, take, length, set, arith, ap, sym, ◌∙◌, suc}
+use Rattle.std.proofs.Common.{◌≡◌, ◌+◌, ℕ, ◌∷◌, [], ◌++◌, map, take, set, arith, ap, sym, ◌∙◌, suc}
 use Rattle.std.proofs.Math.Seq.{take-suc}
 use Rattle.std.proofs.Math.ListN.{length-set}
 use Rattle.copy_plan.specs.Config.{ListPlan}

@@ -1,4 +1,4 @@
-use Rattle.std.proofs.Common.{◌≡◌, length, ◌++◌, map, take, drop}
+use Rattle.std.proofs.Common.{◌≡◌, length, map, take}
 use Rattle.copy_plan.specs.Config.{ListPlan}
 use Rattle.sampler.specs.Tracks.{first_track}
 use Rattle.sampler.proofs.openings.first_tracks.Given as goal

@@ -1,4 +1,4 @@
-use Rattle.std.proofs.Common.{◌≡◌, ◌+◌, ◌≤◌, ◌<◌, ℕ, Bool, ◌||◌, ◌&&◌, List, take, length, get_or, nat_eq, arith, ap, sym, ◌∙◌, suc, length-take}
+use Rattle.std.proofs.Common.{◌≡◌, ◌+◌, ℕ, ◌||◌, ◌&&◌, take, length, get_or, nat_eq, arith, ap, sym, ◌∙◌, suc, length-take}
 use Rattle.copy_plan.specs.Config.{ListPlan}
 use Rattle.sampler.proofs.FirstTracks.{runs_among, runs_among-suc, runs_at-among, take-all}
 use Rattle.sampler.proofs.Places.{no_track}

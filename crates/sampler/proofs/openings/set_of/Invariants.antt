@@ -1,6 +1,4 @@
-use Rattle.std.proofs.Common.{◌≡◌, ℕ, take, nat_eq}
-use Rattle.std.specs.List.{list_any}
-use Rattle.copy_plan.specs.Config.{ListPlan}
+use Rattle.std.proofs.Common.{take}
 use Rattle.sampler.specs.Sets.{IsSetOf}
 use Rattle.sampler.proofs.openings.set_of.Given as goal
 

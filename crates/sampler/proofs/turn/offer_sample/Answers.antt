@@ -1,4 +1,4 @@
-use Rattle.std.proofs.Common.{◌≡◌, ◌<◌, ℕ, length, arith, ap}
+use Rattle.std.proofs.Common.{length, arith, ap}
 use Rattle.std.proofs.lemmas.List.FromFn.{length-map-range_with_len}
 use Rattle.copy_plan.specs.Packet.{packet, packets}
 use Rattle.sampler.proofs.turn.offer_sample.Goals as goal

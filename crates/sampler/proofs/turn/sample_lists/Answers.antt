@@ -1,11 +1,10 @@
-use Rattle.std.proofs.Common.{◌≡◌, ◌<◌, ◌≤◌, ◌+◌, ℕ, Bool, true, false, List, [], ◌∷◌, ◌++◌, length, get_or, set, take, arith, ap, sym, ◌∙◌, refl, subst, length-take, ◌^◌, suc}
+use Rattle.std.proofs.Common.{◌≡◌, ◌+◌, ℕ, List, [], ◌∷◌, ◌++◌, length, get_or, set, take, arith, ap, sym, ◌∙◌, refl, subst, length-take, ◌^◌, suc}
 use Rattle.std.proofs.Math.Seq.{take-suc}
 use Rattle.copy_plan.specs.Config.{ListPlan}
-use Rattle.sampler.specs.Turn.{Row, IsTurn, turned, row_items, row_count}
+use Rattle.sampler.specs.Turn.{Row, IsTurn, turned, row_count}
 use Rattle.sampler.specs.declared.track.Track.{Track}
 use Rattle.sampler.proofs.Turns.{IsTurn-none, IsTurn-more, track-at, fit-at, plan-at, row_count-yes, row_count-no, row_count-le}
 use Rattle.sampler.proofs.Places.{no_track}
-use Rattle.sampler.proofs.turn.sample_lists.Given.{Over}
 use Rattle.sampler.proofs.turn.sample_lists.Goals as goal
 use Rattle.sampler.proofs.turn.sample_lists.Goals.{then-accepted, else-accepted}
 

@@ -1,7 +1,6 @@
-use Rattle.std.proofs.Common.{◌≡◌, ◌≤◌, ◌<◌, ℕ, List, length, take, map, refl, sym, ap, ◌∙◌, subst, arith}
+use Rattle.std.proofs.Common.{◌≡◌, List, length, take, map, ap, subst, arith}
 use Rattle.copy_plan.specs.Config.{ListPlan}
 use Rattle.sampler.specs.Tracks.{first_track}
-use Rattle.sampler.specs.declared.track.Track.{Track}
 use Rattle.sampler.proofs.FirstTracks.{rise-length, first-sampler, first-stands}
 use Rattle.sampler.proofs.sampler.Sampler.new.Given.{Over}
 use Rattle.sampler.proofs.sampler.Sampler.new.Goals as goal

@@ -1,6 +1,5 @@
-use Rattle.std.proofs.Common.{◌≡◌, ◌≤◌, ℕ, List, ◌∷◌, [], ◌++◌, get_or, length, refl, sym, ap, ◌∙◌, subst, arith, Bool, true, false, not}
-use Rattle.std.specs.Prelude.{Some, None}
-use Rattle.std.proofs.Math.ListN.{length-set}
+use Rattle.std.proofs.Common.{◌≡◌, ◌∷◌, [], ◌++◌, get_or, refl, sym, ap, ◌∙◌, subst, arith, true, false, not}
+use Rattle.std.specs.Prelude.{Some}
 use Rattle.xcp_base.specs.declared.item.Item.TheVariants.{Marker}
 use Rattle.sampler.specs.State.{SamplerState, place_of, track_at, is_stopped}
 use Rattle.sampler.specs.Standing.{StandsAfter}

@@ -1,8 +1,8 @@
-use Rattle.std.proofs.Common.{◌≡◌, ◌<◌, ◌≤◌, ◌+◌, ◌^◌, ℕ, List, [], ◌∷◌, ◌++◌, length, take, refl, sym, ap, ◌∙◌, subst, arith}
+use Rattle.std.proofs.Common.{◌+◌, ◌^◌, List, length, take, refl, sym, ap, subst, arith}
 use Rattle.copy_plan.specs.Config.{ListPlan}
-use Rattle.sampler.specs.State.{SamplerState, TracksFit}
+use Rattle.sampler.specs.State.{SamplerState}
 use Rattle.sampler.specs.Standing.{StandsAfter, TakesTrigger}
-use Rattle.sampler.specs.Turn.{Row, IsTurn}
+use Rattle.sampler.specs.Turn.{IsTurn}
 use Rattle.sampler.proofs.Turns.{TracksFit-mono, IsSampler-turn}
 use Rattle.sampler.proofs.Triggers.{takes-trigger}
 use Rattle.sampler.proofs.sampler.Sampler.trigger.Given.{Over}
