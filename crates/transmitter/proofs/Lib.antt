@@ -3,3 +3,4 @@ pub mod PlaceLemmas
 pub mod PacketLemmas
 pub mod WrittenLemmas
 pub mod PumpLemmas
+pub mod RingLemmas

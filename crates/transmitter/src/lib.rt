@@ -1,6 +1,7 @@
 //! The transmitter: it takes samples from the rings of all event channels in turn, and writes them as frames.
 #![tactic(auto)]
 
+mod drain;
 mod faults;
 mod pumped;
 mod transmitter;

@@ -27,7 +27,7 @@ pub struct Transmitter<O, T> {
 }
 
 impl<O: Out, T: TakeEnd> Transmitter<O, T> {
-    ghost use Rattle.std.specs.Prelude.{◌≡◌, ℕ, ◌<◌, ◌≤◌, All, List, [], false, map, slice_index, vec_len};
+    ghost use Rattle.std.specs.Prelude.{◌≡◌, ℕ, ◌<◌, ◌≤◌, All, List, [], false, length, map, slice_index, vec_len};
     ghost use Rattle.std.specs.Option.{option_copied};
     ghost use Rattle.xcp_base.specs.declared.item.Item.{Item};
     ghost use Rattle.frame_writer.specs.Writing.{WriterState, state_of};
@@ -91,6 +91,14 @@ impl<O: Out, T: TakeEnd> Transmitter<O, T> {
             }
         }
         Ok(pumped)
+    }
+
+    /// The number of rings, and so of event channels.
+    pub fn rings(&self) -> usize
+        ensures value { result ≡ length (transmission O.Out T.TakeEnd self.now).rings }
+        ensures limit { result ≤ 8 }
+    {
+        self.ends.len()
     }
 
     /// How many samples of a DAQ list were written whole; 0 for a list that never came.

@@ -1,0 +1,72 @@
+//! Looks at what is left in the rings once all send ends were finished, and empties them.
+ghost use Rattle.std.specs.Prelude.{◌≡◌, ◌≢◌, ℕ, ◌<◌, ◌↔◌, ◌++◌, [], true, false, length, map, IsTrue, vec_len};
+ghost use Rattle.sampler.specs.State.{joined};
+ghost use Rattle.transmitter.specs.Merge.{of_ring};
+
+use crate::transmitter::Transmitter;
+use channel_ring::TakeEnd;
+use frame_writer::Out;
+use sampler::SamplerEnd;
+
+/// Looks at all that was sent to ring `c`, and tells whether an item is left.
+fn look_at<T: TakeEnd>(takes: &mut Vec<T>, ends: &mut [SamplerEnd<T::End>], c: usize) -> bool
+    requires rings { map T.ring takes.old.items ≡ map (λ e. T.End.ring e.end) ends.old }
+    requires ring { c < length ends.old }
+    ensures rings { map T.ring takes.new.items ≡ map T.ring takes.old.items }
+    ensures received { map T.received takes.new.items ≡ map T.received takes.old.items }
+    ensures others { (e : ℕ) → e ≢ c → of_ring (map T.known takes.new.items) e ≡ of_ring (map T.known takes.old.items) e }
+    ensures end_rings { map (λ e. T.End.ring e.end) ends.new ≡ map (λ e. T.End.ring e.end) ends.old }
+    ensures ends { map (joined T.End.RingEnd) ends.new ≡ map (joined T.End.RingEnd) ends.old }
+    ensures sent { map (λ e. T.End.all_sent e.end) ends.new ≡ map (λ e. T.End.all_sent e.end) ends.old }
+    ensures left { of_ring (map T.received takes.new.items) c ++ of_ring (map T.known takes.new.items) c ≡ of_ring (map (λ e. T.End.all_sent e.end) ends.new) c }
+    ensures some { IsTrue result ↔ (0 < length (of_ring (map T.known takes.new.items) c)) }
+{
+    let end = &mut ends[c];
+    let take = &mut takes[c];
+    end.after(take) > 0
+}
+
+/// Looks at all that was sent, and tells whether an item is left.
+fn look<T: TakeEnd>(takes: &mut Vec<T>, ends: &mut [SamplerEnd<T::End>]) -> bool
+    requires { map T.ring takes.old.items ≡ map (λ e. T.End.ring e.end) ends.old }
+    ensures rings { map T.ring takes.new.items ≡ map T.ring takes.old.items }
+    ensures received { map T.received takes.new.items ≡ map T.received takes.old.items }
+    ensures end_rings { map (λ e. T.End.ring e.end) ends.new ≡ map (λ e. T.End.ring e.end) ends.old }
+    ensures ends { map (joined T.End.RingEnd) ends.new ≡ map (joined T.End.RingEnd) ends.old }
+    ensures sent { map (λ e. T.End.all_sent e.end) ends.new ≡ map (λ e. T.End.all_sent e.end) ends.old }
+    ensures left { (c : ℕ) → of_ring (map T.received takes.new.items) c ++ of_ring (map T.known takes.new.items) c ≡ of_ring (map (λ e. T.End.all_sent e.end) ends.old) c }
+    ensures some { result ≡ true → (c : ℕ) × (0 < length (of_ring (map T.known takes.new.items) c)) }
+    ensures none { result ≡ false → (c : ℕ) → of_ring (map T.known takes.new.items) c ≡ [] }
+{
+    let mut some = false;
+    for c in 0..ends.len() {
+        let here = look_at(takes, ends, c);
+        some = some || here;
+    }
+    some
+}
+
+impl<O: Out, T: TakeEnd> Transmitter<O, T> {
+    ghost use Rattle.std.specs.Prelude.{◌≡◌, ℕ, ◌<◌, ◌++◌, List, [], true, false, length, map};
+    ghost use Rattle.sampler.specs.State.{joined};
+    ghost use Rattle.transmitter.specs.Merge.{of_ring};
+    ghost use Rattle.transmitter.specs.Written.{transmission, writer_of};
+
+    /// Looks at all that was sent through the finished ends of its rings, and tells whether an item is left.
+    ///
+    /// `ends` are those of the rings of event channels 0, 1, .. From then on each item left is known.
+    pub fn after(&mut self, ends: &mut [SamplerEnd<T::End>]) -> bool
+        requires one_rings { (transmission O.Out T.TakeEnd self.old).rings ≡ map (λ e. T.End.ring e.end) ends.old }
+        ensures left { (c : ℕ) → of_ring (transmission O.Out T.TakeEnd self.new).received c ++ of_ring (transmission O.Out T.TakeEnd self.new).known c ≡ of_ring (map (λ e. T.End.all_sent e.end) ends.old) c }
+        ensures some { result ≡ true → (c : ℕ) × (0 < length (of_ring (transmission O.Out T.TakeEnd self.new).known c)) }
+        ensures none { result ≡ false → (c : ℕ) → of_ring (transmission O.Out T.TakeEnd self.new).known c ≡ [] }
+
+        ensures same { transmission O.Out T.TakeEnd self.new ≡ record (transmission O.Out T.TakeEnd self.old) { known = (transmission O.Out T.TakeEnd self.new).known } }
+        ensures writer { writer_of self.new ≡ writer_of self.old }
+        ensures ends { map (joined T.End.RingEnd) ends.new ≡ map (joined T.End.RingEnd) ends.old }
+        ensures end_rings { map (λ e. T.End.ring e.end) ends.new ≡ map (λ e. T.End.ring e.end) ends.old }
+        ensures sent { map (λ e. T.End.all_sent e.end) ends.new ≡ map (λ e. T.End.all_sent e.end) ends.old }
+    {
+        look(&mut self.ends, ends)
+    }
+}
