@@ -69,8 +69,8 @@ taken_before : (c e : ℕ) (qs : List (ℕ × Item)) (x : Item) → 0 < length (
 taken_before c e qs x h = omega (arith, ap length (taken_from-append e qs ((c, x) ∷ [])) ∙ length-append (taken_from e qs) (taken_from e ((c, x) ∷ [])))
 
 -- the empty set has no list
-has_list-zero : (l : ℕ) → has_list 0 l ≡ false
-has_list-zero l = ap (λ n. nat_eq n 1) (bit_at-zero l)
+pub empty_has_none : (l : ℕ) → has_list 0 l ≡ false
+empty_has_none l = ap (λ n. nat_eq n 1) (bit_at-zero l)
 
 -- where a ring's list has an item, there is such a ring
 some_within : (lists : List (List Item)) (e : ℕ) → 0 < length (of_ring lists e) → e < length lists
@@ -90,7 +90,7 @@ first_turn a p hand taken frames stopped = record {
   few = omega (arith, taken);
   few_frames = omega (arith, frames);
   frames = frames;
-  stops = λ l. rw stopped (has_list-zero l);
+  stops = λ l. rw stopped (empty_has_none l);
   known = λ e h. absurd (omega arith);
 }
 
