@@ -1,5 +1,3 @@
-ghost use Rattle.std.specs.Prelude.{◌≡◌};
-
 use crate::lists::{IMAGE_LEN, List, plan_of};
 use crate::measure::{MEASUREMENTS, tenths};
 use anyhow::{Result, bail};
