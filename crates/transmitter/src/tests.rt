@@ -105,6 +105,7 @@ fn start(sampler: &mut Sampler<SendHalf>, l: u8) -> Result<(), Fail>
 }
 
 /// Two event channels, and the transmitter of their rings.
+#[derive(Drop)]
 struct Rig {
     first: Sampler<SendHalf>,
     second: Sampler<SendHalf>,
@@ -161,4 +162,206 @@ fn rig_of(
         second: sampler_of(1, second, second_send, image_len)?,
         transmitter: Transmitter::new(writer, takes),
     })
+}
+
+impl Rig {
+    /// What a list of channel 0 counts, and how many of its samples were written whole.
+    fn account(&self, l: u8) -> Option<(ListCounts, u64)> {
+        Some((self.first.counts(l)?, self.transmitter.written(l)))
+    }
+
+    /// The bytes that were written.
+    fn bytes(self) -> VecOut<Global> {
+        self.transmitter.into_writer().into_out()
+    }
+}
+
+/// A rig of list 0 alone, whose ODTs have one entry each.
+fn one_list(rt: &HostRuntime, entries: &[(u32, u8)], cap: usize) -> Result<Rig, Fail> {
+    let mut odts = Vec::new(rt.alloc());
+    for entry in entries {
+        odts.push(*entry)?;
+    }
+    let store = store_of(rt, 2, &[(0, odts)])?;
+    rig_of(rt, &store, 2, 0, cap)
+}
+
+/// A list with one entry.
+fn one_entry(rt: &HostRuntime, address: u32, size: u8) -> Result<Vec<(u32, u8)>, Fail> {
+    let mut entries = Vec::new(rt.alloc());
+    entries.push((address, size))?;
+    Ok(entries)
+}
+
+/// A rig of lists 0 and 1 on one channel, which have one byte of the image each.
+fn two_lists(rt: &HostRuntime, cap: usize) -> Result<Rig, Fail> {
+    let store = store_of(
+        rt,
+        2,
+        &[(0, one_entry(rt, 0, 1)?), (0, one_entry(rt, 1, 1)?)],
+    )?;
+    rig_of(rt, &store, 2, 0, cap)
+}
+
+/// What is dropped and accepted of some lists.
+fn sets(due: u16, accepted: u16, dropped: u16) -> Result<Taken, TriggerFault> {
+    Ok(Taken {
+        due,
+        accepted,
+        dropped,
+    })
+}
+
+fn counted(due: u64, accepted: u64, dropped: u64, written: u64) -> Option<(ListCounts, u64)> {
+    let counts = ListCounts {
+        due,
+        accepted,
+        dropped,
+    };
+    Some((counts, written))
+}
+
+#[test]
+fn the_next_sample_after_drops_is_marked(rt: HostRuntime) -> Result<(), Fail> {
+    let mut rig = one_list(&rt, &[(0, 2)], 1)?;
+    assert_eq!(rt; rig.trigger(&[1, 1]), sets(1, 1, 0));
+    assert_eq!(rt; rig.trigger(&[2, 2]), sets(1, 0, 1));
+    assert_eq!(rt; rig.trigger(&[3, 3]), sets(1, 0, 1));
+    rig.pump()?;
+    assert_eq!(rt; rig.trigger(&[4, 4]), sets(1, 1, 0));
+    rig.pump()?;
+    assert_eq!(rt; rig.trigger(&[5, 5]), sets(1, 1, 0));
+    rig.pump()?;
+    assert_eq!(rt; rig.account(0), counted(5, 3, 2, 3));
+    let expected = [
+        3, 0, 0, 0, 0x00, 1, 1, 3, 0, 1, 0, 0x80, 4, 4, 3, 0, 2, 0, 0x00, 5, 5,
+    ];
+    assert_eq!(rt; rig.bytes().bytes(), expected.as_slice());
+    Ok(())
+}
+
+#[test]
+fn each_list_has_its_own_overload_and_a_stop_keeps_it(rt: HostRuntime) -> Result<(), Fail> {
+    let mut rig = two_lists(&rt, 1)?;
+    assert_eq!(rt; rig.trigger(&[0xAA, 0xBB]), sets(3, 1, 2));
+    rig.pump()?;
+    assert_eq!(rt; rig.trigger(&[0x11, 0x22]), sets(3, 1, 2));
+    rig.pump()?;
+    assert_eq!(rt; rig.first.stop(0), Ok(()));
+    let pumped = rig.pump()?;
+    assert_eq!(rt;
+        pumped,
+        Pumped {
+            taken: 1,
+            frames: 0,
+            stopped: 1
+        }
+    );
+    assert_eq!(rt; rig.trigger(&[0xCC, 0xDD]), sets(2, 2, 0));
+    rig.pump()?;
+    assert_eq!(rt; rig.first.start(0), Ok(()));
+    assert_eq!(rt; rig.trigger(&[0xEE, 0xFF]), sets(3, 1, 2));
+    rig.pump()?;
+    assert_eq!(rt; rig.account(0), counted(3, 3, 0, 3));
+    assert_eq!(rt; rig.account(1), counted(4, 1, 3, 1));
+    let expected = [
+        2, 0, 0, 0, 0x00, 0xAA, 2, 0, 1, 0, 0x00, 0x11, 2, 0, 2, 0, 0x81, 0xDD, 2, 0, 3, 0, 0x00,
+        0xEE,
+    ];
+    assert_eq!(rt; rig.bytes().bytes(), expected.as_slice());
+    Ok(())
+}
+
+#[test]
+fn the_overload_stands_in_the_first_packet_alone(rt: HostRuntime) -> Result<(), Fail> {
+    let mut rig = one_list(&rt, &[(0, 1), (1, 1)], 1)?;
+    assert_eq!(rt; rig.trigger(&[0x11, 0x11]), sets(1, 1, 0));
+    assert_eq!(rt; rig.trigger(&[0x22, 0x22]), sets(1, 0, 1));
+    let pumped = rig.pump()?;
+    assert_eq!(rt;
+        pumped,
+        Pumped {
+            taken: 1,
+            frames: 2,
+            stopped: 0
+        }
+    );
+    assert_eq!(rt; rig.trigger(&[0x33, 0x44]), sets(1, 1, 0));
+    rig.pump()?;
+    let expected = [
+        2, 0, 0, 0, 0x00, 0x11, 2, 0, 1, 0, 0x01, 0x11, 2, 0, 2, 0, 0x80, 0x33, 2, 0, 3, 0, 0x01,
+        0x44,
+    ];
+    assert_eq!(rt; rig.bytes().bytes(), expected.as_slice());
+    Ok(())
+}
+
+#[test]
+fn a_stop_and_a_start_keep_the_overload(rt: HostRuntime) -> Result<(), Fail> {
+    let mut rig = one_list(&rt, &[(0, 2)], 1)?;
+    assert_eq!(rt; rig.trigger(&[1, 1]), sets(1, 1, 0));
+    assert_eq!(rt; rig.trigger(&[2, 2]), sets(1, 0, 1));
+    rig.pump()?;
+    assert_eq!(rt; rig.first.stop(0), Ok(()));
+    rig.pump()?;
+    assert_eq!(rt; rig.first.start(0), Ok(()));
+    assert_eq!(rt; rig.trigger(&[3, 3]), sets(1, 1, 0));
+    rig.pump()?;
+    assert_eq!(rt; rig.account(0), counted(3, 2, 1, 2));
+    let expected = [3, 0, 0, 0, 0x00, 1, 1, 3, 0, 1, 0, 0x80, 3, 3];
+    assert_eq!(rt; rig.bytes().bytes(), expected.as_slice());
+    Ok(())
+}
+
+#[test]
+fn a_stop_without_room_leaves_the_list_running(rt: HostRuntime) -> Result<(), Fail> {
+    let mut rig = one_list(&rt, &[(0, 2)], 1)?;
+    assert_eq!(rt; rig.trigger(&[1, 1]), sets(1, 1, 0));
+    assert_eq!(rt; rig.first.stop(0), Err(StopFault::NoRoom));
+    assert_eq!(rt; rig.first.running(), 1);
+    rig.pump()?;
+    assert_eq!(rt; rig.first.stop(0), Ok(()));
+    assert_eq!(rt; rig.trigger(&[2, 2]), sets(0, 0, 0));
+    rig.pump()?;
+    assert_eq!(rt; rig.account(0), counted(1, 1, 0, 1));
+    let expected = [3, 0, 0, 0, 0x00, 1, 1];
+    assert_eq!(rt; rig.bytes().bytes(), expected.as_slice());
+    Ok(())
+}
+
+#[test]
+fn a_pump_takes_one_item_of_each_ring_in_rising_channel(rt: HostRuntime) -> Result<(), Fail> {
+    let store = store_of(
+        &rt,
+        1,
+        &[(0, one_entry(&rt, 0, 1)?), (1, one_entry(&rt, 0, 1)?)],
+    )?;
+    let mut rig = rig_of(&rt, &store, 1, 1, 4)?;
+    assert_eq!(rt; rig.second.trigger(&[0xB1], 0), sets(2, 2, 0));
+    assert_eq!(rt; rig.trigger(&[0xA1]), sets(1, 1, 0));
+    assert_eq!(rt; rig.trigger(&[0xA2]), sets(1, 1, 0));
+    let first = rig.pump()?;
+    assert_eq!(rt;
+        first,
+        Pumped {
+            taken: 2,
+            frames: 2,
+            stopped: 0
+        }
+    );
+    let second = rig.pump()?;
+    assert_eq!(rt;
+        second,
+        Pumped {
+            taken: 1,
+            frames: 1,
+            stopped: 0
+        }
+    );
+    assert!(rt; rig.transmitter.hand().is_none());
+    let expected = [
+        2, 0, 0, 0, 0x00, 0xA1, 2, 0, 1, 0, 0x01, 0xB1, 2, 0, 2, 0, 0x00, 0xA2,
+    ];
+    assert_eq!(rt; rig.bytes().bytes(), expected.as_slice());
+    Ok(())
 }
