@@ -14,8 +14,8 @@ use Rattle.transmitter.specs.Written.{HasTaken, TransmitterState}
 use Rattle.transmitter.specs.declared.faults.PumpFault.{PumpFault}
 use Rattle.transmitter.specs.declared.faults.PumpFault.TheVariants.{Closed, Failed, Spent}
 use Rattle.transmitter.specs.declared.pumped.Pumped.{Pumped}
-use Rattle.transmitter.proofs.RoundLemmas.{IsFront, after_rounds, after_rounds-suc, front_begins, none_below, rounds-suc, some_first}
-use Rattle.transmitter.proofs.TakenLemmas.{taken_from-append, takes-none}
+use Rattle.transmitter.proofs.RoundLemmas.{IsFront, after_rounds, after_rounds-suc, front_begins, rounds-suc}
+use Rattle.transmitter.proofs.TakenLemmas.{one_each, taken_from-append, takes-none}
 use Rattle.transmitter.proofs.WrittenLemmas.{leads-append, leads-none}
 
 -- a drain that has had so many rounds, and looked at all that was sent
@@ -37,6 +37,10 @@ pub record LookedAtAll (sent : List (List Item)) (p d : TransmitterState) : Type
 -- a look leaves the rings
 pub looked-rings : (p d : TransmitterState) → d ≡ record p { known = d.known } → d.rings ≡ p.rings
 looked-rings p d same = ap (λ (t : TransmitterState). t.rings) same
+
+-- and so does a pump before it
+pub pumped-rings : (b p d : TransmitterState) (qs : List (ℕ × Item)) → Leads b qs p → d ≡ record p { known = d.known } → d.rings ≡ b.rings
+pumped-rings b p d qs l same = looked-rings p d same ∙ l.rings
 
 -- what a transmitter stands after doesn't depend on what is known
 with_known : (start : WriterState) (p : TransmitterState) (known : List (List Item)) (ps : List (ℕ × Item)) → HasTaken start p ps → HasTaken start (record p { known = known }) ps
@@ -77,18 +81,6 @@ at_most c [] = omega arith
 at_most c ((e, x) ∷ qs) = elim (eqb_tells e c) [
   | inl w ↦ rw w.0 (omega (arith, at_most c qs))
   | inr w ↦ rw w.0 (omega (arith, at_most c qs))
-]
-
--- of each ring one item was taken at most
-one_each : (low c : ℕ) (qs : List (ℕ × Item)) → AreRising low qs → length (taken_from c qs) ≤ 1
-one_each low c [] r = omega arith
-one_each low c ((e, x) ∷ qs) r = elim (eqb_tells e c) [
-  | inl w ↦
-      let at : e ≡ c = w.1 in
-      let none = none_below (e + 1) c qs r.1 (omega (arith, at)) in
-      let one = subst (λ k. taken_from k ((e, x) ∷ qs) ≡ x ∷ taken_from k qs) w.1 (some_first e x qs) in
-      omega (arith, ap length one, ap length none)
-  | inr w ↦ rw w.0 (one_each (e + 1) c qs r.1)
 ]
 
 -- where one item was taken if there was one, the rest is known

@@ -1,29 +1,11 @@
 -- What is taken in rising order is the front of a round.
-use Rattle.std.proofs.Common.{◌≡◌, ◌≢◌, ℕ, zero, suc, ◌+◌, ◌-◌, ◌<◌, true, false, eqb, List, [], ◌∷◌, ◌++◌, length, refl, sym, ap, ◌∙◌, subst, arith, append_assoc, append-nil, inl, inr}
+use Rattle.std.proofs.Common.{◌≡◌, ◌≢◌, ℕ, zero, suc, ◌+◌, ◌-◌, ◌<◌, List, [], ◌∷◌, ◌++◌, length, refl, sym, ap, ◌∙◌, subst, arith, append_assoc, append-nil, inl, inr}
 use mathlib.Core.List.{IsPrefix}
-use Rattle.std.proofs.lemmas.Bool.Decides.{eqb_tells, nat_tests}
+use Rattle.std.proofs.lemmas.Bool.Decides.{eqb_tells}
 use Rattle.xcp_base.specs.declared.item.Item.{Item}
 use Rattle.transmitter.specs.Merge.{AreRising, of_ring, taken_from}
 use Rattle.transmitter.specs.Rounds.{round, rounds, without_first}
-
--- of a ring below the first nothing was taken
-pub none_below : (low e : ℕ) (qs : List (ℕ × Item)) → AreRising low qs → e < low → taken_from e qs ≡ []
-none_below low e [] r h = refl
-none_below low e (p ∷ qs) r h =
-    let other : eqb p.0 e ≡ false = grind (arith, nat_tests, r.0, h) in
-    rw other (none_below (p.0 + 1) e qs r.1 (omega (arith, r.0, h)))
-
--- the item that was taken first is of its ring
-pub some_first : (c : ℕ) (x : Item) (qs : List (ℕ × Item)) → taken_from c ((c, x) ∷ qs) ≡ x ∷ taken_from c qs
-some_first c x qs =
-    let same : eqb c c ≡ true = grind (arith, nat_tests) in
-    rw same refl
-
--- and of no other
-pub none_first : (c e : ℕ) (x : Item) (qs : List (ℕ × Item)) → c < e → taken_from e ((c, x) ∷ qs) ≡ taken_from e qs
-none_first c e x qs h =
-    let other : eqb c e ≡ false = grind (arith, nat_tests, h) in
-    rw other refl
+use Rattle.transmitter.proofs.TakenLemmas.{none_below, none_first, some_first}
 
 -- where nothing is of the lowest ring, all are above it
 above_lowest : (low : ℕ) (qs : List (ℕ × Item)) → AreRising low qs → taken_from low qs ≡ [] → AreRising (low + 1) qs
@@ -122,7 +104,7 @@ front_begins low ((x ∷ xs) ∷ known) ((c, y) ∷ qs) f = elim (eqb_tells c lo
       let g = subst (λ e. IsFront low ((x ∷ xs) ∷ known) ((e, y) ∷ qs)) w.1 f in
       let r = front_begins (low + 1) known qs (front_of_some low x xs known y qs g) in
       let at : c ≡ low = w.1 in
-      let pair : (c, y) ≡ (low, x) = ap (λ e. (e, y)) w.1 ∙ ap (λ z. (low, z)) (first_taken low x xs known y qs g) in
+      let pair : ◌≡◌ {A = ℕ × Item} (c, y) (low, x) = ap (λ e. (e, y)) w.1 ∙ ap (λ z. (low, z)) (first_taken low x xs known y qs g) in
       (r.0, ap (λ p. p ∷ (qs ++ r.0)) pair ∙ ap (λ ps. (low, x) ∷ ps) r.1, λ all. r.2 (λ j k. subst (λ ys. 0 < length ys) (ap (λ e. taken_from e ((c, y) ∷ qs)) (sym (next low j)) ∙ none_first c (low + 1 + j) y qs (omega (arith, at))) (all (suc j) k)))
   | inr w ↦ absurd (not_above low x xs known c y qs f w.1)
 ]

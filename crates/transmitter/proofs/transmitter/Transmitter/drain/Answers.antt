@@ -7,7 +7,7 @@ use Rattle.transmitter.specs.Merge.{of_ring}
 use Rattle.transmitter.specs.Pumps.{PumpAnswers, Pumps}
 use Rattle.transmitter.specs.Rounds.{Drains}
 use Rattle.transmitter.specs.Written.{transmission}
-use Rattle.transmitter.proofs.DrainLemmas.{first_look, looked-rings, one_round, stopped_by}
+use Rattle.transmitter.proofs.DrainLemmas.{first_look, looked-rings, one_round, pumped-rings, stopped_by}
 use Rattle.transmitter.proofs.RingLemmas.{same_count}
 use Rattle.transmitter.proofs.transmitter.Transmitter.drain.Goals as goal
 
@@ -46,7 +46,7 @@ loop-left-preserved g c =
     let b = transmission g.O.Out t c.loop-left.self in
     let m = transmission g.O.Out t c.pump-answer.new.self in
     let d = transmission g.O.Out t c.after-left-in-loop-left.new.self in
-    let rings : d.rings ≡ b.rings = looked-rings m d e.same ∙ p.leads.rings in
+    let rings : d.rings ≡ b.rings = pumped-rings b m d p.taken p.leads e.same in
     let pumps : Pumps b m p.taken c.in_ok-answer.field-0 = subst (PumpAnswers b m p.taken) c.in_ok-answer.was p.answers in
     let as_many : length d.known ≡ length b.known = same_count t.ring t.known c.after-left-in-loop-left.new.self.ends.items c.loop-left.self.ends.items rings in
     record {
