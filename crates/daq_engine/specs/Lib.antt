@@ -1,1 +1,3 @@
 pub mod Configuration
+pub mod Openings
+pub mod Opened

@@ -1,0 +1,3 @@
+pub mod ConfigurationLemmas
+pub mod PlanLists
+pub mod SamplerLists
