@@ -1,1 +1,9 @@
 pub mod Configuration
+pub mod Filters
+pub mod Frames
+pub mod Order
+pub mod Overload
+pub mod Stops
+pub mod Merges
+pub mod Account
+pub mod Headline

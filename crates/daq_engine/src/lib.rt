@@ -1,2 +1,8 @@
 //! The engine: it is opened over a store, and closed with an account of what was written.
 #![tactic(auto)]
+
+mod faults;
+mod report;
+
+pub use faults::CloseFault;
+pub use report::{ListReport, Report};
