@@ -1,0 +1,6 @@
+pub mod PidLemmas
+pub mod MergeLemmas
+pub mod OverloadLemmas
+pub mod StopLemmas
+pub mod EndLemmas
+pub mod FrameLemmas
