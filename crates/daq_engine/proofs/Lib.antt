@@ -4,3 +4,5 @@ pub mod OverloadLemmas
 pub mod StopLemmas
 pub mod EndLemmas
 pub mod FrameLemmas
+pub mod OrderLemmas
+pub mod HeadlineLemmas

@@ -7,3 +7,4 @@ pub mod Stops
 pub mod Merges
 pub mod Account
 pub mod Headline
+pub mod Settled
