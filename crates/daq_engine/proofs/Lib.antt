@@ -1,8 +1,10 @@
 pub mod PidLemmas
 pub mod MergeLemmas
+pub mod AcceptedLemmas
 pub mod OverloadLemmas
 pub mod StopLemmas
 pub mod EndLemmas
 pub mod FrameLemmas
 pub mod OrderLemmas
 pub mod HeadlineLemmas
+pub mod AccountLemmas

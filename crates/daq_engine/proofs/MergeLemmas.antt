@@ -24,11 +24,11 @@ abbrev pub Answers : (List ℕ → Bool) → Bool → Item → Type 0
 Answers test b (Sample s) = AllByRecursion (λ q. test q ≡ b) s.packets
 Answers test b (Marker m) = Unit {0}
 
-filter_front : (test : List ℕ → Bool) (xs ys : List (List ℕ)) → AllByRecursion (λ q. test q ≡ true) xs → filter test (xs ++ ys) ≡ xs ++ filter test ys
+pub filter_front : (test : List ℕ → Bool) (xs ys : List (List ℕ)) → AllByRecursion (λ q. test q ≡ true) xs → filter test (xs ++ ys) ≡ xs ++ filter test ys
 filter_front test [] ys h = refl
 filter_front test (x ∷ xs) ys h = rw h.0 (ap (λ t. x ∷ t) (filter_front test xs ys h.1))
 
-filter_none : (test : List ℕ → Bool) (xs ys : List (List ℕ)) → AllByRecursion (λ q. test q ≡ false) xs → filter test (xs ++ ys) ≡ filter test ys
+pub filter_none : (test : List ℕ → Bool) (xs ys : List (List ℕ)) → AllByRecursion (λ q. test q ≡ false) xs → filter test (xs ++ ys) ≡ filter test ys
 filter_none test [] ys h = refl
 filter_none test (x ∷ xs) ys h = rw h.0 (filter_none test xs ys h.1)
 
@@ -64,7 +64,7 @@ of_each_ring P [] h = tt
 of_each_ring P (p ∷ ps) h =
     (head_of (P p.0) (eqb p.0 p.0) p.1 (taken_from p.0 ps) (grind (arith, nat_tests)) (h p.0), of_each_ring P ps (λ c. tail_of (P c) (eqb p.0 c) p.1 (taken_from c ps) (h c)))
 
-within : (a b x : ℕ) → a ≤ x → x < b → (nat_le a x && nat_lt x b) ≡ true
+pub within : (a b x : ℕ) → a ≤ x → x < b → (nat_le a x && nat_lt x b) ≡ true
 within a b x low high = grind (arith, nat_tests)
 
 before : (a b x : ℕ) → x < a → (nat_le a x && nat_lt x b) ≡ false
@@ -89,7 +89,7 @@ none_of : {X : Type 0} (f : X → Bool) (xs : List X) → ((i : ℕ) (x : X) →
 none_of f [] h = refl
 none_of f (x ∷ xs) h = ap (λ b. b || list_any f xs) (h zero x refl) ∙ none_of f xs (λ i y at. h (suc i) y at)
 
-out_of : (p r : ListPlan) (q : List ℕ) → InRange p q → Apart p r → is_of_plan r q ≡ false
+pub out_of : (p r : ListPlan) (q : List ℕ) → InRange p q → Apart p r → is_of_plan r q ≡ false
 out_of p r q is (inl h) = before r.first_pid (r.first_pid + length r.odts) (pid_of q) (omega (arith, is.below, h))
 out_of p r q is (inr h) = behind r.first_pid (r.first_pid + length r.odts) (pid_of q) (omega (arith, is.least, h))
 

@@ -13,7 +13,8 @@ use Rattle.copy_plan.specs.Config.{ListPlan}
 use Rattle.copy_plan.specs.Packet.{packet, packets}
 use Rattle.copy_plan.specs.Config.{IsPlan}
 use Rattle.sampler.specs.History.{Event, Trigger, Start, Stop, Opening, due_at, due, is_due, with_past, pairs_at}
-use Rattle.sampler.specs.Decisions.{decided, overload_bit}
+use Rattle.sampler.specs.Decisions.{Decided, decided, overload_bit}
+use Rattle.daq_engine.proofs.AcceptedLemmas.{accepted_values, values_all}
 use Rattle.sampler.specs.Items.{items, items_at, sample, samples_from}
 use Rattle.sampler.proofs.Histories.{due-more, length-map_of}
 use Rattle.transmitter.proofs.TakenLemmas.{samples-append}
@@ -57,96 +58,22 @@ marks_others zero plan image stamp o room = refl
 marks_others (suc n) plan image stamp o room =
     none_marked (map (packet plan image stamp o) (range_with_len 1 n)) (all-map_range (λ q. is_marked q ≡ false) (packet plan image stamp o) 1 n (λ k low high. later_mark plan image stamp o k low (omega (arith, high))))
 
-drop_all : (d : List Bool) (j : ℕ) → length d ≤ j → drop j d ≡ []
-drop_all [] zero h = refl
-drop_all [] (suc j) h = refl
-drop_all (b ∷ d) zero h = absurd (omega arith)
-drop_all (b ∷ d) (suc j) h = drop_all d j (omega arith)
-
-past_end : (d : List Bool) (j : ℕ) → length d ≤ j → get_or d j false ≡ false
-past_end [] zero h = refl
-past_end [] (suc j) h = refl
-past_end (b ∷ d) zero h = absurd (omega arith)
-past_end (b ∷ d) (suc j) h = past_end d j (omega arith)
-
-zip_none : (xs : List (ℕ × ℕ)) → zip {X = Bool} xs [] ≡ []
-zip_none [] = refl
-zip_none (x ∷ xs) = refl
+-- the bits of some pairs are read off their numbers
+bits_are : (bit : ℕ → Bool) (j : ℕ) (pairs : List Decided) → accepted_values (λ k l. bit k) j pairs ≡ map bit (accepted_from j pairs)
+bits_are bit j [] = refl
+bits_are bit j ((pair, true) ∷ pairs) = ap (λ bs. bit j ∷ bs) (bits_are bit (j + 1) pairs)
+bits_are bit j ((pair, false) ∷ pairs) = bits_are bit (j + 1) pairs
 
 module _ (o : Opening) (h : List Event) (d : List Bool) where
   abbrev bit : ℕ → Bool
   bit j = overload_bit o h d j
 
-  -- the bits of the accepted pairs among these, from pair j on
-  abbrev bits : ℕ → List (ℕ × ℕ) → List Bool
-  bits j pairs = map bit (accepted_from j (zip pairs (drop j d)))
-
-  no_bits : (j : ℕ) (pairs : List (ℕ × ℕ)) → length d ≤ j → bits j pairs ≡ []
-  no_bits j pairs e = ap (λ ds. map bit (accepted_from j (zip pairs ds))) (drop_all d j e) ∙ ap (λ ps. map bit (accepted_from j ps)) (zip_none pairs)
-
-  counted : (past : List Event) (e : Event) → length (due o (past ++ e ∷ [])) ≡ length (due o past) + length (due_at o past e)
-  counted past e = ap length (due-more o past e) ∙ length-append (due o past) (pairs_at o (past, e)) ∙ ap (λ n. length (due o past) + n) (length-map_of {Y = ℕ × ℕ} (λ (plan : ListPlan). (length past, plan.list)) (due_at o past e))
-
   one_sample : (j stamp : ℕ) (image : List ℕ) (plan : ListPlan) → IsPlan plan → map starts_marked (samples (sample o h d j plan image stamp ∷ [])) ≡ bit j ∷ []
   unfolding sample packets
   one_sample j stamp image plan is = ap (λ b. b ∷ []) (marks_first (length plan.odts) plan image stamp (overload_bit o h d j) refl is.some (omega (arith, is.pids)))
 
-  joins : (j stamp : ℕ) (image : List ℕ) (plan : ListPlan) (more : List Item) (bs : List Bool) → map starts_marked (samples (sample o h d j plan image stamp ∷ [])) ++ (map starts_marked (samples more) ++ bs) ≡ map starts_marked (samples (sample o h d j plan image stamp ∷ more)) ++ bs
-  unfolding sample
-  joins j stamp image plan more bs = refl
-
-  bits_plans : (place j : ℕ) (plans : List ListPlan) (rest : List (ℕ × ℕ)) (image : List ℕ) (stamp : ℕ) → AllByRecursion IsPlan plans →
-      bits j (map (λ (plan : ListPlan). (place, plan.list)) plans ++ rest) ≡ map starts_marked (samples (samples_from o h d j plans image stamp)) ++ bits (j + length plans) rest
-  unfolding samples_from
-  bits_plans place j [] rest image stamp all = ap (λ k. bits k rest) (omega arith)
-  bits_plans place j (plan ∷ plans) rest image stamp all =
-      let pairs = map (λ (p : ListPlan). (place, p.list)) plans ++ rest in
-      let more = samples_from o h d (j + 1) plans image stamp in
-      let later = bits_plans place (j + 1) plans rest image stamp all.1 in
-      let count : j + 1 + length plans ≡ j + length (plan ∷ plans) = omega arith in
-      let next : bits (j + 1) pairs ≡ map starts_marked (samples more) ++ bits (j + length (plan ∷ plans)) rest = later ∙ ap (λ k. map starts_marked (samples more) ++ bits k rest) count in
-      elim (leb_tells (length d) j) [
-        | inl w ↦
-            no_bits j ((place, plan.list) ∷ pairs) w.1
-            ∙ sym (no_bits (j + 1) pairs (omega (arith, w.1)))
-            ∙ next
-            ∙ ap (λ b. map starts_marked (samples (cons_option (if b then Some (sample o h d j plan image stamp) else None) more)) ++ bits (j + length (plan ∷ plans)) rest) (sym (past_end d j w.1))
-        | inr w ↦
-            let one : suc j ≡ j + 1 = omega arith in
-            let cut : drop j d ≡ get_or d j false ∷ drop (j + 1) d = drop-cons d j false w.1 ∙ ap (λ k. get_or d j false ∷ drop k d) one in
-            ap (λ ds. map bit (accepted_from j (zip ((place, plan.list) ∷ pairs) ds))) cut
-            ∙ elim (get_or d j false) as (λ b. map bit (accepted_from j (((place, plan.list), b) ∷ zip pairs (drop (j + 1) d))) ≡ map starts_marked (samples (cons_option (if b then Some (sample o h d j plan image stamp) else None) more)) ++ bits (j + length (plan ∷ plans)) rest) [
-              | true ↦
-                  ap (λ bs. bit j ∷ bs) next
-                  ∙ ap (λ bs. bs ++ (map starts_marked (samples more) ++ bits (j + length (plan ∷ plans)) rest)) (sym (one_sample j stamp image plan all.0))
-                  ∙ joins j stamp image plan more (bits (j + length (plan ∷ plans)) rest)
-              | false ↦ next
-            ]
-      ]
-
-  bits_event : (past : List Event) (e : Event) (rest : List (ℕ × ℕ)) → AllByRecursion IsPlan o.plans →
-      bits (length (due o past)) (pairs_at o (past, e) ++ rest) ≡ map starts_marked (samples (items_at o h d (past, e))) ++ bits (length (due o (past ++ e ∷ []))) rest
-  unfolding items_at due_at
-  bits_event past (Trigger image stamp) rest all =
-      bits_plans (length past) (length (due o past)) (due_at o past (Trigger image stamp)) rest image stamp (all-filter IsPlan (λ plan. is_due o past plan) o.plans all)
-      ∙ ap (λ k. map starts_marked (samples (samples_from o h d (length (due o past)) (due_at o past (Trigger image stamp)) image stamp)) ++ bits k rest) (sym (counted past (Trigger image stamp)))
-  bits_event past (Start l) rest all = ap (λ k. bits k rest) (sym (counted past (Start l) ∙ omega arith))
-  bits_event past (Stop l) rest all = ap (λ k. bits k rest) (sym (counted past (Stop l) ∙ omega arith))
-
-  bits_events : (past es : List Event) → AllByRecursion IsPlan o.plans → bits (length (due o past)) (flat_map (pairs_at o) (with_past past es)) ≡ map starts_marked (samples (flat_map (items_at o h d) (with_past past es)))
-  unfolding with_past
-  bits_events past [] all = refl
-  bits_events past (e ∷ es) all =
-      let pairs = flat_map (pairs_at o) (with_past (past ++ e ∷ []) es) in
-      let more = flat_map (items_at o h d) (with_past (past ++ e ∷ []) es) in
-      bits_event past e pairs all
-      ∙ ap (λ bs. map starts_marked (samples (items_at o h d (past, e))) ++ bs) (bits_events (past ++ e ∷ []) es all)
-      ∙ sym (map-append starts_marked (samples (items_at o h d (past, e))) (samples more))
-      ∙ ap (map starts_marked) (sym (samples-append (items_at o h d (past, e)) more))
-
   bits_all : AllByRecursion IsPlan o.plans → map bit (accepted_from 0 (decided o h d)) ≡ map starts_marked (samples (items o h d))
-  unfolding items due with_past
-  bits_all all = bits_events [] h all
+  bits_all all = sym (bits_are bit 0 (decided o h d)) ∙ values_all o h d (λ j l. bit j) starts_marked one_sample all
 
   -- no packet of a sample behind its first is marked
   abbrev pub RestUnmarked : Item → Type 0

@@ -8,3 +8,4 @@ pub mod Merges
 pub mod Account
 pub mod Headline
 pub mod Settled
+pub mod Lines
