@@ -8,3 +8,4 @@ pub mod FrameLemmas
 pub mod OrderLemmas
 pub mod HeadlineLemmas
 pub mod AccountLemmas
+pub mod LineLemmas

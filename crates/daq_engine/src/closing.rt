@@ -1,4 +1,5 @@
-ghost use Rattle.std.specs.Prelude.{◌≡◌, ℕ, ◌↔◌, IsTrue, List, length, map};
+ghost use Rattle.std.specs.Prelude.{◌≡◌, ℕ, ◌↔◌, ◌+◌, ◌<◌, ◌≤◌, ◌++◌, IsTrue, List, length, map, option_map, slice_index, vec_capacity, vec_len};
+ghost use Rattle.std.specs.Option.{option_to_list};
 ghost use Rattle.xcp_base.specs.declared.item.Item.{Item};
 ghost use Rattle.frame_writer.specs.Split.{numbered};
 ghost use Rattle.frame_writer.specs.Writing.{WriterState};
@@ -7,11 +8,13 @@ ghost use Rattle.transmitter.specs.Items.{packets_of};
 ghost use Rattle.transmitter.specs.Written.{HasTaken, transmission, writer_of};
 ghost use Rattle.daq_engine.specs.Configuration.{Past, upto};
 ghost use Rattle.daq_engine.specs.Headline.{AllStand, Settles};
+ghost use Rattle.daq_engine.specs.Lines.{counts_among, line, lines_below};
 ghost use Rattle.daq_engine.specs.Settled.{ArePrefixesOf};
 
+use crate::report::ListReport;
 use channel_ring::TakeEnd;
 use frame_writer::Out;
-use sampler::SamplerEnd;
+use sampler::{ListCounts, SamplerEnd};
 use transmitter::Transmitter;
 
 /// Whether the ends are one of each ring, in rising event channel.
@@ -43,4 +46,60 @@ fn settle<O: Out, T: TakeEnd>(transmitter: &mut Transmitter<O, T>, ends: &mut [S
     ensures ends { map (joined T.End.RingEnd) ends.new ≡ map (joined T.End.RingEnd) ends.old }
 {
     let _ = transmitter.after(ends);
+}
+
+/// What became of the samples of list `l`, by the first of the ends that has it.
+fn counts_among<E>(ends: &[SamplerEnd<E>], l: u8) -> Option<ListCounts>
+    ensures { result ≡ counts_among l ends.now }
+{
+    for k in 0..ends.len() {
+        let found = ends[k].counts(l);
+        if found.is_some() {
+            return found;
+        }
+    }
+    None
+}
+
+/// The line of list `l`, of which so many samples were written, if one of the ends has it.
+fn line_at<E>(ends: &[SamplerEnd<E>], l: u8, written: u64) -> Option<ListReport>
+    ensures { result ≡ option_map (line l written) (counts_among l ends.now) }
+{
+    let counts = counts_among(ends, l)?;
+    Some(ListReport {
+        list: l,
+        due: counts.due,
+        written,
+        dropped: counts.dropped,
+        left: counts.accepted.saturating_sub(written),
+    })
+}
+
+/// Puts the line of list `l` behind the others, if one of the ends has it.
+fn push_line<E>(lines: &mut Vec<ListReport>, ends: &[SamplerEnd<E>], l: u8, written: u64)
+    requires room { vec_len lines.old < vec_capacity lines.old }
+    ensures lines { lines.new.items ≡ lines.old.items ++ option_to_list (option_map (line l written) (counts_among l ends.now)) }
+    ensures len { vec_len lines.new ≤ vec_len lines.old + 1 }
+    ensures capacity { vec_capacity lines.new ≡ vec_capacity lines.old }
+{
+    if let Some(line) = line_at(ends, l, written) {
+        lines.push_reserved(line);
+    }
+}
+
+/// The lines of all lists, in rising number, in the room that was made for them.
+fn all_lines<O: Out, T: TakeEnd>(
+    room: Vec<ListReport>,
+    transmitter: &Transmitter<O, T>,
+    ends: &[SamplerEnd<T::End>],
+) -> Vec<ListReport>
+    requires empty { vec_len room ≡ 0 }
+    requires enough { 16 ≤ vec_capacity room }
+    ensures { result.items ≡ lines_below (slice_index (transmission O.Out T.TakeEnd transmitter.now).written) ends.now 16 }
+{
+    let mut lines = room;
+    for l in 0..16 {
+        push_line(&mut lines, ends, l, transmitter.written(l));
+    }
+    lines
 }
