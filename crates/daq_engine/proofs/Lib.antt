@@ -1,3 +1,14 @@
 pub mod ConfigurationLemmas
 pub mod PlanLists
 pub mod SamplerLists
+pub mod PidLemmas
+pub mod MergeLemmas
+pub mod AcceptedLemmas
+pub mod OverloadLemmas
+pub mod StopLemmas
+pub mod EndLemmas
+pub mod FrameLemmas
+pub mod OrderLemmas
+pub mod HeadlineLemmas
+pub mod AccountLemmas
+pub mod LineLemmas

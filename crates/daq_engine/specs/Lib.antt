@@ -1,3 +1,13 @@
 pub mod Configuration
 pub mod Openings
 pub mod Opened
+pub mod Filters
+pub mod Frames
+pub mod Order
+pub mod Overload
+pub mod Stops
+pub mod Merges
+pub mod Account
+pub mod Headline
+pub mod Settled
+pub mod Lines

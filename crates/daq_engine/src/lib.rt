@@ -2,10 +2,16 @@
 #![tactic(auto)]
 
 mod channel_plans;
+mod closing;
+mod faults;
+pub mod laws;
 mod open_fault;
 mod opening;
+mod report;
 #[cfg(test)]
 mod tests;
 
+pub use faults::CloseFault;
 pub use open_fault::OpenFault;
 pub use opening::open;
+pub use report::{ListReport, Report};
