@@ -1,3 +1,4 @@
 //! What no clause says.
 
+mod bench;
 mod opening;
