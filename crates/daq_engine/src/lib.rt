@@ -6,5 +6,6 @@ mod faults;
 pub mod laws;
 mod report;
 
+pub use closing::close;
 pub use faults::CloseFault;
 pub use report::{ListReport, Report};
