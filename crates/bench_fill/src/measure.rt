@@ -1,4 +1,4 @@
-ghost use Rattle.std.specs.Prelude.{◌≡◌, length};
+ghost use Rattle.std.specs.Prelude.{◌≡◌, ◌≤◌, length};
 
 use crate::lists::IMAGE_LEN;
 use anyhow::{Result, bail};
@@ -11,7 +11,7 @@ use xcp_base::Packets;
 const CALLS: u32 = 4_000_000;
 
 /// The measurements, of which the fastest counts.
-const MEASUREMENTS: usize = 7;
+pub const MEASUREMENTS: usize = 7;
 
 /// One plain copy, kept out of line so that it can't be left out.
 #[inline(never)]
@@ -34,7 +34,7 @@ pub fn measure_fill(rt: &impl Clock, plan: &CopyPlan) -> Result<u64> {
         for stamp in 0..CALLS {
             packets = packets.wrapping_add(plan.fill(&image, stamp, false).len());
         }
-        best = best.min(tenths(start.elapsed(rt)?.as_nanos()));
+        best = best.min(tenths(start.elapsed(rt)?.as_nanos(), CALLS));
         if packets == 0 {
             bail!("no packets");
         }
@@ -57,7 +57,7 @@ pub fn measure_fill_into(rt: &impl Clock, plan: &CopyPlan) -> Result<u64> {
             plan.fill_into(&mut sample, &image, stamp, false);
             packets = packets.wrapping_add(sample.len());
         }
-        best = best.min(tenths(start.elapsed(rt)?.as_nanos()));
+        best = best.min(tenths(start.elapsed(rt)?.as_nanos(), CALLS));
         if packets == 0 {
             bail!("no packets");
         }
@@ -78,7 +78,7 @@ pub fn measure_copy(rt: &impl Clock, bytes: usize) -> Result<u64> {
         for _ in 0..CALLS {
             copy_once(&mut copy[..bytes], &image[..bytes]);
         }
-        best = best.min(tenths(start.elapsed(rt)?.as_nanos()));
+        best = best.min(tenths(start.elapsed(rt)?.as_nanos(), CALLS));
         if copy[0] != 0xA5 {
             bail!("no bytes");
         }
@@ -86,8 +86,10 @@ pub fn measure_copy(rt: &impl Clock, bytes: usize) -> Result<u64> {
     Ok(best)
 }
 
-/// The tenths of a nanosecond of one call.
-fn tenths(nanos: u128) -> u64 {
-    let tenths = nanos / (CALLS as u128 / 10);
+/// The tenths of a nanosecond of one call, where so many calls took so many nanoseconds.
+pub fn tenths(nanos: u128, calls: u32) -> u64
+    requires { 10 ≤ calls }
+{
+    let tenths = nanos / (calls as u128 / 10);
     u64::try_from(tenths).unwrap_or(u64::MAX)
 }

@@ -1,3 +1,6 @@
+pub mod ConfigurationLemmas
+pub mod PlanLists
+pub mod SamplerLists
 pub mod PidLemmas
 pub mod MergeLemmas
 pub mod AcceptedLemmas

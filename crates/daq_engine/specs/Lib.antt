@@ -1,4 +1,6 @@
 pub mod Configuration
+pub mod Openings
+pub mod Opened
 pub mod Filters
 pub mod Frames
 pub mod Order

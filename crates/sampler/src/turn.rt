@@ -9,7 +9,7 @@ use crate::taken::Taken;
 use crate::track::Track;
 use channel_ring::SendEnd;
 use copy_plan::CopyPlan;
-use xcp_base::{Item, Sample};
+use xcp_base::{Item, Packets, Sample};
 
 /// Offers the sample of a list, and tells whether it was accepted.
 #[tactic(auto, unfolding(crate::specs::Turn::item_of))]
@@ -34,7 +34,8 @@ pub fn offer_sample<S: SendEnd>(
 {
     let list = plan.list();
     let _ = plan.odts();
-    let packets = plan.fill(image, stamp, marked);
+    let mut packets = Packets::new();
+    plan.fill_into(&mut packets, image, stamp, marked);
     let sample = Sample::new(channel, list, number, packets);
     match end.offer(Item::Sample(sample)) {
         Ok(()) => true,

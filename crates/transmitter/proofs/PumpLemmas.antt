@@ -1,20 +1,21 @@
 -- A pump that has had one more turn.
-use Rattle.std.proofs.Common.{◌≡◌, ℕ, zero, suc, ◌+◌, ◌*◌, ◌<◌, ◌≤◌, false, ◌||◌, cond, eqb, nat_eq, List, [], ◌∷◌, ◌++◌, length, Some, None, Ok, Err, refl, ap, ◌∙◌, subst, arith, append-nil, length-append, below_more}
+use Rattle.std.proofs.Common.{◌≡◌, ℕ, zero, suc, ◌+◌, ◌*◌, ◌<◌, ◌≤◌, false, ◌||◌, cond, eqb, nat_eq, List, [], ◌∷◌, ◌++◌, length, Some, None, Ok, Err, refl, ap, ◌∙◌, subst, arith, append-nil, length-append, below_more, true, inl, inr, sym}
 use Rattle.std.specs.List.{AllByRecursion, list_any}
 use Rattle.std.proofs.lemmas.List.Folds.{list_any-append}
-use Rattle.std.proofs.lemmas.Bool.Decides.{nat_tests}
+use Rattle.std.proofs.lemmas.Bool.{false≢true}
+use Rattle.std.proofs.lemmas.Bool.Decides.{eqb_tells, nat_tests}
 use Rattle.std.proofs.lemmas.Nat.Bits.{bit_at-zero}
-use Rattle.xcp_base.specs.Samples.{SampleParts}
+use Rattle.xcp_base.specs.Samples.{MarkParts, SampleParts}
 use Rattle.xcp_base.specs.declared.item.Item.{Item}
-use Rattle.xcp_base.specs.declared.item.Item.TheVariants.{Sample}
+use Rattle.xcp_base.specs.declared.item.Item.TheVariants.{Marker, Sample}
 use Rattle.sampler.specs.History.{has_list}
 use Rattle.transmitter.specs.Items.{packets_of, samples}
 use Rattle.transmitter.specs.Merge.{AreRising, items_taken, of_ring, taken_from}
 use Rattle.transmitter.specs.Written.{TransmitterState}
-use Rattle.transmitter.specs.Pumps.{CanPump, IsPump, IsStopped, Leads, TakesKnownBelow, is_marker_of}
+use Rattle.transmitter.specs.Pumps.{StopsAreLast, CanPump, IsPump, IsStopped, Leads, TakesKnownBelow, is_marker_of}
 use Rattle.transmitter.specs.declared.pumped.Pumped.{Pumped}
 use Rattle.transmitter.specs.declared.faults.PumpFault.TheVariants.{Failed}
-use Rattle.transmitter.proofs.TakenLemmas.{items_taken-push, packets_of-append, samples-append, taken_from-append, takes-none}
+use Rattle.transmitter.proofs.TakenLemmas.{items_taken-push, one_each, some_first, packets_of-append, samples-append, taken_from-append, takes-none}
 use Rattle.transmitter.proofs.WrittenLemmas.{leads-append, leads-none}
 
 -- all are of rings below c
@@ -69,8 +70,8 @@ taken_before : (c e : ℕ) (qs : List (ℕ × Item)) (x : Item) → 0 < length (
 taken_before c e qs x h = omega (arith, ap length (taken_from-append e qs ((c, x) ∷ [])) ∙ length-append (taken_from e qs) (taken_from e ((c, x) ∷ [])))
 
 -- the empty set has no list
-has_list-zero : (l : ℕ) → has_list 0 l ≡ false
-has_list-zero l = ap (λ n. nat_eq n 1) (bit_at-zero l)
+pub empty_has_none : (l : ℕ) → has_list 0 l ≡ false
+empty_has_none l = ap (λ n. nat_eq n 1) (bit_at-zero l)
 
 -- where a ring's list has an item, there is such a ring
 some_within : (lists : List (List Item)) (e : ℕ) → 0 < length (of_ring lists e) → e < length lists
@@ -90,7 +91,7 @@ first_turn a p hand taken frames stopped = record {
   few = omega (arith, taken);
   few_frames = omega (arith, frames);
   frames = frames;
-  stops = λ l. rw stopped (has_list-zero l);
+  stops = λ l. rw stopped (empty_has_none l);
   known = λ e h. absurd (omega arith);
 }
 
@@ -142,13 +143,42 @@ failed_turn a b d c p r s leads hand can = record {
   answers = record { could = can; sample = r; ring = c; before = s.items; hand = hand; last = refl; known = s.known };
 }
 
+-- the first of some items that is a marker of list l, among the others
+find_marker : (l : ℕ) (qs : List (ℕ × Item)) → list_any (is_marker_of l) (items_taken qs) ≡ true
+    → (c : ℕ) × (m : MarkParts) × (front : List (ℕ × Item)) × (back : List (ℕ × Item)) × (m.list ≡ l) × (qs ≡ front ++ (c, Marker m) ∷ back)
+find_marker l [] e = absurd (false≢true e)
+find_marker l ((c, Sample s) ∷ qs) e =
+    let r = find_marker l qs e in
+    (r.0, r.1, (c, Sample s) ∷ r.2, r.3, r.4, ap (λ ps. (c, Sample s) ∷ ps) r.5)
+find_marker l ((c, Marker m) ∷ qs) e = elim (eqb_tells m.list l) [
+  | inl w ↦ (c, m, [], qs, w.1, refl)
+  | inr w ↦
+      let r = find_marker l qs (rw w.0 at e) in
+      (r.0, r.1, (c, Marker m) ∷ r.2, r.3, r.4, ap (λ ps. (c, Marker m) ∷ ps) r.5)
+]
+
+-- an item among at most one is all of them
+alone : (xs ys : List Item) (x : Item) → length (xs ++ x ∷ ys) ≤ 1 → xs ++ x ∷ ys ≡ x ∷ []
+alone [] [] x h = refl
+alone [] (y ∷ ys) x h = absurd (omega (arith, h))
+alone (z ∷ xs) ys x h = absurd (omega (arith, h, length-append xs (x ∷ ys)))
+
+-- the marker of a list that was stopped is the last item received from its ring
+stops_last : (a b : TransmitterState) (qs : List (ℕ × Item)) (set : ℕ) → Leads a qs b → AreRising 0 qs → IsStopped set (items_taken qs) → StopsAreLast set b
+stops_last a b qs set leads rising stops l has =
+    let f = find_marker l qs (sym (stops l) ∙ has) in
+    let here : taken_from f.0 qs ≡ taken_from f.0 f.2 ++ Marker f.1 ∷ taken_from f.0 f.3 =
+    ap (taken_from f.0) f.5 ∙ (taken_from-append f.0 f.2 ((f.0, Marker f.1) ∷ f.3) ∙ ap (λ xs. taken_from f.0 f.2 ++ xs) (some_first f.0 (Marker f.1) f.3)) in
+    let one = subst (λ xs. length xs ≤ 1) here (one_each 0 f.0 qs rising) in
+    (f.0, f.1, of_ring a.received f.0, f.4, leads.takes.gains f.0 ∙ ap (λ xs. of_ring a.received f.0 ++ xs) (here ∙ alone (taken_from f.0 f.2) (taken_from f.0 f.3) (Marker f.1) one))
+
 -- after the last turn
 pub last_turn : (a b : TransmitterState) (c : ℕ) (p : Pumped) → SoFar a b c p → length a.known ≤ c → CanPump a → IsPump a b (Ok p)
 last_turn a b c p s all can = record {
   taken = s.items;
   rising = s.rising;
   leads = s.leads;
-  answers = record { could = can; hand = s.hand; taken = s.count; frames = s.frames; stopped = s.stops; known = λ e k. s.known e (omega (arith, some_within a.known e k, all)) k };
+  answers = record { could = can; hand = s.hand; taken = s.count; frames = s.frames; stopped = s.stops; last = stops_last a b s.items p.stopped s.leads s.rising s.stops; known = λ e k. s.known e (omega (arith, some_within a.known e k, all)) k };
 }
 
 -- a pump that is refused takes nothing

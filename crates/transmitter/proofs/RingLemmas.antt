@@ -37,3 +37,7 @@ each_none known n k h c = elim (below_or_not c n) [
 -- as many are shown as there are
 pub as_many : {A B Q R : Type 0} (f : A → R) (g : B → R) (h : A → Q) (xs : List A) (ys : List B) → map f xs ≡ map g ys → length (map h xs) ≡ length ys
 as_many f g h xs ys e = length-map xs h ∙ (sym (length-map xs f) ∙ (ap length e ∙ length-map ys g))
+
+-- where as many rings are shown, as much is shown of them
+pub same_count : {A Q R : Type 0} (f : A → R) (h : A → Q) (xs ys : List A) → map f xs ≡ map f ys → length (map h xs) ≡ length (map h ys)
+same_count f h xs ys e = as_many f f h xs ys e ∙ sym (length-map ys h)

@@ -1,13 +1,14 @@
 -- What was taken from several rings, and then more.
-use Rattle.std.proofs.Common.{◌≡◌, ℕ, ◌+◌, true, false, cond, eqb, List, [], ◌∷◌, ◌++◌, refl, sym, ap, ◌∙◌, append_assoc, append-nil}
+use Rattle.std.proofs.Common.{◌≡◌, ℕ, ◌+◌, true, false, cond, eqb, List, [], ◌∷◌, ◌++◌, refl, sym, ap, ◌∙◌, append_assoc, append-nil, ◌<◌, ◌≤◌, arith, length, inl, inr, subst}
 use mathlib.Core.List.{IsPrefix}
+use Rattle.std.proofs.lemmas.Bool.Decides.{eqb_tells, nat_tests}
 use Rattle.std.proofs.lemmas.List.{map-append}
 use Rattle.std.proofs.lemmas.List.Sums.{sum_by-append}
 use Rattle.xcp_base.specs.Samples.{SampleParts, MarkParts}
 use Rattle.xcp_base.specs.declared.item.Item.{Item}
 use Rattle.xcp_base.specs.declared.item.Item.TheVariants.{Sample, Marker}
 use Rattle.transmitter.specs.Items.{count_of, packets_of, samples}
-use Rattle.transmitter.specs.Merge.{IsMerge, Takes, items_taken, of_ring, taken_from}
+use Rattle.transmitter.specs.Merge.{AreRising, IsMerge, Takes, items_taken, of_ring, taken_from}
 
 pub taken_from-append : (c : ℕ) (ps qs : List (ℕ × Item)) → taken_from c (ps ++ qs) ≡ taken_from c ps ++ taken_from c qs
 taken_from-append c [] qs = refl
@@ -63,3 +64,34 @@ pub merge-takes : (r s k l : List (List Item)) (ps qs : List (ℕ × Item)) → 
 merge-takes r s k l ps qs m t = record {
   each = λ c. taken_from-append c ps qs ∙ (ap (λ x. x ++ taken_from c qs) (m.each c) ∙ sym (t.gains c));
 }
+
+-- of a ring below the first nothing was taken
+pub none_below : (low e : ℕ) (qs : List (ℕ × Item)) → AreRising low qs → e < low → taken_from e qs ≡ []
+none_below low e [] r h = refl
+none_below low e (p ∷ qs) r h =
+    let other : eqb p.0 e ≡ false = grind (arith, nat_tests, r.0, h) in
+    rw other (none_below (p.0 + 1) e qs r.1 (omega (arith, r.0, h)))
+
+-- the item that was taken first is of its ring
+pub some_first : (c : ℕ) (x : Item) (qs : List (ℕ × Item)) → taken_from c ((c, x) ∷ qs) ≡ x ∷ taken_from c qs
+some_first c x qs =
+    let same : eqb c c ≡ true = grind (arith, nat_tests) in
+    rw same refl
+
+-- and of no other
+pub none_first : (c e : ℕ) (x : Item) (qs : List (ℕ × Item)) → c < e → taken_from e ((c, x) ∷ qs) ≡ taken_from e qs
+none_first c e x qs h =
+    let other : eqb c e ≡ false = grind (arith, nat_tests, h) in
+    rw other refl
+
+-- of each ring one item was taken at most
+pub one_each : (low c : ℕ) (qs : List (ℕ × Item)) → AreRising low qs → length (taken_from c qs) ≤ 1
+one_each low c [] r = omega arith
+one_each low c ((e, x) ∷ qs) r = elim (eqb_tells e c) [
+  | inl w ↦
+      let at : e ≡ c = w.1 in
+      let none = none_below (e + 1) c qs r.1 (omega (arith, at)) in
+      let one = subst (λ k. taken_from k ((e, x) ∷ qs) ≡ x ∷ taken_from k qs) w.1 (some_first e x qs) in
+      omega (arith, ap length one, ap length none)
+  | inr w ↦ rw w.0 (one_each (e + 1) c qs r.1)
+]

@@ -43,6 +43,12 @@ is_marker_of l (Marker m) = nat_eq m.list l
 abbrev pub IsStopped : ℕ → List Item → Type 0
 IsStopped set xs = (l : ℕ) → has_list set l ≡ list_any (is_marker_of l) xs
 
+-- of each list in a set, the stop marker is the last item that was received from its ring
+abbrev pub StopsAreLast : ℕ → TransmitterState → Type 0
+StopsAreLast set b =
+    (l : ℕ) → has_list set l ≡ true → (c : ℕ) × (m : MarkParts) × (before : List Item) × (m.list ≡ l)
+    × (of_ring b.received c ≡ before ++ Marker m ∷ [])
+
 -- from each ring below c of which an item was known, one was taken
 abbrev pub TakesKnownBelow : ℕ → List (List Item) → List (ℕ × Item) → Type 0
 TakesKnownBelow c known qs = (e : ℕ) → e < c → 0 < length (of_ring known e) → 0 < length (taken_from e qs)
@@ -58,6 +64,7 @@ pub record Pumps (a b : TransmitterState) (qs : List (ℕ × Item)) (p : Pumped)
   pub taken : p.taken ≡ length qs
   pub frames : p.frames ≡ length (packets_of (samples (items_taken qs)))
   pub stopped : IsStopped p.stopped (items_taken qs)
+  pub last : StopsAreLast p.stopped b
   pub known : (e : ℕ) → 0 < length (of_ring a.known e) → 0 < length (taken_from e qs)
 
 -- a pump at which the writer failed, within the sample that was taken last, from ring c: it is in hand

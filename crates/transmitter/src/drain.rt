@@ -3,6 +3,7 @@ ghost use Rattle.std.specs.Prelude.{◌≡◌, ◌≢◌, ℕ, ◌<◌, ◌↔�
 ghost use Rattle.sampler.specs.State.{joined};
 ghost use Rattle.transmitter.specs.Merge.{of_ring};
 
+use crate::faults::PumpFault;
 use crate::transmitter::Transmitter;
 use channel_ring::TakeEnd;
 use frame_writer::Out;
@@ -68,5 +69,36 @@ impl<O: Out, T: TakeEnd> Transmitter<O, T> {
         ensures sent { map (λ e. T.End.all_sent e.end) ends.new ≡ map (λ e. T.End.all_sent e.end) ends.old }
     {
         look(&mut self.ends, ends)
+    }
+}
+
+impl<O: Out, T: TakeEnd> Transmitter<O, T> {
+    ghost use Rattle.std.specs.Prelude.{◌≡◌, map};
+    ghost use Rattle.sampler.specs.State.{joined};
+    ghost use Rattle.transmitter.specs.Rounds.{Drains};
+    ghost use Rattle.transmitter.specs.Written.{transmission};
+
+    /// Pumps until every ring is known to be empty.
+    ///
+    /// `ends` are those of the rings of event channels 0, 1, .. Refused with `Closed` where the writer failed earlier, even
+    /// where nothing is left; a pump's `Failed` or `Spent` leaves what the pumps so far left.
+    pub fn drain(&mut self, ends: &mut [SamplerEnd<T::End>]) -> Result<(), PumpFault>
+        requires one_rings { (transmission O.Out T.TakeEnd self.old).rings ≡ map (λ e. T.End.ring e.end) ends.old }
+        ensures drains { Drains (map (λ e. T.End.all_sent e.end) ends.old) (transmission O.Out T.TakeEnd self.old) (transmission O.Out T.TakeEnd self.new) result }
+        ensures rings { (transmission O.Out T.TakeEnd self.new).rings ≡ (transmission O.Out T.TakeEnd self.old).rings }
+        ensures ends { map (joined T.End.RingEnd) ends.new ≡ map (joined T.End.RingEnd) ends.old }
+        ensures end_rings { map (λ e. T.End.ring e.end) ends.new ≡ map (λ e. T.End.ring e.end) ends.old }
+        ensures sent { map (λ e. T.End.all_sent e.end) ends.new ≡ map (λ e. T.End.all_sent e.end) ends.old }
+    {
+        if self.writer.closed() {
+            return Err(PumpFault::Closed);
+        }
+        let mut left = self.after(ends);
+        while left {
+            let answer = self.pump();
+            left = self.after(ends);
+            answer?;
+        }
+        Ok(())
     }
 }

@@ -4,6 +4,8 @@
 mod drain;
 mod faults;
 mod pumped;
+#[cfg(test)]
+mod tests;
 mod transmitter;
 mod turn;
 

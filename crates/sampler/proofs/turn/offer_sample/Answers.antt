@@ -6,4 +6,4 @@ use Rattle.sampler.proofs.turn.offer_sample.Goals as goal
 pub new-sample-requires-clause-some : goal.new-sample-requires-clause-some
 unfolding packets
 new-sample-requires-clause-some g c =
-    omega (arith, ap length c.fill-packets.ensures, length-map-range_with_len (packet c.args.plan.now c.args.image.now c.args.stamp c.args.marked) 0 (length c.args.plan.now.odts), c.odts.ensures.plan.some)
+    omega (arith, ap length c.fill_into.ensures, length-map-range_with_len (packet c.args.plan.now c.args.image.now c.args.stamp c.args.marked) 0 (length c.args.plan.now.odts), c.odts.ensures.plan.some)

@@ -1,10 +1,11 @@
-use Rattle.std.proofs.Common.{◌≡◌, ℕ, Bool, true, false, ◌||◌, nat_eq, Option, Some, None, refl, sym, ap, ◌∙◌, arith, append-nil}
+use Rattle.std.proofs.Common.{◌≡◌, ℕ, Bool, true, false, ◌||◌, nat_eq, Option, Some, None, refl, sym, ap, ◌∙◌, arith, append-nil, length, map, ◌≤◌}
 use Rattle.std.specs.Option.{is_some}
+use Rattle.std.proofs.lemmas.List.{length-map}
 use Rattle.std.proofs.lemmas.Bool.{false≢true}
 use Rattle.xcp_base.specs.declared.item.Item.TheVariants.{Sample, Marker}
 use Rattle.sampler.specs.History.{has_list}
 use Rattle.transmitter.specs.Written.{transmission}
-use Rattle.transmitter.proofs.PumpLemmas.{failed_turn, first_turn, idle_turn, item_turn}
+use Rattle.transmitter.proofs.PumpLemmas.{failed_turn, first_turn, idle_turn, item_turn, last_turn}
 use Rattle.transmitter.proofs.transmitter.Transmitter.pump.Goals as goal
 use Rattle.transmitter.proofs.transmitter.Transmitter.pump.Goals.{in-Nothing, in-Wrote, in-Stopped}
 
@@ -53,3 +54,11 @@ loop-c-preserved g c =
             as_many = w.in-Stopped.ensures.as_many ∙ i.as_many;
           }
     ]
+
+-- each ring had its turn
+pub returns : goal.returns
+returns g c =
+    let t = g.T.TakeEnd in
+    let ends = c.args.self.now.ends in
+    let all : length (map t.known ends.items) ≤ c.loop-c.c = omega (arith, length-map ends.items t.known, ends.ok.0, c.loop-c.invariant.as_many, c.loop-c.auto.c-end, c.loop-c-test.false, c.len-c-end.ensures) in
+    last_turn _ _ c.loop-c.c c.loop-c.pumped c.loop-c.invariant.turns all (sym c.closed.ensures ∙ c.if-closed.false, c.if-self-ge-MAX_TAKEN.false)

@@ -1,0 +1,105 @@
+-- The plans of the lists of an event channel, list by list.
+use Rattle.std.proofs.Common.{◌≡◌, ℕ, zero, suc, ◌+◌, ◌≤◌, Bool, true, false, ◌&&◌, ◌||◌, List, [], ◌∷◌, ◌++◌, map, length, filter, nat_eq, sym, refl, ap, ◌∙◌, arith, cond, subst, All}
+use Rattle.std.specs.List.{list_all, range_with_len}
+use Rattle.std.proofs.lemmas.List.Elements.{All-head, All-tail, filter-append}
+use Rattle.std.proofs.lemmas.List.{map-append}
+use Rattle.daq_store.specs.Calls.{numbers_below}
+use Rattle.daq_store.specs.Standing.{StoreState}
+use Rattle.copy_plan.specs.Config.{ListPlan, IsPlan}
+use Rattle.std.proofs.lemmas.Bool.Decides.{nat_tests}
+use Rattle.daq_store.specs.Configuration.{channel_of, is_ready}
+use Rattle.daq_store.specs.Standing.{conf_of}
+use Rattle.sampler.specs.State.{ArePlansOf, RiseFrom}
+use Rattle.daq_engine.specs.Openings.{is_ready_on, list_plan, channel_plans, fit_caps, is_cap}
+
+-- the plans of event channel c among the lists below n
+abbrev pub plans_below : StoreState → ℕ → ℕ → List ListPlan
+plans_below s c n = map (list_plan s) (filter (is_ready_on s c) (numbers_below n))
+
+-- one number more at the end
+pub range-next : (a n : ℕ) → range_with_len a (suc n) ≡ range_with_len a n ++ (a + n) ∷ []
+range-next a zero = let e : a ≡ a + 0 = omega arith in ap (λ k. k ∷ []) e
+range-next a (suc n) =
+    let e : a + 1 + n ≡ a + suc n = omega arith in
+    ap (λ xs. a ∷ xs) (range-next (a + 1) n) ∙ ap (λ k. a ∷ range_with_len (a + 1) n ++ k ∷ []) e
+
+-- the plans below n, and that of list n if it is of the channel
+pub plans-next : (s : StoreState) (c n : ℕ) → plans_below s c n ++ map (list_plan s) (filter (is_ready_on s c) (n ∷ [])) ≡ plans_below s c (n + 1)
+plans-next s c n =
+    let one : suc n ≡ n + 1 = omega arith in
+    let here : 0 + n ≡ n = omega arith in
+    let p = is_ready_on s c in
+    sym (ap (λ k. plans_below s c k) (sym one)
+    ∙ ap (λ xs. map (list_plan s) (filter p xs)) (range-next 0 n)
+    ∙ ap (λ k. map (list_plan s) (filter p (numbers_below n ++ k ∷ []))) here
+    ∙ ap (map (list_plan s)) (filter-append p (numbers_below n) (n ∷ []))
+    ∙ map-append (list_plan s) (filter p (numbers_below n)) (filter p (n ∷ [])))
+
+-- a list is in one of two sets, and runs
+pub or-and : (a b r : Bool) → ((a && r) || (b && r)) ≡ ((a || b) && r)
+or-and true true true = refl
+or-and true true false = refl
+or-and true false true = refl
+or-and true false false = refl
+or-and false true true = refl
+or-and false true false = refl
+or-and false false true = refl
+or-and false false false = refl
+
+and_left : (a b : Bool) → (a && b) ≡ true → a ≡ true
+and_left true b h = refl
+and_left false b h = absurd cc
+
+and_right : (a b : Bool) → (a && b) ≡ true → b ≡ true
+and_right true b h = h
+and_right false b h = absurd cc
+
+-- what both are, the first is
+pub first_of_both : (x a b : Bool) → x ≡ (a && b) → x ≡ true → a ≡ true
+first_of_both x a b e h = and_left a b (sym e ∙ h)
+
+-- the event channel of a list that is ready on it
+pub channel-ready : (s : StoreState) (c l : ℕ) → is_ready_on s c l ≡ true → (list_plan s l).channel ≡ c
+channel-ready s c l h =
+    let e : nat_eq (channel_of (conf_of s l).mode) c ≡ true = and_right (is_ready s.profile.image_len (conf_of s l)) (nat_eq (channel_of (conf_of s l).mode) c) h in
+    grind (arith, nat_tests, e)
+
+of_channel-step : (s : StoreState) (c l : ℕ) (b : Bool) (ls : List ℕ) → (is_ready_on s c l ≡ b)
+    → (All IsPlan (map (list_plan s) ls) → ArePlansOf c s.profile.image_len (map (list_plan s) ls))
+    → All IsPlan (map (list_plan s) (cond b (l ∷ ls) ls)) → ArePlansOf c s.profile.image_len (map (list_plan s) (cond b (l ∷ ls) ls))
+of_channel-step s c l true ls e rest h =
+    ((All-head IsPlan (list_plan s l) (map (list_plan s) ls) h, channel-ready s c l e, refl), rest (All-tail IsPlan (list_plan s l) (map (list_plan s) ls) h))
+of_channel-step s c l false ls e rest h = rest h
+
+of_channel-among : (s : StoreState) (c : ℕ) (ls : List ℕ) → All IsPlan (map (list_plan s) (filter (is_ready_on s c) ls))
+    → ArePlansOf c s.profile.image_len (map (list_plan s) (filter (is_ready_on s c) ls))
+of_channel-among s c [] h = tt
+of_channel-among s c (l ∷ ls) h = of_channel-step s c l (is_ready_on s c l) (filter (is_ready_on s c) ls) refl (of_channel-among s c ls) h
+
+-- they are plans of the channel, for images of the store's length
+pub of_channel : (s : StoreState) (c : ℕ) (plans : List ListPlan) → plans ≡ channel_plans s c → All IsPlan plans → ArePlansOf c s.profile.image_len plans
+of_channel s c plans e h =
+    subst (ArePlansOf c s.profile.image_len) (sym e)
+    (of_channel-among s c (numbers_below (length s.lists)) (subst (λ ps. All IsPlan ps) e h))
+
+lower : (least more : ℕ) (plans : List ListPlan) → least ≤ more → RiseFrom more plans → RiseFrom least plans
+lower least more [] h r = tt
+lower least more (plan ∷ plans) h r = (omega (arith, h, r.0), r.1)
+
+rising-step : (s : StoreState) (b : Bool) (l : ℕ) (ls : List ℕ) → RiseFrom (l + 1) (map (list_plan s) ls) → RiseFrom l (map (list_plan s) (cond b (l ∷ ls) ls))
+rising-step s true l ls r = (omega arith, r)
+rising-step s false l ls r = lower l (l + 1) (map (list_plan s) ls) (omega arith) r
+
+pub rising-from : (s : StoreState) (c a n : ℕ) → RiseFrom a (map (list_plan s) (filter (is_ready_on s c) (range_with_len a n)))
+rising-from s c a zero = tt
+rising-from s c a (suc n) = rising-step s (is_ready_on s c a) a (filter (is_ready_on s c) (range_with_len (a + 1) n)) (rising-from s c (a + 1) n)
+
+-- their list numbers rise
+pub rising : (s : StoreState) (c : ℕ) (plans : List ListPlan) → plans ≡ channel_plans s c → RiseFrom 0 plans
+rising s c plans e = subst (RiseFrom 0) (sym e) (rising-from s c 0 (length s.lists))
+
+-- capacities that fit are one for each event channel
+pub one_for_each : (s : StoreState) (caps : List ℕ) → fit_caps s caps ≡ true → length caps ≡ s.profile.channels
+one_for_each s caps h =
+    let e : nat_eq (length caps) s.profile.channels ≡ true = and_left (nat_eq (length caps) s.profile.channels) (list_all is_cap caps) h in
+    grind (arith, nat_tests, e)

@@ -1,0 +1,70 @@
+-- What an engine that was opened over a store is (own).
+use Rattle.std.specs.Prelude.{◌≡◌, ℕ, ◌<◌, ◌&&◌, Bool, All, List, [], length, map, filter, nat_eq, nat_le, slice_get}
+use Rattle.std.specs.Prelude.{Option, Some, None, Result, Ok, Err}
+use Rattle.std.specs.List.{list_all, list_any}
+use Rattle.xcp_base.specs.declared.limits.TheConstants.{MAX_SAMPLE_RING}
+use Rattle.daq_store.specs.Calls.{numbers_below}
+use Rattle.daq_store.specs.Configuration.{channel_of, is_ready}
+use Rattle.daq_store.specs.Standing.{StoreState, conf_of, first_pid_of, shows_running}
+use Rattle.copy_plan.specs.Config.{ListPlan, plan_of}
+use Rattle.channel_ring.specs.declared.ends.SendEnd.{Ghosts as SendGhosts}
+use Rattle.channel_ring.specs.declared.ends.RingEnd.{Ghosts as EndGhosts}
+use Rattle.sampler.specs.History.{Opening, has_list, is_list_of}
+use Rattle.sampler.specs.State.{SamplerState}
+use Rattle.sampler.specs.Standing.{StandsAfter}
+use Rattle.frame_writer.specs.Writing.{WriterState}
+use Rattle.transmitter.specs.Written.{HasTaken, TransmitterState}
+use Rattle.daq_engine.specs.Configuration.{IsConfiguration, upto}
+
+-- a ring of items may have this capacity
+abbrev pub is_cap : ℕ → Bool
+is_cap cap = nat_le 1 cap && nat_le cap MAX_SAMPLE_RING
+
+-- there is one capacity for each event channel, and a ring may have each of them
+abbrev pub fit_caps : StoreState → List ℕ → Bool
+fit_caps s caps = nat_eq (length caps) s.profile.channels && list_all is_cap caps
+
+-- a DAQ list of the store runs
+abbrev pub some_list_runs : StoreState → Bool
+some_list_runs s = list_any (shows_running s) (numbers_below (length s.lists))
+
+-- list l is ready, and its event channel is c
+abbrev pub is_ready_on : StoreState → ℕ → ℕ → Bool
+is_ready_on s c l = is_ready s.profile.image_len (conf_of s l) && nat_eq (channel_of (conf_of s l).mode) c
+
+-- the plan of list l, by what the store has of it
+abbrev pub list_plan : StoreState → ℕ → ListPlan
+list_plan s l = plan_of l (conf_of s l) (first_pid_of s l) s.profile.image_len
+
+-- the plans of the lists that are there, ready and of event channel c, in rising list number
+abbrev pub channel_plans : StoreState → ℕ → List ListPlan
+channel_plans s c = map (list_plan s) (filter (is_ready_on s c) (numbers_below (length s.lists)))
+
+-- the opening is that of event channel c of the store: the plans are those of its ready lists, and of these run those
+-- that run in the store
+pub record IsOpeningOf (s : StoreState) (c : ℕ) (opening : Opening) : Type 0 where
+  pub channel : opening.channel ≡ c
+  pub plans : opening.plans ≡ channel_plans s c
+  pub running : (l : ℕ) → has_list opening.running l ≡ (is_list_of opening l && shows_running s l)
+
+-- the samplers are those of all event channels of the store, in rising order; sampler c stands after nothing, from opening c
+pub record AreOpened {S E : Type 0} (send : SendGhosts S E) (ring : EndGhosts E) (s : StoreState) (caps : List ℕ) (samplers : List (SamplerState S)) (openings : ℕ → Opening) : Type 0 where
+  pub of_store : (c : ℕ) → c < s.profile.channels → IsOpeningOf s c (openings c)
+  pub configuration : IsConfiguration s.profile.channels openings
+  pub channels : map (λ (sampler : SamplerState S). sampler.channel) samplers ≡ upto 0 s.profile.channels
+  pub stands :
+      (c : ℕ) (sampler : SamplerState S) → slice_get samplers c ≡ Some sampler
+      → StandsAfter send ring sampler (openings c) [] []
+  pub capacities : map (λ (sampler : SamplerState S). send.capacity sampler.end) samplers ≡ caps
+  pub image_len : All (λ (sampler : SamplerState S). sampler.image_len ≡ s.profile.image_len) samplers
+  pub nothing_sent : All (λ (sampler : SamplerState S). send.sent sampler.end ≡ []) samplers
+
+-- the transmitter took nothing yet; its ring c is that of sampler c
+pub record IsPaired {S E : Type 0} (send : SendGhosts S E) (samplers : List (SamplerState S)) (start : WriterState) (t : TransmitterState) : Type 0 where
+  pub rings : t.rings ≡ map (λ (sampler : SamplerState S). send.ring sampler.end) samplers
+  pub taken : HasTaken start t []
+
+-- why there is no engine
+abbrev pub refusal_of : {A F W : Type 0} → Result A (F × W) → Option F
+refusal_of (Ok engine) = None
+refusal_of (Err refusal) = Some refusal.0

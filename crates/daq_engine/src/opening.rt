@@ -1,0 +1,136 @@
+ghost use Rattle.std.specs.Prelude.{◌≡◌, ℕ, ◌<◌, ◌≤◌, ◌↔◌, IfErr, IfOk, OnOk, Some, false, length, true};
+ghost use Rattle.std.specs.List.{list_all};
+ghost use Rattle.sampler.specs.History.{Opening};
+ghost use Rattle.frame_writer.specs.Writing.{state_of};
+ghost use Rattle.transmitter.specs.Written.{transmission, writer_of};
+ghost use Rattle.daq_engine.specs.Openings.{AreOpened, IsPaired, fit_caps, is_cap, refusal_of, some_list_runs};
+ghost use Rattle.daq_engine.specs.Opened.{IsOpenedAt, AreOpenedTo};
+
+use crate::channel_plans::{plans_of, running_of};
+use crate::open_fault::OpenFault;
+use channel_ring::{RingEnd, SampleRing, SendEnd, SendHalf, TakeEnd, TakeHalf};
+use daq_store::Store;
+use frame_writer::{FrameWriter, Out};
+use rtrb::Finished;
+use sampler::Sampler;
+use std::alloc::{AllocError, Global};
+use transmitter::Transmitter;
+use xcp_base::Item;
+use xcp_base::limits::MAX_SAMPLE_RING;
+
+/// Opens an engine over a store: a sampler for each event channel, in rising order, and the transmitter of their rings.
+///
+/// Each DAQ list that is ready is in the sampler of its event channel, and runs there where it runs in the store. The ring
+/// of event channel `c` has `caps[c]` places, 1 to `MAX_SAMPLE_RING`. Refused with `BadCaps`, `NothingRunning` or `Memory`,
+/// in this order; then the writer comes back as it was.
+pub fn open<O: Out>(
+    alloc: Global,
+    store: &Store,
+    caps: &[usize],
+    writer: FrameWriter<O>,
+) -> Result<(Vec<Sampler<SendHalf>>, Transmitter<O, TakeHalf>), (OpenFault, FrameWriter<O>)>
+    requires is_open { (state_of O.Out writer).closed ≡ false }
+
+    ensures ok { OnOk result ((fit_caps store.now caps.now ≡ true) × (some_list_runs store.now ≡ true)) }
+    ensures opened { IfOk result (λ engine. (openings : ℕ → Opening)
+        × AreOpened ⟦<SendHalf as SendEnd>⟧ ⟦<Finished<Item> as RingEnd>⟧ store.now caps.now engine.0.items openings) }
+    ensures paired { IfOk result (λ engine. IsPaired ⟦<SendHalf as SendEnd>⟧ engine.0.items (state_of O.Out writer)
+        (transmission O.Out ⟦<TakeHalf as TakeEnd>⟧ engine.1)) }
+    ensures writer { IfOk result (λ engine. writer_of engine.1 ≡ writer) }
+
+    // the checks, in their order
+    ensures bad_caps { (refusal_of result ≡ Some OpenFault.BadCaps) ↔ (fit_caps store.now caps.now ≡ false) }
+    ensures nothing_running { (refusal_of result ≡ Some OpenFault.NothingRunning)
+        ↔ ((fit_caps store.now caps.now ≡ true) × (some_list_runs store.now ≡ false)) }
+    ensures memory { refusal_of result ≡ Some OpenFault.Memory
+        → (fit_caps store.now caps.now ≡ true) × (some_list_runs store.now ≡ true) }
+
+    ensures back { IfErr result (λ refusal. refusal.1 ≡ writer) }
+{
+    if !caps_fit(store, caps) {
+        return Err((OpenFault::BadCaps, writer));
+    }
+    if !any_runs(store) {
+        return Err((OpenFault::NothingRunning, writer));
+    }
+    match samplers_of(alloc, store, caps) {
+        Ok((samplers, ends)) => Ok((samplers, Transmitter::new(writer, ends))),
+        Err(_) => Err((OpenFault::Memory, writer)),
+    }
+}
+
+/// Whether a ring may have this capacity.
+fn is_cap(cap: usize) -> bool
+    ensures { result ≡ is_cap cap }
+{
+    1 <= cap && cap <= MAX_SAMPLE_RING
+}
+
+/// Whether a ring may have each of these capacities.
+fn are_caps(caps: &[usize]) -> bool
+    ensures { result ≡ list_all is_cap caps.now }
+{
+    caps.iter().all(|&cap| is_cap(cap))
+}
+
+/// Whether there is one capacity for each event channel, each within the ring's limits.
+fn caps_fit(store: &Store, caps: &[usize]) -> bool
+    ensures { result ≡ fit_caps store.now caps.now }
+{
+    if caps.len() != store.channels() as usize {
+        return false;
+    }
+    are_caps(caps)
+}
+
+/// Whether a DAQ list of the store runs.
+fn any_runs(store: &Store) -> bool
+    ensures { result ≡ some_list_runs store.now }
+{
+    (0..store.lists()).any(|l| store.running(l))
+}
+
+/// The sampler of an event channel of the store, and the take end of its ring, which has `cap` places.
+fn sampler_of(
+    alloc: Global,
+    store: &Store,
+    c: u8,
+    cap: usize,
+) -> Result<(Sampler<SendHalf>, TakeHalf), AllocError>
+    requires channel { c < 8 }
+    ensures opened { IfOk result (λ r. (opening : Opening)
+        × IsOpenedAt ⟦<SendHalf as SendEnd>⟧ ⟦<Finished<Item> as RingEnd>⟧ ⟦<TakeHalf as TakeEnd>⟧ store.now c cap r.0 r.1 opening) }
+{
+    let Ok(plans) = plans_of(alloc, store, c) else {
+        return Err(AllocError);
+    };
+    let Ok((send, take)) = SampleRing::new(alloc, cap) else {
+        return Err(AllocError);
+    };
+    let running = running_of(store, plans.as_slice());
+    let sampler = Sampler::new(c, plans, send, store.image_len(), running);
+    Ok((sampler, take))
+}
+
+/// The samplers of all event channels of the store, and the take ends of their rings.
+fn samplers_of(
+    alloc: Global,
+    store: &Store,
+    caps: &[usize],
+) -> Result<(Vec<Sampler<SendHalf>>, Vec<TakeHalf>), AllocError>
+    requires caps { length caps.now ≡ store.now.profile.channels }
+    ensures opened { IfOk result (λ r.
+        AreOpenedTo ⟦<SendHalf as SendEnd>⟧ ⟦<Finished<Item> as RingEnd>⟧ ⟦<TakeHalf as TakeEnd>⟧ store.now caps.now r.0.items r.1.items) }
+    ensures some { 1 ≤ store.now.profile.channels }
+    ensures few { store.now.profile.channels ≤ 8 }
+{
+    let channels = store.channels() as u8;
+    let mut samplers = Vec::with_capacity(alloc, channels as usize)?;
+    let mut ends = Vec::with_capacity(alloc, channels as usize)?;
+    for c in 0..channels {
+        let (sampler, take) = sampler_of(alloc, store, c, caps[c as usize])?;
+        samplers.push_reserved(sampler);
+        ends.push_reserved(take);
+    }
+    Ok((samplers, ends))
+}

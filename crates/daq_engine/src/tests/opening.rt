@@ -1,0 +1,101 @@
+//! What no clause says: that an engine opens, and comes to each refusal.
+use crate::{OpenFault, open};
+use daq_store::Store;
+use frame_writer::{FrameWriter, VecOut};
+use std::process::Abort;
+use std::test::Fail;
+
+/// A store for images of two bytes; list `l` is of event channel `of[l]` and has one ODT, whose entry is the whole image.
+fn store_of(rt: &HostRuntime, channels: u16, of: &[u16]) -> Result<Store, Fail> {
+    let lists = u16::try_from(of.len())?;
+    let mut store = Store::new(rt.alloc(), channels, 2)?;
+    store.alloc_daq(lists)?;
+    for l in 0..lists {
+        store.alloc_odt(l, 1)?;
+    }
+    for l in 0..lists {
+        store.alloc_odt_entry(l, 0, 1)?;
+    }
+    for l in 0..lists {
+        store.set_ptr(l, 0, 0)?;
+        store.write(0xFF, 2, 0, 0)?;
+        store.set_mode(0, l, of[l as usize], 1, 0)?;
+    }
+    Ok(store)
+}
+
+/// Why an engine isn't opened over the store, and CTR of the next frame of the writer that comes back, which wrote one.
+fn refusal(rt: &HostRuntime, store: &Store, caps: &[usize]) -> Result<(OpenFault, u16), Fail> {
+    let mut writer = FrameWriter::new(VecOut::new(rt.alloc()));
+    writer.send(&[0xFF])?;
+    match open(rt.alloc(), store, caps, writer) {
+        Ok(_) => Err(Fail::from("opened")),
+        Err((fault, writer)) => Ok((fault, writer.next_counter())),
+    }
+}
+
+#[test]
+fn capacities_that_do_not_fit_are_refused(rt: HostRuntime) -> Result<(), Fail> {
+    let mut store = store_of(&rt, 1, &[0])?;
+    let none: [usize; 0] = [];
+    for runs in [false, true] {
+        if runs {
+            store.start_stop(1, 0)?;
+        }
+        assert_eq!(rt;
+            refusal(&rt, &store, &none)?,
+            (OpenFault::BadCaps, 1),
+            "none, {runs}"
+        );
+        assert_eq!(rt;
+            refusal(&rt, &store, &[0])?,
+            (OpenFault::BadCaps, 1),
+            "0, {runs}"
+        );
+        assert_eq!(rt;
+            refusal(&rt, &store, &[1025])?,
+            (OpenFault::BadCaps, 1),
+            "1025, {runs}"
+        );
+        assert_eq!(rt;
+            refusal(&rt, &store, &[4, 4])?,
+            (OpenFault::BadCaps, 1),
+            "two, {runs}"
+        );
+    }
+    Ok(())
+}
+
+#[test]
+fn a_store_in_which_no_list_runs_is_refused(rt: HostRuntime) -> Result<(), Fail> {
+    let store = store_of(&rt, 1, &[0])?;
+    assert_eq!(rt; refusal(&rt, &store, &[4])?, (OpenFault::NothingRunning, 1));
+    Ok(())
+}
+
+#[test]
+fn each_ready_list_is_in_the_sampler_of_its_channel(rt: HostRuntime) -> Result<(), Fail> {
+    // lists 1 and 2 run, list 3 is ready, and list 4 is not, since its entry was not written
+    let mut store = store_of(&rt, 2, &[1, 0, 1, 0, 1])?;
+    store.alloc_odt_entry(4, 0, 1)?;
+    store.start_stop(1, 1)?;
+    store.start_stop(1, 2)?;
+    let writer = FrameWriter::new(VecOut::new(rt.alloc()));
+    let (mut samplers, transmitter) = match open(rt.alloc(), &store, &[1, 1024], writer) {
+        Ok(engine) => engine,
+        Err((fault, _)) => return Err(Fail::from(fault)),
+    };
+    assert_eq!(rt; samplers.len(), 2);
+    let last = samplers.pop().ok_or("no sampler")?;
+    let first = samplers.pop().ok_or("no sampler")?;
+    assert_eq!(rt;
+        (first.channel(), first.lists(), first.running()),
+        (0, 0b1010, 0b0010)
+    );
+    assert_eq!(rt;
+        (last.channel(), last.lists(), last.running()),
+        (1, 0b0101, 0b0100)
+    );
+    assert_eq!(rt; transmitter.into_writer().next_counter(), 0);
+    Ok(())
+}

@@ -1,0 +1,80 @@
+use Rattle.std.proofs.Common.{◌≡◌, Option, Some, None, Err, false, length, map, refl, sym, ap, ◌∙◌, subst}
+use Rattle.std.specs.Option.{is_some}
+use Rattle.std.proofs.lemmas.Bool.{false≢true}
+use Rattle.std.proofs.lemmas.Result.{err_from_is_err_and}
+use Rattle.sampler.specs.State.{SamplerEndState}
+use Rattle.transmitter.specs.Merge.{of_ring}
+use Rattle.transmitter.specs.Pumps.{PumpAnswers, Pumps}
+use Rattle.transmitter.specs.Rounds.{Drains}
+use Rattle.transmitter.specs.Written.{transmission}
+use Rattle.transmitter.proofs.DrainLemmas.{first_look, looked-rings, one_round, pumped-rings, stopped_by}
+use Rattle.transmitter.proofs.RingLemmas.{same_count}
+use Rattle.transmitter.proofs.transmitter.Transmitter.drain.Goals as goal
+
+none_of : {X : Type 0} → (o : Option X) → is_some o ≡ false → o ≡ None
+none_of None e = refl
+none_of (Some x) e = absurd (false≢true (sym e))
+
+-- the first look
+pub loop-left-init : goal.loop-left-init
+loop-left-init g c =
+    let t = g.T.TakeEnd in
+    let s = c.args.self.now in
+    let e = c.after-left.ensures in
+    let sent_of = λ (x : SamplerEndState g.row.T-End.Denot). g.T.End.RingEnd.all_sent x.end in
+    let was_open = sym c.closed.ensures ∙ c.if-closed.false in
+    let none = none_of s.hand (sym s.held ∙ was_open) in
+    record {
+      emptying = first_look (map sent_of c.args.ends.now) (transmission g.O.Out t s) (transmission g.O.Out t c.after-left.new.self) was_open none (record { same = e.same; rest = e.left });
+      rings = looked-rings (transmission g.O.Out t s) (transmission g.O.Out t c.after-left.new.self) e.same;
+      end_rings = e.end_rings;
+      ends = e.ends;
+      sent = e.sent;
+      some = e.some;
+      none = e.none;
+    }
+
+-- one round more
+pub loop-left-preserved : goal.loop-left-preserved
+loop-left-preserved g c =
+    let t = g.T.TakeEnd in
+    let sent_of = λ (x : SamplerEndState g.row.T-End.Denot). g.T.End.RingEnd.all_sent x.end in
+    let i = c.loop-left.invariant in
+    let p = c.pump-answer.ensures in
+    let e = c.after-left-in-loop-left.ensures in
+    let a = transmission g.O.Out t c.args.self.now in
+    let b = transmission g.O.Out t c.loop-left.self in
+    let m = transmission g.O.Out t c.pump-answer.new.self in
+    let d = transmission g.O.Out t c.after-left-in-loop-left.new.self in
+    let rings : d.rings ≡ b.rings = pumped-rings b m d p.taken p.leads e.same in
+    let pumps : Pumps b m p.taken c.in_ok-answer.field-0 = subst (PumpAnswers b m p.taken) c.in_ok-answer.was p.answers in
+    let as_many : length d.known ≡ length b.known = same_count t.ring t.known c.after-left-in-loop-left.new.self.ends.items c.loop-left.self.ends.items rings in
+    record {
+      emptying = one_round (map sent_of c.args.ends.now) a b m d p.taken c.in_ok-answer.field-0 i.emptying p.leads p.rising pumps (record { same = e.same; rest = λ k. e.left k ∙ ap (λ z. of_ring z k) i.sent }) as_many;
+      rings = rings ∙ i.rings;
+      end_rings = e.end_rings ∙ i.end_rings;
+      ends = e.ends ∙ i.ends;
+      sent = e.sent ∙ i.sent;
+      some = e.some;
+      none = e.none;
+    }
+
+-- the pump was refused, and what was taken before stands
+pub returns-in_err-answer-clause-drains : goal.returns-in_err-answer-clause-drains
+returns-in_err-answer-clause-drains g c =
+    let t = g.T.TakeEnd in
+    let sent_of = λ (x : SamplerEndState g.row.T-End.Denot). g.T.End.RingEnd.all_sent x.end in
+    let i = c.loop-left.invariant in
+    let p = c.pump-answer.ensures in
+    let e = c.after-left-in-loop-left.ensures in
+    let s = c.loop-left.self in
+    let a = transmission g.O.Out t c.args.self.now in
+    let b = transmission g.O.Out t s in
+    let m = transmission g.O.Out t c.pump-answer.new.self in
+    let d = transmission g.O.Out t c.after-left-in-loop-left.new.self in
+    let fault = c.in_err-answer.field-0.0 in
+    let answers : PumpAnswers b m p.taken (Err fault) = subst (PumpAnswers b m p.taken) c.in_err-answer.was p.answers in
+    let was_open : b.writer.closed ≡ false = s.held ∙ ap is_some i.emptying.hand in
+    let same = err_from_is_err_and c.from_residual.result c.from_residual.ensures.1 in
+    let stopped = stopped_by (map sent_of c.args.ends.now) a b m d p.taken fault i.emptying was_open p.leads p.rising answers (record { same = e.same; rest = λ k. e.left k ∙ ap (λ z. of_ring z k) i.sent }) in
+    subst (Drains (map sent_of c.args.ends.now) a d) (sym (same.1 ∙ ap Err same.2)) stopped
