@@ -12,3 +12,4 @@ pub mod OrderLemmas
 pub mod HeadlineLemmas
 pub mod AccountLemmas
 pub mod LineLemmas
+pub mod StandardFacts
