@@ -1,8 +1,8 @@
 -- The account of a list: its due samples are those written, dropped and left.
-use Rattle.std.proofs.Common.{◌≡◌, ◌≢◌, ℕ, zero, suc, ◌+◌, ◌-◌, ◌*◌, ◌<◌, ◌≤◌, ◌⊎◌, inl, inr, Bool, true, false, not, ◌&&◌, cond, eqb, nat_eq, Option, Some, None, List, [], ◌∷◌, ◌++◌, length, map, drop, refl, sym, ap, ◌∙◌, subst, arith, length-append}
-use Rattle.std.specs.Prelude.{count_by, filter, slice_get, zip}
+use Rattle.std.proofs.Common.{◌≡◌, ◌≢◌, ℕ, ◌+◌, ◌-◌, ◌*◌, ◌<◌, ◌≤◌, inl, inr, Bool, true, false, not, cond, eqb, nat_eq, Option, Some, List, [], ◌∷◌, ◌++◌, length, map, drop, refl, sym, ap, ◌∙◌, subst, arith, length-append}
+use Rattle.std.specs.Prelude.{count_by, slice_get, zip}
 use Rattle.std.specs.List.{AllByRecursion, range_with_len}
-use Rattle.std.proofs.lemmas.Bool.Decides.{eqb_tells, nat_tests}
+use Rattle.std.proofs.lemmas.Bool.Decides.{eqb_tells}
 use Rattle.std.proofs.lemmas.List.{length-map}
 use Rattle.std.proofs.lemmas.List.FromFn.{length-range_with_len}
 use Rattle.std.proofs.lemmas.List.Sums.{sum_by-cons}
@@ -12,12 +12,11 @@ use Rattle.xcp_base.specs.declared.item.Item.TheVariants.{Sample, Marker}
 use Rattle.copy_plan.specs.Config.{IsPlan, ListPlan}
 use Rattle.copy_plan.specs.Packet.{packets}
 use Rattle.frame_writer.specs.Writing.{WriterState}
-use Rattle.sampler.specs.Decisions.{Decided, decided, is_of_list, overload_bit, pairs_of}
+use Rattle.sampler.specs.Decisions.{Decided, overload_bit, pairs_of}
 use Rattle.sampler.specs.History.{Event, Opening, due}
-use Rattle.sampler.specs.Items.{items, sample}
+use Rattle.sampler.specs.Items.{sample}
 use Rattle.sampler.specs.State.{JoinedEnd}
 use Rattle.sampler.specs.Tracks.{counts_of}
-use Rattle.sampler.specs.declared.counts.ListCounts.{ListCounts}
 use Rattle.transmitter.specs.Items.{count_of, packets_of, samples}
 use Rattle.transmitter.specs.Merge.{items_taken, of_ring, taken_from}
 use Rattle.transmitter.specs.Written.{HasTaken, TransmitterState, in_hand}

@@ -13,3 +13,4 @@ pub mod HeadlineLemmas
 pub mod AccountLemmas
 pub mod LineLemmas
 pub mod BenchLemmas
+pub mod StandardFacts

@@ -11,6 +11,7 @@ mod report;
 #[cfg(test)]
 mod tests;
 
+pub use closing::close;
 pub use faults::CloseFault;
 pub use open_fault::OpenFault;
 pub use opening::open;
