@@ -2,3 +2,4 @@
 
 mod bench;
 mod opening;
+mod rows;
