@@ -12,4 +12,5 @@ pub mod OrderLemmas
 pub mod HeadlineLemmas
 pub mod AccountLemmas
 pub mod LineLemmas
+pub mod BenchLemmas
 pub mod StandardFacts

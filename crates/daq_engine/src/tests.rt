@@ -1,3 +1,5 @@
 //! What no clause says.
 
+mod bench;
 mod opening;
+mod rows;

@@ -4,8 +4,6 @@
 mod drain;
 mod faults;
 mod pumped;
-#[cfg(test)]
-mod tests;
 mod transmitter;
 mod turn;
 

@@ -1,7 +1,9 @@
 //! What no clause says: that an engine opens, and comes to each refusal.
 use crate::{OpenFault, open};
+use channel_ring::SendHalf;
 use daq_store::Store;
 use frame_writer::{FrameWriter, VecOut};
+use sampler::Sampler;
 use std::process::Abort;
 use std::test::Fail;
 
@@ -73,29 +75,52 @@ fn a_store_in_which_no_list_runs_is_refused(rt: HostRuntime) -> Result<(), Fail>
     Ok(())
 }
 
-#[test]
-fn each_ready_list_is_in_the_sampler_of_its_channel(rt: HostRuntime) -> Result<(), Fail> {
-    // lists 1 and 2 run, list 3 is ready, and list 4 is not, since its entry was not written
-    let mut store = store_of(&rt, 2, &[1, 0, 1, 0, 1])?;
+/// A store in which lists 1 and 3 are of event channel 0, and lists 0, 2 and 4 of channel 1; lists 1 and 2 run, and list 4
+/// isn't ready, since its entry isn't written.
+fn two_channels(rt: &HostRuntime) -> Result<Store, Fail> {
+    let mut store = store_of(rt, 2, &[1, 0, 1, 0, 1])?;
     store.alloc_odt_entry(4, 0, 1)?;
     store.start_stop(1, 1)?;
     store.start_stop(1, 2)?;
+    Ok(store)
+}
+
+/// The event channel of a sampler, its lists, and those that run.
+fn shown(sampler: Option<Sampler<SendHalf>>) -> Result<(u8, u16, u16), Fail> {
+    let sampler = sampler.ok_or("no sampler")?;
+    Ok((sampler.channel(), sampler.lists(), sampler.running()))
+}
+
+#[test]
+fn each_ready_list_is_in_the_sampler_of_its_channel(rt: HostRuntime) -> Result<(), Fail> {
+    let store = two_channels(&rt)?;
     let writer = FrameWriter::new(VecOut::new(rt.alloc()));
     let (mut samplers, transmitter) = match open(rt.alloc(), &store, &[1, 1024], writer) {
         Ok(engine) => engine,
         Err((fault, _)) => return Err(Fail::from(fault)),
     };
+    assert_eq!(rt; shown(samplers.pop())?, (1, 0b0101, 0b0100));
+    assert_eq!(rt; shown(samplers.pop())?, (0, 0b1010, 0b0010));
+    assert_eq!(rt; samplers.len(), 0);
+    assert_eq!(rt; transmitter.into_writer().next_counter(), 0);
+    Ok(())
+}
+
+/// In a run of `rt try --test --fail-alloc N` the Nth allocation fails; the first twelve are those of the store, and where a
+/// later one fails, the store and the writer still serve.
+#[test]
+fn after_a_refused_growth_an_engine_can_be_opened(rt: HostRuntime) -> Result<(), Fail> {
+    let store = two_channels(&rt)?;
+    let writer = FrameWriter::new(VecOut::new(rt.alloc()));
+    let engine = match open(rt.alloc(), &store, &[4, 4], writer) {
+        Err((OpenFault::Memory, writer)) => open(rt.alloc(), &store, &[4, 4], writer),
+        answer => answer,
+    };
+    let (samplers, transmitter) = match engine {
+        Ok(engine) => engine,
+        Err((fault, _)) => return Err(Fail::from(fault)),
+    };
     assert_eq!(rt; samplers.len(), 2);
-    let last = samplers.pop().ok_or("no sampler")?;
-    let first = samplers.pop().ok_or("no sampler")?;
-    assert_eq!(rt;
-        (first.channel(), first.lists(), first.running()),
-        (0, 0b1010, 0b0010)
-    );
-    assert_eq!(rt;
-        (last.channel(), last.lists(), last.running()),
-        (1, 0b0101, 0b0100)
-    );
     assert_eq!(rt; transmitter.into_writer().next_counter(), 0);
     Ok(())
 }

@@ -4,6 +4,7 @@ use crate::command::Command;
 use crate::refusal::Refusal;
 use crate::reply::Reply;
 use crate::store::Store;
+use std::fmt::Debug;
 use std::process::Abort;
 use xcp_base::ErrCode;
 
@@ -59,6 +60,12 @@ pub fn ask_all(rt: &impl Abort, store: &mut Store, calls: &[(Command, Answer)]) 
         let (command, answer) = calls[place];
         assert_eq!(rt; ask(store, command), answer, "at {place}: {command:?}");
     }
+}
+
+/// Compares what is shown with what is wanted. A test has one call of this for each comparison, since
+/// a macro in its own body is proved anew at each place.
+pub fn same<T: Copy + Debug + PartialEq>(rt: &impl Abort, shown: T, wanted: T, what: &str) {
+    assert_eq!(rt; shown, wanted, "{what}");
 }
 
 /// ALLOC_DAQ.

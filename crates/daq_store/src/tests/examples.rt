@@ -1,26 +1,34 @@
 //! The worked examples, each with its own numbers.
 
 use super::ask::{
-    ACCEPTED, Answer, alloc_daq, alloc_odt, alloc_odt_entry, ask, ask_all, refused, set_mode,
+    ACCEPTED, Answer, alloc_daq, alloc_odt, alloc_odt_entry, ask_all, refused, same, set_mode,
     set_ptr, start_stop, started, synch, write,
 };
 use crate::command::Command;
 use crate::refusal::{BadLimits, Refusal};
 use crate::store::Store;
+use std::fmt::Display;
+use std::process::Abort;
 use std::test::Fail;
 use xcp_base::ErrCode;
 
 #[test]
 fn a_store_is_made_within_the_limits_alone(rt: HostRuntime) -> Result<(), Fail> {
-    for (channels, image_len) in [(0, 1), (9, 1), (1, 0), (1, 4097)] {
+    let cases = [
+        (0, 1, "no event channel"),
+        (9, 1, "9 event channels"),
+        (1, 0, "images without a byte"),
+        (1, 4097, "images of 4097 bytes"),
+    ];
+    for (channels, image_len, name) in cases {
         let made = Store::new(rt.alloc(), channels, image_len);
-        assert_eq!(rt; made.err(), Some(BadLimits), "at {channels}, {image_len}");
+        same(&rt, made.err(), Some(BadLimits), name);
     }
     let store = Store::new(rt.alloc(), 8, 4096)?;
-    assert_eq!(rt; store.channels(), 8);
-    assert_eq!(rt; store.image_len(), 4096);
-    assert_eq!(rt; store.lists(), 0);
-    assert_eq!(rt; store.pointer(), None);
+    same(&rt, store.channels(), 8, "event channels");
+    same(&rt, store.image_len(), 4096, "image length");
+    same(&rt, store.lists(), 0, "lists");
+    same(&rt, store.pointer(), None, "pointer");
     Ok(())
 }
 
@@ -38,14 +46,14 @@ fn at_most_124_odts_over_all_lists(rt: HostRuntime) -> Result<(), Fail> {
         ],
     );
     for list in 0..15 {
-        assert_eq!(rt; ask(&mut store, alloc_odt(list, 8)), ACCEPTED, "at {list}");
+        ask_all(&rt, &mut store, &[(alloc_odt(list, 8), ACCEPTED)]);
     }
     ask_all(
         &rt,
         &mut store,
         &[(alloc_odt(15, 5), overflow), (alloc_odt(15, 4), ACCEPTED)],
     );
-    assert_eq!(rt; store.first_pid(15), Some(0x78));
+    same(&rt, store.first_pid(15), Some(0x78), "FIRST_PID of list 15");
     ask_all(
         &rt,
         &mut store,
@@ -185,21 +193,21 @@ fn selected_lists_start_together_or_not_at_all(rt: HostRuntime) -> Result<(), Fa
         ],
     );
     for list in 0..2 {
-        assert!(rt; !store.running(list), "at {list}");
-        assert!(rt; store.selected(list), "at {list}");
+        same(&rt, store.running(list), false, "a list runs");
+        same(&rt, store.selected(list), true, "a list is selected");
     }
     ask_all(&rt, &mut store, &[(synch(2), ACCEPTED)]);
     for list in 0..2 {
-        assert!(rt; !store.selected(list), "at {list}");
+        same(&rt, store.selected(list), false, "a list is selected still");
     }
     ask_all(
         &rt,
         &mut store,
         &[(start_stop(2, 0), started(0)), (synch(1), ACCEPTED)],
     );
-    assert!(rt; store.running(0));
-    assert!(rt; store.plan(0).is_some());
-    assert!(rt; store.plan(1).is_none());
+    same(&rt, store.running(0), true, "list 0 runs");
+    same(&rt, store.plan(0).is_some(), true, "list 0 is ready");
+    same(&rt, store.plan(1).is_some(), false, "list 1 is ready");
     ask_all(
         &rt,
         &mut store,
@@ -255,36 +263,41 @@ fn a_plan_has_what_was_set(rt: HostRuntime) -> Result<(), Fail> {
             (write(0xFF, 2, 0, 6), ACCEPTED),
         ],
     );
-    assert_eq!(rt; store.set_mode(0x10, 0, 1, 3, 9), Ok(()));
-    assert!(rt; store.plan(1).is_none());
-    let plan = store.plan(0);
-    assert!(rt; plan.is_some());
-    if let Some(conf) = plan {
-        assert_eq!(rt; conf.channel(), 1);
-        assert_eq!(rt; conf.prescaler(), 3);
-        assert!(rt; conf.stamped());
-        assert_eq!(rt; conf.priority(), 9);
-        assert_eq!(rt; conf.odts(), 1);
-        assert_eq!(rt; conf.entries(0), 1);
-        assert_eq!(rt; conf.entries(1), 0);
-        assert_eq!(rt; conf.entry(0, 0), Some((6, 2)));
-        assert_eq!(rt; conf.entry(0, 1), None);
-        assert!(rt; conf.ready(8));
-        assert!(rt; !conf.ready(7));
-    }
+    same(&rt, store.set_mode(0x10, 0, 1, 3, 9), Ok(()), "set_mode");
+    same(&rt, store.plan(1).is_none(), true, "list 1 is not there");
+    let conf = store.plan(0).ok_or("list 0 is ready")?;
+    same(&rt, conf.channel(), 1, "channel");
+    same(&rt, conf.prescaler(), 3, "prescaler");
+    same(&rt, conf.stamped(), true, "stamped");
+    same(&rt, conf.priority(), 9, "priority");
+    same(&rt, conf.odts(), 1, "ODTs");
+    same(&rt, conf.entries(0), 1, "entries of ODT 0");
+    same(&rt, conf.entries(1), 0, "entries of ODT 1");
+    same(&rt, conf.entry(0, 0), Some((6, 2)), "entry 0");
+    same(&rt, conf.entry(0, 1), None, "entry 1");
+    same(&rt, conf.ready(8), true, "ready for 8 bytes");
+    same(&rt, conf.ready(7), false, "ready for 7 bytes");
+    Ok(())
+}
+
+/// Compares a printed text.
+fn says(rt: &(impl Abort + AllocGlobal), why: &impl Display, wanted: &str) -> Result<(), Fail> {
+    let text = format!(in rt.alloc(); "{why}")?;
+    assert_eq!(rt; text.as_str(), wanted);
     Ok(())
 }
 
 #[test]
 fn a_refusal_says_why(rt: HostRuntime) -> Result<(), Fail> {
-    let active = format!(in rt.alloc(); "{}", Refusal::Code(ErrCode::DaqActive))?;
-    assert_eq!(rt; active.as_str(), "refused: DaqActive");
-    let memory = format!(in rt.alloc(); "{}", Refusal::Memory)?;
-    assert_eq!(rt; memory.as_str(), "want of memory");
-    let limits = format!(in rt.alloc(); "{}", BadLimits)?;
-    assert_eq!(rt;
-        limits.as_str(),
-        "event channels or image length out of their limits"
-    );
-    Ok(())
+    says(
+        &rt,
+        &Refusal::Code(ErrCode::DaqActive),
+        "refused: DaqActive",
+    )?;
+    says(&rt, &Refusal::Memory, "want of memory")?;
+    says(
+        &rt,
+        &BadLimits,
+        "event channels or image length out of their limits",
+    )
 }

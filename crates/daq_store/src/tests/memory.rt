@@ -2,8 +2,8 @@
 //! allocation fails; with N from 1 to 6 each growth of this test is refused in turn.
 
 use super::ask::{
-    ACCEPTED, alloc_daq, alloc_odt, alloc_odt_entry, ask, ask_all, set_mode, set_ptr, start_stop,
-    started, write,
+    ACCEPTED, alloc_daq, alloc_odt, alloc_odt_entry, ask, ask_all, same, set_mode, set_ptr,
+    start_stop, started, write,
 };
 use crate::command::Command;
 use crate::refusal::Refusal;
@@ -39,7 +39,7 @@ fn ask_again(rt: &impl Abort, store: &mut Store, command: Command) {
     let before = readers(store);
     let mut answer = ask(store, command);
     if answer == Err(Refusal::Memory) {
-        assert_eq!(rt; readers(store), before, "after {command:?}");
+        same(rt, readers(store), before, "after want of memory");
         answer = ask(store, command);
     }
     assert_eq!(rt; answer, ACCEPTED, "at {command:?}");
@@ -51,12 +51,12 @@ fn a_refused_growth_leaves_the_store_as_it_was(rt: HostRuntime) -> Result<(), Fa
     ask_again(&rt, &mut store, alloc_daq(3));
     ask_all(&rt, &mut store, &[(start_stop(2, 0), started(0))]);
     ask_again(&rt, &mut store, alloc_daq(2));
-    assert_eq!(rt; store.lists(), 2);
-    assert!(rt; !store.selected(0));
+    same(&rt, store.lists(), 2, "lists");
+    same(&rt, store.selected(0), false, "list 0 is selected");
     ask_again(&rt, &mut store, alloc_odt(0, 5));
-    assert_eq!(rt; store.first_pid(1), Some(5));
+    same(&rt, store.first_pid(1), Some(5), "FIRST_PID behind 5 ODTs");
     ask_again(&rt, &mut store, alloc_odt(0, 1));
-    assert_eq!(rt; store.first_pid(1), Some(1));
+    same(&rt, store.first_pid(1), Some(1), "FIRST_PID behind 1 ODT");
     ask_again(&rt, &mut store, alloc_odt_entry(0, 0, 1));
     ask_all(
         &rt,
@@ -69,9 +69,9 @@ fn a_refused_growth_leaves_the_store_as_it_was(rt: HostRuntime) -> Result<(), Fa
             (set_ptr(0, 0, 0), ACCEPTED),
         ],
     );
-    assert_eq!(rt; readers(&store).entry, Some((1, 2)));
+    same(&rt, readers(&store).entry, Some((1, 2)), "entry");
     ask_again(&rt, &mut store, alloc_odt_entry(0, 0, 32));
-    assert_eq!(rt; store.pointer(), None);
-    assert!(rt; store.plan(0).is_none());
+    same(&rt, store.pointer(), None, "pointer");
+    same(&rt, store.plan(0).is_none(), true, "list 0 is not ready");
     Ok(())
 }

@@ -2,7 +2,7 @@
 
 ghost use Rattle.std.specs.Prelude.{◌<◌, ◌≤◌};
 
-use super::ask::{alloc_daq, alloc_odt, alloc_odt_entry, ask, set_mode, set_ptr, write};
+use super::ask::{alloc_daq, alloc_odt, alloc_odt_entry, ask, same, set_mode, set_ptr, write};
 use super::plain::{self, Profile};
 use crate::command::{self, Command};
 use crate::refusal::NoMemory;
@@ -167,11 +167,12 @@ fn packets_select_and_start_lists(rt: HostRuntime) -> Result<(), Fail> {
         ],
     );
     for list in 0..2 {
-        assert!(rt; store.selected(list) && !store.running(list), "at {list}");
+        same(&rt, store.selected(list), true, "a list is selected");
+        same(&rt, store.running(list), false, "a list runs");
     }
     carry_all(&rt, &mut store, &[(&[0xDD, 2], RES)]);
     for list in 0..2 {
-        assert!(rt; !store.selected(list), "at {list}");
+        same(&rt, store.selected(list), false, "a list is selected still");
     }
     carry_all(
         &rt,
@@ -183,7 +184,7 @@ fn packets_select_and_start_lists(rt: HostRuntime) -> Result<(), Fail> {
             (&[0xDE, 3, 0, 0], &[0xFE, 0x27]),
         ],
     );
-    assert!(rt; store.running(0));
+    same(&rt, store.running(0), true, "list 0 runs");
     Ok(())
 }
 
@@ -342,6 +343,13 @@ fn tabled_bytes(reply: Reply) -> ([u8; 2], usize)
     }
 }
 
+/// Makes these calls.
+fn set_up_by(rt: &impl Abort, store: &mut Store, calls: &[Command]) {
+    for place in 0..calls.len() {
+        assert!(rt; ask(store, calls[place]).is_ok(), "at call {place}");
+    }
+}
+
 /// Carries out one packet of this code, length and byte after these calls, and compares the reply.
 fn compare(
     rt: &impl Abort,
@@ -353,9 +361,7 @@ fn compare(
 ) -> Result<(), Fail>
     requires { len < 10 }
 {
-    for place in 0..calls.len() {
-        assert!(rt; ask(&mut store, calls[place]).is_ok(), "at call {place}");
-    }
+    set_up_by(rt, &mut store, calls);
     let profile = Profile {
         channels: 1,
         image_len: 4,

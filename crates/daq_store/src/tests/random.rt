@@ -2,7 +2,9 @@
 
 ghost use Rattle.std.specs.Prelude.{◌<◌, ◌+◌};
 
-use super::ask::{Answer, alloc_daq, alloc_odt, alloc_odt_entry, ask, set_mode, set_ptr, write};
+use super::ask::{
+    Answer, alloc_daq, alloc_odt, alloc_odt_entry, ask, same, set_mode, set_ptr, write,
+};
 use super::plain::{self, Profile};
 use crate::command::Command;
 use crate::list_conf::ListConf;
@@ -207,48 +209,56 @@ fn compare_plan(rt: &impl Abort, conf: &ListConf, calls: &[Command], list: u16) 
         conf.stamped(),
         conf.priority(),
     );
-    assert_eq!(rt; Some(mode), plain::mode(calls, list));
-    assert_eq!(rt; conf.odts(), plain::odts(calls, list) as usize);
+    same(rt, Some(mode), plain::mode(calls, list), "mode");
+    same(rt, conf.odts(), plain::odts(calls, list) as usize, "ODTs");
     for k in 0..plain::odts(calls, list) {
-        let entries = plain::entries(calls, list, k);
-        assert_eq!(rt; conf.entries(k as usize), entries as usize);
-        for e in 0..entries {
-            assert_eq!(rt;
-                conf.entry(k as usize, e as usize),
-                plain::written(calls, list, k, e)
-            );
-        }
-        assert_eq!(rt; conf.entry(k as usize, entries as usize), None);
+        compare_odt(rt, conf, calls, list, k);
     }
+}
+
+/// Compares the entries of an ODT.
+fn compare_odt(rt: &impl Abort, conf: &ListConf, calls: &[Command], list: u16, k: u8) {
+    let entries = plain::entries(calls, list, k);
+    same(rt, conf.entries(k as usize), entries as usize, "entries");
+    for e in 0..entries {
+        let shown = conf.entry(k as usize, e as usize);
+        same(rt, shown, plain::written(calls, list, k, e), "entry");
+    }
+    let beyond = conf.entry(k as usize, entries as usize);
+    same(rt, beyond, None, "behind the last entry");
 }
 
 /// Compares each reader.
 fn compare(rt: &impl Abort, store: &Store, profile: Profile, calls: &[Command], met: &mut Met) {
-    let lists = plain::lists(calls);
-    assert_eq!(rt; store.lists(), lists);
-    assert_eq!(rt; store.pointer(), plain::pointer(calls));
+    same(rt, store.lists(), plain::lists(calls), "lists");
+    same(rt, store.pointer(), plain::pointer(calls), "pointer");
     for list in [0u16, 1, 2, 3, 15, 16] {
-        let there = list < lists;
-        let pid = store.first_pid(list);
-        assert_eq!(rt; pid.is_some(), there);
-        if let Some(pid) = pid {
-            assert_eq!(rt; pid as u64, plain::first_pid(calls, list));
-        }
-        assert_eq!(rt; store.running(list), there && plain::running(calls, list));
-        assert_eq!(rt; store.selected(list), there && plain::selected(calls, list));
+        compare_list_state(rt, store, calls, list);
         if store.running(list) {
             met.running = met.running.saturating_add(1);
         }
         let plan = store.plan(list);
-        assert_eq!(rt;
-            plan.is_some(),
-            there && plain::ready(calls, profile.image_len, list)
-        );
+        let ready = list < plain::lists(calls) && plain::ready(calls, profile.image_len, list);
+        same(rt, plan.is_some(), ready, "ready");
         if let Some(conf) = plan {
             met.written = met.written.saturating_add(1);
             compare_plan(rt, conf, calls, list);
         }
     }
+}
+
+/// Compares FIRST_PID of a list, and whether it runs and is selected.
+fn compare_list_state(rt: &impl Abort, store: &Store, calls: &[Command], list: u16) {
+    let there = list < plain::lists(calls);
+    let pid = store.first_pid(list);
+    same(rt, pid.is_some(), there, "whether there is a FIRST_PID");
+    if let Some(pid) = pid {
+        same(rt, pid as u64, plain::first_pid(calls, list), "FIRST_PID");
+    }
+    let runs = there && plain::running(calls, list);
+    same(rt, store.running(list), runs, "running");
+    let is_chosen = there && plain::selected(calls, list);
+    same(rt, store.selected(list), is_chosen, "selected");
 }
 
 /// Draws a list of calls, makes them, and compares each answer and what the readers show.
