@@ -12,7 +12,7 @@ use std::alloc::Global;
 use std::process::Abort;
 use std::sync::atomic::{AtomicUsize, Ordering};
 use std::test::Fail;
-use std::thread;
+use std::thread::{self, Threads};
 use transmitter::Transmitter;
 use xcp_base::Item;
 
@@ -45,6 +45,26 @@ fn pump_all(
         let _ = transmitter.pump();
     }
     transmitter
+}
+
+/// Pumps beside a sampler in a thread of its own, until both samplers have ended.
+fn pump_beside(
+    rt: &impl Threads,
+    sampler: Sampler<SendHalf>,
+    transmitter: Transmitter<VecOut<Global>, TakeHalf>,
+    ended: &AtomicUsize,
+) -> (
+    Option<SamplerEnd<Finished<Item>>>,
+    Transmitter<VecOut<Global>, TakeHalf>,
+)
+    ensures ring { IfSome result.0 (λ end. ⟦<Finished<Item> as RingEnd>⟧.ring end.end ≡ ⟦<SendHalf as SendEnd>⟧.ring sampler.end) }
+    ensures rings { (transmission ⟦<VecOut<Global> as Out>⟧ ⟦<TakeHalf as TakeEnd>⟧ result.1).rings ≡ (transmission ⟦<VecOut<Global> as Out>⟧ ⟦<TakeHalf as TakeEnd>⟧ transmitter).rings }
+{
+    thread::join(
+        rt,
+        || sample_all(sampler, ended),
+        || pump_all(transmitter, ended),
+    )
 }
 
 /// The two samplers of a store of two event channels, and the transmitter of their rings, which have 16 places each.
@@ -145,13 +165,7 @@ fn two_samplers_run_beside_the_transmitter(rt: HostRuntime) -> Result<(), Fail> 
     let (first, (second, transmitter)) = thread::join(
         &rt,
         || sample_all(first, &ended),
-        || {
-            thread::join(
-                &rt,
-                || sample_all(second, &ended),
-                || pump_all(transmitter, &ended),
-            )
-        },
+        || pump_beside(&rt, second, transmitter, &ended),
     );
     let first = first.ok_or("a sampler that isn't finished")?;
     let second = second.ok_or("a sampler that isn't finished")?;
