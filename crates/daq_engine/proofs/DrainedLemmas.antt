@@ -1,5 +1,5 @@
 -- What is so once all that was sent was received and no sample is in hand.
-use Rattle.std.proofs.Common.{◌≡◌, ℕ, ◌+◌, List, [], ◌∷◌, length, drop, refl, sym, ap, ◌∙◌, append-nil}
+use Rattle.std.proofs.Common.{◌≡◌, ◌+◌, List, [], ◌∷◌, length, drop, refl, sym, ap, ◌∙◌, append-nil}
 use Rattle.xcp_base.specs.declared.item.Item.{Item}
 use Rattle.transmitter.specs.Items.{count_of, packets_of, samples}
 use Rattle.daq_engine.specs.Drained.{AllIsWritten, NothingIsLeft}
