@@ -106,6 +106,27 @@ fn each_ready_list_is_in_the_sampler_of_its_channel(rt: HostRuntime) -> Result<(
     Ok(())
 }
 
+#[test]
+fn a_sampler_sends_through_the_ring_of_its_place(rt: HostRuntime) -> Result<(), Fail> {
+    let store = two_channels(&rt)?;
+    let writer = FrameWriter::new(VecOut::new(rt.alloc()));
+    let (mut samplers, mut transmitter) = match open(rt.alloc(), &store, &[1, 1], writer) {
+        Ok(engine) => engine,
+        Err((fault, _)) => return Err(Fail::from(fault)),
+    };
+    let mut last = samplers.pop().ok_or("no sampler")?;
+    let mut first = samplers.pop().ok_or("no sampler")?;
+    // list 2, then list 1; each list has one ODT, so that FIRST_PID is the list's number
+    assert_eq!(rt; last.trigger(&[0xB1, 0xB2], 0)?.accepted, 0b0100);
+    assert_eq!(rt; first.trigger(&[0xA1, 0xA2], 0)?.accepted, 0b0010);
+    assert_eq!(rt; first.trigger(&[0xA3, 0xA4], 0)?.dropped, 0b0010);
+    assert_eq!(rt; transmitter.pump()?.taken, 2);
+    let out = transmitter.into_writer().into_out();
+    let frames = [3, 0, 0, 0, 1, 0xA1, 0xA2, 3, 0, 1, 0, 2, 0xB1, 0xB2];
+    assert_eq!(rt; out.bytes(), frames.as_slice());
+    Ok(())
+}
+
 /// In a run of `rt try --test --fail-alloc N` the Nth allocation fails; the first twelve are those of the store, and where a
 /// later one fails, the store and the writer still serve.
 #[test]
