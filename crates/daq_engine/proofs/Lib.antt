@@ -10,6 +10,7 @@ pub mod EndLemmas
 pub mod FrameLemmas
 pub mod OrderLemmas
 pub mod HeadlineLemmas
+pub mod DrainedLemmas
 pub mod AccountLemmas
 pub mod LineLemmas
 pub mod BenchLemmas

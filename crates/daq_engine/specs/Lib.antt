@@ -9,5 +9,6 @@ pub mod Stops
 pub mod Merges
 pub mod Account
 pub mod Headline
+pub mod Drained
 pub mod Settled
 pub mod Lines
