@@ -4,3 +4,4 @@ mod bench;
 mod opening;
 mod rows;
 mod threads;
+mod wrong_ends;

@@ -68,7 +68,7 @@ fn pump_beside(
 }
 
 /// The two samplers of a store of two event channels, and the transmitter of their rings, which have 16 places each.
-fn two_of(
+pub fn two_of(
     rt: &HostRuntime,
     store: &Store,
 ) -> Result<
@@ -140,15 +140,17 @@ fn packets_of(bytes: &[u8]) -> Option<[u64; 2]> {
     Some(packets)
 }
 
-/// A store of two event channels for images of two bytes, in which list `c` of event channel `c` runs.
-fn store_of_two(rt: &HostRuntime) -> Result<Store, Fail> {
-    let mut store = Store::new(rt.alloc(), 2, 2)?;
-    store.alloc_daq(2)?;
-    store.alloc_odt(0, 1)?;
-    store.alloc_odt(1, 1)?;
-    store.alloc_odt_entry(0, 0, 1)?;
-    store.alloc_odt_entry(1, 0, 1)?;
-    for list in 0..2 {
+/// A store for images of two bytes, in which list `c` of each event channel `c` runs.
+pub fn store_of(rt: &HostRuntime, channels: u16) -> Result<Store, Fail> {
+    let mut store = Store::new(rt.alloc(), channels, 2)?;
+    store.alloc_daq(channels)?;
+    for list in 0..channels {
+        store.alloc_odt(list, 1)?;
+    }
+    for list in 0..channels {
+        store.alloc_odt_entry(list, 0, 1)?;
+    }
+    for list in 0..channels {
         store.set_ptr(list, 0, 0)?;
         store.write(0xFF, 2, 0, 0)?;
         store.set_mode(0, list, list, 1, 0)?;
@@ -159,7 +161,7 @@ fn store_of_two(rt: &HostRuntime) -> Result<Store, Fail> {
 
 #[test]
 fn two_samplers_run_beside_the_transmitter(rt: HostRuntime) -> Result<(), Fail> {
-    let store = store_of_two(&rt)?;
+    let store = store_of(&rt, 2)?;
     let (first, second, transmitter) = two_of(&rt, &store)?;
     let ended = AtomicUsize::new(0);
     let (first, (second, transmitter)) = thread::join(

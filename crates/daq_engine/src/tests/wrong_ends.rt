@@ -1,0 +1,108 @@
+//! Ends that don't fit an engine come back, and those that do close it.
+ghost use Rattle.std.specs.Prelude.{◌≡◌, [], ◌∷◌, IfOk, IfSome};
+ghost use Rattle.transmitter.specs.Written.{transmission};
+
+use crate::tests::threads::{store_of, two_of};
+use crate::{CloseFault, close, open};
+use channel_ring::{RingEnd, SendEnd, SendHalf, TakeEnd, TakeHalf};
+use daq_store::Store;
+use frame_writer::{FrameWriter, Out, VecOut};
+use rtrb::Finished;
+use sampler::{Sampler, SamplerEnd};
+use std::alloc::Global;
+use std::process::Abort;
+use std::test::Fail;
+use transmitter::Transmitter;
+use xcp_base::Item;
+
+/// The engine of a store of one event channel, and what is left of its sampler.
+fn one_of(
+    rt: &HostRuntime,
+    store: &Store,
+) -> Result<
+    (
+        SamplerEnd<Finished<Item>>,
+        Transmitter<VecOut<Global>, TakeHalf>,
+    ),
+    Fail,
+>
+    ensures rings { IfOk result (λ r. (transmission ⟦<VecOut<Global> as Out>⟧ ⟦<TakeHalf as TakeEnd>⟧ r.1).rings ≡ ⟦<Finished<Item> as RingEnd>⟧.ring r.0.end ∷ []) }
+{
+    let writer = FrameWriter::new(VecOut::new(rt.alloc()));
+    let Ok((mut samplers, transmitter)) = open(rt.alloc(), store, &[8], writer) else {
+        return Err(Fail::from("not opened"));
+    };
+    if samplers.len() != 1 {
+        return Err(Fail::from("other than one sampler"));
+    }
+    let sampler = samplers.pop().ok_or("no sampler")?;
+    let end = sampler.finish().ok_or("a sampler that isn't finished")?;
+    Ok((end, transmitter))
+}
+
+/// Which fault two ends answer where there is one ring, and how many ends come back.
+fn with_two(
+    alloc: Global,
+    transmitter: Transmitter<VecOut<Global>, TakeHalf>,
+    first: SamplerEnd<Finished<Item>>,
+    second: SamplerEnd<Finished<Item>>,
+) -> Result<(CloseFault, usize, Transmitter<VecOut<Global>, TakeHalf>), Fail>
+    ensures back { IfOk result (λ r. r.2 ≡ transmitter) }
+{
+    let mut ends = Vec::new(alloc);
+    ends.push(first)?;
+    ends.push(second)?;
+    if transmitter.rings() != 1 {
+        return Err(Fail::from("other than one ring"));
+    }
+    match close(alloc, transmitter, ends) {
+        Ok(_) => Err(Fail::from("closed")),
+        Err((fault, transmitter, ends)) => Ok((fault, ends.len(), transmitter)),
+    }
+}
+
+/// Which fault no end answers where there is a ring.
+fn with_none(
+    alloc: Global,
+    transmitter: Transmitter<VecOut<Global>, TakeHalf>,
+) -> Result<(CloseFault, usize, Transmitter<VecOut<Global>, TakeHalf>), Fail>
+    ensures back { IfOk result (λ r. r.2 ≡ transmitter) }
+{
+    if transmitter.rings() != 1 {
+        return Err(Fail::from("other than one ring"));
+    }
+    match close(alloc, transmitter, Vec::new(alloc)) {
+        Ok(_) => Err(Fail::from("closed")),
+        Err((fault, transmitter, ends)) => Ok((fault, ends.len(), transmitter)),
+    }
+}
+
+/// Closes an engine of one ring.
+fn with_its_own(
+    alloc: Global,
+    transmitter: Transmitter<VecOut<Global>, TakeHalf>,
+    end: SamplerEnd<Finished<Item>>,
+) -> Result<bool, Fail>
+    requires rings { (transmission ⟦<VecOut<Global> as Out>⟧ ⟦<TakeHalf as TakeEnd>⟧ transmitter).rings ≡ ⟦<Finished<Item> as RingEnd>⟧.ring end.end ∷ [] }
+{
+    let mut ends = Vec::new(alloc);
+    ends.push(end)?;
+    match close(alloc, transmitter, ends) {
+        Ok((report, _)) => Ok(report.failed),
+        Err((fault, _, _)) => Err(Fail::from(fault)),
+    }
+}
+
+#[test]
+fn ends_that_do_not_fit_come_back(rt: HostRuntime) -> Result<(), Fail> {
+    let (end, transmitter) = one_of(&rt, &store_of(&rt, 1)?)?;
+    let (first, second, _other) = two_of(&rt, &store_of(&rt, 2)?)?;
+    let first = first.finish().ok_or("a sampler that isn't finished")?;
+    let second = second.finish().ok_or("a sampler that isn't finished")?;
+    let (fault, ends, transmitter) = with_none(rt.alloc(), transmitter)?;
+    assert_eq!(rt; (fault, ends), (CloseFault::WrongEnds, 0));
+    let (fault, ends, transmitter) = with_two(rt.alloc(), transmitter, first, second)?;
+    assert_eq!(rt; (fault, ends), (CloseFault::WrongEnds, 2));
+    assert!(rt; !with_its_own(rt.alloc(), transmitter, end)?);
+    Ok(())
+}
