@@ -14,3 +14,4 @@ pub mod AccountLemmas
 pub mod LineLemmas
 pub mod BenchLemmas
 pub mod StandardFacts
+pub mod WholeRunLemmas

@@ -3,3 +3,4 @@
 mod bench;
 mod opening;
 mod rows;
+mod whole_run;
