@@ -16,3 +16,4 @@ pub mod LineLemmas
 pub mod BenchLemmas
 pub mod StandardFacts
 pub mod SendLemmas
+pub mod WholeRunLemmas
