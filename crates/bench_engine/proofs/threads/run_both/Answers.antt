@@ -1,0 +1,8 @@
+use denote.Param.Send.{sendable}
+use Rattle.std.proofs.Crossing.{crosses}
+use Rattle.daq_engine.proofs.SendLemmas.{copy_plan, send_half}
+use Rattle.bench_engine.proofs.threads.run_both.Goals as goal
+
+-- a sampler may go to another thread
+pub join-requires-send-F : goal.join-requires-send-F
+join-requires-send-F g c κs within = search (sendable, crosses, copy_plan, send_half) depth 40
