@@ -11,4 +11,4 @@ mod tests;
 pub use ends::{Beside, RingEnd, SendEnd, TakeEnd};
 pub use fault::RingFault;
 pub use list_send::ListSend;
-pub use sample_ring::{SampleRing, SendHalf, TakeHalf};
+pub use sample_ring::{SampleRing, SendHalf, SendLeft, TakeHalf};
