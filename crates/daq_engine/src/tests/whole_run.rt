@@ -11,13 +11,14 @@ ghost use Rattle.daq_engine.specs.Configuration.{Past};
 ghost use Rattle.daq_engine.specs.Headline.{AllStand, Headline};
 ghost use Rattle.daq_engine.specs.Openings.{IsOpeningOf};
 
-use crate::{Report, close, open};
+use crate::{ListReport, Report, close, open};
 use channel_ring::{RingEnd, SendEnd, SendHalf, TakeEnd, TakeHalf};
 use daq_store::Store;
-use frame_writer::{FrameWriter, Out};
+use frame_writer::{FrameWriter, Out, VecOut};
 use rtrb::Finished;
 use sampler::{Sampler, SamplerEnd};
 use std::alloc::Global;
+use std::process::Abort;
 use std::test::Fail;
 use transmitter::Transmitter;
 use xcp_base::Item;
@@ -101,4 +102,38 @@ fn run_once<O: Out + Drop>(
         }
         Err((fault, _)) => Err(Fail::from(fault)),
     }
+}
+
+/// A store of two event channels, for images of two bytes; list `l` is of channel `l` and runs.
+fn store_of(rt: &HostRuntime) -> Result<Store, Fail> {
+    let mut store = Store::new(rt.alloc(), 2, 2)?;
+    store.alloc_daq(2)?;
+    store.alloc_odt(0, 1)?;
+    store.alloc_odt(1, 1)?;
+    store.alloc_odt_entry(0, 0, 1)?;
+    store.alloc_odt_entry(1, 0, 1)?;
+    for l in 0..2 {
+        store.set_ptr(l, 0, 0)?;
+        store.write(0xFF, 2, 0, 0)?;
+        store.set_mode(0, l, l, 1, 0)?;
+        store.start_stop(1, l)?;
+    }
+    Ok(store)
+}
+
+#[test]
+fn each_sample_of_a_whole_run_is_written(rt: HostRuntime) -> Result<(), Fail> {
+    let store = store_of(&rt)?;
+    let writer = FrameWriter::new(VecOut::new(rt.alloc()));
+    let (report, _) = run_once(rt.alloc(), &store, &[16, 16], writer, &[7, 8], 0)?;
+    let line = |l| ListReport {
+        list: l,
+        due: 1,
+        written: 1,
+        dropped: 0,
+        left: 0,
+    };
+    assert_eq!(rt; report.lists.as_slice(), [line(0), line(1)].as_slice());
+    assert_eq!(rt; report.failed, false);
+    Ok(())
 }

@@ -10,6 +10,7 @@ use Rattle.daq_engine.specs.Headline.{AllStand, Headline}
 use Rattle.daq_engine.proofs.WholeRunLemmas.{drained_taken}
 use Rattle.daq_engine.proofs.tests.whole_run.drain_and_close.Goals as goal
 
+-- the drain takes some more, and leaves what the ends show
 pub returns-in-Ok : goal.returns-in-Ok
 returns-in-Ok g c = record {
   headline = λ start ps past taken stand.

@@ -9,6 +9,7 @@ use Rattle.daq_engine.proofs.EndLemmas.{length-upto}
 use Rattle.daq_engine.proofs.WholeRunLemmas.{all_stand, ok_weaker, opened_stand, past-opening, past_of}
 use Rattle.daq_engine.proofs.tests.whole_run.run_once.Goals as goal
 
+-- each step keeps what `close` asks for: the samplers, and then their ends, stand from the openings of the store
 pub returns-in-Ok : goal.returns-in-Ok
 returns-in-Ok g c =
     let s = c.args.store.now in
