@@ -8,14 +8,12 @@ ghost use Rattle.daq_engine.specs.Opened.{IsOpenedAt, AreOpenedTo};
 
 use crate::channel_plans::{plans_of, running_of};
 use crate::open_fault::OpenFault;
-use channel_ring::{RingEnd, SampleRing, SendEnd, SendHalf, TakeEnd, TakeHalf};
+use channel_ring::{RingEnd, SampleRing, SendEnd, SendHalf, SendLeft, TakeEnd, TakeHalf};
 use daq_store::Store;
 use frame_writer::{FrameWriter, Out};
-use rtrb::Finished;
 use sampler::Sampler;
 use std::alloc::{AllocError, Global};
 use transmitter::Transmitter;
-use xcp_base::Item;
 use xcp_base::limits::MAX_SAMPLE_RING;
 
 /// Opens an engine over a store: a sampler for each event channel, in rising order, and the transmitter of their rings.
@@ -33,7 +31,7 @@ pub fn open<O: Out>(
 
     ensures ok { OnOk result ((fit_caps store.now caps.now ≡ true) × (some_list_runs store.now ≡ true)) }
     ensures opened { IfOk result (λ engine. (openings : ℕ → Opening)
-        × AreOpened ⟦<SendHalf as SendEnd>⟧ ⟦<Finished<Item> as RingEnd>⟧ store.now caps.now engine.0.items openings) }
+        × AreOpened ⟦<SendHalf as SendEnd>⟧ ⟦<SendLeft as RingEnd>⟧ store.now caps.now engine.0.items openings) }
     ensures paired { IfOk result (λ engine. IsPaired ⟦<SendHalf as SendEnd>⟧ engine.0.items (state_of O.Out writer)
         (transmission O.Out ⟦<TakeHalf as TakeEnd>⟧ engine.1)) }
     ensures writer { IfOk result (λ engine. writer_of engine.1 ≡ writer) }
@@ -99,7 +97,7 @@ fn sampler_of(
 ) -> Result<(Sampler<SendHalf>, TakeHalf), AllocError>
     requires channel { c < 8 }
     ensures opened { IfOk result (λ r. (opening : Opening)
-        × IsOpenedAt ⟦<SendHalf as SendEnd>⟧ ⟦<Finished<Item> as RingEnd>⟧ ⟦<TakeHalf as TakeEnd>⟧ store.now c cap r.0 r.1 opening) }
+        × IsOpenedAt ⟦<SendHalf as SendEnd>⟧ ⟦<SendLeft as RingEnd>⟧ ⟦<TakeHalf as TakeEnd>⟧ store.now c cap r.0 r.1 opening) }
 {
     let Ok(plans) = plans_of(alloc, store, c) else {
         return Err(AllocError);
@@ -120,7 +118,7 @@ fn samplers_of(
 ) -> Result<(Vec<Sampler<SendHalf>>, Vec<TakeHalf>), AllocError>
     requires caps { length caps.now ≡ store.now.profile.channels }
     ensures opened { IfOk result (λ r.
-        AreOpenedTo ⟦<SendHalf as SendEnd>⟧ ⟦<Finished<Item> as RingEnd>⟧ ⟦<TakeHalf as TakeEnd>⟧ store.now caps.now r.0.items r.1.items) }
+        AreOpenedTo ⟦<SendHalf as SendEnd>⟧ ⟦<SendLeft as RingEnd>⟧ ⟦<TakeHalf as TakeEnd>⟧ store.now caps.now r.0.items r.1.items) }
     ensures some { 1 ≤ store.now.profile.channels }
     ensures few { store.now.profile.channels ≤ 8 }
 {

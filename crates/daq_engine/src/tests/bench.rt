@@ -5,15 +5,13 @@ ghost use Rattle.transmitter.specs.Written.{transmission};
 ghost use Rattle.daq_engine.specs.Configuration.{upto};
 
 use crate::{Report, close, open};
-use channel_ring::{RingEnd, SendEnd, SendHalf, TakeEnd, TakeHalf};
+use channel_ring::{RingEnd, SendEnd, SendHalf, SendLeft, TakeEnd, TakeHalf};
 use daq_store::Store;
 use frame_writer::{FrameWriter, FuseOut, Out};
-use rtrb::Finished;
 use sampler::{Sampler, SamplerEnd, StartFault, StopFault, Taken, TriggerFault};
 use std::alloc::Global;
 use std::test::Fail;
 use transmitter::{PumpFault, Pumped, Transmitter};
-use xcp_base::Item;
 
 /// The samplers of event channels 0, 1, .., and the transmitter of their rings.
 #[derive(Drop)]
@@ -108,11 +106,11 @@ impl Bench {
 /// Drains the rings, if that is wanted, and leaves it at a fault.
 fn empty(
     transmitter: &mut Transmitter<FuseOut<Global>, TakeHalf>,
-    ends: &mut [SamplerEnd<Finished<Item>>],
+    ends: &mut [SamplerEnd<SendLeft>],
     drain: bool,
 )
-    requires one_rings { (transmission ⟦<FuseOut<Global> as Out>⟧ ⟦<TakeHalf as TakeEnd>⟧ transmitter.old).rings ≡ map (λ e. ⟦<Finished<Item> as RingEnd>⟧.ring e.end) ends.old }
-    ensures one_rings { (transmission ⟦<FuseOut<Global> as Out>⟧ ⟦<TakeHalf as TakeEnd>⟧ transmitter.new).rings ≡ map (λ e. ⟦<Finished<Item> as RingEnd>⟧.ring e.end) ends.new }
+    requires one_rings { (transmission ⟦<FuseOut<Global> as Out>⟧ ⟦<TakeHalf as TakeEnd>⟧ transmitter.old).rings ≡ map (λ e. ⟦<SendLeft as RingEnd>⟧.ring e.end) ends.old }
+    ensures one_rings { (transmission ⟦<FuseOut<Global> as Out>⟧ ⟦<TakeHalf as TakeEnd>⟧ transmitter.new).rings ≡ map (λ e. ⟦<SendLeft as RingEnd>⟧.ring e.end) ends.new }
 {
     if drain {
         let _ = transmitter.drain(ends);
@@ -123,8 +121,8 @@ fn empty(
 pub fn finish_all(
     alloc: Global,
     samplers: Vec<Sampler<SendHalf>>,
-) -> Result<Vec<SamplerEnd<Finished<Item>>>, Fail>
-    ensures rings { IfOk result (λ ends. map (λ e. ⟦<Finished<Item> as RingEnd>⟧.ring e.end) ends.items ≡ map (λ s. ⟦<SendHalf as SendEnd>⟧.ring s.end) samplers.items) }
+) -> Result<Vec<SamplerEnd<SendLeft>>, Fail>
+    ensures rings { IfOk result (λ ends. map (λ e. ⟦<SendLeft as RingEnd>⟧.ring e.end) ends.items ≡ map (λ s. ⟦<SendHalf as SendEnd>⟧.ring s.end) samplers.items) }
     ensures numbered { IfOk result (λ ends. map (λ e. e.channel) ends.items ≡ map (λ s. s.channel) samplers.items) }
 {
     let mut ends = Vec::new(alloc);

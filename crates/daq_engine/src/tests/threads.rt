@@ -3,10 +3,9 @@ ghost use Rattle.std.specs.Prelude.{◌≡◌, [], ◌∷◌, IfOk, IfSome};
 ghost use Rattle.transmitter.specs.Written.{transmission};
 
 use crate::{Report, close, open};
-use channel_ring::{RingEnd, SendEnd, SendHalf, TakeEnd, TakeHalf};
+use channel_ring::{RingEnd, SendEnd, SendHalf, SendLeft, TakeEnd, TakeHalf};
 use daq_store::Store;
 use frame_writer::{FrameWriter, Out, VecOut, next_frame};
-use rtrb::Finished;
 use sampler::{Sampler, SamplerEnd};
 use std::alloc::Global;
 use std::process::Abort;
@@ -14,11 +13,10 @@ use std::sync::atomic::{AtomicUsize, Ordering};
 use std::test::Fail;
 use std::thread::{self, Threads};
 use transmitter::Transmitter;
-use xcp_base::Item;
 
 /// A thousand triggers, each with its number as the image; then the sampler is finished.
-fn sample_all(sampler: Sampler<SendHalf>, ended: &AtomicUsize) -> Option<SamplerEnd<Finished<Item>>>
-    ensures ring { IfSome result (λ end. ⟦<Finished<Item> as RingEnd>⟧.ring end.end ≡ ⟦<SendHalf as SendEnd>⟧.ring sampler.end) }
+fn sample_all(sampler: Sampler<SendHalf>, ended: &AtomicUsize) -> Option<SamplerEnd<SendLeft>>
+    ensures ring { IfSome result (λ end. ⟦<SendLeft as RingEnd>⟧.ring end.end ≡ ⟦<SendHalf as SendEnd>⟧.ring sampler.end) }
     ensures channel { IfSome result (λ end. end.channel ≡ sampler.channel) }
 {
     let mut sampler = sampler;
@@ -54,10 +52,10 @@ fn pump_beside(
     transmitter: Transmitter<VecOut<Global>, TakeHalf>,
     ended: &AtomicUsize,
 ) -> (
-    Option<SamplerEnd<Finished<Item>>>,
+    Option<SamplerEnd<SendLeft>>,
     Transmitter<VecOut<Global>, TakeHalf>,
 )
-    ensures ring { IfSome result.0 (λ end. ⟦<Finished<Item> as RingEnd>⟧.ring end.end ≡ ⟦<SendHalf as SendEnd>⟧.ring sampler.end) }
+    ensures ring { IfSome result.0 (λ end. ⟦<SendLeft as RingEnd>⟧.ring end.end ≡ ⟦<SendHalf as SendEnd>⟧.ring sampler.end) }
     ensures rings { (transmission ⟦<VecOut<Global> as Out>⟧ ⟦<TakeHalf as TakeEnd>⟧ result.1).rings ≡ (transmission ⟦<VecOut<Global> as Out>⟧ ⟦<TakeHalf as TakeEnd>⟧ transmitter).rings }
 {
     thread::join(
@@ -97,10 +95,10 @@ pub fn two_of(
 fn close_two(
     alloc: Global,
     transmitter: Transmitter<VecOut<Global>, TakeHalf>,
-    first: SamplerEnd<Finished<Item>>,
-    second: SamplerEnd<Finished<Item>>,
+    first: SamplerEnd<SendLeft>,
+    second: SamplerEnd<SendLeft>,
 ) -> Result<(Report, VecOut<Global>), Fail>
-    requires rings { (transmission ⟦<VecOut<Global> as Out>⟧ ⟦<TakeHalf as TakeEnd>⟧ transmitter).rings ≡ ⟦<Finished<Item> as RingEnd>⟧.ring first.end ∷ ⟦<Finished<Item> as RingEnd>⟧.ring second.end ∷ [] }
+    requires rings { (transmission ⟦<VecOut<Global> as Out>⟧ ⟦<TakeHalf as TakeEnd>⟧ transmitter).rings ≡ ⟦<SendLeft as RingEnd>⟧.ring first.end ∷ ⟦<SendLeft as RingEnd>⟧.ring second.end ∷ [] }
 {
     let mut transmitter = transmitter;
     let mut ends = Vec::new(alloc);

@@ -12,22 +12,20 @@ ghost use Rattle.daq_engine.specs.Headline.{AllStand, Headline};
 ghost use Rattle.daq_engine.specs.Openings.{IsOpeningOf};
 
 use crate::{ListReport, Report, close, open};
-use channel_ring::{RingEnd, SendEnd, SendHalf, TakeEnd, TakeHalf};
+use channel_ring::{RingEnd, SendEnd, SendHalf, SendLeft, TakeEnd, TakeHalf};
 use daq_store::Store;
 use frame_writer::{FrameWriter, Out, VecOut};
-use rtrb::Finished;
 use sampler::{Sampler, SamplerEnd};
 use std::alloc::Global;
 use std::process::Abort;
 use std::test::Fail;
 use transmitter::Transmitter;
-use xcp_base::Item;
 
 /// A trigger of each event channel.
 fn trigger_all(samplers: &mut Vec<Sampler<SendHalf>>, image: &[u8], stamp: u32)
     ensures stands { (openings : ℕ → Opening)
-        → All (λ s. (h : List Event) × (d : List Bool) × StandsAfter ⟦<SendHalf as SendEnd>⟧ ⟦<Finished<Item> as RingEnd>⟧ s (openings s.channel) h d) samplers.old.items
-        → All (λ s. (h : List Event) × (d : List Bool) × StandsAfter ⟦<SendHalf as SendEnd>⟧ ⟦<Finished<Item> as RingEnd>⟧ s (openings s.channel) h d) samplers.new.items }
+        → All (λ s. (h : List Event) × (d : List Bool) × StandsAfter ⟦<SendHalf as SendEnd>⟧ ⟦<SendLeft as RingEnd>⟧ s (openings s.channel) h d) samplers.old.items
+        → All (λ s. (h : List Event) × (d : List Bool) × StandsAfter ⟦<SendHalf as SendEnd>⟧ ⟦<SendLeft as RingEnd>⟧ s (openings s.channel) h d) samplers.new.items }
     ensures rings { map (λ s. ⟦<SendHalf as SendEnd>⟧.ring s.end) samplers.new.items ≡ map (λ s. ⟦<SendHalf as SendEnd>⟧.ring s.end) samplers.old.items }
     ensures numbered { map (λ s. s.channel) samplers.new.items ≡ map (λ s. s.channel) samplers.old.items }
 {
@@ -40,11 +38,11 @@ fn trigger_all(samplers: &mut Vec<Sampler<SendHalf>>, image: &[u8], stamp: u32)
 fn finish_all(
     alloc: Global,
     samplers: Vec<Sampler<SendHalf>>,
-) -> Result<Vec<SamplerEnd<Finished<Item>>>, Fail>
+) -> Result<Vec<SamplerEnd<SendLeft>>, Fail>
     ensures stands { IfOk result (λ ends. (openings : ℕ → Opening)
-        → All (λ s. (h : List Event) × (d : List Bool) × StandsAfter ⟦<SendHalf as SendEnd>⟧ ⟦<Finished<Item> as RingEnd>⟧ s (openings s.channel) h d) samplers.items
-        → All (λ e. (h : List Event) × (d : List Bool) × EndStandsAfter (joined ⟦<Finished<Item> as RingEnd>⟧ e) (openings e.channel) h d) ends.items) }
-    ensures rings { IfOk result (λ ends. map (λ e. ⟦<Finished<Item> as RingEnd>⟧.ring e.end) ends.items ≡ map (λ s. ⟦<SendHalf as SendEnd>⟧.ring s.end) samplers.items) }
+        → All (λ s. (h : List Event) × (d : List Bool) × StandsAfter ⟦<SendHalf as SendEnd>⟧ ⟦<SendLeft as RingEnd>⟧ s (openings s.channel) h d) samplers.items
+        → All (λ e. (h : List Event) × (d : List Bool) × EndStandsAfter (joined ⟦<SendLeft as RingEnd>⟧ e) (openings e.channel) h d) ends.items) }
+    ensures rings { IfOk result (λ ends. map (λ e. ⟦<SendLeft as RingEnd>⟧.ring e.end) ends.items ≡ map (λ s. ⟦<SendHalf as SendEnd>⟧.ring s.end) samplers.items) }
     ensures numbered { IfOk result (λ ends. map (λ e. e.channel) ends.items ≡ map (λ s. s.channel) samplers.items) }
 {
     let mut ends = Vec::new(alloc);
@@ -59,14 +57,14 @@ fn finish_all(
 fn drain_and_close<O: Out + Drop>(
     alloc: Global,
     mut transmitter: Transmitter<O, TakeHalf>,
-    mut ends: Vec<SamplerEnd<Finished<Item>>>,
+    mut ends: Vec<SamplerEnd<SendLeft>>,
 ) -> Result<(Report, O), Fail>
-    requires one_rings { (transmission O.Out ⟦<TakeHalf as TakeEnd>⟧ transmitter).rings ≡ map (λ e. ⟦<Finished<Item> as RingEnd>⟧.ring e.end) ends.items }
+    requires one_rings { (transmission O.Out ⟦<TakeHalf as TakeEnd>⟧ transmitter).rings ≡ map (λ e. ⟦<SendLeft as RingEnd>⟧.ring e.end) ends.items }
     ensures headline { IfOk result (λ r. (start : WriterState) (ps : List (ℕ × Item)) (past : ℕ → Past) →
         HasTaken start (transmission O.Out ⟦<TakeHalf as TakeEnd>⟧ transmitter) ps →
-        AllStand (map (joined ⟦<Finished<Item> as RingEnd>⟧) ends.items) past →
+        AllStand (map (joined ⟦<SendLeft as RingEnd>⟧) ends.items) past →
         (t : TransmitterState)
-        × Headline start t (map (joined ⟦<Finished<Item> as RingEnd>⟧) ends.items) past r.0
+        × Headline start t (map (joined ⟦<SendLeft as RingEnd>⟧) ends.items) past r.0
         × (t.writer.out ≡ shown O.Out r.1)) }
 {
     let _ = transmitter.drain(ends.as_mut_slice());

@@ -4,29 +4,21 @@ ghost use Rattle.transmitter.specs.Written.{transmission};
 
 use crate::tests::threads::{store_of, two_of};
 use crate::{CloseFault, close, open};
-use channel_ring::{RingEnd, SendEnd, SendHalf, TakeEnd, TakeHalf};
+use channel_ring::{RingEnd, SendEnd, SendHalf, SendLeft, TakeEnd, TakeHalf};
 use daq_store::Store;
 use frame_writer::{FrameWriter, Out, VecOut};
-use rtrb::Finished;
 use sampler::{Sampler, SamplerEnd};
 use std::alloc::Global;
 use std::process::Abort;
 use std::test::Fail;
 use transmitter::Transmitter;
-use xcp_base::Item;
 
 /// The engine of a store of one event channel, and what is left of its sampler.
 fn one_of(
     rt: &HostRuntime,
     store: &Store,
-) -> Result<
-    (
-        SamplerEnd<Finished<Item>>,
-        Transmitter<VecOut<Global>, TakeHalf>,
-    ),
-    Fail,
->
-    ensures rings { IfOk result (λ r. (transmission ⟦<VecOut<Global> as Out>⟧ ⟦<TakeHalf as TakeEnd>⟧ r.1).rings ≡ ⟦<Finished<Item> as RingEnd>⟧.ring r.0.end ∷ []) }
+) -> Result<(SamplerEnd<SendLeft>, Transmitter<VecOut<Global>, TakeHalf>), Fail>
+    ensures rings { IfOk result (λ r. (transmission ⟦<VecOut<Global> as Out>⟧ ⟦<TakeHalf as TakeEnd>⟧ r.1).rings ≡ ⟦<SendLeft as RingEnd>⟧.ring r.0.end ∷ []) }
 {
     let writer = FrameWriter::new(VecOut::new(rt.alloc()));
     let Ok((mut samplers, transmitter)) = open(rt.alloc(), store, &[8], writer) else {
@@ -44,8 +36,8 @@ fn one_of(
 fn with_two(
     alloc: Global,
     transmitter: Transmitter<VecOut<Global>, TakeHalf>,
-    first: SamplerEnd<Finished<Item>>,
-    second: SamplerEnd<Finished<Item>>,
+    first: SamplerEnd<SendLeft>,
+    second: SamplerEnd<SendLeft>,
 ) -> Result<(CloseFault, usize, Transmitter<VecOut<Global>, TakeHalf>), Fail>
     ensures back { IfOk result (λ r. r.2 ≡ transmitter) }
 {
@@ -81,9 +73,9 @@ fn with_none(
 fn with_its_own(
     alloc: Global,
     transmitter: Transmitter<VecOut<Global>, TakeHalf>,
-    end: SamplerEnd<Finished<Item>>,
+    end: SamplerEnd<SendLeft>,
 ) -> Result<bool, Fail>
-    requires rings { (transmission ⟦<VecOut<Global> as Out>⟧ ⟦<TakeHalf as TakeEnd>⟧ transmitter).rings ≡ ⟦<Finished<Item> as RingEnd>⟧.ring end.end ∷ [] }
+    requires rings { (transmission ⟦<VecOut<Global> as Out>⟧ ⟦<TakeHalf as TakeEnd>⟧ transmitter).rings ≡ ⟦<SendLeft as RingEnd>⟧.ring end.end ∷ [] }
 {
     let mut ends = Vec::new(alloc);
     ends.push(end)?;

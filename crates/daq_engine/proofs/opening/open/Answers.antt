@@ -1,7 +1,7 @@
 use Rattle.std.proofs.Common.{arith, sym, ◌∙◌}
 use Rattle.channel_ring.specs.contracts.sample_ring.SendHalfSendEnd.TheImpl as send
 use Rattle.channel_ring.specs.contracts.sample_ring.TakeHalfTakeEnd.TheImpl as take_end
-use Rattle.channel_ring.specs.contracts.sample_ring.FinishedItemRingEnd.TheImpl as ring
+use Rattle.channel_ring.specs.contracts.sample_ring.SendLeftRingEnd.TheImpl as ring
 use Rattle.daq_engine.proofs.PlanLists.{one_for_each}
 use Rattle.daq_engine.proofs.SamplerLists.{all-opened, together}
 use Rattle.daq_engine.proofs.opening.open.Goals as goal

@@ -1,7 +1,7 @@
 use denote.Param.Send.{sendable}
 use Rattle.std.proofs.Crossing.{crosses}
-use Rattle.rtrb.proofs.end.End.TheSendSync.{the_send as send}
-use Rattle.daq_engine.proofs.SendLemmas.{copy_plan, item, send_half}
+use Rattle.channel_ring.proofs.SendLemmas.{item, ring_end, send_half}
+use Rattle.daq_engine.proofs.SendLemmas.{copy_plan}
 use Rattle.daq_engine.proofs.tests.threads.pump_beside.Goals as goal
 
 -- a sampler may go to another thread
@@ -10,4 +10,4 @@ join-requires-send-F g κs = search (sendable, crosses, copy_plan, send_half) de
 
 -- and what is left of it may come back
 pub join-requires-send-A : goal.join-requires-send-A
-join-requires-send-A g κs = search (sendable, crosses, send, copy_plan, item) depth 40
+join-requires-send-A g κs = search (sendable, crosses, ring_end, copy_plan, item) depth 40

@@ -1,7 +1,7 @@
 use denote.Param.Send.{sendable}
 use Rattle.std.proofs.Crossing.{crosses}
-use Rattle.rtrb.proofs.end.End.TheSendSync.{the_send as send}
-use Rattle.daq_engine.proofs.SendLemmas.{copy_plan, item, send_half}
+use Rattle.channel_ring.proofs.SendLemmas.{item, ring_end, send_half}
+use Rattle.daq_engine.proofs.SendLemmas.{copy_plan}
 use Rattle.daq_engine.proofs.tests.threads.two_samplers_run_beside_the_transmitter.Goals as goal
 
 -- a sampler may go to another thread
@@ -10,4 +10,4 @@ join-first-requires-send-F g κs = search (sendable, crosses, copy_plan, send_ha
 
 -- and what is left of it may come back
 pub join-first-requires-send-A : goal.join-first-requires-send-A
-join-first-requires-send-A g κs = search (sendable, crosses, send, copy_plan, item) depth 40
+join-first-requires-send-A g κs = search (sendable, crosses, ring_end, copy_plan, item) depth 40

@@ -2,7 +2,7 @@ use Rattle.std.proofs.Common.{◌≡◌, ◌++◌, List, drop, length, map, take
 use Rattle.std.proofs.Math.Seq.{take-append_seam}
 use Rattle.std.proofs.lemmas.List.{length-map}
 use Rattle.channel_ring.specs.contracts.sample_ring.TakeHalfTakeEnd.TheImpl as take_end
-use Rattle.channel_ring.specs.contracts.sample_ring.FinishedItemRingEnd.TheImpl as ring
+use Rattle.channel_ring.specs.contracts.sample_ring.SendLeftRingEnd.TheImpl as ring
 use Rattle.frame_writer.specs.Shown.{shown}
 use Rattle.sampler.specs.State.{JoinedEnd, joined}
 use Rattle.transmitter.specs.Written.{transmission}

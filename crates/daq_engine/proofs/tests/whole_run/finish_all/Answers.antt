@@ -4,7 +4,7 @@ use Rattle.std.proofs.lemmas.Iterator.Consumers.{YieldsList-end}
 use Rattle.std.proofs.lemmas.List.{map-id}
 use Rattle.std.proofs.lemmas.List.Elements.{All-pop, All-push}
 use Rattle.channel_ring.specs.contracts.sample_ring.SendHalfSendEnd.TheImpl as send
-use Rattle.channel_ring.specs.contracts.sample_ring.FinishedItemRingEnd.TheImpl as ring
+use Rattle.channel_ring.specs.contracts.sample_ring.SendLeftRingEnd.TheImpl as ring
 use Rattle.daq_engine.proofs.WholeRunLemmas.{EndStands, Stands, finished_stands, shown_more}
 use Rattle.daq_engine.proofs.tests.whole_run.finish_all.Goals as goal
 

@@ -1,7 +1,7 @@
 use Rattle.std.proofs.Common.{◌≡◌, ◌++◌, [], length, map, sym, ap, subst, ◌∙◌}
 use Rattle.std.proofs.lemmas.List.{length-map}
 use Rattle.channel_ring.specs.contracts.sample_ring.SendHalfSendEnd.TheImpl as send
-use Rattle.channel_ring.specs.contracts.sample_ring.FinishedItemRingEnd.TheImpl as ring
+use Rattle.channel_ring.specs.contracts.sample_ring.SendLeftRingEnd.TheImpl as ring
 use Rattle.frame_writer.specs.Writing.{state_of}
 use Rattle.sampler.specs.State.{joined}
 use Rattle.daq_engine.specs.Openings.{IsOpeningOf}

@@ -1,7 +1,7 @@
 use Rattle.std.proofs.Common.{◌<◌, arith, length, subst, sym, ◌∙◌}
 use Rattle.std.proofs.lemmas.List.Elements.{All-get_or, All-set}
 use Rattle.channel_ring.specs.contracts.sample_ring.SendHalfSendEnd.TheImpl as send
-use Rattle.channel_ring.specs.contracts.sample_ring.FinishedItemRingEnd.TheImpl as ring
+use Rattle.channel_ring.specs.contracts.sample_ring.SendLeftRingEnd.TheImpl as ring
 use Rattle.daq_engine.proofs.BenchLemmas.{shown_kept}
 use Rattle.daq_engine.proofs.WholeRunLemmas.{Stands, triggered_stands}
 use Rattle.daq_engine.proofs.tests.whole_run.trigger_all.Goals as goal

@@ -1,7 +1,7 @@
 use Rattle.std.proofs.Common.{◌≡◌, ℕ, All, map, vec_len}
 use Rattle.channel_ring.specs.Names.{name_of}
 use Rattle.channel_ring.specs.contracts.sample_ring.SendHalfSendEnd.TheImpl as send
-use Rattle.channel_ring.specs.contracts.sample_ring.FinishedItemRingEnd.TheImpl as ring
+use Rattle.channel_ring.specs.contracts.sample_ring.SendLeftRingEnd.TheImpl as ring
 use Rattle.sampler.specs.History.{Opening}
 use Rattle.daq_engine.proofs.WholeRunLemmas.{Stands}
 use Rattle.daq_engine.proofs.tests.whole_run.trigger_all.Given as goal
