@@ -1,4 +1,4 @@
-ghost use Rattle.std.specs.Prelude.{◌<◌};
+ghost use Rattle.std.specs.Prelude.{◌≡◌, ◌<◌};
 
 use crate::{Beside, ListSend, RingFault, SampleRing, SendEnd, SendHalf, TakeEnd, TakeHalf};
 use xcp_base::{Item, StopMark};
@@ -54,7 +54,9 @@ fn a_list_has_room_for_1_to_1024_items(rt: HostRuntime) {
 }
 
 /// The list of the next item's marker; `None` where no item is there.
-fn next_list(take: &mut TakeHalf) -> Option<u8> {
+fn next_list(take: &mut TakeHalf) -> Option<u8>
+    ensures ring { ⟦<TakeHalf as TakeEnd>⟧.ring take.new ≡ ⟦<TakeHalf as TakeEnd>⟧.ring take.old }
+{
     match take.take()? {
         Item::Marker(mark) => Some(mark.list()),
         Item::Sample(sample) => Some(sample.list()),
@@ -105,9 +107,9 @@ fn beside_tells_what_is_left_and_shows_the_places_that_are_free(rt: HostRuntime)
     let Ok((mut send, mut take)) = SampleRing::new(rt.alloc(), 4) else {
         panic!(rt; "a ring for four items");
     };
-    for list in 0..3 {
-        assert!(rt; send.offer(marker(list)).is_ok(), "item {list}");
-    }
+    assert!(rt; send.offer(marker(0)).is_ok());
+    assert!(rt; send.offer(marker(1)).is_ok());
+    assert!(rt; send.offer(marker(2)).is_ok());
     assert_eq!(rt; take.beside(&mut send), 3);
     assert_eq!(rt; next_list(&mut take), Some(0));
     assert_eq!(rt; take.beside(&mut send), 2);
