@@ -216,10 +216,10 @@ module _ {S E : Type 0} (send : SendGhosts S E) (ring : EndGhosts E) (before aft
   the_decisions = ap (are_in taken.accepted) (due_at-rows o h d image stamp stands.decisions rows of_plans are) ∙ decisions-are_in taken.accepted rows [] rows turn.accepted rising refl
 
   accepted_is : (l : ℕ) → has_list taken.accepted l ≡ (has_list taken.due l && has_list taken.accepted l)
-  accepted_is l = rw (turn.due l, turn.accepted l) (accepted-due l rows 0 rising)
+  accepted_is l = let least : ℕ = 0 in rw (turn.due l, turn.accepted l) (accepted-due l rows least rising)
 
   dropped_is : (l : ℕ) → has_list taken.dropped l ≡ (has_list taken.due l && not (has_list taken.accepted l))
-  dropped_is l = rw (turn.due l, turn.accepted l, turn.dropped l) (dropped-due l rows 0 rising)
+  dropped_is l = let least : ℕ = 0 in rw (turn.due l, turn.accepted l, turn.dropped l) (dropped-due l rows least rising)
 
   -- all that a trigger that is taken says
   pub takes-trigger : after.channel ≡ before.channel → after.plans ≡ before.plans → after.tracks ≡ take (length before.plans) after_tracks → after.triggers ≡ before.triggers + 1 → send.capacity after.end ≡ send.capacity before.end → TakesTrigger send ring before after taken o h d image stamp
