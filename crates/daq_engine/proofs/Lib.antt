@@ -13,6 +13,7 @@ pub mod HeadlineLemmas
 pub mod DrainedLemmas
 pub mod AccountLemmas
 pub mod LineLemmas
+pub mod StoppedLemmas
 pub mod BenchLemmas
 pub mod StandardFacts
 pub mod SendLemmas

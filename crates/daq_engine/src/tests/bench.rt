@@ -15,10 +15,10 @@ use transmitter::{PumpFault, Pumped, Transmitter};
 
 /// The samplers of event channels 0, 1, .., and the transmitter of their rings.
 #[derive(Drop)]
-pub struct Bench {
+pub struct Bench<O: Out + Drop = FuseOut<Global>> {
     pub samplers: Vec<Sampler<SendHalf>>,
-    pub transmitter: Transmitter<FuseOut<Global>, TakeHalf>,
-    ghost paired: { (transmission ⟦<FuseOut<Global> as Out>⟧ ⟦<TakeHalf as TakeEnd>⟧ transmitter).rings ≡ map (λ s. ⟦<SendHalf as SendEnd>⟧.ring s.end) samplers.items },
+    pub transmitter: Transmitter<O, TakeHalf>,
+    ghost paired: { (transmission O.Out ⟦<TakeHalf as TakeEnd>⟧ transmitter).rings ≡ map (λ s. ⟦<SendHalf as SendEnd>⟧.ring s.end) samplers.items },
     ghost numbered: { map (λ s. s.channel) samplers.items ≡ upto 0 (vec_len samplers) },
 }
 
@@ -31,8 +31,19 @@ impl Bench {
         chunk: usize,
         good: usize,
     ) -> Result<Bench, Fail> {
-        let writer = FrameWriter::new(FuseOut::new(rt.alloc(), chunk, good));
-        match open(rt.alloc(), store, caps, writer) {
+        Bench::over(rt, store, caps, FuseOut::new(rt.alloc(), chunk, good))
+    }
+}
+
+impl<O: Out + Drop> Bench<O> {
+    /// An engine that is opened over a store, and writes to `out`.
+    pub fn over(
+        rt: &HostRuntime,
+        store: &Store,
+        caps: &[usize],
+        out: O,
+    ) -> Result<Bench<O>, Fail> {
+        match open(rt.alloc(), store, caps, FrameWriter::new(out)) {
             Ok((samplers, transmitter)) => Ok(Bench {
                 samplers,
                 transmitter,
@@ -86,46 +97,64 @@ impl Bench {
     }
 }
 
-impl Bench {
+impl<O: Out + Drop> Bench<O> {
     /// The report and the writer, once the samplers are finished, after a drain or without one. A fault of the drain
     /// doesn't keep it from being closed.
-    pub fn close(self, alloc: Global, drain: bool) -> Result<(Report, FuseOut<Global>), Fail> {
+    pub fn close(self, alloc: Global, drain: bool) -> Result<(Report, O), Fail> {
         let Bench {
             samplers,
             mut transmitter,
         } = self;
-        let mut ends = finish_all(alloc, samplers)?;
+        let mut ends = finish_all(samplers, Vec::new(alloc))?;
         empty(&mut transmitter, ends.as_mut_slice(), drain);
         match close(alloc, transmitter, ends) {
             Ok(closed) => Ok(closed),
             Err((fault, _, _)) => Err(Fail::from(fault)),
         }
     }
+
+    /// The transmitter once the samplers are finished and the rings drained, and what is left of the samplers, in a vector
+    /// that is made already. A fault of the drain is this one's.
+    pub fn drain(
+        self,
+        room: Vec<SamplerEnd<SendLeft>>,
+    ) -> Result<(Transmitter<O, TakeHalf>, Vec<SamplerEnd<SendLeft>>), Fail>
+        requires empty { vec_len room ≡ 0 }
+    {
+        let Bench {
+            samplers,
+            mut transmitter,
+        } = self;
+        let mut ends = finish_all(samplers, room)?;
+        transmitter.drain(ends.as_mut_slice())?;
+        Ok((transmitter, ends))
+    }
 }
 
 /// Drains the rings, if that is wanted, and leaves it at a fault.
-fn empty(
-    transmitter: &mut Transmitter<FuseOut<Global>, TakeHalf>,
+fn empty<O: Out>(
+    transmitter: &mut Transmitter<O, TakeHalf>,
     ends: &mut [SamplerEnd<SendLeft>],
     drain: bool,
 )
-    requires one_rings { (transmission ⟦<FuseOut<Global> as Out>⟧ ⟦<TakeHalf as TakeEnd>⟧ transmitter.old).rings ≡ map (λ e. ⟦<SendLeft as RingEnd>⟧.ring e.end) ends.old }
-    ensures one_rings { (transmission ⟦<FuseOut<Global> as Out>⟧ ⟦<TakeHalf as TakeEnd>⟧ transmitter.new).rings ≡ map (λ e. ⟦<SendLeft as RingEnd>⟧.ring e.end) ends.new }
+    requires one_rings { (transmission O.Out ⟦<TakeHalf as TakeEnd>⟧ transmitter.old).rings ≡ map (λ e. ⟦<SendLeft as RingEnd>⟧.ring e.end) ends.old }
+    ensures one_rings { (transmission O.Out ⟦<TakeHalf as TakeEnd>⟧ transmitter.new).rings ≡ map (λ e. ⟦<SendLeft as RingEnd>⟧.ring e.end) ends.new }
 {
     if drain {
         let _ = transmitter.drain(ends);
     }
 }
 
-/// What is left of the samplers, which are all finished.
+/// What is left of the samplers, which are all finished, in a vector that is made already.
 pub fn finish_all(
-    alloc: Global,
     samplers: Vec<Sampler<SendHalf>>,
+    room: Vec<SamplerEnd<SendLeft>>,
 ) -> Result<Vec<SamplerEnd<SendLeft>>, Fail>
+    requires empty { vec_len room ≡ 0 }
     ensures rings { IfOk result (λ ends. map (λ e. ⟦<SendLeft as RingEnd>⟧.ring e.end) ends.items ≡ map (λ s. ⟦<SendHalf as SendEnd>⟧.ring s.end) samplers.items) }
     ensures numbered { IfOk result (λ ends. map (λ e. e.channel) ends.items ≡ map (λ s. s.channel) samplers.items) }
 {
-    let mut ends = Vec::new(alloc);
+    let mut ends = room;
     for sampler in samplers {
         let end = sampler.finish().ok_or("a sampler that isn't finished")?;
         ends.push(end)?;
