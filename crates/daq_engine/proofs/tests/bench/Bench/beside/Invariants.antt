@@ -3,4 +3,4 @@ use Rattle.daq_engine.proofs.tests.bench.Bench.beside.Given as goal
 
 -- as many samplers as before
 abbrev pub invariant-loop-c : goal.invariant-loop-c
-invariant-loop-c l = vec_len l.self.samplers ≡ l.c-end
+invariant-loop-c g l = vec_len l.self.samplers ≡ l.c-end
