@@ -5,8 +5,6 @@ mod fuse_out;
 pub mod laws;
 mod out;
 mod reader;
-#[cfg(test)]
-mod tests;
 mod vec_out;
 mod writer;
 
