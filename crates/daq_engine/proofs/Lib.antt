@@ -14,7 +14,4 @@ pub mod DrainedLemmas
 pub mod AccountLemmas
 pub mod LineLemmas
 pub mod StoppedLemmas
-pub mod BenchLemmas
 pub mod StandardFacts
-pub mod SendLemmas
-pub mod WholeRunLemmas

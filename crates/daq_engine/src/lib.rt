@@ -8,8 +8,6 @@ pub mod laws;
 mod open_fault;
 mod opening;
 mod report;
-#[cfg(test)]
-mod tests;
 
 pub use closing::close;
 pub use faults::CloseFault;

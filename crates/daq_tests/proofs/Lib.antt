@@ -1,0 +1,3 @@
+pub mod BenchLemmas
+pub mod SendLemmas
+pub mod WholeRunLemmas
