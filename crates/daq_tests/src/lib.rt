@@ -6,4 +6,6 @@ mod base;
 #[cfg(test)]
 mod frames;
 #[cfg(test)]
+mod plans;
+#[cfg(test)]
 mod same;
