@@ -3,6 +3,7 @@ use crate::same::same;
 use daq_sim::fixed_run;
 use frame_writer::{FuseOut, VecOut, WriteFault, next_frame};
 use linked_list_allocator::LocalHeap;
+use std::process::Abort;
 use std::test::Fail;
 
 pub const TWO_IMAGES: [[u8; 2]; 2] = [[0xAA, 0xBB], [0xCC, 0xDD]];
@@ -37,6 +38,19 @@ fn without_images_nothing_is_written(rt: HostRuntime) {
     same(&rt, (fault, out.bytes().len()), (None, 0), "fault, length");
 }
 
+/// Compares frames of AA BB, one behind another, by their counters.
+fn count_frames(rt: &impl Abort, bytes: &[u8]) -> Result<(), Fail> {
+    let mut rest = bytes;
+    for number in 0..65537u32 {
+        let (counter, packet, behind) = next_frame(rest).ok_or("a frame is missing")?;
+        let wanted = (number % 65536, [0x00, 0xAA, 0xBB].as_slice());
+        same(rt, (u32::from(counter), packet), wanted, "a frame");
+        rest = behind;
+    }
+    same(rt, rest.len(), 0, "the rest");
+    Ok(())
+}
+
 #[test]
 fn the_counter_wraps_after_65535(rt: HostRuntime) -> Result<(), Fail> {
     let images = vec![in rt.alloc(); [0xAA, 0xBB]; 65537]?;
@@ -57,16 +71,7 @@ fn the_counter_wraps_after_65535(rt: HostRuntime) -> Result<(), Fail> {
         Some(&last_two),
         "the last two frames",
     );
-
-    let mut rest = bytes;
-    for number in 0..65537u32 {
-        let (counter, packet, behind) = next_frame(rest).ok_or("a frame is missing")?;
-        let wanted = (number % 65536, [0x00, 0xAA, 0xBB].as_slice());
-        same(&rt, (u32::from(counter), packet), wanted, "a frame");
-        rest = behind;
-    }
-    same(&rt, rest.len(), 0, "the rest");
-    Ok(())
+    count_frames(&rt, bytes)
 }
 
 #[test]

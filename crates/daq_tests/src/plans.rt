@@ -8,6 +8,7 @@ use copy_plan::{CopyPlan, PlanFault};
 use daq_store::{Refusal, Store};
 use std::process::Abort;
 use std::test::Fail;
+use xcp_base::Packets;
 
 /// TIMESTAMP: the mode of a stamped list.
 const STAMPED: u8 = 0x10;
@@ -239,20 +240,24 @@ fn image_of_504() -> [u8; 504] {
     image
 }
 
+/// Compares the packets of a sample by its eight ODTs.
+fn are_parts(rt: &impl Abort, sample: &Packets, image: &[u8; 504]) -> Result<(), Fail> {
+    same(rt, sample.len(), 8, "packets");
+    for k in 0..8usize {
+        let packet = sample.get(k).ok_or("a packet is missing")?;
+        let pid = [k as u8];
+        let wanted = (pid.as_slice(), &image[63 * k..63 * k + 63]);
+        same(rt, (&packet[..1], &packet[1..]), wanted, "a packet");
+    }
+    Ok(())
+}
+
 #[test]
 fn a_sample_has_up_to_eight_packets_of_64_bytes(rt: HostRuntime) -> Result<(), Fail> {
     let image = image_of_504();
     let plan = plan_of_one(&rt, 0, 504, &EIGHT_ODTS)?;
     assert_eq!(rt; plan.image_len(), 504);
-    let sample = plan.fill(&image, 0, false);
-    same(&rt, sample.len(), 8, "packets");
-    for k in 0..8usize {
-        let packet = sample.get(k).ok_or("a packet is missing")?;
-        let pid = [k as u8];
-        let wanted = (pid.as_slice(), &image[63 * k..63 * k + 63]);
-        same(&rt, (&packet[..1], &packet[1..]), wanted, "a packet");
-    }
-    Ok(())
+    are_parts(&rt, &plan.fill(&image, 0, false), &image)
 }
 
 /// The packet of 32 bytes 0x11 with the timestamp 1.

@@ -35,25 +35,33 @@ fn packets_of(alloc: Global, packets: &[&[u8]]) -> Result<Vec<Vec<u8>>, AllocErr
     Ok(all)
 }
 
-/// The packets, a store of one channel and images of two bytes, and a writer into memory.
-pub fn slave_of(
-    rt: &HostRuntime,
-    packets: &[&[u8]],
-) -> Result<(Vec<Vec<u8>>, Store, FrameWriter<VecOut>), Fail> {
+/// The packets, and a store of one channel and images of two bytes.
+fn slave_of(rt: &HostRuntime, packets: &[&[u8]]) -> Result<(Vec<Vec<u8>>, Store), Fail> {
     let packets = packets_of(rt.alloc(), packets)?;
-    let store = Store::new(rt.alloc(), 1, 2)?;
-    Ok((packets, store, FrameWriter::new(VecOut::new(rt.alloc()))))
+    Ok((packets, Store::new(rt.alloc(), 1, 2)?))
 }
 
-/// Compares what stands after the set-up of the one list, of which the last packets were carried out as `carried` says.
+/// What is answered where packets are carried out for such a store, and the store and the writer after it.
+pub fn carried<O: Out + Drop>(
+    rt: &HostRuntime,
+    packets: &[&[u8]],
+    out: O,
+) -> Result<(Result<(), SetupFault>, Store, FrameWriter<O>), Fail> {
+    let (packets, mut store) = slave_of(rt, packets)?;
+    let mut writer = FrameWriter::new(out);
+    let answer = carry_all(&mut store, &packets, &mut writer);
+    Ok((answer, store, writer))
+}
+
+/// Compares what stands after the set-up of the one list, whose last packets were answered so.
 fn one_list_runs(
     rt: &impl Abort,
-    carried: Result<(), SetupFault>,
+    answer: Result<(), SetupFault>,
     store: &Store,
     writer: FrameWriter<VecOut>,
 ) {
     let shown = (
-        carried,
+        answer,
         store.running(0),
         writer.next_counter(),
         writer.closed(),
@@ -69,23 +77,22 @@ fn one_list_runs(
 
 #[test]
 fn the_set_up_of_one_list_is_answered_by_eight_frames(rt: HostRuntime) -> Result<(), Fail> {
-    let (packets, mut store, mut writer) = slave_of(&rt, &ONE_LIST)?;
-    let carried = carry_all(&mut store, &packets, &mut writer);
-    one_list_runs(&rt, carried, &store, writer);
+    let (answer, store, writer) = carried(&rt, &ONE_LIST, VecOut::new(rt.alloc()))?;
+    one_list_runs(&rt, answer, &store, writer);
     Ok(())
 }
 
 #[test]
 fn packets_that_are_refused_are_answered_too(rt: HostRuntime) -> Result<(), Fail> {
-    let (packets, mut store, mut writer) = slave_of(&rt, &[&[0xC0], &[], &[0xD6]])?;
-    let carried = carry_all(&mut store, &packets, &mut writer);
+    let packets: [&[u8]; 3] = [&[0xC0], &[], &[0xD6]];
+    let (answer, _, writer) = carried(&rt, &packets, VecOut::new(rt.alloc()))?;
     let wanted = [
         0x02, 0x00, 0x00, 0x00, 0xFE, 0x20, 0x02, 0x00, 0x01, 0x00, 0xFE, 0x21, 0x01, 0x00, 0x02,
         0x00, 0xFF,
     ];
     same(
         &rt,
-        (carried, writer.into_out().bytes()),
+        (answer, writer.into_out().bytes()),
         (Ok(()), &wanted),
         "answer, bytes",
     );
@@ -94,11 +101,9 @@ fn packets_that_are_refused_are_answered_too(rt: HostRuntime) -> Result<(), Fail
 
 #[test]
 fn a_command_whose_reply_breaks_off_is_carried_out(rt: HostRuntime) -> Result<(), Fail> {
-    let packets = packets_of(rt.alloc(), &[&[0xD5, 0, 1, 0], &[0xD4, 0, 0, 0, 1]])?;
-    let mut store = Store::new(rt.alloc(), 1, 2)?;
-    let mut writer = FrameWriter::new(FuseOut::new(rt.alloc(), 64, 7));
-    let carried = carry_all(&mut store, &packets, &mut writer);
-    let shown = (carried, writer.closed(), store.alloc_odt_entry(0, 0, 1));
+    let packets: [&[u8]; 2] = [&[0xD5, 0, 1, 0], &[0xD4, 0, 0, 0, 1]];
+    let (answer, mut store, writer) = carried(&rt, &packets, FuseOut::new(rt.alloc(), 64, 7))?;
+    let shown = (answer, writer.closed(), store.alloc_odt_entry(0, 0, 1));
     same(
         &rt,
         shown,
@@ -110,22 +115,22 @@ fn a_command_whose_reply_breaks_off_is_carried_out(rt: HostRuntime) -> Result<()
     Ok(())
 }
 
+/// Carries no packet and then these out by a closed frame writer, and compares what is answered.
+fn stops_closed(rt: &impl Abort, fuse: FuseOut, store: &mut Store, packets: &[Vec<u8>]) {
+    let mut writer = FrameWriter::new(fuse);
+    let closed = writer.send(&[0x00]).is_err();
+    let nothing = carry_all(store, &[], &mut writer);
+    let shown = (closed, nothing, carry_all(store, packets, &mut writer));
+    let wanted = (true, Ok(()), Err(SetupFault::Write));
+    same(rt, shown, wanted, "answers");
+    same(rt, writer.into_out().bytes().len(), 0, "length");
+}
+
 #[test]
 fn a_closed_frame_writer_stops_at_the_first_packet(rt: HostRuntime) -> Result<(), Fail> {
-    let packets = packets_of(rt.alloc(), &[&[0xD5, 0, 3, 0], &[0xD5, 0, 4, 0]])?;
-    let mut store = Store::new(rt.alloc(), 1, 2)?;
-    let mut writer = FrameWriter::new(FuseOut::new(rt.alloc(), 64, 0));
-    let closed = writer.send(&[0x00]).is_err();
-    let nothing = carry_all(&mut store, &[], &mut writer);
-    let carried = carry_all(&mut store, &packets, &mut writer);
-    same(
-        &rt,
-        (closed, nothing, carried),
-        (true, Ok(()), Err(SetupFault::Write)),
-        "answers",
-    );
-    let shown = (store.lists(), writer.into_out().bytes().len());
-    same(&rt, shown, (3, 0), "lists, length");
+    let (packets, mut store) = slave_of(&rt, &[&[0xD5, 0, 3, 0], &[0xD5, 0, 4, 0]])?;
+    stops_closed(&rt, FuseOut::new(rt.alloc(), 64, 0), &mut store, &packets);
+    same(&rt, store.lists(), 3, "lists");
     Ok(())
 }
 
@@ -141,19 +146,30 @@ fn carry_rest<O: Out>(
     carry_all(store, &packets[done..], writer)
 }
 
+/// Carries the set-up of the one list out, at want of memory in two parts, and compares what stands after it.
+fn carry_in_parts(
+    rt: &impl Abort,
+    store: &mut Store,
+    packets: &[Vec<u8>],
+    mut writer: FrameWriter<VecOut>,
+) {
+    let mut answer = carry_all(store, packets, &mut writer);
+    if answer == Err(SetupFault::Write) {
+        same(rt, writer.closed(), true, "closed");
+        return;
+    }
+    if answer == Err(SetupFault::Memory) {
+        answer = carry_rest(rt, store, packets, &mut writer);
+    }
+    one_list_runs(rt, answer, store, writer);
+}
+
 /// In a run of `rt try --test --fail-alloc N` the Nth allocation fails. If it is that of a command, the
 /// packets before it are answered, and it can be carried out later; if it is the writer's, a reply is lost.
 #[test]
 fn what_met_want_of_memory_can_be_carried_out_later(rt: HostRuntime) -> Result<(), Fail> {
-    let (packets, mut store, mut writer) = slave_of(&rt, &ONE_LIST)?;
-    let mut carried = carry_all(&mut store, &packets, &mut writer);
-    if carried == Err(SetupFault::Write) {
-        same(&rt, writer.closed(), true, "closed");
-        return Ok(());
-    }
-    if carried == Err(SetupFault::Memory) {
-        carried = carry_rest(&rt, &mut store, &packets, &mut writer);
-    }
-    one_list_runs(&rt, carried, &store, writer);
+    let (packets, mut store) = slave_of(&rt, &ONE_LIST)?;
+    let writer = FrameWriter::new(VecOut::new(rt.alloc()));
+    carry_in_parts(&rt, &mut store, &packets, writer);
     Ok(())
 }

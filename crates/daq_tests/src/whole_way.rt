@@ -2,9 +2,8 @@
 use crate::first_path::{TWO_FRAMES, TWO_IMAGES};
 use crate::plans::plan_of;
 use crate::same::same;
-use crate::set_up::{ONE_LIST, slave_of};
+use crate::set_up::{ONE_LIST, carried};
 use copy_plan::CopyPlan;
-use daq_sim::carry_all;
 use frame_writer::{FrameWriter, Out, VecOut};
 use std::process::Abort;
 use std::test::Fail;
@@ -12,13 +11,8 @@ use xcp_base::Packets;
 
 #[test]
 fn command_packets_lead_to_the_frames_of_two_images(rt: HostRuntime) -> Result<(), Fail> {
-    let (packets, mut store, mut replies) = slave_of(&rt, &ONE_LIST)?;
-    same(
-        &rt,
-        carry_all(&mut store, &packets, &mut replies),
-        Ok(()),
-        "the set-up",
-    );
+    let (answer, store, _) = carried(&rt, &ONE_LIST, VecOut::new(rt.alloc()))?;
+    same(&rt, answer, Ok(()), "the set-up");
     let plan = plan_of(&rt, &store, 0)?;
     let mut writer = FrameWriter::new(VecOut::new(rt.alloc()));
     let sent = send_images(&rt, &plan, &mut writer);
