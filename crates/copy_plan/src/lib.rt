@@ -5,7 +5,5 @@ mod fill;
 pub mod laws;
 mod plan;
 mod runs;
-#[cfg(test)]
-mod tests;
 
 pub use plan::{CopyPlan, PlanFault};

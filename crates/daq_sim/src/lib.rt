@@ -3,8 +3,6 @@
 
 mod fixed;
 mod setup;
-#[cfg(test)]
-mod tests;
 
 pub use fixed::fixed_run;
 pub use setup::{SetupFault, carry_all};

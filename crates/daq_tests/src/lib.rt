@@ -3,7 +3,16 @@
 
 #[cfg(test)]
 mod engine;
+mod base;
+#[cfg(test)]
+mod first_path;
 #[cfg(test)]
 mod frames;
 #[cfg(test)]
+mod plans;
+#[cfg(test)]
 mod same;
+#[cfg(test)]
+mod set_up;
+#[cfg(test)]
+mod whole_way;

@@ -7,8 +7,6 @@ pub mod limits;
 mod packets;
 mod sample;
 mod stop_mark;
-#[cfg(test)]
-mod tests;
 
 pub use err_code::ErrCode;
 pub use item::Item;
