@@ -5,3 +5,7 @@
 mod frames;
 #[cfg(test)]
 mod same;
+#[cfg(test)]
+mod samplers;
+#[cfg(test)]
+mod stores;
