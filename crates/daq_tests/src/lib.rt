@@ -4,6 +4,8 @@
 #[cfg(test)]
 mod frames;
 #[cfg(test)]
+mod rings;
+#[cfg(test)]
 mod same;
 #[cfg(test)]
 mod samplers;
