@@ -5,8 +5,6 @@ mod ends;
 mod fault;
 mod list_send;
 mod sample_ring;
-#[cfg(test)]
-mod tests;
 
 pub use ends::{Beside, RingEnd, SendEnd, TakeEnd};
 pub use fault::RingFault;

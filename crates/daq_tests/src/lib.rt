@@ -16,3 +16,10 @@ mod same;
 mod set_up;
 #[cfg(test)]
 mod whole_way;
+mod rings;
+#[cfg(test)]
+mod same;
+#[cfg(test)]
+mod samplers;
+#[cfg(test)]
+mod stores;

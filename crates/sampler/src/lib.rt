@@ -7,8 +7,6 @@ mod openings;
 mod sampler;
 mod sampler_end;
 mod taken;
-#[cfg(test)]
-mod tests;
 mod track;
 mod turn;
 
