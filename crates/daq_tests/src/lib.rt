@@ -5,3 +5,5 @@
 mod frames;
 #[cfg(test)]
 mod same;
+#[cfg(test)]
+mod store;

@@ -1,0 +1,328 @@
+//! The store beside the plain functions, on lists of calls that are drawn from a fixed seed.
+
+ghost use Rattle.std.specs.Prelude.{◌<◌, ◌+◌};
+
+use super::ask::{Answer, alloc_daq, alloc_odt, alloc_odt_entry, ask, set_mode, set_ptr, write};
+use super::plain::{self, Profile};
+use crate::same::same;
+use daq_store::command::Command;
+use daq_store::{ListConf, Refusal, Reply, Store};
+use std::process::Abort;
+use std::test::Fail;
+use xcp_base::ErrCode;
+
+/// A set-up with which half of the lists of calls begin: three lists, of which 0 and 1 are ready.
+fn set_up() -> [Command; 15] {
+    [
+        alloc_daq(3),
+        alloc_odt(0, 2),
+        alloc_odt(1, 1),
+        alloc_odt_entry(0, 0, 2),
+        alloc_odt_entry(0, 1, 1),
+        alloc_odt_entry(1, 0, 1),
+        set_ptr(0, 0, 0),
+        write(0xFF, 1, 0, 0),
+        write(0xFF, 2, 0, 1),
+        set_ptr(0, 1, 0),
+        write(0xFF, 3, 0, 2),
+        set_ptr(1, 0, 0),
+        write(0xFF, 2, 0, 4),
+        set_mode(0x10, 0, 0, 2),
+        set_mode(0x00, 1, 0, 1),
+    ]
+}
+
+/// Numbers from a seed, by a linear congruence.
+#[derive(Drop)]
+struct Draws {
+    state: u64,
+}
+
+impl Draws {
+    /// A number below another.
+    fn below(&mut self, bound: u64) -> u64
+        requires { 0 < bound }
+        ensures { result < bound }
+    {
+        self.state = self
+            .state
+            .wrapping_mul(6_364_136_223_846_793_005)
+            .wrapping_add(1_442_695_040_888_963_407);
+        (self.state >> 33) % bound
+    }
+
+    /// A count: mostly 1 or 2, at times 0, the most, or one over it.
+    fn count(&mut self, most: u8) -> u8
+        requires { most < 99 }
+        ensures { result < 100 }
+    {
+        match self.below(24) {
+            0 => 0,
+            1 => most + 1,
+            2 => most,
+            n => 1 + (n % 2) as u8,
+        }
+    }
+
+    /// A list, mostly one of the first three.
+    fn list(&mut self) -> u16
+        ensures { result < 20 }
+    {
+        match self.below(16) {
+            0 => 16,
+            1 => 3,
+            n => (n % 3) as u16,
+        }
+    }
+
+    /// A mode of START_STOP_DAQ_LIST or START_STOP_SYNCH, mostly one that there is.
+    fn start_mode(&mut self) -> u8 {
+        match self.below(8) {
+            0 => 3,
+            n => (n % 3) as u8,
+        }
+    }
+
+    fn write(&mut self) -> Command {
+        Command::WriteDaq {
+            bit: if self.below(20) == 0 { 3 } else { 0xFF },
+            size: if self.below(8) == 0 {
+                63
+            } else {
+                self.below(4) as u8
+            },
+            ext: if self.below(20) == 0 { 1 } else { 0 },
+            addr: self.below(7) as u32,
+        }
+    }
+
+    fn set_mode(&mut self) -> Command {
+        Command::SetDaqListMode {
+            mode: match self.below(8) {
+                0 => 0x20,
+                n => (n % 2) as u8 * 0x10,
+            },
+            list: self.list(),
+            channel: self.below(3) as u16,
+            prescaler: self.below(4) as u8,
+            priority: self.below(256) as u8,
+        }
+    }
+
+    /// A command of a kind.
+    fn of_kind(&mut self, kind: u64) -> Command {
+        match kind {
+            0 => Command::FreeDaq,
+            1 => Command::AllocDaq {
+                count: self.count(16) as u16,
+            },
+            2 => Command::AllocOdt {
+                list: self.list(),
+                count: self.count(8),
+            },
+            3 => Command::AllocOdtEntry {
+                list: self.list(),
+                odt: self.below(3) as u8,
+                count: self.count(32),
+            },
+            4 => Command::SetDaqPtr {
+                list: self.list(),
+                odt: self.below(3) as u8,
+                entry: self.below(3) as u8,
+            },
+            5 | 6 => self.write(),
+            7 => self.set_mode(),
+            8 => Command::StartStopDaqList {
+                mode: self.start_mode(),
+                list: self.list(),
+            },
+            _ => Command::StartStopSynch {
+                mode: self.start_mode(),
+            },
+        }
+    }
+
+    /// The command at a place of a list of calls: mostly one that a tool would send there.
+    fn command(&mut self, place: usize) -> Command {
+        let kind = if self.below(12) == 0 {
+            self.below(10)
+        } else {
+            match place {
+                0 => 1,
+                1..=4 => 2,
+                5..=10 => 3,
+                _ => 4 + self.below(6),
+            }
+        };
+        self.of_kind(kind)
+    }
+}
+
+/// How often each answer came.
+#[derive(Clone, Copy, Debug, Default)]
+struct Met {
+    accepted: u64,
+    started: u64,
+    active: u64,
+    range: u64,
+    mode: u64,
+    sequence: u64,
+    config: u64,
+    overflow: u64,
+    running: u64,
+    written: u64,
+}
+
+impl Met {
+    fn note(&mut self, reply: Reply) {
+        match reply {
+            Reply::Positive => self.accepted = self.accepted.saturating_add(1),
+            Reply::Started { .. } => self.started = self.started.saturating_add(1),
+            Reply::Error(ErrCode::DaqActive) => self.active = self.active.saturating_add(1),
+            Reply::Error(ErrCode::OutOfRange) => self.range = self.range.saturating_add(1),
+            Reply::Error(ErrCode::ModeNotValid) => self.mode = self.mode.saturating_add(1),
+            Reply::Error(ErrCode::Sequence) => self.sequence = self.sequence.saturating_add(1),
+            Reply::Error(ErrCode::DaqConfig) => self.config = self.config.saturating_add(1),
+            Reply::Error(_) => self.overflow = self.overflow.saturating_add(1),
+        }
+    }
+}
+
+/// The reply that stands for an answer; memory is ample here.
+fn reply_of(answer: Answer) -> Option<Reply> {
+    match answer {
+        Ok(reply) => Some(reply),
+        Err(Refusal::Code(code)) => Some(Reply::Error(code)),
+        Err(Refusal::Memory) => None,
+    }
+}
+
+/// Compares what is set of a ready list.
+fn compare_plan(rt: &impl Abort, conf: &ListConf, calls: &[Command], list: u16) {
+    let mode = (
+        conf.channel() as u16,
+        conf.prescaler(),
+        conf.stamped(),
+        conf.priority(),
+    );
+    same(rt, Some(mode), plain::mode(calls, list), "mode");
+    same(rt, conf.odts(), plain::odts(calls, list) as usize, "ODTs");
+    for k in 0..plain::odts(calls, list) {
+        compare_odt(rt, conf, calls, list, k);
+    }
+}
+
+/// Compares the entries of an ODT.
+fn compare_odt(rt: &impl Abort, conf: &ListConf, calls: &[Command], list: u16, k: u8) {
+    let entries = plain::entries(calls, list, k);
+    same(rt, conf.entries(k as usize), entries as usize, "entries");
+    for e in 0..entries {
+        let shown = conf.entry(k as usize, e as usize);
+        same(rt, shown, plain::written(calls, list, k, e), "entry");
+    }
+    let beyond = conf.entry(k as usize, entries as usize);
+    same(rt, beyond, None, "behind the last entry");
+}
+
+/// Compares each reader.
+fn compare(rt: &impl Abort, store: &Store, profile: Profile, calls: &[Command], met: &mut Met) {
+    same(rt, store.lists(), plain::lists(calls), "lists");
+    same(rt, store.pointer(), plain::pointer(calls), "pointer");
+    for list in [0u16, 1, 2, 3, 15, 16] {
+        compare_list_state(rt, store, calls, list);
+        if store.running(list) {
+            met.running = met.running.saturating_add(1);
+        }
+        let plan = store.plan(list);
+        let ready = list < plain::lists(calls) && plain::ready(calls, profile.image_len, list);
+        same(rt, plan.is_some(), ready, "ready");
+        if let Some(conf) = plan {
+            met.written = met.written.saturating_add(1);
+            compare_plan(rt, conf, calls, list);
+        }
+    }
+}
+
+/// Compares FIRST_PID of a list, and whether it runs and is selected.
+fn compare_list_state(rt: &impl Abort, store: &Store, calls: &[Command], list: u16) {
+    let there = list < plain::lists(calls);
+    let pid = store.first_pid(list);
+    same(rt, pid.is_some(), there, "whether there is a FIRST_PID");
+    if let Some(pid) = pid {
+        same(rt, pid as u64, plain::first_pid(calls, list), "FIRST_PID");
+    }
+    let runs = there && plain::running(calls, list);
+    same(rt, store.running(list), runs, "running");
+    let is_chosen = there && plain::selected(calls, list);
+    same(rt, store.selected(list), is_chosen, "selected");
+}
+
+/// Draws a list of calls, makes them, and compares each answer and what the readers show.
+fn compare_list(
+    rt: &(impl Abort + AllocGlobal),
+    draws: &mut Draws,
+    met: &mut Met,
+) -> Result<(), Fail> {
+    let channels = 1 + draws.below(2) as u16;
+    let image_len = if draws.below(4) == 0 {
+        100usize
+    } else {
+        6usize
+    };
+    let profile = Profile {
+        channels,
+        image_len: image_len as u64,
+    };
+    let mut store = Store::new(rt.alloc(), channels, image_len)?;
+    let mut calls = Vec::new(rt.alloc());
+    let first = set_up();
+    let is_set_up = draws.below(2) == 0;
+    for place in 0..40 {
+        let command = if is_set_up && place < 15 {
+            first[place]
+        } else {
+            draws.command(place)
+        };
+        let expected = plain::answer(profile, &calls, command);
+        let answer = reply_of(ask(&mut store, command));
+        assert_eq!(rt; answer, Some(expected), "at {place}: {command:?}");
+        met.note(expected);
+        if command == Command::FreeDaq {
+            calls.clear();
+        } else if expected == Reply::Positive {
+            calls.push(command)?;
+        } else if let Reply::Started { .. } = expected {
+            calls.push(command)?;
+        }
+        compare(rt, &store, profile, &calls, met);
+    }
+    Ok(())
+}
+
+#[test]
+fn the_store_answers_and_shows_what_is_read_off_the_calls(rt: HostRuntime) -> Result<(), Fail> {
+    let mut draws = Draws { state: 20_260_101 };
+    let mut met = Met::default();
+    for _ in 0..1500 {
+        compare_list(&rt, &mut draws, &mut met)?;
+    }
+    let least = [
+        met.accepted,
+        met.started,
+        met.active,
+        met.range,
+        met.mode,
+        met.sequence,
+        met.config,
+        met.overflow,
+        met.running,
+        met.written,
+    ];
+    for place in 0..least.len() {
+        assert!(rt;
+            least[place] >= 50,
+            "each kind of answer comes often: {met:?}"
+        );
+    }
+    Ok(())
+}
