@@ -1,7 +1,8 @@
 //! Calls of the store, by their commands.
 
+use crate::same::same;
 use daq_store::command::Command;
-use daq_store::{Refusal, Reply, Store};
+use daq_store::{ListConf, Refusal, Reply, Store};
 use std::process::Abort;
 use xcp_base::ErrCode;
 
@@ -23,31 +24,35 @@ pub fn refused(code: ErrCode) -> Answer {
 
 /// Makes the call that a command names.
 pub fn ask(store: &mut Store, command: Command) -> Answer {
-    match command {
-        Command::FreeDaq => store.free_daq(),
-        Command::AllocDaq { count } => store.alloc_daq(count)?,
-        Command::AllocOdt { list, count } => store.alloc_odt(list, count)?,
-        Command::AllocOdtEntry { list, odt, count } => store.alloc_odt_entry(list, odt, count)?,
-        Command::SetDaqPtr { list, odt, entry } => store.set_ptr(list, odt, entry)?,
+    let done = match command {
+        Command::FreeDaq => {
+            store.free_daq();
+            Ok(())
+        }
+        Command::AllocDaq { count } => store.alloc_daq(count),
+        Command::AllocOdt { list, count } => store.alloc_odt(list, count),
+        Command::AllocOdtEntry { list, odt, count } => store.alloc_odt_entry(list, odt, count),
+        Command::SetDaqPtr { list, odt, entry } => store.set_ptr(list, odt, entry),
         Command::WriteDaq {
             bit,
             size,
             ext,
             addr,
-        } => store.write(bit, size, ext, addr)?,
+        } => store.write(bit, size, ext, addr),
         Command::SetDaqListMode {
             mode,
             list,
             channel,
             prescaler,
             priority,
-        } => store.set_mode(mode, list, channel, prescaler, priority)?,
+        } => store.set_mode(mode, list, channel, prescaler, priority),
         Command::StartStopDaqList { mode, list } => {
             let first_pid = store.start_stop(mode, list)?;
             return Ok(Reply::Started { first_pid });
         }
-        Command::StartStopSynch { mode } => store.synch(mode)?,
-    }
+        Command::StartStopSynch { mode } => store.synch(mode),
+    };
+    done?;
     Ok(Reply::Positive)
 }
 
@@ -55,8 +60,35 @@ pub fn ask(store: &mut Store, command: Command) -> Answer {
 pub fn ask_all(rt: &impl Abort, store: &mut Store, calls: &[(Command, Answer)]) {
     for place in 0..calls.len() {
         let (command, answer) = calls[place];
-        assert_eq!(rt; ask(store, command), answer, "at {place}: {command:?}");
+        let shown = ask(store, command);
+        same(
+            rt,
+            (place, command, shown),
+            (place, command, answer),
+            "a call",
+        );
     }
+}
+
+/// The mode of a list: channel, prescaler, stamped, priority.
+pub type ListMode = (u16, u8, bool, u8);
+
+/// The mode that a plan shows.
+pub fn mode_of(conf: &ListConf) -> ListMode {
+    (
+        conf.channel() as u16,
+        conf.prescaler(),
+        conf.stamped(),
+        conf.priority(),
+    )
+}
+
+/// Whether each of two lists runs, and whether it is selected.
+pub fn states(store: &Store) -> [(bool, bool); 2] {
+    [
+        (store.running(0), store.selected(0)),
+        (store.running(1), store.selected(1)),
+    ]
 }
 
 /// ALLOC_DAQ.

@@ -1,8 +1,8 @@
 //! The worked examples, each with its own numbers.
 
 use super::ask::{
-    ACCEPTED, Answer, alloc_daq, alloc_odt, alloc_odt_entry, ask_all, refused, set_mode, set_ptr,
-    start_stop, started, synch, write,
+    ACCEPTED, Answer, alloc_daq, alloc_odt, alloc_odt_entry, ask_all, mode_of, refused, set_mode,
+    set_ptr, start_stop, started, states, synch, write,
 };
 use crate::same::same;
 use daq_store::command::Command;
@@ -25,10 +25,14 @@ fn a_store_is_made_within_the_limits_alone(rt: HostRuntime) -> Result<(), Fail> 
         same(&rt, made.err(), Some(BadLimits), name);
     }
     let store = Store::new(rt.alloc(), 8, 4096)?;
-    same(&rt, store.channels(), 8, "event channels");
-    same(&rt, store.image_len(), 4096, "image length");
-    same(&rt, store.lists(), 0, "lists");
-    same(&rt, store.pointer(), None, "pointer");
+    let limits = (store.channels(), store.image_len());
+    same(&rt, limits, (8, 4096), "event channels and image length");
+    same(
+        &rt,
+        (store.lists(), store.pointer()),
+        (0, None),
+        "lists and pointer",
+    );
     Ok(())
 }
 
@@ -192,22 +196,18 @@ fn selected_lists_start_together_or_not_at_all(rt: HostRuntime) -> Result<(), Fa
             (synch(1), refused(ErrCode::DaqConfig)),
         ],
     );
-    for list in 0..2 {
-        same(&rt, store.running(list), false, "a list runs");
-        same(&rt, store.selected(list), true, "a list is selected");
-    }
+    same(&rt, states(&store), [(false, true); 2], "selected lists");
     ask_all(&rt, &mut store, &[(synch(2), ACCEPTED)]);
-    for list in 0..2 {
-        same(&rt, store.selected(list), false, "a list is selected still");
-    }
+    same(&rt, states(&store), [(false, false); 2], "stopped lists");
     ask_all(
         &rt,
         &mut store,
         &[(start_stop(2, 0), started(0)), (synch(1), ACCEPTED)],
     );
-    same(&rt, store.running(0), true, "list 0 runs");
-    same(&rt, store.plan(0).is_some(), true, "list 0 is ready");
-    same(&rt, store.plan(1).is_some(), false, "list 1 is ready");
+    let wanted = [(true, false), (false, false)];
+    same(&rt, states(&store), wanted, "list 0 started");
+    let ready = (store.plan(0).is_some(), store.plan(1).is_some());
+    same(&rt, ready, (true, false), "lists that are ready");
     ask_all(
         &rt,
         &mut store,
@@ -266,24 +266,20 @@ fn a_plan_has_what_was_set(rt: HostRuntime) -> Result<(), Fail> {
     same(&rt, store.set_mode(0x10, 0, 1, 3, 9), Ok(()), "set_mode");
     same(&rt, store.plan(1).is_none(), true, "list 1 is not there");
     let conf = store.plan(0).ok_or("list 0 is ready")?;
-    same(&rt, conf.channel(), 1, "channel");
-    same(&rt, conf.prescaler(), 3, "prescaler");
-    same(&rt, conf.stamped(), true, "stamped");
-    same(&rt, conf.priority(), 9, "priority");
-    same(&rt, conf.odts(), 1, "ODTs");
-    same(&rt, conf.entries(0), 1, "entries of ODT 0");
-    same(&rt, conf.entries(1), 0, "entries of ODT 1");
-    same(&rt, conf.entry(0, 0), Some((6, 2)), "entry 0");
-    same(&rt, conf.entry(0, 1), None, "entry 1");
-    same(&rt, conf.ready(8), true, "ready for 8 bytes");
-    same(&rt, conf.ready(7), false, "ready for 7 bytes");
+    same(&rt, mode_of(conf), (1, 3, true, 9), "mode");
+    let counts = (conf.odts(), conf.entries(0), conf.entries(1));
+    same(&rt, counts, (1, 1, 0), "ODTs, and entries of ODTs 0 and 1");
+    let entries = (conf.entry(0, 0), conf.entry(0, 1));
+    same(&rt, entries, (Some((6, 2)), None), "entries 0 and 1");
+    let ready = (conf.ready(8), conf.ready(7));
+    same(&rt, ready, (true, false), "ready for 8 bytes, and for 7");
     Ok(())
 }
 
 /// Compares a printed text.
 fn says(rt: &(impl Abort + AllocGlobal), why: &impl Display, wanted: &str) -> Result<(), Fail> {
     let text = format!(in rt.alloc(); "{why}")?;
-    assert_eq!(rt; text.as_str(), wanted);
+    same(rt, text.as_str(), wanted, "a printed text");
     Ok(())
 }
 

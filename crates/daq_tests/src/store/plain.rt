@@ -1,6 +1,7 @@
 //! The store as slow, plain functions of the calls that were accepted since the last FREE_DAQ,
 //! oldest first. Each looks back for the last call that matters; none keeps a state.
 
+use super::ask::ListMode;
 use daq_store::Reply;
 use daq_store::command::Command;
 use xcp_base::ErrCode;
@@ -11,9 +12,6 @@ pub struct Profile {
     pub channels: u16,
     pub image_len: u64,
 }
-
-/// The mode of a list: channel, prescaler, stamped, priority.
-pub type ListMode = (u16, u8, bool, u8);
 
 /// The last allocation, as the number of steps of the set-up that it ends: 0 without one.
 fn phase(calls: &[Command]) -> u8 {

@@ -2,7 +2,7 @@
 
 ghost use Rattle.std.specs.Prelude.{◌<◌, ◌+◌};
 
-use super::ask::{Answer, alloc_daq, alloc_odt, alloc_odt_entry, ask, set_mode, set_ptr, write};
+use super::ask::{Answer, ask, mode_of};
 use super::plain::{self, Profile};
 use crate::same::same;
 use daq_store::command::Command;
@@ -12,25 +12,79 @@ use std::test::Fail;
 use xcp_base::ErrCode;
 
 /// A set-up with which half of the lists of calls begin: three lists, of which 0 and 1 are ready.
-fn set_up() -> [Command; 15] {
-    [
-        alloc_daq(3),
-        alloc_odt(0, 2),
-        alloc_odt(1, 1),
-        alloc_odt_entry(0, 0, 2),
-        alloc_odt_entry(0, 1, 1),
-        alloc_odt_entry(1, 0, 1),
-        set_ptr(0, 0, 0),
-        write(0xFF, 1, 0, 0),
-        write(0xFF, 2, 0, 1),
-        set_ptr(0, 1, 0),
-        write(0xFF, 3, 0, 2),
-        set_ptr(1, 0, 0),
-        write(0xFF, 2, 0, 4),
-        set_mode(0x10, 0, 0, 2),
-        set_mode(0x00, 1, 0, 1),
-    ]
-}
+const SET_UP: [Command; 15] = [
+    Command::AllocDaq { count: 3 },
+    Command::AllocOdt { list: 0, count: 2 },
+    Command::AllocOdt { list: 1, count: 1 },
+    Command::AllocOdtEntry {
+        list: 0,
+        odt: 0,
+        count: 2,
+    },
+    Command::AllocOdtEntry {
+        list: 0,
+        odt: 1,
+        count: 1,
+    },
+    Command::AllocOdtEntry {
+        list: 1,
+        odt: 0,
+        count: 1,
+    },
+    Command::SetDaqPtr {
+        list: 0,
+        odt: 0,
+        entry: 0,
+    },
+    Command::WriteDaq {
+        bit: 0xFF,
+        size: 1,
+        ext: 0,
+        addr: 0,
+    },
+    Command::WriteDaq {
+        bit: 0xFF,
+        size: 2,
+        ext: 0,
+        addr: 1,
+    },
+    Command::SetDaqPtr {
+        list: 0,
+        odt: 1,
+        entry: 0,
+    },
+    Command::WriteDaq {
+        bit: 0xFF,
+        size: 3,
+        ext: 0,
+        addr: 2,
+    },
+    Command::SetDaqPtr {
+        list: 1,
+        odt: 0,
+        entry: 0,
+    },
+    Command::WriteDaq {
+        bit: 0xFF,
+        size: 2,
+        ext: 0,
+        addr: 4,
+    },
+    Command::SetDaqListMode {
+        mode: 0x10,
+        list: 0,
+        channel: 0,
+        prescaler: 2,
+        priority: 0,
+    },
+    Command::SetDaqListMode {
+        mode: 0x00,
+        list: 1,
+        channel: 0,
+        prescaler: 1,
+        priority: 0,
+    },
+];
 
 /// Numbers from a seed, by a linear congruence.
 #[derive(Drop)]
@@ -199,13 +253,8 @@ fn reply_of(answer: Answer) -> Option<Reply> {
 
 /// Compares what is set of a ready list.
 fn compare_plan(rt: &impl Abort, conf: &ListConf, calls: &[Command], list: u16) {
-    let mode = (
-        conf.channel() as u16,
-        conf.prescaler(),
-        conf.stamped(),
-        conf.priority(),
-    );
-    same(rt, Some(mode), plain::mode(calls, list), "mode");
+    let wanted = plain::mode(calls, list);
+    same(rt, Some(mode_of(conf)), wanted, "mode");
     same(rt, conf.odts(), plain::odts(calls, list) as usize, "ODTs");
     for k in 0..plain::odts(calls, list) {
         compare_odt(rt, conf, calls, list, k);
@@ -226,8 +275,9 @@ fn compare_odt(rt: &impl Abort, conf: &ListConf, calls: &[Command], list: u16, k
 
 /// Compares each reader.
 fn compare(rt: &impl Abort, store: &Store, profile: Profile, calls: &[Command], met: &mut Met) {
-    same(rt, store.lists(), plain::lists(calls), "lists");
-    same(rt, store.pointer(), plain::pointer(calls), "pointer");
+    let shown = (store.lists(), store.pointer());
+    let wanted = (plain::lists(calls), plain::pointer(calls));
+    same(rt, shown, wanted, "lists and pointer");
     for list in [0u16, 1, 2, 3, 15, 16] {
         compare_list_state(rt, store, calls, list);
         if store.running(list) {
@@ -246,15 +296,20 @@ fn compare(rt: &impl Abort, store: &Store, profile: Profile, calls: &[Command], 
 /// Compares FIRST_PID of a list, and whether it runs and is selected.
 fn compare_list_state(rt: &impl Abort, store: &Store, calls: &[Command], list: u16) {
     let there = list < plain::lists(calls);
-    let pid = store.first_pid(list);
-    same(rt, pid.is_some(), there, "whether there is a FIRST_PID");
-    if let Some(pid) = pid {
-        same(rt, pid as u64, plain::first_pid(calls, list), "FIRST_PID");
-    }
+    let pid = match store.first_pid(list) {
+        Some(pid) => Some(pid as u64),
+        None => None,
+    };
+    let wanted = if there {
+        Some(plain::first_pid(calls, list))
+    } else {
+        None
+    };
+    same(rt, pid, wanted, "FIRST_PID");
     let runs = there && plain::running(calls, list);
-    same(rt, store.running(list), runs, "running");
     let is_chosen = there && plain::selected(calls, list);
-    same(rt, store.selected(list), is_chosen, "selected");
+    let shown = (store.running(list), store.selected(list));
+    same(rt, shown, (runs, is_chosen), "running and selected");
 }
 
 /// Draws a list of calls, makes them, and compares each answer and what the readers show.
@@ -275,17 +330,17 @@ fn compare_list(
     };
     let mut store = Store::new(rt.alloc(), channels, image_len)?;
     let mut calls = Vec::new(rt.alloc());
-    let first = set_up();
     let is_set_up = draws.below(2) == 0;
     for place in 0..40 {
         let command = if is_set_up && place < 15 {
-            first[place]
+            SET_UP[place]
         } else {
             draws.command(place)
         };
         let expected = plain::answer(profile, &calls, command);
         let answer = reply_of(ask(&mut store, command));
-        assert_eq!(rt; answer, Some(expected), "at {place}: {command:?}");
+        let case = (place, command);
+        same(rt, (case, answer), (case, Some(expected)), "a call");
         met.note(expected);
         if command == Command::FreeDaq {
             calls.clear();
