@@ -83,12 +83,11 @@ pub fn mode_of(conf: &ListConf) -> ListMode {
     )
 }
 
-/// Whether each of two lists runs, and whether it is selected.
-pub fn states(store: &Store) -> [(bool, bool); 2] {
-    [
-        (store.running(0), store.selected(0)),
-        (store.running(1), store.selected(1)),
-    ]
+/// Compares whether each of two lists runs, and whether it is selected.
+pub fn same_states(rt: &impl Abort, store: &Store, wanted: [(bool, bool); 2], what: &str) {
+    let list_0 = (store.running(0), store.selected(0));
+    let list_1 = (store.running(1), store.selected(1));
+    same(rt, [list_0, list_1], wanted, what);
 }
 
 /// ALLOC_DAQ.

@@ -1,12 +1,12 @@
 //! The worked examples, each with its own numbers.
 
 use super::ask::{
-    ACCEPTED, Answer, alloc_daq, alloc_odt, alloc_odt_entry, ask_all, mode_of, refused, set_mode,
-    set_ptr, start_stop, started, states, synch, write,
+    ACCEPTED, Answer, alloc_daq, alloc_odt, alloc_odt_entry, ask_all, mode_of, refused,
+    same_states, set_mode, set_ptr, start_stop, started, synch, write,
 };
 use crate::same::same;
 use daq_store::command::Command;
-use daq_store::{BadLimits, Refusal, Store};
+use daq_store::{BadLimits, ListConf, Refusal, Store};
 use std::fmt::Display;
 use std::process::Abort;
 use std::test::Fail;
@@ -26,12 +26,12 @@ fn a_store_is_made_within_the_limits_alone(rt: HostRuntime) -> Result<(), Fail> 
     }
     let store = Store::new(rt.alloc(), 8, 4096)?;
     let limits = (store.channels(), store.image_len());
-    same(&rt, limits, (8, 4096), "event channels and image length");
+    let shown = (limits, store.lists(), store.pointer());
     same(
         &rt,
-        (store.lists(), store.pointer()),
-        (0, None),
-        "lists and pointer",
+        shown,
+        ((8, 4096), 0, None),
+        "limits, lists and pointer",
     );
     Ok(())
 }
@@ -196,18 +196,18 @@ fn selected_lists_start_together_or_not_at_all(rt: HostRuntime) -> Result<(), Fa
             (synch(1), refused(ErrCode::DaqConfig)),
         ],
     );
-    same(&rt, states(&store), [(false, true); 2], "selected lists");
+    same_states(&rt, &store, [(false, true); 2], "selected lists");
     ask_all(&rt, &mut store, &[(synch(2), ACCEPTED)]);
-    same(&rt, states(&store), [(false, false); 2], "stopped lists");
+    same_states(&rt, &store, [(false, false); 2], "stopped lists");
     ask_all(
         &rt,
         &mut store,
         &[(start_stop(2, 0), started(0)), (synch(1), ACCEPTED)],
     );
     let wanted = [(true, false), (false, false)];
-    same(&rt, states(&store), wanted, "list 0 started");
-    let ready = (store.plan(0).is_some(), store.plan(1).is_some());
-    same(&rt, ready, (true, false), "lists that are ready");
+    same_states(&rt, &store, wanted, "list 0 started");
+    same(&rt, store.plan(0).is_some(), true, "list 0 is ready");
+    same(&rt, store.plan(1).is_some(), false, "list 1 is ready");
     ask_all(
         &rt,
         &mut store,
@@ -249,6 +249,17 @@ fn a_running_list_is_left_alone_until_free_daq(rt: HostRuntime) -> Result<(), Fa
     Ok(())
 }
 
+/// Compares what is set of the list of the test below.
+fn compare_conf(rt: &impl Abort, conf: &ListConf) {
+    same(rt, mode_of(conf), (1, 3, true, 9), "mode");
+    let counts = (conf.odts(), conf.entries(0), conf.entries(1));
+    same(rt, counts, (1, 1, 0), "ODTs, and entries of ODTs 0 and 1");
+    same(rt, conf.entry(0, 0), Some((6, 2)), "entry 0");
+    same(rt, conf.entry(0, 1), None, "entry 1");
+    same(rt, conf.ready(8), true, "ready for 8 bytes");
+    same(rt, conf.ready(7), false, "ready for 7 bytes");
+}
+
 #[test]
 fn a_plan_has_what_was_set(rt: HostRuntime) -> Result<(), Fail> {
     let mut store = Store::new(rt.alloc(), 2, 8)?;
@@ -265,14 +276,7 @@ fn a_plan_has_what_was_set(rt: HostRuntime) -> Result<(), Fail> {
     );
     same(&rt, store.set_mode(0x10, 0, 1, 3, 9), Ok(()), "set_mode");
     same(&rt, store.plan(1).is_none(), true, "list 1 is not there");
-    let conf = store.plan(0).ok_or("list 0 is ready")?;
-    same(&rt, mode_of(conf), (1, 3, true, 9), "mode");
-    let counts = (conf.odts(), conf.entries(0), conf.entries(1));
-    same(&rt, counts, (1, 1, 0), "ODTs, and entries of ODTs 0 and 1");
-    let entries = (conf.entry(0, 0), conf.entry(0, 1));
-    same(&rt, entries, (Some((6, 2)), None), "entries 0 and 1");
-    let ready = (conf.ready(8), conf.ready(7));
-    same(&rt, ready, (true, false), "ready for 8 bytes, and for 7");
+    compare_conf(&rt, store.plan(0).ok_or("list 0 is ready")?);
     Ok(())
 }
 

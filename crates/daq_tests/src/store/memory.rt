@@ -38,7 +38,7 @@ fn readers(store: &Store) -> Shown {
 fn ask_again(rt: &impl Abort, store: &mut Store, command: Command) {
     let before = readers(store);
     let mut answer = ask(store, command);
-    if answer == Err(Refusal::Memory) {
+    if let Err(Refusal::Memory) = answer {
         same(rt, readers(store), before, "after want of memory");
         answer = ask(store, command);
     }

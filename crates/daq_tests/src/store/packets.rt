@@ -2,7 +2,7 @@
 
 ghost use Rattle.std.specs.Prelude.{◌<◌, ◌≤◌};
 
-use super::ask::{alloc_daq, alloc_odt, alloc_odt_entry, ask, set_ptr, states, write};
+use super::ask::{alloc_daq, alloc_odt, alloc_odt_entry, ask, same_states, set_ptr, write};
 use super::plain::{self, Profile};
 use crate::same::same;
 use arrayvec::ArrayVec;
@@ -168,9 +168,9 @@ fn packets_select_and_start_lists(rt: HostRuntime) -> Result<(), Fail> {
             (&[0xDD, 1], &[0xFE, 0x2A]),
         ],
     );
-    same(&rt, states(&store), [(false, true); 2], "selected lists");
+    same_states(&rt, &store, [(false, true); 2], "selected lists");
     carry_all(&rt, &mut store, &[(&[0xDD, 2], RES)]);
-    same(&rt, states(&store), [(false, false); 2], "stopped lists");
+    same_states(&rt, &store, [(false, false); 2], "stopped lists");
     carry_all(
         &rt,
         &mut store,
@@ -182,7 +182,7 @@ fn packets_select_and_start_lists(rt: HostRuntime) -> Result<(), Fail> {
         ],
     );
     let wanted = [(true, false), (false, false)];
-    same(&rt, states(&store), wanted, "list 0 started");
+    same_states(&rt, &store, wanted, "list 0 started");
     Ok(())
 }
 

@@ -134,7 +134,7 @@ pub fn mode(calls: &[Command], l: u16) -> Option<ListMode> {
 }
 
 /// Whether a list is selected.
-pub fn selected(calls: &[Command], l: u16) -> bool {
+fn selected(calls: &[Command], l: u16) -> bool {
     for call in calls.iter().rev() {
         match *call {
             Command::AllocDaq { .. } => return false,
@@ -151,7 +151,7 @@ pub fn selected(calls: &[Command], l: u16) -> bool {
 }
 
 /// Whether a list runs.
-pub fn running(calls: &[Command], l: u16) -> bool {
+fn running(calls: &[Command], l: u16) -> bool {
     for place in (0..calls.len()).rev() {
         match calls[place] {
             Command::AllocDaq { .. } => return false,
@@ -207,12 +207,25 @@ pub fn ready(calls: &[Command], image_len: u64, l: u16) -> bool {
 }
 
 /// The number of the ODTs of the lists before a list.
-pub fn first_pid(calls: &[Command], l: u16) -> u64 {
+fn first_pid(calls: &[Command], l: u16) -> u64 {
     let mut sum = 0u64;
     for list in 0..l {
         sum = sum.saturating_add(odts(calls, list) as u64);
     }
     sum
+}
+
+/// FIRST_PID of a list, whether it runs and whether it is selected.
+pub fn state(calls: &[Command], l: u16) -> (Option<u64>, bool, bool) {
+    if l < lists(calls) {
+        (
+            Some(first_pid(calls, l)),
+            running(calls, l),
+            selected(calls, l),
+        )
+    } else {
+        (None, false, false)
+    }
 }
 
 /// Whether some list runs.
