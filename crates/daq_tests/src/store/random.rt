@@ -279,13 +279,7 @@ fn compare(rt: &impl Abort, store: &Store, profile: Profile, calls: &[Command], 
     let wanted = (plain::lists(calls), plain::pointer(calls));
     same(rt, shown, wanted, "lists and pointer");
     for list in [0u16, 1, 2, 3, 15, 16] {
-        let wanted = plain::state(calls, list);
-        same(
-            rt,
-            state(store, list),
-            wanted,
-            "FIRST_PID, running and selected",
-        );
+        compare_state(rt, store, calls, list);
         if store.running(list) {
             met.running = met.running.saturating_add(1);
         }
@@ -306,6 +300,12 @@ fn state(store: &Store, list: u16) -> (Option<u64>, bool, bool) {
         None => None,
     };
     (pid, store.running(list), store.selected(list))
+}
+
+/// Compares FIRST_PID of a list, whether it runs and whether it is selected.
+fn compare_state(rt: &impl Abort, store: &Store, calls: &[Command], list: u16) {
+    let wanted = plain::state(calls, list);
+    same(rt, state(store, list), wanted, "FIRST_PID and states");
 }
 
 /// Makes the call at a place, and compares its answer.
