@@ -12,6 +12,14 @@ use std::process::Abort;
 use std::test::Fail;
 use xcp_base::ErrCode;
 
+/// Compares what a fresh store shows that was made with the highest limits.
+fn compare_fresh(rt: &impl Abort, store: &Store) {
+    same(rt, store.channels(), 8, "event channels");
+    same(rt, store.image_len(), 4096, "image length");
+    same(rt, store.lists(), 0, "lists");
+    same(rt, store.pointer(), None, "pointer");
+}
+
 #[test]
 fn a_store_is_made_within_the_limits_alone(rt: HostRuntime) -> Result<(), Fail> {
     let cases = [
@@ -25,14 +33,7 @@ fn a_store_is_made_within_the_limits_alone(rt: HostRuntime) -> Result<(), Fail> 
         same(&rt, made.err(), Some(BadLimits), name);
     }
     let store = Store::new(rt.alloc(), 8, 4096)?;
-    let limits = (store.channels(), store.image_len());
-    let shown = (limits, store.lists(), store.pointer());
-    same(
-        &rt,
-        shown,
-        ((8, 4096), 0, None),
-        "limits, lists and pointer",
-    );
+    compare_fresh(&rt, &store);
     Ok(())
 }
 
