@@ -175,12 +175,11 @@ fn a_list_with_an_unwritten_entry_or_no_mode_is_not_started(rt: HostRuntime) -> 
     Ok(())
 }
 
-#[test]
-fn selected_lists_start_together_or_not_at_all(rt: HostRuntime) -> Result<(), Fail> {
-    let mut store = Store::new(rt.alloc(), 1, 4)?;
+/// Selects two lists, of which list 0 alone is ready, and starts neither.
+fn select_two(rt: &impl Abort, store: &mut Store) {
     ask_all(
-        &rt,
-        &mut store,
+        rt,
+        store,
         &[
             (alloc_daq(2), ACCEPTED),
             (alloc_odt(0, 1), ACCEPTED),
@@ -197,6 +196,12 @@ fn selected_lists_start_together_or_not_at_all(rt: HostRuntime) -> Result<(), Fa
             (synch(1), refused(ErrCode::DaqConfig)),
         ],
     );
+}
+
+#[test]
+fn selected_lists_start_together_or_not_at_all(rt: HostRuntime) -> Result<(), Fail> {
+    let mut store = Store::new(rt.alloc(), 1, 4)?;
+    select_two(&rt, &mut store);
     same_states(&rt, &store, [(false, true); 2], "selected lists");
     ask_all(&rt, &mut store, &[(synch(2), ACCEPTED)]);
     same_states(&rt, &store, [(false, false); 2], "stopped lists");

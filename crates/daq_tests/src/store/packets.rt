@@ -2,7 +2,9 @@
 
 ghost use Rattle.std.specs.Prelude.{◌<◌, ◌≤◌};
 
-use super::ask::{alloc_daq, alloc_odt, alloc_odt_entry, ask, same_states, set_ptr, write};
+use super::ask::{
+    alloc_daq, alloc_odt, alloc_odt_entry, ask, same_states, set_ptr, start_stop, synch, write,
+};
 use super::plain::{self, Profile};
 use crate::same::same;
 use arrayvec::ArrayVec;
@@ -238,14 +240,8 @@ fn each_field_is_read_from_its_place(rt: HostRuntime) {
                 priority: 0xBC,
             },
         ),
-        (
-            &[0xDE, 0x01, 0x12, 0x34, 0x55],
-            Command::StartStopDaqList {
-                mode: 0x01,
-                list: 0x3412,
-            },
-        ),
-        (&[0xDD, 0x01, 0x55], Command::StartStopSynch { mode: 0x01 }),
+        (&[0xDE, 0x01, 0x12, 0x34, 0x55], start_stop(0x01, 0x3412)),
+        (&[0xDD, 0x01, 0x55], synch(0x01)),
     ];
     for place in 0..cases.len() {
         let (packet, command) = cases[place];

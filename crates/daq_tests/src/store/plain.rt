@@ -356,8 +356,15 @@ fn fault(profile: Profile, calls: &[Command], command: Command) -> Option<ErrCod
             ),
             (mode != 0 && mode != 0x10, ErrCode::ModeNotValid),
         ]),
+        _ => start_fault(profile, calls, command),
+    }
+}
+
+/// Why a start, a stop or an allocation is refused, if it is.
+fn start_fault(profile: Profile, calls: &[Command], command: Command) -> Option<ErrCode> {
+    match command {
         Command::StartStopDaqList { mode, list } => first(&[
-            (list >= lists, ErrCode::OutOfRange),
+            (list >= lists(calls), ErrCode::OutOfRange),
             (mode > 2, ErrCode::ModeNotValid),
             (
                 mode == 1 && !ready(calls, profile.image_len, list),
