@@ -14,8 +14,6 @@ mod readers;
 mod refusal;
 mod reply;
 mod store;
-#[cfg(test)]
-mod tests;
 
 pub use list_conf::ListConf;
 pub use refusal::{BadLimits, NoMemory, Refusal};

@@ -23,3 +23,4 @@ mod same;
 mod samplers;
 #[cfg(test)]
 mod stores;
+mod store;

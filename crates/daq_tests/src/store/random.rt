@@ -2,39 +2,89 @@
 
 ghost use Rattle.std.specs.Prelude.{◌<◌, ◌+◌};
 
-use super::ask::{
-    Answer, alloc_daq, alloc_odt, alloc_odt_entry, ask, same, set_mode, set_ptr, write,
-};
+use super::ask::{Answer, ask, mode_of};
 use super::plain::{self, Profile};
-use crate::command::Command;
-use crate::list_conf::ListConf;
-use crate::refusal::Refusal;
-use crate::reply::Reply;
-use crate::store::Store;
+use crate::same::same;
+use daq_store::command::Command;
+use daq_store::{ListConf, Refusal, Reply, Store};
 use std::process::Abort;
 use std::test::Fail;
 use xcp_base::ErrCode;
 
 /// A set-up with which half of the lists of calls begin: three lists, of which 0 and 1 are ready.
-fn set_up() -> [Command; 15] {
-    [
-        alloc_daq(3),
-        alloc_odt(0, 2),
-        alloc_odt(1, 1),
-        alloc_odt_entry(0, 0, 2),
-        alloc_odt_entry(0, 1, 1),
-        alloc_odt_entry(1, 0, 1),
-        set_ptr(0, 0, 0),
-        write(0xFF, 1, 0, 0),
-        write(0xFF, 2, 0, 1),
-        set_ptr(0, 1, 0),
-        write(0xFF, 3, 0, 2),
-        set_ptr(1, 0, 0),
-        write(0xFF, 2, 0, 4),
-        set_mode(0x10, 0, 0, 2),
-        set_mode(0x00, 1, 0, 1),
-    ]
-}
+const SET_UP: [Command; 15] = [
+    Command::AllocDaq { count: 3 },
+    Command::AllocOdt { list: 0, count: 2 },
+    Command::AllocOdt { list: 1, count: 1 },
+    Command::AllocOdtEntry {
+        list: 0,
+        odt: 0,
+        count: 2,
+    },
+    Command::AllocOdtEntry {
+        list: 0,
+        odt: 1,
+        count: 1,
+    },
+    Command::AllocOdtEntry {
+        list: 1,
+        odt: 0,
+        count: 1,
+    },
+    Command::SetDaqPtr {
+        list: 0,
+        odt: 0,
+        entry: 0,
+    },
+    Command::WriteDaq {
+        bit: 0xFF,
+        size: 1,
+        ext: 0,
+        addr: 0,
+    },
+    Command::WriteDaq {
+        bit: 0xFF,
+        size: 2,
+        ext: 0,
+        addr: 1,
+    },
+    Command::SetDaqPtr {
+        list: 0,
+        odt: 1,
+        entry: 0,
+    },
+    Command::WriteDaq {
+        bit: 0xFF,
+        size: 3,
+        ext: 0,
+        addr: 2,
+    },
+    Command::SetDaqPtr {
+        list: 1,
+        odt: 0,
+        entry: 0,
+    },
+    Command::WriteDaq {
+        bit: 0xFF,
+        size: 2,
+        ext: 0,
+        addr: 4,
+    },
+    Command::SetDaqListMode {
+        mode: 0x10,
+        list: 0,
+        channel: 0,
+        prescaler: 2,
+        priority: 0,
+    },
+    Command::SetDaqListMode {
+        mode: 0x00,
+        list: 1,
+        channel: 0,
+        prescaler: 1,
+        priority: 0,
+    },
+];
 
 /// Numbers from a seed, by a linear congruence.
 #[derive(Drop)]
@@ -163,7 +213,7 @@ impl Draws {
 }
 
 /// How often each answer came.
-#[derive(Clone, Copy, Debug, Default)]
+#[derive(Default, Drop)]
 struct Met {
     accepted: u64,
     started: u64,
@@ -203,13 +253,8 @@ fn reply_of(answer: Answer) -> Option<Reply> {
 
 /// Compares what is set of a ready list.
 fn compare_plan(rt: &impl Abort, conf: &ListConf, calls: &[Command], list: u16) {
-    let mode = (
-        conf.channel() as u16,
-        conf.prescaler(),
-        conf.stamped(),
-        conf.priority(),
-    );
-    same(rt, Some(mode), plain::mode(calls, list), "mode");
+    let wanted = plain::mode(calls, list);
+    same(rt, Some(mode_of(conf)), wanted, "mode");
     same(rt, conf.odts(), plain::odts(calls, list) as usize, "ODTs");
     for k in 0..plain::odts(calls, list) {
         compare_odt(rt, conf, calls, list, k);
@@ -230,10 +275,11 @@ fn compare_odt(rt: &impl Abort, conf: &ListConf, calls: &[Command], list: u16, k
 
 /// Compares each reader.
 fn compare(rt: &impl Abort, store: &Store, profile: Profile, calls: &[Command], met: &mut Met) {
-    same(rt, store.lists(), plain::lists(calls), "lists");
-    same(rt, store.pointer(), plain::pointer(calls), "pointer");
+    let shown = (store.lists(), store.pointer());
+    let wanted = (plain::lists(calls), plain::pointer(calls));
+    same(rt, shown, wanted, "lists and pointer");
     for list in [0u16, 1, 2, 3, 15, 16] {
-        compare_list_state(rt, store, calls, list);
+        compare_state(rt, store, calls, list);
         if store.running(list) {
             met.running = met.running.saturating_add(1);
         }
@@ -247,18 +293,56 @@ fn compare(rt: &impl Abort, store: &Store, profile: Profile, calls: &[Command], 
     }
 }
 
-/// Compares FIRST_PID of a list, and whether it runs and is selected.
-fn compare_list_state(rt: &impl Abort, store: &Store, calls: &[Command], list: u16) {
-    let there = list < plain::lists(calls);
-    let pid = store.first_pid(list);
-    same(rt, pid.is_some(), there, "whether there is a FIRST_PID");
-    if let Some(pid) = pid {
-        same(rt, pid as u64, plain::first_pid(calls, list), "FIRST_PID");
+/// FIRST_PID of a list, whether it runs and whether it is selected.
+fn state(store: &Store, list: u16) -> (Option<u64>, bool, bool) {
+    let pid = match store.first_pid(list) {
+        Some(pid) => Some(pid as u64),
+        None => None,
+    };
+    (pid, store.running(list), store.selected(list))
+}
+
+/// Compares FIRST_PID of a list, whether it runs and whether it is selected.
+fn compare_state(rt: &impl Abort, store: &Store, calls: &[Command], list: u16) {
+    let wanted = plain::state(calls, list);
+    same(rt, state(store, list), wanted, "FIRST_PID and states");
+}
+
+/// Makes the call at a place, and compares its answer.
+fn compare_answer(
+    rt: &impl Abort,
+    store: &mut Store,
+    profile: Profile,
+    calls: &[Command],
+    place: usize,
+    command: Command,
+) -> Reply {
+    let expected = plain::answer(profile, calls, command);
+    let answer = reply_of(ask(store, command));
+    let wanted = (place, command, Some(expected));
+    same(rt, (place, command, answer), wanted, "a call");
+    expected
+}
+
+/// Keeps the calls that were accepted since the last FREE_DAQ.
+fn keep(calls: &mut Vec<Command>, command: Command, reply: Reply) -> Result<(), Fail> {
+    if let Command::FreeDaq = command {
+        calls.clear();
+        return Ok(());
     }
-    let runs = there && plain::running(calls, list);
-    same(rt, store.running(list), runs, "running");
-    let is_chosen = there && plain::selected(calls, list);
-    same(rt, store.selected(list), is_chosen, "selected");
+    match reply {
+        Reply::Error(_) => {}
+        _ => calls.push(command)?,
+    }
+    Ok(())
+}
+
+/// The command at a place of a list of calls, which begins with the set-up or not.
+fn command_at(draws: &mut Draws, is_set_up: bool, place: usize) -> Command {
+    if is_set_up && place < 15 {
+        return SET_UP[place];
+    }
+    draws.command(place)
 }
 
 /// Draws a list of calls, makes them, and compares each answer and what the readers show.
@@ -279,25 +363,12 @@ fn compare_list(
     };
     let mut store = Store::new(rt.alloc(), channels, image_len)?;
     let mut calls = Vec::new(rt.alloc());
-    let first = set_up();
     let is_set_up = draws.below(2) == 0;
     for place in 0..40 {
-        let command = if is_set_up && place < 15 {
-            first[place]
-        } else {
-            draws.command(place)
-        };
-        let expected = plain::answer(profile, &calls, command);
-        let answer = reply_of(ask(&mut store, command));
-        assert_eq!(rt; answer, Some(expected), "at {place}: {command:?}");
-        met.note(expected);
-        if command == Command::FreeDaq {
-            calls.clear();
-        } else if expected == Reply::Positive {
-            calls.push(command)?;
-        } else if let Reply::Started { .. } = expected {
-            calls.push(command)?;
-        }
+        let command = command_at(draws, is_set_up, place);
+        let reply = compare_answer(rt, &mut store, profile, &calls, place, command);
+        met.note(reply);
+        keep(&mut calls, command, reply)?;
         compare(rt, &store, profile, &calls, met);
     }
     Ok(())
@@ -323,10 +394,8 @@ fn the_store_answers_and_shows_what_is_read_off_the_calls(rt: HostRuntime) -> Re
         met.written,
     ];
     for place in 0..least.len() {
-        assert!(rt;
-            least[place] >= 50,
-            "each kind of answer comes often: {met:?}"
-        );
+        let often = least[place] >= 50;
+        same(&rt, (place, often), (place, true), "an answer comes often");
     }
     Ok(())
 }

@@ -1,8 +1,9 @@
 //! The store as slow, plain functions of the calls that were accepted since the last FREE_DAQ,
 //! oldest first. Each looks back for the last call that matters; none keeps a state.
 
-use crate::command::Command;
-use crate::reply::Reply;
+use super::ask::ListMode;
+use daq_store::Reply;
+use daq_store::command::Command;
 use xcp_base::ErrCode;
 
 /// The limits that a store was made with.
@@ -11,9 +12,6 @@ pub struct Profile {
     pub channels: u16,
     pub image_len: u64,
 }
-
-/// The mode of a list: channel, prescaler, stamped, priority.
-pub type ListMode = (u16, u8, bool, u8);
 
 /// The last allocation, as the number of steps of the set-up that it ends: 0 without one.
 fn phase(calls: &[Command]) -> u8 {
@@ -136,7 +134,7 @@ pub fn mode(calls: &[Command], l: u16) -> Option<ListMode> {
 }
 
 /// Whether a list is selected.
-pub fn selected(calls: &[Command], l: u16) -> bool {
+fn selected(calls: &[Command], l: u16) -> bool {
     for call in calls.iter().rev() {
         match *call {
             Command::AllocDaq { .. } => return false,
@@ -153,7 +151,7 @@ pub fn selected(calls: &[Command], l: u16) -> bool {
 }
 
 /// Whether a list runs.
-pub fn running(calls: &[Command], l: u16) -> bool {
+fn running(calls: &[Command], l: u16) -> bool {
     for place in (0..calls.len()).rev() {
         match calls[place] {
             Command::AllocDaq { .. } => return false,
@@ -209,12 +207,25 @@ pub fn ready(calls: &[Command], image_len: u64, l: u16) -> bool {
 }
 
 /// The number of the ODTs of the lists before a list.
-pub fn first_pid(calls: &[Command], l: u16) -> u64 {
+fn first_pid(calls: &[Command], l: u16) -> u64 {
     let mut sum = 0u64;
     for list in 0..l {
         sum = sum.saturating_add(odts(calls, list) as u64);
     }
     sum
+}
+
+/// FIRST_PID of a list, whether it runs and whether it is selected.
+pub fn state(calls: &[Command], l: u16) -> (Option<u64>, bool, bool) {
+    if l < lists(calls) {
+        (
+            Some(first_pid(calls, l)),
+            running(calls, l),
+            selected(calls, l),
+        )
+    } else {
+        (None, false, false)
+    }
 }
 
 /// Whether some list runs.
@@ -345,8 +356,15 @@ fn fault(profile: Profile, calls: &[Command], command: Command) -> Option<ErrCod
             ),
             (mode != 0 && mode != 0x10, ErrCode::ModeNotValid),
         ]),
+        _ => start_fault(profile, calls, command),
+    }
+}
+
+/// Why a start, a stop or an allocation is refused, if it is.
+fn start_fault(profile: Profile, calls: &[Command], command: Command) -> Option<ErrCode> {
+    match command {
         Command::StartStopDaqList { mode, list } => first(&[
-            (list >= lists, ErrCode::OutOfRange),
+            (list >= lists(calls), ErrCode::OutOfRange),
             (mode > 2, ErrCode::ModeNotValid),
             (
                 mode == 1 && !ready(calls, profile.image_len, list),

@@ -2,12 +2,14 @@
 
 ghost use Rattle.std.specs.Prelude.{◌<◌, ◌≤◌};
 
-use super::ask::{alloc_daq, alloc_odt, alloc_odt_entry, ask, same, set_mode, set_ptr, write};
+use super::ask::{
+    alloc_daq, alloc_odt, alloc_odt_entry, ask, same_states, set_ptr, start_stop, synch, write,
+};
 use super::plain::{self, Profile};
-use crate::command::{self, Command};
-use crate::refusal::NoMemory;
-use crate::reply::Reply;
-use crate::store::Store;
+use crate::same::same;
+use arrayvec::ArrayVec;
+use daq_store::command::{self, Command};
+use daq_store::{Reply, Store};
 use std::process::Abort;
 use std::test::Fail;
 use xcp_base::ErrCode;
@@ -18,11 +20,15 @@ type Case<'a> = (&'a [u8], &'a [u8]);
 /// RES.
 const RES: &[u8] = &[0xFF];
 
-/// Carries a packet out, and answers it.
-fn carry(store: &mut Store, packet: &[u8]) -> Result<Reply, NoMemory> {
-    match command::read(packet) {
+/// Carries a packet out, and gives the bytes of its reply: none for want of memory.
+fn carry(store: &mut Store, packet: &[u8]) -> ArrayVec<u8, 8> {
+    let answer = match command::read(packet) {
         Ok(command) => command::carry_out(store, command),
         Err(code) => Ok(Reply::Error(code)),
+    };
+    match answer {
+        Ok(reply) => reply.bytes(),
+        Err(_) => ArrayVec::new(),
     }
 }
 
@@ -30,10 +36,8 @@ fn carry(store: &mut Store, packet: &[u8]) -> Result<Reply, NoMemory> {
 fn carry_all(rt: &impl Abort, store: &mut Store, cases: &[Case<'_>]) {
     for place in 0..cases.len() {
         let (packet, wanted) = cases[place];
-        match carry(store, packet) {
-            Ok(reply) => assert_eq!(rt; reply.bytes().as_slice(), wanted, "at {place}"),
-            Err(_) => panic!(rt; "want of memory at {place}"),
-        }
+        let reply = carry(store, packet);
+        same(rt, (place, reply.as_slice()), (place, wanted), "a reply");
     }
 }
 
@@ -166,14 +170,9 @@ fn packets_select_and_start_lists(rt: HostRuntime) -> Result<(), Fail> {
             (&[0xDD, 1], &[0xFE, 0x2A]),
         ],
     );
-    for list in 0..2 {
-        same(&rt, store.selected(list), true, "a list is selected");
-        same(&rt, store.running(list), false, "a list runs");
-    }
+    same_states(&rt, &store, [(false, true); 2], "selected lists");
     carry_all(&rt, &mut store, &[(&[0xDD, 2], RES)]);
-    for list in 0..2 {
-        same(&rt, store.selected(list), false, "a list is selected still");
-    }
+    same_states(&rt, &store, [(false, false); 2], "stopped lists");
     carry_all(
         &rt,
         &mut store,
@@ -184,7 +183,8 @@ fn packets_select_and_start_lists(rt: HostRuntime) -> Result<(), Fail> {
             (&[0xDE, 3, 0, 0], &[0xFE, 0x27]),
         ],
     );
-    same(&rt, store.running(0), true, "list 0 runs");
+    let wanted = [(true, false), (false, false)];
+    same_states(&rt, &store, wanted, "list 0 started");
     Ok(())
 }
 
@@ -240,18 +240,13 @@ fn each_field_is_read_from_its_place(rt: HostRuntime) {
                 priority: 0xBC,
             },
         ),
-        (
-            &[0xDE, 0x01, 0x12, 0x34, 0x55],
-            Command::StartStopDaqList {
-                mode: 0x01,
-                list: 0x3412,
-            },
-        ),
-        (&[0xDD, 0x01, 0x55], Command::StartStopSynch { mode: 0x01 }),
+        (&[0xDE, 0x01, 0x12, 0x34, 0x55], start_stop(0x01, 0x3412)),
+        (&[0xDD, 0x01, 0x55], synch(0x01)),
     ];
     for place in 0..cases.len() {
         let (packet, command) = cases[place];
-        assert_eq!(rt; command::read(packet), Ok(command), "at {place}");
+        let shown = command::read(packet);
+        same(&rt, (place, shown), (place, Ok(command)), "a packet");
     }
 }
 
@@ -346,19 +341,13 @@ fn tabled_bytes(reply: Reply) -> ([u8; 2], usize)
 /// Makes these calls.
 fn set_up_by(rt: &impl Abort, store: &mut Store, calls: &[Command]) {
     for place in 0..calls.len() {
-        assert!(rt; ask(store, calls[place]).is_ok(), "at call {place}");
+        let accepted = ask(store, calls[place]).is_ok();
+        same(rt, (place, accepted), (place, true), "a call of the set-up");
     }
 }
 
 /// Carries out one packet of this code, length and byte after these calls, and compares the reply.
-fn compare(
-    rt: &impl Abort,
-    mut store: Store,
-    calls: &[Command],
-    code: u8,
-    len: usize,
-    byte: u8,
-) -> Result<(), Fail>
+fn compare(rt: &impl Abort, mut store: Store, calls: &[Command], code: u8, len: usize, byte: u8)
     requires { len < 10 }
 {
     set_up_by(rt, &mut store, calls);
@@ -369,37 +358,76 @@ fn compare(
     let mut packet = [byte; 10];
     packet[0] = code;
     let (bytes, count) = tabled_bytes(tabled(profile, calls, code, len, byte));
-    let reply = carry(&mut store, &packet[..len])
-        .ok()
-        .ok_or("want of memory")?;
-    assert_eq!(rt;
-        reply.bytes().as_slice(),
-        &bytes[..count],
-        "at {code} of {len} bytes {byte}"
+    let reply = carry(&mut store, &packet[..len]);
+    let case = (code, len, byte);
+    same(
+        rt,
+        (case, reply.as_slice()),
+        (case, &bytes[..count]),
+        "a reply",
     );
+}
+
+/// Carries out packets of this code, of each length and of two bytes, after these calls.
+fn compare_lengths(
+    rt: &(impl Abort + AllocGlobal),
+    calls: &[Command],
+    code: u8,
+) -> Result<(), Fail> {
+    for len in 0..10 {
+        let store = Store::new(rt.alloc(), 1, 4)?;
+        compare(rt, store, calls, code, len, 0x00);
+        let store = Store::new(rt.alloc(), 1, 4)?;
+        compare(rt, store, calls, code, len, 0xFF);
+    }
     Ok(())
 }
 
-#[test]
-fn every_code_of_every_length_is_answered_by_the_tables(rt: HostRuntime) -> Result<(), Fail> {
-    let set_up = [
-        alloc_daq(1),
-        alloc_odt(0, 1),
-        alloc_odt_entry(0, 0, 1),
-        set_ptr(0, 0, 0),
-        write(0xFF, 1, 0, 0),
-        set_mode(0x00, 0, 0, 1),
-        set_ptr(0, 0, 0),
-    ];
-    for calls in [&set_up[..0], &set_up[..2], &set_up[..7]] {
-        for code in 0..=255u8 {
-            for len in 0..10 {
-                for byte in [0x00, 0xFF] {
-                    let store = Store::new(rt.alloc(), 1, 4)?;
-                    compare(&rt, store, calls, code, len, byte)?;
-                }
-            }
-        }
+/// Carries out packets of each code after these calls.
+fn compare_codes(rt: &(impl Abort + AllocGlobal), calls: &[Command]) -> Result<(), Fail> {
+    for code in 0..=255u8 {
+        compare_lengths(rt, calls, code)?;
     }
     Ok(())
+}
+
+/// Calls that make one list ready, and put the pointer at its entry.
+const SET_UP: [Command; 7] = [
+    Command::AllocDaq { count: 1 },
+    Command::AllocOdt { list: 0, count: 1 },
+    Command::AllocOdtEntry {
+        list: 0,
+        odt: 0,
+        count: 1,
+    },
+    Command::SetDaqPtr {
+        list: 0,
+        odt: 0,
+        entry: 0,
+    },
+    Command::WriteDaq {
+        bit: 0xFF,
+        size: 1,
+        ext: 0,
+        addr: 0,
+    },
+    Command::SetDaqListMode {
+        mode: 0x00,
+        list: 0,
+        channel: 0,
+        prescaler: 1,
+        priority: 0,
+    },
+    Command::SetDaqPtr {
+        list: 0,
+        odt: 0,
+        entry: 0,
+    },
+];
+
+#[test]
+fn every_code_of_every_length_is_answered_by_the_tables(rt: HostRuntime) -> Result<(), Fail> {
+    compare_codes(&rt, &SET_UP[..0])?;
+    compare_codes(&rt, &SET_UP[..2])?;
+    compare_codes(&rt, &SET_UP)
 }

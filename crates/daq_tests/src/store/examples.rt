@@ -1,16 +1,24 @@
 //! The worked examples, each with its own numbers.
 
 use super::ask::{
-    ACCEPTED, Answer, alloc_daq, alloc_odt, alloc_odt_entry, ask_all, refused, same, set_mode,
-    set_ptr, start_stop, started, synch, write,
+    ACCEPTED, Answer, alloc_daq, alloc_odt, alloc_odt_entry, ask_all, mode_of, refused,
+    same_states, set_mode, set_ptr, start_stop, started, synch, write,
 };
-use crate::command::Command;
-use crate::refusal::{BadLimits, Refusal};
-use crate::store::Store;
+use crate::same::same;
+use daq_store::command::Command;
+use daq_store::{BadLimits, ListConf, Refusal, Store};
 use std::fmt::Display;
 use std::process::Abort;
 use std::test::Fail;
 use xcp_base::ErrCode;
+
+/// Compares what a fresh store shows that was made with the highest limits.
+fn compare_fresh(rt: &impl Abort, store: &Store) {
+    same(rt, store.channels(), 8, "event channels");
+    same(rt, store.image_len(), 4096, "image length");
+    same(rt, store.lists(), 0, "lists");
+    same(rt, store.pointer(), None, "pointer");
+}
 
 #[test]
 fn a_store_is_made_within_the_limits_alone(rt: HostRuntime) -> Result<(), Fail> {
@@ -25,10 +33,7 @@ fn a_store_is_made_within_the_limits_alone(rt: HostRuntime) -> Result<(), Fail> 
         same(&rt, made.err(), Some(BadLimits), name);
     }
     let store = Store::new(rt.alloc(), 8, 4096)?;
-    same(&rt, store.channels(), 8, "event channels");
-    same(&rt, store.image_len(), 4096, "image length");
-    same(&rt, store.lists(), 0, "lists");
-    same(&rt, store.pointer(), None, "pointer");
+    compare_fresh(&rt, &store);
     Ok(())
 }
 
@@ -170,12 +175,11 @@ fn a_list_with_an_unwritten_entry_or_no_mode_is_not_started(rt: HostRuntime) -> 
     Ok(())
 }
 
-#[test]
-fn selected_lists_start_together_or_not_at_all(rt: HostRuntime) -> Result<(), Fail> {
-    let mut store = Store::new(rt.alloc(), 1, 4)?;
+/// Selects two lists, of which list 0 alone is ready, and starts neither.
+fn select_two(rt: &impl Abort, store: &mut Store) {
     ask_all(
-        &rt,
-        &mut store,
+        rt,
+        store,
         &[
             (alloc_daq(2), ACCEPTED),
             (alloc_odt(0, 1), ACCEPTED),
@@ -192,20 +196,22 @@ fn selected_lists_start_together_or_not_at_all(rt: HostRuntime) -> Result<(), Fa
             (synch(1), refused(ErrCode::DaqConfig)),
         ],
     );
-    for list in 0..2 {
-        same(&rt, store.running(list), false, "a list runs");
-        same(&rt, store.selected(list), true, "a list is selected");
-    }
+}
+
+#[test]
+fn selected_lists_start_together_or_not_at_all(rt: HostRuntime) -> Result<(), Fail> {
+    let mut store = Store::new(rt.alloc(), 1, 4)?;
+    select_two(&rt, &mut store);
+    same_states(&rt, &store, [(false, true); 2], "selected lists");
     ask_all(&rt, &mut store, &[(synch(2), ACCEPTED)]);
-    for list in 0..2 {
-        same(&rt, store.selected(list), false, "a list is selected still");
-    }
+    same_states(&rt, &store, [(false, false); 2], "stopped lists");
     ask_all(
         &rt,
         &mut store,
         &[(start_stop(2, 0), started(0)), (synch(1), ACCEPTED)],
     );
-    same(&rt, store.running(0), true, "list 0 runs");
+    let wanted = [(true, false), (false, false)];
+    same_states(&rt, &store, wanted, "list 0 started");
     same(&rt, store.plan(0).is_some(), true, "list 0 is ready");
     same(&rt, store.plan(1).is_some(), false, "list 1 is ready");
     ask_all(
@@ -249,6 +255,17 @@ fn a_running_list_is_left_alone_until_free_daq(rt: HostRuntime) -> Result<(), Fa
     Ok(())
 }
 
+/// Compares what is set of the list of the test below.
+fn compare_conf(rt: &impl Abort, conf: &ListConf) {
+    same(rt, mode_of(conf), (1, 3, true, 9), "mode");
+    let counts = (conf.odts(), conf.entries(0), conf.entries(1));
+    same(rt, counts, (1, 1, 0), "ODTs, and entries of ODTs 0 and 1");
+    same(rt, conf.entry(0, 0), Some((6, 2)), "entry 0");
+    same(rt, conf.entry(0, 1), None, "entry 1");
+    same(rt, conf.ready(8), true, "ready for 8 bytes");
+    same(rt, conf.ready(7), false, "ready for 7 bytes");
+}
+
 #[test]
 fn a_plan_has_what_was_set(rt: HostRuntime) -> Result<(), Fail> {
     let mut store = Store::new(rt.alloc(), 2, 8)?;
@@ -265,25 +282,14 @@ fn a_plan_has_what_was_set(rt: HostRuntime) -> Result<(), Fail> {
     );
     same(&rt, store.set_mode(0x10, 0, 1, 3, 9), Ok(()), "set_mode");
     same(&rt, store.plan(1).is_none(), true, "list 1 is not there");
-    let conf = store.plan(0).ok_or("list 0 is ready")?;
-    same(&rt, conf.channel(), 1, "channel");
-    same(&rt, conf.prescaler(), 3, "prescaler");
-    same(&rt, conf.stamped(), true, "stamped");
-    same(&rt, conf.priority(), 9, "priority");
-    same(&rt, conf.odts(), 1, "ODTs");
-    same(&rt, conf.entries(0), 1, "entries of ODT 0");
-    same(&rt, conf.entries(1), 0, "entries of ODT 1");
-    same(&rt, conf.entry(0, 0), Some((6, 2)), "entry 0");
-    same(&rt, conf.entry(0, 1), None, "entry 1");
-    same(&rt, conf.ready(8), true, "ready for 8 bytes");
-    same(&rt, conf.ready(7), false, "ready for 7 bytes");
+    compare_conf(&rt, store.plan(0).ok_or("list 0 is ready")?);
     Ok(())
 }
 
 /// Compares a printed text.
 fn says(rt: &(impl Abort + AllocGlobal), why: &impl Display, wanted: &str) -> Result<(), Fail> {
     let text = format!(in rt.alloc(); "{why}")?;
-    assert_eq!(rt; text.as_str(), wanted);
+    same(rt, text.as_str(), wanted, "a printed text");
     Ok(())
 }
 

@@ -2,12 +2,12 @@
 //! allocation fails; with N from 1 to 6 each growth of this test is refused in turn.
 
 use super::ask::{
-    ACCEPTED, alloc_daq, alloc_odt, alloc_odt_entry, ask, ask_all, same, set_mode, set_ptr,
-    start_stop, started, write,
+    ACCEPTED, alloc_daq, alloc_odt, alloc_odt_entry, ask, ask_all, set_mode, set_ptr, start_stop,
+    started, write,
 };
-use crate::command::Command;
-use crate::refusal::Refusal;
-use crate::store::Store;
+use crate::same::same;
+use daq_store::command::Command;
+use daq_store::{Refusal, Store};
 use std::process::Abort;
 use std::test::Fail;
 
@@ -38,11 +38,11 @@ fn readers(store: &Store) -> Shown {
 fn ask_again(rt: &impl Abort, store: &mut Store, command: Command) {
     let before = readers(store);
     let mut answer = ask(store, command);
-    if answer == Err(Refusal::Memory) {
+    if let Err(Refusal::Memory) = answer {
         same(rt, readers(store), before, "after want of memory");
         answer = ask(store, command);
     }
-    assert_eq!(rt; answer, ACCEPTED, "at {command:?}");
+    same(rt, (command, answer), (command, ACCEPTED), "an allocation");
 }
 
 #[test]
@@ -51,8 +51,13 @@ fn a_refused_growth_leaves_the_store_as_it_was(rt: HostRuntime) -> Result<(), Fa
     ask_again(&rt, &mut store, alloc_daq(3));
     ask_all(&rt, &mut store, &[(start_stop(2, 0), started(0))]);
     ask_again(&rt, &mut store, alloc_daq(2));
-    same(&rt, store.lists(), 2, "lists");
-    same(&rt, store.selected(0), false, "list 0 is selected");
+    let shown = (store.lists(), store.selected(0));
+    same(
+        &rt,
+        shown,
+        (2, false),
+        "lists, and whether list 0 is selected",
+    );
     ask_again(&rt, &mut store, alloc_odt(0, 5));
     same(&rt, store.first_pid(1), Some(5), "FIRST_PID behind 5 ODTs");
     ask_again(&rt, &mut store, alloc_odt(0, 1));
@@ -71,7 +76,12 @@ fn a_refused_growth_leaves_the_store_as_it_was(rt: HostRuntime) -> Result<(), Fa
     );
     same(&rt, readers(&store).entry, Some((1, 2)), "entry");
     ask_again(&rt, &mut store, alloc_odt_entry(0, 0, 32));
-    same(&rt, store.pointer(), None, "pointer");
-    same(&rt, store.plan(0).is_none(), true, "list 0 is not ready");
+    let shown = (store.pointer(), store.plan(0).is_some());
+    same(
+        &rt,
+        shown,
+        (None, false),
+        "pointer, and whether list 0 is ready",
+    );
     Ok(())
 }

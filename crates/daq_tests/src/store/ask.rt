@@ -1,10 +1,8 @@
 //! Calls of the store, by their commands.
 
-use crate::command::Command;
-use crate::refusal::Refusal;
-use crate::reply::Reply;
-use crate::store::Store;
-use std::fmt::Debug;
+use crate::same::same;
+use daq_store::command::Command;
+use daq_store::{ListConf, Refusal, Reply, Store};
 use std::process::Abort;
 use xcp_base::ErrCode;
 
@@ -26,31 +24,35 @@ pub fn refused(code: ErrCode) -> Answer {
 
 /// Makes the call that a command names.
 pub fn ask(store: &mut Store, command: Command) -> Answer {
-    match command {
-        Command::FreeDaq => store.free_daq(),
-        Command::AllocDaq { count } => store.alloc_daq(count)?,
-        Command::AllocOdt { list, count } => store.alloc_odt(list, count)?,
-        Command::AllocOdtEntry { list, odt, count } => store.alloc_odt_entry(list, odt, count)?,
-        Command::SetDaqPtr { list, odt, entry } => store.set_ptr(list, odt, entry)?,
+    let done = match command {
+        Command::FreeDaq => {
+            store.free_daq();
+            Ok(())
+        }
+        Command::AllocDaq { count } => store.alloc_daq(count),
+        Command::AllocOdt { list, count } => store.alloc_odt(list, count),
+        Command::AllocOdtEntry { list, odt, count } => store.alloc_odt_entry(list, odt, count),
+        Command::SetDaqPtr { list, odt, entry } => store.set_ptr(list, odt, entry),
         Command::WriteDaq {
             bit,
             size,
             ext,
             addr,
-        } => store.write(bit, size, ext, addr)?,
+        } => store.write(bit, size, ext, addr),
         Command::SetDaqListMode {
             mode,
             list,
             channel,
             prescaler,
             priority,
-        } => store.set_mode(mode, list, channel, prescaler, priority)?,
+        } => store.set_mode(mode, list, channel, prescaler, priority),
         Command::StartStopDaqList { mode, list } => {
             let first_pid = store.start_stop(mode, list)?;
             return Ok(Reply::Started { first_pid });
         }
-        Command::StartStopSynch { mode } => store.synch(mode)?,
-    }
+        Command::StartStopSynch { mode } => store.synch(mode),
+    };
+    done?;
     Ok(Reply::Positive)
 }
 
@@ -58,14 +60,34 @@ pub fn ask(store: &mut Store, command: Command) -> Answer {
 pub fn ask_all(rt: &impl Abort, store: &mut Store, calls: &[(Command, Answer)]) {
     for place in 0..calls.len() {
         let (command, answer) = calls[place];
-        assert_eq!(rt; ask(store, command), answer, "at {place}: {command:?}");
+        let shown = ask(store, command);
+        same(
+            rt,
+            (place, command, shown),
+            (place, command, answer),
+            "a call",
+        );
     }
 }
 
-/// Compares what is shown with what is wanted. A test has one call of this for each comparison, since
-/// a macro in its own body is proved anew at each place.
-pub fn same<T: Copy + Debug + PartialEq>(rt: &impl Abort, shown: T, wanted: T, what: &str) {
-    assert_eq!(rt; shown, wanted, "{what}");
+/// The mode of a list: channel, prescaler, stamped, priority.
+pub type ListMode = (u16, u8, bool, u8);
+
+/// The mode that a plan shows.
+pub fn mode_of(conf: &ListConf) -> ListMode {
+    (
+        conf.channel() as u16,
+        conf.prescaler(),
+        conf.stamped(),
+        conf.priority(),
+    )
+}
+
+/// Compares whether each of two lists runs, and whether it is selected.
+pub fn same_states(rt: &impl Abort, store: &Store, wanted: [(bool, bool); 2], what: &str) {
+    let list_0 = (store.running(0), store.selected(0));
+    let list_1 = (store.running(1), store.selected(1));
+    same(rt, [list_0, list_1], wanted, what);
 }
 
 /// ALLOC_DAQ.
