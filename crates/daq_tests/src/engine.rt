@@ -5,7 +5,6 @@ mod examples;
 mod memory;
 mod opening;
 mod step;
-mod stores;
 mod threads;
 mod whole_run;
 mod wrong_ends;

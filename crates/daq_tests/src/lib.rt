@@ -2,8 +2,9 @@
 #![tactic(auto)]
 
 #[cfg(test)]
-mod engine;
 mod base;
+#[cfg(test)]
+mod engine;
 #[cfg(test)]
 mod first_path;
 #[cfg(test)]
@@ -11,16 +12,16 @@ mod frames;
 #[cfg(test)]
 mod plans;
 #[cfg(test)]
-mod same;
-#[cfg(test)]
-mod set_up;
-#[cfg(test)]
-mod whole_way;
 mod rings;
 #[cfg(test)]
 mod same;
 #[cfg(test)]
 mod samplers;
 #[cfg(test)]
-mod stores;
+mod set_up;
+#[cfg(test)]
 mod store;
+#[cfg(test)]
+mod stores;
+#[cfg(test)]
+mod whole_way;

@@ -41,7 +41,7 @@ fn plan_of(rt: &HostRuntime, store: &Store, list: u8) -> Result<CopyPlan, Fail>
 
 /// A running sampler of list 0 alone, which has the two bytes of the image.
 fn one_list(rt: &HostRuntime, prescaler: u8, cap: usize) -> Result<Sampler<ListSend>, Fail> {
-    let store = store_of(rt, 1, 2, &[list_of(prescaler, &[(0, 2)])])?;
+    let store = store_of(rt.alloc(), 1, 2, &[list_of(prescaler, &[(0, 2)])])?;
     let mut plans = Vec::new(rt.alloc());
     plans.push(plan_of(rt, &store, 0)?)?;
     let end = ListSend::new(rt.alloc(), cap)?;
@@ -52,7 +52,12 @@ fn one_list(rt: &HostRuntime, prescaler: u8, cap: usize) -> Result<Sampler<ListS
 fn two_lists<S: SendEnd>(rt: &HostRuntime, end: S) -> Result<Sampler<S>, Fail>
     requires { S.sent end ≡ [] }
 {
-    let store = store_of(rt, 1, 2, &[list_of(1, &[(0, 1)]), list_of(1, &[(1, 1)])])?;
+    let store = store_of(
+        rt.alloc(),
+        1,
+        2,
+        &[list_of(1, &[(0, 1)]), list_of(1, &[(1, 1)])],
+    )?;
     let mut plans = Vec::new(rt.alloc());
     plans.push(plan_of(rt, &store, 0)?)?;
     plans.push(plan_of(rt, &store, 1)?)?;

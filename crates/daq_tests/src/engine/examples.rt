@@ -1,8 +1,8 @@
 //! The worked examples, each with its own bytes and account, over an engine in one thread.
 use crate::engine::bench::Bench;
 use crate::engine::step::{Step, make_all};
-use crate::engine::stores::{List, store_of};
 use crate::same::same;
+use crate::stores::{List, store_of};
 use daq_engine::ListReport;
 use sampler::{StartFault, StopFault, TriggerFault};
 use std::alloc::Global;

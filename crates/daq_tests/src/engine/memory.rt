@@ -6,8 +6,8 @@ ghost use Rattle.std.specs.Prelude.{◌≡◌, [], IfOk};
 
 use crate::engine::bench::Bench;
 use crate::engine::step::{Step, make_all};
-use crate::engine::stores::simple;
 use crate::same::same;
+use crate::stores::simple;
 use channel_ring::SendLeft;
 use frame_writer::VecOut;
 use linked_list_allocator::LocalHeap;

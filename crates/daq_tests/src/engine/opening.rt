@@ -1,6 +1,6 @@
 //! What no clause says: that an engine opens, and comes to each refusal.
-use crate::engine::stores::{ready_of, whole};
 use crate::same::same;
+use crate::stores::{ready_of, whole};
 use channel_ring::{SendHalf, TakeHalf};
 use daq_engine::{OpenFault, open};
 use daq_store::Store;

@@ -2,8 +2,8 @@
 ghost use Rattle.std.specs.Prelude.{◌≡◌, [], ◌∷◌, IfOk, IfSome};
 ghost use Rattle.transmitter.specs.Written.{transmission};
 
-use crate::engine::stores::simple;
 use crate::same::same;
+use crate::stores::simple;
 use channel_ring::{RingEnd, SendEnd, SendHalf, SendLeft, TakeEnd, TakeHalf};
 use daq_engine::{Report, close, open};
 use daq_store::Store;

@@ -11,8 +11,8 @@ ghost use Rattle.daq_engine.specs.Configuration.{Past};
 ghost use Rattle.daq_engine.specs.Headline.{AllStand, Headline};
 ghost use Rattle.daq_engine.specs.Openings.{IsOpeningOf};
 
-use crate::engine::stores::simple;
 use crate::same::same;
+use crate::stores::simple;
 use channel_ring::{RingEnd, SendEnd, SendHalf, SendLeft, TakeEnd, TakeHalf};
 use daq_engine::{ListReport, Report, close, open};
 use daq_store::Store;

@@ -2,9 +2,9 @@
 ghost use Rattle.std.specs.Prelude.{◌≡◌, [], ◌∷◌, IfOk, IfSome};
 ghost use Rattle.transmitter.specs.Written.{transmission};
 
-use crate::engine::stores::simple;
 use crate::engine::threads::two_of;
 use crate::same::same;
+use crate::stores::simple;
 use channel_ring::{RingEnd, SendEnd, SendHalf, SendLeft, TakeEnd, TakeHalf};
 use daq_engine::{CloseFault, close, open};
 use daq_store::Store;
