@@ -1,6 +1,7 @@
 -- What a whole run keeps: its samplers stand after something, from the openings of the store, and so do their ends.
-use Rattle.std.proofs.Common.{◌≡◌, ℕ, zero, suc, ◌+◌, ◌++◌, All, Bool, List, [], ◌∷◌, length, map, get_or, IfOk, IfSome, OnErr, Option, Result, Ok, Err, Some, refl, sym, ap, subst, ◌∙◌, arith}
+use Rattle.std.proofs.Common.{◌≡◌, ℕ, zero, suc, ◌+◌, ◌++◌, All, Bool, List, [], ◌∷◌, length, map, get_or, IfOk, IfSome, IsOk, OnErr, Option, Result, Ok, Err, Some, refl, sym, ap, subst, ◌∙◌, arith}
 use Rattle.std.specs.Prelude.{slice_get}
+use Rattle.std.proofs.lemmas.Bool.{false≢true}
 use Rattle.std.proofs.lemmas.List.{get_or-map, length-map, map-append}
 use Rattle.std.proofs.lemmas.List.Elements.{All-head, All-tail}
 use Rattle.std.proofs.lemmas.Option.{slice_get-get_or}
@@ -164,3 +165,16 @@ drained_taken sent start a b (Err Spent) ps drains h = rounds_taken sent start a
 pub ok_weaker : {A F : Type 0} (P Q : A → Type 0) (r : Result A F) → ((a : A) → P a → Q a) → IfOk r P → IfOk r Q
 ok_weaker P Q (Ok a) f h = f a h
 ok_weaker P Q (Err e) f h = tt
+
+-- a drain that answered Ok, where what was sent is read off the joined ends
+pub drained_of : {E : Type 0} (ring : EndGhosts E) (ends : List (SamplerEndState E)) (a b : TransmitterState) (r : Result (Unit {0}) PumpFault)
+    → Drains (map (λ (e : SamplerEndState E). ring.all_sent e.end) ends) a b r → IsOk r
+    → Drains (map (λ (e : JoinedEnd). e.sent) (map (joined ring) ends)) a b (Ok tt)
+drained_of ring ends a b (Ok u) drains ok =
+    let P : List (List Item) → Type 0 = λ sent. Drains sent a b (Ok tt) in
+    subst P (sent_joined ends) drains
+  where
+    sent_joined : (es : List (SamplerEndState _)) → map (λ (e : SamplerEndState _). ring.all_sent e.end) es ≡ map (λ (e : JoinedEnd). e.sent) (map (joined ring) es)
+    sent_joined [] = refl
+    sent_joined (e ∷ es) = ap (λ xs. ring.all_sent e.end ∷ xs) (sent_joined es)
+drained_of ring ends a b (Err f) drains ok = absurd (false≢true ok)

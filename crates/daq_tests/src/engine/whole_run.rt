@@ -1,5 +1,5 @@
 //! A whole run in one thread, from the opening of an engine to its closing: what `close` asks for is met.
-ghost use Rattle.std.specs.Prelude.{◌≡◌, ℕ, ◌<◌, All, Bool, IfOk, List, false, length, map};
+ghost use Rattle.std.specs.Prelude.{◌≡◌, ℕ, ◌<◌, All, Bool, IfOk, IsOk, List, false, length, map};
 ghost use Rattle.xcp_base.specs.declared.item.Item.{Item};
 ghost use Rattle.frame_writer.specs.Shown.{shown};
 ghost use Rattle.frame_writer.specs.Writing.{WriterState, state_of};
@@ -8,19 +8,21 @@ ghost use Rattle.sampler.specs.Standing.{EndStandsAfter, StandsAfter};
 ghost use Rattle.sampler.specs.State.{JoinedEnd, joined};
 ghost use Rattle.transmitter.specs.Written.{HasTaken, TransmitterState, transmission};
 ghost use Rattle.daq_engine.specs.Configuration.{Past};
+ghost use Rattle.daq_engine.specs.Drained.{LeavesNothing};
 ghost use Rattle.daq_engine.specs.Headline.{AllStand, Headline};
 ghost use Rattle.daq_engine.specs.Openings.{IsOpeningOf};
 
 use crate::same::same;
 use crate::stores::simple;
 use channel_ring::{RingEnd, SendEnd, SendHalf, SendLeft, TakeEnd, TakeHalf};
+use daq_engine::laws::drained_engines_leave_nothing;
 use daq_engine::{ListReport, Report, close, open};
 use daq_store::Store;
 use frame_writer::{FrameWriter, Out, VecOut};
 use sampler::{Sampler, SamplerEnd};
 use std::alloc::Global;
 use std::test::Fail;
-use transmitter::Transmitter;
+use transmitter::{PumpFault, Transmitter};
 
 /// A trigger of each event channel.
 fn trigger_all(samplers: &mut Vec<Sampler<SendHalf>>, image: &[u8], stamp: u32)
@@ -54,29 +56,32 @@ fn finish_all(
     Ok(ends)
 }
 
-/// The report and the writer, once the rings are drained. A fault of the drain doesn't keep it from being closed.
+/// The report and the writer, once the rings are drained, and what the drain answered, which doesn't keep the engine from
+/// being closed. Where that is Ok, nothing is left.
 fn drain_and_close<O: Out + Drop>(
     alloc: Global,
     mut transmitter: Transmitter<O, TakeHalf>,
     mut ends: Vec<SamplerEnd<SendLeft>>,
-) -> Result<(Report, O), Fail>
+) -> Result<(Report, O, Result<(), PumpFault>), Fail>
     requires one_rings { (transmission O.Out ⟦<TakeHalf as TakeEnd>⟧ transmitter).rings ≡ map (λ e. ⟦<SendLeft as RingEnd>⟧.ring e.end) ends.items }
     ensures headline { IfOk result (λ r. (start : WriterState) (ps : List (ℕ × Item)) (past : ℕ → Past) →
         HasTaken start (transmission O.Out ⟦<TakeHalf as TakeEnd>⟧ transmitter) ps →
         AllStand (map (joined ⟦<SendLeft as RingEnd>⟧) ends.items) past →
         (t : TransmitterState)
-        × Headline start t (map (joined ⟦<SendLeft as RingEnd>⟧) ends.items) past r.0
-        × (t.writer.out ≡ shown O.Out r.1)) }
+        × (closed : Headline start t (map (joined ⟦<SendLeft as RingEnd>⟧) ends.items) past r.0)
+        × (t.writer.out ≡ shown O.Out r.1)
+        × (IsOk r.2 → LeavesNothing (map (joined ⟦<SendLeft as RingEnd>⟧) ends.items) past r.0 closed.frames)) }
 {
-    let _ = transmitter.drain(ends.as_mut_slice());
+    drained_engines_leave_nothing();
+    let drained = transmitter.drain(ends.as_mut_slice());
     match close(alloc, transmitter, ends) {
-        Ok(closed) => Ok(closed),
+        Ok((report, out)) => Ok((report, out, drained)),
         Err((fault, _, _)) => Err(Fail::from(fault)),
     }
 }
 
 /// Opens an engine over a store, takes one trigger of each event channel, pumps once, and closes it once its rings are
-/// drained.
+/// drained. It answers what the drain answered, too.
 fn run_once<O: Out + Drop>(
     alloc: Global,
     store: &Store,
@@ -84,11 +89,12 @@ fn run_once<O: Out + Drop>(
     writer: FrameWriter<O>,
     image: &[u8],
     stamp: u32,
-) -> Result<(Report, O), Fail>
+) -> Result<(Report, O, Result<(), PumpFault>), Fail>
     requires is_open { (state_of O.Out writer).closed ≡ false }
     ensures headline { IfOk result (λ r. (t : TransmitterState) × (ends : List JoinedEnd) × (past : ℕ → Past)
-        × Headline (state_of O.Out writer) t ends past r.0
+        × (closed : Headline (state_of O.Out writer) t ends past r.0)
         × (t.writer.out ≡ shown O.Out r.1)
+        × (IsOk r.2 → LeavesNothing ends past r.0 closed.frames)
         × (length ends ≡ store.now.profile.channels)
         × ((c : ℕ) → c < store.now.profile.channels → IsOpeningOf store.now c (past c).opening)) }
 {
@@ -107,7 +113,7 @@ fn run_once<O: Out + Drop>(
 fn each_sample_of_a_whole_run_is_written(rt: HostRuntime) -> Result<(), Fail> {
     let store = simple(rt.alloc(), 2)?;
     let writer = FrameWriter::new(VecOut::new(rt.alloc()));
-    let (report, _) = run_once(rt.alloc(), &store, &[16, 16], writer, &[7, 8], 0)?;
+    let (report, _, drained) = run_once(rt.alloc(), &store, &[16, 16], writer, &[7, 8], 0)?;
     let line = |l| ListReport {
         list: l,
         due: 1,
@@ -116,6 +122,7 @@ fn each_sample_of_a_whole_run_is_written(rt: HostRuntime) -> Result<(), Fail> {
         left: 0,
     };
     same(&rt, report.lists.as_slice(), &[line(0), line(1)], "account");
+    same(&rt, drained, Ok(()), "the drain");
     same(&rt, report.failed, false, "whether the writer failed");
     Ok(())
 }

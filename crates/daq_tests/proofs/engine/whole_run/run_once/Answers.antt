@@ -36,6 +36,7 @@ returns-in-Ok g c =
             past,
             closed.1,
             closed.2,
+            closed.3,
             many,
             λ k within. subst (IsOpeningOf s k) (sym (past-opening ring.ghosts openings ends all k)) (opened.of_store k within),
           ))
