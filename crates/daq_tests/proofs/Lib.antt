@@ -1,3 +1,2 @@
 pub mod BenchLemmas
-pub mod SendLemmas
 pub mod WholeRunLemmas

@@ -1,7 +1,7 @@
 use denote.Param.Send.{sendable}
 use Rattle.std.proofs.Crossing.{crosses}
 use Rattle.channel_ring.proofs.SendLemmas.{item, ring_end, send_half}
-use Rattle.daq_tests.proofs.SendLemmas.{copy_plan}
+use Rattle.daq_engine.proofs.SendLemmas.{copy_plan}
 use Rattle.daq_tests.proofs.engine.threads.two_samplers_run_beside_the_transmitter.Goals as goal
 
 -- a sampler may go to another thread
