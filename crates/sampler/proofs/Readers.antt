@@ -14,6 +14,7 @@ use Rattle.sampler.specs.History.{Event, Opening, runs_after, is_list_of}
 use Rattle.sampler.specs.Decisions.{decided, pairs_of}
 use Rattle.sampler.specs.Tracks.{track_of, counts_of, counts_after}
 use Rattle.sampler.specs.State.{SamplerState, JoinedEnd, place_of, found_at, track_at, runs_in, is_running}
+use Rattle.sampler.specs.Refusals.{running_at}
 use Rattle.sampler.specs.Standing.{StandsAfter, EndStandsAfter}
 use Rattle.sampler.specs.declared.track.Track.{Track}
 use Rattle.sampler.proofs.Places.{no_plan}
@@ -91,13 +92,17 @@ module _ (o : Opening) (h : List Event) (d : List Bool) (l : ℕ) where
       ∙ ap (λ cs. option_and_then (λ i. slice_get cs i) (place_of l o.plans)) (map_twice (λ (track : Track). track.counts) (track_of o h d) o.plans)
       ∙ counts-kept
 
-  runs-found_at : is_running (found_at l o.plans (map (track_of o h d) o.plans)) ≡ (is_list_of o l && runs_after o h l)
+  running-found_at : option_map (λ (track : Track). track.running) (found_at l o.plans (map (track_of o h d) o.plans)) ≡ running_at o h l
   unfolding track_of
+  running-found_at =
+      map-found (λ (track : Track). track.running) (map (track_of o h d) o.plans) (place_of l o.plans)
+      ∙ ap (λ bs. option_and_then (λ i. slice_get bs i) (place_of l o.plans)) (map_twice (λ (track : Track). track.running) (track_of o h d) o.plans)
+      ∙ found-is (λ plan. runs_after o h plan.list) l (runs_after o h l) (λ plan e. ap (runs_after o h) e) o.plans
+
+  runs-found_at : is_running (found_at l o.plans (map (track_of o h d) o.plans)) ≡ (is_list_of o l && runs_after o h l)
   runs-found_at =
       runs-truth (found_at l o.plans (map (track_of o h d) o.plans))
-      ∙ ap truth (map-found (λ (track : Track). track.running) (map (track_of o h d) o.plans) (place_of l o.plans))
-      ∙ ap (λ bs. truth (option_and_then (λ i. slice_get bs i) (place_of l o.plans))) (map_twice (λ (track : Track). track.running) (track_of o h d) o.plans)
-      ∙ ap truth (found-is (λ plan. runs_after o h plan.list) l (runs_after o h l) (λ plan e. ap (runs_after o h) e) o.plans)
+      ∙ ap truth running-found_at
       ∙ truth-if (is_list_of o l) (runs_after o h l)
 
 module _ {S E : Type 0} (send : SendGhosts S E) (ring : EndGhosts E) (s : SamplerState S) (o : Opening) (h : List Event) (d : List Bool) (l : ℕ) (stands : StandsAfter send ring s o h d) where
@@ -106,6 +111,13 @@ module _ {S E : Type 0} (send : SendGhosts S E) (ring : EndGhosts E) (s : Sample
       ap (λ plans. option_map (λ (track : Track). track.counts) (found_at l plans s.tracks)) stands.plans
       ∙ ap (λ tracks. option_map (λ (track : Track). track.counts) (found_at l o.plans tracks)) stands.tracks
       ∙ counts-found_at o h d l
+
+  -- whether a list runs, by what is kept of it
+  pub running_found : (at : Option Track) → track_at s l ≡ at → running_at o h l ≡ option_map (λ (track : Track). track.running) at
+  running_found at is =
+      sym (ap (λ plans. option_map (λ (track : Track). track.running) (found_at l plans s.tracks)) stands.plans
+      ∙ ap (λ tracks. option_map (λ (track : Track). track.running) (found_at l o.plans tracks)) stands.tracks
+      ∙ running-found_at o h d l) ∙ ap (option_map (λ (track : Track). track.running)) is
 
   pub sampler-runs : runs_in s l ≡ (is_list_of o l && runs_after o h l)
   sampler-runs =

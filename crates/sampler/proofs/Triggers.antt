@@ -3,7 +3,7 @@ use Rattle.std.proofs.Common.{◌≡◌, ℕ, zero, suc, ◌+◌, ◌≤◌, Boo
 use Rattle.std.specs.Prelude.{Option, Some, slice_get}
 use Rattle.std.proofs.Math.Seq.{take-append-add, take-append_seam}
 use Rattle.std.proofs.lemmas.List.{take_at}
-use Rattle.channel_ring.specs.Room.{units}
+use Rattle.channel_ring.specs.Room.{units, units-append}
 use Rattle.channel_ring.specs.declared.ends.SendEnd.{Ghosts as SendGhosts}
 use Rattle.channel_ring.specs.declared.ends.RingEnd.{Ghosts as EndGhosts}
 use Rattle.copy_plan.specs.Config.{ListPlan}
@@ -22,7 +22,6 @@ use Rattle.sampler.specs.declared.taken.Taken.{Taken}
 use Rattle.sampler.proofs.Histories.{append_nil, items-more, length-map_of, slice_get-behind}
 use Rattle.sampler.proofs.Drops.{NewDrops}
 use Rattle.sampler.proofs.Stands.{stands-more}
-use Rattle.sampler.proofs.Turns.{units-append}
 use Rattle.sampler.proofs.Rows.{due_plans, decisions, plans_of, RowsAre, due_at-rows, track-more, length-due_plans}
 use Rattle.sampler.proofs.RowItems.{samples-rows, sample-row, count-decisions, decisions-append}
 

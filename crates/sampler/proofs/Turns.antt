@@ -3,8 +3,7 @@ use Rattle.std.proofs.Common.{◌≡◌, ℕ, zero, suc, ◌+◌, ◌<◌, ◌�
 use Rattle.std.specs.Prelude.{if◌then◌else◌}
 use Rattle.std.specs.List.{list_any}
 use Rattle.std.proofs.Math.Seq.{take-suc, drop-cons}
-use Rattle.xcp_base.specs.declared.item.Item.{Item}
-use Rattle.channel_ring.specs.Room.{units}
+use Rattle.channel_ring.specs.Room.{units, units-append}
 use Rattle.channel_ring.specs.declared.ends.SendEnd.{Ghosts as SendGhosts}
 use Rattle.channel_ring.specs.declared.ends.RingEnd.{Ghosts as EndGhosts}
 use Rattle.copy_plan.specs.Config.{ListPlan}
@@ -32,10 +31,6 @@ list_any-one p (y ∷ xs) x = ap (λ b. p y || b) (list_any-one p xs x) ∙ asso
     assoc : (a b c : Bool) → (a || (b || c)) ≡ ((a || b) || c)
     assoc true b c = refl
     assoc false b c = refl
-
-pub units-append : (cost : Item → ℕ) (xs ys : List Item) → units cost (xs ++ ys) ≡ units cost xs + units cost ys
-units-append cost [] ys = omega arith
-units-append cost (x ∷ xs) ys = omega (arith, units-append cost xs ys)
 
 pub rows_count-one : (rows : List Row) (row : Row) → rows_count (rows ++ row ∷ []) ≡ rows_count rows + row_count row
 unfolding rows_count

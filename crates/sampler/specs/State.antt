@@ -1,5 +1,5 @@
 -- What a contract sees of a `Sampler`.
-use Rattle.std.specs.Prelude.{◌≡◌, ℕ, ◌+◌, ◌*◌, ◌^◌, ◌<◌, ◌≤◌, length, Bool, false, not, List, [], ◌∷◌, nat_eq, position, slice_get, Some, None}
+use Rattle.std.specs.Prelude.{◌≡◌, ℕ, ◌+◌, ◌*◌, ◌^◌, ◌<◌, ◌≤◌, length, Bool, false, not, List, [], ◌∷◌, map, nat_eq, position, slice_get, Some, None}
 use Rattle.std.specs.Option.{option_and_then}
 use Rattle.std.specs.declared.option.Option.{Option}
 use Rattle.xcp_base.specs.declared.item.Item.{Item}
@@ -51,6 +51,10 @@ joined_with cost sent s = record { channel = s.channel; plans = s.plans; counts 
 -- what is left of a sampler, as its end says what was sent
 abbrev pub joined : {E : Type 0} → EndGhosts E → SamplerEndState E → JoinedEnd
 joined ring s = joined_with ring.cost (ring.all_sent s.end) s
+
+-- what was sent to each of the rings, as the joined ends have it
+abbrev pub sent_by : List JoinedEnd → List (List Item)
+sent_by ends = map (λ (e : JoinedEnd). e.sent) ends
 
 -- the place of list l among the plans
 abbrev pub place_of : ℕ → List ListPlan → Option ℕ

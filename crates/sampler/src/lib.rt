@@ -3,6 +3,7 @@
 
 mod counts;
 mod faults;
+pub mod laws;
 mod openings;
 mod sampler;
 mod sampler_end;

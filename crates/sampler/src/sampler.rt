@@ -1,11 +1,14 @@
-ghost use Rattle.std.specs.Prelude.{◌≡◌, ℕ, ◌<◌, ◌≤◌, ◌↔◌, ◌≢◌, ◌&&◌, List, Bool, true, [], ◌∷◌, ◌++◌, length, map, IfOk, OnOk, OnErr, IfSome, nat_eq, None};
+ghost use Rattle.std.specs.Prelude.{◌≡◌, ℕ, ◌+◌, ◌<◌, ◌≤◌, ◌↔◌, ◌≢◌, ◌&&◌, List, Bool, true, [], ◌∷◌, ◌++◌, length, map, IfOk, OnOk, OnErr, IfSome, nat_eq, None};
 ghost use Rattle.std.specs.Option.{option_map};
 ghost use Rattle.std.specs.List.{list_any};
+ghost use Rattle.std.specs.Result.{result_err};
+ghost use Rattle.channel_ring.specs.Room.{units};
 ghost use Rattle.copy_plan.specs.Config.{ListPlan};
 ghost use Rattle.xcp_base.specs.declared.item.Item.{Item};
 ghost use Rattle.sampler.specs.History.{Event, Start, Stop, Opening, has_list, is_list_of, runs_after};
 ghost use Rattle.sampler.specs.Sets.{IsSetOf};
 ghost use Rattle.sampler.specs.State.{joined, ArePlansOf, RiseFrom, track_at, runs_in, stopped_in};
+ghost use Rattle.sampler.specs.Refusals.{AnswersStop, running_at, start_refusal, stop_refusal, trigger_refusal};
 ghost use Rattle.sampler.specs.Standing.{StandsAfter, EndStandsAfter, TakesTrigger, ExceedsCapacity};
 ghost use Rattle.sampler.specs.Tracks.{counts_after};
 ghost use Rattle.sampler.specs.declared.track.Track.{Track};
@@ -90,6 +93,9 @@ impl<S: SendEnd> Sampler<S> {
     pub fn trigger(&mut self, image: &[u8], stamp: u32) -> Result<Taken, TriggerFault>
         ensures wrong_image { (result ≡ Err TriggerFault.WrongImage) ↔ (length image.now ≢ self.old.image_len) }
         ensures spent { (result ≡ Err TriggerFault.Spent) ↔ ((length image.now ≡ self.old.image_len) × (self.old.triggers ≡ MAX_TRIGGERS)) }
+        ensures refused { (opening : Opening) (h : List Event) (d : List Bool) →
+            StandsAfter S.SendEnd S.End.RingEnd self.old opening h d →
+            result_err result ≡ trigger_refusal self.old.image_len h image.now }
         ensures err { OnErr result (self.new ≡ self.old) }
         ensures ok { IfOk result (λ taken. (opening : Opening) (h : List Event) (d : List Bool) →
             StandsAfter S.SendEnd S.End.RingEnd self.old opening h d →
@@ -127,6 +133,9 @@ impl<S: SendEnd> Sampler<S> {
     pub fn start(&mut self, l: u8) -> Result<(), StartFault>
         ensures not_of_channel { (result ≡ Err StartFault.NotOfChannel) ↔ (track_at self.old l ≡ None) }
         ensures running { (result ≡ Err StartFault.Running) ↔ (runs_in self.old l ≡ true) }
+        ensures refused { (opening : Opening) (h : List Event) (d : List Bool) →
+            StandsAfter S.SendEnd S.End.RingEnd self.old opening h d →
+            result_err result ≡ start_refusal (running_at opening h l) }
         ensures err { OnErr result (self.new ≡ self.old) }
         ensures ok { OnOk result ((opening : Opening) (h : List Event) (d : List Bool) →
             StandsAfter S.SendEnd S.End.RingEnd self.old opening h d →
@@ -152,6 +161,9 @@ impl<S: SendEnd> Sampler<S> {
     pub fn stop(&mut self, l: u8) -> Result<(), StopFault>
         ensures not_of_channel { (result ≡ Err StopFault.NotOfChannel) ↔ (track_at self.old l ≡ None) }
         ensures not_running { (result ≡ Err StopFault.NotRunning) ↔ (stopped_in self.old l ≡ true) }
+        ensures refused { (opening : Opening) (h : List Event) (d : List Bool) →
+            StandsAfter S.SendEnd S.End.RingEnd self.old opening h d →
+            AnswersStop (stop_refusal (running_at opening h l)) (result_err result) }
         ensures no_room { let marker = Item.Marker (record { channel = self.old.channel; list = l }) in result ≡ Err StopFault.NoRoom → S.free self.old.end < S.End.cost marker }
         ensures over_capacity { let marker = Item.Marker (record { channel = self.old.channel; list = l }) in result ≡ Err StopFault.NoRoom → ExceedsCapacity (S.capacity self.old.end) S.End.cost (S.sent self.old.end) marker }
         ensures ok { OnOk result ((opening : Opening) (h : List Event) (d : List Bool) →
@@ -236,8 +248,8 @@ impl<S: SendEnd> Sampler<S> {
 
     /// Looks at all that was sent through the ring beside its take end, and answers how many items are left.
     ///
-    /// The take end is that of the sampler's ring. From then on it knows each item left; the sampler is as it was, but that
-    /// more units may be known to be free.
+    /// The take end is that of the sampler's ring. From then on it knows each item left, and the sampler knows each unit to
+    /// be free that none of them takes up; else it is as it was.
     pub fn beside<T: Beside<Send = S>>(&mut self, take: &mut T) -> usize
         requires one_ring { S.ring self.old.end ≡ T.ring take.old }
         ensures count { result ≡ length (T.known take.new) }
@@ -251,6 +263,8 @@ impl<S: SendEnd> Sampler<S> {
         ensures sampler { self.new ≡ record self.old { end = self.new.end } }
         ensures sent { S.sent self.new.end ≡ S.sent self.old.end }
         ensures grows { S.free self.old.end ≤ S.free self.new.end }
+        ensures roomy { S.capacity self.new.end
+            ≤ S.free self.new.end + units S.End.cost (T.known take.new) }
         ensures capacity_stays { S.capacity self.new.end ≡ S.capacity self.old.end }
         ensures ring { S.ring self.new.end ≡ S.ring self.old.end }
     {

@@ -1,5 +1,5 @@
 -- A drain that has had one more pump.
-use Rattle.std.proofs.Common.{◌≡◌, ℕ, suc, ◌+◌, ◌<◌, ◌≤◌, false, List, [], ◌∷◌, ◌++◌, length, drop, None, Ok, Err, refl, sym, ap, ◌∙◌, subst, arith, append_assoc, append-nil, length-append, inl, inr}
+use Rattle.std.proofs.Common.{◌≡◌, ℕ, suc, ◌+◌, ◌<◌, ◌≤◌, false, List, [], ◌∷◌, ◌++◌, length, drop, None, Ok, Err, Result, refl, sym, ap, ◌∙◌, subst, arith, append_assoc, append-nil, length-append, inl, inr}
 use Rattle.std.proofs.lemmas.Bool.{false≢true}
 use Rattle.std.proofs.lemmas.Bool.Decides.{eqb_tells}
 use Rattle.std.proofs.lemmas.List.{append_cancel_left, get_or-map, get_or_default, length-map, same_lists}
@@ -8,8 +8,8 @@ use Rattle.xcp_base.specs.declared.item.Item.TheVariants.{Sample}
 use Rattle.xcp_base.specs.declared.limits.TheConstants.{MAX_TAKEN}
 use Rattle.frame_writer.specs.Writing.{WriterState}
 use Rattle.transmitter.specs.Merge.{AreRising, of_ring, taken_from}
-use Rattle.transmitter.specs.Pumps.{Fails, Leads, PumpAnswers, Pumps}
-use Rattle.transmitter.specs.Rounds.{Drains, round, rounds, without_first}
+use Rattle.transmitter.specs.Pumps.{Fails, Leads, PumpAnswers, Pumps, TakesMore}
+use Rattle.transmitter.specs.Rounds.{Drains, TakesInRounds, round, rounds, without_first}
 use Rattle.transmitter.specs.Written.{HasTaken, TransmitterState}
 use Rattle.transmitter.specs.declared.faults.PumpFault.{PumpFault}
 use Rattle.transmitter.specs.declared.faults.PumpFault.TheVariants.{Closed, Failed, Spent}
@@ -144,6 +144,16 @@ first_look sent a d is_open none look =
 pub all_taken : (sent : List (List Item)) (a b : TransmitterState) → Emptying sent a b → ((c : ℕ) → of_ring b.known c ≡ []) → Drains sent a b (Ok tt)
 all_taken sent a b i none =
     (record { was_open = i.was_open; left = i.left; leaves = i.leaves; taken = rounds i.turns i.left; turns = i.turns; in_rounds = ([], append-nil (rounds i.turns i.left)); leads = i.leads }, i.hand, λ c. sym (append-nil (of_ring b.received c)) ∙ (ap (λ xs. of_ring b.received c ++ xs) (sym (none c)) ∙ i.rest c))
+
+rounds-more : (sent : List (List Item)) (a b : TransmitterState) → TakesInRounds sent a b → TakesMore a b
+rounds-more sent a b r = λ start ps h. (r.taken, r.leads.stands start ps (with_known start a r.left ps h))
+
+-- a drain takes some more, whatever it answers
+pub drain-more : (sent : List (List Item)) (a b : TransmitterState) (r : Result (Unit {0}) PumpFault) → Drains sent a b r → TakesMore a b
+drain-more sent a b (Ok u) drains = rounds-more sent a b drains.0
+drain-more sent a b (Err Failed) drains = rounds-more sent a b drains.0
+drain-more sent a b (Err Closed) drains = λ start ps h. ([], subst (HasTaken start b) (sym (append-nil ps)) (subst (λ t. HasTaken start t ps) (sym drains.1) h))
+drain-more sent a b (Err Spent) drains = rounds-more sent a b drains.0
 
 -- the last ring is no lower than the first
 last_above : (low r : ℕ) (x : Item) (qs : List (ℕ × Item)) → AreRising low (qs ++ (r, x) ∷ []) → low ≤ r

@@ -2,6 +2,8 @@
 use Rattle.std.proofs.Common.{◌≡◌, ℕ, zero, suc, ◌<◌, ◌≤◌, ◌++◌, List, [], ◌∷◌, length, map, refl, sym, ap, ◌∙◌, arith, ◌⊎◌, inl, inr}
 use Rattle.std.proofs.lemmas.List.{length-map}
 use Rattle.xcp_base.specs.declared.item.Item.{Item}
+use Rattle.channel_ring.specs.declared.ends.RingEnd.{Ghosts as EndGhosts}
+use Rattle.sampler.specs.State.{SamplerEndState, joined, sent_by}
 use Rattle.transmitter.specs.Merge.{of_ring}
 
 pub empty_of : (xs : List Item) → length xs ≡ 0 → xs ≡ []
@@ -41,3 +43,8 @@ as_many f g h xs ys e = length-map xs h ∙ (sym (length-map xs f) ∙ (ap lengt
 -- where as many rings are shown, as much is shown of them
 pub same_count : {A Q R : Type 0} (f : A → R) (h : A → Q) (xs ys : List A) → map f xs ≡ map f ys → length (map h xs) ≡ length (map h ys)
 same_count f h xs ys e = as_many f f h xs ys e ∙ sym (length-map ys h)
+
+-- what was sent to each ring, read off its end and off the joined end
+pub sent_joined : {E : Type 0} (ring : EndGhosts E) (ends : List (SamplerEndState E)) → map (λ (e : SamplerEndState E). ring.all_sent e.end) ends ≡ sent_by (map (joined ring) ends)
+sent_joined ring [] = refl
+sent_joined ring (e ∷ ends) = ap (λ rest. ring.all_sent e.end ∷ rest) (sent_joined ring ends)

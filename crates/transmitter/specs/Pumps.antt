@@ -24,6 +24,11 @@ pub record Leads (a : TransmitterState) (qs : List (ℕ × Item)) (b : Transmitt
   pub taken : b.taken ≡ a.taken + length qs
   pub stands : (start : WriterState) (ps : List (ℕ × Item)) → HasTaken start a ps → HasTaken start b (ps ++ qs)
 
+-- whatever transmitter a stood after, b stands after that and perhaps some items more
+abbrev pub TakesMore : TransmitterState → TransmitterState → Type 0
+TakesMore a b =
+    (start : WriterState) (ps : List (ℕ × Item)) → HasTaken start a ps → (qs : List (ℕ × Item)) × HasTaken start b (ps ++ qs)
+
 -- one turn at ring c: nothing was there; or a sample, which was written as n packets; or the stop marker of list l; or a
 -- sample within which the writer failed
 abbrev pub TurnMeans : ℕ → TransmitterState → TransmitterState → Turn → Type 0

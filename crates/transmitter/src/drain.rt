@@ -49,7 +49,7 @@ fn look<T: TakeEnd>(takes: &mut Vec<T>, ends: &mut [SamplerEnd<T::End>]) -> bool
 
 impl<O: Out, T: TakeEnd> Transmitter<O, T> {
     ghost use Rattle.std.specs.Prelude.{◌≡◌, ℕ, ◌<◌, ◌++◌, List, [], true, false, length, map};
-    ghost use Rattle.sampler.specs.State.{joined};
+    ghost use Rattle.sampler.specs.State.{joined, sent_by};
     ghost use Rattle.transmitter.specs.Merge.{of_ring};
     ghost use Rattle.transmitter.specs.Written.{transmission, writer_of};
 
@@ -58,7 +58,9 @@ impl<O: Out, T: TakeEnd> Transmitter<O, T> {
     /// `ends` are those of the rings of event channels 0, 1, .. From then on each item left is known.
     pub fn after(&mut self, ends: &mut [SamplerEnd<T::End>]) -> bool
         requires one_rings { (transmission O.Out T.TakeEnd self.old).rings ≡ map (λ e. T.End.ring e.end) ends.old }
-        ensures left { (c : ℕ) → of_ring (transmission O.Out T.TakeEnd self.new).received c ++ of_ring (transmission O.Out T.TakeEnd self.new).known c ≡ of_ring (map (λ e. T.End.all_sent e.end) ends.old) c }
+        ensures left { (c : ℕ) → of_ring (transmission O.Out T.TakeEnd self.new).received c
+            ++ of_ring (transmission O.Out T.TakeEnd self.new).known c
+            ≡ of_ring (sent_by (map (joined T.End.RingEnd) ends.old)) c }
         ensures some { result ≡ true → (c : ℕ) × (0 < length (of_ring (transmission O.Out T.TakeEnd self.new).known c)) }
         ensures none { result ≡ false → (c : ℕ) → of_ring (transmission O.Out T.TakeEnd self.new).known c ≡ [] }
 
@@ -66,7 +68,6 @@ impl<O: Out, T: TakeEnd> Transmitter<O, T> {
         ensures writer { writer_of self.new ≡ writer_of self.old }
         ensures ends { map (joined T.End.RingEnd) ends.new ≡ map (joined T.End.RingEnd) ends.old }
         ensures end_rings { map (λ e. T.End.ring e.end) ends.new ≡ map (λ e. T.End.ring e.end) ends.old }
-        ensures sent { map (λ e. T.End.all_sent e.end) ends.new ≡ map (λ e. T.End.all_sent e.end) ends.old }
     {
         look(&mut self.ends, ends)
     }
@@ -74,7 +75,8 @@ impl<O: Out, T: TakeEnd> Transmitter<O, T> {
 
 impl<O: Out, T: TakeEnd> Transmitter<O, T> {
     ghost use Rattle.std.specs.Prelude.{◌≡◌, map};
-    ghost use Rattle.sampler.specs.State.{joined};
+    ghost use Rattle.sampler.specs.State.{joined, sent_by};
+    ghost use Rattle.transmitter.specs.Pumps.{TakesMore};
     ghost use Rattle.transmitter.specs.Rounds.{Drains};
     ghost use Rattle.transmitter.specs.Written.{transmission};
 
@@ -84,11 +86,11 @@ impl<O: Out, T: TakeEnd> Transmitter<O, T> {
     /// where nothing is left; a pump's `Failed` or `Spent` leaves what the pumps so far left.
     pub fn drain(&mut self, ends: &mut [SamplerEnd<T::End>]) -> Result<(), PumpFault>
         requires one_rings { (transmission O.Out T.TakeEnd self.old).rings ≡ map (λ e. T.End.ring e.end) ends.old }
-        ensures drains { Drains (map (λ e. T.End.all_sent e.end) ends.old) (transmission O.Out T.TakeEnd self.old) (transmission O.Out T.TakeEnd self.new) result }
+        ensures drains { Drains (sent_by (map (joined T.End.RingEnd) ends.old)) (transmission O.Out T.TakeEnd self.old) (transmission O.Out T.TakeEnd self.new) result }
+        ensures more { TakesMore (transmission O.Out T.TakeEnd self.old) (transmission O.Out T.TakeEnd self.new) }
         ensures rings { (transmission O.Out T.TakeEnd self.new).rings ≡ (transmission O.Out T.TakeEnd self.old).rings }
         ensures ends { map (joined T.End.RingEnd) ends.new ≡ map (joined T.End.RingEnd) ends.old }
         ensures end_rings { map (λ e. T.End.ring e.end) ends.new ≡ map (λ e. T.End.ring e.end) ends.old }
-        ensures sent { map (λ e. T.End.all_sent e.end) ends.new ≡ map (λ e. T.End.all_sent e.end) ends.old }
     {
         if self.writer.closed() {
             return Err(PumpFault::Closed);

@@ -125,7 +125,8 @@ impl<O: Out, T: TakeEnd> Transmitter<O, T> {
 }
 
 impl<O: Out, T: Beside> Transmitter<O, T> {
-    ghost use Rattle.std.specs.Prelude.{◌≡◌, ◌≢◌, ℕ, ◌≤◌, ◌++◌, List, Bool, Some, length, slice_get};
+    ghost use Rattle.std.specs.Prelude.{◌≡◌, ◌≢◌, ℕ, ◌+◌, ◌≤◌, ◌++◌, List, Bool, Some, length, slice_get};
+    ghost use Rattle.channel_ring.specs.Room.{units};
     ghost use Rattle.sampler.specs.History.{Event, Opening};
     ghost use Rattle.sampler.specs.Standing.{StandsAfter};
     ghost use Rattle.transmitter.specs.Merge.{of_ring};
@@ -134,7 +135,7 @@ impl<O: Out, T: Beside> Transmitter<O, T> {
     /// Looks at all that a sampler sent, beside it in one thread, and answers how many of its items are left in the ring.
     ///
     /// The sampler is that of the ring of its event channel. From then on each item left is known, and the sampler knows
-    /// at least as many units to be free as before.
+    /// each unit to be free that none of them takes up.
     pub fn beside(&mut self, sampler: &mut Sampler<T::Send>) -> usize
         requires one_ring { slice_get (transmission O.Out T.TakeEnd self.old).rings sampler.old.channel ≡ Some (T.Send.ring sampler.old.end) }
         ensures count { result ≡ length (of_ring (transmission O.Out T.TakeEnd self.new).known sampler.old.channel) }
@@ -148,6 +149,8 @@ impl<O: Out, T: Beside> Transmitter<O, T> {
         ensures sampler { sampler.new ≡ record sampler.old { end = sampler.new.end } }
         ensures sent { T.Send.sent sampler.new.end ≡ T.Send.sent sampler.old.end }
         ensures grows { T.Send.free sampler.old.end ≤ T.Send.free sampler.new.end }
+        ensures roomy { T.Send.capacity sampler.new.end ≤ T.Send.free sampler.new.end
+            + units T.Send.End.cost (of_ring (transmission O.Out T.TakeEnd self.new).known sampler.old.channel) }
         ensures capacity_stays { T.Send.capacity sampler.new.end ≡ T.Send.capacity sampler.old.end }
         ensures ring { T.Send.ring sampler.new.end ≡ T.Send.ring sampler.old.end }
     {

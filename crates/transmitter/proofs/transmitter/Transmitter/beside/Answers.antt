@@ -19,6 +19,12 @@ returns-clause-left g c =
     let known = shown_at t.ring t.known c.args.self.now.ends.items c.channel-c.result c.args.sampler.now.channel c.beside.new.take [] _ c.channel-c.ensures c.requires.one_ring in
     rw (received, known) c.beside.ensures.left
 
+pub returns-clause-roomy : goal.returns-clause-roomy
+returns-clause-roomy g c =
+    let t = g.T.TakeEnd in
+    let known = shown_at t.ring t.known c.args.self.now.ends.items c.channel-c.result c.args.sampler.now.channel c.beside.new.take [] _ c.channel-c.ensures c.requires.one_ring in
+    rw known c.beside.ensures.roomy
+
 -- rings and what was received stay
 but_known : (a : TransmitterState) (rings : List RingName) (received known : List (List Item)) → rings ≡ a.rings → received ≡ a.received → record a { rings = rings; received = received; known = known } ≡ record a { known = known }
 but_known a rings received known r s = rw (r, s) refl
