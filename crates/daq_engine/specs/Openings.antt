@@ -1,5 +1,5 @@
 -- What an engine that was opened over a store is (own).
-use Rattle.std.specs.Prelude.{◌≡◌, ℕ, ◌<◌, ◌&&◌, Bool, All, List, [], length, map, filter, nat_eq, nat_le, slice_get}
+use Rattle.std.specs.Prelude.{◌≡◌, ℕ, ◌<◌, ◌&&◌, Bool, All, List, [], length, map, filter, nat_eq, nat_le}
 use Rattle.std.specs.Prelude.{Option, Some, None, Result, Ok, Err}
 use Rattle.std.specs.List.{list_all, list_any}
 use Rattle.xcp_base.specs.declared.limits.TheConstants.{MAX_SAMPLE_RING}
@@ -11,10 +11,10 @@ use Rattle.channel_ring.specs.declared.ends.SendEnd.{Ghosts as SendGhosts}
 use Rattle.channel_ring.specs.declared.ends.RingEnd.{Ghosts as EndGhosts}
 use Rattle.sampler.specs.History.{Opening, has_list, is_list_of}
 use Rattle.sampler.specs.State.{SamplerState}
-use Rattle.sampler.specs.Standing.{StandsAfter}
 use Rattle.frame_writer.specs.Writing.{WriterState}
 use Rattle.transmitter.specs.Written.{HasTaken, TransmitterState}
 use Rattle.daq_engine.specs.Configuration.{IsConfiguration, upto}
+use Rattle.daq_engine.specs.Standings.{StandInOrder, first_past}
 
 -- a ring of items may have this capacity
 abbrev pub is_cap : ℕ → Bool
@@ -52,9 +52,7 @@ pub record AreOpened {S E : Type 0} (send : SendGhosts S E) (ring : EndGhosts E)
   pub of_store : (c : ℕ) → c < s.profile.channels → IsOpeningOf s c (openings c)
   pub configuration : IsConfiguration s.profile.channels openings
   pub channels : map (λ (sampler : SamplerState S). sampler.channel) samplers ≡ upto 0 s.profile.channels
-  pub stands :
-      (c : ℕ) (sampler : SamplerState S) → slice_get samplers c ≡ Some sampler
-      → StandsAfter send ring sampler (openings c) [] []
+  pub stands : StandInOrder send ring samplers (λ c. first_past (openings c))
   pub capacities : map (λ (sampler : SamplerState S). send.capacity sampler.end) samplers ≡ caps
   pub image_len : All (λ (sampler : SamplerState S). sampler.image_len ≡ s.profile.image_len) samplers
   pub nothing_sent : All (λ (sampler : SamplerState S). send.sent sampler.end ≡ []) samplers
