@@ -4,6 +4,7 @@
 mod channel_plans;
 mod closing;
 mod faults;
+mod finishing;
 pub mod laws;
 mod open_fault;
 mod opening;
@@ -11,6 +12,7 @@ mod report;
 
 pub use closing::close;
 pub use faults::CloseFault;
+pub use finishing::{drain_and_close, finish_all};
 pub use open_fault::OpenFault;
 pub use opening::open;
 pub use report::{ListReport, Report};

@@ -1,0 +1,111 @@
+//! From samplers to their ends, and from these to the account.
+ghost use Rattle.std.specs.Prelude.{◌≡◌, ℕ, ◌↔◌, ◌≤◌, IfErr, IfOk, IfSome, List, OnOk, map, vec_capacity, vec_len};
+ghost use Rattle.xcp_base.specs.declared.item.Item.{Item};
+ghost use Rattle.frame_writer.specs.Shown.{shown};
+ghost use Rattle.frame_writer.specs.Writing.{WriterState};
+ghost use Rattle.sampler.specs.State.{joined, sent_by};
+ghost use Rattle.transmitter.specs.Pumps.{TakesMore};
+ghost use Rattle.transmitter.specs.Written.{HasTaken, transmission};
+ghost use Rattle.daq_engine.specs.Closed.{HasClosed, WasDrained};
+ghost use Rattle.daq_engine.specs.Configuration.{Past};
+ghost use Rattle.daq_engine.specs.Headline.{AllStand, AreEndsOf};
+ghost use Rattle.daq_engine.specs.Standings.{EndsStandInOrder, StandInOrder, sent_of_each};
+
+use crate::closing::{account, are_in_order};
+use crate::faults::CloseFault;
+use crate::laws::drained_engines_leave_nothing;
+use crate::report::Report;
+use channel_ring::{RingEnd, SendEnd, TakeEnd};
+use frame_writer::Out;
+use sampler::{Sampler, SamplerEnd};
+use std::alloc::Global;
+use transmitter::Transmitter;
+
+/// What is left of some samplers, which are all finished, in their order and in the room that was made for it.
+///
+/// `None` only where the `finish` of a ring answers it.
+pub fn finish_all<S: SendEnd>(
+    samplers: Vec<Sampler<S>>,
+    room: Vec<SamplerEnd<S::End>>,
+) -> Option<Vec<SamplerEnd<S::End>>>
+    requires empty { vec_len room ≡ 0 }
+    requires enough { vec_len samplers ≤ vec_capacity room }
+    ensures stand { IfSome result (λ ends. (past : ℕ → Past) →
+        StandInOrder S.SendEnd S.End.RingEnd samplers.items past →
+        EndsStandInOrder (map (joined S.End.RingEnd) ends.items) past) }
+    ensures channels { IfSome result (λ ends.
+        map (λ e. e.channel) ends.items ≡ map (λ s. s.channel) samplers.items) }
+    ensures rings { IfSome result (λ ends.
+        map (λ e. S.End.ring e.end) ends.items ≡ map (λ s. S.ring s.end) samplers.items) }
+    ensures capacities { IfSome result (λ ends.
+        map (λ e. e.capacity) ends.items ≡ map (λ s. S.capacity s.end) samplers.items) }
+    ensures sent { IfSome result (λ ends.
+        sent_by (map (joined S.End.RingEnd) ends.items) ≡ sent_of_each S.SendEnd samplers.items) }
+{
+    let mut ends = room;
+    for sampler in samplers {
+        let end = sampler.finish()?;
+        ends.push_reserved(end);
+    }
+    Some(ends)
+}
+
+/// Drains the rings, where that is wanted. A fault of the drain stands in the transmitter.
+fn drain_if<O: Out, T: TakeEnd>(
+    transmitter: &mut Transmitter<O, T>,
+    ends: &mut Vec<SamplerEnd<T::End>>,
+    drain: bool,
+)
+    requires one_ring { (transmission O.Out T.TakeEnd transmitter.old).rings
+        ≡ map (λ e. T.End.ring e.end) ends.old.items }
+    ensures drained { WasDrained drain (sent_by (map (joined T.End.RingEnd) ends.old.items))
+        (transmission O.Out T.TakeEnd transmitter.old) (transmission O.Out T.TakeEnd transmitter.new) }
+    ensures more { TakesMore (transmission O.Out T.TakeEnd transmitter.old)
+        (transmission O.Out T.TakeEnd transmitter.new) }
+    ensures one_ring { (transmission O.Out T.TakeEnd transmitter.new).rings
+        ≡ map (λ e. T.End.ring e.end) ends.new.items }
+    ensures ends { map (joined T.End.RingEnd) ends.new.items ≡ map (joined T.End.RingEnd) ends.old.items }
+{
+    if drain {
+        let _ = transmitter.drain(ends.as_mut_slice());
+    }
+}
+
+/// Closes an engine whose samplers were finished, as `close` does, after a drain of its rings where that is wanted.
+///
+/// A fault of the drain doesn't keep the engine from being closed: the report says that the writer failed. Refused as
+/// `close` is, before anything is drained; each refusal hands all back, as it was.
+pub fn drain_and_close<O: Out, T: TakeEnd>(
+    alloc: Global,
+    transmitter: Transmitter<O, T>,
+    ends: Vec<SamplerEnd<T::End>>,
+    drain: bool,
+) -> Result<(Report, O), (CloseFault, Transmitter<O, T>, Vec<SamplerEnd<T::End>>)>
+    requires one_ring { AreEndsOf (transmission O.Out T.TakeEnd transmitter) ends.items
+        → (transmission O.Out T.TakeEnd transmitter).rings ≡ map (λ e. T.End.ring e.end) ends.items }
+
+    ensures closed { IfOk result (λ r. (start : WriterState) (ps : List (ℕ × Item)) (past : ℕ → Past) →
+        HasTaken start (transmission O.Out T.TakeEnd transmitter) ps →
+        AllStand (map (joined T.End.RingEnd) ends.items) past →
+        HasClosed drain start ps (transmission O.Out T.TakeEnd transmitter)
+        (map (joined T.End.RingEnd) ends.items) past r.0 (shown O.Out r.1)) }
+    ensures fit { OnOk result (AreEndsOf (transmission O.Out T.TakeEnd transmitter) ends.items) }
+
+    ensures wrong_ends { IfErr result (λ back. (back.0 ≡ CloseFault.WrongEnds)
+        ↔ ¬ (AreEndsOf (transmission O.Out T.TakeEnd transmitter) ends.items)) }
+    ensures memory { IfErr result (λ back. back.0 ≡ CloseFault.Memory
+        → AreEndsOf (transmission O.Out T.TakeEnd transmitter) ends.items) }
+    ensures back { IfErr result (λ back. (back.1 ≡ transmitter) × (back.2 ≡ ends)) }
+{
+    drained_engines_leave_nothing();
+    if !are_in_order(ends.as_slice(), transmitter.rings()) {
+        return Err((CloseFault::WrongEnds, transmitter, ends));
+    }
+    let Ok(room) = Vec::with_capacity(alloc, 16) else {
+        return Err((CloseFault::Memory, transmitter, ends));
+    };
+    let mut transmitter = transmitter;
+    let mut ends = ends;
+    drain_if(&mut transmitter, &mut ends, drain);
+    Ok(account(room, transmitter, ends))
+}
