@@ -1,8 +1,11 @@
 //! The engine: it is opened over a store, and closed with an account of what was written.
 #![tactic(auto)]
 
+mod channel_fault;
 mod channel_plans;
 mod closing;
+mod asking;
+mod engine;
 mod faults;
 mod finishing;
 pub mod laws;
@@ -10,7 +13,9 @@ mod open_fault;
 mod opening;
 mod report;
 
+pub use channel_fault::ChannelFault;
 pub use closing::close;
+pub use engine::Engine;
 pub use faults::CloseFault;
 pub use finishing::{drain_and_close, finish_all};
 pub use open_fault::OpenFault;
