@@ -1,5 +1,5 @@
 use Rattle.std.proofs.Common.{◌≡◌, ◌≤◌, length}
-use Rattle.bench_engine.proofs.measure.copy_all.Given as goal
+use Rattle.daq_bench.proofs.copies.copy_around.Given as goal
 
 -- the next place is within both
 abbrev pub invariant-loop : goal.invariant-loop

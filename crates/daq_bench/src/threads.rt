@@ -1,9 +1,10 @@
 //! The sampler and the transmitter in threads of their own.
 
 use crate::engine::Engine;
-use crate::measure::{MEASUREMENTS, SAMPLES, tenths};
 use crate::round_out::RoundOut;
+use crate::rounds::SAMPLES;
 use crate::sets::{IMAGE_LEN, Set};
+use crate::timing::{MEASUREMENTS, tenths};
 use anyhow::{Result, bail};
 use channel_ring::{SendHalf, TakeHalf};
 use daq_store::Store;

@@ -17,8 +17,8 @@ pub struct Set {
     pub step: u16,
 }
 
-/// The sets that are measured.
-pub const SETS: [Set; 5] = [
+/// The sets of one list.
+pub const SINGLES: [Set; 4] = [
     Set {
         name: "one entry of 2 bytes",
         mode: 0x00,
@@ -55,18 +55,31 @@ pub const SETS: [Set; 5] = [
         size: 63,
         step: 63,
     },
-    Set {
-        name: "sixteen lists of seven ODTs of 64 bytes",
-        mode: 0x00,
-        lists: 16,
-        odts: 7,
-        entries: 1,
-        size: 63,
-        step: 32,
-    },
 ];
 
+/// As many lists as a store has at most.
+pub const SIXTEEN: Set = Set {
+    name: "sixteen lists of seven ODTs of 64 bytes",
+    mode: 0x00,
+    lists: 16,
+    odts: 7,
+    entries: 1,
+    size: 63,
+    step: 32,
+};
+
 impl Set {
+    /// The bytes that a sample copies.
+    pub fn bytes(&self) -> usize {
+        self.odts as usize * self.entries as usize * self.size as usize
+    }
+
+    /// The bytes of the packet of an ODT.
+    pub fn packet_len(&self, odt: usize) -> usize {
+        let stamp = if odt == 0 && self.mode != 0 { 4 } else { 0 };
+        1 + stamp + self.entries as usize * self.size as usize
+    }
+
     /// The bytes of the frames of one sample, with LEN and CTR.
     pub fn frame_bytes(&self) -> usize {
         let stamp = if self.mode == 0 { 0 } else { 4 };

@@ -25,12 +25,12 @@ use denote.Triple.Entry.{on_entry}
 use denote.Triple.Spec.{Meets, triple_of}
 use denote.Triple.Table.{entered}
 use denote.Triple.Walked.{says, Stays, stay_ref, walk_of, AllGo, Goes-ref, Walks, ends_at, walked, walk_Meets}
-use Rattle.bench_engine.specs.declared.byte_log.ByteLog.{ByteLog}
-use Rattle.bench_engine.specs.contracts.byte_log.ByteLog as T
-use Rattle.bench_engine.specs.contracts.byte_log.ByteLog.note.Key.{name as #it}
-use Rattle.bench_engine.specs.contracts.byte_log.ByteLog.note as it
-use Rattle.bench_engine.proofs.byte_log.ByteLog.note.Statement as stated
-use Rattle.bench_engine.proofs.byte_log.ByteLog.note.Code as code
+use Rattle.daq_bench.specs.declared.byte_log.ByteLog.{ByteLog}
+use Rattle.daq_bench.specs.contracts.byte_log.ByteLog as T
+use Rattle.daq_bench.specs.contracts.byte_log.ByteLog.note.Key.{name as #it}
+use Rattle.daq_bench.specs.contracts.byte_log.ByteLog.note as it
+use Rattle.daq_bench.proofs.byte_log.ByteLog.note.Statement as stated
+use Rattle.daq_bench.proofs.byte_log.ByteLog.note.Code as code
 use denote.Ref.{Bor}
 use denote.Builtin.{u8}
 use denote.Exit.{yes}

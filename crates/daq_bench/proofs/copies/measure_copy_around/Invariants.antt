@@ -1,5 +1,5 @@
 use Rattle.std.proofs.Common.{◌≡◌, vec_len}
-use Rattle.bench_engine.proofs.measure.measure_copy.Given as goal
+use Rattle.daq_bench.proofs.copies.measure_copy_around.Given as goal
 
 -- both are as long as each other
 abbrev pub invariant-loop : goal.invariant-loop

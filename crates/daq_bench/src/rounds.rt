@@ -1,8 +1,8 @@
-ghost use Rattle.std.specs.Prelude.{◌≡◌, ◌≤◌, ◌<◌, length, vec_len};
+//! An engine in one thread.
 
-use crate::engine::{Engine, MEMORY};
-use crate::round_out::memory_of;
+use crate::engine::Engine;
 use crate::sets::{IMAGE_LEN, Set};
+use crate::timing::{MEASUREMENTS, tenths};
 use anyhow::{Result, bail};
 use daq_store::Store;
 use std::alloc::Global;
@@ -11,12 +11,6 @@ use std::time::Instant;
 
 /// The samples of one measurement, at least.
 pub const SAMPLES: u32 = 1 << 19;
-
-/// The copies of one measurement.
-const COPIES: u32 = 1 << 20;
-
-/// The measurements, of which the fastest counts.
-pub const MEASUREMENTS: usize = 7;
 
 /// The triggers of a set whose samples fill a ring, as far as whole triggers do.
 fn triggers_of_a_round(set: &Set, cap: usize) -> u32 {
@@ -72,55 +66,4 @@ pub fn measure_one_thread(
         }
     }
     Ok(best)
-}
-
-/// One plain copy, kept out of line so that it can't be left out.
-#[inline(never)]
-fn copy_once(to: &mut [u8], from: &[u8])
-    requires { length to.old ≡ length from.now }
-{
-    to.copy_from_slice(from);
-}
-
-/// Copies so many bytes, again and again, to places that go round as those of a `RoundOut` do.
-fn copy_all(to: &mut [u8], from: &[u8], bytes: usize)
-    requires same { length to.old ≡ length from.now }
-    requires fits { bytes ≤ length from.now }
-{
-    let mut at = 0;
-    for _ in 0..COPIES {
-        if from.len() - at < bytes {
-            at = 0;
-        }
-        copy_once(&mut to[at..at + bytes], &from[at..at + bytes]);
-        at += bytes;
-    }
-}
-
-/// What one plain copy of so many bytes takes, in tenths of a nanosecond.
-pub fn measure_copy(rt: &impl Clock, alloc: Global, bytes: usize) -> Result<u64> {
-    let from = memory_of(alloc, MEMORY, 0xA5)?;
-    let mut to = memory_of(alloc, MEMORY, 0)?;
-    if bytes > from.len() || to.len() != from.len() {
-        bail!("more bytes than there is memory");
-    }
-    let mut best = u64::MAX;
-    for _ in 0..MEASUREMENTS {
-        let start = Instant::now(rt)?;
-        copy_all(&mut to[..], &from[..], bytes);
-        best = best.min(tenths(start.elapsed(rt)?.as_nanos(), COPIES)?);
-    }
-    if to.first() != Some(&0xA5) {
-        bail!("no bytes");
-    }
-    Ok(best)
-}
-
-/// The tenths of a nanosecond of one of so many things, which took so many nanoseconds.
-pub fn tenths(nanos: u128, things: u32) -> Result<u64> {
-    if things < 10 {
-        bail!("too few");
-    }
-    let tenths = nanos / (things as u128 / 10);
-    Ok(u64::try_from(tenths).unwrap_or(u64::MAX))
 }
