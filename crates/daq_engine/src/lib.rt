@@ -1,6 +1,7 @@
 //! The engine: it is opened over a store, and closed with an account of what was written.
 #![tactic(auto)]
 
+mod beside;
 mod channel_plans;
 mod closing;
 mod faults;
