@@ -1,11 +1,13 @@
 -- The samplers of an engine, in rising event channel, beside the transmitter of their rings; and what is left of them (own).
-use Rattle.std.specs.Prelude.{◌≡◌, ℕ, List, [], length, map, slice_get, Some}
+use Rattle.std.specs.Prelude.{◌≡◌, ℕ, ◌+◌, ◌≤◌, List, [], length, map, slice_get, Some}
 use Rattle.xcp_base.specs.declared.item.Item.{Item}
+use Rattle.channel_ring.specs.Room.{units}
 use Rattle.channel_ring.specs.declared.ends.SendEnd.{Ghosts as SendGhosts}
 use Rattle.channel_ring.specs.declared.ends.RingEnd.{Ghosts as EndGhosts}
 use Rattle.sampler.specs.History.{Opening}
 use Rattle.sampler.specs.State.{JoinedEnd, SamplerState}
 use Rattle.sampler.specs.Standing.{EndStandsAfter, StandsAfter}
+use Rattle.transmitter.specs.Merge.{of_ring}
 use Rattle.transmitter.specs.Written.{TransmitterState}
 use Rattle.daq_engine.specs.Configuration.{Past, upto}
 
@@ -38,3 +40,17 @@ pub record StayThose {S E : Type 0} (send : SendGhosts S E) (before after : List
   pub rings : map (λ (s : SamplerState S). send.ring s.end) after ≡ map (λ (s : SamplerState S). send.ring s.end) before
   pub image_lens : map (λ (s : SamplerState S). s.image_len) after ≡ map (λ (s : SamplerState S). s.image_len) before
   pub capacities : map (λ (s : SamplerState S). send.capacity s.end) after ≡ map (λ (s : SamplerState S). send.capacity s.end) before
+
+-- the sampler of ring c knows each unit to be free that no item known to be there takes up
+abbrev pub IsRoomyAt :
+    {S E : Type 0} → SendGhosts S E → EndGhosts E → List (SamplerState S) → TransmitterState → ℕ
+    → Type 0
+IsRoomyAt send ring samplers t c =
+    (s : SamplerState _) → slice_get samplers c ≡ Some s
+    → send.capacity s.end ≤ send.free s.end + units ring.cost (of_ring t.known c)
+
+-- and so does that of each ring
+abbrev pub AreRoomy :
+    {S E : Type 0} → SendGhosts S E → EndGhosts E → List (SamplerState S) → TransmitterState
+    → Type 0
+AreRoomy send ring samplers t = (c : ℕ) → IsRoomyAt send ring samplers t c

@@ -1,10 +1,11 @@
 //! The engine: it is opened over a store, and closed with an account of what was written.
 #![tactic(auto)]
 
+mod asking;
+mod beside;
 mod channel_fault;
 mod channel_plans;
 mod closing;
-mod asking;
 mod engine;
 mod faults;
 mod finishing;

@@ -1,0 +1,190 @@
+-- Samplers beside a transmitter: looks at what was sent, and what a pump takes between two looks.
+use Rattle.std.proofs.Common.{◌≡◌, ◌≢◌, ℕ, zero, suc, ◌+◌, ◌<◌, ◌≤◌, inl, inr, List, [], ◌∷◌, ◌++◌, length, set, get_or, refl, sym, ap, subst, ◌∙◌, arith, append-nil, length-append}
+use Rattle.std.specs.Prelude.{Bool, Some, Result, slice_get}
+use Rattle.std.specs.Option.{option_map}
+use mathlib.Core.List.{IsPrefix}
+use Rattle.std.proofs.Math.Seq.{map-set_same}
+use Rattle.std.proofs.lemmas.List.{get_or-map, length-map}
+use Rattle.std.proofs.lemmas.Option.{same_Some, slice_get-get_or, slice_get-map}
+use Rattle.std.proofs.lemmas.Bool.Decides.{eqb_tells}
+use Rattle.xcp_base.specs.declared.item.Item.{Item}
+use Rattle.xcp_base.specs.declared.item.Item.TheVariants.{Sample}
+use Rattle.channel_ring.specs.Room.{units}
+use Rattle.channel_ring.specs.declared.ends.SendEnd.{Ghosts as SendGhosts}
+use Rattle.channel_ring.specs.declared.ends.RingEnd.{Ghosts as EndGhosts}
+use Rattle.sampler.specs.History.{Event, Opening}
+use Rattle.sampler.specs.Standing.{StandsAfter}
+use Rattle.sampler.specs.State.{SamplerState}
+use Rattle.transmitter.specs.Merge.{AreRising, of_ring, taken_from}
+use Rattle.transmitter.specs.Pumps.{Fails, IsPump, PumpAnswers, Pumps}
+use Rattle.transmitter.specs.Rounds.{round}
+use Rattle.transmitter.specs.Written.{Looked, TransmitterState}
+use Rattle.transmitter.specs.declared.pumped.Pumped.{Pumped}
+use Rattle.transmitter.specs.declared.faults.PumpFault.{PumpFault}
+use Rattle.transmitter.proofs.DrainLemmas.{LookedAtAll, known_taken}
+use Rattle.transmitter.proofs.RoundLemmas.{IsFront, front_begins}
+use Rattle.transmitter.proofs.TakenLemmas.{taken_from-append}
+use Rattle.daq_engine.specs.Configuration.{Past, upto}
+use Rattle.daq_engine.specs.PumpSteps.{IsPumpStep}
+use Rattle.daq_engine.specs.Standings.{AreBeside, IsRoomyAt, StandInOrder, StayThose, sent_of_each}
+use Rattle.daq_engine.proofs.EndLemmas.{get_or-upto}
+
+-- one element was changed
+module _ {X : Type 0} where
+  pub slice_get-set_same : (xs : List X) (i : ℕ) (w : X) → i < length xs → slice_get (set xs i w) i ≡ Some w
+  slice_get-set_same [] i w h = absurd (omega (arith, h))
+  slice_get-set_same (x ∷ xs) zero w h = refl
+  slice_get-set_same (x ∷ xs) (suc i) w h = slice_get-set_same xs i w (omega (arith, h))
+
+  pub slice_get-set_other : (xs : List X) (i j : ℕ) (w : X) → j ≢ i → slice_get (set xs i w) j ≡ slice_get xs j
+  slice_get-set_other [] i j w h = refl
+  slice_get-set_other (x ∷ xs) zero zero w h = absurd (h refl)
+  slice_get-set_other (x ∷ xs) zero (suc j) w h = refl
+  slice_get-set_other (x ∷ xs) (suc i) zero w h = refl
+  slice_get-set_other (x ∷ xs) (suc i) (suc j) w h = slice_get-set_other xs i j w (λ e. h (ap suc e))
+
+module _ {S E : Type 0} (send : SendGhosts S E) where
+  pub stay_on : (xs ys zs : List (SamplerState S)) → StayThose send xs ys → StayThose send ys zs → StayThose send xs zs
+  stay_on xs ys zs a b = record {
+    channels = b.channels ∙ a.channels;
+    rings = b.rings ∙ a.rings;
+    image_lens = b.image_lens ∙ a.image_lens;
+    capacities = b.capacities ∙ a.capacities;
+  }
+
+  pub as_many_stay : (xs ys : List (SamplerState S)) → StayThose send xs ys → length ys ≡ length xs
+  as_many_stay xs ys a =
+      let f = λ (s : SamplerState S). s.channel in
+      sym (length-map ys f) ∙ (ap length a.channels ∙ length-map xs f)
+
+  -- they are still beside a transmitter of the same rings
+  pub stay_beside : (xs ys : List (SamplerState S)) (t u : TransmitterState) → AreBeside send xs t → StayThose send xs ys → u.rings ≡ t.rings → AreBeside send ys u
+  stay_beside xs ys t u b a same = record {
+    channels = a.channels ∙ (b.channels ∙ ap (upto 0) (sym (as_many_stay xs ys a)));
+    rings = same ∙ (b.rings ∙ sym a.rings);
+  }
+
+  module _ (xs : List (SamplerState S)) (c : ℕ) (d : SamplerState S) (h : c < length xs) where
+    -- the sampler at place c is that of channel c, and of ring c
+    pub channel_at : (t : TransmitterState) → AreBeside send xs t → (get_or xs c d).channel ≡ c
+    channel_at t b =
+        let f = λ (s : SamplerState S). s.channel in
+        let at : get_or (upto 0 (length xs)) c 0 ≡ c = omega (arith, get_or-upto 0 (length xs) c h) in
+        sym (get_or-map f xs c d 0 h) ∙ ap (λ ys. get_or ys c 0) b.channels ∙ at
+
+    pub ring_at : (t : TransmitterState) → AreBeside send xs t → slice_get t.rings (get_or xs c d).channel ≡ Some (send.ring (get_or xs c d).end)
+    ring_at t b =
+        let f = λ (s : SamplerState S). send.ring s.end in
+        ap (slice_get t.rings) (channel_at t b) ∙ ap (λ ys. slice_get ys c) b.rings ∙ slice_get-map f xs c ∙ ap (option_map f) (slice_get-get_or xs c d h)
+
+    pub sent_at : of_ring (sent_of_each send xs) c ≡ send.sent (get_or xs c d).end
+    sent_at = get_or-map (λ (s : SamplerState S). send.sent s.end) xs c d [] h
+
+    -- it becomes `new`
+    module _ (new : SamplerState S) where
+      pub stay-set : new ≡ record (get_or xs c d) { end = new.end } → send.ring new.end ≡ send.ring (get_or xs c d).end → send.capacity new.end ≡ send.capacity (get_or xs c d).end
+          → StayThose send xs (set xs c new)
+      stay-set is ring capacity = record {
+        channels = map-set_same (λ (s : SamplerState S). s.channel) xs c new d (ap (λ (s : SamplerState S). s.channel) is);
+        rings = map-set_same (λ (s : SamplerState S). send.ring s.end) xs c new d ring;
+        image_lens = map-set_same (λ (s : SamplerState S). s.image_len) xs c new d (ap (λ (s : SamplerState S). s.image_len) is);
+        capacities = map-set_same (λ (s : SamplerState S). send.capacity s.end) xs c new d capacity;
+      }
+
+      pub sent-set : send.sent new.end ≡ send.sent (get_or xs c d).end → sent_of_each send (set xs c new) ≡ sent_of_each send xs
+      sent-set sent = map-set_same (λ (s : SamplerState S). send.sent s.end) xs c new d sent
+
+      -- whatever the old one stood after, the new one stands after
+      pub stand-set : (ring : EndGhosts E) (past : ℕ → Past)
+          → ((o : Opening) (es : List Event) (ds : List Bool) → StandsAfter send ring (get_or xs c d) o es ds → StandsAfter send ring new o es ds)
+          → StandInOrder send ring xs past → StandInOrder send ring (set xs c new) past
+      stand-set ring past on before k s at = elim (eqb_tells k c) [
+        | inl w ↦
+            let here = subst (λ j. slice_get (set xs c new) j ≡ Some s) w.1 at in
+            let same : new ≡ s = same_Some new s (sym (slice_get-set_same xs c new h) ∙ here) in
+            let p = past c in
+            let then = subst (λ x. StandsAfter send ring x p.opening p.history p.decisions) same (on p.opening p.history p.decisions (before c (get_or xs c d) (slice_get-get_or xs c d h))) in
+            subst (λ j. StandsAfter send ring s (past j).opening (past j).history (past j).decisions) (sym w.1) then
+        | inr w ↦ before k s (sym (slice_get-set_other xs c k new w.1) ∙ at)
+      ]
+
+      pub roomy-set : (ring : EndGhosts E) (t : TransmitterState) → send.capacity new.end ≤ send.free new.end + units ring.cost (of_ring t.known c) → IsRoomyAt send ring (set xs c new) t c
+      roomy-set ring t roomy s at =
+          let same : new ≡ s = same_Some new s (sym (slice_get-set_same xs c new h) ∙ at) in
+          subst (λ (x : SamplerState S). send.capacity x.end ≤ send.free x.end + units ring.cost (of_ring t.known c)) same roomy
+
+-- a look at one ring leaves what is known of another
+pub looked_elsewhere : (c k : ℕ) (a b : TransmitterState) → Looked c a b → k ≢ c → of_ring b.received k ++ of_ring b.known k ≡ of_ring a.received k ++ of_ring a.known k
+looked_elsewhere c k a b look other = rw (ap (λ (u : TransmitterState). u.received) look.same, look.others k other) refl
+
+-- one look more
+pub looks_again : (t a b : TransmitterState) → a ≡ record t { known = a.known } → b ≡ record a { known = b.known } → b ≡ record t { known = b.known }
+looks_again t a b first second = second ∙ ap (λ (u : TransmitterState). record u { known = b.known }) first
+
+-- the last of some in rising order is above them all
+last_above : (low r : ℕ) (x : Item) (qs : List (ℕ × Item)) → AreRising low (qs ++ (r, x) ∷ []) → low ≤ r
+last_above low r x [] rising = rising.0
+last_above low r x ((e, y) ∷ qs) rising = omega (arith, rising.0, last_above (e + 1) r x qs rising.1)
+
+at_most_last : (low r c : ℕ) (x : Item) (qs : List (ℕ × Item)) → AreRising low (qs ++ (r, x) ∷ []) → 0 < length (taken_from c (qs ++ (r, x) ∷ [])) → c ≤ r
+at_most_last low r c x [] rising some = elim (eqb_tells r c) [
+  | inl w ↦ let at : r ≡ c = w.1 in omega (arith, at)
+  | inr w ↦ absurd (omega (arith, rw w.0 at some))
+]
+at_most_last low r c x ((e, y) ∷ qs) rising some = elim (eqb_tells e c) [
+  | inl w ↦ let at : e ≡ c = w.1 in omega (arith, at, last_above (e + 1) r x qs rising.1)
+  | inr w ↦ at_most_last (e + 1) r c x qs rising.1 (rw w.0 at some)
+]
+
+at_zero : (j : ℕ) → 0 + j ≡ j
+at_zero j = omega arith
+
+module _ (b p : TransmitterState) (qs : List (ℕ × Item)) (new_known : List (List Item)) (rising : AreRising 0 qs) (at : (c : ℕ) → taken_from c qs ++ of_ring new_known c ≡ of_ring b.known c) where
+  -- what a pump took of what is known is the front of a round, if it took of each ring below one
+  fronts : ((i j : ℕ) → i < j → 0 < length (taken_from j qs) → 0 < length (of_ring b.known i) → 0 < length (taken_from i qs)) → IsFront 0 b.known qs
+  fronts below = record {
+    rising = rising;
+    first = λ j. rw (at_zero j) (of_ring new_known j, at j);
+    below = λ i j h s k. rw (at_zero i) (below i j h (rw (at_zero j) at s) k);
+  }
+
+  -- a pump that went through took a round
+  takes_round : (o : Pumped) → Pumps b p qs o → qs ≡ round 0 b.known
+  takes_round o pumps =
+      let front = front_begins 0 b.known qs (fronts (λ e j h s k. pumps.known e k)) in
+      sym (append-nil qs) ∙ (ap (λ zs. qs ++ zs) (sym (front.2 (λ j k. rw (at_zero j) (pumps.known j k)))) ∙ front.1)
+
+  -- one at which the writer failed took the front of one
+  takes_front : Fails b p qs → IsPrefix qs (round 0 b.known)
+  takes_front f =
+      let last_one : List (ℕ × Item) = (f.ring, Sample f.sample) ∷ [] in
+      let front = front_begins 0 b.known qs (fronts (λ i j h s k.
+      let last = at_most_last 0 f.ring j (Sample f.sample) f.before (subst (AreRising 0) f.last rising) (subst (λ z. 0 < length (taken_from j z)) f.last s) in
+      let some = f.known i (omega (arith, h, last)) k in
+      let more = ap length (ap (taken_from i) f.last ∙ taken_from-append i f.before last_one) ∙ length-append (taken_from i f.before) (taken_from i last_one) in
+      omega (arith, some, more))) in
+      (front.0, front.1)
+
+-- a pump between two looks, where this was left before it
+between : (sent : List (List Item)) (n : ℕ) (a : TransmitterState) (left : List (List Item)) (p d : TransmitterState) (answer : Result Pumped PumpFault)
+    → ((c : ℕ) → of_ring a.received c ++ of_ring left c ≡ of_ring sent c) → length left ≡ n → IsPump (record a { known = left }) p answer → LookedAtAll sent p d → IsPumpStep n (of_ring sent) a d answer
+between sent n a left p d answer first many pump second =
+    let b = record a { known = left } in
+    let at = known_taken sent b p d pump.taken first pump.leads second in
+    record {
+      left = left;
+      as_many = many;
+      leaves = λ c h. first c;
+      pumped = p;
+      pumps = pump;
+      takes_all = λ o e. takes_round b p pump.taken d.known pump.rising at o (subst (PumpAnswers b p pump.taken) e pump.answers);
+      takes_front = λ e. takes_front b p pump.taken d.known pump.rising at (subst (PumpAnswers b p pump.taken) e pump.answers);
+      looks = second.same;
+      rest = λ c h. second.rest c;
+    }
+
+-- a look, a pump and a look
+pub pump_between : (sent : List (List Item)) (n : ℕ) (a b p d : TransmitterState) (answer : Result Pumped PumpFault)
+    → LookedAtAll sent a b → length b.known ≡ n → IsPump b p answer → LookedAtAll sent p d → IsPumpStep n (of_ring sent) a d answer
+pump_between sent n a b p d answer first many pump second =
+    between sent n a b.known p d answer (λ c. ap (λ (t : TransmitterState). of_ring t.received c ++ of_ring b.known c) (sym first.same) ∙ first.rest c) many (subst (λ t. IsPump t p answer) first.same pump) second

@@ -1,0 +1,104 @@
+//! Samplers beside the transmitter of their rings, in one thread: looks, and a pump step.
+ghost use Rattle.std.specs.Prelude.{◌≡◌, ◌≢◌, ℕ, ◌<◌, ◌++◌, length, slice_get};
+ghost use Rattle.transmitter.specs.Merge.{of_ring};
+ghost use Rattle.transmitter.specs.Written.{Looked, transmission};
+ghost use Rattle.daq_engine.specs.Configuration.{Past};
+ghost use Rattle.daq_engine.specs.PumpSteps.{IsPumpStep};
+ghost use Rattle.daq_engine.specs.Standings.{AreBeside, AreRoomy, IsRoomyAt, StandInOrder, StayThose, sent_of_each};
+
+use channel_ring::{Beside, RingEnd, SendEnd, TakeEnd};
+use frame_writer::Out;
+use sampler::Sampler;
+use transmitter::{PumpFault, Pumped, Transmitter};
+
+/// Looks at all that was sent to ring `c`.
+///
+/// From then on each item left is known there, and each unit to be free that no item takes up.
+pub(crate) fn look_at<O: Out, T: Beside>(
+    samplers: &mut [Sampler<T::Send>],
+    transmitter: &mut Transmitter<O, T>,
+    c: usize,
+)
+    requires beside { AreBeside T.Send.SendEnd samplers.old
+        (transmission O.Out T.TakeEnd transmitter.old) }
+    requires place { c < length samplers.old }
+    ensures stay { StayThose T.Send.SendEnd samplers.old samplers.new }
+    ensures others { (e : ℕ) → e ≢ c → slice_get samplers.new e ≡ slice_get samplers.old e }
+    ensures sent { sent_of_each T.Send.SendEnd samplers.new
+        ≡ sent_of_each T.Send.SendEnd samplers.old }
+    ensures stand { (past : ℕ → Past) →
+        StandInOrder T.Send.SendEnd T.Send.End.RingEnd samplers.old past →
+        StandInOrder T.Send.SendEnd T.Send.End.RingEnd samplers.new past }
+    ensures looked { Looked c (transmission O.Out T.TakeEnd transmitter.old)
+        (transmission O.Out T.TakeEnd transmitter.new) }
+    ensures left { of_ring (transmission O.Out T.TakeEnd transmitter.new).received c
+        ++ of_ring (transmission O.Out T.TakeEnd transmitter.new).known c
+        ≡ of_ring (sent_of_each T.Send.SendEnd samplers.old) c }
+    ensures roomy { IsRoomyAt T.Send.SendEnd T.Send.End.RingEnd samplers.new
+        (transmission O.Out T.TakeEnd transmitter.new) c }
+{
+    let sampler = &mut samplers[c];
+    transmitter.beside(sampler);
+}
+
+/// Looks at all that was sent to each ring.
+///
+/// From then on each item left is known, and each unit to be free that no item takes up.
+pub(crate) fn look<O: Out, T: Beside>(
+    samplers: &mut [Sampler<T::Send>],
+    transmitter: &mut Transmitter<O, T>,
+)
+    requires beside { AreBeside T.Send.SendEnd samplers.old
+        (transmission O.Out T.TakeEnd transmitter.old) }
+    ensures stay { StayThose T.Send.SendEnd samplers.old samplers.new }
+    ensures sent { sent_of_each T.Send.SendEnd samplers.new
+        ≡ sent_of_each T.Send.SendEnd samplers.old }
+    ensures stand { (past : ℕ → Past) →
+        StandInOrder T.Send.SendEnd T.Send.End.RingEnd samplers.old past →
+        StandInOrder T.Send.SendEnd T.Send.End.RingEnd samplers.new past }
+    ensures same { transmission O.Out T.TakeEnd transmitter.new ≡
+        record (transmission O.Out T.TakeEnd transmitter.old) {
+          known = (transmission O.Out T.TakeEnd transmitter.new).known;
+        } }
+    ensures left { (c : ℕ) → of_ring (transmission O.Out T.TakeEnd transmitter.new).received c
+        ++ of_ring (transmission O.Out T.TakeEnd transmitter.new).known c
+        ≡ of_ring (sent_of_each T.Send.SendEnd samplers.old) c }
+    ensures as_many { length (transmission O.Out T.TakeEnd transmitter.new).known
+        ≡ length samplers.old }
+    ensures roomy { AreRoomy T.Send.SendEnd T.Send.End.RingEnd samplers.new
+        (transmission O.Out T.TakeEnd transmitter.new) }
+{
+    for c in 0..samplers.len() {
+        look_at(samplers, transmitter, c);
+    }
+}
+
+/// Looks at all that was sent, pumps, and looks again, whatever the pump answered.
+///
+/// From then on each item left is known, and each unit to be free that no item takes up.
+pub(crate) fn pump_step<O: Out, T: Beside>(
+    samplers: &mut [Sampler<T::Send>],
+    transmitter: &mut Transmitter<O, T>,
+) -> Result<Pumped, PumpFault>
+    requires beside { AreBeside T.Send.SendEnd samplers.old
+        (transmission O.Out T.TakeEnd transmitter.old) }
+    ensures stay { StayThose T.Send.SendEnd samplers.old samplers.new }
+    ensures sent { sent_of_each T.Send.SendEnd samplers.new
+        ≡ sent_of_each T.Send.SendEnd samplers.old }
+    ensures stand { (past : ℕ → Past) →
+        StandInOrder T.Send.SendEnd T.Send.End.RingEnd samplers.old past →
+        StandInOrder T.Send.SendEnd T.Send.End.RingEnd samplers.new past }
+    ensures rings { (transmission O.Out T.TakeEnd transmitter.new).rings
+        ≡ (transmission O.Out T.TakeEnd transmitter.old).rings }
+    ensures pumps { IsPumpStep (length samplers.old)
+        (of_ring (sent_of_each T.Send.SendEnd samplers.old))
+        (transmission O.Out T.TakeEnd transmitter.old)
+        (transmission O.Out T.TakeEnd transmitter.new) result }
+    ensures roomy { AreRoomy T.Send.SendEnd T.Send.End.RingEnd samplers.new
+        (transmission O.Out T.TakeEnd transmitter.new) }
+{
+    look(samplers, transmitter);
+    let answer = transmitter.pump();
+    look(samplers, transmitter);
+    answer
+}
