@@ -18,10 +18,11 @@ use Rattle.sampler.specs.State.{SamplerState}
 use Rattle.transmitter.specs.Merge.{AreRising, of_ring, taken_from}
 use Rattle.transmitter.specs.Pumps.{Fails, IsPump, PumpAnswers, Pumps}
 use Rattle.transmitter.specs.Rounds.{round}
-use Rattle.transmitter.specs.Written.{Looked, TransmitterState}
+use Rattle.frame_writer.specs.Writing.{WriterState}
+use Rattle.transmitter.specs.Written.{HasTaken, Looked, TransmitterState}
 use Rattle.transmitter.specs.declared.pumped.Pumped.{Pumped}
 use Rattle.transmitter.specs.declared.faults.PumpFault.{PumpFault}
-use Rattle.transmitter.proofs.DrainLemmas.{LookedAtAll, known_taken}
+use Rattle.transmitter.proofs.DrainLemmas.{LookedAtAll, known_taken, with_known}
 use Rattle.transmitter.proofs.RoundLemmas.{IsFront, front_begins}
 use Rattle.transmitter.proofs.TakenLemmas.{taken_from-append}
 use Rattle.daq_engine.specs.Configuration.{Past, upto}
@@ -188,3 +189,11 @@ pub pump_between : (sent : List (List Item)) (n : ℕ) (a b p d : TransmitterSta
     → LookedAtAll sent a b → length b.known ≡ n → IsPump b p answer → LookedAtAll sent p d → IsPumpStep n (of_ring sent) a d answer
 pump_between sent n a b p d answer first many pump second =
     between sent n a b.known p d answer (λ c. ap (λ (t : TransmitterState). of_ring t.received c ++ of_ring b.known c) (sym first.same) ∙ first.rest c) many (subst (λ t. IsPump t p answer) first.same pump) second
+
+-- a pump step takes its items behind those that were taken
+pub pumped_on : (n : ℕ) (sent : ℕ → List Item) (a b : TransmitterState) (answer : Result Pumped PumpFault) (step : IsPumpStep n sent a b answer)
+    → (start : WriterState) (ps : List (ℕ × Item)) → HasTaken start a ps → HasTaken start b (ps ++ step.pumps.taken)
+pumped_on n sent a b answer step start ps taken =
+    let looked = with_known start a step.left ps taken in
+    let pumped = step.pumps.leads.stands start ps looked in
+    subst (λ t. HasTaken start t (ps ++ step.pumps.taken)) (sym step.looks) (with_known start step.pumped b.known (ps ++ step.pumps.taken) pumped)

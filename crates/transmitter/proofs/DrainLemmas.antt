@@ -43,7 +43,7 @@ pub pumped-rings : (b p d : TransmitterState) (qs : List (ℕ × Item)) → Lead
 pumped-rings b p d qs l same = looked-rings p d same ∙ l.rings
 
 -- what a transmitter stands after doesn't depend on what is known
-with_known : (start : WriterState) (p : TransmitterState) (known : List (List Item)) (ps : List (ℕ × Item)) → HasTaken start p ps → HasTaken start (record p { known = known }) ps
+pub with_known : (start : WriterState) (p : TransmitterState) (known : List (List Item)) (ps : List (ℕ × Item)) → HasTaken start p ps → HasTaken start (record p { known = known }) ps
 with_known start p known ps t = record {
   was_open = t.was_open;
   merge = t.merge;

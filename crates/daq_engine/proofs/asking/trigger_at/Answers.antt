@@ -1,5 +1,6 @@
 use Rattle.std.proofs.Common.{get_or}
-use Rattle.daq_engine.proofs.AskingLemmas.{if_ok, own_at, set-here, stand-set, stay-set, there}
+use Rattle.daq_engine.proofs.AskingLemmas.{if_ok, own_at, stand-set, stay-set, there}
+use Rattle.daq_engine.proofs.BesideLemmas.{slice_get-set_same}
 use Rattle.daq_engine.proofs.asking.trigger_at.Goals as goal
 
 -- the others stand as they stood
@@ -17,7 +18,7 @@ returns-clause-ok g c =
           old = old;
           new = new;
           was = there xs i old is c.requires;
-          is = set-here xs i new c.requires;
+          is = slice_get-set_same xs i new c.requires;
           takes = now;
           stand = stand-set g.S.SendEnd g.S.End.RingEnd xs i new past _ _ c.requires stand now.stands;
         })

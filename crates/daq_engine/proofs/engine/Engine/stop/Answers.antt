@@ -1,0 +1,19 @@
+use Rattle.std.proofs.Common.{[]}
+use Rattle.sampler.specs.History.{Stop}
+use Rattle.daq_engine.specs.Engines.{engine_state}
+use Rattle.daq_engine.proofs.AskingLemmas.{event-written, still-written}
+use Rattle.daq_engine.proofs.engine.Engine.stop.Goals as goal
+
+-- one event more
+pub returns-in-Ok-clause-ok : goal.returns-in-Ok-clause-ok
+returns-in-Ok-clause-ok g c = λ st stands.
+    event-written g.T.Send.SendEnd g.T.End.RingEnd (engine_state g.O.Out g.T.TakeEnd c.args.self.now) st stands c.args.self.now.samplers.len
+    c.as_mut_slice.result.now c.stop_at.new.samplers c.as_mut_slice.ensures.value c.args.self.now.samplers.ok.0 c.stop_at.ensures.stay
+    c.args.c (Stop c.args.l) [] (c.in-Ok.ensures.ok st.past)
+
+-- none more
+pub returns-in-Err-clause-err : goal.returns-in-Err-clause-err
+returns-in-Err-clause-err g c = λ st stands.
+    still-written g.T.Send.SendEnd g.T.End.RingEnd (engine_state g.O.Out g.T.TakeEnd c.args.self.now) st stands c.args.self.now.samplers.len
+    c.as_mut_slice.result.now c.stop_at.new.samplers c.as_mut_slice.ensures.value c.args.self.now.samplers.ok.0 c.stop_at.ensures.stay
+    (c.in-Err.ensures.err st.past)

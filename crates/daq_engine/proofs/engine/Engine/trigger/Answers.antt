@@ -1,0 +1,10 @@
+use Rattle.daq_engine.specs.Engines.{engine_state}
+use Rattle.daq_engine.proofs.AskingLemmas.{trigger-written}
+use Rattle.daq_engine.proofs.engine.Engine.trigger.Goals as goal
+
+-- one event more
+pub returns-in-Ok-clause-ok : goal.returns-in-Ok-clause-ok
+returns-in-Ok-clause-ok g c = λ st stands.
+    trigger-written g.T.Send.SendEnd g.T.End.RingEnd (engine_state g.O.Out g.T.TakeEnd c.args.self.now) st stands c.args.self.now.samplers.len
+    c.as_mut_slice.result.now c.trigger_at.new.samplers c.as_mut_slice.ensures.value c.args.self.now.samplers.ok.0 c.trigger_at.ensures.stay
+    c.args.c c.in-Ok.taken c.args.image.now c.args.stamp (c.in-Ok.ensures.ok st.past)
