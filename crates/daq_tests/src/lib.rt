@@ -20,6 +20,8 @@ mod samplers;
 #[cfg(test)]
 mod set_up;
 #[cfg(test)]
+mod set_up_memory;
+#[cfg(test)]
 mod store;
 #[cfg(test)]
 mod stores;
