@@ -1,0 +1,13 @@
+use denote.Param.Send.{sendable}
+use Rattle.std.proofs.Crossing.{crosses}
+use Rattle.channel_ring.proofs.SendLemmas.{item, ring_end, send_half}
+use Rattle.daq_engine.proofs.SendLemmas.{copy_plan}
+use Rattle.engine_tests.proofs.threads.pump_beside.Goals as goal
+
+-- a sampler may go to another thread
+pub join-requires-send-F : goal.join-requires-send-F
+join-requires-send-F g κs = search (sendable, crosses, copy_plan, send_half) depth 40
+
+-- and what is left of it may come back
+pub join-requires-send-A : goal.join-requires-send-A
+join-requires-send-A g κs = search (sendable, crosses, ring_end, copy_plan, item) depth 40

@@ -1,0 +1,23 @@
+//! The tests of whole engines, in one thread and in three, and of what refused memory leaves. As a library this crate is empty.
+#![tactic(auto)]
+
+#[cfg(test)]
+mod bench;
+#[cfg(test)]
+mod examples;
+#[cfg(test)]
+mod memory;
+#[cfg(test)]
+mod opening;
+#[cfg(test)]
+mod same;
+#[cfg(test)]
+mod step;
+#[cfg(test)]
+mod stores;
+#[cfg(test)]
+mod threads;
+#[cfg(test)]
+mod whole_run;
+#[cfg(test)]
+mod wrong_ends;

@@ -1,0 +1,115 @@
+//! The calls of an engine, each with what it answers.
+use crate::bench::Bench;
+use crate::same::same;
+use frame_writer::Out;
+use sampler::{StartFault, StopFault, Taken, TriggerFault};
+use std::process::Abort;
+use transmitter::{PumpFault, Pumped};
+
+/// A call, and its answer.
+#[derive(Clone, Copy)]
+pub enum Step<'a> {
+    /// A trigger of an event channel with an image and a timestamp, and the lists due, accepted and dropped.
+    Trigger(usize, &'a [u8], u32, [u16; 3]),
+    /// A trigger of event channel 0 that is refused.
+    Refused(&'a [u8], TriggerFault),
+    /// The start of a list of event channel 0.
+    Start(u8, Result<(), StartFault>),
+    /// The stop of a list of event channel 0.
+    Stop(u8, Result<(), StopFault>),
+    /// A pump step, with its items, its frames and the lists that it stopped.
+    Pump(u8, u8, u16),
+    /// A pump step that is refused.
+    PumpFails(PumpFault),
+    /// Whether a sample is in hand.
+    Hand(bool),
+}
+
+/// A trigger that is taken, whose answer is compared.
+fn trigger<O: Out + Drop>(
+    rt: &impl Abort,
+    bench: &mut Bench<O>,
+    (c, image, stamp): (usize, &[u8], u32),
+    sets: [u16; 3],
+    row: &str,
+    at: usize,
+) {
+    let taken = Taken {
+        due: sets[0],
+        accepted: sets[1],
+        dropped: sets[2],
+    };
+    same(
+        rt,
+        (at, bench.trigger(c, image, stamp)),
+        (at, Some(Ok(taken))),
+        row,
+        "a trigger",
+    );
+}
+
+/// Whether a sample is in hand.
+fn has_hand<O: Out + Drop>(bench: &Bench<O>) -> bool {
+    bench.transmitter.hand().is_some()
+}
+
+/// Makes a call, whose answer is compared.
+fn make<O: Out + Drop>(rt: &impl Abort, bench: &mut Bench<O>, step: Step, row: &str, at: usize) {
+    match step {
+        Step::Trigger(c, image, stamp, sets) => trigger(
+            rt,
+            bench,
+            (c, image, stamp),
+            sets,
+            row,
+            at,
+        ),
+        Step::Refused(image, fault) => {
+            let shown = bench.trigger(0, image, 0);
+            same(
+                rt,
+                (at, shown),
+                (at, Some(Err(fault))),
+                row,
+                "a trigger that is refused",
+            );
+        }
+        Step::Start(l, wanted) => {
+            same(
+                rt,
+                (at, bench.start(0, l)),
+                (at, Some(wanted)),
+                row,
+                "a start",
+            );
+        }
+        Step::Stop(l, wanted) => {
+            same(
+                rt,
+                (at, bench.stop(0, l)),
+                (at, Some(wanted)),
+                row,
+                "a stop",
+            );
+        }
+        Step::Pump(taken, frames, stopped) => {
+            let pumped = Pumped {
+                taken,
+                frames,
+                stopped,
+            };
+            same(rt, (at, bench.pump()), (at, Ok(pumped)), row, "a pump step");
+        }
+        Step::PumpFails(fault) => {
+            same(rt, (at, bench.pump()), (at, Err(fault)), row, "a pump step");
+        }
+        Step::Hand(some) => same(rt, (at, has_hand(bench)), (at, some), row, "in hand"),
+    }
+}
+
+/// Makes calls, one after another.
+pub fn make_all<O: Out + Drop>(rt: &impl Abort, bench: &mut Bench<O>, steps: &[Step], row: &str) {
+    for (at, step) in steps.iter().enumerate() {
+        make(rt, bench, *step, row, at);
+    }
+}
