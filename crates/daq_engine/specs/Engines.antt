@@ -4,12 +4,13 @@ use Rattle.xcp_base.specs.declared.item.Item.{Item}
 use Rattle.channel_ring.specs.declared.ends.SendEnd.{Ghosts as SendGhosts}
 use Rattle.channel_ring.specs.declared.ends.RingEnd.{Ghosts as EndGhosts}
 use Rattle.channel_ring.specs.declared.ends.TakeEnd.{Ghosts as TakeGhosts}
+use Rattle.frame_writer.specs.Shown.{OutState}
 use Rattle.frame_writer.specs.Writing.{WriterState}
 use Rattle.frame_writer.specs.declared.out.Out.{Ghosts as OutGhosts}
-use Rattle.sampler.specs.History.{Event, Trigger, due_at}
+use Rattle.sampler.specs.History.{Event, Opening, Trigger, due_at}
 use Rattle.sampler.specs.Sets.{are_in}
 use Rattle.sampler.specs.Standing.{TakesTrigger}
-use Rattle.sampler.specs.State.{SamplerState}
+use Rattle.sampler.specs.State.{JoinedEnd, SamplerState, sent_by}
 use Rattle.sampler.specs.declared.taken.Taken.{Taken}
 use Rattle.transmitter.specs.Merge.{of_ring}
 use Rattle.transmitter.specs.Written.{HasTaken, TransmitterState, transmission}
@@ -17,7 +18,9 @@ use Rattle.transmitter.specs.declared.pumped.Pumped.{Pumped}
 use Rattle.transmitter.specs.declared.faults.PumpFault.{PumpFault}
 use Rattle.daq_engine.specs.Configuration.{IsConfiguration, Past}
 use Rattle.daq_engine.specs.PumpSteps.{IsPumpStep}
-use Rattle.daq_engine.specs.Standings.{AreRoomy, StandInOrder, sent_of_each}
+use Rattle.daq_engine.specs.Closed.{HasClosed}
+use Rattle.daq_engine.specs.Standings.{AreRoomy, StandInOrder, first_past, sent_of_each}
+use Rattle.daq_engine.specs.declared.report.Report.{Report}
 use Rattle.daq_engine.specs.declared.engine.Engine.{Engine}
 
 -- the samplers of event channels 0, 1, .., and the transmitter of their rings
@@ -81,3 +84,15 @@ pub record PumpsOn {S E : Type 0} (send : SendGhosts S E) (ring : EndGhosts E) (
   pub step : IsPumpStep (length before.samplers) (of_ring (sent_of_each send before.samplers)) before.transmitter after.transmitter answer
   pub stands : (st : Standing) → Stands send ring before st → Stands send ring after (with_taken step.pumps.taken st)
   pub roomy : AreRoomy send ring after.samplers after.transmitter
+
+-- what an engine stands after at its opening
+abbrev pub first_standing : WriterState → (ℕ → Opening) → Standing
+first_standing start openings = record { start = start; past = λ c. first_past (openings c); taken = [] }
+
+-- an engine that stood so was closed with this report and this writer: there is an end for each sampler, which tells what
+-- that one sent; and the headline holds of the pasts
+pub record ClosesEngine {S : Type 0} {E : Type 0} (send : SendGhosts S E) (drain : Bool) (e : EngineState S) (st : Standing) (report : Report) (out : OutState) : Type 0 where
+  pub ends : List JoinedEnd
+  pub as_many : length ends ≡ length e.samplers
+  pub sent : sent_by ends ≡ sent_of_each send e.samplers
+  pub closed : HasClosed drain st.start st.taken e.transmitter ends st.past report out

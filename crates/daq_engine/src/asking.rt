@@ -26,11 +26,7 @@ pub fn trigger_at<S: SendEnd>(
 }
 
 /// Starts a DAQ list of event channel `c`.
-pub fn start_at<S: SendEnd>(
-    samplers: &mut [Sampler<S>],
-    c: usize,
-    l: u8,
-) -> Result<(), StartFault>
+pub fn start_at<S: SendEnd>(samplers: &mut [Sampler<S>], c: usize, l: u8) -> Result<(), StartFault>
     requires { c < length samplers.old }
     ensures ok { OnOk result ((past : ℕ → Past) →
         StandInOrder S.SendEnd S.End.RingEnd samplers.old past →
@@ -42,11 +38,7 @@ pub fn start_at<S: SendEnd>(
 }
 
 /// Stops a DAQ list of event channel `c`.
-pub fn stop_at<S: SendEnd>(
-    samplers: &mut [Sampler<S>],
-    c: usize,
-    l: u8,
-) -> Result<(), StopFault>
+pub fn stop_at<S: SendEnd>(samplers: &mut [Sampler<S>], c: usize, l: u8) -> Result<(), StopFault>
     requires { c < length samplers.old }
     ensures ok { OnOk result ((past : ℕ → Past) →
         StandInOrder S.SendEnd S.End.RingEnd samplers.old past →

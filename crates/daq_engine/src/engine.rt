@@ -5,9 +5,12 @@ ghost use Rattle.daq_engine.specs.Standings.{AreBeside};
 use crate::asking::{start_at, stop_at, trigger_at};
 use crate::beside::pump_step;
 use crate::channel_fault::ChannelFault;
+use crate::finishing::{account_after, finish_all};
+use crate::report::Report;
 use channel_ring::{Beside, RingEnd, SendEnd, TakeEnd};
-use frame_writer::Out;
-use sampler::{Sampler, StartFault, StopFault, Taken, TriggerFault};
+use frame_writer::{FrameWriter, Out};
+use sampler::{ListCounts, Sampler, StartFault, StopFault, Taken, TriggerFault};
+use std::alloc::Global;
 use transmitter::{PumpFault, Pumped, Transmitter};
 
 /// The samplers of all event channels beside the transmitter of their rings, in one thread.
@@ -25,11 +28,14 @@ impl<O: Out, T: Beside> Engine<O, T>
 where
     T::Send: SendEnd<End = T::End>,
 {
-    ghost use Rattle.std.specs.Prelude.{◌≡◌, ◌≤◌, ◌↔◌, [], IfOk, OnErr, OnOk, length};
+    ghost use Rattle.std.specs.Prelude.{◌≡◌, ◌<◌, ◌≤◌, ◌↔◌, [], IfErr, IfOk, OnErr, OnOk, length};
+    ghost use Rattle.frame_writer.specs.Shown.{shown};
     ghost use Rattle.sampler.specs.History.{Start, Stop};
+    ghost use Rattle.sampler.specs.Tracks.{counts_after};
     ghost use Rattle.transmitter.specs.Written.{transmission};
-    ghost use Rattle.daq_engine.specs.Engines.{PumpsOn, Stands, Standing, TakesAt, engine_state, with_event};
+    ghost use Rattle.daq_engine.specs.Engines.{ClosesEngine, PumpsOn, Stands, Standing, TakesAt, engine_state, with_event};
     ghost use Rattle.daq_engine.specs.Standings.{AreBeside, StayThose};
+    ghost use Rattle.daq_engine.specs.Refused.{KeepsEngine};
 
     /// An engine of samplers, in rising event channel from 0 on, and the transmitter of their rings.
     pub fn new(samplers: Vec<Sampler<T::Send>>, transmitter: Transmitter<O, T>) -> Engine<O, T>
@@ -77,7 +83,7 @@ where
         ensures ok { IfOk result (λ taken. (st : Standing) →
             Stands T.Send.SendEnd T.End.RingEnd (engine_state O.Out T.TakeEnd self.old) st →
             TakesAt T.Send.SendEnd T.End.RingEnd (engine_state O.Out T.TakeEnd self.old)
-                (engine_state O.Out T.TakeEnd self.new) c taken st image.now stamp) }
+            (engine_state O.Out T.TakeEnd self.new) c taken st image.now stamp) }
         ensures no_channel { (result ≡ Err ChannelFault.NoChannel)
             ↔ (length (engine_state O.Out T.TakeEnd self.old).samplers ≤ c) }
         ensures err { OnErr result
@@ -103,7 +109,7 @@ where
         ensures ok { OnOk result ((st : Standing) →
             Stands T.Send.SendEnd T.End.RingEnd (engine_state O.Out T.TakeEnd self.old) st →
             Stands T.Send.SendEnd T.End.RingEnd (engine_state O.Out T.TakeEnd self.new)
-                (with_event c (Start l) [] st)) }
+            (with_event c (Start l) [] st)) }
         ensures no_channel { (result ≡ Err ChannelFault.NoChannel)
             ↔ (length (engine_state O.Out T.TakeEnd self.old).samplers ≤ c) }
         ensures err { OnErr result
@@ -129,7 +135,7 @@ where
         ensures ok { OnOk result ((st : Standing) →
             Stands T.Send.SendEnd T.End.RingEnd (engine_state O.Out T.TakeEnd self.old) st →
             Stands T.Send.SendEnd T.End.RingEnd (engine_state O.Out T.TakeEnd self.new)
-                (with_event c (Stop l) [] st)) }
+            (with_event c (Stop l) [] st)) }
         ensures no_channel { (result ≡ Err ChannelFault.NoChannel)
             ↔ (length (engine_state O.Out T.TakeEnd self.old).samplers ≤ c) }
         ensures err { OnErr result ((st : Standing) →
@@ -161,4 +167,54 @@ where
     {
         pump_step(self.samplers.as_mut_slice(), &mut self.transmitter)
     }
+
+    /// How often a DAQ list of event channel `c` was due, and what became of its samples; `None` where there is no such
+    /// channel, or the list isn't of it.
+    pub fn counts(&self, c: usize, l: u8) -> Option<ListCounts>
+        ensures after { (st : Standing) →
+            Stands T.Send.SendEnd T.End.RingEnd (engine_state O.Out T.TakeEnd self.now) st →
+            c < length (engine_state O.Out T.TakeEnd self.now).samplers →
+            result ≡ counts_after (st.past c).opening (st.past c).history (st.past c).decisions l }
+        ensures no_channel { length (engine_state O.Out T.TakeEnd self.now).samplers ≤ c → result ≡ None }
+    {
+        if c >= self.samplers.len() {
+            return None;
+        }
+        self.samplers[c].counts(l)
+    }
+
+    /// Closes the engine, after a drain of its rings where that is wanted: the report, and the writer as it stands.
+    ///
+    /// A fault of the drain doesn't keep it from being closed: the report says that the writer failed. Refused with `Memory`,
+    /// before anything is done, and then the engine comes back; or with `Lost` where a ring's `finish` gave nothing.
+    pub fn close(self, alloc: Global, drain: bool) -> Result<(Report, O), Unclosed<O, T>>
+        ensures closed { IfOk result (λ r. (st : Standing) →
+            Stands T.Send.SendEnd T.End.RingEnd (engine_state O.Out T.TakeEnd self) st →
+            ClosesEngine T.Send.SendEnd drain (engine_state O.Out T.TakeEnd self) st r.0 (shown O.Out r.1)) }
+        ensures memory { IfErr result (λ r. KeepsEngine O.Out T.TakeEnd r (engine_state O.Out T.TakeEnd self)) }
+    {
+        let Ok(room) = Vec::with_capacity(alloc, self.samplers.len()) else {
+            return Err(Unclosed::Memory(self));
+        };
+        let Ok(lines) = Vec::with_capacity(alloc, 16) else {
+            return Err(Unclosed::Memory(self));
+        };
+        let Engine {
+            samplers,
+            transmitter,
+        } = self;
+        match finish_all(samplers, room) {
+            Some(ends) => Ok(account_after(lines, transmitter, ends, drain)),
+            None => Err(Unclosed::Lost(transmitter.into_writer())),
+        }
+    }
+}
+
+/// Why an engine was not closed.
+#[derive(Drop)]
+pub enum Unclosed<O: Out, T: Beside> {
+    /// There was no memory for its closing. The engine is as it was.
+    Memory(Engine<O, T>),
+    /// What is left of a sampler didn't come back from its ring. No ring of this crate does so while its transmitter is there.
+    Lost(FrameWriter<O>),
 }

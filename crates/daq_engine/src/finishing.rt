@@ -14,7 +14,7 @@ ghost use Rattle.daq_engine.specs.Standings.{EndsStandInOrder, StandInOrder, sen
 use crate::closing::{account, are_in_order};
 use crate::faults::CloseFault;
 use crate::laws::drained_engines_leave_nothing;
-use crate::report::Report;
+use crate::report::{ListReport, Report};
 use channel_ring::{RingEnd, SendEnd, TakeEnd};
 use frame_writer::Out;
 use sampler::{Sampler, SamplerEnd};
@@ -71,6 +71,28 @@ fn drain_if<O: Out, T: TakeEnd>(
     }
 }
 
+/// The report of an engine, in the room that was made for its lines, and the writer, after a drain where that is wanted.
+pub fn account_after<O: Out, T: TakeEnd>(
+    room: Vec<ListReport>,
+    mut transmitter: Transmitter<O, T>,
+    mut ends: Vec<SamplerEnd<T::End>>,
+    drain: bool,
+) -> (Report, O)
+    requires empty { vec_len room ≡ 0 }
+    requires enough { 16 ≤ vec_capacity room }
+    requires one_ring { (transmission O.Out T.TakeEnd transmitter).rings
+        ≡ map (λ e. T.End.ring e.end) ends.items }
+    ensures { (start : WriterState) (ps : List (ℕ × Item)) (past : ℕ → Past) →
+        HasTaken start (transmission O.Out T.TakeEnd transmitter) ps →
+        AllStand (map (joined T.End.RingEnd) ends.items) past →
+        HasClosed drain start ps (transmission O.Out T.TakeEnd transmitter)
+        (map (joined T.End.RingEnd) ends.items) past result.0 (shown O.Out result.1) }
+{
+    drained_engines_leave_nothing();
+    drain_if(&mut transmitter, &mut ends, drain);
+    account(room, transmitter, ends)
+}
+
 /// Closes an engine whose samplers were finished, as `close` does, after a drain of its rings where that is wanted.
 ///
 /// A fault of the drain doesn't keep the engine from being closed: the report says that the writer failed. Refused as
@@ -97,15 +119,11 @@ pub fn drain_and_close<O: Out, T: TakeEnd>(
         → AreEndsOf (transmission O.Out T.TakeEnd transmitter) ends.items) }
     ensures back { IfErr result (λ back. (back.1 ≡ transmitter) × (back.2 ≡ ends)) }
 {
-    drained_engines_leave_nothing();
     if !are_in_order(ends.as_slice(), transmitter.rings()) {
         return Err((CloseFault::WrongEnds, transmitter, ends));
     }
     let Ok(room) = Vec::with_capacity(alloc, 16) else {
         return Err((CloseFault::Memory, transmitter, ends));
     };
-    let mut transmitter = transmitter;
-    let mut ends = ends;
-    drain_if(&mut transmitter, &mut ends, drain);
-    Ok(account(room, transmitter, ends))
+    Ok(account_after(room, transmitter, ends, drain))
 }

@@ -7,6 +7,7 @@ mod channel_fault;
 mod channel_plans;
 mod closing;
 mod engine;
+mod engine_opening;
 mod faults;
 mod finishing;
 pub mod laws;
@@ -16,7 +17,7 @@ mod report;
 
 pub use channel_fault::ChannelFault;
 pub use closing::close;
-pub use engine::Engine;
+pub use engine::{Engine, Unclosed};
 pub use faults::CloseFault;
 pub use finishing::{drain_and_close, finish_all};
 pub use open_fault::OpenFault;

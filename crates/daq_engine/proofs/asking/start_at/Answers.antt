@@ -1,4 +1,4 @@
-use Rattle.std.proofs.Common.{[], ◌++◌, get_or, ap, sym, subst, append-nil}
+use Rattle.std.proofs.Common.{[], get_or, ap, sym, subst, append-nil}
 use Rattle.sampler.specs.Standing.{StandsAfter}
 use Rattle.daq_engine.proofs.AskingLemmas.{on_ok, own_at, stand-set, stay-set, there}
 use Rattle.daq_engine.proofs.asking.start_at.Goals as goal
@@ -11,9 +11,9 @@ returns-clause-ok g c =
     let old = get_or xs i c.index-samplers-c.result in
     let is = own_at xs i c.index-samplers-c.result c.requires in
     on_ok c.start.result (λ starts past stand.
-        let stood = starts (past i).opening (past i).history (past i).decisions (stand i old (there xs i old is c.requires)) in
-        let now = subst (StandsAfter g.S.SendEnd g.S.End.RingEnd c.start.new.self (past i).opening _) (sym (append-nil (past i).decisions)) stood in
-        stand-set g.S.SendEnd g.S.End.RingEnd xs i c.start.new.self past _ [] c.requires stand now)
+    let stood = starts (past i).opening (past i).history (past i).decisions (stand i old (there xs i old is c.requires)) in
+    let now = subst (StandsAfter g.S.SendEnd g.S.End.RingEnd c.start.new.self (past i).opening _) (sym (append-nil (past i).decisions)) stood in
+    stand-set g.S.SendEnd g.S.End.RingEnd xs i c.start.new.self past _ [] c.requires stand now)
     c.start.ensures.ok
 
 pub returns-clause-stay : goal.returns-clause-stay

@@ -1,4 +1,4 @@
-use Rattle.std.proofs.Common.{[], ◌++◌, get_or, sym, subst, append-nil}
+use Rattle.std.proofs.Common.{[], get_or, sym, subst, append-nil}
 use Rattle.sampler.specs.Standing.{StandsAfter}
 use Rattle.daq_engine.proofs.AskingLemmas.{on_err, on_ok, own_at, stand-kept, stand-set, stay-set, there}
 use Rattle.daq_engine.proofs.asking.stop_at.Goals as goal
@@ -11,9 +11,9 @@ returns-clause-ok g c =
     let old = get_or xs i c.index-samplers-c.result in
     let is = own_at xs i c.index-samplers-c.result c.requires in
     on_ok c.stop.result (λ stops past stand.
-        let stood = stops (past i).opening (past i).history (past i).decisions (stand i old (there xs i old is c.requires)) in
-        let now = subst (StandsAfter g.S.SendEnd g.S.End.RingEnd c.stop.new.self (past i).opening _) (sym (append-nil (past i).decisions)) stood in
-        stand-set g.S.SendEnd g.S.End.RingEnd xs i c.stop.new.self past _ [] c.requires stand now)
+    let stood = stops (past i).opening (past i).history (past i).decisions (stand i old (there xs i old is c.requires)) in
+    let now = subst (StandsAfter g.S.SendEnd g.S.End.RingEnd c.stop.new.self (past i).opening _) (sym (append-nil (past i).decisions)) stood in
+    stand-set g.S.SendEnd g.S.End.RingEnd xs i c.stop.new.self past _ [] c.requires stand now)
     c.stop.ensures.ok
 
 pub returns-clause-err : goal.returns-clause-err
@@ -23,8 +23,8 @@ returns-clause-err g c =
     let old = get_or xs i c.index-samplers-c.result in
     let is = own_at xs i c.index-samplers-c.result c.requires in
     on_err c.stop.result (λ keeps past stand.
-        let stood = keeps (past i).opening (past i).history (past i).decisions (stand i old (there xs i old is c.requires)) in
-        stand-kept g.S.SendEnd g.S.End.RingEnd xs i c.stop.new.self past c.requires stand stood)
+    let stood = keeps (past i).opening (past i).history (past i).decisions (stand i old (there xs i old is c.requires)) in
+    stand-kept g.S.SendEnd g.S.End.RingEnd xs i c.stop.new.self past c.requires stand stood)
     c.stop.ensures.err_stands
 
 pub returns-clause-stay : goal.returns-clause-stay

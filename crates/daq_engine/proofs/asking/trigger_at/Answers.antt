@@ -12,16 +12,16 @@ returns-clause-ok g c =
     let is = own_at xs i c.index-samplers-c.result c.requires in
     let new = c.trigger.new.self in
     if_ok _ _ c.trigger.result (λ taken takes past stand.
-        let stood = stand i old (there xs i old is c.requires) in
-        let now = takes (past i).opening (past i).history (past i).decisions stood in
-        record {
-          old = old;
-          new = new;
-          was = there xs i old is c.requires;
-          is = slice_get-set_same xs i new c.requires;
-          takes = now;
-          stand = stand-set g.S.SendEnd g.S.End.RingEnd xs i new past _ _ c.requires stand now.stands;
-        })
+    let stood = stand i old (there xs i old is c.requires) in
+    let now = takes (past i).opening (past i).history (past i).decisions stood in
+    record {
+      old = old;
+      new = new;
+      was = there xs i old is c.requires;
+      is = slice_get-set_same xs i new c.requires;
+      takes = now;
+      stand = stand-set g.S.SendEnd g.S.End.RingEnd xs i new past _ _ c.requires stand now.stands;
+    })
     c.trigger.ensures.ok
 
 pub returns-clause-stay : goal.returns-clause-stay

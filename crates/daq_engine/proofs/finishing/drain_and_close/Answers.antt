@@ -1,28 +1,10 @@
-use Rattle.std.proofs.Common.{List, map, ap, sym, subst, ◌∙◌}
-use Rattle.frame_writer.specs.Shown.{shown}
-use Rattle.sampler.specs.State.{JoinedEnd, SamplerEndState, joined}
-use Rattle.transmitter.specs.Written.{transmission}
+use Rattle.std.proofs.Common.{map, ap, sym, ◌∙◌}
+use Rattle.sampler.specs.State.{SamplerEndState}
 use Rattle.daq_engine.specs.Configuration.{upto}
-use Rattle.daq_engine.specs.Headline.{AllStand, Headline}
-use Rattle.daq_engine.proofs.ClosedLemmas.{has_closed}
 use Rattle.daq_engine.proofs.finishing.drain_and_close.Goals as goal
 
 -- the ends fit, so that each is of its ring
-pub drain_if-requires : goal.drain_if-requires
-drain_if-requires g c =
+pub account_after-requires-clause-one_ring : goal.account_after-requires-clause-one_ring
+account_after-requires-clause-one_ring g c =
     let channels = map (λ (e : SamplerEndState g.row.T-End.Denot). e.channel) in
-    record { one_ring = c.requires.one_ring (sym (ap channels c.as_slice.ensures.value) ∙ c.are_in_order.ensures.0 c.if-not-are_in_order.false ∙ ap (upto 0) c.rings.ensures.value) }
-
--- the ends show what they showed before
-pub returns-clause-closed : goal.returns-clause-closed
-returns-clause-closed g c start ps past taken stand =
-    let ends = map (joined g.T.End.RingEnd) c.args.ends.items in
-    let last = transmission g.O.Out g.T.TakeEnd c.drain_if.new.transmitter in
-    let same = c.drain_if.ensures.ends in
-    let report = c.account.result.0 in
-    has_closed c.args.drain c.drained_engines_leave_nothing.ensures start (transmission g.O.Out g.T.TakeEnd c.args.transmitter) last ps ends past report (shown g.O.Out c.account.result.1)
-    c.drain_if.ensures.drained c.drain_if.ensures.more taken stand
-    (λ qs now.
-    let stood = subst (λ (es : List JoinedEnd). AllStand es past) (sym same) stand in
-    subst (λ (es : List JoinedEnd). Headline start last es past report) same (c.account.ensures.headline start qs past now stood))
-    (ap (shown g.O.Out) (sym c.account.ensures.out))
+    c.requires.one_ring (sym (ap channels c.as_slice.ensures.value) ∙ c.are_in_order.ensures.0 c.if-not-are_in_order.false ∙ ap (upto 0) c.rings.ensures.value)

@@ -1,0 +1,31 @@
+use Rattle.std.proofs.Common.{◌≡◌, [], List, length, ap, sym, subst, ◌∙◌}
+use Rattle.std.proofs.lemmas.List.{length-map}
+use Rattle.channel_ring.specs.contracts.sample_ring.SendHalfSendEnd.TheImpl as send
+use Rattle.channel_ring.specs.contracts.sample_ring.SendLeftRingEnd.TheImpl as ring
+use Rattle.frame_writer.specs.Writing.{state_of}
+use Rattle.sampler.specs.State.{SamplerState}
+use Rattle.transmitter.specs.Written.{HasTaken}
+use Rattle.daq_engine.specs.Configuration.{IsConfiguration}
+use Rattle.daq_engine.specs.Openings.{AreOpened}
+use Rattle.daq_engine.specs.Standings.{StandInOrder, first_past}
+use Rattle.daq_engine.proofs.EndLemmas.{length-upto}
+use Rattle.daq_engine.proofs.engine_opening.Engine+O+TakeHalf.open.Goals as goal
+
+-- the samplers stand after nothing, and nothing was taken
+pub returns-in-Ok-clause-opened : goal.returns-in-Ok-clause-opened
+returns-in-Ok-clause-opened g c =
+    let s = c.args.store.now in
+    let openings = c.in-Ok.ensures.opened.0 in
+    let opened = c.in-Ok.ensures.opened.1 in
+    let same = c.new.ensures.samplers in
+    let channel_of = λ (x : SamplerState _). x.channel in
+    let as_many : length c.new.result.samplers.items ≡ s.profile.channels =
+    ap length same ∙ sym (length-map c.in-Ok.samplers.items channel_of) ∙ ap length opened.channels ∙ length-upto 0 s.profile.channels in (
+      openings,
+      subst (λ (ss : List (SamplerState _)). AreOpened send.ghosts ring.ghosts s c.args.caps.now ss openings) (sym same) opened,
+      record {
+        configuration = subst (λ n. IsConfiguration n openings) (sym as_many) opened.configuration;
+        samplers = subst (λ (ss : List (SamplerState _)). StandInOrder send.ghosts ring.ghosts ss (λ k. first_past (openings k))) (sym same) opened.stands;
+        transmitter = subst (λ t. HasTaken (state_of g.O.Out c.args.writer) t []) (sym c.new.ensures.transmitter) c.in-Ok.ensures.paired.taken;
+      },
+    )
