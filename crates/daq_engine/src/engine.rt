@@ -71,6 +71,13 @@ where
         self.samplers.len()
     }
 
+    /// The transmitter, to be read: the sample in hand, and how many samples of a list were written.
+    pub fn transmitter(&self) -> &Transmitter<O, T>
+        ensures { transmission O.Out T.TakeEnd result.now ≡ (engine_state O.Out T.TakeEnd self.now).transmitter }
+    {
+        &self.transmitter
+    }
+
     /// Hands a trigger to the sampler of event channel `c`, with the memory image and a timestamp in ticks.
     ///
     /// Refused with `NoChannel`, or as `Sampler::trigger` refuses it; then nothing changes.

@@ -1,2 +1,0 @@
-pub mod BenchLemmas
-pub mod WholeRunLemmas

@@ -1,9 +1,10 @@
 //! The worked examples, each with its own bytes and account, over an engine in one thread.
-use crate::bench::Bench;
+use crate::opened::{closed, opened};
 use crate::same::same;
 use crate::step::{Step, make_all};
 use crate::stores::{List, WHOLE, count_of, store_of};
 use daq_engine::{ListReport, Report};
+use frame_writer::FuseOut;
 use sampler::{StartFault, StopFault, TriggerFault};
 use std::alloc::Global;
 use std::process::Abort;
@@ -374,9 +375,10 @@ fn run(rt: &impl Abort, alloc: Global, example: &Example) -> Result<(), Fail> {
     let channels = count_of(example.caps) as u16;
     let store = store_of(alloc, channels, example.image_len, example.lists)?;
     let (chunk, good) = example.fuse;
-    let mut bench = Bench::of(alloc, &store, example.caps, chunk, good)?;
-    make_all(rt, &mut bench, example.steps, example.name);
-    let (report, out) = bench.close(alloc, example.drain)?;
+    let out = FuseOut::new(alloc, chunk, good);
+    let mut engine = opened(alloc, &store, example.caps, out)?;
+    make_all(rt, &mut engine, example.steps, example.name);
+    let (report, out) = closed(alloc, engine, example.drain)?;
     same(rt, out.bytes(), example.bytes, example.name, "bytes");
     compare(rt, &report, example);
     Ok(())

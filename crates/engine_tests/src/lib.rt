@@ -2,11 +2,11 @@
 #![tactic(auto)]
 
 #[cfg(test)]
-mod bench;
-#[cfg(test)]
 mod examples;
 #[cfg(test)]
 mod memory;
+#[cfg(test)]
+mod opened;
 #[cfg(test)]
 mod opening;
 #[cfg(test)]

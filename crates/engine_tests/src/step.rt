@@ -1,6 +1,7 @@
 //! The calls of an engine, each with what it answers.
-use crate::bench::Bench;
 use crate::same::same;
+use channel_ring::TakeHalf;
+use daq_engine::{ChannelFault, Engine};
 use frame_writer::Out;
 use sampler::{StartFault, StopFault, Taken, TriggerFault};
 use std::process::Abort;
@@ -28,7 +29,7 @@ pub enum Step<'a> {
 /// A trigger that is taken, whose answer is compared.
 fn trigger<O: Out + Drop>(
     rt: &impl Abort,
-    bench: &mut Bench<O>,
+    engine: &mut Engine<O, TakeHalf>,
     (c, image, stamp): (usize, &[u8], u32),
     sets: [u16; 3],
     row: &str,
@@ -41,35 +42,41 @@ fn trigger<O: Out + Drop>(
     };
     same(
         rt,
-        (at, bench.trigger(c, image, stamp)),
-        (at, Some(Ok(taken))),
+        (at, engine.trigger(c, image, stamp)),
+        (at, Ok(taken)),
         row,
         "a trigger",
     );
 }
 
 /// Whether a sample is in hand.
-fn has_hand<O: Out + Drop>(bench: &Bench<O>) -> bool {
-    bench.transmitter.hand().is_some()
+fn has_hand<O: Out + Drop>(engine: &Engine<O, TakeHalf>) -> bool {
+    engine.transmitter().hand().is_some()
 }
 
 /// Makes a call, whose answer is compared.
-fn make<O: Out + Drop>(rt: &impl Abort, bench: &mut Bench<O>, step: Step, row: &str, at: usize) {
+fn make<O: Out + Drop>(
+    rt: &impl Abort,
+    engine: &mut Engine<O, TakeHalf>,
+    step: Step,
+    row: &str,
+    at: usize,
+) {
     match step {
         Step::Trigger(c, image, stamp, sets) => trigger(
             rt,
-            bench,
+            engine,
             (c, image, stamp),
             sets,
             row,
             at,
         ),
         Step::Refused(image, fault) => {
-            let shown = bench.trigger(0, image, 0);
+            let shown = engine.trigger(0, image, 0);
             same(
                 rt,
                 (at, shown),
-                (at, Some(Err(fault))),
+                (at, Err(ChannelFault::Refused(fault))),
                 row,
                 "a trigger that is refused",
             );
@@ -77,8 +84,8 @@ fn make<O: Out + Drop>(rt: &impl Abort, bench: &mut Bench<O>, step: Step, row: &
         Step::Start(l, wanted) => {
             same(
                 rt,
-                (at, bench.start(0, l)),
-                (at, Some(wanted)),
+                (at, engine.start(0, l)),
+                (at, wanted.map_err(ChannelFault::Refused)),
                 row,
                 "a start",
             );
@@ -86,8 +93,8 @@ fn make<O: Out + Drop>(rt: &impl Abort, bench: &mut Bench<O>, step: Step, row: &
         Step::Stop(l, wanted) => {
             same(
                 rt,
-                (at, bench.stop(0, l)),
-                (at, Some(wanted)),
+                (at, engine.stop(0, l)),
+                (at, wanted.map_err(ChannelFault::Refused)),
                 row,
                 "a stop",
             );
@@ -98,18 +105,35 @@ fn make<O: Out + Drop>(rt: &impl Abort, bench: &mut Bench<O>, step: Step, row: &
                 frames,
                 stopped,
             };
-            same(rt, (at, bench.pump()), (at, Ok(pumped)), row, "a pump step");
+            same(
+                rt,
+                (at, engine.pump()),
+                (at, Ok(pumped)),
+                row,
+                "a pump step",
+            );
         }
         Step::PumpFails(fault) => {
-            same(rt, (at, bench.pump()), (at, Err(fault)), row, "a pump step");
+            same(
+                rt,
+                (at, engine.pump()),
+                (at, Err(fault)),
+                row,
+                "a pump step",
+            );
         }
-        Step::Hand(some) => same(rt, (at, has_hand(bench)), (at, some), row, "in hand"),
+        Step::Hand(some) => same(rt, (at, has_hand(engine)), (at, some), row, "in hand"),
     }
 }
 
 /// Makes calls, one after another.
-pub fn make_all<O: Out + Drop>(rt: &impl Abort, bench: &mut Bench<O>, steps: &[Step], row: &str) {
+pub fn make_all<O: Out + Drop>(
+    rt: &impl Abort,
+    engine: &mut Engine<O, TakeHalf>,
+    steps: &[Step],
+    row: &str,
+) {
     for (at, step) in steps.iter().enumerate() {
-        make(rt, bench, *step, row, at);
+        make(rt, engine, *step, row, at);
     }
 }

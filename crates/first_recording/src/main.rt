@@ -2,7 +2,7 @@
 #![tactic(auto)]
 
 use anyhow::{Result, bail};
-use daq_engine::{Report, close, open};
+use daq_engine::{Engine, Report};
 use daq_store::Store;
 use frame_writer::{FrameWriter, VecOut};
 use std::alloc::Global;
@@ -36,29 +36,18 @@ fn set_up(alloc: Global) -> Result<Store> {
 /// Samples three images through a ring of one place.
 fn record(alloc: Global, store: &Store) -> Result<(Report, VecOut)> {
     let writer = FrameWriter::new(VecOut::new(alloc));
-    let Ok((mut samplers, mut transmitter)) = open(alloc, store, &[1], writer) else {
+    let Ok(mut engine) = Engine::open(alloc, store, &[1], writer) else {
         bail!("the engine was not opened");
     };
 
     // the second sample finds no room: it is dropped, and the third one says so
-    let sampler = &mut samplers[0];
-    sampler.trigger(&[0xAA, 0xBB], 0)?;
-    sampler.trigger(&[0xCC, 0xDD], 1)?;
-    transmitter.beside(sampler);
-    transmitter.pump()?;
-    sampler.trigger(&[0xEE, 0xFF], 2)?;
+    engine.trigger(0, &[0xAA, 0xBB], 0)?;
+    engine.trigger(0, &[0xCC, 0xDD], 1)?;
+    engine.pump()?;
+    engine.trigger(0, &[0xEE, 0xFF], 2)?;
 
-    // each sampler is finished, and what is left in its ring is written
-    let mut ends = Vec::new(alloc);
-    for sampler in samplers {
-        let Some(end) = sampler.finish() else {
-            bail!("a sampler was not finished");
-        };
-        ends.push(end)?;
-    }
-    transmitter.drain(ends.as_mut_slice())?;
-
-    match close(alloc, transmitter, ends) {
+    // what is left in the ring is written
+    match engine.close(alloc, true) {
         Ok(closed) => Ok(closed),
         Err(_) => bail!("the engine was not closed"),
     }

@@ -1,13 +1,14 @@
 //! The calls of a run take no memory: all that they need was taken when the engine was opened. As soon as the allocation that
 //! is refused isn't among those of the first test, which opens an engine, the second one, which goes on with each call of a
 //! run, has to pass too.
-ghost use Rattle.std.specs.Prelude.{◌≡◌, [], IfOk};
+ghost use Rattle.std.specs.Prelude.{◌≡◌, ◌≤◌, [], IfOk, vec_capacity};
 
-use crate::bench::Bench;
+use crate::opened::opened;
 use crate::same::same;
 use crate::step::{Step, make_all};
 use crate::stores::two_lists;
-use channel_ring::SendLeft;
+use channel_ring::{SendLeft, TakeHalf};
+use daq_engine::{Engine, finish_all};
 use frame_writer::VecOut;
 use linked_list_allocator::LocalHeap;
 use sampler::SamplerEnd;
@@ -16,13 +17,17 @@ use std::test::Fail;
 
 /// An engine of two event channels, whose rings have two places each and whose writer takes its memory from a heap of its
 /// own.
-fn engine_over(alloc: Global, heap: &LocalHeap) -> Result<Bench<VecOut<&LocalHeap>>, Fail> {
-    Bench::over(alloc, &two_lists(alloc)?, &[2, 2], VecOut::new(heap))
+fn engine_over(
+    alloc: Global,
+    heap: &LocalHeap,
+) -> Result<Engine<VecOut<&LocalHeap>, TakeHalf>, Fail> {
+    opened(alloc, &two_lists(alloc)?, &[2, 2], VecOut::new(heap))
 }
 
 /// Room for what is left of two samplers.
 fn room_for_two(alloc: Global) -> Result<Vec<SamplerEnd<SendLeft>>, Fail>
-    ensures { IfOk result (λ room. room.items ≡ []) }
+    ensures empty { IfOk result (λ room. room.items ≡ []) }
+    ensures enough { IfOk result (λ room. 2 ≤ vec_capacity room) }
 {
     Ok(Vec::with_capacity(alloc, 2)?)
 }
@@ -49,10 +54,10 @@ fn an_engine_takes_the_memory_of_its_run(rt: HostRuntime) -> Result<(), Fail> {
     let room = room_for_two(rt.alloc())?;
     same(
         &rt,
-        (engine.samplers.len(), room.len()),
+        (engine.channels(), room.len()),
         (2, 0),
         "an engine",
-        "samplers, ends",
+        "channels, ends",
     );
     Ok(())
 }
@@ -63,7 +68,12 @@ fn a_run_takes_no_more_memory(rt: HostRuntime) -> Result<(), Fail> {
     let mut engine = engine_over(rt.alloc(), &heap)?;
     let room = room_for_two(rt.alloc())?;
     make_all(&rt, &mut engine, &STEPS, "a run");
-    let (transmitter, ends) = engine.drain(room)?;
+    let (samplers, mut transmitter) = engine.into_parts();
+    if samplers.len() > 2 {
+        return Err(Fail::from("more than two channels"));
+    }
+    let mut ends = finish_all(samplers, room).ok_or("a sampler that isn't finished")?;
+    transmitter.drain(ends.as_mut_slice())?;
     let writer = transmitter.into_writer();
     let out = writer.into_out();
     same(
