@@ -138,13 +138,7 @@ fn beside_tells_what_is_left(rt: HostRuntime) -> Result<(), Fail> {
     same(&rt, offered, (None, None, None), row, "what comes back");
     let first = (take.beside(&mut send), next_list(&mut take));
     let rest = take.beside(&mut send);
-    same(
-        &rt,
-        (first, rest),
-        ((3, Some(0)), 2),
-        row,
-        "what is left",
-    );
+    same(&rt, (first, rest), ((3, Some(0)), 2), row, "what is left");
     Ok(())
 }
 
