@@ -148,3 +148,7 @@ module _ {S E : Type 0} (send : SendGhosts S E) (ring : EndGhosts E) (a : Engine
       → (StandInOrder send ring old st.past → StandInOrder send ring new st.past) → Stands send ring (record { samplers = written; transmitter = t }) (with_taken qs st)
   pump-written t qs takes keeps =
       stands-taken send ring a (record { samplers = written; transmitter = t }) st before stay_written qs (takes st.start st.taken before.transmitter) (in_order st.past (keeps stood))
+
+-- the samplers stand in order, as a slice too
+pub stood_of : {S E : Type 0} (send : SendGhosts S E) (ring : EndGhosts E) (a : EngineState S) (st : Standing) → Stands send ring a st → (old : List (SamplerState S)) → old ≡ a.samplers → StandInOrder send ring old st.past
+stood_of send ring a st stands old is = subst (λ (os : List (SamplerState _)). StandInOrder send ring os st.past) (sym is) stands.samplers

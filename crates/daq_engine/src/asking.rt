@@ -1,7 +1,10 @@
 //! What one of the samplers is asked for.
 ghost use Rattle.std.specs.Prelude.{◌≡◌, ℕ, ◌<◌, [], IfOk, OnErr, OnOk, Some, length, map, slice_get};
+ghost use Rattle.std.specs.Result.{result_err};
 ghost use Rattle.sampler.specs.History.{Start, Stop};
+ghost use Rattle.sampler.specs.Refusals.{AnswersStop, running_at, start_refusal, stop_refusal, trigger_refusal};
 ghost use Rattle.daq_engine.specs.Configuration.{Past};
+ghost use Rattle.daq_engine.specs.Asking.{FindsNoRoom, image_len_at};
 ghost use Rattle.daq_engine.specs.Engines.{TriggersAt, past_with};
 ghost use Rattle.daq_engine.specs.Standings.{StandInOrder, StayThose};
 
@@ -19,6 +22,9 @@ pub fn trigger_at<S: SendEnd>(
     ensures ok { IfOk result (λ taken. (past : ℕ → Past) →
         StandInOrder S.SendEnd S.End.RingEnd samplers.old past →
         TriggersAt S.SendEnd S.End.RingEnd samplers.old samplers.new c taken past image.now stamp) }
+    ensures refused { (past : ℕ → Past) →
+        StandInOrder S.SendEnd S.End.RingEnd samplers.old past →
+        result_err result ≡ trigger_refusal (image_len_at samplers.old c) (past c).history image.now }
     ensures err { OnErr result (samplers.new ≡ samplers.old) }
     ensures stay { StayThose S.SendEnd samplers.old samplers.new }
 {
@@ -31,6 +37,9 @@ pub fn start_at<S: SendEnd>(samplers: &mut [Sampler<S>], c: usize, l: u8) -> Res
     ensures ok { OnOk result ((past : ℕ → Past) →
         StandInOrder S.SendEnd S.End.RingEnd samplers.old past →
         StandInOrder S.SendEnd S.End.RingEnd samplers.new (past_with past c (Start l) [])) }
+    ensures refused { (past : ℕ → Past) →
+        StandInOrder S.SendEnd S.End.RingEnd samplers.old past →
+        result_err result ≡ start_refusal (running_at (past c).opening (past c).history l) }
     ensures err { OnErr result (samplers.new ≡ samplers.old) }
     ensures stay { StayThose S.SendEnd samplers.old samplers.new }
 {
@@ -43,6 +52,11 @@ pub fn stop_at<S: SendEnd>(samplers: &mut [Sampler<S>], c: usize, l: u8) -> Resu
     ensures ok { OnOk result ((past : ℕ → Past) →
         StandInOrder S.SendEnd S.End.RingEnd samplers.old past →
         StandInOrder S.SendEnd S.End.RingEnd samplers.new (past_with past c (Stop l) [])) }
+    ensures refused { (past : ℕ → Past) →
+        StandInOrder S.SendEnd S.End.RingEnd samplers.old past →
+        AnswersStop (stop_refusal (running_at (past c).opening (past c).history l)) (result_err result) }
+    ensures no_room { result ≡ Err StopFault.NoRoom →
+        FindsNoRoom S.SendEnd S.End.RingEnd samplers.old c l }
     ensures err { OnErr result ((past : ℕ → Past) →
         StandInOrder S.SendEnd S.End.RingEnd samplers.old past →
         StandInOrder S.SendEnd S.End.RingEnd samplers.new past) }

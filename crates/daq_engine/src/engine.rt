@@ -31,7 +31,9 @@ where
     ghost use Rattle.std.specs.Prelude.{◌≡◌, ◌<◌, ◌≤◌, ◌↔◌, [], IfErr, IfOk, OnErr, OnOk, length};
     ghost use Rattle.frame_writer.specs.Shown.{shown};
     ghost use Rattle.sampler.specs.History.{Start, Stop};
+    ghost use Rattle.sampler.specs.Refusals.{AnswersStop, running_at, start_refusal, stop_refusal, trigger_refusal};
     ghost use Rattle.sampler.specs.Tracks.{counts_after};
+    ghost use Rattle.daq_engine.specs.Asking.{FindsNoRoom, image_len_at, refusal_in};
     ghost use Rattle.transmitter.specs.Written.{transmission};
     ghost use Rattle.daq_engine.specs.Engines.{ClosesEngine, PumpsOn, Stands, Standing, TakesAt, engine_state, with_event};
     ghost use Rattle.daq_engine.specs.Standings.{AreBeside, StayThose};
@@ -91,6 +93,12 @@ where
             Stands T.Send.SendEnd T.End.RingEnd (engine_state O.Out T.TakeEnd self.old) st →
             TakesAt T.Send.SendEnd T.End.RingEnd (engine_state O.Out T.TakeEnd self.old)
             (engine_state O.Out T.TakeEnd self.new) c taken st image.now stamp) }
+        ensures refused { (st : Standing) →
+            Stands T.Send.SendEnd T.End.RingEnd (engine_state O.Out T.TakeEnd self.old) st →
+            c < length (engine_state O.Out T.TakeEnd self.old).samplers →
+            refusal_in result
+            ≡ trigger_refusal (image_len_at (engine_state O.Out T.TakeEnd self.old).samplers c)
+            (st.past c).history image.now }
         ensures no_channel { (result ≡ Err ChannelFault.NoChannel)
             ↔ (length (engine_state O.Out T.TakeEnd self.old).samplers ≤ c) }
         ensures err { OnErr result
@@ -117,6 +125,10 @@ where
             Stands T.Send.SendEnd T.End.RingEnd (engine_state O.Out T.TakeEnd self.old) st →
             Stands T.Send.SendEnd T.End.RingEnd (engine_state O.Out T.TakeEnd self.new)
             (with_event c (Start l) [] st)) }
+        ensures refused { (st : Standing) →
+            Stands T.Send.SendEnd T.End.RingEnd (engine_state O.Out T.TakeEnd self.old) st →
+            c < length (engine_state O.Out T.TakeEnd self.old).samplers →
+            refusal_in result ≡ start_refusal (running_at (st.past c).opening (st.past c).history l) }
         ensures no_channel { (result ≡ Err ChannelFault.NoChannel)
             ↔ (length (engine_state O.Out T.TakeEnd self.old).samplers ≤ c) }
         ensures err { OnErr result
@@ -143,6 +155,13 @@ where
             Stands T.Send.SendEnd T.End.RingEnd (engine_state O.Out T.TakeEnd self.old) st →
             Stands T.Send.SendEnd T.End.RingEnd (engine_state O.Out T.TakeEnd self.new)
             (with_event c (Stop l) [] st)) }
+        ensures refused { (st : Standing) →
+            Stands T.Send.SendEnd T.End.RingEnd (engine_state O.Out T.TakeEnd self.old) st →
+            c < length (engine_state O.Out T.TakeEnd self.old).samplers →
+            AnswersStop (stop_refusal (running_at (st.past c).opening (st.past c).history l))
+            (refusal_in result) }
+        ensures no_room { result ≡ Err (ChannelFault.Refused StopFault.NoRoom) →
+            FindsNoRoom T.Send.SendEnd T.End.RingEnd (engine_state O.Out T.TakeEnd self.old).samplers c l }
         ensures no_channel { (result ≡ Err ChannelFault.NoChannel)
             ↔ (length (engine_state O.Out T.TakeEnd self.old).samplers ≤ c) }
         ensures err { OnErr result ((st : Standing) →

@@ -21,3 +21,12 @@ returns-clause-stay g c =
     let xs = c.args.samplers.now in
     let e = c.start.ensures in
     stay-set g.S.SendEnd g.S.End.RingEnd xs c.args.c (get_or xs c.args.c c.index-samplers-c.result) c.start.new.self (own_at xs c.args.c c.index-samplers-c.result c.requires) e.channel (ap g.S.SendEnd.ring e.end) e.image_len (ap g.S.SendEnd.capacity e.end)
+
+-- by the past of its channel
+pub returns-clause-refused : goal.returns-clause-refused
+returns-clause-refused g c = λ past stand.
+    let xs = c.args.samplers.now in
+    let i = c.args.c in
+    let old = get_or xs i c.index-samplers-c.result in
+    let is = own_at xs i c.index-samplers-c.result c.requires in
+    c.start.ensures.refused (past i).opening (past i).history (past i).decisions (stand i old (there xs i old is c.requires))

@@ -1,4 +1,8 @@
-use Rattle.std.proofs.Common.{get_or}
+use Rattle.std.proofs.Common.{◌≡◌, get_or, ap, sym, ◌∙◌}
+use Rattle.std.proofs.lemmas.List.{get_or-map}
+use Rattle.sampler.specs.Refusals.{trigger_refusal}
+use Rattle.sampler.specs.State.{SamplerState}
+use Rattle.daq_engine.specs.Asking.{image_len_at}
 use Rattle.daq_engine.proofs.AskingLemmas.{if_ok, own_at, stand-set, stay-set, there}
 use Rattle.daq_engine.proofs.BesideLemmas.{slice_get-set_same}
 use Rattle.daq_engine.proofs.asking.trigger_at.Goals as goal
@@ -29,3 +33,14 @@ returns-clause-stay g c =
     let xs = c.args.samplers.now in
     let e = c.trigger.ensures in
     stay-set g.S.SendEnd g.S.End.RingEnd xs c.args.c (get_or xs c.args.c c.index-samplers-c.result) c.trigger.new.self (own_at xs c.args.c c.index-samplers-c.result c.requires) e.channel e.ring e.image_len e.capacity_stays
+
+-- by the past of its channel
+pub returns-clause-refused : goal.returns-clause-refused
+returns-clause-refused g c = λ past stand.
+    let xs = c.args.samplers.now in
+    let i = c.args.c in
+    let old = get_or xs i c.index-samplers-c.result in
+    let is = own_at xs i c.index-samplers-c.result c.requires in
+    let len : old.image_len ≡ image_len_at xs i = ap (λ (s : SamplerState _). s.image_len) is ∙ sym (get_or-map (λ (s : SamplerState _). s.image_len) xs i old 0 c.requires) in
+    c.trigger.ensures.refused (past i).opening (past i).history (past i).decisions (stand i old (there xs i old is c.requires))
+    ∙ ap (λ n. trigger_refusal n (past i).history c.args.image.now) len

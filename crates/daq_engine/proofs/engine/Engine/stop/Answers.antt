@@ -1,7 +1,7 @@
 use Rattle.std.proofs.Common.{[]}
 use Rattle.sampler.specs.History.{Stop}
 use Rattle.daq_engine.specs.Engines.{engine_state}
-use Rattle.daq_engine.proofs.AskingLemmas.{event-written, still-written}
+use Rattle.daq_engine.proofs.AskingLemmas.{stood_of, event-written, still-written}
 use Rattle.daq_engine.proofs.engine.Engine.stop.Goals as goal
 
 -- one event more
@@ -17,3 +17,11 @@ returns-in-Err-clause-err g c = λ st stands.
     still-written g.T.Send.SendEnd g.T.End.RingEnd (engine_state g.O.Out g.T.TakeEnd c.args.self.now) st stands c.args.self.now.samplers.len
     c.as_mut_slice.result.now c.stop_at.new.samplers c.as_mut_slice.ensures.value c.args.self.now.samplers.ok.0 c.stop_at.ensures.stay
     (c.in-Err.ensures.err st.past)
+
+pub returns-in-Ok-clause-refused : goal.returns-in-Ok-clause-refused
+returns-in-Ok-clause-refused g c = λ st stands within.
+    c.in-Ok.ensures.refused st.past (stood_of g.T.Send.SendEnd g.T.End.RingEnd (engine_state g.O.Out g.T.TakeEnd c.args.self.now) st stands c.as_mut_slice.result.now c.as_mut_slice.ensures.value)
+
+pub returns-in-Err-clause-refused : goal.returns-in-Err-clause-refused
+returns-in-Err-clause-refused g c = λ st stands within.
+    c.in-Err.ensures.refused st.past (stood_of g.T.Send.SendEnd g.T.End.RingEnd (engine_state g.O.Out g.T.TakeEnd c.args.self.now) st stands c.as_mut_slice.result.now c.as_mut_slice.ensures.value)
