@@ -1,16 +1,18 @@
 //! A whole run in one thread, over any writer and any kind of ring: it has the headline, with its history by name.
-ghost use Rattle.std.specs.Prelude.{◌≡◌, ℕ, [], Bool, IfOk, List, true};
+ghost use Rattle.std.specs.Prelude.{◌≡◌, ℕ, ◌<◌, [], Bool, IfOk, List, true};
 ghost use Rattle.xcp_base.specs.declared.item.Item.{Item};
 ghost use Rattle.frame_writer.specs.Shown.{shown};
-ghost use Rattle.sampler.specs.History.{Start, Stop, Trigger};
-ghost use Rattle.daq_engine.specs.Engines.{ClosesEngine, EngineState, Stands, Standing, engine_state, with_event, with_taken};
+ghost use Rattle.frame_writer.specs.Writing.{fresh};
+ghost use Rattle.sampler.specs.History.{Opening, Start, Stop, Trigger};
+ghost use Rattle.daq_engine.specs.Openings.{IsOpeningOf};
+ghost use Rattle.daq_engine.specs.Engines.{ClosesEngine, EngineState, Stands, Standing, engine_state, first_standing, with_event, with_taken};
 
-use crate::opened::opened;
 use crate::same::same;
 use crate::stores::two_lists;
-use channel_ring::{Beside, RingEnd, SendEnd, TakeEnd};
-use daq_engine::{ChannelFault, Engine, ListReport, Report};
-use frame_writer::{Out, VecOut};
+use channel_ring::{Beside, RingEnd, SendEnd, SendHalf, TakeEnd};
+use daq_engine::{Engine, ListReport, Report};
+use daq_store::Store;
+use frame_writer::{FrameWriter, Out, VecOut};
 use std::alloc::Global;
 use std::test::Fail;
 
@@ -48,12 +50,35 @@ where
     }
 }
 
+/// The same of an engine that is opened over any store, and writes to any writer.
+fn record_once<O: Out + Drop>(
+    alloc: Global,
+    store: &Store,
+    caps: &[usize],
+    out: O,
+    image: &[u8],
+    stamp: u32,
+) -> Result<(Report, O), Fail>
+    ensures { IfOk result (λ r. (openings : ℕ → Opening)
+        × ((c : ℕ) → c < store.now.profile.channels → IsOpeningOf store.now c (openings c))
+        × (ds : List Bool) × (qs : List (ℕ × Item)) × (last : EngineState _)
+        × ClosesEngine ⟦<SendHalf as SendEnd>⟧ true last
+        (with_event 0 (Start 0) [] (with_event 0 (Stop 0) []
+        (with_taken qs (with_event 0 (Trigger image.now stamp) ds
+        (first_standing (fresh (shown O.Out out)) openings))))) r.0 (shown O.Out r.1)) }
+{
+    match Engine::open(alloc, store, caps, FrameWriter::new(out)) {
+        Ok(engine) => run_once(alloc, engine, image, stamp),
+        Err((fault, _)) => Err(Fail::from(fault)),
+    }
+}
+
 #[test]
 fn each_sample_of_a_whole_run_is_written(rt: HostRuntime) -> Result<(), Fail> {
     let row = "a whole run";
     let store = two_lists(rt.alloc())?;
-    let engine = opened(rt.alloc(), &store, &[16, 16], VecOut::new(rt.alloc()))?;
-    let (report, out) = run_once(rt.alloc(), engine, &[7, 8], 0)?;
+    let out = VecOut::new(rt.alloc());
+    let (report, out) = record_once(rt.alloc(), &store, &[16, 16], out, &[7, 8], 0)?;
     let line = |list, due| ListReport {
         list,
         due,

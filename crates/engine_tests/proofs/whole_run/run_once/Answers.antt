@@ -1,4 +1,4 @@
-use Rattle.sampler.specs.History.{Start, Stop, Trigger}
+use Rattle.sampler.specs.History.{Trigger}
 use Rattle.daq_engine.specs.Engines.{decisions_at, engine_state, with_event, with_taken}
 use Rattle.engine_tests.proofs.whole_run.run_once.Goals as goal
 
