@@ -1,19 +1,23 @@
-//! Samplers: at each trigger of an event channel, the samples of the DAQ lists that are due go into its ring.
+//! Samplers: at each trigger of an event channel, the samples of the DAQ lists that are due go into
+//! its ring.
 #![tactic(auto)]
 
+mod at_trigger;
 mod counts;
 mod faults;
 pub mod laws;
-mod openings;
+mod list_sets;
+mod lists;
+mod moment;
+mod offering;
 mod sampler;
 mod sampler_end;
 mod taken;
 mod track;
-mod turn;
 
 pub use counts::ListCounts;
 pub use faults::{StartFault, StopFault, TriggerFault};
+pub use list_sets::with_list;
 pub use sampler::Sampler;
 pub use sampler_end::SamplerEnd;
 pub use taken::Taken;
-pub use turn::with_list;

@@ -2,10 +2,10 @@ use Rattle.std.proofs.Common.{◌≡◌, ◌+◌, ℕ, ◌∷◌, [], ◌++◌, 
 use Rattle.std.proofs.Math.Seq.{take-suc}
 use Rattle.std.proofs.Math.ListN.{length-set}
 use Rattle.copy_plan.specs.Config.{ListPlan}
-use Rattle.sampler.specs.Tracks.{first_track}
-use Rattle.sampler.proofs.Turns.{map-append_of}
+use Rattle.sampler.specs.inner.Fits.{first_track}
+use Rattle.sampler.proofs.Handled.{map-append_of}
 use Rattle.sampler.proofs.FirstTracks.{take-set-suc}
-use Rattle.sampler.proofs.openings.first_tracks.Goals as goal
+use Rattle.sampler.proofs.lists.first_tracks.Goals as goal
 
 pub loop-place-preserved : goal.loop-place-preserved
 loop-place-preserved c =

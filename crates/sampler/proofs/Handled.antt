@@ -1,4 +1,4 @@
--- One list more in a turn.
+-- A trigger that has handled one list more.
 use Rattle.std.proofs.Common.{◌≡◌, ℕ, zero, suc, ◌+◌, ◌<◌, ◌≤◌, Bool, true, false, not, ◌&&◌, ◌||◌, List, [], ◌∷◌, ◌++◌, length, get_or, set, take, drop, map, refl, sym, ap, ◌∙◌, arith, subst, nat_eq, append_assoc, length-append, length-take, mod-lt, ◌%◌, ◌^◌, inl, inr}
 use Rattle.std.specs.Prelude.{if◌then◌else◌}
 use Rattle.std.specs.List.{list_any}
@@ -8,10 +8,11 @@ use Rattle.channel_ring.specs.declared.ends.SendEnd.{Ghosts as SendGhosts}
 use Rattle.channel_ring.specs.declared.ends.RingEnd.{Ghosts as EndGhosts}
 use Rattle.copy_plan.specs.Config.{ListPlan}
 use Rattle.std.proofs.lemmas.Nat.Bits.{bit_at-zero}
-use Rattle.sampler.specs.State.{ArePlansOf, TracksFit, IsSampler}
-use Rattle.sampler.specs.Turn.{Row, due_now, turned, item_of, row_items, row_count, rows_items, rows_count, Adds, IsTurn}
+use Rattle.sampler.specs.State.{ArePlansOf}
+use Rattle.sampler.specs.inner.Fits.{TracksFit, IsSampler}
+use Rattle.sampler.specs.inner.Moments.{MomentParts}
+use Rattle.sampler.specs.inner.AtTrigger.{Row, due_now, triggered, row_after, row_due, row_accepted, row_dropped, item_of, row_items, row_count, rows_items, rows_count, Adds, Stage, first_stage, HandlesLists}
 use Rattle.sampler.specs.declared.track.Track.{Track}
-use Rattle.sampler.specs.declared.taken.Taken.{Taken}
 use Rattle.sampler.proofs.Histories.{append_nil, length-map_of}
 use Rattle.sampler.proofs.Drops.{split_last}
 use Rattle.sampler.proofs.Places.{no_track}
@@ -37,13 +38,13 @@ unfolding rows_count
 rows_count-one [] row = omega arith
 rows_count-one (r ∷ rows) row = omega (arith, rows_count-one rows row)
 
-pub rows_items-one : (channel : ℕ) (image : List ℕ) (stamp number : ℕ) (rows : List Row) (row : Row) → rows_items channel image stamp number (rows ++ row ∷ []) ≡ rows_items channel image stamp number rows ++ row_items channel image stamp (number + rows_count rows) row
+pub rows_items-one : (m : MomentParts) (number : ℕ) (rows : List Row) (row : Row) → rows_items m number (rows ++ row ∷ []) ≡ rows_items m number rows ++ row_items m (number + rows_count rows) row
 unfolding rows_items rows_count
-rows_items-one channel image stamp number [] row = append_nil (row_items channel image stamp number row) ∙ ap (λ n. row_items channel image stamp n row) (omega arith)
-rows_items-one channel image stamp number (r ∷ rows) row =
-    ap (λ xs. row_items channel image stamp number r ++ xs) (rows_items-one channel image stamp (number + row_count r) rows row)
-    ∙ ap (λ n. row_items channel image stamp number r ++ (rows_items channel image stamp (number + row_count r) rows ++ row_items channel image stamp n row)) (omega arith)
-    ∙ sym (append_assoc (row_items channel image stamp number r) (rows_items channel image stamp (number + row_count r) rows) (row_items channel image stamp (number + (row_count r + rows_count rows)) row))
+rows_items-one m number [] row = append_nil (row_items m number row) ∙ ap (λ n. row_items m n row) (omega arith)
+rows_items-one m number (r ∷ rows) row =
+    ap (λ xs. row_items m number r ++ xs) (rows_items-one m (number + row_count r) rows row)
+    ∙ ap (λ n. row_items m number r ++ (rows_items m (number + row_count r) rows ++ row_items m n row)) (omega arith)
+    ∙ sym (append_assoc (row_items m number r) (rows_items m (number + row_count r) rows) (row_items m (number + (row_count r + rows_count rows)) row))
 
 set-seam : (xs : List Track) (old : List Track) (i : ℕ) (t : Track) → length xs ≡ i → i < length old → set (xs ++ drop i old) i t ≡ (xs ++ t ∷ []) ++ drop (i + 1) old
 set-seam xs old i t e h =
@@ -56,75 +57,78 @@ set-seam xs old i t e h =
     at_seam (y ∷ ys) zero e = absurd (omega arith)
     at_seam (y ∷ ys) (suc k) e = ap (λ zs. y ∷ zs) (at_seam ys k (omega arith))
 
-module _ {S E : Type 0} (send : SendGhosts S E) (ring : EndGhosts E) (first mid last : S) (channel : ℕ) (image : List ℕ) (stamp number : ℕ) (plans : List ListPlan) (before now after : List Track) (taken new_taken : Taken) (next new_next : ℕ) (rows : List Row) (row : Row) where
-  -- a turn and the step of one list more are a turn
-  pub IsTurn-more :
-      IsTurn send ring first mid channel image stamp number plans before now taken next rows →
-      length plans < length before →
-      row.track ≡ get_or before (length plans) no_track →
-      after ≡ set now (length plans) (turned row.plan row.track row.accepted) →
-      send.sent last ≡ send.sent mid ++ row_items channel image stamp next row →
-      send.free mid ≤ send.free last + units ring.cost (row_items channel image stamp next row) →
-      (due_now row.track ≡ true → row.accepted ≡ false → send.free mid < ring.cost (item_of channel row.plan image stamp next row.track.pending)) →
-      Adds taken new_taken row →
-      new_next ≡ next + row_count row →
-      IsTurn send ring first last channel image stamp number (plans ++ row.plan ∷ []) before after new_taken new_next (rows ++ row ∷ [])
-  IsTurn-more t room track_is after_is sent free over adds count =
-      let N : ℕ → Type 0 = λ k. due_now row.track ≡ true → row.accepted ≡ false → send.free mid < ring.cost (item_of channel row.plan image stamp k row.track.pending) in
-      let over_at : N (number + rows_count rows) = subst N t.count over in
+module _ {S E : Type 0} (send : SendGhosts S E) (ring : EndGhosts E) (m : MomentParts) (plans : List ListPlan) (first mid last : Stage S) (row : Row) where
+  -- where a trigger has come so far, and does the step of one list more, it has come so far
+  pub handles-more :
+      HandlesLists send ring m plans first mid →
+      length plans < length first.tracks →
+      row.track ≡ get_or first.tracks (length plans) no_track →
+      last.tracks ≡ set mid.tracks (length plans) (row_after row) →
+      send.sent last.end ≡ send.sent mid.end ++ row_items m mid.next row →
+      send.free mid.end ≤ send.free last.end + units ring.cost (row_items m mid.next row) →
+      (due_now row.track ≡ true → row.accepted ≡ false → send.free mid.end < ring.cost (item_of m row.plan mid.next row.track.pending)) →
+      Adds mid.taken last.taken row →
+      last.next ≡ mid.next + row_count row →
+      HandlesLists send ring m (plans ++ row.plan ∷ []) first last
+  handles-more t room track_is after_is sent free over adds count =
+      let rows : List Row = t.rows in
+      let N : ℕ → Type 0 = λ k. due_now row.track ≡ true → row.accepted ≡ false → send.free mid.end < ring.cost (item_of m row.plan k row.track.pending) in
+      let over_at : N (first.next + rows_count rows) = subst N t.count over in
       let n : length rows ≡ length plans = sym (length-map_of (λ (r : Row). r.plan) rows) ∙ ap length t.of_plans in
       let longer : length (plans ++ row.plan ∷ []) ≡ length plans + 1 = omega (arith, length-append plans (row.plan ∷ [])) in
       let one_more : suc (length plans) ≡ length (plans ++ row.plan ∷ []) = omega (arith, longer) in
-      let keep : Row → Track = λ (r : Row). turned r.plan r.track r.accepted in
+      let keep : Row → Track = λ (r : Row). triggered r.plan r.track r.accepted in
       record {
+        rows = rows ++ row ∷ [];
         of_plans = map-append_of (λ (r : Row). r.plan) rows (row ∷ []) ∙ ap (λ ps. ps ++ row.plan ∷ []) t.of_plans;
         kept =
             map-append_of (λ (r : Row). r.track) rows (row ∷ [])
             ∙ ap (λ ts. ts ++ row.track ∷ []) t.kept
-            ∙ ap (λ x. take (length plans) before ++ x ∷ []) track_is
-            ∙ sym (take-suc before (length plans) no_track room)
-            ∙ ap (λ k. take k before) one_more;
+            ∙ ap (λ x. take (length plans) first.tracks ++ x ∷ []) track_is
+            ∙ sym (take-suc first.tracks (length plans) no_track room)
+            ∙ ap (λ k. take k first.tracks) one_more;
         keeps =
             after_is
             ∙ ap (λ ts. set ts (length plans) (keep row)) t.keeps
-            ∙ set-seam (map keep rows) before (length plans) (keep row) (length-map_of keep rows ∙ n) room
-            ∙ ap (λ ts. ts ++ drop (length plans + 1) before) (sym (map-append_of keep rows (row ∷ [])))
-            ∙ ap (λ k. map keep (rows ++ row ∷ []) ++ drop k before) (sym longer);
+            ∙ set-seam (map keep rows) first.tracks (length plans) (keep row) (length-map_of keep rows ∙ n) room
+            ∙ ap (λ ts. ts ++ drop (length plans + 1) first.tracks) (sym (map-append_of keep rows (row ∷ [])))
+            ∙ ap (λ k. map keep (rows ++ row ∷ []) ++ drop k first.tracks) (sym longer);
         count = omega (arith, count, t.count, rows_count-one rows row);
         sends =
             sent
-            ∙ ap (λ xs. xs ++ row_items channel image stamp next row) t.sends
-            ∙ append_assoc (send.sent first) (rows_items channel image stamp number rows) (row_items channel image stamp next row)
-            ∙ ap (λ k. send.sent first ++ (rows_items channel image stamp number rows ++ row_items channel image stamp k row)) t.count
-            ∙ ap (λ xs. send.sent first ++ xs) (sym (rows_items-one channel image stamp number rows row));
-        free = rw (rows_items-one channel image stamp number rows row, units-append, ← t.count) (omega (arith, free, t.free));
+            ∙ ap (λ xs. xs ++ row_items m mid.next row) t.sends
+            ∙ append_assoc (send.sent first.end) (rows_items m first.next rows) (row_items m mid.next row)
+            ∙ ap (λ k. send.sent first.end ++ (rows_items m first.next rows ++ row_items m k row)) t.count
+            ∙ ap (λ xs. send.sent first.end ++ xs) (sym (rows_items-one m first.next rows row));
+        free = rw (rows_items-one m first.next rows row, units-append, ← t.count) (omega (arith, free, t.free));
         over = λ done rest r is due dropped.
             elim (split_last rows done rest row r is) [
               | inl w ↦
-                  let P : Row → Type 0 = λ r'. due_now r'.track ≡ true → r'.accepted ≡ false → send.free first < units ring.cost (rows_items channel image stamp number rows) + ring.cost (item_of channel r'.plan image stamp (number + rows_count rows) r'.track.pending) in
-                  let Q : List Row → Type 0 = λ rs. send.free first < units ring.cost (rows_items channel image stamp number rs) + ring.cost (item_of channel r.plan image stamp (number + rows_count rs) r.track.pending) in
+                  let P : Row → Type 0 = λ r'. due_now r'.track ≡ true → r'.accepted ≡ false → send.free first.end < units ring.cost (rows_items m first.next rows) + ring.cost (item_of m r'.plan (first.next + rows_count rows) r'.track.pending) in
+                  let Q : List Row → Type 0 = λ rs. send.free first.end < units ring.cost (rows_items m first.next rs) + ring.cost (item_of m r.plan (first.next + rows_count rs) r.track.pending) in
                   let at_row : P row = λ a b. omega (arith, t.free, over_at a b) in
                   subst Q w.1 (subst P w.2 at_row due dropped)
               | inr w ↦ t.over done w.0 r w.1.1 due dropped
             ];
-        due = λ l. adds.due l ∙ ap (λ b. b || (due_now row.track && nat_eq row.plan.list l)) (t.due l) ∙ sym (list_any-one (λ (r : Row). due_now r.track && nat_eq r.plan.list l) rows row);
-        accepted = λ l. adds.accepted l ∙ ap (λ b. b || (due_now row.track && row.accepted && nat_eq row.plan.list l)) (t.accepted l) ∙ sym (list_any-one (λ (r : Row). due_now r.track && r.accepted && nat_eq r.plan.list l) rows row);
-        dropped = λ l. adds.dropped l ∙ ap (λ b. b || (due_now row.track && not row.accepted && nat_eq row.plan.list l)) (t.dropped l) ∙ sym (list_any-one (λ (r : Row). due_now r.track && not r.accepted && nat_eq r.plan.list l) rows row);
+        due = λ l. adds.due l ∙ ap (λ b. b || (row_due row && nat_eq row.plan.list l)) (t.due l) ∙ sym (list_any-one (λ (r : Row). row_due r && nat_eq r.plan.list l) rows row);
+        accepted = λ l. adds.accepted l ∙ ap (λ b. b || (row_accepted row && nat_eq row.plan.list l)) (t.accepted l) ∙ sym (list_any-one (λ (r : Row). row_accepted r && nat_eq r.plan.list l) rows row);
+        dropped = λ l. adds.dropped l ∙ ap (λ b. b || (row_dropped row && nat_eq row.plan.list l)) (t.dropped l) ∙ sym (list_any-one (λ (r : Row). row_dropped r && nat_eq r.plan.list l) rows row);
       }
 
 nothing : {X : Type 0} (done rest : List X) (x : X) → [] ≡ done ++ x ∷ rest → ⊥
 nothing [] rest x is = cc
 nothing (y ∷ done) rest x is = cc
 
--- no list has had its turn
-pub IsTurn-none : {S E : Type 0} (send : SendGhosts S E) (ring : EndGhosts E) (first : S) (channel : ℕ) (image : List ℕ) (stamp number : ℕ) (before : List Track) → IsTurn send ring first first channel image stamp number [] before before (record { due = 0; accepted = 0; dropped = 0 }) number []
+-- no list was handled
+pub handles-none : {S E : Type 0} (send : SendGhosts S E) (ring : EndGhosts E) (m : MomentParts) (end : S) (tracks : List Track) (number : ℕ) → HandlesLists send ring m [] (first_stage end tracks number) (first_stage end tracks number)
 unfolding rows_items rows_count
-IsTurn-none send ring first channel image stamp number before = record {
+handles-none send ring m end tracks number = record {
+  rows = [];
   of_plans = refl;
   kept = refl;
   keeps = refl;
   count = omega arith;
-  sends = sym (append_nil (send.sent first));
+  sends = sym (append_nil (send.sent end));
   free = omega arith;
   over = λ done rest row is. absurd (nothing done rest row is);
   due = λ l. ap (λ n. nat_eq n 1) (bit_at-zero l);
@@ -143,12 +147,13 @@ get_or-seam xs old i e h =
     at_seam (y ∷ ys) zero e = absurd (omega arith)
     at_seam (y ∷ ys) (suc k) e = at_seam ys k (omega arith)
 
--- a list whose turn is still to come is kept as it was
-pub track-there : {S E : Type 0} {send : SendGhosts S E} {ring : EndGhosts E} {first mid : S} {channel : ℕ} {image : List ℕ} {stamp number : ℕ} {plans : List ListPlan} {before now : List Track} {taken : Taken} {next : ℕ} {rows : List Row} → IsTurn send ring first mid channel image stamp number plans before now taken next rows → length plans < length before → get_or now (length plans) no_track ≡ get_or before (length plans) no_track
-track-there {plans = plans} {before = before} {rows = rows} t room =
+-- a list that is not handled yet is kept as it was
+track-there : {S E : Type 0} {send : SendGhosts S E} {ring : EndGhosts E} {m : MomentParts} {plans : List ListPlan} {first mid : Stage S} → HandlesLists send ring m plans first mid → length plans < length first.tracks → get_or mid.tracks (length plans) no_track ≡ get_or first.tracks (length plans) no_track
+track-there {plans = plans} {first = first} t room =
+    let rows : List Row = t.rows in
     let n : length rows ≡ length plans = sym (length-map_of (λ (r : Row). r.plan) rows) ∙ ap length t.of_plans in
     ap (λ ts. get_or ts (length plans) no_track) t.keeps
-    ∙ get_or-seam (map (λ (r : Row). turned r.plan r.track r.accepted) rows) before (length plans) (length-map_of (λ (r : Row). turned r.plan r.track r.accepted) rows ∙ n) room
+    ∙ get_or-seam (map (λ (r : Row). triggered r.plan r.track r.accepted) rows) first.tracks (length plans) (length-map_of (λ (r : Row). triggered r.plan r.track r.accepted) rows ∙ n) room
 
 pub fit-at : (triggers : ℕ) (plans : List ListPlan) (tracks : List Track) (i : ℕ) (d : ListPlan) → TracksFit triggers plans tracks → i < length plans → ((get_or tracks i no_track).phase < (get_or plans i d).prescaler) × ((get_or tracks i no_track).counts.due ≤ triggers) × ((get_or tracks i no_track).counts.accepted + (get_or tracks i no_track).counts.dropped ≡ (get_or tracks i no_track).counts.due)
 fit-at triggers [] tracks i d f h = absurd (omega arith)
@@ -161,10 +166,10 @@ plan-at channel image_len [] i d a h = absurd (omega arith)
 plan-at channel image_len (plan ∷ plans) zero d a h = a.0.2
 plan-at channel image_len (plan ∷ plans) (suc i) d a h = plan-at channel image_len plans i d a.1 (omega arith)
 
-pub track-at : {S E : Type 0} {send : SendGhosts S E} {ring : EndGhosts E} {first mid : S} {channel : ℕ} {image : List ℕ} {stamp number : ℕ} (plans : List ListPlan) {before now : List Track} {taken : Taken} {next : ℕ} {rows : List Row} (i : ℕ) → IsTurn send ring first mid channel image stamp number (take i plans) before now taken next rows → i < length plans → length plans ≤ length before → get_or now i no_track ≡ get_or before i no_track
-track-at plans {before = before} {now = now} i t h fits =
+pub track-at : {S E : Type 0} {send : SendGhosts S E} {ring : EndGhosts E} {m : MomentParts} (plans : List ListPlan) {first mid : Stage S} (i : ℕ) → HandlesLists send ring m (take i plans) first mid → i < length plans → length plans ≤ length first.tracks → get_or mid.tracks i no_track ≡ get_or first.tracks i no_track
+track-at plans {first = first} {mid = mid} i t h fits =
     let n : length (take i plans) ≡ i = simp length-take (omega arith) in
-    let P : ℕ → Type 0 = λ k. k < length before → get_or now k no_track ≡ get_or before k no_track in
+    let P : ℕ → Type 0 = λ k. k < length first.tracks → get_or mid.tracks k no_track ≡ get_or first.tracks k no_track in
     subst P n (track-there t) (omega arith)
 
 pub row_count-yes : (plan : ListPlan) (track : Track) (accepted : Bool) → accepted ≡ true → due_now track ≡ true → row_count (record { plan = plan; track = track; accepted = accepted }) ≡ 1
@@ -189,9 +194,9 @@ TracksFit-mono n m [] tracks le f = tt
 TracksFit-mono n m (plan ∷ plans) [] le f = absurd f
 TracksFit-mono n m (plan ∷ plans) (t ∷ tracks) le f = ((f.0.0, omega (arith, f.0.1), f.0.2), TracksFit-mono n m plans tracks le f.1)
 
-turned-fits : (n : ℕ) (plan : ListPlan) (t : Track) (accepted : Bool) → 0 < plan.prescaler → (t.phase < plan.prescaler) × (t.counts.due ≤ n) × (t.counts.accepted + t.counts.dropped ≡ t.counts.due) → ((turned plan t accepted).phase < plan.prescaler) × ((turned plan t accepted).counts.due ≤ n + 1) × ((turned plan t accepted).counts.accepted + (turned plan t accepted).counts.dropped ≡ (turned plan t accepted).counts.due)
-unfolding turned
-turned-fits n plan t accepted some f = (
+triggered-fits : (n : ℕ) (plan : ListPlan) (t : Track) (accepted : Bool) → 0 < plan.prescaler → (t.phase < plan.prescaler) × (t.counts.due ≤ n) × (t.counts.accepted + t.counts.dropped ≡ t.counts.due) → ((triggered plan t accepted).phase < plan.prescaler) × ((triggered plan t accepted).counts.due ≤ n + 1) × ((triggered plan t accepted).counts.accepted + (triggered plan t accepted).counts.dropped ≡ (triggered plan t accepted).counts.due)
+unfolding triggered
+triggered-fits n plan t accepted some f = (
   elim (t.running) as (λ b. (if b then (t.phase + 1) % plan.prescaler else t.phase) < plan.prescaler) [ true ↦ mod-lt (t.phase + 1) some | false ↦ f.0 ],
   elim (due_now t) as (λ b. t.counts.due + (if b then 1 else 0) ≤ n + 1) [ true ↦ omega (arith, f.1) | false ↦ omega (arith, f.1) ],
   sums (due_now t) accepted,
@@ -202,7 +207,7 @@ turned-fits n plan t accepted some f = (
     sums true false = omega (arith, f.2)
     sums false a = omega (arith, f.2)
 
-rows-fit : (channel image_len n : ℕ) (rows : List Row) (plans : List ListPlan) (before rest : List Track) → map (λ (r : Row). r.plan) rows ≡ plans → map (λ (r : Row). r.track) rows ≡ take (length plans) before → ArePlansOf channel image_len plans → TracksFit n plans before → TracksFit (n + 1) plans (map (λ (r : Row). turned r.plan r.track r.accepted) rows ++ rest)
+rows-fit : (channel image_len n : ℕ) (rows : List Row) (plans : List ListPlan) (before rest : List Track) → map (λ (r : Row). r.plan) rows ≡ plans → map (λ (r : Row). r.track) rows ≡ take (length plans) before → ArePlansOf channel image_len plans → TracksFit n plans before → TracksFit (n + 1) plans (map (λ (r : Row). triggered r.plan r.track r.accepted) rows ++ rest)
 rows-fit channel image_len n rows [] before rest of_plans kept a f = tt
 rows-fit channel image_len n [] (plan ∷ plans) before rest of_plans kept a f = absurd cc
 rows-fit channel image_len n (r ∷ rows) (plan ∷ plans) [] rest of_plans kept a f = absurd f
@@ -211,16 +216,16 @@ rows-fit channel image_len n (r ∷ rows) (plan ∷ plans) (t ∷ before) rest o
     let x : r.track ≡ t = cc in
     let ps : map (λ (y : Row). y.plan) rows ≡ plans = cc in
     let ts : map (λ (y : Row). y.track) rows ≡ take (length plans) before = cc in
-    (rw (p, x) (turned-fits n plan t r.accepted a.0.0.prescaler f.0), rows-fit channel image_len n rows plans before rest ps ts a.1 f.1)
+    (rw (p, x) (triggered-fits n plan t r.accepted a.0.0.prescaler f.0), rows-fit channel image_len n rows plans before rest ps ts a.1 f.1)
 
-pub IsSampler-turn : {S E : Type 0} (send : SendGhosts S E) (ring : EndGhosts E) (first last : S) (channel image_len : ℕ) (image : List ℕ) (stamp : ℕ) (plans : List ListPlan) (before after : List Track) (taken : Taken) (triggers number next : ℕ) (rows : List Row) → IsSampler channel image_len plans before triggers number → IsTurn send ring first last channel image stamp number plans before after taken next rows → next ≤ number + length plans → length after ≡ length before → triggers < 2 ^ 59 → IsSampler channel image_len plans after (triggers + 1) next
-IsSampler-turn send ring first last channel image_len image stamp plans before after taken triggers number next rows s t limit same below = record {
+pub IsSampler-handled : {S E : Type 0} (send : SendGhosts S E) (ring : EndGhosts E) (m : MomentParts) (image_len : ℕ) (plans : List ListPlan) (first last : Stage S) (triggers : ℕ) → IsSampler m.channel image_len plans first.tracks triggers first.next → HandlesLists send ring m plans first last → last.next ≤ first.next + length plans → length last.tracks ≡ length first.tracks → triggers < 2 ^ 59 → IsSampler m.channel image_len plans last.tracks (triggers + 1) last.next
+IsSampler-handled send ring m image_len plans first last triggers s t limit same below = record {
   channel_below = s.channel_below;
   plans_of = s.plans_of;
   rising = s.rising;
   room = s.room;
   places = same ∙ s.places;
-  tracks_fit = rw t.keeps (rows-fit channel image_len triggers rows plans before (drop (length plans) before) t.of_plans t.kept s.plans_of s.tracks_fit);
+  tracks_fit = rw t.keeps (rows-fit m.channel image_len triggers t.rows plans first.tracks (drop (length plans) first.tracks) t.of_plans t.kept s.plans_of s.tracks_fit);
   limit = omega (arith, below);
   accepted_limit = omega (arith, limit, s.accepted_limit, s.room);
 }

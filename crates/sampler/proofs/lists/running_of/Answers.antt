@@ -1,8 +1,8 @@
 use Rattle.std.proofs.Common.{◌≡◌, ◌+◌, ℕ, ◌||◌, ◌&&◌, take, length, get_or, nat_eq, arith, ap, sym, ◌∙◌, suc, length-take}
 use Rattle.copy_plan.specs.Config.{ListPlan}
-use Rattle.sampler.proofs.FirstTracks.{runs_among, runs_among-suc, runs_at-among, take-all}
+use Rattle.sampler.proofs.FirstTracks.{runs_among, runs_among-suc, list_runs-among, take-all}
 use Rattle.sampler.proofs.Places.{no_track}
-use Rattle.sampler.proofs.openings.running_of.Goals as goal
+use Rattle.sampler.proofs.lists.running_of.Goals as goal
 
 pub loop-place-preserved : goal.loop-place-preserved
 loop-place-preserved c = λ k.
@@ -22,4 +22,4 @@ returns c = λ k.
     c.loop-place.invariant k
     ∙ ap (λ i. runs_among k (take i c.args.plans.now) (take i c.args.tracks.now)) n
     ∙ ap (λ ps. runs_among k ps (take (length c.args.plans.now) c.args.tracks.now)) (take-all c.args.plans.now)
-    ∙ sym (runs_at-among k c.args.plans.now (take (length c.args.plans.now) c.args.tracks.now) c.requires.rising (omega (arith, length-take (length c.args.plans.now) c.args.tracks.now, c.requires.room)))
+    ∙ sym (list_runs-among k c.args.plans.now (take (length c.args.plans.now) c.args.tracks.now) c.requires.rising (omega (arith, length-take (length c.args.plans.now) c.args.tracks.now, c.requires.room)))

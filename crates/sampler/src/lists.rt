@@ -1,0 +1,131 @@
+ghost use Rattle.std.specs.Prelude.{◌≡◌, ℕ, ◌<◌, ◌≤◌, ◌&&◌, ◌||◌, length, map, take, nat_eq};
+ghost use Rattle.std.specs.Prelude.{option_map};
+ghost use Rattle.xcp_base.specs.declared.limits.TheConstants.{MAX_LISTS};
+ghost use Rattle.copy_plan.specs.Config.{ListPlan};
+ghost use Rattle.sampler.specs.History.{has_list};
+ghost use Rattle.sampler.specs.Sets.{IsSetOf};
+ghost use Rattle.sampler.specs.State.{RiseFrom, found_at, place_of};
+ghost use Rattle.sampler.specs.inner.Fits.{first_track, list_runs};
+ghost use Rattle.sampler.specs.declared.track.Track.{Track};
+
+use crate::counts::ListCounts;
+use crate::list_sets::with_list;
+use crate::track::{FIRST_TRACK, Track};
+use copy_plan::CopyPlan;
+
+/// The DAQ lists of an event channel: a plan of each, in rising list number, and at its place what
+/// is kept of it.
+#[derive(Drop)]
+pub struct Lists {
+    pub plans: Vec<CopyPlan>,
+    pub tracks: [Track; 16],
+}
+
+impl Lists {
+    /// The lists of some plans, which were never due; those in the set run.
+    pub fn new(plans: Vec<CopyPlan>, running: u16) -> Lists
+        requires { length plans.items ≤ MAX_LISTS }
+        ensures plans { result.plans ≡ plans }
+        ensures tracks { take (length plans.items) result.tracks
+            ≡ map (λ (plan : ListPlan). first_track running plan.list) plans.items }
+        ensures places { length result.tracks ≡ MAX_LISTS }
+    {
+        let tracks = first_tracks(plans.as_slice(), running);
+        Lists { plans, tracks }
+    }
+
+    /// The place of a list.
+    pub fn place_of(&self, l: u8) -> Option<usize>
+        ensures { result ≡ place_of l self.now.plans.items }
+    {
+        self.plans
+            .as_slice()
+            .iter()
+            .position(|plan| plan.list() == l)
+    }
+
+    /// The set of all lists.
+    pub fn set(&self) -> u16
+        ensures { IsSetOf result self.now.plans.items }
+    {
+        set_of(self.plans.as_slice())
+    }
+
+    /// The set of the lists that run.
+    pub fn running(&self) -> u16
+        requires rising { RiseFrom 0 self.now.plans.items }
+        requires room { length self.now.plans.items ≤ length self.now.tracks }
+        ensures { (k : ℕ) → has_list result k ≡ list_runs k self.now.plans.items
+            (take (length self.now.plans.items) self.now.tracks) }
+    {
+        running_of(self.plans.as_slice(), &self.tracks)
+    }
+
+    /// How often a list was due, and what became of its samples; `None` where it isn't there.
+    pub fn counts(&self, l: u8) -> Option<ListCounts>
+        requires room { length self.now.plans.items ≤ length self.now.tracks }
+        ensures { result ≡ option_map (λ (track : Track). track.counts)
+            (found_at l self.now.plans.items (take (length self.now.plans.items) self.now.tracks)) }
+    {
+        let place = self.place_of(l)?;
+        Some(self.tracks[place].counts)
+    }
+}
+
+/// That of a list that was never due; it runs where it is in the set.
+fn first_track(running: u16, l: u8) -> Track
+    requires { l < MAX_LISTS }
+    ensures { result ≡ first_track running l }
+{
+    Track {
+        running: running >> l & 1 == 1,
+        ..FIRST_TRACK
+    }
+}
+
+/// What is kept of the lists of some plans at the opening, each at the place of its plan.
+fn first_tracks(plans: &[CopyPlan], running: u16) -> [Track; 16]
+    requires { length plans.now ≤ MAX_LISTS }
+    ensures kept { take (length plans.now) result
+        ≡ map (λ (plan : ListPlan). first_track running plan.list) plans.now }
+    ensures places { length result ≡ MAX_LISTS }
+{
+    let mut tracks = [FIRST_TRACK; 16];
+    for place in 0..plans.len() {
+        tracks[place] = first_track(running, plans[place].list());
+    }
+    tracks
+}
+
+/// The lists of some plans.
+fn set_of(plans: &[CopyPlan]) -> u16
+    ensures { IsSetOf result plans.now }
+{
+    let mut set = 0;
+    for place in 0..plans.len() {
+        set = with_list(set, plans[place].list());
+    }
+    set
+}
+
+/// Adds a list to a set, if it runs.
+fn with_running(set: u16, l: u8, running: bool) -> u16
+    requires { l < MAX_LISTS }
+    ensures { (k : ℕ) → has_list result k ≡ (has_list set k || (running && nat_eq l k)) }
+{
+    if running { with_list(set, l) } else { set }
+}
+
+/// Those of the lists of some plans that run.
+fn running_of(plans: &[CopyPlan], tracks: &[Track]) -> u16
+    requires rising { RiseFrom 0 plans.now }
+    requires room { length plans.now ≤ length tracks.now }
+    ensures { (k : ℕ) → has_list result k
+        ≡ list_runs k plans.now (take (length plans.now) tracks.now) }
+{
+    let mut set = 0;
+    for place in 0..plans.len() {
+        set = with_running(set, plans[place].list(), tracks[place].running);
+    }
+    set
+}
