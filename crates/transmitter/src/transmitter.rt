@@ -7,9 +7,9 @@ use crate::pumped::Pumped;
 use crate::turn::Turn;
 use channel_ring::{Beside, TakeEnd};
 use frame_writer::{FrameWriter, Out};
-use sampler::{Sampler, with_list};
-use xcp_base::Sample;
+use sampler::Sampler;
 use xcp_base::limits::MAX_TAKEN;
+use xcp_base::{Sample, with_list};
 
 /// The transmitter: it takes items from the rings of all event channels in turn, and writes the
 /// samples as frames.
