@@ -9,7 +9,7 @@ use Rattle.daq_store.specs.declared.command.Command.{Command}
 use Rattle.daq_store.specs.declared.entry.Entry.{Entry}
 use Rattle.daq_store.specs.declared.list_state.ListState.{ListState}
 use Rattle.daq_store.specs.Calls.{numbers_below}
-use Rattle.daq_store.specs.Shape.{list_count, odt_count, entry_count, has_list, has_odt, has_entry, odts_before}
+use Rattle.daq_store.specs.Shape.{list_count, odt_count, entry_count, is_list, has_odt, has_entry, odts_before}
 use Rattle.daq_store.specs.Entries.{odt_of, written}
 use Rattle.daq_store.specs.Running.{is_active, is_chosen, any_list}
 use Rattle.daq_store.specs.Configuration.{configuration, fresh, odt_entries, is_ready, list_is_ready}
@@ -42,8 +42,8 @@ pub get_stands : (s : StoreState) (calls : List Command) (l : ℕ) (d : ListStat
 get_stands s calls l d h inside =
     ap (λ xs. get_or xs l d) h.lists ∙ get_or-map-range_with_len (list_after calls) 0 (list_count calls) l l d inside (zero-add l)
 
-pub has_list_stands : (s : StoreState) (calls : List Command) (l : ℕ) → StandsAfter s calls → has_list calls l ≡ shows_list s l
-has_list_stands s calls l h = ap (nat_lt l) (sym (count_stands s calls h))
+pub is_list_stands : (s : StoreState) (calls : List Command) (l : ℕ) → StandsAfter s calls → is_list calls l ≡ shows_list s l
+is_list_stands s calls l h = ap (nat_lt l) (sym (count_stands s calls h))
 
 -- what is shown of a list, at a place that is there, and past the last
 pub at_stands : (s : StoreState) (calls : List Command) (l : ℕ) → StandsAfter s calls → l < list_count calls
@@ -207,14 +207,14 @@ abbrev pub IsReadyAt : StoreState → ℕ → Type 0
 IsReadyAt s l = (l < length s.lists) × (is_ready s.profile.image_len (conf_of s l) ≡ true)
 
 pub ready_after : (s : StoreState) (calls : List Command) (l : ℕ) → StandsAfter s calls → IsReadyAt s l
-    → (has_list calls l && list_is_ready s.profile calls l) ≡ true
+    → (is_list calls l && list_is_ready s.profile calls l) ≡ true
 ready_after s calls l h ready =
-    let there : has_list calls l ≡ true = has_list_stands s calls l h ∙ below_is l (length s.lists) ready.0 in
+    let there : is_list calls l ≡ true = is_list_stands s calls l h ∙ below_is l (length s.lists) ready.0 in
     rw (there, ready_stands s calls l h ready.0) ready.1
 
 pub ready_before : (s : StoreState) (calls : List Command) (l : ℕ) → StandsAfter s calls
-    → (has_list calls l && list_is_ready s.profile calls l) ≡ true → IsReadyAt s l
+    → (is_list calls l && list_is_ready s.profile calls l) ≡ true → IsReadyAt s l
 ready_before s calls l h both =
-    let there : shows_list s l ≡ true = sym (has_list_stands s calls l h) ∙ and_left _ _ both in
+    let there : shows_list s l ≡ true = sym (is_list_stands s calls l h) ∙ and_left _ _ both in
     let inside : l < length s.lists = below_from _ _ there in
     (inside, sym (ready_stands s calls l h inside) ∙ and_right _ _ both)

@@ -8,7 +8,7 @@ use Rattle.daq_store.specs.declared.command.Command.TheVariants.{FreeDaq, AllocD
 use Rattle.daq_store.specs.declared.reply.Reply.{Reply}
 use Rattle.daq_store.specs.declared.reply.Reply.TheVariants.{Positive, Started, Error}
 use Rattle.daq_store.specs.Calls.{Profile, and_then}
-use Rattle.daq_store.specs.Shape.{phase_of, list_count, has_list, has_odt, has_entry, odts_before, forbids_lists, forbids_odts, forbids_entries}
+use Rattle.daq_store.specs.Shape.{phase_of, list_count, is_list, has_odt, has_entry, odts_before, forbids_lists, forbids_odts, forbids_entries}
 use Rattle.daq_store.specs.Pointer.{pointer}
 use Rattle.daq_store.specs.Running.{is_running, is_selected, is_active, any_list}
 use Rattle.daq_store.specs.Configuration.{list_is_ready}
@@ -38,7 +38,7 @@ checks profile calls (AllocDaq count) =
 checks profile calls (AllocOdt list count) =
     (any_list calls (is_running calls), DaqActive)
     ∷ (forbids_odts (phase_of calls), Sequence)
-    ∷ (not (has_list calls list), OutOfRange)
+    ∷ (not (is_list calls list), OutOfRange)
     ∷ (are_too_many calls list count, MemoryOverflow) ∷ []
 checks profile calls (AllocOdtEntry list odt count) =
     (any_list calls (is_running calls), DaqActive)
@@ -54,10 +54,10 @@ checks profile calls (WriteDaq bit size ext addr) =
     ∷ (is_bad_entry profile.image_len bit size ext addr, OutOfRange) ∷ []
 checks profile calls (SetDaqListMode mode list channel prescaler priority) =
     (is_active calls list, DaqActive)
-    ∷ (not (has_list calls list) || not (nat_lt channel profile.channels) || prescaler == 0, OutOfRange)
+    ∷ (not (is_list calls list) || not (nat_lt channel profile.channels) || prescaler == 0, OutOfRange)
     ∷ (not (mode == 0 || mode == 0x10), ModeNotValid) ∷ []
 checks profile calls (StartStopDaqList mode list) =
-    (not (has_list calls list), OutOfRange)
+    (not (is_list calls list), OutOfRange)
     ∷ (nat_lt 2 mode, ModeNotValid)
     ∷ (mode == 1 && not (list_is_ready profile calls list), DaqConfig) ∷ []
 checks profile calls (StartStopSynch mode) =

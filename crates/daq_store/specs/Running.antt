@@ -6,7 +6,7 @@ use Rattle.std.specs.List.{list_any}
 use Rattle.daq_store.specs.declared.command.Command.{Command}
 use Rattle.daq_store.specs.declared.command.Command.TheVariants.{AllocDaq, StartStopDaqList, StartStopSynch}
 use Rattle.daq_store.specs.Calls.{numbers_below}
-use Rattle.daq_store.specs.Shape.{list_count, has_list}
+use Rattle.daq_store.specs.Shape.{list_count, is_list}
 
 -- list l is selected where the last START_STOP_DAQ_LIST of l, START_STOP_SYNCH or ALLOC_DAQ is a START_STOP_DAQ_LIST of
 -- mode 2
@@ -30,10 +30,10 @@ is_running (_ ∷ earlier) l = is_running earlier l
 
 -- list l exists and runs, exists and is selected
 abbrev pub is_active : List Command → ℕ → Bool
-is_active calls l = has_list calls l && is_running calls l
+is_active calls l = is_list calls l && is_running calls l
 
 abbrev pub is_chosen : List Command → ℕ → Bool
-is_chosen calls l = has_list calls l && is_selected calls l
+is_chosen calls l = is_list calls l && is_selected calls l
 
 -- some list passes the test
 abbrev pub any_list : List Command → (ℕ → Bool) → Bool

@@ -39,11 +39,11 @@ entry_count (AllocOdtEntry list odt count ∷ earlier) l k =
 entry_count (_ ∷ earlier) l k = entry_count earlier l k
 
 -- there is such a list, such an ODT, such an entry
-abbrev pub has_list : List Command → ℕ → Bool
-has_list calls l = nat_lt l (list_count calls)
+abbrev pub is_list : List Command → ℕ → Bool
+is_list calls l = nat_lt l (list_count calls)
 
 abbrev pub has_odt : List Command → ℕ → ℕ → Bool
-has_odt calls l k = has_list calls l && nat_lt k (odt_count calls l)
+has_odt calls l k = is_list calls l && nat_lt k (odt_count calls l)
 
 abbrev pub has_entry : List Command → ℕ → ℕ → ℕ → Bool
 has_entry calls l k e = has_odt calls l k && nat_lt e (entry_count calls l k)

@@ -9,7 +9,7 @@ use Rattle.daq_store.specs.declared.reply.Reply.{Reply}
 use Rattle.daq_store.specs.declared.reply.Reply.TheVariants.{Error}
 use Rattle.daq_store.specs.declared.list_state.ListState.{ListState}
 use Rattle.daq_store.specs.Calls.{Profile, and_then, numbers_below}
-use Rattle.daq_store.specs.Shape.{list_count, phase_of, has_list, odts_before}
+use Rattle.daq_store.specs.Shape.{list_count, phase_of, is_list, odts_before}
 use Rattle.daq_store.specs.Pointer.{pointer}
 use Rattle.daq_store.specs.Running.{is_running, is_selected}
 use Rattle.daq_store.specs.Configuration.{Configuration, configuration, fresh, odt_entries, is_ready}
@@ -75,7 +75,7 @@ first_pid_of s l = sum_by odts_of (take l s.lists)
 
 -- FIRST_PID of list l, if there is one
 abbrev pub first_pid_after : List Command → ℕ → Option ℕ
-first_pid_after calls l = if has_list calls l then Some (odts_before calls l) else None
+first_pid_after calls l = if is_list calls l then Some (odts_before calls l) else None
 
 -- a list that runs is ready
 abbrev pub RunsReady : ℕ → ListState → Type 0

@@ -41,7 +41,7 @@ impl Store {
         ensures total { OnOk result (other_odts self.now list + count ≤ 124) }
     {
         self.check_allocation(self.phase.forbids_odts())?;
-        if !self.has_list(list) {
+        if !self.is_list(list) {
             return Err(ErrCode::OutOfRange);
         }
         if self.has_too_many(list, count) {
@@ -168,7 +168,7 @@ impl Store {
         ensures ready { OnOk result ((mode == 1 && shows_unready self.now list) ≡ false) }
     {
         // No mode makes a list that isn't there.
-        if !self.has_list(list) {
+        if !self.is_list(list) {
             return Err(ErrCode::OutOfRange);
         }
         if mode > SELECT {
@@ -204,7 +204,7 @@ impl Store {
     }
 
     /// Whether there is such a list.
-    fn has_list(&self, list: u16) -> bool
+    fn is_list(&self, list: u16) -> bool
         ensures { result ≡ shows_list self.now list }
     {
         (list as usize) < self.lists.len()
@@ -268,7 +268,7 @@ impl Store {
         ensures value { result ≡ is_bad_target self.now list channel prescaler }
         ensures channel { result ≡ false → channel < 8 }
     {
-        !self.has_list(list) || channel >= self.channels || prescaler == 0
+        !self.is_list(list) || channel >= self.channels || prescaler == 0
     }
 
     /// Whether this is the start of a list that isn't ready.

@@ -1,7 +1,7 @@
 //! What the store shows.
 
 ghost use Rattle.std.specs.Prelude.{◌≡◌, ◌+◌, ◌<◌, ◌≤◌, ◌↔◌, ◌&&◌, List, true, IsTrue, IsSome, IfSome, length};
-ghost use Rattle.daq_store.specs.Shape.{list_count, has_list};
+ghost use Rattle.daq_store.specs.Shape.{list_count, is_list};
 ghost use Rattle.daq_store.specs.Pointer.{pointer};
 ghost use Rattle.daq_store.specs.Running.{is_active, is_chosen};
 ghost use Rattle.daq_store.specs.Configuration.{is_ready, list_is_ready, configuration};
@@ -96,7 +96,7 @@ impl Store {
         ensures value { IfSome result (λ conf. conf.now ≡ conf_of self.now list) }
         ensures ready_after { (calls : List Command) → StandsAfter self.now calls
             → IsSome result
-            ↔ ((has_list calls list && list_is_ready self.now.profile calls list) ≡ true) }
+            ↔ ((is_list calls list && list_is_ready self.now.profile calls list) ≡ true) }
         ensures value_after { (calls : List Command) → StandsAfter self.now calls
             → IfSome result (λ conf. conf.now ≡ configuration calls list) }
     {

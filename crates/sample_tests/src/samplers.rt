@@ -6,11 +6,11 @@ use crate::plans::plan_behind;
 use crate::same::same;
 use channel_ring::{ListSend, SampleRing, SendEnd, TakeEnd, TakeHalf};
 use copy_plan::CopyPlan;
-use sampler::{ListCounts, Sampler, StartFault, StopFault, Taken, TriggerFault, with_list};
+use sampler::{ListCounts, Sampler, StartFault, StopFault, Taken, TriggerFault};
 use std::alloc::Global;
 use std::process::Abort;
 use std::test::Fail;
-use xcp_base::Item;
+use xcp_base::{Item, with_list};
 
 /// The plan of a list of channel 0 for images of two bytes, which stands behind lists of so many ODTs.
 fn plan_of(alloc: Global, before: &[u8], prescaler: u8, entry: (u32, u8)) -> Result<CopyPlan, Fail>

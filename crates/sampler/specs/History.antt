@@ -2,9 +2,9 @@
 use Rattle.std.specs.Prelude.{ℕ, ◌%◌, Bool, true, false, ◌&&◌, not, nat_eq, Option, None, Some}
 use Rattle.std.specs.Prelude.{List, [], ◌∷◌, ◌++◌, length, map, reverse, filter, find, flat_map}
 use Rattle.std.specs.Prelude.{count_by, take_while}
-use Rattle.std.specs.Int.{bit_at}
 use Rattle.std.specs.List.{list_any}
 use Rattle.copy_plan.specs.Config.{ListPlan}
+pub use Rattle.xcp_base.specs.Lists.{has_list}
 
 -- what the sampler of a channel accepted: a trigger with its image and timestamp, a start or a stop
 -- of a DAQ list
@@ -19,10 +19,6 @@ pub record Opening : Type 0 where
   pub channel : ℕ
   pub plans : List ListPlan
   pub running : ℕ
-
--- list l is in a set of lists
-abbrev pub has_list : ℕ → ℕ → Bool
-has_list set l = nat_eq (bit_at set l) 1
 
 -- list l is of the channel
 abbrev pub is_list_of : Opening → ℕ → Bool

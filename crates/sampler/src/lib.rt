@@ -6,7 +6,6 @@ mod at_trigger;
 mod counts;
 mod faults;
 pub mod laws;
-mod list_sets;
 mod lists;
 mod moment;
 mod offering;
@@ -17,7 +16,6 @@ mod track;
 
 pub use counts::ListCounts;
 pub use faults::{StartFault, StopFault, TriggerFault};
-pub use list_sets::with_list;
 pub use sampler::Sampler;
 pub use sampler_end::SamplerEnd;
 pub use taken::Taken;

@@ -9,9 +9,9 @@ ghost use Rattle.sampler.specs.inner.Fits.{first_track, list_runs};
 ghost use Rattle.sampler.specs.declared.track.Track.{Track};
 
 use crate::counts::ListCounts;
-use crate::list_sets::with_list;
 use crate::track::{FIRST_TRACK, Track};
 use copy_plan::CopyPlan;
+use xcp_base::{has_list, with_list, with_list_if};
 
 /// The DAQ lists of an event channel: a plan of each, in rising list number, and at its place what
 /// is kept of it.
@@ -78,7 +78,7 @@ fn first_track(running: u16, l: u8) -> Track
     ensures { result ≡ first_track running l }
 {
     Track {
-        running: running >> l & 1 == 1,
+        running: has_list(running, l),
         ..FIRST_TRACK
     }
 }
@@ -108,14 +108,6 @@ fn set_of(plans: &[CopyPlan]) -> u16
     set
 }
 
-/// Adds a list to a set, if it runs.
-fn with_running(set: u16, l: u8, running: bool) -> u16
-    requires { l < MAX_LISTS }
-    ensures { (k : ℕ) → has_list result k ≡ (has_list set k || (running && nat_eq l k)) }
-{
-    if running { with_list(set, l) } else { set }
-}
-
 /// Those of the lists of some plans that run.
 fn running_of(plans: &[CopyPlan], tracks: &[Track]) -> u16
     requires rising { RiseFrom 0 plans.now }
@@ -125,7 +117,7 @@ fn running_of(plans: &[CopyPlan], tracks: &[Track]) -> u16
 {
     let mut set = 0;
     for place in 0..plans.len() {
-        set = with_running(set, plans[place].list(), tracks[place].running);
+        set = with_list_if(set, plans[place].list(), tracks[place].running);
     }
     set
 }

@@ -1,9 +1,9 @@
 ghost use Rattle.std.specs.Prelude.{◌≡◌};
 ghost use Rattle.sampler.specs.inner.AtTrigger.{Adds, row_of};
 
-use crate::list_sets::with_list;
 use crate::track::Track;
 use copy_plan::CopyPlan;
+use xcp_base::with_list;
 
 /// What a trigger did, as sets of DAQ lists in which bit `l` stands for list `l`.
 #[derive(Clone, Copy, Debug, PartialEq, Eq)]

@@ -4,12 +4,14 @@
 mod err_code;
 mod item;
 pub mod limits;
+mod list_set;
 mod packets;
 mod sample;
 mod stop_mark;
 
 pub use err_code::ErrCode;
 pub use item::Item;
+pub use list_set::{has_list, with_list, with_list_if};
 pub use packets::{Full, Packets};
 pub use sample::Sample;
 pub use stop_mark::StopMark;
