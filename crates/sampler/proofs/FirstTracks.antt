@@ -14,7 +14,8 @@ use Rattle.std.specs.List.{position_or_len}
 use Rattle.channel_ring.specs.declared.ends.SendEnd.{Ghosts as SendGhosts}
 use Rattle.channel_ring.specs.declared.ends.RingEnd.{Ghosts as EndGhosts}
 use Rattle.copy_plan.specs.Config.{ListPlan}
-use Rattle.sampler.specs.History.{Event, Trigger, Opening, has_list, runs_after, triggers_since_start, due, with_past}
+use Rattle.xcp_base.specs.Lists.{has_list}
+use Rattle.sampler.specs.History.{Event, Trigger, Opening, runs_after, triggers_since_start, due, with_past}
 use Rattle.sampler.specs.Past.{first_past}
 use Rattle.sampler.specs.Decisions.{overload_pending}
 use Rattle.sampler.specs.Items.{items}

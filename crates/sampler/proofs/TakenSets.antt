@@ -4,7 +4,7 @@ use Rattle.std.specs.List.{list_any}
 use Rattle.std.proofs.lemmas.Bool.{ne_eqb}
 use Rattle.std.proofs.lemmas.Bool.Decides.{nat_tests, eqb_tells}
 use Rattle.copy_plan.specs.Config.{ListPlan}
-use Rattle.sampler.specs.History.{has_list}
+use Rattle.xcp_base.specs.Lists.{has_list}
 use Rattle.sampler.specs.Sets.{are_in}
 use Rattle.sampler.specs.State.{RiseFrom}
 use Rattle.sampler.specs.inner.AtTrigger.{Row, due_now}

@@ -5,7 +5,8 @@ use Rattle.std.proofs.Math.Nat.{zero-mod}
 use Rattle.std.proofs.lemmas.List.{reverse-append}
 use Rattle.std.proofs.lemmas.List.Sums.{sum_by-cons, take_while-cons}
 use Rattle.copy_plan.specs.Config.{ListPlan}
-use Rattle.sampler.specs.History.{Event, Trigger, Start, Stop, Opening, due, due_at, runs_after, runs_since, triggers_since_start, is_trigger, is_start, is_start_or_stop, has_list}
+use Rattle.xcp_base.specs.Lists.{has_list}
+use Rattle.sampler.specs.History.{Event, Trigger, Start, Stop, Opening, due, due_at, runs_after, runs_since, triggers_since_start, is_trigger, is_start, is_start_or_stop}
 use Rattle.sampler.specs.Decisions.{decided, pairs_of, overload_pending}
 use Rattle.sampler.specs.Tracks.{track_of, phase_after, counts_of}
 use Rattle.sampler.proofs.Histories.{due-more, append_nil}

@@ -7,7 +7,8 @@ use Rattle.channel_ring.specs.Room.{units, units-append}
 use Rattle.channel_ring.specs.declared.ends.SendEnd.{Ghosts as SendGhosts}
 use Rattle.channel_ring.specs.declared.ends.RingEnd.{Ghosts as EndGhosts}
 use Rattle.copy_plan.specs.Config.{ListPlan}
-use Rattle.sampler.specs.History.{Event, Trigger, Opening, due, due_at, has_list}
+use Rattle.xcp_base.specs.Lists.{has_list}
+use Rattle.sampler.specs.History.{Event, Trigger, Opening, due, due_at}
 use Rattle.sampler.specs.Past.{Past, one_more}
 use Rattle.sampler.specs.Decisions.{accepted_in}
 use Rattle.sampler.specs.Items.{items, items_at, sample, samples_from}

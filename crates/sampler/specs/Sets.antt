@@ -2,7 +2,7 @@
 use Rattle.std.specs.Prelude.{◌≡◌, ℕ, Bool, List, map, nat_eq}
 use Rattle.std.specs.List.{list_any}
 use Rattle.copy_plan.specs.Config.{ListPlan}
-use Rattle.sampler.specs.History.{has_list}
+use Rattle.xcp_base.specs.Lists.{has_list}
 
 -- the set has the lists of these plans and no others
 abbrev pub IsSetOf : ℕ → List ListPlan → Type 0

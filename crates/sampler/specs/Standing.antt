@@ -6,7 +6,8 @@ use Rattle.channel_ring.specs.Room.{units}
 use Rattle.channel_ring.specs.declared.ends.SendEnd.{Ghosts as SendGhosts}
 use Rattle.channel_ring.specs.declared.ends.RingEnd.{Ghosts as EndGhosts}
 use Rattle.copy_plan.specs.Config.{ListPlan}
-use Rattle.sampler.specs.History.{Event, Trigger, is_trigger, due, due_at, has_list}
+use Rattle.xcp_base.specs.Lists.{has_list}
+use Rattle.sampler.specs.History.{Event, Trigger, is_trigger, due, due_at}
 use Rattle.sampler.specs.Past.{Past, due_next, one_more}
 use Rattle.sampler.specs.Decisions.{decided, pairs_of, accepted_in}
 use Rattle.sampler.specs.Items.{items, items_at, sample}

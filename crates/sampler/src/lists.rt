@@ -1,8 +1,7 @@
 ghost use Rattle.std.specs.Prelude.{◌≡◌, ℕ, ◌<◌, ◌≤◌, ◌&&◌, ◌||◌, length, map, take, nat_eq};
 ghost use Rattle.std.specs.Prelude.{option_map};
-ghost use Rattle.xcp_base.specs.declared.limits.TheConstants.{MAX_LISTS};
 ghost use Rattle.copy_plan.specs.Config.{ListPlan};
-ghost use Rattle.sampler.specs.History.{has_list};
+ghost use Rattle.xcp_base.specs.Lists.{has_list};
 ghost use Rattle.sampler.specs.Sets.{IsSetOf};
 ghost use Rattle.sampler.specs.State.{RiseFrom, found_at, place_of};
 ghost use Rattle.sampler.specs.inner.Fits.{first_track, list_runs};
@@ -11,14 +10,18 @@ ghost use Rattle.sampler.specs.declared.track.Track.{Track};
 use crate::counts::ListCounts;
 use crate::track::{FIRST_TRACK, Track};
 use copy_plan::CopyPlan;
+use xcp_base::limits::MAX_LISTS;
 use xcp_base::{has_list, with_list, with_list_if};
+
+/// The places for what is kept of lists: one for each list that there may be.
+const PLACES: usize = MAX_LISTS as usize;
 
 /// The DAQ lists of an event channel: a plan of each, in rising list number, and at its place what
 /// is kept of it.
 #[derive(Drop)]
 pub struct Lists {
     pub plans: Vec<CopyPlan>,
-    pub tracks: [Track; 16],
+    pub tracks: [Track; PLACES],
 }
 
 impl Lists {
@@ -84,13 +87,13 @@ fn first_track(running: u16, l: u8) -> Track
 }
 
 /// What is kept of the lists of some plans at the opening, each at the place of its plan.
-fn first_tracks(plans: &[CopyPlan], running: u16) -> [Track; 16]
+fn first_tracks(plans: &[CopyPlan], running: u16) -> [Track; PLACES]
     requires { length plans.now ≤ MAX_LISTS }
     ensures kept { take (length plans.now) result
         ≡ map (λ (plan : ListPlan). first_track running plan.list) plans.now }
     ensures places { length result ≡ MAX_LISTS }
 {
-    let mut tracks = [FIRST_TRACK; 16];
+    let mut tracks = [FIRST_TRACK; PLACES];
     for place in 0..plans.len() {
         tracks[place] = first_track(running, plans[place].list());
     }

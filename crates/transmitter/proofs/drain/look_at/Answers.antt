@@ -38,11 +38,11 @@ returns-clause-stay g c =
     let v = c.index_mut-take.ensures.value in
     let e = c.index-ends-c.result in
     record {
-      rings = map-set_same k.ring xs c.args.c c.after.new.take c.index_mut-take.result.now (c.after.ensures.take_ring ∙ ap k.ring v);
-      received = map-set_same k.received xs c.args.c c.after.new.take c.index_mut-take.result.now (c.after.ensures.received ∙ ap k.received v);
+      rings = map-set_same k.ring xs c.args.c c.after.new.take c.index_mut-take.result.now (c.after.ensures.take_ring_stays ∙ ap k.ring v);
+      received = map-set_same k.received xs c.args.c c.after.new.take c.index_mut-take.result.now (c.after.ensures.received_stays ∙ ap k.received v);
       ends = record {
-        rings = map-set_same (λ (x : SamplerEndState g.row.T-End.Denot). r.ring x.end) ys c.args.c c.after.new.self e c.after.ensures.ring;
-        ends = map-set_same (joined r) ys c.args.c c.after.new.self e (joined-after r (get_or ys c.args.c e) c.after.new.self c.after.ensures.rest c.after.ensures.sent);
+        rings = map-set_same (λ (x : SamplerEndState g.row.T-End.Denot). r.ring x.end) ys c.args.c c.after.new.self e c.after.ensures.ring_stays;
+        ends = map-set_same (joined r) ys c.args.c c.after.new.self e (joined-after r (get_or ys c.args.c e) c.after.new.self c.after.ensures.rest_stays c.after.ensures.sent_stays);
       };
     }
 

@@ -1,5 +1,5 @@
 use Rattle.std.proofs.Common.{◌≡◌, ap, ◌∙◌}
-use Rattle.sampler.specs.History.{has_list}
+use Rattle.xcp_base.specs.Lists.{has_list}
 use Rattle.sampler.specs.State.{runs_in}
 use Rattle.sampler.proofs.Readers.{sampler-runs}
 use Rattle.sampler.proofs.sampler.Sampler.running.Goals as goal
