@@ -1,4 +1,5 @@
-//! What every layer speaks of: the limits of the profile, its error codes, packets, samples and items.
+//! What every layer speaks of: the limits of the profile, its error codes, packets, samples, items,
+//! and sets of DAQ lists.
 #![tactic(auto)]
 
 mod err_code;
