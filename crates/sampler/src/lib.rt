@@ -9,6 +9,7 @@ pub mod laws;
 mod lists;
 mod moment;
 mod offering;
+mod opening;
 mod sampler;
 mod sampler_end;
 mod taken;

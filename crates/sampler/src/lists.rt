@@ -1,5 +1,4 @@
-ghost use Rattle.std.specs.Prelude.{◌≡◌, ℕ, ◌<◌, ◌≤◌, ◌&&◌, ◌||◌, length, map, take, nat_eq};
-ghost use Rattle.std.specs.Prelude.{option_map};
+ghost use Rattle.std.specs.Prelude.{◌≡◌, ℕ, ◌≤◌, length, map, take, option_map};
 ghost use Rattle.copy_plan.specs.Config.{ListPlan};
 ghost use Rattle.xcp_base.specs.Lists.{has_list};
 ghost use Rattle.sampler.specs.Sets.{IsSetOf};
@@ -8,13 +7,11 @@ ghost use Rattle.sampler.specs.inner.Fits.{first_track, list_runs};
 ghost use Rattle.sampler.specs.declared.track.Track.{Track};
 
 use crate::counts::ListCounts;
-use crate::track::{FIRST_TRACK, Track};
+use crate::opening::{PLACES, first_tracks};
+use crate::track::Track;
 use copy_plan::CopyPlan;
 use xcp_base::limits::MAX_LISTS;
-use xcp_base::{has_list, with_list, with_list_if};
-
-/// The places for what is kept of lists: one for each list that there may be.
-const PLACES: usize = MAX_LISTS as usize;
+use xcp_base::{with_list, with_list_if};
 
 /// The DAQ lists of an event channel: a plan of each, in rising list number, and at its place what
 /// is kept of it.
@@ -73,31 +70,6 @@ impl Lists {
         let place = self.place_of(l)?;
         Some(self.tracks[place].counts)
     }
-}
-
-/// That of a list that was never due; it runs where it is in the set.
-fn first_track(running: u16, l: u8) -> Track
-    requires { l < MAX_LISTS }
-    ensures { result ≡ first_track running l }
-{
-    Track {
-        running: has_list(running, l),
-        ..FIRST_TRACK
-    }
-}
-
-/// What is kept of the lists of some plans at the opening, each at the place of its plan.
-fn first_tracks(plans: &[CopyPlan], running: u16) -> [Track; PLACES]
-    requires { length plans.now ≤ MAX_LISTS }
-    ensures kept { take (length plans.now) result
-        ≡ map (λ (plan : ListPlan). first_track running plan.list) plans.now }
-    ensures places { length result ≡ MAX_LISTS }
-{
-    let mut tracks = [FIRST_TRACK; PLACES];
-    for place in 0..plans.len() {
-        tracks[place] = first_track(running, plans[place].list());
-    }
-    tracks
 }
 
 /// The lists of some plans.

@@ -5,7 +5,7 @@ use Rattle.copy_plan.specs.Config.{ListPlan}
 use Rattle.sampler.specs.inner.Fits.{first_track}
 use Rattle.sampler.proofs.Handled.{map-append_of}
 use Rattle.sampler.proofs.FirstTracks.{take-set-suc}
-use Rattle.sampler.proofs.lists.first_tracks.Goals as goal
+use Rattle.sampler.proofs.opening.first_tracks.Goals as goal
 
 pub loop-place-preserved : goal.loop-place-preserved
 loop-place-preserved c =
