@@ -4,7 +4,8 @@ use crate::byte_log::ByteLog;
 use frame_writer::{Out, OutFault};
 use std::alloc::{AllocError, Global};
 
-/// A writer into memory that is made once: what finds no room behind the bytes before it goes to the front again.
+/// A writer into memory that is made once: what finds no room behind the bytes before it goes to
+/// the front again.
 #[derive(Drop)]
 pub struct RoundOut {
     memory: Vec<u8>,

@@ -5,7 +5,7 @@ use Rattle.std.proofs.lemmas.List.{length-map, map-append}
 use Rattle.channel_ring.specs.declared.ends.SendEnd.{Ghosts as SendGhosts}
 use Rattle.channel_ring.specs.declared.ends.RingEnd.{Ghosts as EndGhosts}
 use Rattle.sampler.specs.History.{Event, Opening}
-use Rattle.sampler.specs.State.{SamplerEndState, SamplerState, joined}
+use Rattle.sampler.specs.State.{JoinedEnd, SamplerEndState, SamplerState, joined}
 use Rattle.sampler.specs.Standing.{EndStandsAfter, StandsAfter}
 use Rattle.daq_engine.specs.Configuration.{Past}
 use Rattle.daq_engine.specs.Standings.{EndsStandInOrder, StandInOrder}
@@ -53,3 +53,8 @@ module _ {S E : Type 0} (send : SendGhosts S E) (ring : EndGhosts E) (past : ℕ
             subst (λ k. EndStandsAfter e (past k).opening (past k).history (past k).decisions) (sym (last.0 ∙ many))
             (subst (λ j. EndStandsAfter j (past (length ys)).opening (past (length ys)).history (past (length ys)).decisions) last.1 now)
       ]
+
+-- a joined end has the capacity of the end
+pub capacities-joined : {E : Type 0} (ring : EndGhosts E) (es : List (SamplerEndState E)) → map (λ (e : JoinedEnd). e.capacity) (map (joined ring) es) ≡ map (λ (e : SamplerEndState E). e.capacity) es
+capacities-joined ring [] = refl
+capacities-joined ring (e ∷ es) = ap (λ ns. e.capacity ∷ ns) (capacities-joined ring es)
