@@ -14,6 +14,7 @@ units-ones [] = refl
 units-ones (x ∷ xs) = omega (arith, units-ones xs)
 
 -- joined lists take up what both take up
-pub units-append : (cost : Item → ℕ) (xs ys : List Item) → units cost (xs ++ ys) ≡ units cost xs + units cost ys
+pub units-append : (cost : Item → ℕ) (xs ys : List Item)
+    → units cost (xs ++ ys) ≡ units cost xs + units cost ys
 units-append cost [] ys = omega arith
 units-append cost (x ∷ xs) ys = omega (arith, units-append cost xs ys)

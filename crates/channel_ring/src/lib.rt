@@ -1,4 +1,5 @@
-//! The ends of an event channel's ring: what samplers and transmitters ask of them, a lock-free ring, and a send end over a vector.
+//! The ends of an event channel's ring: what samplers and transmitters ask of them, a lock-free
+//! ring, and a send end over a vector.
 #![tactic(auto)]
 
 mod ends;

@@ -8,10 +8,10 @@ use Rattle.std.proofs.lemmas.List.Elements.{All-nil, All-cons, All-head, All-tai
 use Rattle.std.proofs.lemmas.Bool.Decides.{eqb_tells}
 use Rattle.copy_plan.specs.declared.runs.Run.{Run}
 use Rattle.daq_store.specs.declared.entry.Entry.{Entry}
-use Rattle.copy_plan.specs.Config.{OdtEntry, IsInside, written}
+use Rattle.copy_plan.specs.Config.{OdtEntry, IsInside, written_entries}
 use Rattle.copy_plan.specs.Packet.{elements}
 use Rattle.copy_plan.specs.Runs.{continues, runs_needed}
-use Rattle.copy_plan.specs.Joined.{with_bytes, joined, copied, IsRunInside}
+use Rattle.copy_plan.specs.Joined.{with_bytes, joined_runs, copied, IsRunInside}
 
 -- bytes that end where the first run begins are joined with it, other bytes are a run of their own
 joins : (start end : ℕ) (r : Run) (rs : List Run) → r.start ≡ end → with_bytes start end (r ∷ rs) ≡ record { start = start; end = r.end } ∷ rs
@@ -93,16 +93,16 @@ ordered-with_bytes start end (r ∷ rs) h each =
       | inr t ↦ rw (stands_apart start end r rs t.1) (All-cons P (record { start = start; end = end }) (r ∷ rs) h each)
     ]
 
-pub ordered-joined : (es : List OdtEntry) → All (λ (r : Run). r.start ≤ r.end) (joined es)
-ordered-joined [] = All-nil (λ (r : Run). r.start ≤ r.end)
-ordered-joined (e ∷ es) = ordered-with_bytes e.0 (e.0 + e.1) (joined es) (omega arith) (ordered-joined es)
+pub ordered-joined_runs : (es : List OdtEntry) → All (λ (r : Run). r.start ≤ r.end) (joined_runs es)
+ordered-joined_runs [] = All-nil (λ (r : Run). r.start ≤ r.end)
+ordered-joined_runs (e ∷ es) = ordered-with_bytes e.0 (e.0 + e.1) (joined_runs es) (omega arith) (ordered-joined_runs es)
 
 -- the runs copy what the entries are
-pub copied-joined : (image : List ℕ) (es : List OdtEntry) → copied image (joined es) ≡ elements image es
-copied-joined image [] = refl
-copied-joined image (e ∷ es) =
-    copied-with_bytes image e.0 (e.0 + e.1) (joined es) (omega arith) (ordered-joined es)
-    ∙ ap (λ bytes. slice_range image e.0 (e.0 + e.1) ++ bytes) (copied-joined image es)
+pub copied-joined_runs : (image : List ℕ) (es : List OdtEntry) → copied image (joined_runs es) ≡ elements image es
+copied-joined_runs image [] = refl
+copied-joined_runs image (e ∷ es) =
+    copied-with_bytes image e.0 (e.0 + e.1) (joined_runs es) (omega arith) (ordered-joined_runs es)
+    ∙ ap (λ bytes. slice_range image e.0 (e.0 + e.1) ++ bytes) (copied-joined_runs image es)
 
 -- runs of entries within the image lie within the image
 inside-with_bytes : (n start end : ℕ) (rs : List Run) → start ≤ end → end ≤ n → All (IsRunInside n) rs → All (IsRunInside n) (with_bytes start end rs)
@@ -117,48 +117,48 @@ inside-with_bytes n start end (r ∷ rs) h k each =
       | inr t ↦ rw (stands_apart start end r rs t.1) (All-cons (IsRunInside n) (record { start = start; end = end }) (r ∷ rs) (record { ordered = h; inside = k }) each)
     ]
 
-pub inside-joined : (n : ℕ) (es : List OdtEntry) → All (IsInside n) es → All (IsRunInside n) (joined es)
-inside-joined n [] each = All-nil (IsRunInside n)
-inside-joined n (e ∷ es) each =
-    inside-with_bytes n e.0 (e.0 + e.1) (joined es) (omega arith) (All-head (IsInside n) e es each) (inside-joined n es (All-tail (IsInside n) e es each))
+pub inside-joined_runs : (n : ℕ) (es : List OdtEntry) → All (IsInside n) es → All (IsRunInside n) (joined_runs es)
+inside-joined_runs n [] each = All-nil (IsRunInside n)
+inside-joined_runs n (e ∷ es) each =
+    inside-with_bytes n e.0 (e.0 + e.1) (joined_runs es) (omega arith) (All-head (IsInside n) e es each) (inside-joined_runs n es (All-tail (IsInside n) e es each))
 
 count_by-cons : {X : Type 0} (p : X → Bool) (x : X) (xs : List X) → count_by p (x ∷ xs) ≡ cond (p x) 1 0 + count_by p xs
 count_by-cons p x xs = sum_by-cons (λ y. cond (p y) 1 0) x xs
 
 -- there is one run for each entry that does not go on where the one before it ends
-pub length-joined : (es : List OdtEntry) → 0 < length es → length (joined es) ≡ runs_needed es
-length-joined [] h = absurd (omega (arith, h))
-length-joined (e ∷ []) h = refl
-length-joined (e ∷ f ∷ es) h =
-    let first : Begins (joined (f ∷ es)) f.0 = begins f.0 (f.0 + f.1) (joined es) in
-    let ih : length (joined (f ∷ es)) ≡ runs_needed (f ∷ es) = length-joined (f ∷ es) (omega arith) in
+pub length-joined_runs : (es : List OdtEntry) → 0 < length es → length (joined_runs es) ≡ runs_needed es
+length-joined_runs [] h = absurd (omega (arith, h))
+length-joined_runs (e ∷ []) h = refl
+length-joined_runs (e ∷ f ∷ es) h =
+    let first : Begins (joined_runs (f ∷ es)) f.0 = begins f.0 (f.0 + f.1) (joined_runs es) in
+    let ih : length (joined_runs (f ∷ es)) ≡ runs_needed (f ∷ es) = length-joined_runs (f ∷ es) (omega arith) in
     let r : Run = record { start = f.0; end = first.end } in
     let more : runs_needed (e ∷ f ∷ es) ≡ cond (not (continues (e, f))) 1 0 + runs_needed (f ∷ es)
     = ap (λ n. 1 + n) (count_by-cons (λ (pair : OdtEntry × OdtEntry). not (continues pair)) (e, f) (zip (f ∷ es) es)) ∙ omega arith in
     elim (eqb_tells f.0 (e.0 + e.1)) [
       | inl t ↦
           let one : ◌≡◌ {A = ℕ} (cond (not (continues (e, f))) 1 0) 0 = rw t.0 refl in
-          let is : joined (e ∷ f ∷ es) ≡ record { start = e.0; end = first.end } ∷ first.rest
+          let is : joined_runs (e ∷ f ∷ es) ≡ record { start = e.0; end = first.end } ∷ first.rest
           = ap (with_bytes e.0 (e.0 + e.1)) first.is ∙ joins e.0 (e.0 + e.1) r first.rest t.1 in
           omega (arith, ap length is, ap length first.is, ih, more, one)
       | inr t ↦
           let one : ◌≡◌ {A = ℕ} (cond (not (continues (e, f))) 1 0) 1 = rw t.0 refl in
-          let is : joined (e ∷ f ∷ es) ≡ record { start = e.0; end = e.0 + e.1 } ∷ r ∷ first.rest
+          let is : joined_runs (e ∷ f ∷ es) ≡ record { start = e.0; end = e.0 + e.1 } ∷ r ∷ first.rest
           = ap (with_bytes e.0 (e.0 + e.1)) first.is ∙ stands_apart e.0 (e.0 + e.1) r first.rest t.1 in
           omega (arith, ap length is, ap length first.is, ih, more, one)
     ]
 
 -- one entry more: apart from the bytes in hand, these become a run; else it is joined with them
-pub one_apart : (runs all : List Run) (start end : ℕ) (e : OdtEntry) (es : List OdtEntry) → runs ++ with_bytes start end (joined (e ∷ es)) ≡ all → e.0 ≢ end → (runs ++ record { start = start; end = end } ∷ []) ++ with_bytes e.0 (e.0 + e.1) (joined es) ≡ all
+pub one_apart : (runs all : List Run) (start end : ℕ) (e : OdtEntry) (es : List OdtEntry) → runs ++ with_bytes start end (joined_runs (e ∷ es)) ≡ all → e.0 ≢ end → (runs ++ record { start = start; end = end } ∷ []) ++ with_bytes e.0 (e.0 + e.1) (joined_runs es) ≡ all
 one_apart runs all start end e es is h =
-    append_assoc runs (record { start = start; end = end } ∷ []) (with_bytes e.0 (e.0 + e.1) (joined es))
-    ∙ ap (λ rs. runs ++ rs) (sym (with_bytes-apart start end e.0 (e.0 + e.1) (joined es) h))
+    append_assoc runs (record { start = start; end = end } ∷ []) (with_bytes e.0 (e.0 + e.1) (joined_runs es))
+    ∙ ap (λ rs. runs ++ rs) (sym (with_bytes-apart start end e.0 (e.0 + e.1) (joined_runs es) h))
     ∙ is
 
-pub one_joined : (runs all : List Run) (start end : ℕ) (e : OdtEntry) (es : List OdtEntry) → runs ++ with_bytes start end (joined (e ∷ es)) ≡ all → e.0 ≡ end → runs ++ with_bytes start (e.0 + e.1) (joined es) ≡ all
+pub one_joined : (runs all : List Run) (start end : ℕ) (e : OdtEntry) (es : List OdtEntry) → runs ++ with_bytes start end (joined_runs (e ∷ es)) ≡ all → e.0 ≡ end → runs ++ with_bytes start (e.0 + e.1) (joined_runs es) ≡ all
 one_joined runs all start end e es is h =
-    ap (λ rs. runs ++ rs) (sym (with_bytes-joined start e.0 (e.0 + e.1) (joined es)))
-    ∙ ap (λ n. runs ++ with_bytes start n (joined (e ∷ es))) h
+    ap (λ rs. runs ++ rs) (sym (with_bytes-joined start e.0 (e.0 + e.1) (joined_runs es)))
+    ∙ ap (λ n. runs ++ with_bytes start n (joined_runs (e ∷ es))) h
     ∙ is
 
 -- what one run more copies
@@ -171,9 +171,9 @@ copied-more image (r ∷ rs) (suc i) d h =
     ∙ sym (append_assoc (slice_range image r.start r.end) (copied image (take i rs)) (slice_range image (get_or rs i d).start (get_or rs i d).end)))
 
 -- the runs of each of some ODTs
-pub map-joined-written : (odts : List (List (Option Entry))) → map (λ es. joined (written es)) odts ≡ map joined (map written odts)
-map-joined-written [] = refl
-map-joined-written (es ∷ odts) = ap (λ rest. joined (written es) ∷ rest) (map-joined-written odts)
+pub map-joined_runs-written_entries : (odts : List (List (Option Entry))) → map (λ es. joined_runs (written_entries es)) odts ≡ map joined_runs (map written_entries odts)
+map-joined_runs-written_entries [] = refl
+map-joined_runs-written_entries (es ∷ odts) = ap (λ rest. joined_runs (written_entries es) ∷ rest) (map-joined_runs-written_entries odts)
 
 -- what the test of two places tells
 pub apart_if : (a b : ℕ) → (a == b) ≡ false → a ≢ b

@@ -8,18 +8,19 @@ use Rattle.std.proofs.lemmas.List.{get_or-map, get_or_default, length-map}
 use Rattle.std.proofs.lemmas.List.Sums.{AllPass-from_list_all}
 use Rattle.std.proofs.lemmas.List.FromFn.{get_or-range_with_len, length-range_with_len}
 use Rattle.std.proofs.lemmas.Option.{unwrap_or-slice_get}
+use Rattle.xcp_base.specs.declared.limits.TheConstants.{MAX_CHANNELS, MAX_DTO, MAX_LISTS, MAX_ODTS, MAX_ODTS_IN_ALL}
+use Rattle.xcp_base.specs.Packets.{packet_len}
 use Rattle.daq_store.specs.Calls.{numbers_below}
-use Rattle.daq_store.specs.Configuration.{Configuration, channel_of, prescaler_of, odt_entries, is_within, is_filled, is_ready}
-use Rattle.daq_store.specs.Configuration as store
-use Rattle.copy_plan.specs.Config.{OdtEntry, IsPlan, AreFilled, packet_len, plan_of, written}
-use Rattle.copy_plan.proofs.WrittenLemmas.{IsSome-within, inside-within, some-written, sum_by-written}
+use Rattle.daq_store.specs.Configuration.{Configuration, channel_of, prescaler_of, is_stamped, odt_entries, entries_len, is_within, is_filled, is_short, is_ready}
+use Rattle.copy_plan.specs.Config.{OdtEntry, IsPlan, AreFilled, elements_len, plan_of, written_entries}
+use Rattle.copy_plan.proofs.WrittenLemmas.{IsSome-within, inside-within, some-written_entries, sum_by-written_entries}
 
 -- the ODTs of a configuration
 odt_at : (conf : Configuration) (k : ℕ) → odt_entries conf k ≡ get_or conf.odts k []
 odt_at conf k = unwrap_or-slice_get conf.odts k []
 
-pub odt-written : (conf : Configuration) (k : ℕ) → k < length conf.odts → get_or (map written conf.odts) k [] ≡ written (odt_entries conf k)
-odt-written conf k h = get_or-map written conf.odts k [] [] h ∙ ap written (sym (odt_at conf k))
+pub odt-written_entries : (conf : Configuration) (k : ℕ) → k < length conf.odts → get_or (map written_entries conf.odts) k [] ≡ written_entries (odt_entries conf k)
+odt-written_entries conf k h = get_or-map written_entries conf.odts k [] [] h ∙ ap written_entries (sym (odt_at conf k))
 
 -- what makes a configuration ready, ODT by ODT
 pub record Ready (n : ℕ) (conf : Configuration) : Type 0 where
@@ -27,14 +28,14 @@ pub record Ready (n : ℕ) (conf : Configuration) : Type 0 where
   pub some : 0 < length conf.odts
   pub entries : (k : ℕ) → k < length conf.odts → 0 < length (odt_entries conf k)
   pub within : (k : ℕ) → k < length conf.odts → list_all (is_within n) (odt_entries conf k) ≡ true
-  pub short : (k : ℕ) → k < length conf.odts → store.packet_len conf k ≤ 64
+  pub short : (k : ℕ) → k < length conf.odts → packet_len (is_stamped conf.mode) k (entries_len conf k) ≤ MAX_DTO
 
 below : (a b : ℕ) → nat_le a b ≡ true → a ≤ b
 below a b h = elim (leb_tells a b) [ inl t ↦ t.1 | inr t ↦ absurd (true≢false (sym h ∙ t.0)) ]
 
 pub ready : (n : ℕ) (conf : Configuration) → is_ready n conf ≡ true → Ready n conf
 ready n conf h =
-    let test : ℕ → Bool = λ i. nat_le (store.packet_len conf i) 64 in
+    let test : ℕ → Bool = is_short conf in
     let short = and_parts (is_some conf.mode && nat_lt 0 (length conf.odts) && list_all (is_filled n) conf.odts) (list_all test (numbers_below (length conf.odts))) h in
     let filled = and_parts (is_some conf.mode && nat_lt 0 (length conf.odts)) (list_all (is_filled n) conf.odts) short.0 in
     let some = and_parts (is_some conf.mode) (nat_lt 0 (length conf.odts)) filled.0 in
@@ -48,7 +49,7 @@ ready n conf h =
       short = λ k l.
           let place : get_or (numbers_below (length conf.odts)) k 0 ≡ k = get_or-range_with_len 0 (length conf.odts) k 0 l ∙ zero-add k in
           let inside : k < length (numbers_below (length conf.odts)) = rw (length-range_with_len 0 (length conf.odts)) l in
-          below (store.packet_len conf k) 64 (ap test (sym place) ∙ AllPass-from_list_all test (numbers_below (length conf.odts)) short.1 k 0 inside);
+          below (packet_len (is_stamped conf.mode) k (entries_len conf k)) MAX_DTO (ap test (sym place) ∙ AllPass-from_list_all test (numbers_below (length conf.odts)) short.1 k 0 inside);
     }
 
 pub filled : (n : ℕ) (conf : Configuration) → Ready n conf → AreFilled conf
@@ -56,14 +57,13 @@ filled n conf r = λ k d h.
     let same : odt_entries conf k ≡ get_or conf.odts k d = odt_at conf k ∙ get_or_default conf.odts k [] d h in
     rw (← same) (r.entries k h, IsSome-within n (odt_entries conf k) (r.within k h))
 
--- the packet of ODT k is as long as the store takes it to be
-same_len : (l : ℕ) (conf : Configuration) (f n k : ℕ) → k < length conf.odts → packet_len (plan_of l conf f n) k ≡ store.packet_len conf k
-same_len l conf f n k h =
-    ap (λ m. 1 + store.stamp_len conf k + m) (ap (sum_by (λ (e : OdtEntry). e.1)) (odt-written conf k h) ∙ sum_by-written (odt_entries conf k))
+-- the entries of ODT k are as long as the store takes them to be
+same_len : (l : ℕ) (conf : Configuration) (f n k : ℕ) → k < length conf.odts → elements_len (plan_of l conf f n) k ≡ entries_len conf k
+same_len l conf f n k h = ap (sum_by (λ (e : OdtEntry). e.1)) (odt-written_entries conf k h) ∙ sum_by-written_entries (odt_entries conf k)
 
-pub plan_is : (l : ℕ) (conf : Configuration) (f n : ℕ) → l < 16 → channel_of conf.mode < 8 → (IsSome conf.mode → 0 < prescaler_of conf.mode) → length conf.odts ≤ 8 → f + length conf.odts ≤ 124 → Ready n conf → IsPlan (plan_of l conf f n)
+pub plan_is : (l : ℕ) (conf : Configuration) (f n : ℕ) → l < MAX_LISTS → channel_of conf.mode < MAX_CHANNELS → (IsSome conf.mode → 0 < prescaler_of conf.mode) → length conf.odts ≤ MAX_ODTS → f + length conf.odts ≤ MAX_ODTS_IN_ALL → Ready n conf → IsPlan (plan_of l conf f n)
 plan_is l conf f n list channel prescaler limit pids r =
-    let count : length (map written conf.odts) ≡ length conf.odts = length-map conf.odts written in
+    let count : length (map written_entries conf.odts) ≡ length conf.odts = length-map conf.odts written_entries in
     record {
       list = list;
       channel = channel;
@@ -73,11 +73,11 @@ plan_is l conf f n list channel prescaler limit pids r =
       pids = omega (arith, pids, count);
       entries = λ k h.
           let here : k < length conf.odts = omega (arith, h, count) in
-          rw (odt-written conf k here) (some-written (odt_entries conf k) (r.entries k here) (IsSome-within n (odt_entries conf k) (r.within k here)));
+          rw (odt-written_entries conf k here) (some-written_entries (odt_entries conf k) (r.entries k here) (IsSome-within n (odt_entries conf k) (r.within k here)));
       inside = λ k h.
           let here : k < length conf.odts = omega (arith, h, count) in
-          rw (odt-written conf k here) (inside-within n (odt_entries conf k) (r.within k here));
+          rw (odt-written_entries conf k here) (inside-within n (odt_entries conf k) (r.within k here));
       short = λ k h.
           let here : k < length conf.odts = omega (arith, h, count) in
-          omega (arith, same_len l conf f n k here, r.short k here);
+          rw (same_len l conf f n k here) (r.short k here);
     }

@@ -5,7 +5,7 @@ use Rattle.copy_plan.specs.Config.{ListPlan, OdtEntry, plan_of}
 use Rattle.copy_plan.specs.Packet.{packet, packets}
 use Rattle.copy_plan.specs.Pids.{pid}
 use Rattle.copy_plan.specs.Runs.{runs_needed}
-use Rattle.copy_plan.specs.Joined.{joined}
+use Rattle.copy_plan.specs.Joined.{joined_runs}
 
 -- a list of two ODTs with a timestamp, as it is set in the store
 two_odts : Configuration
@@ -56,9 +56,9 @@ runs_needed-neighbours : runs_needed neighbours ≡ 2
 unfolding neighbours
 runs_needed-neighbours = refl
 
-joined-neighbours : joined neighbours ≡ record { start = 0; end = 4 } ∷ record { start = 8; end = 9 } ∷ []
+joined_runs-neighbours : joined_runs neighbours ≡ record { start = 0; end = 4 } ∷ record { start = 8; end = 9 } ∷ []
 unfolding neighbours
-joined-neighbours = refl
+joined_runs-neighbours = refl
 
 -- the last of 124 ODTs: FIRST_PID 0x78, four ODTs
 last_plan : ListPlan

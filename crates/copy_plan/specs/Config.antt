@@ -1,7 +1,10 @@
--- What the samples of one DAQ list are made of (ASAM MCD-1 XCP, protocol layer, DAQ list, ODT, ODT entry). The limits
--- are (own).
-use Rattle.std.specs.Prelude.{ℕ, ◌+◌, ◌<◌, ◌≤◌, ◌==◌, ◌&&◌, Bool, if◌then◌else◌, All, List, [], length, map, filter_map, slice_index_or, sum_by, Option, option_map, IsSome}
-use Rattle.xcp_base.specs.declared.limits.TheConstants.{MAX_DTO}
+-- What the samples of one DAQ list are made of (ASAM MCD-1 XCP, protocol layer, DAQ list, ODT, ODT
+-- entry). The limits are (own).
+use Rattle.std.specs.Prelude.{ℕ, ◌+◌, ◌<◌, ◌≤◌, Bool, All, List, [], length, map, filter_map}
+use Rattle.std.specs.Prelude.{slice_index_or, sum_by, Option, option_map, IsSome}
+use Rattle.xcp_base.specs.declared.limits.TheConstants.{MAX_CHANNELS, MAX_DTO, MAX_LISTS}
+use Rattle.xcp_base.specs.declared.limits.TheConstants.{MAX_ODTS, MAX_ODTS_IN_ALL}
+use Rattle.xcp_base.specs.Packets.{packet_len}
 use Rattle.daq_store.specs.declared.entry.Entry.{Entry}
 use Rattle.daq_store.specs.Configuration.{Configuration, channel_of, prescaler_of, is_stamped}
 
@@ -20,8 +23,8 @@ pub record ListPlan : Type 0 where
   pub image_len : ℕ
 
 -- the entries that are written
-abbrev pub written : List (Option Entry) → List OdtEntry
-written entries = filter_map (λ entry. option_map (λ x. (x.address, x.size)) entry) entries
+abbrev pub written_entries : List (Option Entry) → List OdtEntry
+written_entries entries = filter_map (λ entry. option_map (λ x. (x.address, x.size)) entry) entries
 
 -- what the store has of list l, with its FIRST_PID, for images of this length
 abbrev pub plan_of : ℕ → Configuration → ℕ → ℕ → ListPlan
@@ -31,7 +34,7 @@ plan_of l conf first_pid image_len = record {
   prescaler = prescaler_of conf.mode;
   first_pid = first_pid;
   stamped = is_stamped conf.mode;
-  odts = map written conf.odts;
+  odts = map written_entries conf.odts;
   image_len = image_len;
 }
 
@@ -39,9 +42,9 @@ plan_of l conf first_pid image_len = record {
 abbrev pub odt : ListPlan → ℕ → List OdtEntry
 odt plan k = slice_index_or plan.odts k []
 
--- the bytes of the packet of ODT k: the PID, in ODT 0 of a stamped list a timestamp of 4 bytes, and the entries
-abbrev pub packet_len : ListPlan → ℕ → ℕ
-packet_len plan k = 1 + (if k == 0 && plan.stamped then 4 else 0) + sum_by (λ (e : OdtEntry). e.1) (odt plan k)
+-- the bytes of the entries of ODT k
+abbrev pub elements_len : ListPlan → ℕ → ℕ
+elements_len plan k = sum_by (λ (e : OdtEntry). e.1) (odt plan k)
 
 -- the entry ends within the image
 abbrev pub IsInside : ℕ → OdtEntry → Type 0
@@ -49,15 +52,16 @@ IsInside image_len e = e.0 + e.1 ≤ image_len
 
 -- what every plan keeps to
 pub record IsPlan (plan : ListPlan) : Type 0 where
-  pub list : plan.list < 16
-  pub channel : plan.channel < 8
+  pub list : plan.list < MAX_LISTS
+  pub channel : plan.channel < MAX_CHANNELS
   pub prescaler : 0 < plan.prescaler
   pub some : 0 < length plan.odts
-  pub limit : length plan.odts ≤ 8
-  pub pids : plan.first_pid + length plan.odts ≤ 124
+  pub limit : length plan.odts ≤ MAX_ODTS
+  pub pids : plan.first_pid + length plan.odts ≤ MAX_ODTS_IN_ALL
   pub entries : (k : ℕ) → k < length plan.odts → 0 < length (odt plan k)
   pub inside : (k : ℕ) → k < length plan.odts → All (IsInside plan.image_len) (odt plan k)
-  pub short : (k : ℕ) → k < length plan.odts → packet_len plan k ≤ MAX_DTO
+  pub short :
+      (k : ℕ) → k < length plan.odts → packet_len plan.stamped k (elements_len plan k) ≤ MAX_DTO
 
 -- each ODT has an entry, and each entry is written
 abbrev pub AreFilled : Configuration → Type 0

@@ -1,5 +1,6 @@
 -- Inner: the runs of an ODT, which are its entries with neighbours joined, and what they copy.
-use Rattle.std.specs.Prelude.{ℕ, ◌+◌, ◌≤◌, ◌==◌, if◌then◌else◌, List, [], ◌∷◌, slice_range, flat_map}
+use Rattle.std.specs.Prelude.{ℕ, ◌+◌, ◌≤◌, ◌==◌, if◌then◌else◌, List, [], ◌∷◌, slice_range}
+use Rattle.std.specs.Prelude.{flat_map}
 use Rattle.copy_plan.specs.declared.runs.Run.{Run}
 use Rattle.copy_plan.specs.Config.{OdtEntry}
 
@@ -7,12 +8,13 @@ use Rattle.copy_plan.specs.Config.{OdtEntry}
 abbrev pub with_bytes : ℕ → ℕ → List Run → List Run
 with_bytes start end [] = record { start = start; end = end } ∷ []
 with_bytes start end (r ∷ rs) =
-    if r.start == end then record { start = start; end = r.end } ∷ rs else record { start = start; end = end } ∷ r ∷ rs
+    if r.start == end then record { start = start; end = r.end } ∷ rs
+    else record { start = start; end = end } ∷ r ∷ rs
 
 -- the runs of some entries
-abbrev pub joined : List OdtEntry → List Run
-joined [] = []
-joined (e ∷ es) = with_bytes e.0 (e.0 + e.1) (joined es)
+abbrev pub joined_runs : List OdtEntry → List Run
+joined_runs [] = []
+joined_runs (e ∷ es) = with_bytes e.0 (e.0 + e.1) (joined_runs es)
 
 -- what runs copy of an image
 abbrev pub copied : List ℕ → List Run → List ℕ

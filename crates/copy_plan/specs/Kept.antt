@@ -1,8 +1,8 @@
 -- Inner: how `CopyPlan` keeps its configuration: the runs in place of the entries.
 use Rattle.std.specs.Prelude.{◌≡◌, map}
 use Rattle.copy_plan.specs.declared.plan.CopyPlan.TheInside.{Inside}
-use Rattle.copy_plan.specs.Config.{ListPlan, IsPlan, written}
-use Rattle.copy_plan.specs.Joined.{joined}
+use Rattle.copy_plan.specs.Config.{ListPlan, IsPlan, written_entries}
+use Rattle.copy_plan.specs.Joined.{joined_runs}
 
 -- the configuration
 abbrev pub plan_view : Inside → ListPlan
@@ -12,11 +12,11 @@ plan_view a = record {
   prescaler = a.prescaler;
   first_pid = a.first_pid;
   stamped = a.stamped;
-  odts = map written a.conf.value.odts;
+  odts = map written_entries a.conf.value.odts;
   image_len = a.image_len;
 }
 
 -- a plan, with the runs of each ODT
 pub record IsKept (a : Inside) : Type 0 where
   pub plan : IsPlan (plan_view a)
-  pub odts : a.odts.items ≡ map joined (plan_view a).odts
+  pub odts : a.odts.items ≡ map joined_runs (plan_view a).odts

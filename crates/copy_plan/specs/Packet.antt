@@ -1,6 +1,8 @@
--- The DAQ packets of a sample (ASAM MCD-1 XCP, protocol layer, DTO): identification field, timestamp, elements. That the
--- timestamp has 4 bytes, least significant first, and stands in ODT 0 alone is (own).
-use Rattle.std.specs.Prelude.{ℕ, ◌+◌, ◌==◌, ◌&&◌, Bool, if◌then◌else◌, List, [], ◌∷◌, ◌++◌, length, map, slice_range, flat_map}
+-- The DAQ packets of a sample (ASAM MCD-1 XCP, protocol layer, DTO): identification field,
+-- timestamp, elements. That the timestamp has 4 bytes, least significant first, and stands in ODT 0
+-- alone is (own).
+use Rattle.std.specs.Prelude.{ℕ, ◌+◌, ◌==◌, ◌&&◌, Bool, if◌then◌else◌, List, [], ◌∷◌, ◌++◌, length}
+use Rattle.std.specs.Prelude.{map, slice_range, flat_map}
 use Rattle.std.specs.Int.{to_le_bytes, w32}
 use Rattle.std.specs.List.{range_with_len}
 use Rattle.copy_plan.specs.Config.{ListPlan, OdtEntry, odt}
@@ -16,8 +18,10 @@ elements image entries = flat_map (λ (e : OdtEntry). slice_range image e.0 (e.0
 
 -- the packet of ODT k: identification field, timestamp, elements
 unfoldable pub packet : ListPlan → List ℕ → ℕ → Bool → ℕ → List ℕ
-packet plan image stamp overload k = pid plan k overload ∷ timestamp plan k stamp ++ elements image (odt plan k)
+packet plan image stamp overload k =
+    pid plan k overload ∷ timestamp plan k stamp ++ elements image (odt plan k)
 
 -- the packets of a sample: those of ODTs 0, 1, .. in order, all of one image and one timestamp
 unfoldable pub packets : ListPlan → List ℕ → ℕ → Bool → List (List ℕ)
-packets plan image stamp overload = map (packet plan image stamp overload) (range_with_len 0 (length plan.odts))
+packets plan image stamp overload =
+    map (packet plan image stamp overload) (range_with_len 0 (length plan.odts))

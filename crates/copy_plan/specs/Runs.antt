@@ -6,6 +6,7 @@ use Rattle.copy_plan.specs.Config.{OdtEntry}
 abbrev pub continues : OdtEntry × OdtEntry → Bool
 continues pair = pair.1.0 == pair.0.0 + pair.0.1
 
--- one copy, and one more for each entry after the first that does not begin at the end of the entry before it
+-- one copy, and one more for each entry after the first that does not begin at the end of the entry
+-- before it
 abbrev pub runs_needed : List OdtEntry → ℕ
 runs_needed entries = 1 + count_by (λ pair. not (continues pair)) (zip entries (drop 1 entries))

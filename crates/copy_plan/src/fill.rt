@@ -1,19 +1,21 @@
 //! The hot copy: from an image to the packets of a sample. It takes no memory.
-ghost use Rattle.std.specs.Prelude.{◌≡◌, ◌==◌, ◌&&◌, ◌+◌, ◌<◌, ◌≤◌, ◌++◌, [], ◌∷◌, All, length, slice_get, option_map};
+ghost use Rattle.std.specs.Prelude.{◌≡◌, ◌==◌, ◌&&◌, ◌+◌, ◌<◌, ◌≤◌, ◌++◌, [], ◌∷◌, All, length};
+ghost use Rattle.std.specs.Prelude.{slice_get, option_map};
 ghost use Rattle.xcp_base.specs.Packets.{last_packet, with_longer_last};
 ghost use Rattle.copy_plan.specs.Config.{IsPlan, odt};
 ghost use Rattle.copy_plan.specs.Packet.{packet, packets, timestamp};
 ghost use Rattle.copy_plan.specs.Pids.{pid};
 ghost use Rattle.copy_plan.specs.Runs.{runs_needed};
-ghost use Rattle.copy_plan.specs.Joined.{IsRunInside, copied, joined};
+ghost use Rattle.copy_plan.specs.Joined.{IsRunInside, copied, joined_runs};
 
 use crate::plan::CopyPlan;
 use crate::runs::Run;
 use xcp_base::Packets;
+use xcp_base::limits::{MAX_DTO, MAX_ODTS};
 
 impl CopyPlan {
-    /// The packets of a sample, one for each ODT in their order, all from one image and one timestamp,
-    /// which only a stamped list uses; `overload` sets the overload indication.
+    /// The packets of a sample, one for each ODT in their order, all from one image and one
+    /// timestamp, which only a stamped list uses; `overload` sets the overload indication.
     pub fn fill(&self, image: &[u8], stamp: u32, overload: bool) -> Packets
         requires { length image.now ≡ self.now.image_len }
         ensures { result ≡ packets self.now image.now stamp overload }
@@ -47,7 +49,7 @@ impl CopyPlan {
     /// The copies that the packet of an ODT is made of: its entries, neighbours joined.
     fn copies_of(&self, k: usize) -> &[Run]
         requires { k < length self.now.odts }
-        ensures runs { result.now ≡ joined (odt self.now k) }
+        ensures runs { result.now ≡ joined_runs (odt self.now k) }
         ensures plan { IsPlan self.now }
     {
         self.odts[k].as_slice()
@@ -73,7 +75,7 @@ impl CopyPlan {
     )
         requires image { length image.now ≡ self.now.image_len }
         requires odt { k < length self.now.odts }
-        requires room { length sample.old < 8 }
+        requires room { length sample.old < MAX_ODTS }
         ensures { sample.new ≡ sample.old ++ packet self.now image.now stamp overload k ∷ [] }
     {
         let Ok(()) = sample.push(&[self.pid(k, overload)]) else {
@@ -86,7 +88,7 @@ impl CopyPlan {
     /// Appends the timestamp to the last packet, where the ODT's packet has one.
     fn append_timestamp(&self, sample: &mut Packets, stamp: u32, k: usize)
         requires some { 0 < length sample.old }
-        requires room { length (last_packet sample.old) ≤ 60 }
+        requires room { length (last_packet sample.old) + 4 ≤ MAX_DTO }
         ensures { sample.new ≡ with_longer_last sample.old (timestamp self.now k stamp) }
     {
         if self.has_timestamp(k) {
@@ -106,7 +108,8 @@ impl CopyPlan {
 fn append_runs(sample: &mut Packets, image: &[u8], runs: &[Run])
     requires some { 0 < length sample.old }
     requires inside { All (IsRunInside (length image.now)) runs.now }
-    requires room { length (last_packet sample.old) + length (copied image.now runs.now) ≤ 64 }
+    requires room { length (last_packet sample.old) + length (copied image.now runs.now)
+        ≤ MAX_DTO }
     ensures { sample.new ≡ with_longer_last sample.old (copied image.now runs.now) }
 {
     for run in runs {

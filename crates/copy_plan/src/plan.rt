@@ -1,8 +1,8 @@
 ghost use Rattle.std.specs.Prelude.{◌≡◌, ◌+◌, ◌<◌, ◌≤◌, IfOk, true, length, map};
 ghost use Rattle.daq_store.specs.Configuration.{is_ready};
 ghost use Rattle.copy_plan.specs.declared.plan.PlanFault.TheVariants.{Memory};
-ghost use Rattle.copy_plan.specs.Config.{IsPlan, AreFilled, plan_of, written};
-ghost use Rattle.copy_plan.specs.Joined.{joined};
+ghost use Rattle.copy_plan.specs.Config.{IsPlan, AreFilled, plan_of, written_entries};
+ghost use Rattle.copy_plan.specs.Joined.{joined_runs};
 
 use crate::runs::Runs;
 use daq_store::ListConf;
@@ -12,6 +12,7 @@ use std::fmt;
 use std::marker::Model;
 use std::snapshot::Snapshot;
 use thiserror::Error;
+use xcp_base::limits::{MAX_LISTS, MAX_ODTS, MAX_ODTS_IN_ALL};
 
 /// Why no plan was made.
 #[derive(Clone, Copy, Debug, PartialEq, Eq, Error)]
@@ -29,11 +30,11 @@ impl From<AllocError> for PlanFault {
     }
 }
 
-/// What the samples of one ready DAQ list are made of: its ODTs, each as the parts of the image that
-/// its packet copies.
+/// What the samples of one ready DAQ list are made of: its ODTs, each as the parts of the image
+/// that its packet copies.
 ///
-/// Contracts see the list's configuration, entry by entry. Neighbouring entries are joined once, when
-/// the plan is made; the entries themselves are not kept, `conf` has no bytes.
+/// Contracts see the list's configuration, entry by entry. Neighbouring entries are joined once,
+/// when the plan is made; the entries themselves are not kept, `conf` has no bytes.
 #[derive(Drop)]
 pub struct CopyPlan {
     pub(crate) list: u8,
@@ -58,9 +59,11 @@ impl Model for CopyPlan {
 }
 
 impl CopyPlan {
-    /// The plan of a ready DAQ list, whose PIDs begin with FIRST_PID; images have `image_len` bytes.
+    /// The plan of a ready DAQ list, whose PIDs begin with FIRST_PID; images have `image_len`
+    /// bytes.
     ///
-    /// An entry that begins where the one before it in the same ODT ends is copied with it, in one go.
+    /// An entry that begins where the one before it in the same ODT ends is copied with it, in one
+    /// go.
     pub fn of(
         alloc: Global,
         list: u8,
@@ -68,9 +71,9 @@ impl CopyPlan {
         first_pid: u8,
         image_len: usize,
     ) -> Result<CopyPlan, PlanFault>
-        requires list { list < 16 }
+        requires list { list < MAX_LISTS }
         requires ready { is_ready image_len conf.now ≡ true }
-        requires pids { first_pid + length conf.now.odts ≤ 124 }
+        requires pids { first_pid + length conf.now.odts ≤ MAX_ODTS_IN_ALL }
         ensures value { IfOk result (λ plan. plan ≡ plan_of list conf.now first_pid image_len) }
         ensures plan { IfOk result IsPlan }
     {
@@ -140,8 +143,8 @@ impl CopyPlan {
 fn runs_of_odts(alloc: Global, conf: &ListConf) -> Result<Vec<Runs>, AllocError>
     requires { AreFilled conf.now }
     ensures value { IfOk result (λ odts. odts.items
-        ≡ map (λ es. joined (written es)) conf.now.odts) }
-    ensures limit { length conf.now.odts ≤ 8 }
+        ≡ map (λ es. joined_runs (written_entries es)) conf.now.odts) }
+    ensures limit { length conf.now.odts ≤ MAX_ODTS }
 {
     let mut odts = Vec::with_capacity(alloc, conf.odts())?;
     for odt in 0..conf.odts() {

@@ -1,7 +1,7 @@
 ghost use Rattle.std.specs.Prelude.{◌≡◌, ◌==◌, ◌<◌, IfOk, IsSome, All, length};
 ghost use Rattle.daq_store.specs.Configuration.{odt_entries};
-ghost use Rattle.copy_plan.specs.Config.{written};
-ghost use Rattle.copy_plan.specs.Joined.{joined};
+ghost use Rattle.copy_plan.specs.Config.{written_entries};
+ghost use Rattle.copy_plan.specs.Joined.{joined_runs};
 
 use daq_store::ListConf;
 use std::alloc::{AllocError, Global};
@@ -34,7 +34,8 @@ impl Runs {
     pub fn of(alloc: Global, conf: &ListConf, odt: usize) -> Result<Runs, AllocError>
         requires some { 0 < length (odt_entries conf.now odt) }
         requires written { All IsSome (odt_entries conf.now odt) }
-        ensures { IfOk result (λ runs. runs ≡ joined (written (odt_entries conf.now odt))) }
+        ensures { IfOk result (λ runs. runs
+            ≡ joined_runs (written_entries (odt_entries conf.now odt))) }
     {
         let mut runs = Vec::with_capacity(alloc, conf.entries(odt))?;
         let Some((address, size)) = conf.entry(odt, 0) else {

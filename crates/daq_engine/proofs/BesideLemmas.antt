@@ -1,30 +1,26 @@
 -- Samplers beside a transmitter: looks at what was sent, and what a pump takes between two looks.
-use Rattle.std.proofs.Common.{◌≡◌, ◌≢◌, ℕ, zero, suc, ◌+◌, ◌<◌, ◌≤◌, inl, inr, List, [], ◌∷◌, ◌++◌, length, set, get_or, refl, sym, ap, subst, ◌∙◌, arith, append-nil, length-append}
+use Rattle.std.proofs.Common.{◌≡◌, ◌≢◌, ℕ, zero, suc, ◌+◌, ◌<◌, ◌≤◌, inl, inr, List, [], ◌∷◌, ◌++◌, length, set, get_or, refl, sym, ap, subst, ◌∙◌, arith}
 use Rattle.std.specs.Prelude.{Bool, Some, Result, slice_get}
 use Rattle.std.specs.Option.{option_map}
-use mathlib.Core.List.{IsPrefix}
 use Rattle.std.proofs.Math.Seq.{map-set_same}
 use Rattle.std.proofs.lemmas.List.{get_or-map, length-map}
 use Rattle.std.proofs.lemmas.Option.{same_Some, slice_get-get_or, slice_get-map}
 use Rattle.std.proofs.lemmas.Bool.Decides.{eqb_tells}
 use Rattle.xcp_base.specs.declared.item.Item.{Item}
-use Rattle.xcp_base.specs.declared.item.Item.TheVariants.{Sample}
 use Rattle.channel_ring.specs.Room.{units}
 use Rattle.channel_ring.specs.declared.ends.SendEnd.{Ghosts as SendGhosts}
 use Rattle.channel_ring.specs.declared.ends.RingEnd.{Ghosts as EndGhosts}
 use Rattle.sampler.specs.History.{Event, Opening}
 use Rattle.sampler.specs.Standing.{StandsAfter}
 use Rattle.sampler.specs.State.{SamplerState}
-use Rattle.transmitter.specs.Merge.{AreRising, of_ring, taken_from}
-use Rattle.transmitter.specs.Pumps.{Fails, IsPump, PumpAnswers, Pumps}
-use Rattle.transmitter.specs.Rounds.{round}
+use Rattle.transmitter.specs.Merge.{of_ring}
+use Rattle.transmitter.specs.Looks.{Looked, LookedAt}
+use Rattle.transmitter.specs.Pumps.{IsPump, PumpAnswers}
 use Rattle.frame_writer.specs.Writing.{WriterState}
-use Rattle.transmitter.specs.Written.{HasTaken, Looked, TransmitterState}
+use Rattle.transmitter.specs.Written.{HasTaken, TransmitterState}
 use Rattle.transmitter.specs.declared.pumped.Pumped.{Pumped}
 use Rattle.transmitter.specs.declared.faults.PumpFault.{PumpFault}
-use Rattle.transmitter.proofs.DrainLemmas.{LookedAtAll, known_taken, with_known}
-use Rattle.transmitter.proofs.RoundLemmas.{IsFront, front_begins}
-use Rattle.transmitter.proofs.TakenLemmas.{taken_from-append}
+use Rattle.transmitter.proofs.DrainLemmas.{LookedAtAll, known_taken, takes_front, takes_round, with_known}
 use Rattle.daq_engine.specs.Configuration.{Past, upto}
 use Rattle.daq_engine.specs.PumpSteps.{IsPumpStep}
 use Rattle.daq_engine.specs.Standings.{AreBeside, IsRoomyAt, StandInOrder, StayThose, sent_of_each}
@@ -115,56 +111,12 @@ module _ {S E : Type 0} (send : SendGhosts S E) where
           subst (λ (x : SamplerState S). send.capacity x.end ≤ send.free x.end + units ring.cost (of_ring t.known c)) same roomy
 
 -- a look at one ring leaves what is known of another
-pub looked_elsewhere : (c k : ℕ) (a b : TransmitterState) → Looked c a b → k ≢ c → of_ring b.received k ++ of_ring b.known k ≡ of_ring a.received k ++ of_ring a.known k
+pub looked_elsewhere : (c k : ℕ) (a b : TransmitterState) → LookedAt c a b → k ≢ c → of_ring b.received k ++ of_ring b.known k ≡ of_ring a.received k ++ of_ring a.known k
 looked_elsewhere c k a b look other = rw (ap (λ (u : TransmitterState). u.received) look.same, look.others k other) refl
 
 -- one look more
-pub looks_again : (t a b : TransmitterState) → a ≡ record t { known = a.known } → b ≡ record a { known = b.known } → b ≡ record t { known = b.known }
+pub looks_again : (t a b : TransmitterState) → Looked t a → Looked a b → Looked t b
 looks_again t a b first second = second ∙ ap (λ (u : TransmitterState). record u { known = b.known }) first
-
--- the last of some in rising order is above them all
-last_above : (low r : ℕ) (x : Item) (qs : List (ℕ × Item)) → AreRising low (qs ++ (r, x) ∷ []) → low ≤ r
-last_above low r x [] rising = rising.0
-last_above low r x ((e, y) ∷ qs) rising = omega (arith, rising.0, last_above (e + 1) r x qs rising.1)
-
-at_most_last : (low r c : ℕ) (x : Item) (qs : List (ℕ × Item)) → AreRising low (qs ++ (r, x) ∷ []) → 0 < length (taken_from c (qs ++ (r, x) ∷ [])) → c ≤ r
-at_most_last low r c x [] rising some = elim (eqb_tells r c) [
-  | inl w ↦ let at : r ≡ c = w.1 in omega (arith, at)
-  | inr w ↦ absurd (omega (arith, rw w.0 at some))
-]
-at_most_last low r c x ((e, y) ∷ qs) rising some = elim (eqb_tells e c) [
-  | inl w ↦ let at : e ≡ c = w.1 in omega (arith, at, last_above (e + 1) r x qs rising.1)
-  | inr w ↦ at_most_last (e + 1) r c x qs rising.1 (rw w.0 at some)
-]
-
-at_zero : (j : ℕ) → 0 + j ≡ j
-at_zero j = omega arith
-
-module _ (b p : TransmitterState) (qs : List (ℕ × Item)) (new_known : List (List Item)) (rising : AreRising 0 qs) (at : (c : ℕ) → taken_from c qs ++ of_ring new_known c ≡ of_ring b.known c) where
-  -- what a pump took of what is known is the front of a round, if it took of each ring below one
-  fronts : ((i j : ℕ) → i < j → 0 < length (taken_from j qs) → 0 < length (of_ring b.known i) → 0 < length (taken_from i qs)) → IsFront 0 b.known qs
-  fronts below = record {
-    rising = rising;
-    first = λ j. rw (at_zero j) (of_ring new_known j, at j);
-    below = λ i j h s k. rw (at_zero i) (below i j h (rw (at_zero j) at s) k);
-  }
-
-  -- a pump that went through took a round
-  takes_round : (o : Pumped) → Pumps b p qs o → qs ≡ round 0 b.known
-  takes_round o pumps =
-      let front = front_begins 0 b.known qs (fronts (λ e j h s k. pumps.known e k)) in
-      sym (append-nil qs) ∙ (ap (λ zs. qs ++ zs) (sym (front.2 (λ j k. rw (at_zero j) (pumps.known j k)))) ∙ front.1)
-
-  -- one at which the writer failed took the front of one
-  takes_front : Fails b p qs → IsPrefix qs (round 0 b.known)
-  takes_front f =
-      let last_one : List (ℕ × Item) = (f.ring, Sample f.sample) ∷ [] in
-      let front = front_begins 0 b.known qs (fronts (λ i j h s k.
-      let last = at_most_last 0 f.ring j (Sample f.sample) f.before (subst (AreRising 0) f.last rising) (subst (λ z. 0 < length (taken_from j z)) f.last s) in
-      let some = f.known i (omega (arith, h, last)) k in
-      let more = ap length (ap (taken_from i) f.last ∙ taken_from-append i f.before last_one) ∙ length-append (taken_from i f.before) (taken_from i last_one) in
-      omega (arith, some, more))) in
-      (front.0, front.1)
 
 -- a pump between two looks, where this was left before it
 between : (sent : List (List Item)) (n : ℕ) (a : TransmitterState) (left : List (List Item)) (p d : TransmitterState) (answer : Result Pumped PumpFault)
@@ -178,8 +130,8 @@ between sent n a left p d answer first many pump second =
       leaves = λ c h. first c;
       pumped = p;
       pumps = pump;
-      takes_all = λ o e. takes_round b p pump.taken d.known pump.rising at o (subst (PumpAnswers b p pump.taken) e pump.answers);
-      takes_front = λ e. takes_front b p pump.taken d.known pump.rising at (subst (PumpAnswers b p pump.taken) e pump.answers);
+      takes_all = λ o e. takes_round b p d pump.taken o pump.rising at (subst (PumpAnswers b p pump.taken) e pump.answers);
+      takes_front = λ e. takes_front b p d pump.taken pump.rising at (subst (PumpAnswers b p pump.taken) e pump.answers);
       looks = second.same;
       rest = λ c h. second.rest c;
     }

@@ -1,7 +1,8 @@
 //! Samplers beside the transmitter of their rings, in one thread: looks, and a pump step.
 ghost use Rattle.std.specs.Prelude.{◌≡◌, ◌≢◌, ℕ, ◌<◌, ◌++◌, length, slice_get};
 ghost use Rattle.transmitter.specs.Merge.{of_ring};
-ghost use Rattle.transmitter.specs.Written.{Looked, transmission};
+ghost use Rattle.transmitter.specs.Looks.{LookedAt};
+ghost use Rattle.transmitter.specs.Written.{transmission};
 ghost use Rattle.daq_engine.specs.Configuration.{Past};
 ghost use Rattle.daq_engine.specs.PumpSteps.{IsPumpStep};
 ghost use Rattle.daq_engine.specs.Standings.{AreBeside, AreRoomy, IsRoomyAt, StandInOrder, StayThose, sent_of_each};
@@ -29,7 +30,7 @@ pub(crate) fn look_at<O: Out, T: Beside>(
     ensures stand { (past : ℕ → Past) →
         StandInOrder T.Send.SendEnd T.Send.End.RingEnd samplers.old past →
         StandInOrder T.Send.SendEnd T.Send.End.RingEnd samplers.new past }
-    ensures looked { Looked c (transmission O.Out T.TakeEnd transmitter.old)
+    ensures looked { LookedAt c (transmission O.Out T.TakeEnd transmitter.old)
         (transmission O.Out T.TakeEnd transmitter.new) }
     ensures left { of_ring (transmission O.Out T.TakeEnd transmitter.new).received c
         ++ of_ring (transmission O.Out T.TakeEnd transmitter.new).known c

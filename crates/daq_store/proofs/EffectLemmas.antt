@@ -10,7 +10,7 @@ use Rattle.daq_store.specs.declared.list_state.ListState.{ListState}
 use Rattle.daq_store.specs.Calls.{numbers_below}
 use Rattle.daq_store.specs.Shape.{list_count, odt_count, entry_count, has_odt, has_entry}
 use Rattle.daq_store.specs.Pointer.{pointer, set_place, writes_since, entry_at}
-use Rattle.daq_store.specs.Entries.{odt_of, written}
+use Rattle.daq_store.specs.Entries.{odt_of, last_write}
 use Rattle.daq_store.specs.Modes.{mode_of, stamps}
 use Rattle.daq_store.specs.Running.{is_running, is_selected}
 use Rattle.daq_store.specs.Configuration.{configuration, odt_entries}
@@ -23,12 +23,12 @@ use Rattle.daq_store.proofs.StandingLemmas.{count_stands, get_stands, odt_within
 record SameOdts (a b : List Command) (l : ℕ) : Type 0 where
   odts : odt_count a l ≡ odt_count b l
   entries : (k : ℕ) → entry_count a l k ≡ entry_count b l k
-  written : (k e : ℕ) → written a l k e ≡ written b l k e
+  last_write : (k e : ℕ) → last_write a l k e ≡ last_write b l k e
 
 odt_same : (a b : List Command) (l k : ℕ) → SameOdts a b l → odt_of a l k ≡ odt_of b l k
 odt_same a b l k h =
-    map-same (written a l k) (written b l k) (numbers_below (entry_count a l k)) (h.written k)
-    ∙ ap (λ n. map (written b l k) (numbers_below n)) (h.entries k)
+    map-same (last_write a l k) (last_write b l k) (numbers_below (entry_count a l k)) (h.last_write k)
+    ∙ ap (λ n. map (last_write b l k) (numbers_below n)) (h.entries k)
 
 odts_same : (a b : List Command) (l : ℕ) → SameOdts a b l
     → map (odt_of a l) (numbers_below (odt_count a l)) ≡ map (odt_of b l) (numbers_below (odt_count b l))
@@ -72,7 +72,7 @@ lists_put_stands s calls n = record {
 -- ALLOC_ODT
 alloc_odt_other : (calls : List Command) (l n i : ℕ) → (l == i) ≡ false → SameOf calls (AllocOdt l n ∷ calls) i
 alloc_odt_other calls l n i e = record {
-  odts = record { odts = rw e refl; entries = λ k. rw e refl; written = λ k j. rw e refl };
+  odts = record { odts = rw e refl; entries = λ k. rw e refl; last_write = λ k j. rw e refl };
   mode = refl;
   running = refl;
   selected = refl;
@@ -101,7 +101,7 @@ odts_put_stands s calls l n h inside = record {
 -- ALLOC_ODT_ENTRY
 alloc_odt_entry_other : (calls : List Command) (l k n i : ℕ) → (l == i) ≡ false → SameOf calls (AllocOdtEntry l k n ∷ calls) i
 alloc_odt_entry_other calls l k n i e = record {
-  odts = record { odts = refl; entries = λ j. rw e refl; written = λ j m. rw e refl };
+  odts = record { odts = refl; entries = λ j. rw e refl; last_write = λ j m. rw e refl };
   mode = refl;
   running = refl;
   selected = refl;
@@ -111,18 +111,18 @@ alloc_odt_entry_other calls l k n i e = record {
 odt_unwritten : (calls : List Command) (l k n : ℕ) → (l == l) ≡ true → (k == k) ≡ true
     → odt_of (AllocOdtEntry l k n ∷ calls) l k ≡ replicate n None
 odt_unwritten calls l k n a b =
-    let unwritten : (e : ℕ) → written (AllocOdtEntry l k n ∷ calls) l k e ≡ None = λ e. rw (a, b) refl in
+    let unwritten : (e : ℕ) → last_write (AllocOdtEntry l k n ∷ calls) l k e ≡ None = λ e. rw (a, b) refl in
     let count : entry_count (AllocOdtEntry l k n ∷ calls) l k ≡ n = rw (a, b) refl in
-    ap (λ m. map (written (AllocOdtEntry l k n ∷ calls) l k) (numbers_below m)) count
-    ∙ map-one (written (AllocOdtEntry l k n ∷ calls) l k) None n 0 unwritten
+    ap (λ m. map (last_write (AllocOdtEntry l k n ∷ calls) l k) (numbers_below m)) count
+    ∙ map-one (last_write (AllocOdtEntry l k n ∷ calls) l k) None n 0 unwritten
 
 odt_kept : (calls : List Command) (l k n j : ℕ) → (l == l) ≡ true → (k == j) ≡ false
     → odt_of calls l j ≡ odt_of (AllocOdtEntry l k n ∷ calls) l j
 odt_kept calls l k n j a b =
-    let same : (e : ℕ) → written calls l j e ≡ written (AllocOdtEntry l k n ∷ calls) l j e = λ e. rw (a, b) refl in
+    let same : (e : ℕ) → last_write calls l j e ≡ last_write (AllocOdtEntry l k n ∷ calls) l j e = λ e. rw (a, b) refl in
     let count : entry_count (AllocOdtEntry l k n ∷ calls) l j ≡ entry_count calls l j = rw (a, b) refl in
-    map-same (written calls l j) (written (AllocOdtEntry l k n ∷ calls) l j) (numbers_below (entry_count calls l j)) same
-    ∙ ap (λ m. map (written (AllocOdtEntry l k n ∷ calls) l j) (numbers_below m)) (sym count)
+    map-same (last_write calls l j) (last_write (AllocOdtEntry l k n ∷ calls) l j) (numbers_below (entry_count calls l j)) same
+    ∙ ap (λ m. map (last_write (AllocOdtEntry l k n ∷ calls) l j) (numbers_below m)) (sym count)
 
 odts_unwritten : (calls : List Command) (l k n : ℕ) → k < odt_count calls l
     → set (map (odt_of calls l) (numbers_below (odt_count calls l))) k (replicate n None)
@@ -157,7 +157,7 @@ entries_put_stands s calls l k n h shown =
 -- SET_DAQ_PTR
 set_ptr_same : (calls : List Command) (l k e i : ℕ) → SameOf calls (SetDaqPtr l k e ∷ calls) i
 set_ptr_same calls l k e i = record {
-  odts = record { odts = refl; entries = λ _. refl; written = λ _ _. refl };
+  odts = record { odts = refl; entries = λ _. refl; last_write = λ _ _. refl };
   mode = refl;
   running = refl;
   selected = refl;
@@ -178,23 +178,23 @@ pointer_put_stands s calls l k e h shown = record {
 -- WRITE_DAQ: the entry that is written, and the others
 written_here : (calls : List Command) (bit size ext addr l k e : ℕ) → pointer calls ≡ Some (l, k, e)
     → (l == l) ≡ true → (k == k) ≡ true → (e == e) ≡ true
-    → written (WriteDaq bit size ext addr ∷ calls) l k e ≡ Some (record { address = addr; size = size })
+    → last_write (WriteDaq bit size ext addr ∷ calls) l k e ≡ Some (record { address = addr; size = size })
 written_here calls bit size ext addr l k e at a b c = rw (at, a, b, c) refl
 
 written_other_entry : (calls : List Command) (bit size ext addr l k e i : ℕ) → pointer calls ≡ Some (l, k, e)
     → (l == l) ≡ true → (k == k) ≡ true → (e == i) ≡ false
-    → written calls l k i ≡ written (WriteDaq bit size ext addr ∷ calls) l k i
+    → last_write calls l k i ≡ last_write (WriteDaq bit size ext addr ∷ calls) l k i
 written_other_entry calls bit size ext addr l k e i at a b c = rw (at, a, b, c) refl
 
 written_other_odt : (calls : List Command) (bit size ext addr l k e j i : ℕ) → pointer calls ≡ Some (l, k, e)
     → (l == l) ≡ true → (k == j) ≡ false
-    → written calls l j i ≡ written (WriteDaq bit size ext addr ∷ calls) l j i
+    → last_write calls l j i ≡ last_write (WriteDaq bit size ext addr ∷ calls) l j i
 written_other_odt calls bit size ext addr l k e j i at a b = rw (at, a, b) refl
 
 written_other_list : (calls : List Command) (bit size ext addr l k e x : ℕ) → pointer calls ≡ Some (l, k, e) → (l == x) ≡ false
     → SameOf calls (WriteDaq bit size ext addr ∷ calls) x
 written_other_list calls bit size ext addr l k e x at a = record {
-  odts = record { odts = refl; entries = λ _. refl; written = λ j i. rw (at, a) refl };
+  odts = record { odts = refl; entries = λ _. refl; last_write = λ j i. rw (at, a) refl };
   mode = refl;
   running = refl;
   selected = refl;
@@ -205,10 +205,10 @@ odt_written : (calls : List Command) (bit size ext addr l k e : ℕ) → pointer
     → set (odt_of calls l k) e (Some (record { address = addr; size = size })) ≡ odt_of (WriteDaq bit size ext addr ∷ calls) l k
 odt_written calls bit size ext addr l k e at here =
     let new : List Command = WriteDaq bit size ext addr ∷ calls in
-    let value : written new l k e ≡ Some (record { address = addr; size = size })
+    let value : last_write new l k e ≡ Some (record { address = addr; size = size })
     = written_here calls bit size ext addr l k e at (eq-eqb l l refl) (eq-eqb k k refl) (eq-eqb e e refl) in
     ap (set (odt_of calls l k) e) (sym value)
-    ∙ set-map_below (written calls l k) (written new l k) (entry_count calls l k) e here
+    ∙ set-map_below (last_write calls l k) (last_write new l k) (entry_count calls l k) e here
     (λ i _ other. written_other_entry calls bit size ext addr l k e i at (eq-eqb l l refl) (eq-eqb k k refl) (ne_eqb e i (λ h. other (sym h))))
 
 -- the ODTs after the write
@@ -220,7 +220,7 @@ odts_written calls bit size ext addr l k e at here inside =
     let new : List Command = WriteDaq bit size ext addr ∷ calls in
     ap (set (map (odt_of calls l) (numbers_below (odt_count calls l))) k) (odt_written calls bit size ext addr l k e at here)
     ∙ set-map_below (odt_of calls l) (odt_of new l) (odt_count calls l) k inside
-    (λ j _ other. map-same (written calls l j) (written new l j) (numbers_below (entry_count calls l j))
+    (λ j _ other. map-same (last_write calls l j) (last_write new l j) (numbers_below (entry_count calls l j))
     (λ i. written_other_odt calls bit size ext addr l k e j i at (eq-eqb l l refl) (ne_eqb k j (λ h. other (sym h)))))
 
 -- the list after the write
@@ -268,7 +268,7 @@ entry_put_stands s calls bit size ext addr l k e h pointed shown =
     let entry : e < entry_count calls l k = below_from _ _ (and_right _ _ there) in
     let is : state_of s l ≡ list_after calls l = get_stands s calls l fresh_state h list in
     let len : length (odt_entries (state_of s l).conf k) ≡ entry_count calls l k
-    = ap (λ (x : ListState). length (odt_entries x.conf k)) is ∙ ap length (odt_within calls l k odt) ∙ length-map-range_with_len (written calls l k) 0 (entry_count calls l k) in
+    = ap (λ (x : ListState). length (odt_entries x.conf k)) is ∙ ap length (odt_within calls l k odt) ∙ length-map-range_with_len (last_write calls l k) 0 (entry_count calls l k) in
     record {
       lists = one_list s calls (WriteDaq bit size ext addr) l _ h (rw (count_stands s calls h) list)
           (λ here. write_here calls bit size ext addr l k e at entry odt (state_of s l) is)
@@ -285,7 +285,7 @@ mode_byte mode channel prescaler priority =
 set_mode_odts : (calls : List Command) (mode l channel prescaler priority i : ℕ)
     → SameOdts calls (SetDaqListMode mode l channel prescaler priority ∷ calls) i
 set_mode_odts calls mode l channel prescaler priority i =
-    record { odts = refl; entries = λ _. refl; written = λ _ _. refl }
+    record { odts = refl; entries = λ _. refl; last_write = λ _ _. refl }
 
 set_mode_other : (calls : List Command) (mode l channel prescaler priority i : ℕ) → (l == i) ≡ false
     → SameOf calls (SetDaqListMode mode l channel prescaler priority ∷ calls) i
@@ -316,7 +316,7 @@ mode_put_stands s calls mode l channel prescaler priority h inside = record {
 
 -- START_STOP_DAQ_LIST
 start_stop_odts : (calls : List Command) (mode l i : ℕ) → SameOdts calls (StartStopDaqList mode l ∷ calls) i
-start_stop_odts calls mode l i = record { odts = refl; entries = λ _. refl; written = λ _ _. refl }
+start_stop_odts calls mode l i = record { odts = refl; entries = λ _. refl; last_write = λ _ _. refl }
 
 start_stop_other : (calls : List Command) (mode l i : ℕ) → (l == i) ≡ false → SameOf calls (StartStopDaqList mode l ∷ calls) i
 start_stop_other calls mode l i e = record {
@@ -353,7 +353,7 @@ start_stop_put_stands s calls mode l h inside = record {
 
 -- START_STOP_SYNCH
 synch_odts : (calls : List Command) (mode i : ℕ) → SameOdts calls (StartStopSynch mode ∷ calls) i
-synch_odts calls mode i = record { odts = refl; entries = λ _. refl; written = λ _ _. refl }
+synch_odts calls mode i = record { odts = refl; entries = λ _. refl; last_write = λ _ _. refl }
 
 synch_here : (calls : List Command) (mode i : ℕ) → synched mode (list_after calls i) ≡ list_after (StartStopSynch mode ∷ calls) i
 synch_here calls mode i =

@@ -19,7 +19,7 @@ use Rattle.daq_store.specs.Running.{is_running, any_list}
 use Rattle.daq_store.specs.Answer.{fault_of, answer, accepted_reply, reply_by, is_active_at}
 use Rattle.daq_store.specs.Standing.{StoreState, StandsAfter, Refuses, odts_of}
 use Rattle.daq_store.specs.Effects.{some_runs, other_odts, is_unready, runs_at, or_else, shown_fault, state_of, fresh_state, with_odts, odts_put}
-use Rattle.daq_store.proofs.StandingLemmas.{count_stands, any_stands, first_pid_stands, has_list_stands, has_odt_stands, has_entry_stands, active_stands, ready_stands}
+use Rattle.daq_store.proofs.StandingLemmas.{count_stands, any_stands, first_pid_stands, is_list_stands, has_odt_stands, has_entry_stands, active_stands, ready_stands}
 use Rattle.daq_store.proofs.EffectLemmas.{odts_put_stands}
 
 -- the two checks of an allocation, and then the others
@@ -62,9 +62,9 @@ alloc_odt_fault s calls l n h =
     elim (leb_tells (suc l) (length s.lists)) [
       | inl here ↦
           let total : odts_before (AllocOdt l n ∷ calls) (list_count calls) ≡ other_odts s l + n = odts_total s calls l n h here.1 in
-          rw (runs, ← h.phase, has_list_stands s calls l h, total) (two_first (some_runs s) (forbids_odts s.phase) _)
+          rw (runs, ← h.phase, is_list_stands s calls l h, total) (two_first (some_runs s) (forbids_odts s.phase) _)
       | inr past ↦
-          rw (runs, ← h.phase, has_list_stands s calls l h, past.0) (two_first (some_runs s) (forbids_odts s.phase) _)
+          rw (runs, ← h.phase, is_list_stands s calls l h, past.0) (two_first (some_runs s) (forbids_odts s.phase) _)
     ]
 
 alloc_odt_entry_fault : (s : StoreState) (calls : List Command) (l k n : ℕ) → StandsAfter s calls
@@ -93,13 +93,13 @@ set_mode_fault : (s : StoreState) (calls : List Command) (mode l channel prescal
     → fault_of s.profile calls (SetDaqListMode mode l channel prescaler priority)
     ≡ shown_fault s (SetDaqListMode mode l channel prescaler priority)
 set_mode_fault s calls mode l channel prescaler priority h =
-    rw (active_stands s calls l h, has_list_stands s calls l h) refl
+    rw (active_stands s calls l h, is_list_stands s calls l h) refl
 
 start_stop_fault : (s : StoreState) (calls : List Command) (mode l : ℕ) → StandsAfter s calls
     → fault_of s.profile calls (StartStopDaqList mode l) ≡ shown_fault s (StartStopDaqList mode l)
 start_stop_fault s calls mode l h = elim (leb_tells (suc l) (length s.lists)) [
-  | inl here ↦ rw (has_list_stands s calls l h, here.0, ready_stands s calls l h here.1) refl
-  | inr past ↦ rw (has_list_stands s calls l h, past.0) refl
+  | inl here ↦ rw (is_list_stands s calls l h, here.0, ready_stands s calls l h here.1) refl
+  | inr past ↦ rw (is_list_stands s calls l h, past.0) refl
 ]
 
 synch_fault : (s : StoreState) (calls : List Command) (mode : ℕ) → StandsAfter s calls

@@ -12,7 +12,7 @@ use Rattle.std.proofs.lemmas.List.Elements.{All-set, All-map, All-get_or}
 use Rattle.daq_store.specs.declared.entry.Entry.{Entry}
 use Rattle.daq_store.specs.declared.mode.Mode.{Mode}
 use Rattle.daq_store.specs.declared.list_state.ListState.{ListState}
-use Rattle.daq_store.specs.Configuration.{fresh, odt_entries, is_ready}
+use Rattle.daq_store.specs.Configuration.{fresh_conf, odt_entries, is_ready}
 use Rattle.daq_store.specs.Standing.{StoreState, IsStore, IsAtEntry, RunsReady, conf_of, odts_of}
 use Rattle.daq_store.specs.Effects.{with_mode, with_entry, start_stopped, synched, is_unready}
 use Rattle.daq_store.proofs.TableLemmas.{sum_by-map, below_from}
@@ -23,7 +23,7 @@ abbrev all_odts : ListState → List (List (Option Entry))
 all_odts x = x.conf.odts
 
 odts_at : (xs : List ListState) (l : ℕ)
-    → (unwrap_or (option_map (λ x. x.conf) (slice_get xs l)) fresh).odts ≡ get_or (map all_odts xs) l []
+    → (unwrap_or (option_map (λ x. x.conf) (slice_get xs l)) fresh_conf).odts ≡ get_or (map all_odts xs) l []
 odts_at [] zero = refl
 odts_at [] (suc l) = refl
 odts_at (x ∷ xs) zero = refl

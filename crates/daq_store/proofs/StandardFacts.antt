@@ -7,7 +7,7 @@ use Rattle.daq_store.specs.declared.reply.Reply.TheVariants.{Positive, Started, 
 use Rattle.daq_store.specs.Calls.{Profile}
 use Rattle.daq_store.specs.Shape.{odts_before}
 use Rattle.daq_store.specs.Pointer.{pointer}
-use Rattle.daq_store.specs.Entries.{written}
+use Rattle.daq_store.specs.Entries.{last_write}
 use Rattle.daq_store.specs.Modes.{mode_of}
 use Rattle.daq_store.specs.Running.{is_running, is_selected}
 use Rattle.daq_store.specs.Answer.{answers, calls_after}
@@ -67,7 +67,7 @@ pointer_after_the_last : pointer (stand_after (images_of 4) [] some_writes) ≡ 
 pointer_after_the_last = refl
 
 entry_of_the_last_write :
-    written (stand_after (images_of 4) [] some_writes) 0 0 0 ≡ Some (record { address = 2; size = 2 })
+    last_write (stand_after (images_of 4) [] some_writes) 0 0 0 ≡ Some (record { address = 2; size = 2 })
 entry_of_the_last_write = refl
 
 -- a packet of 64 bytes, and one of 65

@@ -9,10 +9,10 @@ use Rattle.daq_store.specs.declared.command.Command.{Command}
 use Rattle.daq_store.specs.declared.entry.Entry.{Entry}
 use Rattle.daq_store.specs.declared.list_state.ListState.{ListState}
 use Rattle.daq_store.specs.Calls.{numbers_below}
-use Rattle.daq_store.specs.Shape.{list_count, odt_count, entry_count, has_list, has_odt, has_entry, odts_before}
-use Rattle.daq_store.specs.Entries.{odt_of, written}
+use Rattle.daq_store.specs.Shape.{list_count, odt_count, entry_count, is_list, has_odt, has_entry, odts_before}
+use Rattle.daq_store.specs.Entries.{odt_of, last_write}
 use Rattle.daq_store.specs.Running.{is_active, is_chosen, any_list}
-use Rattle.daq_store.specs.Configuration.{configuration, fresh, odt_entries, is_ready, list_is_ready}
+use Rattle.daq_store.specs.Configuration.{configuration, fresh_conf, odt_entries, is_ready, list_is_ready}
 use Rattle.daq_store.specs.Standing.{IsStore, StoreState, StandsAfter, list_after, conf_of, shows_running, shows_selected, odts_of, first_pid_of, first_pid_after}
 use Rattle.daq_store.specs.Effects.{fresh_state, shows_list, shows_odt, shows_entry}
 use Rattle.daq_store.proofs.TableLemmas.{list_any-map, sum_by-map, sum_by-same, and_left, and_right, below_from, below_is}
@@ -42,8 +42,8 @@ pub get_stands : (s : StoreState) (calls : List Command) (l : ℕ) (d : ListStat
 get_stands s calls l d h inside =
     ap (λ xs. get_or xs l d) h.lists ∙ get_or-map-range_with_len (list_after calls) 0 (list_count calls) l l d inside (zero-add l)
 
-pub has_list_stands : (s : StoreState) (calls : List Command) (l : ℕ) → StandsAfter s calls → has_list calls l ≡ shows_list s l
-has_list_stands s calls l h = ap (nat_lt l) (sym (count_stands s calls h))
+pub is_list_stands : (s : StoreState) (calls : List Command) (l : ℕ) → StandsAfter s calls → is_list calls l ≡ shows_list s l
+is_list_stands s calls l h = ap (nat_lt l) (sym (count_stands s calls h))
 
 -- what is shown of a list, at a place that is there, and past the last
 pub at_stands : (s : StoreState) (calls : List Command) (l : ℕ) → StandsAfter s calls → l < list_count calls
@@ -61,7 +61,7 @@ past_stands s calls l h past =
 pub conf_stands : (s : StoreState) (calls : List Command) (l : ℕ) → StandsAfter s calls → l < list_count calls
     → conf_of s l ≡ configuration calls l
 conf_stands s calls l h inside =
-    ap (λ (o : Option ListState). unwrap_or (option_map (λ x. x.conf) o) fresh) (at_stands s calls l h inside)
+    ap (λ (o : Option ListState). unwrap_or (option_map (λ x. x.conf) o) fresh_conf) (at_stands s calls l h inside)
 
 -- whether a list runs, whether it is selected
 pub active_stands : (s : StoreState) (calls : List Command) (l : ℕ) → StandsAfter s calls → is_active calls l ≡ shows_running s l
@@ -111,7 +111,7 @@ entry_within : (calls : List Command) (l k e : ℕ)
 entry_within calls l k e = elim (leb_tells (suc k) (odt_count calls l)) [
   | inl here ↦
       let len : length (odt_entries (configuration calls l) k) ≡ entry_count calls l k
-      = ap length (odt_within calls l k here.1) ∙ length-map-range_with_len (written calls l k) 0 (entry_count calls l k) in
+      = ap length (odt_within calls l k here.1) ∙ length-map-range_with_len (last_write calls l k) 0 (entry_count calls l k) in
       rw (here.0, len) refl
   | inr past ↦
       let none : odt_entries (configuration calls l) k ≡ [] = odt_past calls l k (omega arith) in
@@ -186,7 +186,7 @@ selected_past s l past = rw (slice_get_past s.lists l past) refl
 pub room : (s : StoreState) (l : ℕ) → IsStore s → l < length s.lists → first_pid_of s l + length (conf_of s l).odts ≤ 124
 room s l store inside =
     let own : length (conf_of s l).odts ≡ odts_of (get_or s.lists l fresh_state)
-    = ap (λ (o : Option ListState). length (unwrap_or (option_map (λ x. x.conf) o) fresh).odts) (slice_get-get_or s.lists l fresh_state inside) in
+    = ap (λ (o : Option ListState). length (unwrap_or (option_map (λ x. x.conf) o) fresh_conf).odts) (slice_get-get_or s.lists l fresh_state inside) in
     omega (arith, own, sum_by_more_le odts_of s.lists l fresh_state inside, store.odts)
 
 -- a list that is there and ready
@@ -207,14 +207,14 @@ abbrev pub IsReadyAt : StoreState → ℕ → Type 0
 IsReadyAt s l = (l < length s.lists) × (is_ready s.profile.image_len (conf_of s l) ≡ true)
 
 pub ready_after : (s : StoreState) (calls : List Command) (l : ℕ) → StandsAfter s calls → IsReadyAt s l
-    → (has_list calls l && list_is_ready s.profile calls l) ≡ true
+    → (is_list calls l && list_is_ready s.profile calls l) ≡ true
 ready_after s calls l h ready =
-    let there : has_list calls l ≡ true = has_list_stands s calls l h ∙ below_is l (length s.lists) ready.0 in
+    let there : is_list calls l ≡ true = is_list_stands s calls l h ∙ below_is l (length s.lists) ready.0 in
     rw (there, ready_stands s calls l h ready.0) ready.1
 
 pub ready_before : (s : StoreState) (calls : List Command) (l : ℕ) → StandsAfter s calls
-    → (has_list calls l && list_is_ready s.profile calls l) ≡ true → IsReadyAt s l
+    → (is_list calls l && list_is_ready s.profile calls l) ≡ true → IsReadyAt s l
 ready_before s calls l h both =
-    let there : shows_list s l ≡ true = sym (has_list_stands s calls l h) ∙ and_left _ _ both in
+    let there : shows_list s l ≡ true = sym (is_list_stands s calls l h) ∙ and_left _ _ both in
     let inside : l < length s.lists = below_from _ _ there in
     (inside, sym (ready_stands s calls l h inside) ∙ and_right _ _ both)

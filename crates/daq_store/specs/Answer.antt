@@ -1,32 +1,50 @@
--- What is answered to a call: the first check that fails, else a positive reply. Which checks a call makes, their order
--- and their codes are (own).
-use Rattle.std.specs.Prelude.{ℕ, ◌+◌, ◌==◌, ◌&&◌, ◌||◌, not, nat_lt, Bool, false, if◌then◌else◌, List, [], ◌∷◌, Option, Some, None, is_some, is_none}
+-- What is answered to a call: the first check that fails, else a positive reply. Which checks a
+-- call makes, their order and their codes are (own).
+use Rattle.std.specs.Prelude.{ℕ, ◌+◌, ◌==◌, ◌&&◌, ◌||◌, not, nat_lt, Bool, false, if◌then◌else◌}
+use Rattle.std.specs.Prelude.{List, [], ◌∷◌, Option, Some, None, is_some, is_none}
+use Rattle.xcp_base.specs.declared.limits.TheConstants.{ADDRESS_EXTENSION, MAX_ENTRIES}
+use Rattle.xcp_base.specs.declared.limits.TheConstants.{MAX_ENTRY_SIZE}
+use Rattle.xcp_base.specs.declared.limits.TheConstants.{MAX_LISTS, MAX_ODTS, MAX_ODTS_IN_ALL}
 use Rattle.xcp_base.specs.declared.err_code.ErrCode.{ErrCode}
-use Rattle.xcp_base.specs.declared.err_code.ErrCode.TheVariants.{DaqActive, OutOfRange, ModeNotValid, Sequence, DaqConfig, MemoryOverflow}
+use Rattle.xcp_base.specs.declared.err_code.ErrCode.TheVariants.{DaqActive, OutOfRange}
+use Rattle.xcp_base.specs.declared.err_code.ErrCode.TheVariants.{ModeNotValid, Sequence, DaqConfig}
+use Rattle.xcp_base.specs.declared.err_code.ErrCode.TheVariants.{MemoryOverflow}
 use Rattle.daq_store.specs.declared.command.Command.{Command}
-use Rattle.daq_store.specs.declared.command.Command.TheVariants.{FreeDaq, AllocDaq, AllocOdt, AllocOdtEntry, SetDaqPtr, WriteDaq, SetDaqListMode, StartStopDaqList, StartStopSynch}
+use Rattle.daq_store.specs.declared.command.Command.TheVariants.{FreeDaq, AllocDaq, AllocOdt}
+use Rattle.daq_store.specs.declared.command.Command.TheVariants.{AllocOdtEntry, SetDaqPtr, WriteDaq}
+use Rattle.daq_store.specs.declared.command.Command.TheVariants.{SetDaqListMode, StartStopDaqList}
+use Rattle.daq_store.specs.declared.command.Command.TheVariants.{StartStopSynch}
 use Rattle.daq_store.specs.declared.reply.Reply.{Reply}
 use Rattle.daq_store.specs.declared.reply.Reply.TheVariants.{Positive, Started, Error}
 use Rattle.daq_store.specs.Calls.{Profile, and_then}
-use Rattle.daq_store.specs.Shape.{phase_of, list_count, has_list, has_odt, has_entry, odts_before, forbids_lists, forbids_odts, forbids_entries}
+use Rattle.daq_store.specs.Shape.{phase_of, list_count, is_list, has_odt, has_entry, odts_before}
+use Rattle.daq_store.specs.Shape.{forbids_lists, forbids_odts, forbids_entries}
 use Rattle.daq_store.specs.Pointer.{pointer}
 use Rattle.daq_store.specs.Running.{is_running, is_selected, is_active, any_list}
 use Rattle.daq_store.specs.Configuration.{list_is_ready}
 
--- with n ODTs in list l, in place of those that it has, a list would have over 8 ODTs or all together over 124
+-- with n ODTs in list l, in place of those that it has, the list would have too many, or all lists
+-- together
 abbrev pub are_too_many : List Command → ℕ → ℕ → Bool
-are_too_many calls l n = nat_lt 8 n || nat_lt 124 (odts_before (AllocOdt l n ∷ calls) (list_count calls))
+are_too_many calls l n =
+    nat_lt MAX_ODTS n
+    || nat_lt MAX_ODTS_IN_ALL (odts_before (AllocOdt l n ∷ calls) (list_count calls))
 
 -- the pointer is defined, and its list exists and runs
 abbrev pub is_active_at : List Command → Option (ℕ × ℕ × ℕ) → Bool
 is_active_at calls None = false
 is_active_at calls (Some p) = is_active calls p.0
 
--- an entry that is one bit (a bit offset other than 0xFF), has no byte or over 63, has an address extension, or ends
--- after the image
+-- an entry that is one bit (a bit offset other than 0xFF), has no byte or too many, has another
+-- address extension than the one that there is, or ends after the image
 abbrev pub is_bad_entry : ℕ → ℕ → ℕ → ℕ → ℕ → Bool
 is_bad_entry image_len bit size ext addr =
-    not (bit == 0xFF) || size == 0 || nat_lt 63 size || not (ext == 0) || nat_lt image_len (addr + size)
+    not (bit == 0xFF) || size == 0 || nat_lt MAX_ENTRY_SIZE size || not (ext == ADDRESS_EXTENSION)
+    || nat_lt image_len (addr + size)
+
+-- list l is selected and not ready
+abbrev pub selects_unready : Profile → List Command → ℕ → Bool
+selects_unready profile calls l = is_selected calls l && not (list_is_ready profile calls l)
 
 -- the checks of a call, each with the error that it is answered by, in their order
 abbrev pub checks : Profile → List Command → Command → List (Bool × ErrCode)
@@ -34,17 +52,17 @@ checks profile calls FreeDaq = []
 checks profile calls (AllocDaq count) =
     (any_list calls (is_running calls), DaqActive)
     ∷ (forbids_lists (phase_of calls), Sequence)
-    ∷ (nat_lt 16 count, MemoryOverflow) ∷ []
+    ∷ (nat_lt MAX_LISTS count, MemoryOverflow) ∷ []
 checks profile calls (AllocOdt list count) =
     (any_list calls (is_running calls), DaqActive)
     ∷ (forbids_odts (phase_of calls), Sequence)
-    ∷ (not (has_list calls list), OutOfRange)
+    ∷ (not (is_list calls list), OutOfRange)
     ∷ (are_too_many calls list count, MemoryOverflow) ∷ []
 checks profile calls (AllocOdtEntry list odt count) =
     (any_list calls (is_running calls), DaqActive)
     ∷ (forbids_entries (phase_of calls), Sequence)
     ∷ (not (has_odt calls list odt), OutOfRange)
-    ∷ (nat_lt 32 count, MemoryOverflow) ∷ []
+    ∷ (nat_lt MAX_ENTRIES count, MemoryOverflow) ∷ []
 checks profile calls (SetDaqPtr list odt entry) =
     (is_active calls list, DaqActive)
     ∷ (not (has_entry calls list odt entry), OutOfRange) ∷ []
@@ -54,16 +72,18 @@ checks profile calls (WriteDaq bit size ext addr) =
     ∷ (is_bad_entry profile.image_len bit size ext addr, OutOfRange) ∷ []
 checks profile calls (SetDaqListMode mode list channel prescaler priority) =
     (is_active calls list, DaqActive)
-    ∷ (not (has_list calls list) || not (nat_lt channel profile.channels) || prescaler == 0, OutOfRange)
+    ∷ (
+      not (is_list calls list) || not (nat_lt channel profile.channels) || prescaler == 0,
+      OutOfRange,
+    )
     ∷ (not (mode == 0 || mode == 0x10), ModeNotValid) ∷ []
 checks profile calls (StartStopDaqList mode list) =
-    (not (has_list calls list), OutOfRange)
+    (not (is_list calls list), OutOfRange)
     ∷ (nat_lt 2 mode, ModeNotValid)
     ∷ (mode == 1 && not (list_is_ready profile calls list), DaqConfig) ∷ []
 checks profile calls (StartStopSynch mode) =
     (nat_lt 2 mode, ModeNotValid)
-    ∷ (mode == 1 && any_list calls (λ l. is_selected calls l && not (list_is_ready profile calls l)), DaqConfig)
-    ∷ []
+    ∷ (mode == 1 && any_list calls (selects_unready profile calls), DaqConfig) ∷ []
 
 -- the error of the first check that fails
 abbrev pub first_failing : List (Bool × ErrCode) → Option ErrCode
@@ -90,7 +110,8 @@ answer profile calls call = reply_by (accepted_reply calls call) (fault_of profi
 
 -- the calls that stand after one that was asked for: those before it, if it was refused
 abbrev pub calls_after : Profile → List Command → Command → List Command
-calls_after profile calls call = if is_some (fault_of profile calls call) then calls else and_then calls call
+calls_after profile calls call =
+    if is_some (fault_of profile calls call) then calls else and_then calls call
 
 -- the answers to calls that are asked for one after another
 abbrev pub answers : Profile → List Command → List Command → List Reply

@@ -1,5 +1,6 @@
--- Lists of calls: those that a store accepted since the last FREE_DAQ, the newest first. `call ∷ earlier` is a call and
--- those before it, and each definition over them looks back to the last call that matters (own).
+-- Lists of calls: those that a store accepted since the last FREE_DAQ, the newest first. `call ∷
+-- earlier` is a call and those before it, and each definition over them looks back to the last call
+-- that matters (own).
 use Rattle.std.specs.Prelude.{ℕ, List, [], ◌∷◌}
 use Rattle.std.specs.List.{range_with_len}
 use Rattle.daq_store.specs.declared.command.Command.{Command}

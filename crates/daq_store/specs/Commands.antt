@@ -1,11 +1,15 @@
--- Command packets (ASAM MCD-1 XCP, protocol layer, data acquisition commands): the code of a command, and what follows it.
--- That a longer packet is accepted and its surplus ignored, that a reserved byte may have any value, and the order of the
--- errors are (own).
-use Rattle.std.specs.Prelude.{◌≡◌, ℕ, ◌+◌, ◌*◌, ◌/◌, ◌%◌, ◌<◌, ◌==◌, nat_lt, if◌then◌else◌, List, [], ◌∷◌, ◌++◌, length, Option, Some, None, Result, Ok, Err}
+-- Command packets (ASAM MCD-1 XCP, protocol layer, data acquisition commands): the code of a
+-- command, and what follows it. That a longer packet is accepted and its surplus ignored, that a
+-- reserved byte may have any value, and the order of the errors are (own).
+use Rattle.std.specs.Prelude.{◌≡◌, ℕ, ◌+◌, ◌*◌, ◌/◌, ◌%◌, ◌<◌, ◌==◌, nat_lt, if◌then◌else◌, List}
+use Rattle.std.specs.Prelude.{[], ◌∷◌, ◌++◌, length, Option, Some, None, Result, Ok, Err}
 use Rattle.xcp_base.specs.declared.err_code.ErrCode.{ErrCode}
 use Rattle.xcp_base.specs.declared.err_code.ErrCode.TheVariants.{CmdSyntax, CmdUnknown}
 use Rattle.daq_store.specs.declared.command.Command.{Command}
-use Rattle.daq_store.specs.declared.command.Command.TheVariants.{FreeDaq, AllocDaq, AllocOdt, AllocOdtEntry, SetDaqPtr, WriteDaq, SetDaqListMode, StartStopDaqList, StartStopSynch}
+use Rattle.daq_store.specs.declared.command.Command.TheVariants.{FreeDaq, AllocDaq, AllocOdt}
+use Rattle.daq_store.specs.declared.command.Command.TheVariants.{AllocOdtEntry, SetDaqPtr, WriteDaq}
+use Rattle.daq_store.specs.declared.command.Command.TheVariants.{SetDaqListMode, StartStopDaqList}
+use Rattle.daq_store.specs.declared.command.Command.TheVariants.{StartStopSynch}
 
 -- a WORD and a DWORD, the least significant byte first
 abbrev pub word_bytes : ℕ → List ℕ
@@ -19,8 +23,10 @@ abbrev pub command_bytes : Command → ℕ → List ℕ
 command_bytes FreeDaq reserved = 0xD6 ∷ []
 command_bytes (AllocDaq count) reserved = 0xD5 ∷ reserved ∷ word_bytes count
 command_bytes (AllocOdt list count) reserved = 0xD4 ∷ reserved ∷ (word_bytes list ++ count ∷ [])
-command_bytes (AllocOdtEntry list odt count) reserved = 0xD3 ∷ reserved ∷ (word_bytes list ++ odt ∷ count ∷ [])
-command_bytes (SetDaqPtr list odt entry) reserved = 0xE2 ∷ reserved ∷ (word_bytes list ++ odt ∷ entry ∷ [])
+command_bytes (AllocOdtEntry list odt count) reserved =
+    0xD3 ∷ reserved ∷ (word_bytes list ++ odt ∷ count ∷ [])
+command_bytes (SetDaqPtr list odt entry) reserved =
+    0xE2 ∷ reserved ∷ (word_bytes list ++ odt ∷ entry ∷ [])
 command_bytes (WriteDaq bit size ext addr) reserved = 0xE1 ∷ bit ∷ size ∷ ext ∷ dword_bytes addr
 command_bytes (SetDaqListMode mode list channel prescaler priority) reserved =
     0xE0 ∷ mode ∷ (word_bytes list ++ (word_bytes channel ++ prescaler ∷ priority ∷ []))
@@ -38,7 +44,8 @@ HasFields (SetDaqListMode mode list channel prescaler priority) = (list < 65536)
 HasFields (StartStopDaqList mode list) = list < 65536
 HasFields _ = Unit {0}
 
--- the packet is that of the command: for some reserved byte it is the command's bytes, and then any surplus
+-- the packet is that of the command: for some reserved byte it is the command's bytes, and then any
+-- surplus
 pub record IsPacketOf (packet : List ℕ) (call : Command) : Type 0 where
   pub fields : HasFields call
   pub reserved : ℕ
@@ -59,12 +66,14 @@ least_len code =
     else if code == 0xDD then Some 2
     else None
 
--- the error in a packet of this length whose code has this least length: none is known, or it is too short
+-- the error in a packet of this length whose code has this least length: none is known, or it is
+-- too short
 abbrev pub fault_of_len : ℕ → Option ℕ → Option ErrCode
 fault_of_len len None = Some CmdUnknown
 fault_of_len len (Some least) = if nat_lt len least then Some CmdSyntax else None
 
--- the error in a packet, if there is one: it is empty, or else its code is unknown, or else it is too short
+-- the error in a packet, if there is one: it is empty, or else its code is unknown, or else it is
+-- too short
 abbrev pub packet_fault : List ℕ → Option ErrCode
 packet_fault [] = Some CmdSyntax
 packet_fault (code ∷ more) = fault_of_len (1 + length more) (least_len code)

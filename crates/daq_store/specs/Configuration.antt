@@ -1,6 +1,12 @@
--- What is set of one DAQ list, and when that is enough to start it. MAX_DTO of 64 bytes and the other limits are (own).
-use Rattle.std.specs.Prelude.{◌<◌, ◌≤◌, IfSome, All, ℕ, ◌+◌, ◌==◌, ◌&&◌, nat_lt, nat_le, Bool, false, if◌then◌else◌, List, [], length, map, slice_get, sum_by, Option, Some, None, is_some, option_and_then, unwrap_or}
+-- What is set of one DAQ list, and when that is enough to start it. MAX_DTO and the other limits
+-- are (own).
+use Rattle.std.specs.Prelude.{◌<◌, ◌≤◌, IfSome, All, ℕ, ◌+◌, ◌&&◌, nat_lt, nat_le, Bool}
+use Rattle.std.specs.Prelude.{false, List, [], length, map, slice_get, sum_by}
+use Rattle.std.specs.Prelude.{Option, Some, None, is_some, option_and_then, unwrap_or}
 use Rattle.std.specs.List.{list_all}
+use Rattle.xcp_base.specs.declared.limits.TheConstants.{MAX_CHANNELS, MAX_DTO, MAX_ENTRIES}
+use Rattle.xcp_base.specs.declared.limits.TheConstants.{MAX_ENTRY_SIZE, MAX_ODTS}
+use Rattle.xcp_base.specs.Packets.{packet_len}
 use Rattle.daq_store.specs.declared.command.Command.{Command}
 use Rattle.daq_store.specs.declared.mode.Mode.{Mode}
 use Rattle.daq_store.specs.declared.entry.Entry.{Entry}
@@ -9,7 +15,8 @@ use Rattle.daq_store.specs.Shape.{odt_count}
 use Rattle.daq_store.specs.Entries.{odt_of}
 use Rattle.daq_store.specs.Modes.{mode_of}
 
--- a list as it is set: its mode, if one was set, and for each ODT its entries, of which some may be unwritten
+-- a list as it is set: its mode, if one was set, and for each ODT its entries, of which some may be
+-- unwritten
 pub record Configuration : Type 0 where
   pub mode : Option Mode
   pub odts : List (List (Option Entry))
@@ -17,11 +24,14 @@ pub record Configuration : Type 0 where
 -- what is set of list l
 abbrev pub configuration : List Command → ℕ → Configuration
 configuration calls l =
-    record { mode = mode_of calls l; odts = map (odt_of calls l) (numbers_below (odt_count calls l)) }
+    record {
+      mode = mode_of calls l;
+      odts = map (odt_of calls l) (numbers_below (odt_count calls l));
+    }
 
 -- a list as it is when it is allocated
-abbrev pub fresh : Configuration
-fresh = record { mode = None; odts = [] }
+abbrev pub fresh_conf : Configuration
+fresh_conf = record { mode = None; odts = [] }
 
 -- the entries of ODT k; none where there is no such ODT
 abbrev pub odt_entries : Configuration → ℕ → List (Option Entry)
@@ -53,13 +63,9 @@ abbrev pub entry_len : Option Entry → ℕ
 entry_len (Some entry) = entry.size
 entry_len None = 0
 
--- the bytes of the timestamp in the packet of ODT k: 4 in ODT 0 of a stamped list
-abbrev pub stamp_len : Configuration → ℕ → ℕ
-stamp_len c k = if k == 0 && is_stamped c.mode then 4 else 0
-
--- the bytes of the packet of ODT k: the PID, the timestamp and the entries
-abbrev pub packet_len : Configuration → ℕ → ℕ
-packet_len c k = 1 + stamp_len c k + sum_by entry_len (odt_entries c k)
+-- the bytes of the entries of ODT k
+abbrev pub entries_len : Configuration → ℕ → ℕ
+entries_len c k = sum_by entry_len (odt_entries c k)
 
 -- the entry is written and ends within the image
 abbrev pub is_within : ℕ → Option Entry → Bool
@@ -70,34 +76,39 @@ is_within image_len None = false
 abbrev pub is_filled : ℕ → List (Option Entry) → Bool
 is_filled image_len entries = nat_lt 0 (length entries) && list_all (is_within image_len) entries
 
--- the packet of each ODT has at most 64 bytes
-abbrev pub are_short : Configuration → Bool
-are_short c = list_all (λ k. nat_le (packet_len c k) 64) (numbers_below (length c.odts))
+-- the packet of ODT k has at most MAX_DTO bytes
+abbrev pub is_short : Configuration → ℕ → Bool
+is_short c k = nat_le (packet_len (is_stamped c.mode) k (entries_len c k)) MAX_DTO
 
--- a mode was set, there is an ODT, each ODT is filled, and each packet has at most 64 bytes
+-- the packet of each ODT is short enough
+abbrev pub are_short : Configuration → Bool
+are_short c = list_all (is_short c) (numbers_below (length c.odts))
+
+-- a mode was set, there is an ODT, each ODT is filled, and each packet is short enough
 abbrev pub is_ready : ℕ → Configuration → Bool
 is_ready image_len c =
-    is_some c.mode && nat_lt 0 (length c.odts) && list_all (is_filled image_len) c.odts && are_short c
+    is_some c.mode && nat_lt 0 (length c.odts) && list_all (is_filled image_len) c.odts
+    && are_short c
 
 -- list l is ready
 abbrev pub list_is_ready : Profile → List Command → ℕ → Bool
 list_is_ready profile calls l = is_ready profile.image_len (configuration calls l)
 
--- a mode names a channel below 8 and a prescaler of at least 1
+-- a mode names one of the channels that there may be, and a prescaler of at least 1
 abbrev pub IsMode : Mode → Type 0
-IsMode m = (m.channel < 8) × (0 < m.prescaler)
+IsMode m = (m.channel < MAX_CHANNELS) × (0 < m.prescaler)
 
--- an entry, if it is written, has 1 to 63 bytes
+-- an entry, if it is written, has 1 to MAX_ENTRY_SIZE bytes
 abbrev pub IsEntry : Option Entry → Type 0
-IsEntry entry = IfSome entry (λ x. (0 < x.size) × (x.size ≤ 63))
+IsEntry entry = IfSome entry (λ x. (0 < x.size) × (x.size ≤ MAX_ENTRY_SIZE))
 
--- an ODT has at most 32 entries, each of 1 to 63 bytes if it is written
+-- an ODT has at most MAX_ENTRIES entries
 pub record IsOdt (entries : List (Option Entry)) : Type 0 where
-  pub count : length entries ≤ 32
+  pub count : length entries ≤ MAX_ENTRIES
   pub sizes : All IsEntry entries
 
 -- what every list keeps to, ready or not
 pub record IsWithinLimits (c : Configuration) : Type 0 where
   pub mode : IfSome c.mode IsMode
-  pub count : length c.odts ≤ 8
+  pub count : length c.odts ≤ MAX_ODTS
   pub odts : All IsOdt c.odts

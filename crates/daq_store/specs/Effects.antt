@@ -1,22 +1,31 @@
--- What the private helpers of the store test and change. No public clause cites this file.
-use Rattle.std.specs.Prelude.{◌≡◌, ℕ, ◌+◌, ◌-◌, ◌==◌, ◌&&◌, ◌||◌, not, nat_lt, Bool, false, if◌then◌else◌, [], length, map, sum_by, slice_index_or, slice_set, replicate, Option, Some, None, is_none}
+-- Inner: what the private helpers of the store test and change. No public clause cites this file.
+use Rattle.std.specs.Prelude.{◌≡◌, ℕ, ◌+◌, ◌-◌, ◌==◌, ◌&&◌, ◌||◌, not, nat_lt, Bool, false}
+use Rattle.std.specs.Prelude.{if◌then◌else◌, [], length, map, sum_by, slice_index_or, slice_set}
+use Rattle.std.specs.Prelude.{replicate, Option, Some, None, is_none}
 use Rattle.std.specs.List.{list_any}
+use Rattle.xcp_base.specs.declared.limits.TheConstants.{MAX_ENTRIES, MAX_LISTS, MAX_ODTS}
+use Rattle.xcp_base.specs.declared.limits.TheConstants.{MAX_ODTS_IN_ALL}
 use Rattle.xcp_base.specs.declared.err_code.ErrCode.{ErrCode}
-use Rattle.xcp_base.specs.declared.err_code.ErrCode.TheVariants.{DaqActive, OutOfRange, ModeNotValid, Sequence, DaqConfig, MemoryOverflow}
+use Rattle.xcp_base.specs.declared.err_code.ErrCode.TheVariants.{DaqActive, OutOfRange}
+use Rattle.xcp_base.specs.declared.err_code.ErrCode.TheVariants.{ModeNotValid, Sequence, DaqConfig}
+use Rattle.xcp_base.specs.declared.err_code.ErrCode.TheVariants.{MemoryOverflow}
 use Rattle.daq_store.specs.declared.command.Command.{Command}
-use Rattle.daq_store.specs.declared.command.Command.TheVariants.{FreeDaq, AllocDaq, AllocOdt, AllocOdtEntry, SetDaqPtr, WriteDaq, SetDaqListMode, StartStopDaqList, StartStopSynch}
+use Rattle.daq_store.specs.declared.command.Command.TheVariants.{FreeDaq, AllocDaq, AllocOdt}
+use Rattle.daq_store.specs.declared.command.Command.TheVariants.{AllocOdtEntry, SetDaqPtr, WriteDaq}
+use Rattle.daq_store.specs.declared.command.Command.TheVariants.{SetDaqListMode, StartStopDaqList}
+use Rattle.daq_store.specs.declared.command.Command.TheVariants.{StartStopSynch}
 use Rattle.daq_store.specs.declared.phase.Phase.TheVariants as phase
 use Rattle.daq_store.specs.declared.mode.Mode.{Mode}
 use Rattle.daq_store.specs.declared.entry.Entry.{Entry}
 use Rattle.daq_store.specs.declared.list_state.ListState.{ListState}
-use Rattle.daq_store.specs.Configuration.{fresh, odt_entries, is_ready}
+use Rattle.daq_store.specs.Configuration.{fresh_conf, odt_entries, is_ready}
 use Rattle.daq_store.specs.Shape.{forbids_lists, forbids_odts, forbids_entries}
 use Rattle.daq_store.specs.Answer.{is_bad_entry}
 use Rattle.daq_store.specs.Standing.{StoreState, conf_of, odts_of, shows_running}
 
 -- a list as it is when it is allocated
 abbrev pub fresh_state : ListState
-fresh_state = record { conf = fresh; running = false; selected = false }
+fresh_state = record { conf = fresh_conf; running = false; selected = false }
 
 -- the list at a place
 abbrev pub state_of : StoreState → ℕ → ListState
@@ -42,7 +51,7 @@ other_odts s l = sum_by odts_of s.lists - odts_of (state_of s l)
 
 -- with n ODTs in list l, in place of those that it has, there would be too many
 abbrev pub shows_too_many : StoreState → ℕ → ℕ → Bool
-shows_too_many s l n = nat_lt 8 n || nat_lt 124 (other_odts s l + n)
+shows_too_many s l n = nat_lt MAX_ODTS n || nat_lt MAX_ODTS_IN_ALL (other_odts s l + n)
 
 -- list l isn't ready
 abbrev pub shows_unready : StoreState → ℕ → Bool
@@ -68,7 +77,8 @@ runs_at s (Some p) = shows_running s p.0
 
 -- the first two checks of an allocation, where its phase forbids it or not
 abbrev pub allocation_fault : StoreState → Bool → Option ErrCode
-allocation_fault s forbidden = if some_runs s then Some DaqActive else if forbidden then Some Sequence else None
+allocation_fault s forbidden =
+    if some_runs s then Some DaqActive else if forbidden then Some Sequence else None
 
 -- the first of two faults
 abbrev pub or_else : Option ErrCode → Option ErrCode → Option ErrCode
@@ -80,7 +90,7 @@ abbrev pub shown_fault : StoreState → Command → Option ErrCode
 shown_fault s FreeDaq = None
 shown_fault s (AllocDaq count) =
     or_else (allocation_fault s (forbids_lists s.phase))
-    (if nat_lt 16 count then Some MemoryOverflow else None)
+    (if nat_lt MAX_LISTS count then Some MemoryOverflow else None)
 shown_fault s (AllocOdt list count) =
     or_else (allocation_fault s (forbids_odts s.phase))
     (if not (shows_list s list) then Some OutOfRange
@@ -88,7 +98,7 @@ shown_fault s (AllocOdt list count) =
 shown_fault s (AllocOdtEntry list odt count) =
     or_else (allocation_fault s (forbids_entries s.phase))
     (if not (shows_odt s list odt) then Some OutOfRange
-    else if nat_lt 32 count then Some MemoryOverflow else None)
+    else if nat_lt MAX_ENTRIES count then Some MemoryOverflow else None)
 shown_fault s (SetDaqPtr list odt entry) =
     if shows_running s list then Some DaqActive
     else if not (shows_entry s list odt entry) then Some OutOfRange else None
@@ -106,7 +116,8 @@ shown_fault s (StartStopDaqList mode list) =
     else if mode == 1 && shows_unready s list then Some DaqConfig else None
 shown_fault s (StartStopSynch mode) =
     if nat_lt 2 mode then Some ModeNotValid
-    else if mode == 1 && list_any (is_unready s.profile.image_len) s.lists then Some DaqConfig else None
+    else if mode == 1 && list_any (is_unready s.profile.image_len) s.lists then Some DaqConfig
+    else None
 
 -- every check of the call passes, this check is the first to fail, on what the store shows
 abbrev pub Passes : StoreState → Command → Type 0
@@ -119,19 +130,25 @@ Fails s call code = shown_fault s call ≡ Some code
 abbrev pub lists_put : StoreState → ℕ → StoreState
 lists_put s n = record s { lists = replicate n fresh_state; pointer = None; phase = phase.Daq }
 
--- a list with n ODTs without entries, with n unwritten entries in ODT k, with a mode, with a written entry
+-- a list with n ODTs without entries, with n unwritten entries in ODT k, with a mode, with a
+-- written entry
 abbrev pub with_odts : ListState → ℕ → ListState
 with_odts x n = record x { conf = record x.conf { odts = replicate n [] } }
 
 abbrev pub with_entries : ListState → ℕ → ℕ → ListState
-with_entries x k n = record x { conf = record x.conf { odts = slice_set x.conf.odts k (replicate n None) } }
+with_entries x k n =
+    record x { conf = record x.conf { odts = slice_set x.conf.odts k (replicate n None) } }
 
 abbrev pub with_mode : ListState → Mode → ListState
 with_mode x mode = record x { conf = record x.conf { mode = Some mode } }
 
 abbrev pub with_entry : ListState → ℕ → ℕ → Entry → ListState
 with_entry x k e entry =
-    record x { conf = record x.conf { odts = slice_set x.conf.odts k (slice_set (odt_entries x.conf k) e (Some entry)) } }
+    record x {
+      conf = record x.conf {
+        odts = slice_set x.conf.odts k (slice_set (odt_entries x.conf k) e (Some entry));
+      };
+    }
 
 -- a list after START_STOP_DAQ_LIST of it, after START_STOP_SYNCH
 abbrev pub start_stopped : ℕ → ListState → ListState
@@ -140,22 +157,34 @@ start_stopped mode x =
 
 abbrev pub synched : ℕ → ListState → ListState
 synched mode x =
-    record x { running = if mode == 0 || x.selected then mode == 1 else x.running; selected = false }
+    record x {
+      running = if mode == 0 || x.selected then mode == 1 else x.running;
+      selected = false;
+    }
 
 -- the store after each change of one list
 abbrev pub odts_put : StoreState → ℕ → ℕ → StoreState
 odts_put s l n =
-    record s { lists = slice_set s.lists l (with_odts (state_of s l) n); pointer = None; phase = phase.Odt }
+    record s {
+      lists = slice_set s.lists l (with_odts (state_of s l) n);
+      pointer = None;
+      phase = phase.Odt;
+    }
 
 abbrev pub entries_put : StoreState → ℕ → ℕ → ℕ → StoreState
 entries_put s l k n =
-    record s { lists = slice_set s.lists l (with_entries (state_of s l) k n); pointer = None; phase = phase.Entry }
+    record s {
+      lists = slice_set s.lists l (with_entries (state_of s l) k n);
+      pointer = None;
+      phase = phase.Entry;
+    }
 
 abbrev pub mode_put : StoreState → ℕ → Mode → StoreState
 mode_put s l mode = record s { lists = slice_set s.lists l (with_mode (state_of s l) mode) }
 
 abbrev pub start_stop_put : StoreState → ℕ → ℕ → StoreState
-start_stop_put s mode l = record s { lists = slice_set s.lists l (start_stopped mode (state_of s l)) }
+start_stop_put s mode l =
+    record s { lists = slice_set s.lists l (start_stopped mode (state_of s l)) }
 
 -- the next entry of the same ODT, if there is one
 abbrev pub next_place : StoreState → ℕ → ℕ → ℕ → Option (ℕ × ℕ × ℕ)
@@ -165,7 +194,10 @@ next_place s l k e =
 -- the store with the entry at a place written, and the pointer moved on
 abbrev pub entry_put : StoreState → ℕ → ℕ → ℕ → Entry → StoreState
 entry_put s l k e entry =
-    record s { lists = slice_set s.lists l (with_entry (state_of s l) k e entry); pointer = next_place s l k e }
+    record s {
+      lists = slice_set s.lists l (with_entry (state_of s l) k e entry);
+      pointer = next_place s l k e;
+    }
 
 -- the store after START_STOP_SYNCH
 abbrev pub synch_put : StoreState → ℕ → StoreState

@@ -14,6 +14,11 @@ mode_of [] l = None
 mode_of (AllocDaq count ∷ earlier) l = None
 mode_of (SetDaqListMode mode list channel prescaler priority ∷ earlier) l =
     if list == l
-    then Some (record { channel = channel; prescaler = prescaler; stamped = stamps mode; priority = priority })
+    then Some (record {
+      channel = channel;
+      prescaler = prescaler;
+      stamped = stamps mode;
+      priority = priority;
+    })
     else mode_of earlier l
 mode_of (_ ∷ earlier) l = mode_of earlier l

@@ -1,10 +1,14 @@
--- The DAQ pointer: SET_DAQ_PTR, and WRITE_DAQ, which moves it on. That an allocation makes it undefined is (own).
-use Rattle.std.specs.Prelude.{ℕ, ◌+◌, ◌==◌, ◌&&◌, nat_lt, Bool, false, if◌then◌else◌, List, [], ◌∷◌, Option, Some, None, option_and_then}
+-- The DAQ pointer: SET_DAQ_PTR, and WRITE_DAQ, which moves it on. That an allocation makes it
+-- undefined is (own).
+use Rattle.std.specs.Prelude.{ℕ, ◌+◌, ◌==◌, ◌&&◌, nat_lt, Bool, false, if◌then◌else◌, List, [], ◌∷◌}
+use Rattle.std.specs.Prelude.{Option, Some, None, option_and_then}
 use Rattle.daq_store.specs.declared.command.Command.{Command}
-use Rattle.daq_store.specs.declared.command.Command.TheVariants.{AllocDaq, AllocOdt, AllocOdtEntry, SetDaqPtr, WriteDaq}
+use Rattle.daq_store.specs.declared.command.Command.TheVariants.{AllocDaq, AllocOdt, AllocOdtEntry}
+use Rattle.daq_store.specs.declared.command.Command.TheVariants.{SetDaqPtr, WriteDaq}
 use Rattle.daq_store.specs.Shape.{entry_count}
 
--- the last call among the allocations and SET_DAQ_PTR is a SET_DAQ_PTR of this place: list, ODT, entry
+-- the last call among the allocations and SET_DAQ_PTR is a SET_DAQ_PTR of this place: list, ODT,
+-- entry
 abbrev pub set_place : List Command → Option (ℕ × ℕ × ℕ)
 set_place [] = None
 set_place (AllocDaq count ∷ earlier) = None
@@ -24,9 +28,11 @@ writes_since (_ ∷ earlier) = writes_since earlier
 abbrev pub entry_at : List Command → ℕ → ℕ → ℕ → Option (ℕ × ℕ × ℕ)
 entry_at calls l k e = if nat_lt e (entry_count calls l k) then Some (l, k, e) else None
 
--- the pointer: as many entries after the place that was set as writes came since, if that entry exists
+-- the pointer: as many entries after the place that was set as writes came since, if that entry
+-- exists
 abbrev pub pointer : List Command → Option (ℕ × ℕ × ℕ)
-pointer calls = option_and_then (λ p. entry_at calls p.0 p.1 (p.2 + writes_since calls)) (set_place calls)
+pointer calls =
+    option_and_then (λ p. entry_at calls p.0 p.1 (p.2 + writes_since calls)) (set_place calls)
 
 -- the pointer is at entry e of ODT k of list l
 abbrev pub points_at : Option (ℕ × ℕ × ℕ) → ℕ → ℕ → ℕ → Bool

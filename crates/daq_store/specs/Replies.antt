@@ -1,5 +1,5 @@
--- What is replied to commands and to command packets, and what they leave (ASAM MCD-1 XCP, protocol layer, RES and ERR
--- packets).
+-- What is replied to commands and to command packets, and what they leave (ASAM MCD-1 XCP, protocol
+-- layer, RES and ERR packets).
 use Rattle.std.specs.Prelude.{◌≡◌, ℕ, List, [], ◌∷◌, Result, Ok, Err}
 use Rattle.xcp_base.specs.declared.err_code.ErrCode.{ErrCode}
 use Rattle.xcp_base.specs.ErrorCodes.{error_byte}
@@ -12,7 +12,8 @@ use Rattle.daq_store.specs.Answer.{answer, calls_after}
 use Rattle.daq_store.specs.Standing.{Accepts, StandsAfter, StoreState}
 use Rattle.daq_store.specs.Commands.{command}
 
--- the bytes of a reply: RES is FF, to START_STOP_DAQ_LIST with FIRST_PID behind it; ERR is FE and the byte of the error
+-- the bytes of a reply: RES is FF, to START_STOP_DAQ_LIST with FIRST_PID behind it; ERR is FE and
+-- the byte of the error
 abbrev pub reply_bytes : Reply → List ℕ
 reply_bytes Positive = 0xFF ∷ []
 reply_bytes (Started first_pid) = 0xFF ∷ first_pid ∷ []
@@ -25,8 +26,8 @@ Allocates (AllocOdt list count) = Unit {0}
 Allocates (AllocOdtEntry list odt count) = Unit {0}
 Allocates _ = ⊥
 
--- after all calls that the old store stands after, this reply is the answer to the call, and the new store stands after
--- these calls and, if it was accepted, the call
+-- after all calls that the old store stands after, this reply is the answer to the call, and the
+-- new store stands after these calls and, if it was accepted, the call
 abbrev pub CarriesOut : StoreState → StoreState → Command → Reply → Type 0
 CarriesOut old new call reply =
     (calls : List Command) → StandsAfter old calls
@@ -68,7 +69,8 @@ calls_after_packet profile calls packet = calls_after_read profile calls (comman
 abbrev pub replies : Profile → List Command → List (List ℕ) → List (List ℕ)
 replies profile calls [] = []
 replies profile calls (packet ∷ more) =
-    reply_bytes (packet_reply profile calls packet) ∷ replies profile (calls_after_packet profile calls packet) more
+    reply_bytes (packet_reply profile calls packet)
+    ∷ replies profile (calls_after_packet profile calls packet) more
 
 -- the calls that stand after packets, one after another
 abbrev pub calls_after_packets : Profile → List Command → List (List ℕ) → List Command

@@ -1,6 +1,8 @@
--- The phase, and how many DAQ lists, ODTs and ODT entries there are: ALLOC_DAQ, ALLOC_ODT, ALLOC_ODT_ENTRY (ASAM MCD-1
--- XCP, protocol layer, dynamic DAQ configuration). That a repeated allocation replaces the count is (own).
-use Rattle.std.specs.Prelude.{ℕ, ◌==◌, ◌&&◌, nat_lt, Bool, true, false, if◌then◌else◌, List, [], ◌∷◌, sum_by}
+-- The phase, and how many DAQ lists, ODTs and ODT entries there are: ALLOC_DAQ, ALLOC_ODT,
+-- ALLOC_ODT_ENTRY (ASAM MCD-1 XCP, protocol layer, dynamic DAQ configuration). That a repeated
+-- allocation replaces the count is (own).
+use Rattle.std.specs.Prelude.{ℕ, ◌==◌, ◌&&◌, nat_lt, Bool, true, false, if◌then◌else◌, List, []}
+use Rattle.std.specs.Prelude.{◌∷◌, sum_by}
 use Rattle.daq_store.specs.declared.command.Command.{Command}
 use Rattle.daq_store.specs.declared.command.Command.TheVariants.{AllocDaq, AllocOdt, AllocOdtEntry}
 use Rattle.daq_store.specs.declared.phase.Phase.{Phase}
@@ -28,8 +30,8 @@ odt_count (AllocDaq count ∷ earlier) l = 0
 odt_count (AllocOdt list count ∷ earlier) l = if list == l then count else odt_count earlier l
 odt_count (_ ∷ earlier) l = odt_count earlier l
 
--- the number of entries of ODT k of list l is that of the last ALLOC_ODT_ENTRY of this ODT since the last ALLOC_DAQ and
--- the last ALLOC_ODT of l
+-- the number of entries of ODT k of list l is that of the last ALLOC_ODT_ENTRY of this ODT since
+-- the last ALLOC_DAQ and the last ALLOC_ODT of l
 abbrev pub entry_count : List Command → ℕ → ℕ → ℕ
 entry_count [] l k = 0
 entry_count (AllocDaq count ∷ earlier) l k = 0
@@ -39,11 +41,11 @@ entry_count (AllocOdtEntry list odt count ∷ earlier) l k =
 entry_count (_ ∷ earlier) l k = entry_count earlier l k
 
 -- there is such a list, such an ODT, such an entry
-abbrev pub has_list : List Command → ℕ → Bool
-has_list calls l = nat_lt l (list_count calls)
+abbrev pub is_list : List Command → ℕ → Bool
+is_list calls l = nat_lt l (list_count calls)
 
 abbrev pub has_odt : List Command → ℕ → ℕ → Bool
-has_odt calls l k = has_list calls l && nat_lt k (odt_count calls l)
+has_odt calls l k = is_list calls l && nat_lt k (odt_count calls l)
 
 abbrev pub has_entry : List Command → ℕ → ℕ → ℕ → Bool
 has_entry calls l k e = has_odt calls l k && nat_lt e (entry_count calls l k)

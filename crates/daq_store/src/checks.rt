@@ -1,10 +1,14 @@
 //! The checks of each call, in their order: active list, sequence, numbers and ranges, mode,
 //! configuration, limits of allocation (own).
 
-ghost use Rattle.std.specs.Prelude.{◌≡◌, ◌+◌, ◌<◌, ◌≤◌, ◌&&◌, ◌==◌, true, false, IfErr, IfOk, OnOk, length, Some};
+ghost use Rattle.std.specs.Prelude.{◌≡◌, ◌+◌, ◌<◌, ◌≤◌, ◌&&◌, ◌==◌, true, false, IfErr, IfOk, OnOk};
+ghost use Rattle.std.specs.Prelude.{length, Some};
 ghost use Rattle.std.specs.List.{list_any};
 ghost use Rattle.daq_store.specs.Answer.{is_bad_entry};
-ghost use Rattle.daq_store.specs.Effects.{some_runs, shows_list, shows_odt, shows_entry, other_odts, shows_too_many, shows_unready, is_unready, is_bad_target, is_bad_mode, allocation_fault, Passes, Fails};
+ghost use Rattle.daq_store.specs.Effects.{some_runs, shows_list, shows_odt, shows_entry};
+ghost use Rattle.daq_store.specs.Effects.{other_odts, shows_too_many, shows_unready, is_unready};
+ghost use Rattle.daq_store.specs.Effects.{is_bad_target, is_bad_mode, allocation_fault, Passes};
+ghost use Rattle.daq_store.specs.Effects.{Fails};
 
 use crate::command::Command;
 use crate::list_state::{SELECT, START};
@@ -12,7 +16,8 @@ use crate::mode::TIMESTAMP;
 use crate::store::Store;
 use xcp_base::ErrCode;
 use xcp_base::limits::{
-    ADDRESS_EXTENSION, MAX_ENTRIES, MAX_ENTRY_SIZE, MAX_LISTS, MAX_ODTS, MAX_ODTS_IN_ALL,
+    ADDRESS_EXTENSION, MAX_CHANNELS, MAX_ENTRIES, MAX_ENTRY_SIZE, MAX_LISTS, MAX_ODTS,
+    MAX_ODTS_IN_ALL,
 };
 
 impl Store {
@@ -22,7 +27,7 @@ impl Store {
     pub(crate) fn check_alloc_daq(&self, count: u16) -> Result<(), ErrCode>
         ensures passes { OnOk result (Passes self.now (Command.AllocDaq count)) }
         ensures fails { IfErr result (Fails self.now (Command.AllocDaq count)) }
-        ensures limit { OnOk result (count ≤ 16) }
+        ensures limit { OnOk result (count ≤ MAX_LISTS) }
     {
         self.check_allocation(self.phase.forbids_lists())?;
         if count > MAX_LISTS {
@@ -37,11 +42,11 @@ impl Store {
         ensures fails { IfErr result (Fails self.now (Command.AllocOdt list count)) }
         ensures stopped { OnOk result (some_runs self.now ≡ false) }
         ensures there { OnOk result (list < length self.now.lists) }
-        ensures limit { OnOk result (count ≤ 8) }
-        ensures total { OnOk result (other_odts self.now list + count ≤ 124) }
+        ensures limit { OnOk result (count ≤ MAX_ODTS) }
+        ensures total { OnOk result (other_odts self.now list + count ≤ MAX_ODTS_IN_ALL) }
     {
         self.check_allocation(self.phase.forbids_odts())?;
-        if !self.has_list(list) {
+        if !self.is_list(list) {
             return Err(ErrCode::OutOfRange);
         }
         if self.has_too_many(list, count) {
@@ -56,7 +61,7 @@ impl Store {
         ensures fails { IfErr result (Fails self.now (Command.AllocOdtEntry list odt count)) }
         ensures stopped { OnOk result (some_runs self.now ≡ false) }
         ensures there { OnOk result (shows_odt self.now list odt ≡ true) }
-        ensures limit { OnOk result (count ≤ 32) }
+        ensures limit { OnOk result (count ≤ MAX_ENTRIES) }
     {
         self.check_allocation(self.phase.forbids_entries())?;
         if !self.has_odt(list, odt) {
@@ -114,7 +119,7 @@ impl Store {
         ensures there { IfOk result
             (λ place. shows_entry self.now place.0 place.1 place.2 ≡ true) }
         ensures stopped { IfOk result (λ place. shows_running self.now place.0 ≡ false) }
-        ensures size { OnOk result ((0 < size) × (size ≤ 63)) }
+        ensures size { OnOk result ((0 < size) × (size ≤ MAX_ENTRY_SIZE)) }
     {
         // Only a pointer that is defined has a list that may run.
         let Some((list, odt, entry)) = self.pointer else {
@@ -144,7 +149,7 @@ impl Store {
             (Command.SetDaqListMode mode list channel prescaler priority)) }
         ensures stopped { OnOk result (shows_running self.now list ≡ false) }
         ensures there { OnOk result (list < length self.now.lists) }
-        ensures channel { OnOk result (channel < 8) }
+        ensures channel { OnOk result (channel < MAX_CHANNELS) }
         ensures prescaler { OnOk result (0 < prescaler) }
     {
         // The mode of a list that runs stays.
@@ -168,7 +173,7 @@ impl Store {
         ensures ready { OnOk result ((mode == 1 && shows_unready self.now list) ≡ false) }
     {
         // No mode makes a list that isn't there.
-        if !self.has_list(list) {
+        if !self.is_list(list) {
             return Err(ErrCode::OutOfRange);
         }
         if mode > SELECT {
@@ -185,7 +190,8 @@ impl Store {
         ensures passes { OnOk result (Passes self.now (Command.StartStopSynch mode)) }
         ensures fails { IfErr result (Fails self.now (Command.StartStopSynch mode)) }
         ensures ready { OnOk result
-            ((mode == 1 && list_any (is_unready self.now.profile.image_len) self.now.lists) ≡ false) }
+            ((mode == 1 && list_any (is_unready self.now.profile.image_len) self.now.lists)
+            ≡ false) }
     {
         if mode > SELECT {
             return Err(ErrCode::ModeNotValid);
@@ -204,7 +210,7 @@ impl Store {
     }
 
     /// Whether there is such a list.
-    fn has_list(&self, list: u16) -> bool
+    fn is_list(&self, list: u16) -> bool
         ensures { result ≡ shows_list self.now list }
     {
         (list as usize) < self.lists.len()
@@ -234,7 +240,7 @@ impl Store {
     pub(crate) fn odts_before(&self, list: usize) -> usize
         requires { list ≤ length self.now.lists }
         ensures value { result ≡ first_pid_of self.now list }
-        ensures limit { result ≤ 124 }
+        ensures limit { result ≤ MAX_ODTS_IN_ALL }
     {
         let mut odts = 0;
         for state in &self.lists[..list] {
@@ -246,7 +252,7 @@ impl Store {
     /// The number of the ODTs of all lists but one.
     fn other_odts(&self, list: u16) -> usize
         ensures value { result ≡ other_odts self.now list }
-        ensures limit { result ≤ 124 }
+        ensures limit { result ≤ MAX_ODTS_IN_ALL }
     {
         let odts = self.odts_before(self.lists.len());
         match self.lists.get(list as usize) {
@@ -266,9 +272,9 @@ impl Store {
     /// Whether there is no such list or event channel, or the prescaler is 0.
     fn is_bad_target(&self, list: u16, channel: u16, prescaler: u8) -> bool
         ensures value { result ≡ is_bad_target self.now list channel prescaler }
-        ensures channel { result ≡ false → channel < 8 }
+        ensures channel { result ≡ false → channel < MAX_CHANNELS }
     {
-        !self.has_list(list) || channel >= self.channels || prescaler == 0
+        !self.is_list(list) || channel >= self.channels || prescaler == 0
     }
 
     /// Whether this is the start of a list that isn't ready.
@@ -289,11 +295,11 @@ impl Store {
     }
 }
 
-/// Whether an entry is a bit, has no byte or over 63, has an address extension, or ends after the
-/// image.
+/// Whether an entry is a bit, has no byte or too many, has another address extension than the one
+/// that there is, or ends after the image.
 fn is_bad_entry(image_len: usize, bit: u8, size: u8, ext: u8, addr: u32) -> bool
     ensures value { result ≡ is_bad_entry image_len bit size ext addr }
-    ensures size { result ≡ false → (0 < size) × (size ≤ 63) }
+    ensures size { result ≡ false → (0 < size) × (size ≤ MAX_ENTRY_SIZE) }
 {
     bit != NO_BIT
         || size == 0

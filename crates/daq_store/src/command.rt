@@ -64,11 +64,11 @@ pub enum Command {
     },
 }
 
-/// Reads the command of a packet, of any bytes. A longer packet is accepted and its surplus ignored; a
-/// reserved byte may have any value (own).
+/// Reads the command of a packet, of any bytes. A longer packet is accepted and its surplus
+/// ignored; a reserved byte may have any value (own).
 ///
-/// Refused in this order (own): ERR_CMD_SYNTAX for an empty packet, ERR_CMD_UNKNOWN for the code of no
-/// command, ERR_CMD_SYNTAX for a packet that is too short for its command.
+/// Refused in this order (own): ERR_CMD_SYNTAX for an empty packet, ERR_CMD_UNKNOWN for the code of
+/// no command, ERR_CMD_SYNTAX for a packet that is too short for its command.
 pub fn read(packet: &[u8]) -> Result<Command, ErrCode>
     ensures packet { (call : Command) → (result ≡ Ok call) ↔ IsPacketOf packet.now call }
     ensures fault { result_err result ≡ packet_fault packet.now }
@@ -123,8 +123,8 @@ fn fields_of(packet: &[u8]) -> Result<Command, ErrCode>
     }
 }
 
-/// Carries a command out by the store's call of its name, and answers it. Want of memory is answered
-/// exactly where that call meets it: then the command isn't carried out.
+/// Carries a command out by the store's call of its name, and answers it. Want of memory is
+/// answered exactly where that call meets it: then the command isn't carried out.
 pub fn carry_out(store: &mut Store, command: Command) -> Result<Reply, NoMemory>
     ensures ok { IfOk result (CarriesOut store.old store.new command) }
     ensures refused { IfOk result (KeepsOnError store.old store.new) }

@@ -1,9 +1,12 @@
 //! What each accepted call changes.
 
-ghost use Rattle.std.specs.Prelude.{◌≡◌, ◌+◌, ◌<◌, ◌≤◌, ◌&&◌, ◌==◌, true, false, OnOk, OnErr, length, map, nat_lt, if◌then◌else◌};
+ghost use Rattle.std.specs.Prelude.{◌≡◌, ◌+◌, ◌<◌, ◌≤◌, ◌&&◌, ◌==◌, true, false, OnOk, OnErr};
+ghost use Rattle.std.specs.Prelude.{length, map, nat_lt, if◌then◌else◌};
 ghost use Rattle.std.specs.List.{list_any};
 ghost use Rattle.daq_store.specs.Configuration.{IsMode};
-ghost use Rattle.daq_store.specs.Effects.{some_runs, shows_odt, shows_entry, shows_unready, is_unready, other_odts, lists_put, odts_put, entries_put, entry_put, mode_put, start_stop_put, synch_put, synched};
+ghost use Rattle.daq_store.specs.Effects.{some_runs, shows_odt, shows_entry, shows_unready};
+ghost use Rattle.daq_store.specs.Effects.{is_unready, other_odts, lists_put, odts_put, entries_put};
+ghost use Rattle.daq_store.specs.Effects.{entry_put, mode_put, start_stop_put, synch_put, synched};
 
 use crate::entry::Entry;
 use crate::list_state::{ListState, fresh_lists};
@@ -11,13 +14,14 @@ use crate::mode::Mode;
 use crate::phase::Phase;
 use crate::store::Store;
 use std::alloc::AllocError;
+use xcp_base::limits::{MAX_ENTRIES, MAX_ENTRY_SIZE, MAX_LISTS, MAX_ODTS, MAX_ODTS_IN_ALL};
 
 impl Store {
     ghost use Rattle.daq_store.specs.Standing.{shows_running};
 
     /// ALLOC_DAQ: puts fresh lists in the place of all.
     pub(crate) fn put_lists(&mut self, count: u16) -> Result<(), AllocError>
-        requires { count ≤ 16 }
+        requires { count ≤ MAX_LISTS }
         ensures ok { OnOk result (self.new ≡ lists_put self.old count) }
         ensures err { OnErr result (self.new ≡ self.old) }
     {
@@ -31,8 +35,8 @@ impl Store {
     /// ALLOC_ODT: puts ODTs without entries in the place of those of a list.
     pub(crate) fn put_odts(&mut self, list: u16, count: u8) -> Result<(), AllocError>
         requires there { list < length self.old.lists }
-        requires limit { count ≤ 8 }
-        requires total { other_odts self.old list + count ≤ 124 }
+        requires limit { count ≤ MAX_ODTS }
+        requires total { other_odts self.old list + count ≤ MAX_ODTS_IN_ALL }
         requires stopped { some_runs self.old ≡ false }
         ensures ok { OnOk result (self.new ≡ odts_put self.old list count) }
         ensures err { OnErr result (self.new ≡ self.old) }
@@ -48,7 +52,7 @@ impl Store {
     /// ALLOC_ODT_ENTRY: puts unwritten entries in the place of those of an ODT.
     pub(crate) fn put_entries(&mut self, list: u16, odt: u8, count: u8) -> Result<(), AllocError>
         requires there { shows_odt self.old list odt ≡ true }
-        requires limit { count ≤ 32 }
+        requires limit { count ≤ MAX_ENTRIES }
         requires stopped { some_runs self.old ≡ false }
         ensures ok { OnOk result (self.new ≡ entries_put self.old list odt count) }
         ensures err { OnErr result (self.new ≡ self.old) }
@@ -71,11 +75,12 @@ impl Store {
         self.pointer = Some((list, odt, entry));
     }
 
-    /// WRITE_DAQ: writes an entry, and moves the pointer to the next one of the ODT, if there is one.
+    /// WRITE_DAQ: writes an entry, and moves the pointer to the next one of the ODT, if there is
+    /// one.
     pub(crate) fn put_entry(&mut self, list: u16, odt: u8, entry: u8, value: Entry)
         requires there { shows_entry self.old list odt entry ≡ true }
         requires stopped { shows_running self.old list ≡ false }
-        requires size { (0 < value.size) × (value.size ≤ 63) }
+        requires size { (0 < value.size) × (value.size ≤ MAX_ENTRY_SIZE) }
         ensures { self.new ≡ entry_put self.old list odt entry value }
     {
         let state = &mut self.lists[list as usize];
@@ -126,7 +131,7 @@ fn synch_all(lists: &mut [ListState], mode: u8)
 
 /// The place of the next entry of an ODT with so many entries, if there is one.
 fn next_place(list: u16, odt: u8, entry: u8, entries: usize) -> Option<(u16, u8, u8)>
-    requires { entries ≤ 32 }
+    requires { entries ≤ MAX_ENTRIES }
     ensures { result ≡ (if nat_lt (entry + 1) entries then Some (list, odt, entry + 1) else None) }
 {
     if entry as usize + 1 < entries {

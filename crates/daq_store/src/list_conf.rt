@@ -1,12 +1,16 @@
-ghost use Rattle.std.specs.Prelude.{◌≡◌, ◌<◌, ◌≤◌, IfOk, IfSome, OnOk, OnErr, IsSome, [], None, Some, length, option_map, replicate, slice_set};
-ghost use Rattle.daq_store.specs.Configuration.{channel_of, prescaler_of, priority_of, is_stamped, odt_entries, entry_of, is_ready, stamp_len, fresh, IsMode};
+ghost use Rattle.std.specs.Prelude.{◌≡◌, ◌<◌, ◌≤◌, IfOk, IfSome, OnOk, OnErr, IsSome, [], None};
+ghost use Rattle.std.specs.Prelude.{Some, length, option_map, replicate, slice_set};
+ghost use Rattle.xcp_base.specs.Packets.{stamp_len};
+ghost use Rattle.daq_store.specs.Configuration.{channel_of, prescaler_of, priority_of, is_stamped};
+ghost use Rattle.daq_store.specs.Configuration.{odt_entries, entry_of, is_ready};
+ghost use Rattle.daq_store.specs.Configuration.{fresh_conf, IsMode};
 
 use crate::entry::Entry;
 use crate::mode::Mode;
 use crate::odt::Odt;
 use std::alloc::{AllocError, Global};
 use std::marker::Model;
-use xcp_base::limits::MAX_DTO;
+use xcp_base::limits::{MAX_CHANNELS, MAX_DTO, MAX_ENTRIES, MAX_ENTRY_SIZE, MAX_ODTS};
 
 /// What is set of a DAQ list: its mode, and the entries of its ODTs.
 #[derive(Drop)]
@@ -29,7 +33,7 @@ impl ListConf {
     /// The event channel; 0 without a mode.
     pub fn channel(&self) -> u8
         ensures value { result ≡ channel_of self.now.mode }
-        ensures limit { result < 8 }
+        ensures limit { result < MAX_CHANNELS }
     {
         match self.mode {
             Some(mode) => mode.channel,
@@ -71,7 +75,7 @@ impl ListConf {
     /// The number of ODTs.
     pub fn odts(&self) -> usize
         ensures count { result ≡ length self.now.odts }
-        ensures limit { result ≤ 8 }
+        ensures limit { result ≤ MAX_ODTS }
     {
         self.odts.len()
     }
@@ -79,7 +83,7 @@ impl ListConf {
     /// The number of entries of an ODT; 0 where there is no such ODT.
     pub fn entries(&self, odt: usize) -> usize
         ensures count { result ≡ length (odt_entries self.now odt) }
-        ensures limit { result ≤ 32 }
+        ensures limit { result ≤ MAX_ENTRIES }
     {
         match self.odts.get(odt) {
             Some(odt) => odt.entries(),
@@ -89,8 +93,9 @@ impl ListConf {
 
     /// The address and the size in bytes of an entry, where it is there and written.
     pub fn entry(&self, odt: usize, entry: usize) -> Option<(u32, u8)>
-        ensures value { result ≡ option_map (λ x. (x.address, x.size)) (entry_of self.now odt entry) }
-        ensures size { IfSome result (λ x. (0 < x.1) × (x.1 ≤ 63)) }
+        ensures value { result
+            ≡ option_map (λ x. (x.address, x.size)) (entry_of self.now odt entry) }
+        ensures size { IfSome result (λ x. (0 < x.1) × (x.1 ≤ MAX_ENTRY_SIZE)) }
     {
         let entry = self.odts.get(odt)?.entry(entry)?;
         Some((entry.address, entry.size))
@@ -117,7 +122,7 @@ impl ListConf {
 
     /// The bytes of the timestamp in the packet of an ODT: 4 in ODT 0 of a stamped list.
     fn stamp_len(&self, odt: usize) -> usize
-        ensures value { result ≡ stamp_len self.now odt }
+        ensures value { result ≡ stamp_len (is_stamped self.now.mode) odt }
         ensures limit { result ≤ 4 }
     {
         if odt == 0 && self.stamped() { 4 } else { 0 }
@@ -125,7 +130,7 @@ impl ListConf {
 
     /// A list as it is when it is allocated.
     pub(crate) fn new(alloc: Global) -> ListConf
-        ensures { result ≡ fresh }
+        ensures { result ≡ fresh_conf }
     {
         ListConf {
             mode: None,
@@ -143,7 +148,7 @@ impl ListConf {
 
     /// Puts ODTs without entries in the place of the earlier ones.
     pub(crate) fn allocate_odts(&mut self, alloc: Global, count: usize) -> Result<(), AllocError>
-        requires { count ≤ 8 }
+        requires { count ≤ MAX_ODTS }
         ensures ok { OnOk result (self.new ≡ record self.old { odts = replicate count [] }) }
         ensures err { OnErr result (self.new ≡ self.old) }
     {
@@ -160,7 +165,7 @@ impl ListConf {
         count: usize,
     ) -> Result<(), AllocError>
         requires odt { odt < length self.old.odts }
-        requires count { count ≤ 32 }
+        requires count { count ≤ MAX_ENTRIES }
         ensures ok { OnOk result (self.new
             ≡ record self.old { odts = slice_set self.old.odts odt (replicate count None) }) }
         ensures err { OnErr result (self.new ≡ self.old) }
@@ -173,7 +178,7 @@ impl ListConf {
     /// Writes an entry.
     pub(crate) fn write(&mut self, odt: usize, entry: usize, value: Entry)
         requires entry { entry < length (odt_entries self.old odt) }
-        requires size { (0 < value.size) × (value.size ≤ 63) }
+        requires size { (0 < value.size) × (value.size ≤ MAX_ENTRY_SIZE) }
         ensures { self.new ≡ record self.old {
           odts =
               slice_set self.old.odts odt (slice_set (odt_entries self.old odt) entry (Some value));

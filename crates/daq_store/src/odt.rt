@@ -1,10 +1,13 @@
-ghost use Rattle.std.specs.Prelude.{◌≡◌, ◌<◌, ◌≤◌, [], None, Some, IfOk, length, option_and_then, replicate, slice_get, slice_set, sum_by};
+ghost use Rattle.std.specs.Prelude.{◌≡◌, ◌*◌, ◌<◌, ◌≤◌, [], None, Some, IfOk, length};
+ghost use Rattle.std.specs.Prelude.{option_and_then};
+ghost use Rattle.std.specs.Prelude.{replicate, slice_get, slice_set, sum_by};
 ghost use Rattle.std.specs.List.{list_all};
 ghost use Rattle.daq_store.specs.Configuration.{entry_len, is_filled, is_within};
 
 use crate::entry::{Entry, is_within};
 use std::alloc::{AllocError, Global};
 use std::marker::Model;
+use xcp_base::limits::{MAX_ENTRIES, MAX_ENTRY_SIZE};
 
 /// An ODT: its entries, of which some may be unwritten.
 #[derive(Drop)]
@@ -37,7 +40,7 @@ impl Odt {
 
     /// An ODT with so many unwritten entries.
     pub fn unwritten(alloc: Global, count: usize) -> Result<Odt, AllocError>
-        requires { count ≤ 32 }
+        requires { count ≤ MAX_ENTRIES }
         ensures { IfOk result (λ odt. odt ≡ replicate count None) }
     {
         let entries = vec![in alloc; None; count]?;
@@ -47,7 +50,7 @@ impl Odt {
     /// The number of entries.
     pub fn entries(&self) -> usize
         ensures count { result ≡ length self.now }
-        ensures limit { result ≤ 32 }
+        ensures limit { result ≤ MAX_ENTRIES }
     {
         self.entries.len()
     }
@@ -62,7 +65,7 @@ impl Odt {
     /// Writes an entry.
     pub fn write(&mut self, entry: usize, value: Entry)
         requires entry { entry < length self.old }
-        requires size { (0 < value.size) × (value.size ≤ 63) }
+        requires size { (0 < value.size) × (value.size ≤ MAX_ENTRY_SIZE) }
         ensures { self.new ≡ slice_set self.old entry (Some value) }
     {
         self.entries[entry] = Some(value);
@@ -85,7 +88,7 @@ impl Odt {
     /// The bytes of the entries.
     pub fn bytes(&self) -> usize
         ensures value { result ≡ sum_by entry_len self.now }
-        ensures limit { result ≤ 2016 }
+        ensures limit { result ≤ MAX_ENTRIES * MAX_ENTRY_SIZE }
     {
         let mut bytes = 0;
         for entry in &self.entries {

@@ -1,7 +1,8 @@
 //! What the store shows.
 
-ghost use Rattle.std.specs.Prelude.{◌≡◌, ◌+◌, ◌<◌, ◌≤◌, ◌↔◌, ◌&&◌, List, true, IsTrue, IsSome, IfSome, length};
-ghost use Rattle.daq_store.specs.Shape.{list_count, has_list};
+ghost use Rattle.std.specs.Prelude.{◌≡◌, ◌+◌, ◌<◌, ◌≤◌, ◌↔◌, ◌&&◌, List, true, IsTrue, IsSome};
+ghost use Rattle.std.specs.Prelude.{IfSome, length};
+ghost use Rattle.daq_store.specs.Shape.{list_count, is_list};
 ghost use Rattle.daq_store.specs.Pointer.{pointer};
 ghost use Rattle.daq_store.specs.Running.{is_active, is_chosen};
 ghost use Rattle.daq_store.specs.Configuration.{is_ready, list_is_ready, configuration};
@@ -9,14 +10,16 @@ ghost use Rattle.daq_store.specs.Configuration.{is_ready, list_is_ready, configu
 use crate::command::Command;
 use crate::list_conf::ListConf;
 use crate::store::Store;
+use xcp_base::limits::{MAX_CHANNELS, MAX_IMAGE_LEN, MAX_LISTS, MAX_ODTS_IN_ALL};
 
 impl Store {
-    ghost use Rattle.daq_store.specs.Standing.{StandsAfter, conf_of, first_pid_of, first_pid_after, shows_running, shows_selected};
+    ghost use Rattle.daq_store.specs.Standing.{StandsAfter, conf_of, first_pid_of, first_pid_after};
+    ghost use Rattle.daq_store.specs.Standing.{shows_running, shows_selected};
 
     /// The number of event channels.
     pub fn channels(&self) -> u16
         ensures value { result ≡ self.now.profile.channels }
-        ensures limits { (1 ≤ result) × (result ≤ 8) }
+        ensures limits { (1 ≤ result) × (result ≤ MAX_CHANNELS) }
     {
         self.channels
     }
@@ -24,7 +27,7 @@ impl Store {
     /// The length of the images, in bytes.
     pub fn image_len(&self) -> usize
         ensures value { result ≡ self.now.profile.image_len }
-        ensures limits { (1 ≤ result) × (result ≤ 4096) }
+        ensures limits { (1 ≤ result) × (result ≤ MAX_IMAGE_LEN) }
     {
         self.image_len
     }
@@ -32,18 +35,20 @@ impl Store {
     /// The number of DAQ lists.
     pub fn lists(&self) -> u16
         ensures value { result ≡ length self.now.lists }
-        ensures limit { result ≤ 16 }
+        ensures limit { result ≤ MAX_LISTS }
         ensures after { (calls : List Command) → StandsAfter self.now calls
             → result ≡ list_count calls }
     {
         self.lists.len() as u16
     }
 
-    /// FIRST_PID of a DAQ list, if there is one: the number of the ODTs of the lists before it (own).
+    /// FIRST_PID of a DAQ list, if there is one: the number of the ODTs of the lists before it
+    /// (own).
     pub fn first_pid(&self, list: u16) -> Option<u8>
         ensures there { IsSome result ↔ (list < length self.now.lists) }
         ensures value { IfSome result (λ pid. pid ≡ first_pid_of self.now list) }
-        ensures room { IfSome result (λ pid. pid + length (conf_of self.now list).odts ≤ 124) }
+        ensures room { IfSome result
+            (λ pid. pid + length (conf_of self.now list).odts ≤ MAX_ODTS_IN_ALL) }
         ensures after { (calls : List Command) → StandsAfter self.now calls
             → result ≡ first_pid_after calls list }
     {
@@ -96,7 +101,7 @@ impl Store {
         ensures value { IfSome result (λ conf. conf.now ≡ conf_of self.now list) }
         ensures ready_after { (calls : List Command) → StandsAfter self.now calls
             → IsSome result
-            ↔ ((has_list calls list && list_is_ready self.now.profile calls list) ≡ true) }
+            ↔ ((is_list calls list && list_is_ready self.now.profile calls list) ≡ true) }
         ensures value_after { (calls : List Command) → StandsAfter self.now calls
             → IfSome result (λ conf. conf.now ≡ configuration calls list) }
     {

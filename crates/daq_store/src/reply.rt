@@ -16,7 +16,8 @@ pub enum Reply {
 }
 
 impl Reply {
-    /// The packet: FF for RES, with FIRST_PID behind it if it has one; FE and the byte of the error for ERR.
+    /// The packet: FF for RES, with FIRST_PID behind it if it has one; FE and the byte of the error
+    /// for ERR.
     pub fn bytes(self) -> ArrayVec<u8, 8>
         ensures bytes { result.items ≡ reply_bytes self }
         ensures short { (1 ≤ length result.items) × (length result.items ≤ 2) }

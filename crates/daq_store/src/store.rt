@@ -53,8 +53,8 @@ impl Store {
     /// A store without lists, as after FREE_DAQ, for 1 to 8 event channels and images of 1 to 4096
     /// bytes. It takes no memory; the allocator is kept for the three allocations.
     pub fn new(alloc: Global, channels: u16, image_len: usize) -> Result<Store, BadLimits>
-        ensures limits { IsOk result
-            ↔ ((1 ≤ channels) × (channels ≤ 8) × (1 ≤ image_len) × (image_len ≤ 4096)) }
+        ensures limits { IsOk result ↔ ((1 ≤ channels) × (channels ≤ MAX_CHANNELS)
+            × (1 ≤ image_len) × (image_len ≤ MAX_IMAGE_LEN)) }
         ensures profile { IfOk result
             (λ s. s.profile ≡ record { channels = channels; image_len = image_len }) }
         ensures fresh { IfOk result (λ s. StandsAfter s []) }

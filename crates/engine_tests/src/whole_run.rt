@@ -2,7 +2,7 @@
 ghost use Rattle.std.specs.Prelude.{◌≡◌, ℕ, ◌<◌, [], Bool, IfOk, List, true};
 ghost use Rattle.xcp_base.specs.declared.item.Item.{Item};
 ghost use Rattle.frame_writer.specs.Shown.{shown};
-ghost use Rattle.frame_writer.specs.Writing.{fresh};
+ghost use Rattle.frame_writer.specs.Writing.{fresh_writer};
 ghost use Rattle.sampler.specs.History.{Opening, Start, Stop, Trigger};
 ghost use Rattle.daq_engine.specs.Openings.{IsOpeningOf};
 ghost use Rattle.daq_engine.specs.Engines.{ClosesEngine, EngineState, Stands, Standing, engine_state, first_standing, with_event, with_taken};
@@ -65,7 +65,7 @@ fn record_once<O: Out + Drop>(
         × ClosesEngine ⟦<SendHalf as SendEnd>⟧ true last
         (with_event 0 (Start 0) [] (with_event 0 (Stop 0) []
         (with_taken qs (with_event 0 (Trigger image.now stamp) ds
-        (first_standing (fresh (shown O.Out out)) openings))))) r.0 (shown O.Out r.1)) }
+        (first_standing (fresh_writer (shown O.Out out)) openings))))) r.0 (shown O.Out r.1)) }
 {
     match Engine::open(alloc, store, caps, FrameWriter::new(out)) {
         Ok(engine) => run_once(alloc, engine, image, stamp),

@@ -5,7 +5,7 @@ use Rattle.std.proofs.lemmas.List.{append_cancel_left, take_at}
 use Rattle.std.proofs.lemmas.List.Elements.{All-cons, All-head, All-nil, All-tail}
 use Rattle.std.specs.Prelude.{All}
 use Rattle.frame_writer.specs.Frame.{IsFrame}
-use Rattle.frame_writer.specs.Split.{Fits, SplitIsUnique, SplitOfText, joined, numbered}
+use Rattle.frame_writer.specs.Split.{Fits, SplitIsUnique, SplitOfText, joined_frames, numbered}
 
 -- two lists of one length are equal where they begin the same bytes
 same_front : (a b x y : List ℕ) → length a ≡ length b → a ++ x ≡ b ++ y → (a ≡ b) × (x ≡ y)
@@ -20,7 +20,7 @@ same_number m n hm hn low high = omega arith
 same_pair : (f g : ℕ × List ℕ) → f.0 ≡ g.0 → f.1 ≡ g.1 → f ≡ g
 same_pair (m, p) (n, q) e h = cc
 
-same_frames : (fs gs : List (ℕ × List ℕ)) → All IsFrame fs → All IsFrame gs → joined fs ≡ joined gs → fs ≡ gs
+same_frames : (fs gs : List (ℕ × List ℕ)) → All IsFrame fs → All IsFrame gs → joined_frames fs ≡ joined_frames gs → fs ≡ gs
 same_frames [] [] hf hg e = refl
 same_frames [] (g ∷ gs) hf hg e = cc
 same_frames (f ∷ fs) [] hf hg e = cc
@@ -31,10 +31,10 @@ same_frames (f ∷ fs) (g ∷ gs) hf hg e =
     let len_high : length f.1 / 256 % 256 ≡ length g.1 / 256 % 256 = cc in
     let counter_low : f.0 % 65536 % 256 ≡ g.0 % 65536 % 256 = cc in
     let counter_high : f.0 % 65536 / 256 % 256 ≡ g.0 % 65536 / 256 % 256 = cc in
-    let bodies : f.1 ++ joined fs ≡ g.1 ++ joined gs = cc in
+    let bodies : f.1 ++ joined_frames fs ≡ g.1 ++ joined_frames gs = cc in
     let len : length f.1 ≡ length g.1 = same_number _ _ (omega (arith, legal_f.fits)) (omega (arith, legal_g.fits)) len_low len_high in
     let counter : f.0 ≡ g.0 = same_number f.0 g.0 legal_f.counter legal_g.counter (omega (arith, legal_f.counter, legal_g.counter)) (omega (arith, legal_f.counter, legal_g.counter)) in
-    let both = same_front f.1 g.1 (joined fs) (joined gs) len bodies in
+    let both = same_front f.1 g.1 (joined_frames fs) (joined_frames gs) len bodies in
     let heads = same_pair f g counter both.0 in
     let tails = same_frames fs gs (All-tail IsFrame f fs hf) (All-tail IsFrame g gs hg) both.1 in
     cc

@@ -1,5 +1,6 @@
 -- The counts of what went wrong with a writer (own).
-use Rattle.std.specs.Prelude.{◌≡◌, ℕ, ◌+◌, ◌%◌, ◌^◌, ◌&&◌, ◌⊎◌, ◌==◌, nat_lt, Bool, if◌then◌else◌, List, length}
+use Rattle.std.specs.Prelude.{◌≡◌, ℕ, ◌+◌, ◌%◌, ◌^◌, ◌&&◌, ◌⊎◌, ◌==◌, nat_lt, Bool, if◌then◌else◌}
+use Rattle.std.specs.Prelude.{List, length}
 
 -- a count that rose by one; it wraps at 2^64
 abbrev pub raised : ℕ → ℕ

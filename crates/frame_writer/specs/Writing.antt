@@ -23,12 +23,16 @@ abbrev pub state_of : {O : Type 0} → Ghosts O → FrameWriter O → WriterStat
 state_of O w = record { out = shown O (out_of w); counter = w.counter; closed = is_closed w }
 
 -- nothing was sent yet
-abbrev pub fresh : OutState → WriterState
-fresh out = record { out = out; counter = 0; closed = false }
+abbrev pub fresh_writer : OutState → WriterState
+fresh_writer out = record { out = out; counter = 0; closed = false }
 
 -- the packet q was sent
 abbrev pub after_frame : WriterState → List ℕ → WriterState
-after_frame a q = record { out = after_bytes a.out (frame a.counter q); counter = (a.counter + 1) % 65536; closed = a.closed }
+after_frame a q = record {
+  out = after_bytes a.out (frame a.counter q);
+  counter = (a.counter + 1) % 65536;
+  closed = a.closed;
+}
 
 -- the writer failed within these bytes, and the frame writer is closed from now on
 pub record FailsWithin (a b : WriterState) (bytes : List ℕ) : Type 0 where

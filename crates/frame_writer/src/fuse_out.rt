@@ -1,4 +1,5 @@
-ghost use Rattle.std.specs.Prelude.{◌≡◌, ◌+◌, ◌<◌, ◌≤◌, ◌++◌, IfOk, IsErr, OnErr, OnOk, length, take};
+ghost use Rattle.std.specs.Prelude.{◌≡◌, ◌+◌, ◌<◌, ◌≤◌, ◌++◌, IfOk, IsErr, OnErr, OnOk, length};
+ghost use Rattle.std.specs.Prelude.{take};
 ghost use Rattle.frame_writer.specs.Counts.{counted, is_stall, raised};
 ghost use Rattle.frame_writer.specs.MemoryOuts.{fuse_takes, unburnt};
 
@@ -6,7 +7,8 @@ use crate::out::{Out, OutFault};
 use std::alloc::{Allocator, Global};
 use std::marker::Model;
 
-/// A writer into memory that takes bytes in pieces and then fails for good, to test what stands on a writer.
+/// A writer into memory that takes bytes in pieces and then fails for good, to test what stands on
+/// a writer.
 #[derive(Drop)]
 pub struct FuseOut<A: Allocator = Global> {
     bytes: Vec<u8, A>,
@@ -22,13 +24,21 @@ impl<A: Allocator> Model for FuseOut<A> {
 
     ghost Value = { FuseOutState };
 
-    ghost view = { λ a. record { contents = a.bytes.items; capacity = vec_capacity a.bytes; failures = a.failures; stalls = a.stalls; chunk = a.chunk; good = a.good } };
+    ghost view = { λ a. record {
+      contents = a.bytes.items;
+      capacity = vec_capacity a.bytes;
+      failures = a.failures;
+      stalls = a.stalls;
+      chunk = a.chunk;
+      good = a.good;
+    } };
 
     ghost invariant = { λ a. length a.bytes.items ≤ a.good };
 }
 
 impl<A: Allocator> FuseOut<A> {
-    /// A writer that takes at most `chunk` bytes a call, and `good` bytes in all. With `chunk` 0 it takes none.
+    /// A writer that takes at most `chunk` bytes a call, and `good` bytes in all. With `chunk` 0 it
+    /// takes none.
     pub fn new(alloc: A, chunk: usize, good: usize) -> FuseOut<A>
         ensures { result ≡ unburnt chunk good }
     {
@@ -56,13 +66,16 @@ impl<A: Allocator> Out for FuseOut<A> {
 
     ghost stalls = { λ a. a.stalls };
 
-    /// Takes as many bytes as their number, `chunk` and what remains of `good` allow. Fails where nothing of `good`
-    /// remains, also at no bytes; and else only where there was no room and memory for more was refused.
+    /// Takes as many bytes as their number, `chunk` and what remains of `good` allow. Fails where
+    /// nothing of `good` remains, also at no bytes; and else only where there was no room and
+    /// memory for more was refused.
     fn put(&mut self, bytes: &[u8]) -> Result<usize, OutFault>
         ensures least { IfOk result (λ n. n ≡ fuse_takes self.old bytes.now) }
-        ensures taken { IfOk result (λ n. self.new.contents ≡ self.old.contents ++ take n bytes.now) }
+        ensures taken { IfOk result
+            (λ n. self.new.contents ≡ self.old.contents ++ take n bytes.now) }
         ensures well { OnOk result (self.new.failures ≡ self.old.failures) }
-        ensures stalled { IfOk result (λ n. self.new.stalls ≡ counted (is_stall bytes.now n) self.old.stalls) }
+        ensures stalled { IfOk result
+            (λ n. self.new.stalls ≡ counted (is_stall bytes.now n) self.old.stalls) }
 
         ensures burnt { length self.old.contents ≡ self.old.good → IsErr result }
         ensures no_room { OnErr result (length self.old.contents < self.old.good

@@ -6,7 +6,8 @@ pub fn split_is_unique()
     ensures { SplitIsUnique }
 {}
 
-/// What is written of packets splits into just these packets, with counters that rise by one modulo 65536.
+/// What is written of packets splits into just these packets, with counters that rise by one modulo
+/// 65536.
 pub fn split_of_text()
     ensures { SplitOfText }
 {}

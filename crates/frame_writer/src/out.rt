@@ -22,9 +22,11 @@ pub trait Out {
     /// Takes bytes from the front, and answers how many it took. After a fault it has taken none.
     fn put(&mut self, bytes: &[u8]) -> Result<usize, OutFault>
         ensures within { IfOk result (λ n. n ≤ length bytes.now) }
-        ensures taken { IfOk result (λ n. contents self.new ≡ contents self.old ++ take n bytes.now) }
+        ensures taken { IfOk result
+            (λ n. contents self.new ≡ contents self.old ++ take n bytes.now) }
         ensures well { IfOk result (λ _. failures self.new ≡ failures self.old) }
-        ensures stalled { IfOk result (λ n. stalls self.new ≡ counted (is_stall bytes.now n) (stalls self.old)) }
+        ensures stalled { IfOk result
+            (λ n. stalls self.new ≡ counted (is_stall bytes.now n) (stalls self.old)) }
 
         ensures none_taken { OnErr result (contents self.new ≡ contents self.old) }
         ensures failed { OnErr result (failures self.new ≡ raised (failures self.old)) }

@@ -6,7 +6,8 @@ use crate::out::{Out, OutFault};
 use std::alloc::{Allocator, Global};
 use std::marker::Model;
 
-/// A writer into memory. It takes all that it is handed, and fails where memory for that is refused.
+/// A writer into memory. It takes all that it is handed, and fails where memory for that is
+/// refused.
 #[derive(Drop)]
 pub struct VecOut<A: Allocator = Global> {
     bytes: Vec<u8, A>,
@@ -19,7 +20,11 @@ impl<A: Allocator> Model for VecOut<A> {
 
     ghost Value = { VecOutState };
 
-    ghost view = { λ a. record { contents = a.bytes.items; capacity = vec_capacity a.bytes; failures = a.failures } };
+    ghost view = { λ a. record {
+      contents = a.bytes.items;
+      capacity = vec_capacity a.bytes;
+      failures = a.failures;
+    } };
 }
 
 impl<A: Allocator> VecOut<A> {
@@ -48,13 +53,15 @@ impl<A: Allocator> Out for VecOut<A> {
 
     ghost stalls = { λ _. 0 };
 
-    /// Takes all of the bytes; fails only where there was no room for them and memory for more was refused.
+    /// Takes all of the bytes; fails only where there was no room for them and memory for more was
+    /// refused.
     fn put(&mut self, bytes: &[u8]) -> Result<usize, OutFault>
         ensures all { IfOk result (λ n. n ≡ length bytes.now) }
         ensures taken { OnOk result (self.new.contents ≡ self.old.contents ++ bytes.now) }
         ensures well { OnOk result (self.new.failures ≡ self.old.failures) }
 
-        ensures no_room { OnErr result (self.old.capacity < length self.old.contents + length bytes.now) }
+        ensures no_room { OnErr result
+            (self.old.capacity < length self.old.contents + length bytes.now) }
         ensures none_taken { OnErr result (self.new.contents ≡ self.old.contents) }
         ensures failed { OnErr result (self.new.failures ≡ raised self.old.failures) }
     {

@@ -1,8 +1,10 @@
-ghost use Rattle.std.specs.Prelude.{◌≡◌, ◌+◌, ◌%◌, ◌<◌, ◌≤◌, ◌↔◌, ◌++◌, false, true, IsErrOf, IsTrue, OnOk, length};
+ghost use Rattle.std.specs.Prelude.{◌≡◌, ◌+◌, ◌%◌, ◌<◌, ◌≤◌, ◌↔◌, ◌++◌, false, true, IsErrOf};
+ghost use Rattle.std.specs.Prelude.{IsTrue, OnOk, length};
 ghost use Rattle.arrayvec.specs.ArrayVec.{array_vec_len};
 ghost use Rattle.frame_writer.specs.Frame.{frame, two_bytes};
 ghost use Rattle.frame_writer.specs.Shown.{BreaksOff, after_bytes, shown};
-ghost use Rattle.frame_writer.specs.Writing.{FailsWithin, after_frame, fresh, out_of, state_of};
+ghost use Rattle.frame_writer.specs.Writing.{FailsWithin, after_frame, fresh_writer, out_of};
+ghost use Rattle.frame_writer.specs.Writing.{state_of};
 
 use crate::out::Out;
 use arrayvec::ArrayVec;
@@ -10,7 +12,7 @@ use thiserror::Error;
 use xcp_base::limits::MAX_DTO;
 
 /// LEN, CTR and the longest packet, in bytes.
-const MAX_FRAME: usize = 68;
+const MAX_FRAME: usize = 4 + MAX_DTO;
 
 /// Why a frame was not written.
 #[derive(Clone, Copy, Debug, PartialEq, Eq, Error)]
@@ -35,7 +37,7 @@ impl<O: Out> FrameWriter<O> {
     /// A frame writer whose first frame has CTR 0 (own).
     pub fn new(out: O) -> FrameWriter<O>
         ensures value { out_of result ≡ out }
-        ensures fresh { state_of O.Out result ≡ fresh (shown O.Out out) }
+        ensures fresh { state_of O.Out result ≡ fresh_writer (shown O.Out out) }
     {
         FrameWriter {
             out,
@@ -44,22 +46,26 @@ impl<O: Out> FrameWriter<O> {
         }
     }
 
-    /// Writes one packet as a frame. The writer is handed the whole frame, and then what it did not take.
+    /// Writes one packet as a frame. The writer is handed the whole frame, and then what it did not
+    /// take.
     ///
-    /// Refused with `Closed` exactly where an earlier call failed, and with `Failed` where the writer fails or stalls in
-    /// this call: then a proper prefix of the frame was written, and nothing is written from then on.
+    /// Refused with `Closed` exactly where an earlier call failed, and with `Failed` where the
+    /// writer fails or stalls in this call: then a proper prefix of the frame was written, and
+    /// nothing is written from then on.
     pub fn send(&mut self, packet: &[u8]) -> Result<(), WriteFault>
         requires not_empty { 0 < length packet.now }
         requires fits { length packet.now ≤ MAX_DTO }
 
-        ensures ok { OnOk result (state_of O.Out self.new ≡ after_frame (state_of O.Out self.old) packet.now) }
+        ensures ok { OnOk result
+            (state_of O.Out self.new ≡ after_frame (state_of O.Out self.old) packet.now) }
         ensures stays_open { OnOk result ((state_of O.Out self.new).closed ≡ false) }
 
         ensures failed { IsErrOf result WriteFault.Failed
             → FailsWithin (state_of O.Out self.old) (state_of O.Out self.new)
             (frame (state_of O.Out self.old).counter packet.now) }
 
-        ensures closed { IsErrOf result WriteFault.Closed ↔ ((state_of O.Out self.old).closed ≡ true) }
+        ensures closed { IsErrOf result WriteFault.Closed
+            ↔ ((state_of O.Out self.old).closed ≡ true) }
         ensures closed_keeps { IsErrOf result WriteFault.Closed → self.new ≡ self.old }
     {
         if self.closed {
@@ -129,8 +135,10 @@ fn append(frame: &mut ArrayVec<u8, MAX_FRAME>, bytes: &[u8])
 
 /// Whether the writer took all of the bytes; if not, it failed or stalled once, at its last call.
 fn put_all<O: Out>(out: &mut O, bytes: &[u8]) -> bool
-    ensures all { IsTrue result → shown O.Out out.new ≡ after_bytes (shown O.Out out.old) bytes.now }
-    ensures part { result ≡ false → BreaksOff (shown O.Out out.old) (shown O.Out out.new) bytes.now }
+    ensures all { IsTrue result
+        → shown O.Out out.new ≡ after_bytes (shown O.Out out.old) bytes.now }
+    ensures part { result ≡ false
+        → BreaksOff (shown O.Out out.old) (shown O.Out out.new) bytes.now }
 {
     let mut done = 0;
     while done < bytes.len() {

@@ -21,7 +21,8 @@ fn ended<O>(run: Result<O, (WriteFault, O)>) -> (Option<WriteFault>, O) {
     }
 }
 
-/// A run: its images, how many bytes the writer takes a call and in all, whether it fails, and what is written.
+/// A run: its images, how many bytes the writer takes a call and in all, whether it fails, and what
+/// is written.
 type Run = (
     &'static str,
     &'static [[u8; 2]],

@@ -5,6 +5,7 @@ use frame_writer::{FrameWriter, FuseOut, Out, OutFault, VecOut, WriteFault, next
 use linked_list_allocator::LocalHeap;
 use std::process::Abort;
 use std::test::Fail;
+use xcp_base::limits::MAX_DTO;
 
 /// A writer that notes how many bytes each call hands it.
 #[derive(Drop)]
@@ -38,8 +39,9 @@ const TWO_FRAMES: &[u8] = &[
     0x03, 0x00, 0x00, 0x00, 0xAA, 0xBB, 0xCC, 0x02, 0x00, 0x01, 0x00, 0xBB, 0xCC,
 ];
 
-/// Packets that are sent to a writer which takes `chunk` bytes a call and `good` in all, each with its answer and CTR after it;
-/// then how many bytes each call handed over, and the bytes that were taken.
+/// Packets that are sent to a writer which takes `chunk` bytes a call and `good` in all, each with
+/// its answer and CTR after it; then how many bytes each call handed over, and the bytes that were
+/// taken.
 #[derive(Clone, Copy)]
 struct Sending<'a> {
     name: &'a str,
@@ -117,7 +119,7 @@ fn send_all<O: Out>(
     row: &str,
 ) {
     for &(packet, answer, counter) in sent {
-        let fits = 0 < packet.len() && packet.len() <= 64;
+        let fits = 0 < packet.len() && packet.len() <= MAX_DTO;
         assert!(rt; fits, "{row}");
         let shown = (writer.send(packet), writer.closed(), writer.next_counter());
         let wanted = (answer, answer.is_err(), counter);

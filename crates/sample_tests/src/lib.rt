@@ -1,4 +1,5 @@
-//! The tests of the way of a sample: copy plans, rings, samplers, frames. As a library this crate is empty.
+//! The tests of the way of a sample: copy plans, rings, samplers, frames. As a library this crate
+//! is empty.
 #![tactic(auto)]
 
 #[cfg(test)]

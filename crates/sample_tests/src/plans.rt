@@ -10,12 +10,14 @@ use std::alloc::Global;
 use std::process::Abort;
 use std::test::Fail;
 use xcp_base::Packets;
+use xcp_base::limits::MAX_LISTS;
 
 /// The entries of an ODT, by address and size.
 type Entries<'a> = &'a [(u32, u8)];
 
-/// A list of event channel 0 behind lists that have so many ODTs without entries; the copies that each of its ODTs needs; then
-/// an image, and the packets of its sample: the first without the overload indication and with it, and those behind it.
+/// A list of event channel 0 behind lists that have so many ODTs without entries; the copies that
+/// each of its ODTs needs; then an image, and the packets of its sample: the first without the
+/// overload indication and with it, and those behind it.
 #[derive(Clone, Copy)]
 struct Example<'a> {
     name: &'a str,
@@ -241,7 +243,7 @@ fn write_entries(store: &mut Store, list: u16, odt: u8, entries: Entries) -> Res
 
 /// The plan of a list that is there and ready.
 pub fn plan_of(alloc: Global, store: &Store, list: u8) -> Result<CopyPlan, Fail>
-    requires { list < 16 }
+    requires { list < MAX_LISTS }
     ensures plan { IfOk result IsPlan }
     ensures list { IfOk result (λ plan. plan.list ≡ list) }
 {
@@ -250,7 +252,8 @@ pub fn plan_of(alloc: Global, store: &Store, list: u8) -> Result<CopyPlan, Fail>
     Ok(CopyPlan::of(alloc, list, conf, first_pid, store.image_len())?)
 }
 
-/// The plan of the last list of a store, which stands behind lists of so many ODTs, and has such ODTs.
+/// The plan of the last list of a store, which stands behind lists of so many ODTs, and has such
+/// ODTs.
 pub fn plan_behind(
     alloc: Global,
     before: &[u8],
@@ -259,7 +262,7 @@ pub fn plan_behind(
     odts: &[Entries],
     image_len: usize,
 ) -> Result<CopyPlan, Fail>
-    requires { length before.now < 16 }
+    requires { length before.now < MAX_LISTS }
     ensures plan { IfOk result IsPlan }
     ensures list { IfOk result (λ plan. plan.list ≡ length before.now) }
 {
@@ -286,7 +289,8 @@ fn are(rt: &impl Abort, packets: &Packets, first: &[u8], behind: &[&[u8]], row: 
     }
 }
 
-/// Compares a plan's copies, and the packets of a sample without the overload indication and of one with it.
+/// Compares a plan's copies, and the packets of a sample without the overload indication and of one
+/// with it.
 fn compare(rt: &impl Abort, plan: &CopyPlan, row: &Example) {
     for (k, runs) in row.runs.iter().enumerate() {
         same(rt, (k, plan.runs(k)), (k, Some(*runs)), row.name, "runs");
@@ -317,7 +321,7 @@ fn compare(rt: &impl Abort, plan: &CopyPlan, row: &Example) {
 
 /// The plan of an example's list.
 fn plan_in(alloc: Global, row: &Example) -> Result<CopyPlan, Fail> {
-    if row.before.len() >= 16 {
+    if row.before.len() >= MAX_LISTS as usize {
         return Err(Fail::from("more than 16 lists"));
     }
     plan_behind(alloc, row.before, row.mode, 1, row.odts, row.image.len())

@@ -4,11 +4,12 @@ ghost use Rattle.std.specs.Prelude.{◌≡◌, ◌<◌};
 use crate::same::same;
 use channel_ring::{Beside, ListSend, RingFault, SampleRing, SendEnd, SendHalf, TakeEnd, TakeHalf};
 use std::test::Fail;
+use xcp_base::limits::MAX_LISTS;
 use xcp_base::{Item, StopMark};
 
 /// The stop marker of a list of channel 0.
 fn marker(list: u8) -> Item
-    requires { list < 16 }
+    requires { list < MAX_LISTS }
 {
     Item::Marker(StopMark::new(0, list))
 }
@@ -23,7 +24,7 @@ fn list_of(item: Item) -> u8 {
 
 /// Offers the marker of a list, and tells which list's marker comes back.
 fn back<S: SendEnd>(end: &mut S, list: u8) -> Option<u8>
-    requires { list < 16 }
+    requires { list < MAX_LISTS }
     ensures ring { S.ring end.new ≡ S.ring end.old }
 {
     match end.offer(marker(list)) {

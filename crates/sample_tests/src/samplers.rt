@@ -6,15 +6,17 @@ use crate::plans::plan_behind;
 use crate::same::same;
 use channel_ring::{ListSend, SampleRing, SendEnd, TakeEnd, TakeHalf};
 use copy_plan::CopyPlan;
-use sampler::{ListCounts, Sampler, StartFault, StopFault, Taken, TriggerFault, with_list};
+use sampler::{ListCounts, Sampler, StartFault, StopFault, Taken, TriggerFault};
 use std::alloc::Global;
 use std::process::Abort;
 use std::test::Fail;
-use xcp_base::Item;
+use xcp_base::limits::MAX_LISTS;
+use xcp_base::{Item, with_list};
 
-/// The plan of a list of channel 0 for images of two bytes, which stands behind lists of so many ODTs.
+/// The plan of a list of channel 0 for images of two bytes, which stands behind lists of so many
+/// ODTs.
 fn plan_of(alloc: Global, before: &[u8], prescaler: u8, entry: (u32, u8)) -> Result<CopyPlan, Fail>
-    requires { length before.now < 16 }
+    requires { length before.now < MAX_LISTS }
     ensures plan { IfOk result IsPlan }
     ensures list { IfOk result (λ plan. plan.list ≡ length before.now) }
     ensures channel { IfOk result (λ plan. plan.channel ≡ 0) }
@@ -35,7 +37,8 @@ fn one_list(alloc: Global, prescaler: u8, cap: usize) -> Result<Sampler<ListSend
     Ok(Sampler::new(0, plans, end, 2, with_list(0, 0)))
 }
 
-/// A running sampler of lists 0 and 1, which have one byte of the image each, over an end of a ring.
+/// A running sampler of lists 0 and 1, which have one byte of the image each, over an end of a
+/// ring.
 fn two_lists<S: SendEnd>(alloc: Global, end: S) -> Result<Sampler<S>, Fail>
     requires { S.sent end ≡ [] }
 {
@@ -209,7 +212,8 @@ fn each_sampler_answers(rt: HostRuntime) -> Result<(), Fail> {
     Ok(())
 }
 
-/// Triggers that a sampler of lists 0 and 1 takes over a ring of one place, where only list 0's sample has room.
+/// Triggers that a sampler of lists 0 and 1 takes over a ring of one place, where only list 0's
+/// sample has room.
 const DROPS: [Ask; 5] = [
     Ask::Trigger(
         &[0xAA, 0xBB],

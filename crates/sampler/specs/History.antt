@@ -1,9 +1,9 @@
 -- The history of an event channel, and the DAQ lists that are due at its triggers.
 use Rattle.std.specs.Prelude.{ℕ, ◌%◌, Bool, true, false, ◌&&◌, not, List, [], ◌∷◌, ◌++◌, length, map, reverse, nat_eq, filter, find, flat_map, count_by, take_while}
 use Rattle.std.specs.Prelude.{Option, None, Some}
-use Rattle.std.specs.Int.{bit_at}
 use Rattle.std.specs.List.{list_any}
 use Rattle.copy_plan.specs.Config.{ListPlan}
+pub use Rattle.xcp_base.specs.Lists.{has_list}
 
 -- what the sampler of a channel accepted: a trigger with its image and timestamp, a start or a stop of a DAQ list
 pub data Event : Type 0 where
@@ -16,10 +16,6 @@ pub record Opening : Type 0 where
   pub channel : ℕ
   pub plans : List ListPlan
   pub running : ℕ
-
--- list l is in a set of lists
-abbrev pub has_list : ℕ → ℕ → Bool
-has_list set l = nat_eq (bit_at set l) 1
 
 -- list l is of the channel
 abbrev pub is_list_of : Opening → ℕ → Bool

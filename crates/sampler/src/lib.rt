@@ -16,4 +16,3 @@ pub use faults::{StartFault, StopFault, TriggerFault};
 pub use sampler::Sampler;
 pub use sampler_end::SamplerEnd;
 pub use taken::Taken;
-pub use turn::with_list;

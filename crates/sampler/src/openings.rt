@@ -7,8 +7,8 @@ ghost use Rattle.sampler.specs.Tracks.{first_track};
 
 use crate::counts::ListCounts;
 use crate::track::Track;
-use crate::turn::with_list;
 use copy_plan::CopyPlan;
+use xcp_base::{has_list, with_list, with_list_if};
 
 /// A list that was never due and does not run.
 const NO_TRACK: Track = Track {
@@ -28,7 +28,7 @@ fn first_track(running: u16, l: u8) -> Track
     ensures { result ≡ first_track running l }
 {
     Track {
-        running: running >> l & 1 == 1,
+        running: has_list(running, l),
         ..NO_TRACK
     }
 }
@@ -64,14 +64,6 @@ pub fn set_of(plans: &[CopyPlan]) -> u16
     set
 }
 
-/// Adds a list to a set, if it runs.
-fn with_running(set: u16, l: u8, running: bool) -> u16
-    requires { l < 16 }
-    ensures { (k : ℕ) → has_list result k ≡ (has_list set k || (running && nat_eq l k)) }
-{
-    if running { with_list(set, l) } else { set }
-}
-
 /// The lists that run.
 pub fn running_of(plans: &[CopyPlan], tracks: &[Track]) -> u16
     requires rising { RiseFrom 0 plans.now }
@@ -80,7 +72,7 @@ pub fn running_of(plans: &[CopyPlan], tracks: &[Track]) -> u16
 {
     let mut set = 0;
     for place in 0..plans.len() {
-        set = with_running(set, plans[place].list(), tracks[place].running);
+        set = with_list_if(set, plans[place].list(), tracks[place].running);
     }
     set
 }

@@ -9,7 +9,7 @@ use crate::taken::Taken;
 use crate::track::Track;
 use channel_ring::SendEnd;
 use copy_plan::CopyPlan;
-use xcp_base::{Item, Packets, Sample};
+use xcp_base::{Item, Packets, Sample, with_list};
 
 /// Offers the sample of a list, and tells whether it was accepted.
 #[tactic(auto, unfolding(crate::specs::Turn::item_of))]
@@ -75,14 +75,6 @@ impl Track {
     {
         self.running && self.phase == 0
     }
-}
-
-/// Adds a list to a set.
-pub fn with_list(set: u16, l: u8) -> u16
-    requires { l < 16 }
-    ensures { (k : ℕ) → has_list result k ≡ (has_list set k || nat_eq l k) }
-{
-    set | 1 << l
 }
 
 impl Taken {

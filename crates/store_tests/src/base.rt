@@ -1,6 +1,7 @@
 //! What every layer speaks of: packets, samples, items and error codes.
 use crate::same::same;
 use std::process::Abort;
+use xcp_base::limits::MAX_DTO;
 use xcp_base::{ErrCode, Full, Item, Packets, Sample, StopMark};
 
 /// Compares the packets of a sample, behind which there is no other.
@@ -34,7 +35,7 @@ const PUSHED: [(&str, &[&[u8]]); 3] = [
 /// Pushes packets that fit, and compares each answer.
 fn push_all(rt: &impl Abort, packets: &mut Packets, pushed: &[&[u8]], row: &str) {
     for &packet in pushed {
-        let fits = 0 < packet.len() && packet.len() <= 64;
+        let fits = 0 < packet.len() && packet.len() <= MAX_DTO;
         assert!(rt; fits, "{row}");
         same(rt, packets.push(packet), Ok(()), row, "a packet pushed");
     }
@@ -104,7 +105,8 @@ fn error_codes_have_the_bytes_of_the_standard(rt: HostRuntime) {
     }
 }
 
-/// What an item shows: its channel, its list, and of a sample its number, how many packets it has, and the first.
+/// What an item shows: its channel, its list, and of a sample its number, how many packets it has,
+/// and the first.
 fn shown(item: &Item) -> (u8, u8, Option<(u64, usize, Option<&[u8]>)>) {
     match item {
         Item::Sample(sample) => {

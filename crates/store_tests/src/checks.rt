@@ -1,12 +1,12 @@
-//! The tables of the store, cell by cell: each check of each call in its order, with the checks behind it failing too where
-//! they can, and each effect of an accepted call. The calls are proved to answer as the definitions say; here the definitions
-//! meet the tables of docs/PROFILE.md.
+//! The tables of the store, cell by cell: each check of each call in its order, with the checks
+//! behind it failing too where they can, and each effect of an accepted call. The calls are proved
+//! to answer as the definitions say; here the definitions meet the tables of docs/PROFILE.md.
 use crate::call::{ACCEPTED, ACTIVE, CONFIG, Call, MODE, OVERFLOW, RANGE, SEQUENCE};
 use crate::example::{Example, Set, Step, run_all};
 use std::test::Fail;
 
-/// Two lists: list 0 with an ODT of two entries and one of one entry, all written, and a mode; list 1 with an ODT of one entry
-/// that isn't written. The pointer is undefined.
+/// Two lists: list 0 with an ODT of two entries and one of one entry, all written, and a mode; list
+/// 1 with an ODT of one entry that isn't written. The pointer is undefined.
 const TWO_LISTS: &[Step] = &[
     Step::Call(Call::AllocDaq(2), ACCEPTED),
     Step::Call(Call::AllocOdt(0, 2), ACCEPTED),

@@ -24,8 +24,9 @@ const SEQUENCE: &[u8] = &[0xFE, 0x29];
 
 const OVERFLOW: &[u8] = &[0xFE, 0x30];
 
-/// A code of the table of commands, with its least length, and the replies to its packets whose other bytes are all 00 or all
-/// FF: on a new store, where a list has an ODT without entries, and where the list is ready and the pointer at its entry.
+/// A code of the table of commands, with its least length, and the replies to its packets whose
+/// other bytes are all 00 or all FF: on a new store, where a list has an ODT without entries, and
+/// where the list is ready and the pointer at its entry.
 #[derive(Clone, Copy)]
 struct Code {
     code: u8,
@@ -38,15 +39,19 @@ struct Code {
 const CODES: [Code; 9] = [
     // FREE_DAQ, ALLOC_DAQ, ALLOC_ODT, ALLOC_ODT_ENTRY
     Code { code: 0xD6, least: 1, zeros: [RES, RES, RES], ones: [RES, RES, RES] },
-    Code { code: 0xD5, least: 4, zeros: [RES, SEQUENCE, SEQUENCE], ones: [OVERFLOW, SEQUENCE, SEQUENCE] },
-    Code { code: 0xD4, least: 5, zeros: [SEQUENCE, RES, SEQUENCE], ones: [SEQUENCE, RANGE, SEQUENCE] },
+    Code { code: 0xD5, least: 4, zeros: [RES, SEQUENCE, SEQUENCE],
+        ones: [OVERFLOW, SEQUENCE, SEQUENCE] },
+    Code { code: 0xD4, least: 5, zeros: [SEQUENCE, RES, SEQUENCE],
+        ones: [SEQUENCE, RANGE, SEQUENCE] },
     Code { code: 0xD3, least: 6, zeros: [SEQUENCE, RES, RES], ones: [SEQUENCE, RANGE, RANGE] },
     // SET_DAQ_PTR, WRITE_DAQ, SET_DAQ_LIST_MODE
     Code { code: 0xE2, least: 6, zeros: [RANGE, RANGE, RES], ones: [RANGE, RANGE, RANGE] },
-    Code { code: 0xE1, least: 8, zeros: [SEQUENCE, SEQUENCE, RANGE], ones: [SEQUENCE, SEQUENCE, RANGE] },
+    Code { code: 0xE1, least: 8, zeros: [SEQUENCE, SEQUENCE, RANGE],
+        ones: [SEQUENCE, SEQUENCE, RANGE] },
     Code { code: 0xE0, least: 8, zeros: [RANGE, RANGE, RANGE], ones: [RANGE, RANGE, RANGE] },
     // START_STOP_DAQ_LIST, START_STOP_SYNCH
-    Code { code: 0xDE, least: 4, zeros: [RANGE, &[0xFF, 0x00], &[0xFF, 0x00]], ones: [RANGE, RANGE, RANGE] },
+    Code { code: 0xDE, least: 4, zeros: [RANGE, &[0xFF, 0x00], &[0xFF, 0x00]],
+        ones: [RANGE, RANGE, RANGE] },
     Code { code: 0xDD, least: 2, zeros: [RES, RES, RES], ones: [MODE, MODE, MODE] },
 ];
 

@@ -1,4 +1,5 @@
-//! Worked examples: calls and command packets one after another, each with its answer, and what the store shows between them.
+//! Worked examples: calls and command packets one after another, each with its answer, and what the
+//! store shows between them.
 use crate::call::{Answer, Call, ask};
 use crate::same::same;
 use arrayvec::ArrayVec;

@@ -1,5 +1,5 @@
-//! The tests of what sets DAQ lists up: packets and items, the store, its command packets, the set-up. As a library this crate
-//! is empty.
+//! The tests of what sets DAQ lists up: packets and items, the store, its command packets, the
+//! set-up. As a library this crate is empty.
 #![tactic(auto)]
 
 #[cfg(test)]

@@ -9,7 +9,8 @@ use std::alloc::{AllocError, Global};
 use std::process::Abort;
 use std::test::Fail;
 
-/// A set-up: the command packets, the bytes that the writer takes in all, what is answered and written, and then the store.
+/// A set-up: the command packets, the bytes that the writer takes in all, what is answered and
+/// written, and then the store.
 #[derive(Clone, Copy)]
 struct SetUp<'a> {
     name: &'a str,
@@ -83,7 +84,8 @@ fn packets_of(alloc: Global, packets: &[&[u8]]) -> Result<Vec<Vec<u8>>, AllocErr
     Ok(all)
 }
 
-/// Carries packets out by a frame writer, and compares what is answered and written, and what the store then shows.
+/// Carries packets out by a frame writer, and compares what is answered and written, and what the
+/// store then shows.
 fn compare(
     rt: &impl Abort,
     packets: &[Vec<u8>],

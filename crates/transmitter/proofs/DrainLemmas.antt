@@ -1,5 +1,6 @@
 -- A drain that has had one more pump.
 use Rattle.std.proofs.Common.{◌≡◌, ℕ, suc, ◌+◌, ◌<◌, ◌≤◌, false, List, [], ◌∷◌, ◌++◌, length, drop, None, Ok, Err, Result, refl, sym, ap, ◌∙◌, subst, arith, append_assoc, append-nil, length-append, inl, inr}
+use mathlib.Core.List.{IsPrefix}
 use Rattle.std.proofs.lemmas.Bool.{false≢true}
 use Rattle.std.proofs.lemmas.Bool.Decides.{eqb_tells}
 use Rattle.std.proofs.lemmas.List.{append_cancel_left, get_or-map, get_or_default, length-map, same_lists}
@@ -7,8 +8,9 @@ use Rattle.xcp_base.specs.declared.item.Item.{Item}
 use Rattle.xcp_base.specs.declared.item.Item.TheVariants.{Sample}
 use Rattle.xcp_base.specs.declared.limits.TheConstants.{MAX_TAKEN}
 use Rattle.frame_writer.specs.Writing.{WriterState}
+use Rattle.transmitter.specs.Looks.{KnowsAll, KnowsNone, KnowsSome, Looked}
 use Rattle.transmitter.specs.Merge.{AreRising, of_ring, taken_from}
-use Rattle.transmitter.specs.Pumps.{Fails, Leads, PumpAnswers, Pumps, TakesMore}
+use Rattle.transmitter.specs.Pumps.{Leads, PumpFails, PumpAnswers, Pumps, TakesMore}
 use Rattle.transmitter.specs.Rounds.{Drains, TakesInRounds, round, rounds, without_first}
 use Rattle.transmitter.specs.Written.{HasTaken, TransmitterState}
 use Rattle.transmitter.specs.declared.faults.PumpFault.{PumpFault}
@@ -26,20 +28,20 @@ pub record Emptying (sent : List (List Item)) (a b : TransmitterState) : Type 0 
   pub turns : ℕ
   pub leads : Leads (record a { known = left }) (rounds turns left) b
   pub known : b.known ≡ after_rounds turns left
-  pub rest : (c : ℕ) → of_ring b.received c ++ of_ring b.known c ≡ of_ring sent c
+  pub rest : KnowsAll sent b
   pub hand : b.hand ≡ None
 
 -- all that was sent was looked at: nothing else changed, and what was received and is known is what was sent
 pub record LookedAtAll (sent : List (List Item)) (p d : TransmitterState) : Type 0 where
-  pub same : d ≡ record p { known = d.known }
-  pub rest : (c : ℕ) → of_ring d.received c ++ of_ring d.known c ≡ of_ring sent c
+  pub same : Looked p d
+  pub rest : KnowsAll sent d
 
 -- a look leaves the rings
-pub looked-rings : (p d : TransmitterState) → d ≡ record p { known = d.known } → d.rings ≡ p.rings
+pub looked-rings : (p d : TransmitterState) → Looked p d → d.rings ≡ p.rings
 looked-rings p d same = ap (λ (t : TransmitterState). t.rings) same
 
 -- and so does a pump before it
-pub pumped-rings : (b p d : TransmitterState) (qs : List (ℕ × Item)) → Leads b qs p → d ≡ record p { known = d.known } → d.rings ≡ b.rings
+pub pumped-rings : (b p d : TransmitterState) (qs : List (ℕ × Item)) → Leads b qs p → Looked p d → d.rings ≡ b.rings
 pumped-rings b p d qs l same = looked-rings p d same ∙ l.rings
 
 -- what a transmitter stands after doesn't depend on what is known
@@ -57,7 +59,7 @@ with_known start p known ps t = record {
 }
 
 -- items were taken, and then all that was sent was looked at
-pub leads-looked : (b p d : TransmitterState) (qs : List (ℕ × Item)) → Leads b qs p → d ≡ record p { known = d.known } → ((c : ℕ) → taken_from c qs ++ of_ring d.known c ≡ of_ring b.known c) → Leads b qs d
+pub leads-looked : (b p d : TransmitterState) (qs : List (ℕ × Item)) → Leads b qs p → Looked p d → ((c : ℕ) → taken_from c qs ++ of_ring d.known c ≡ of_ring b.known c) → Leads b qs d
 leads-looked b p d qs l same at = record {
   rings = ap (λ (t : TransmitterState). t.rings) same ∙ l.rings;
   takes = record {
@@ -69,7 +71,7 @@ leads-looked b p d qs l same at = record {
 }
 
 -- what was taken and what is known then is what was known
-pub known_taken : (sent : List (List Item)) (b p d : TransmitterState) (qs : List (ℕ × Item)) → ((c : ℕ) → of_ring b.received c ++ of_ring b.known c ≡ of_ring sent c) → Leads b qs p → LookedAtAll sent p d → (c : ℕ) → taken_from c qs ++ of_ring d.known c ≡ of_ring b.known c
+pub known_taken : (sent : List (List Item)) (b p d : TransmitterState) (qs : List (ℕ × Item)) → KnowsAll sent b → Leads b qs p → LookedAtAll sent p d → (c : ℕ) → taken_from c qs ++ of_ring d.known c ≡ of_ring b.known c
 known_taken sent b p d qs rest l look c =
     let gained : of_ring d.received c ≡ of_ring b.received c ++ taken_from c qs = ap (λ (t : TransmitterState). of_ring t.received c) look.same ∙ l.takes.gains c in
     append_cancel_left (of_ring b.received c) (taken_from c qs ++ of_ring d.known c) (of_ring b.known c)
@@ -100,19 +102,24 @@ at_zero : (j : ℕ) → 0 + j ≡ j
 at_zero j = omega arith
 
 -- what a pump took of what is known is the front of a round, if it took of each ring below one
-fronts : (sent : List (List Item)) (b d : TransmitterState) (qs : List (ℕ × Item)) → AreRising 0 qs → ((c : ℕ) → taken_from c qs ++ of_ring d.known c ≡ of_ring b.known c) → ((i j : ℕ) → i < j → 0 < length (taken_from j qs) → 0 < length (of_ring b.known i) → 0 < length (taken_from i qs)) → IsFront 0 b.known qs
-fronts sent b d qs rising at below = record {
+fronts : (b d : TransmitterState) (qs : List (ℕ × Item)) → AreRising 0 qs → ((c : ℕ) → taken_from c qs ++ of_ring d.known c ≡ of_ring b.known c) → ((i j : ℕ) → i < j → 0 < length (taken_from j qs) → 0 < length (of_ring b.known i) → 0 < length (taken_from i qs)) → IsFront 0 b.known qs
+fronts b d qs rising at below = record {
   rising = rising;
   first = λ j. rw (at_zero j) (of_ring d.known j, at j);
   below = λ i j h s k. rw (at_zero i) (below i j h (rw (at_zero j) at s) k);
 }
 
+-- a pump that went through took a round of what was known
+pub takes_round : (b p d : TransmitterState) (qs : List (ℕ × Item)) (o : Pumped) → AreRising 0 qs → ((c : ℕ) → taken_from c qs ++ of_ring d.known c ≡ of_ring b.known c) → Pumps b p qs o → qs ≡ round 0 b.known
+takes_round b p d qs o rising at pumps =
+    let front = front_begins 0 b.known qs (fronts b d qs rising at (λ e j h s k. pumps.known e k)) in
+    sym (append-nil qs) ∙ (ap (λ zs. qs ++ zs) (sym (front.2 (λ j k. rw (at_zero j) (pumps.known j k)))) ∙ front.1)
+
 -- one round more
 pub one_round : (sent : List (List Item)) (a b p d : TransmitterState) (qs : List (ℕ × Item)) (o : Pumped) → Emptying sent a b → Leads b qs p → AreRising 0 qs → Pumps b p qs o → LookedAtAll sent p d → length d.known ≡ length b.known → Emptying sent a d
 one_round sent a b p d qs o i l rising pumps look as_many =
     let at = known_taken sent b p d qs i.rest l look in
-    let front = front_begins 0 b.known qs (fronts sent b d qs rising at (λ e j h s k. pumps.known e k)) in
-    let whole : qs ≡ round 0 b.known = sym (append-nil qs) ∙ (ap (λ zs. qs ++ zs) (sym (front.2 (λ j k. rw (at_zero j) (pumps.known j k)))) ∙ front.1) in
+    let whole = takes_round b p d qs o rising at pumps in
     let same : rounds i.turns i.left ++ qs ≡ rounds (suc i.turns) i.left = ap (λ ps. rounds i.turns i.left ++ ps) (whole ∙ ap (round 0) i.known) ∙ sym (rounds-suc i.turns i.left) in
     record {
       was_open = i.was_open;
@@ -141,7 +148,7 @@ first_look sent a d is_open none look =
     }
 
 -- nothing is left
-pub all_taken : (sent : List (List Item)) (a b : TransmitterState) → Emptying sent a b → ((c : ℕ) → of_ring b.known c ≡ []) → Drains sent a b (Ok tt)
+pub all_taken : (sent : List (List Item)) (a b : TransmitterState) → Emptying sent a b → KnowsNone b → Drains sent a b (Ok tt)
 all_taken sent a b i none =
     (record { was_open = i.was_open; left = i.left; leaves = i.leaves; taken = rounds i.turns i.left; turns = i.turns; in_rounds = ([], append-nil (rounds i.turns i.left)); leads = i.leads }, i.hand, λ c. sym (append-nil (of_ring b.received c)) ∙ (ap (λ xs. of_ring b.received c ++ xs) (sym (none c)) ∙ i.rest c))
 
@@ -172,19 +179,25 @@ at_most_last low r c x ((e, y) ∷ qs) rising some = elim (eqb_tells e c) [
 ]
 
 -- a pump at which the writer failed took the front of a round
-failing_front : (b d : TransmitterState) (p : TransmitterState) (qs : List (ℕ × Item)) (sent : List (List Item)) → AreRising 0 qs → Fails b p qs → ((c : ℕ) → taken_from c qs ++ of_ring d.known c ≡ of_ring b.known c) → IsFront 0 b.known qs
-failing_front b d p qs sent rising f at =
-    fronts sent b d qs rising at (λ i j h s k.
+failing_front : (b p d : TransmitterState) (qs : List (ℕ × Item)) → AreRising 0 qs → PumpFails b p qs → ((c : ℕ) → taken_from c qs ++ of_ring d.known c ≡ of_ring b.known c) → IsFront 0 b.known qs
+failing_front b p d qs rising f at =
+    fronts b d qs rising at (λ i j h s k.
     let last = at_most_last 0 f.ring j (Sample f.sample) f.before (subst (AreRising 0) f.last rising) (subst (λ z. 0 < length (taken_from j z)) f.last s) in
     let some = f.known i (omega (arith, h, last)) k in
     let more = ap length (ap (taken_from i) f.last ∙ taken_from-append i f.before ((f.ring, Sample f.sample) ∷ [])) ∙ length-append (taken_from i f.before) (taken_from i ((f.ring, Sample f.sample) ∷ [])) in
     omega (arith, some, more))
 
+-- and so the items are the front of that round
+pub takes_front : (b p d : TransmitterState) (qs : List (ℕ × Item)) → AreRising 0 qs → ((c : ℕ) → taken_from c qs ++ of_ring d.known c ≡ of_ring b.known c) → PumpFails b p qs → IsPrefix qs (round 0 b.known)
+takes_front b p d qs rising at f =
+    let front = front_begins 0 b.known qs (failing_front b p d qs rising f at) in
+    (front.0, front.1)
+
 -- the writer failed within a round
-broken : (sent : List (List Item)) (a b p d : TransmitterState) (qs : List (ℕ × Item)) → Emptying sent a b → Leads b qs p → AreRising 0 qs → Fails b p qs → LookedAtAll sent p d → Drains sent a d (Err Failed)
+broken : (sent : List (List Item)) (a b p d : TransmitterState) (qs : List (ℕ × Item)) → Emptying sent a b → Leads b qs p → AreRising 0 qs → PumpFails b p qs → LookedAtAll sent p d → Drains sent a d (Err Failed)
 broken sent a b p d qs i l rising f look =
     let at = known_taken sent b p d qs i.rest l look in
-    let front = front_begins 0 b.known qs (failing_front b d p qs sent rising f at) in
+    let front = takes_front b p d qs rising at f in
     let done = rounds i.turns i.left in
     let start = record a { known = i.left } in (
       record {
@@ -232,7 +245,7 @@ stopped_by sent a b p d qs Closed i is_open l rising answers look = absurd (fals
 stopped_by sent a b p d qs Spent i is_open l rising answers look = spent sent a b p d i (subst (λ ps. Leads b ps p) answers.3 l) answers.2 look answers.1
 
 -- each pump that finds something takes something
-pub takes_some : (b p : TransmitterState) (qs : List (ℕ × Item)) (o : Pumped) → Leads b qs p → Pumps b p qs o → (c : ℕ) × (0 < length (of_ring b.known c)) → b.taken < p.taken
+pub takes_some : (b p : TransmitterState) (qs : List (ℕ × Item)) (o : Pumped) → Leads b qs p → Pumps b p qs o → KnowsSome b → b.taken < p.taken
 takes_some b p qs o l pumps some =
     let here = pumps.known some.0 some.1 in
     omega (arith, l.taken, at_most some.0 qs, here)

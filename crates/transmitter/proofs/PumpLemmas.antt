@@ -12,7 +12,7 @@ use Rattle.sampler.specs.History.{has_list}
 use Rattle.transmitter.specs.Items.{packets_of, samples}
 use Rattle.transmitter.specs.Merge.{AreRising, items_taken, of_ring, taken_from}
 use Rattle.transmitter.specs.Written.{TransmitterState}
-use Rattle.transmitter.specs.Pumps.{StopsAreLast, CanPump, IsPump, IsStopped, Leads, TakesKnownBelow, is_marker_of}
+use Rattle.transmitter.specs.Pumps.{StopsAreLast, CanPump, IsPump, IsSetOfStops, Leads, TakesKnownBelow, is_marker_of}
 use Rattle.transmitter.specs.declared.pumped.Pumped.{Pumped}
 use Rattle.transmitter.specs.declared.faults.PumpFault.TheVariants.{Failed}
 use Rattle.transmitter.proofs.TakenLemmas.{items_taken-push, one_each, some_first, packets_of-append, samples-append, taken_from-append, takes-none}
@@ -33,7 +33,7 @@ pub record SoFar (a b : TransmitterState) (c : ℕ) (p : Pumped) : Type 0 where
   pub few : p.taken ≤ c
   pub few_frames : p.frames ≤ 8 * c
   pub frames : p.frames ≡ length (packets_of (samples (items_taken items)))
-  pub stops : IsStopped p.stopped (items_taken items)
+  pub stops : IsSetOfStops p.stopped (items_taken items)
   pub known : TakesKnownBelow c a.known items
 
 rising-push : (low : ℕ) (qs : List (ℕ × Item)) (c : ℕ) (x : Item) → AreRising low qs → AreBelow c qs → low ≤ c → AreRising low (qs ++ (c, x) ∷ [])
@@ -164,7 +164,7 @@ alone [] (y ∷ ys) x h = absurd (omega (arith, h))
 alone (z ∷ xs) ys x h = absurd (omega (arith, h, length-append xs (x ∷ ys)))
 
 -- the marker of a list that was stopped is the last item received from its ring
-stops_last : (a b : TransmitterState) (qs : List (ℕ × Item)) (set : ℕ) → Leads a qs b → AreRising 0 qs → IsStopped set (items_taken qs) → StopsAreLast set b
+stops_last : (a b : TransmitterState) (qs : List (ℕ × Item)) (set : ℕ) → Leads a qs b → AreRising 0 qs → IsSetOfStops set (items_taken qs) → StopsAreLast set b
 stops_last a b qs set leads rising stops l has =
     let f = find_marker l qs (sym (stops l) ∙ has) in
     let here : taken_from f.0 qs ≡ taken_from f.0 f.2 ++ Marker f.1 ∷ taken_from f.0 f.3 =

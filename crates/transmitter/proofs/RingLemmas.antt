@@ -4,7 +4,10 @@ use Rattle.std.proofs.lemmas.List.{length-map}
 use Rattle.xcp_base.specs.declared.item.Item.{Item}
 use Rattle.channel_ring.specs.declared.ends.RingEnd.{Ghosts as EndGhosts}
 use Rattle.sampler.specs.State.{SamplerEndState, joined, sent_by}
+use Rattle.channel_ring.specs.declared.ends.TakeEnd.{Ghosts as TakeGhosts}
+use Rattle.transmitter.specs.Looks.{EndsStay}
 use Rattle.transmitter.specs.Merge.{of_ring}
+use Rattle.transmitter.specs.Turns.{AllStay}
 
 pub empty_of : (xs : List Item) → length xs ≡ 0 → xs ≡ []
 empty_of [] e = refl
@@ -48,3 +51,10 @@ same_count f h xs ys e = as_many f f h xs ys e ∙ sym (length-map ys h)
 pub sent_joined : {E : Type 0} (ring : EndGhosts E) (ends : List (SamplerEndState E)) → map (λ (e : SamplerEndState E). ring.all_sent e.end) ends ≡ sent_by (map (joined ring) ends)
 sent_joined ring [] = refl
 sent_joined ring (e ∷ ends) = ap (λ rest. ring.all_sent e.end ∷ rest) (sent_joined ring ends)
+
+-- what stays twice stays
+pub ends_stay-more : {E : Type 0} {ring : EndGhosts E} {xs ys zs : List (SamplerEndState E)} → EndsStay ring xs ys → EndsStay ring ys zs → EndsStay ring xs zs
+ends_stay-more s t = record { rings = t.rings ∙ s.rings; ends = t.ends ∙ s.ends }
+
+pub all_stay-more : {T F E : Type 0} {take : TakeGhosts T F} {ring : EndGhosts E} {a b c : List T} {xs ys zs : List (SamplerEndState E)} → AllStay take ring a b xs ys → AllStay take ring b c ys zs → AllStay take ring a c xs zs
+all_stay-more s t = record { rings = t.rings ∙ s.rings; received = t.received ∙ s.received; ends = ends_stay-more s.ends t.ends }

@@ -1,5 +1,7 @@
 pub mod Items
 pub mod Merge
 pub mod Written
+pub mod Looks
 pub mod Pumps
 pub mod Rounds
+pub mod Turns

@@ -1,6 +1,6 @@
 -- A drain empties the rings in rounds (own).
-use Rattle.std.specs.Prelude.{ℕ, zero, suc, ◌+◌, ◌≤◌, ◌≡◌, false, true, List, [], ◌∷◌, ◌++◌, drop, map, Ok, Err}
-use Rattle.std.specs.Prelude.{None, Some, Result}
+use Rattle.std.specs.Prelude.{ℕ, zero, suc, ◌+◌, ◌≤◌, ◌≡◌, false, true}
+use Rattle.std.specs.Prelude.{List, [], ◌∷◌, ◌++◌, drop, map, None, Some, Result, Ok, Err}
 use mathlib.Core.List.{IsPrefix}
 use Rattle.xcp_base.specs.Samples.{SampleParts}
 use Rattle.xcp_base.specs.declared.limits.TheConstants.{MAX_TAKEN}
@@ -27,7 +27,8 @@ abbrev pub rounds : ℕ → List (List Item) → List (ℕ × Item)
 rounds zero lists = []
 rounds (suc n) lists = round 0 lists ++ rounds n (without_first lists)
 
--- transmitter b is a after it took these items, in rounds, of what was left in the rings; `sent` has what was sent to each
+-- transmitter b is a after it took these items, in rounds, of what was left in the rings; `sent`
+-- has what was sent to each
 pub record TakesInRounds (sent : List (List Item)) (a b : TransmitterState) : Type 0 where
   pub was_open : a.writer.closed ≡ false
   pub left : List (List Item)
@@ -45,11 +46,13 @@ pub record EndsInHand (b : TransmitterState) (qs : List (ℕ × Item)) : Type 0 
   pub hand : b.hand ≡ Some sample
   pub last : qs ≡ before ++ (ring, Sample sample) ∷ []
 
--- what a drain does and answers: all that was sent was received; or the writer failed within the sample taken last; or
--- it was closed before, and nothing changed; or too many items were taken
-abbrev pub Drains : List (List Item) → TransmitterState → TransmitterState → Result (Unit {0}) PumpFault → Type 0
+-- what a drain does and answers: all that was sent was received; or the writer failed within the
+-- sample taken last; or it was closed before, and nothing changed; or too many items were taken
+abbrev pub Drains :
+    List (List Item) → TransmitterState → TransmitterState → Result (Unit {0}) PumpFault → Type 0
 Drains sent a b (Ok u) =
-    (_ : TakesInRounds sent a b) × (b.hand ≡ None) × ((c : ℕ) → of_ring b.received c ≡ of_ring sent c)
+    (_ : TakesInRounds sent a b) × (b.hand ≡ None)
+    × ((c : ℕ) → of_ring b.received c ≡ of_ring sent c)
 Drains sent a b (Err Failed) = (t : TakesInRounds sent a b) × EndsInHand b t.taken
 Drains sent a b (Err Closed) = (a.writer.closed ≡ true) × (b ≡ a)
 Drains sent a b (Err Spent) = (_ : TakesInRounds sent a b) × (b.hand ≡ None) × (MAX_TAKEN ≤ b.taken)

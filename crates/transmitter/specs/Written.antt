@@ -1,5 +1,5 @@
 -- What a transmitter took, and what it wrote (own).
-use Rattle.std.specs.Prelude.{ℕ, ◌≡◌, ◌≢◌, false, true, List, [], ◌∷◌, ◌++◌, length, map, slice_index}
+use Rattle.std.specs.Prelude.{ℕ, ◌≡◌, false, true, List, [], ◌∷◌, ◌++◌, length, map, slice_index}
 use Rattle.std.specs.Prelude.{Option, Some, None}
 use Rattle.xcp_base.specs.Packets.{ArePackets}
 use Rattle.xcp_base.specs.Samples.{SampleParts}
@@ -13,11 +13,12 @@ use Rattle.frame_writer.specs.Writing.{AfterText, WriterState, state_of}
 use Rattle.frame_writer.specs.declared.out.Out.{Ghosts as OutGhosts}
 use Rattle.frame_writer.specs.declared.writer.FrameWriter.{FrameWriter}
 use Rattle.transmitter.specs.Items.{count_of, packets_of, samples}
-use Rattle.transmitter.specs.Merge.{IsMerge, items_taken, of_ring}
+use Rattle.transmitter.specs.Merge.{IsMerge, items_taken}
 use Rattle.transmitter.specs.declared.transmitter.Transmitter.{Transmitter}
 
--- a transmitter: what its frame writer shows; of each ring its name, what was received from it and what is known to be
--- there; the sample in hand; of each DAQ list, how many samples were written whole; and how many items were taken
+-- a transmitter: what its frame writer shows; of each ring its name, what was received from it and
+-- what is known to be there; the sample in hand; of each DAQ list, how many samples were written
+-- whole; and how many items were taken
 pub record TransmitterState : Type 0 where
   pub writer : WriterState
   pub rings : List RingName
@@ -27,7 +28,8 @@ pub record TransmitterState : Type 0 where
   pub written : List ℕ
   pub taken : ℕ
 
-abbrev pub transmission : {O T E : Type 0} → OutGhosts O → TakeGhosts T E → Transmitter O T → TransmitterState
+abbrev pub transmission :
+    {O T E : Type 0} → OutGhosts O → TakeGhosts T E → Transmitter O T → TransmitterState
 transmission O T t = record {
   writer = state_of O t.writer;
   rings = map T.ring t.ends.items;
@@ -42,30 +44,36 @@ transmission O T t = record {
 abbrev pub writer_of : {O T : Type 0} → Transmitter O T → FrameWriter O
 writer_of t = t.writer
 
+-- the sample in hand, where there is one
 abbrev pub in_hand : Option SampleParts → List SampleParts
 in_hand None = []
 in_hand (Some s) = s ∷ []
 
--- the frame writer was open and failed within what is written of these packets; it is closed from now on
+-- the frame writer was open and failed within what is written of these packets; it is closed from
+-- now on
 pub record BreaksWithin (a b : WriterState) (qs : List (List ℕ)) : Type 0 where
   pub out : BreaksOff a.out b.out (text a.counter qs)
   pub was_open : a.closed ≡ false
   pub closed : b.closed ≡ true
 
--- the frame writer sent the packets of the samples that were written whole; where a sample is in hand, it then failed
--- within that one's packets
-abbrev pub HasWritten : WriterState → WriterState → List SampleParts → Option SampleParts → Type 0
+-- the frame writer sent the packets of the samples that were written whole; where a sample is in
+-- hand, it then failed within that one's packets
+abbrev pub HasWritten :
+    WriterState → WriterState → List SampleParts → Option SampleParts → Type 0
 HasWritten a b whole None = AfterText a b (packets_of whole)
 HasWritten a b whole (Some s) =
-    (between : WriterState) × AfterText a between (packets_of whole) × BreaksWithin between b s.packets
+    (between : WriterState) × AfterText a between (packets_of whole)
+    × BreaksWithin between b s.packets
 
 -- a sample in hand is the last item that was taken
 abbrev pub IsLast : Option SampleParts → List (ℕ × Item) → Type 0
 IsLast None ps = Unit {0}
 IsLast (Some s) ps = (c : ℕ) × (before : List (ℕ × Item)) × (ps ≡ before ++ (c, Sample s) ∷ [])
 
--- a transmitter that began with the frame writer `start`, which was open, has since taken these items
-pub record HasTaken (start : WriterState) (t : TransmitterState) (ps : List (ℕ × Item)) : Type 0 where
+-- a transmitter that began with the frame writer `start`, which was open, has since taken these
+-- items
+pub record HasTaken (start : WriterState) (t : TransmitterState) (ps : List (ℕ × Item))
+    : Type 0 where
   pub was_open : start.closed ≡ false
   pub merge : IsMerge t.received ps
   pub taken : t.taken ≡ length ps
@@ -76,8 +84,3 @@ pub record HasTaken (start : WriterState) (t : TransmitterState) (ps : List (ℕ
   pub legal : ArePackets (packets_of whole)
   pub writes : HasWritten start t.writer whole t.hand
   pub written : (l : ℕ) → slice_index t.written l ≡ count_of l whole
-
--- only what is known of ring c may have changed
-pub record Looked (c : ℕ) (a b : TransmitterState) : Type 0 where
-  pub same : b ≡ record a { known = b.known }
-  pub others : (e : ℕ) → e ≢ c → of_ring b.known e ≡ of_ring a.known e

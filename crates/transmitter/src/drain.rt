@@ -1,7 +1,8 @@
 //! Looks at what is left in the rings once all send ends were finished, and empties them.
-ghost use Rattle.std.specs.Prelude.{◌≡◌, ◌≢◌, ℕ, ◌<◌, ◌↔◌, ◌++◌, [], true, false, length, map, IsTrue, vec_len};
-ghost use Rattle.sampler.specs.State.{joined};
+ghost use Rattle.std.specs.Prelude.{◌≡◌, ◌≢◌, ℕ, ◌<◌, ◌↔◌, ◌++◌, [], true, false, length, map, IsTrue};
+ghost use Rattle.sampler.specs.State.{joined, sent_by};
 ghost use Rattle.transmitter.specs.Merge.{of_ring};
+ghost use Rattle.transmitter.specs.Turns.{AllStay};
 
 use crate::faults::PumpFault;
 use crate::transmitter::Transmitter;
@@ -13,13 +14,13 @@ use sampler::SamplerEnd;
 fn look_at<T: TakeEnd>(takes: &mut Vec<T>, ends: &mut [SamplerEnd<T::End>], c: usize) -> bool
     requires rings { map T.ring takes.old.items ≡ map (λ e. T.End.ring e.end) ends.old }
     requires ring { c < length ends.old }
-    ensures rings { map T.ring takes.new.items ≡ map T.ring takes.old.items }
-    ensures received { map T.received takes.new.items ≡ map T.received takes.old.items }
-    ensures others { (e : ℕ) → e ≢ c → of_ring (map T.known takes.new.items) e ≡ of_ring (map T.known takes.old.items) e }
-    ensures end_rings { map (λ e. T.End.ring e.end) ends.new ≡ map (λ e. T.End.ring e.end) ends.old }
-    ensures ends { map (joined T.End.RingEnd) ends.new ≡ map (joined T.End.RingEnd) ends.old }
-    ensures sent { map (λ e. T.End.all_sent e.end) ends.new ≡ map (λ e. T.End.all_sent e.end) ends.old }
-    ensures left { of_ring (map T.received takes.new.items) c ++ of_ring (map T.known takes.new.items) c ≡ of_ring (map (λ e. T.End.all_sent e.end) ends.new) c }
+    ensures stay { AllStay T.TakeEnd T.End.RingEnd takes.old.items takes.new.items
+        ends.old ends.new }
+    ensures others { (e : ℕ) → e ≢ c
+        → of_ring (map T.known takes.new.items) e ≡ of_ring (map T.known takes.old.items) e }
+    ensures left { of_ring (map T.received takes.new.items) c
+        ++ of_ring (map T.known takes.new.items) c
+        ≡ of_ring (sent_by (map (joined T.End.RingEnd) ends.old)) c }
     ensures some { IsTrue result ↔ (0 < length (of_ring (map T.known takes.new.items) c)) }
 {
     let end = &mut ends[c];
@@ -29,14 +30,14 @@ fn look_at<T: TakeEnd>(takes: &mut Vec<T>, ends: &mut [SamplerEnd<T::End>], c: u
 
 /// Looks at all that was sent, and tells whether an item is left.
 fn look<T: TakeEnd>(takes: &mut Vec<T>, ends: &mut [SamplerEnd<T::End>]) -> bool
-    requires { map T.ring takes.old.items ≡ map (λ e. T.End.ring e.end) ends.old }
-    ensures rings { map T.ring takes.new.items ≡ map T.ring takes.old.items }
-    ensures received { map T.received takes.new.items ≡ map T.received takes.old.items }
-    ensures end_rings { map (λ e. T.End.ring e.end) ends.new ≡ map (λ e. T.End.ring e.end) ends.old }
-    ensures ends { map (joined T.End.RingEnd) ends.new ≡ map (joined T.End.RingEnd) ends.old }
-    ensures sent { map (λ e. T.End.all_sent e.end) ends.new ≡ map (λ e. T.End.all_sent e.end) ends.old }
-    ensures left { (c : ℕ) → of_ring (map T.received takes.new.items) c ++ of_ring (map T.known takes.new.items) c ≡ of_ring (map (λ e. T.End.all_sent e.end) ends.old) c }
-    ensures some { result ≡ true → (c : ℕ) × (0 < length (of_ring (map T.known takes.new.items) c)) }
+    requires rings { map T.ring takes.old.items ≡ map (λ e. T.End.ring e.end) ends.old }
+    ensures stay { AllStay T.TakeEnd T.End.RingEnd takes.old.items takes.new.items
+        ends.old ends.new }
+    ensures left { (c : ℕ) → of_ring (map T.received takes.new.items) c
+        ++ of_ring (map T.known takes.new.items) c
+        ≡ of_ring (sent_by (map (joined T.End.RingEnd) ends.old)) c }
+    ensures some { result ≡ true
+        → (c : ℕ) × (0 < length (of_ring (map T.known takes.new.items) c)) }
     ensures none { result ≡ false → (c : ℕ) → of_ring (map T.known takes.new.items) c ≡ [] }
 {
     let mut some = false;
@@ -48,49 +49,50 @@ fn look<T: TakeEnd>(takes: &mut Vec<T>, ends: &mut [SamplerEnd<T::End>]) -> bool
 }
 
 impl<O: Out, T: TakeEnd> Transmitter<O, T> {
-    ghost use Rattle.std.specs.Prelude.{◌≡◌, ℕ, ◌<◌, ◌++◌, List, [], true, false, length, map};
+    ghost use Rattle.std.specs.Prelude.{◌≡◌, true, false, map};
     ghost use Rattle.sampler.specs.State.{joined, sent_by};
-    ghost use Rattle.transmitter.specs.Merge.{of_ring};
+    ghost use Rattle.transmitter.specs.Looks.{AreOfRings, EndsStay};
+    ghost use Rattle.transmitter.specs.Looks.{KnowsAll, KnowsNone, KnowsSome, Looked};
+    ghost use Rattle.transmitter.specs.Pumps.{TakesMore};
+    ghost use Rattle.transmitter.specs.Rounds.{Drains};
     ghost use Rattle.transmitter.specs.Written.{transmission, writer_of};
 
-    /// Looks at all that was sent through the finished ends of its rings, and tells whether an item is left.
+    /// Looks at all that was sent through the finished ends of its rings, and tells whether an item
+    /// is left.
     ///
-    /// `ends` are those of the rings of event channels 0, 1, .. From then on each item left is known.
+    /// `ends` are those of the rings of event channels 0, 1, .. From then on each item left is
+    /// known.
     pub fn after(&mut self, ends: &mut [SamplerEnd<T::End>]) -> bool
-        requires one_rings { (transmission O.Out T.TakeEnd self.old).rings ≡ map (λ e. T.End.ring e.end) ends.old }
-        ensures left { (c : ℕ) → of_ring (transmission O.Out T.TakeEnd self.new).received c
-            ++ of_ring (transmission O.Out T.TakeEnd self.new).known c
-            ≡ of_ring (sent_by (map (joined T.End.RingEnd) ends.old)) c }
-        ensures some { result ≡ true → (c : ℕ) × (0 < length (of_ring (transmission O.Out T.TakeEnd self.new).known c)) }
-        ensures none { result ≡ false → (c : ℕ) → of_ring (transmission O.Out T.TakeEnd self.new).known c ≡ [] }
+        requires one_rings { AreOfRings T.End.RingEnd (transmission O.Out T.TakeEnd self.old)
+            ends.old }
+        ensures left { KnowsAll (sent_by (map (joined T.End.RingEnd) ends.old))
+            (transmission O.Out T.TakeEnd self.new) }
+        ensures some { result ≡ true → KnowsSome (transmission O.Out T.TakeEnd self.new) }
+        ensures none { result ≡ false → KnowsNone (transmission O.Out T.TakeEnd self.new) }
 
-        ensures same { transmission O.Out T.TakeEnd self.new ≡ record (transmission O.Out T.TakeEnd self.old) { known = (transmission O.Out T.TakeEnd self.new).known } }
-        ensures writer { writer_of self.new ≡ writer_of self.old }
-        ensures ends { map (joined T.End.RingEnd) ends.new ≡ map (joined T.End.RingEnd) ends.old }
-        ensures end_rings { map (λ e. T.End.ring e.end) ends.new ≡ map (λ e. T.End.ring e.end) ends.old }
+        ensures looked { Looked (transmission O.Out T.TakeEnd self.old)
+            (transmission O.Out T.TakeEnd self.new) }
+        ensures writer_stays { writer_of self.new ≡ writer_of self.old }
+        ensures ends_stay { EndsStay T.End.RingEnd ends.old ends.new }
     {
         look(&mut self.ends, ends)
     }
-}
-
-impl<O: Out, T: TakeEnd> Transmitter<O, T> {
-    ghost use Rattle.std.specs.Prelude.{◌≡◌, map};
-    ghost use Rattle.sampler.specs.State.{joined, sent_by};
-    ghost use Rattle.transmitter.specs.Pumps.{TakesMore};
-    ghost use Rattle.transmitter.specs.Rounds.{Drains};
-    ghost use Rattle.transmitter.specs.Written.{transmission};
 
     /// Pumps until every ring is known to be empty.
     ///
-    /// `ends` are those of the rings of event channels 0, 1, .. Refused with `Closed` where the writer failed earlier, even
-    /// where nothing is left; a pump's `Failed` or `Spent` leaves what the pumps so far left.
+    /// `ends` are those of the rings of event channels 0, 1, .. Refused with `Closed` where the
+    /// writer failed earlier, even where nothing is left; a pump's `Failed` or `Spent` leaves what
+    /// the pumps so far left.
     pub fn drain(&mut self, ends: &mut [SamplerEnd<T::End>]) -> Result<(), PumpFault>
-        requires one_rings { (transmission O.Out T.TakeEnd self.old).rings ≡ map (λ e. T.End.ring e.end) ends.old }
-        ensures drains { Drains (sent_by (map (joined T.End.RingEnd) ends.old)) (transmission O.Out T.TakeEnd self.old) (transmission O.Out T.TakeEnd self.new) result }
-        ensures more { TakesMore (transmission O.Out T.TakeEnd self.old) (transmission O.Out T.TakeEnd self.new) }
-        ensures rings { (transmission O.Out T.TakeEnd self.new).rings ≡ (transmission O.Out T.TakeEnd self.old).rings }
-        ensures ends { map (joined T.End.RingEnd) ends.new ≡ map (joined T.End.RingEnd) ends.old }
-        ensures end_rings { map (λ e. T.End.ring e.end) ends.new ≡ map (λ e. T.End.ring e.end) ends.old }
+        requires one_rings { AreOfRings T.End.RingEnd (transmission O.Out T.TakeEnd self.old)
+            ends.old }
+        ensures drains { Drains (sent_by (map (joined T.End.RingEnd) ends.old))
+            (transmission O.Out T.TakeEnd self.old) (transmission O.Out T.TakeEnd self.new) result }
+        ensures more { TakesMore (transmission O.Out T.TakeEnd self.old)
+            (transmission O.Out T.TakeEnd self.new) }
+        ensures rings_stay { (transmission O.Out T.TakeEnd self.new).rings
+            ≡ (transmission O.Out T.TakeEnd self.old).rings }
+        ensures ends_stay { EndsStay T.End.RingEnd ends.old ends.new }
     {
         if self.writer.closed() {
             return Err(PumpFault::Closed);

@@ -1,4 +1,5 @@
-//! The transmitter: it takes samples from the rings of all event channels in turn, and writes them as frames.
+//! The transmitter: it takes samples from the rings of all event channels in turn, and writes them
+//! as frames.
 #![tactic(auto)]
 
 mod drain;

@@ -7,13 +7,15 @@ use crate::pumped::Pumped;
 use crate::turn::Turn;
 use channel_ring::{Beside, TakeEnd};
 use frame_writer::{FrameWriter, Out};
-use sampler::{Sampler, with_list};
-use xcp_base::Sample;
+use sampler::Sampler;
 use xcp_base::limits::MAX_TAKEN;
+use xcp_base::{Sample, with_list};
 
-/// The transmitter: it takes items from the rings of all event channels in turn, and writes the samples as frames.
+/// The transmitter: it takes items from the rings of all event channels in turn, and writes the
+/// samples as frames.
 ///
-/// Contracts speak of the items that it took: a list of pairs, each the number of a ring and an item.
+/// Contracts speak of the items that it took: a list of pairs, each the number of a ring and an
+/// item.
 #[derive(Drop)]
 pub struct Transmitter<O, T> {
     pub(crate) writer: FrameWriter<O>,
@@ -27,7 +29,8 @@ pub struct Transmitter<O, T> {
 }
 
 impl<O: Out, T: TakeEnd> Transmitter<O, T> {
-    ghost use Rattle.std.specs.Prelude.{◌≡◌, ℕ, ◌<◌, ◌≤◌, All, List, [], false, length, map, slice_index, vec_len};
+    ghost use Rattle.std.specs.Prelude.{◌≡◌, ℕ, ◌≤◌, All, List, [], false};
+    ghost use Rattle.std.specs.Prelude.{length, map, slice_index, vec_len};
     ghost use Rattle.std.specs.Option.{option_copied};
     ghost use Rattle.xcp_base.specs.declared.item.Item.{Item};
     ghost use Rattle.frame_writer.specs.Writing.{WriterState, state_of};
@@ -35,7 +38,8 @@ impl<O: Out, T: TakeEnd> Transmitter<O, T> {
     ghost use Rattle.transmitter.specs.Pumps.{IsPump};
     ghost use Rattle.transmitter.specs.Written.{HasTaken, transmission, writer_of};
 
-    /// A transmitter that writes to a frame writer, which isn't closed, what it takes from 1 to 8 rings.
+    /// A transmitter that writes to a frame writer, which isn't closed, what it takes from 1 to 8
+    /// rings.
     ///
     /// `ends` are the take ends of event channels 0, 1, .., from which nothing was taken.
     pub fn new(writer: FrameWriter<O>, ends: Vec<T>) -> Transmitter<O, T>
@@ -57,13 +61,16 @@ impl<O: Out, T: TakeEnd> Transmitter<O, T> {
         }
     }
 
-    /// Takes at most one item of each ring, in rising number of the event channel, and writes each sample's packets as frames.
+    /// Takes at most one item of each ring, in rising number of the event channel, and writes each
+    /// sample's packets as frames.
     ///
-    /// Refused with `Closed` where the writer failed earlier, with `Spent` once `MAX_TAKEN` items were taken; then nothing
-    /// is taken. `Failed` where the writer fails now: the items before are taken and written, the sample whose frames
-    /// weren't all written stays in hand, and nothing is taken from then on.
+    /// Refused with `Closed` where the writer failed earlier, with `Spent` once `MAX_TAKEN` items
+    /// were taken; then nothing is taken. `Failed` where the writer fails now: the items before are
+    /// taken and written, the sample whose frames weren't all written stays in hand, and nothing is
+    /// taken from then on.
     pub fn pump(&mut self) -> Result<Pumped, PumpFault>
-        ensures { IsPump (transmission O.Out T.TakeEnd self.old) (transmission O.Out T.TakeEnd self.new) result }
+        ensures { IsPump (transmission O.Out T.TakeEnd self.old)
+            (transmission O.Out T.TakeEnd self.new) result }
     {
         if self.writer.closed() {
             return Err(PumpFault::Closed);
@@ -104,7 +111,9 @@ impl<O: Out, T: TakeEnd> Transmitter<O, T> {
     /// How many samples of a DAQ list were written whole; 0 for a list that never came.
     pub fn written(&self, l: u8) -> u64
         ensures value { result ≡ slice_index (transmission O.Out T.TakeEnd self.now).written l }
-        ensures after { (start : WriterState) (ps : List (ℕ × Item)) → (taken : HasTaken start (transmission O.Out T.TakeEnd self.now) ps) → result ≡ count_of l taken.whole }
+        ensures after { (start : WriterState) (ps : List (ℕ × Item)) →
+            (taken : HasTaken start (transmission O.Out T.TakeEnd self.now) ps) →
+            result ≡ count_of l taken.whole }
     {
         self.written.get(l as usize).copied().unwrap_or(0)
     }
@@ -125,32 +134,42 @@ impl<O: Out, T: TakeEnd> Transmitter<O, T> {
 }
 
 impl<O: Out, T: Beside> Transmitter<O, T> {
-    ghost use Rattle.std.specs.Prelude.{◌≡◌, ◌≢◌, ℕ, ◌+◌, ◌≤◌, ◌++◌, List, Bool, Some, length, slice_get};
+    ghost use Rattle.std.specs.Prelude.{◌≡◌, ◌+◌, ◌≤◌, ◌++◌};
+    ghost use Rattle.std.specs.Prelude.{List, Bool, Some, length, slice_get};
     ghost use Rattle.channel_ring.specs.Room.{units};
     ghost use Rattle.sampler.specs.History.{Event, Opening};
     ghost use Rattle.sampler.specs.Standing.{StandsAfter};
+    ghost use Rattle.transmitter.specs.Looks.{LookedAt};
     ghost use Rattle.transmitter.specs.Merge.{of_ring};
-    ghost use Rattle.transmitter.specs.Written.{Looked, transmission, writer_of};
+    ghost use Rattle.transmitter.specs.Written.{transmission, writer_of};
 
-    /// Looks at all that a sampler sent, beside it in one thread, and answers how many of its items are left in the ring.
+    /// Looks at all that a sampler sent, beside it in one thread, and answers how many of its items
+    /// are left in the ring.
     ///
-    /// The sampler is that of the ring of its event channel. From then on each item left is known, and the sampler knows
-    /// each unit to be free that none of them takes up.
+    /// The sampler is that of the ring of its event channel. From then on each item left is known,
+    /// and the sampler knows each unit to be free that none of them takes up.
     pub fn beside(&mut self, sampler: &mut Sampler<T::Send>) -> usize
-        requires one_ring { slice_get (transmission O.Out T.TakeEnd self.old).rings sampler.old.channel ≡ Some (T.Send.ring sampler.old.end) }
-        ensures count { result ≡ length (of_ring (transmission O.Out T.TakeEnd self.new).known sampler.old.channel) }
-        ensures left { of_ring (transmission O.Out T.TakeEnd self.new).received sampler.old.channel ++ of_ring (transmission O.Out T.TakeEnd self.new).known sampler.old.channel ≡ T.Send.sent sampler.new.end }
-        ensures looked { Looked sampler.old.channel (transmission O.Out T.TakeEnd self.old) (transmission O.Out T.TakeEnd self.new) }
-        ensures writer { writer_of self.new ≡ writer_of self.old }
+        requires one_ring { slice_get
+            (transmission O.Out T.TakeEnd self.old).rings sampler.old.channel
+            ≡ Some (T.Send.ring sampler.old.end) }
+        ensures count { result
+            ≡ length (of_ring (transmission O.Out T.TakeEnd self.new).known sampler.old.channel) }
+        ensures left { of_ring (transmission O.Out T.TakeEnd self.new).received sampler.old.channel
+            ++ of_ring (transmission O.Out T.TakeEnd self.new).known sampler.old.channel
+            ≡ T.Send.sent sampler.new.end }
+        ensures roomy { T.Send.capacity sampler.new.end ≤ T.Send.free sampler.new.end
+            + units T.Send.End.cost
+            (of_ring (transmission O.Out T.TakeEnd self.new).known sampler.old.channel) }
 
+        ensures looked { LookedAt sampler.old.channel (transmission O.Out T.TakeEnd self.old)
+            (transmission O.Out T.TakeEnd self.new) }
+        ensures writer_stays { writer_of self.new ≡ writer_of self.old }
         ensures stands { (opening : Opening) (h : List Event) (d : List Bool) →
             StandsAfter T.Send.SendEnd T.Send.End.RingEnd sampler.old opening h d →
             StandsAfter T.Send.SendEnd T.Send.End.RingEnd sampler.new opening h d }
         ensures sampler { sampler.new ≡ record sampler.old { end = sampler.new.end } }
         ensures sent { T.Send.sent sampler.new.end ≡ T.Send.sent sampler.old.end }
         ensures grows { T.Send.free sampler.old.end ≤ T.Send.free sampler.new.end }
-        ensures roomy { T.Send.capacity sampler.new.end ≤ T.Send.free sampler.new.end
-            + units T.Send.End.cost (of_ring (transmission O.Out T.TakeEnd self.new).known sampler.old.channel) }
         ensures capacity_stays { T.Send.capacity sampler.new.end ≡ T.Send.capacity sampler.old.end }
         ensures ring { T.Send.ring sampler.new.end ≡ T.Send.ring sampler.old.end }
     {

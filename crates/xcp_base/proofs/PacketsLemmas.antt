@@ -4,7 +4,7 @@ use Rattle.std.proofs.lemmas.Grind.{common_steps}
 use Rattle.std.proofs.lemmas.List.Elements.{All-head, All-tail}
 use Rattle.std.specs.Prelude.{Some, slice_get}
 use Rattle.xcp_base.specs.Packets.{ArePackets, IsPacket}
-use Rattle.xcp_base.specs.PacketsBody.{body_of, packets_in}
+use Rattle.xcp_base.specs.Inner.{body_of, packets_in}
 
 -- the packets of a body are those that it was made of
 pub packets_in-body_of : (qs : List (List ℕ)) → packets_in (length qs) (body_of qs) ≡ qs

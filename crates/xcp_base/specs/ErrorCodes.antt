@@ -1,7 +1,9 @@
 -- The bytes of the error codes (ASAM MCD-1 XCP, protocol layer, error codes).
 use Rattle.std.specs.Prelude.{ℕ}
 use Rattle.xcp_base.specs.declared.err_code.ErrCode.{ErrCode}
-use Rattle.xcp_base.specs.declared.err_code.ErrCode.TheVariants.{DaqActive, CmdUnknown, CmdSyntax, OutOfRange, ModeNotValid, Sequence, DaqConfig, MemoryOverflow}
+use Rattle.xcp_base.specs.declared.err_code.ErrCode.TheVariants.{DaqActive, CmdUnknown, CmdSyntax}
+use Rattle.xcp_base.specs.declared.err_code.ErrCode.TheVariants.{OutOfRange, ModeNotValid, Sequence}
+use Rattle.xcp_base.specs.declared.err_code.ErrCode.TheVariants.{DaqConfig, MemoryOverflow}
 
 -- the byte that stands for an error in an ERR packet
 abbrev pub error_byte : ErrCode → ℕ

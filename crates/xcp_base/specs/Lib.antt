@@ -1,4 +1,5 @@
 pub mod ErrorCodes
+pub mod Inner
+pub mod Lists
 pub mod Packets
-pub mod PacketsBody
 pub mod Samples

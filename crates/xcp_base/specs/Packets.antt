@@ -1,14 +1,16 @@
--- Packets (ASAM MCD-1 XCP, protocol layer, DTO): the bytes of each; its length is at most MAX_DTO, which is 64 (own).
-use Rattle.std.specs.Prelude.{ℕ, ◌<◌, ◌≤◌, All, List, [], ◌∷◌, ◌++◌, length}
+-- Packets (ASAM MCD-1 XCP, protocol layer, DTO): the bytes of each. That its length is at most
+-- MAX_DTO, and that a timestamp has 4 bytes and stands in ODT 0, are (own).
+use Rattle.std.specs.Prelude.{ℕ, ◌+◌, ◌<◌, ◌≤◌, ◌==◌, ◌&&◌, Bool, if◌then◌else◌}
+use Rattle.std.specs.Prelude.{All, List, [], ◌∷◌, ◌++◌, length}
 use Rattle.xcp_base.specs.declared.limits.TheConstants.{MAX_DTO}
 
--- 1 to 64 bytes
+-- 1 to MAX_DTO bytes
 pub record IsPacket (packet : List ℕ) : Type 0 where
   pub some : 0 < length packet
   pub fits : length packet ≤ MAX_DTO
   pub bytes : All (λ b. b < 256) packet
 
--- each has 1 to 64 bytes
+-- each has 1 to MAX_DTO bytes
 abbrev pub ArePackets : List (List ℕ) → Type 0
 ArePackets packets = All IsPacket packets
 
@@ -23,3 +25,12 @@ abbrev pub with_longer_last : List (List ℕ) → List ℕ → List (List ℕ)
 with_longer_last [] bytes = []
 with_longer_last (q ∷ []) bytes = (q ++ bytes) ∷ []
 with_longer_last (q ∷ r ∷ qs) bytes = q ∷ with_longer_last (r ∷ qs) bytes
+
+-- the bytes of the timestamp in the packet of ODT k: 4 in ODT 0 of a stamped list
+abbrev pub stamp_len : Bool → ℕ → ℕ
+stamp_len stamped k = if k == 0 && stamped then 4 else 0
+
+-- the bytes of the packet of ODT k: the PID, the timestamp, and its entries, which have so many
+-- bytes
+abbrev pub packet_len : Bool → ℕ → ℕ → ℕ
+packet_len stamped k entries_len = 1 + stamp_len stamped k + entries_len

@@ -3,7 +3,8 @@ use Rattle.std.specs.Prelude.{ℕ, ◌<◌, ◌≤◌, ◌^◌, List, length}
 use Rattle.xcp_base.specs.declared.limits.TheConstants.{MAX_CHANNELS, MAX_LISTS, MAX_ODTS}
 use Rattle.xcp_base.specs.Packets.{ArePackets}
 
--- a sample: its event channel, its DAQ list, the number of samples that the channel accepted before it, its packets
+-- a sample: its event channel, its DAQ list, the number of samples that the channel accepted before
+-- it, its packets
 pub record SampleParts : Type 0 where
   pub channel : ℕ
   pub list : ℕ

@@ -1,4 +1,5 @@
-ghost use Rattle.std.specs.Prelude.{◌≡◌, ◌<◌, ◌≤◌, ◌+◌, [], ◌∷◌, ◌++◌, ◌↔◌, IfSome, IsOk, OnErr, OnOk, drop, length, slice_get, slice_index, slice_set, take};
+ghost use Rattle.std.specs.Prelude.{◌≡◌, ◌<◌, ◌≤◌, ◌+◌, [], ◌∷◌, ◌++◌, ◌↔◌, IfSome, IsOk, OnErr};
+ghost use Rattle.std.specs.Prelude.{OnOk, drop, length, slice_get, slice_index, slice_set, take};
 ghost use Rattle.std.specs.Option.{option_copied};
 ghost use Rattle.arrayvec.specs.ArrayVec.{array_vec_len};
 ghost use Rattle.xcp_base.specs.Packets.{ArePackets, IsPacket, last_packet, with_longer_last};
@@ -13,7 +14,8 @@ use thiserror::Error;
 #[error("there is no room for another packet")]
 pub struct Full;
 
-/// The packets of a sample: at most `MAX_ODTS`, each of 1 to `MAX_DTO` bytes, in a value of fixed size.
+/// The packets of a sample: at most `MAX_ODTS`, each of 1 to `MAX_DTO` bytes, in a value of fixed
+/// size.
 #[derive(Debug, Drop)]
 pub struct Packets {
     body: ArrayVec<u8, MAX_BODY>,
@@ -23,7 +25,7 @@ pub struct Packets {
 
 impl Model for Packets {
     ghost use Rattle.std.specs.Prelude.{List, ℕ};
-    ghost use Rattle.xcp_base.specs.PacketsBody.{IsBody, packets_view};
+    ghost use Rattle.xcp_base.specs.Inner.{IsBody, packets_view};
 
     ghost Value = { List (List ℕ) };
 
@@ -34,7 +36,7 @@ impl Model for Packets {
 
 impl Packets {
     /// No packet.
-    #[tactic(auto, unfolding(crate::specs::PacketsBody::packets_in, crate::specs::PacketsBody::body_of))]
+    #[tactic(auto, unfolding(crate::specs::Inner::packets_in, crate::specs::Inner::body_of))]
     pub fn new() -> Packets
         ensures { result ≡ [] }
     {
@@ -54,7 +56,8 @@ impl Packets {
         self.count
     }
 
-    /// Appends a packet; refused with `Full` exactly where `MAX_ODTS` packets are there, which then stay as they are.
+    /// Appends a packet; refused with `Full` exactly where `MAX_ODTS` packets are there, which then
+    /// stay as they are.
     pub fn push(&mut self, packet: &[u8]) -> Result<(), Full>
         requires not_empty { 0 < length packet.now }
         requires fits { length packet.now ≤ MAX_DTO }

@@ -18,9 +18,19 @@ impl Model for Sample {
 
     ghost Value = { SampleParts };
 
-    ghost view = { λ s. record { channel = s.channel; list = s.list; number = s.number; packets = s.packets } };
+    ghost view = { λ s. record {
+      channel = s.channel;
+      list = s.list;
+      number = s.number;
+      packets = s.packets;
+    } };
 
-    ghost invariant = { λ s. IsSample (record { channel = s.channel; list = s.list; number = s.number; packets = s.packets }) };
+    ghost invariant = { λ s. IsSample (record {
+      channel = s.channel;
+      list = s.list;
+      number = s.number;
+      packets = s.packets;
+    }) };
 }
 
 impl Sample {
@@ -29,9 +39,13 @@ impl Sample {
         requires channel_below { channel < MAX_CHANNELS }
         requires list_below { list < MAX_LISTS }
         requires some { 0 < length packets }
-        ensures { result ≡ record { channel = channel; list = list; number = number; packets = packets } }
+        ensures { result ≡ record {
+          channel = channel;
+          list = list;
+          number = number;
+          packets = packets;
+        } }
     {
-        let _ = packets.len();
         Sample {
             channel,
             list,

@@ -1,4 +1,5 @@
-//! The program `xcpdaq`. It takes no words, and prints the frames of a fixed run as one hexadecimal line.
+//! The program `xcpdaq`. It takes no words, and prints the frames of a fixed run as one hexadecimal
+//! line.
 #![tactic(auto)]
 
 ghost use Rattle.std.specs.Prelude.{◌≡◌, IfErr, IfOk, string_bytes};
@@ -71,7 +72,8 @@ fn command_line_fault(error: &io::Error) -> Fault {
 
 /// The frames of the fixed run, in lower case hexadecimal.
 fn hexadecimal_run(alloc: Global) -> Result<String, Fault>
-    ensures line { IfOk result (λ line. string_bytes line ≡ encode_lower (text 0 (fixed_packets IMAGES))) }
+    ensures line { IfOk result
+        (λ line. string_bytes line ≡ encode_lower (text 0 (fixed_packets IMAGES))) }
     ensures memory { IfErr result (λ fault. fault ≡ Fault.Memory) }
 {
     let Ok(written) = fixed_run(&IMAGES, VecOut::new(alloc)) else {

@@ -1,7 +1,8 @@
 use Rattle.std.proofs.Common.{◌≡◌, ◌++◌, ◌+◌, ◌≤◌, sym, subst, ◌∙◌}
 use Rattle.channel_ring.specs.Room.{units}
 use Rattle.transmitter.specs.Merge.{of_ring}
-use Rattle.transmitter.specs.Written.{Looked, transmission}
+use Rattle.transmitter.specs.Looks.{LookedAt}
+use Rattle.transmitter.specs.Written.{transmission}
 use Rattle.daq_engine.proofs.BesideLemmas.{channel_at, ring_at, roomy-set, sent-set, sent_at, slice_get-set_other, stand-set, stay-set}
 use Rattle.daq_engine.proofs.beside.look_at.Goals as goal
 
@@ -36,7 +37,7 @@ pub returns-clause-looked : goal.returns-clause-looked
 returns-clause-looked g c =
     let t = transmission g.O.Out g.T.TakeEnd c.args.transmitter.now in
     let at = channel_at g.T.Send.SendEnd c.args.samplers.now c.args.c c.index-samplers-c.result c.requires.place t c.requires.beside in
-    subst (λ j. Looked j t (transmission g.O.Out g.T.TakeEnd c.beside.new.self)) at c.beside.ensures.looked
+    subst (λ j. LookedAt j t (transmission g.O.Out g.T.TakeEnd c.beside.new.self)) at c.beside.ensures.looked
 
 -- what was received and what is left is what that sampler sent
 pub returns-clause-left : goal.returns-clause-left

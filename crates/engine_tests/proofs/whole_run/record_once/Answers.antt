@@ -3,7 +3,7 @@ use Rattle.channel_ring.specs.contracts.sample_ring.SendHalfSendEnd.TheImpl as s
 use Rattle.channel_ring.specs.contracts.sample_ring.SendLeftRingEnd.TheImpl as ring
 use Rattle.channel_ring.specs.contracts.sample_ring.TakeHalfTakeEnd.TheImpl as take_end
 use Rattle.frame_writer.specs.Shown.{shown}
-use Rattle.frame_writer.specs.Writing.{WriterState, fresh}
+use Rattle.frame_writer.specs.Writing.{WriterState, fresh_writer}
 use Rattle.daq_engine.specs.Engines.{Stands, engine_state, first_standing}
 use Rattle.daq_engine.proofs.AskingLemmas.{if_ok}
 use Rattle.engine_tests.proofs.whole_run.record_once.Goals as goal
@@ -13,8 +13,8 @@ pub returns-in-Ok : goal.returns-in-Ok
 returns-in-Ok g c =
     let openings = c.in-Ok.ensures.opened.0 in
     let opened = c.in-Ok.ensures.opened.1 in
-    let stands = subst (λ (s : WriterState). Stands send.ghosts ring.ghosts (engine_state g.O.Out take_end.ghosts c.in-Ok.engine) (first_standing s openings)) c.new.ensures.fresh c.in-Ok.ensures.opened.2 in
+    let stands = subst (λ (s : WriterState). Stands send.ghosts ring.ghosts (engine_state g.O.Out take_end.ghosts c.in-Ok.engine) (first_standing s openings)) c.new.ensures.fresh_writer c.in-Ok.ensures.opened.2 in
     if_ok _ _ c.run_once.result (λ r runs.
-    let one = runs (first_standing (fresh (shown g.O.Out c.args.out)) openings) stands in
+    let one = runs (first_standing (fresh_writer (shown g.O.Out c.args.out)) openings) stands in
     (openings, opened.of_store, one.0, one.1, one.2, one.3))
     c.run_once.ensures

@@ -10,7 +10,7 @@ loop-place-preserved c = λ k.
     let plan : ListPlan = c.index-plans-place.result in
     let one : suc i ≡ i + 1 = omega arith in
     let t = get_or c.args.tracks.now i no_track in
-    c.with_running-set.ensures k
+    c.with_list_if-set.ensures k
     ∙ ap (λ b. b || (t.running && nat_eq c.list.result k)) (c.loop-place.invariant k)
     ∙ ap (λ l. runs_among k (take i c.args.plans.now) (take i c.args.tracks.now) || (t.running && nat_eq l k)) (c.list.ensures.value ∙ ap (λ (p : ListPlan). p.list) c.index-plans-place.is)
     ∙ sym (runs_among-suc k c.args.plans.now c.args.tracks.now i plan no_track (omega arith) (omega (arith, c.requires.room)))

@@ -1,10 +1,12 @@
-use Rattle.std.proofs.Common.{◌≡◌, ℕ, ◌<◌, IsTrue, nat_lt, List, [], length, map, get_or, sym, ap, ◌∙◌, arith}
+use Rattle.std.proofs.Common.{◌≡◌, ℕ, ◌<◌, IsTrue, nat_lt, List, [], length, map, get_or, set, sym, ap, ◌∙◌, arith}
 use Rattle.std.proofs.Math.Seq.{map-set_same}
 use Rattle.std.proofs.lemmas.List.{get_or-map, length-map}
 use Rattle.std.proofs.lemmas.Bool.Decides.{nat_tests}
 use Rattle.channel_ring.specs.declared.ends.RingEnd.{Ghosts as EndGhosts}
-use Rattle.sampler.specs.State.{SamplerEndState, joined}
+use Rattle.sampler.specs.State.{SamplerEndState, joined, sent_by}
+use Rattle.transmitter.specs.Merge.{of_ring}
 use Rattle.transmitter.proofs.PlaceLemmas.{shown_elsewhere, shown_here}
+use Rattle.transmitter.proofs.RingLemmas.{sent_joined}
 use Rattle.transmitter.proofs.drain.look_at.Goals as goal
 
 -- where two lists show the same, so do their elements at a place
@@ -27,41 +29,41 @@ after-requires g c =
     let e = c.index-ends-c.result in
     record { one_ring = rw (← c.index-ends-c.is) (sym (same_at g.T.TakeEnd.ring (λ (x : SamplerEndState g.row.T-End.Denot). g.T.End.RingEnd.ring x.end) c.args.takes.now.items c.args.ends.now c.args.c c.index_mut-take.result.now e c.requires.rings c.requires.ring c.index_mut-take.ensures.value c.index-ends-c.is)) }
 
-pub returns-clause-rings : goal.returns-clause-rings
-returns-clause-rings g c =
+pub returns-clause-stay : goal.returns-clause-stay
+returns-clause-stay g c =
     let k = g.T.TakeEnd in
-    map-set_same k.ring c.args.takes.now.items c.args.c c.after.new.take c.index_mut-take.result.now (c.after.ensures.take_ring ∙ ap k.ring c.index_mut-take.ensures.value)
-
-pub returns-clause-received : goal.returns-clause-received
-returns-clause-received g c =
-    let k = g.T.TakeEnd in
-    map-set_same k.received c.args.takes.now.items c.args.c c.after.new.take c.index_mut-take.result.now (c.after.ensures.received ∙ ap k.received c.index_mut-take.ensures.value)
+    let r = g.T.End.RingEnd in
+    let xs = c.args.takes.now.items in
+    let ys = c.args.ends.now in
+    let v = c.index_mut-take.ensures.value in
+    let e = c.index-ends-c.result in
+    record {
+      rings = map-set_same k.ring xs c.args.c c.after.new.take c.index_mut-take.result.now (c.after.ensures.take_ring ∙ ap k.ring v);
+      received = map-set_same k.received xs c.args.c c.after.new.take c.index_mut-take.result.now (c.after.ensures.received ∙ ap k.received v);
+      ends = record {
+        rings = map-set_same (λ (x : SamplerEndState g.row.T-End.Denot). r.ring x.end) ys c.args.c c.after.new.self e c.after.ensures.ring;
+        ends = map-set_same (joined r) ys c.args.c c.after.new.self e (joined-after r (get_or ys c.args.c e) c.after.new.self c.after.ensures.rest c.after.ensures.sent);
+      };
+    }
 
 pub returns-clause-others : goal.returns-clause-others
 returns-clause-others g c = λ e ne. shown_elsewhere g.T.TakeEnd.known c.args.takes.now.items c.args.c e c.after.new.take [] ne
-
-pub returns-clause-end_rings : goal.returns-clause-end_rings
-returns-clause-end_rings g c =
-    map-set_same (λ (x : SamplerEndState g.row.T-End.Denot). g.T.End.RingEnd.ring x.end) c.args.ends.now c.args.c c.after.new.self c.index-ends-c.result c.after.ensures.ring
-
-pub returns-clause-ends : goal.returns-clause-ends
-returns-clause-ends g c =
-    map-set_same (joined g.T.End.RingEnd) c.args.ends.now c.args.c c.after.new.self c.index-ends-c.result (joined-after g.T.End.RingEnd (get_or c.args.ends.now c.args.c c.index-ends-c.result) c.after.new.self c.after.ensures.rest c.after.ensures.sent)
-
-pub returns-clause-sent : goal.returns-clause-sent
-returns-clause-sent g c =
-    map-set_same (λ (x : SamplerEndState g.row.T-End.Denot). g.T.End.RingEnd.all_sent x.end) c.args.ends.now c.args.c c.after.new.self c.index-ends-c.result c.after.ensures.sent
 
 -- there are as many take ends as ends
 within : {A B R : Type 0} (f : A → R) (g : B → R) (xs : List A) (ys : List B) (c : ℕ) → map f xs ≡ map g ys → c < length ys → c < length xs
 within f g xs ys c e h = omega (arith, ap length e, length-map xs f, length-map ys g, h)
 
+-- what was sent to a ring is what the new end says, and so what the joined old one says
 pub returns-clause-left : goal.returns-clause-left
 returns-clause-left g c =
     let k = g.T.TakeEnd in
+    let r = g.T.End.RingEnd in
     let xs = c.args.takes.now.items in
-    let w = within k.ring (λ (x : SamplerEndState g.row.T-End.Denot). g.T.End.RingEnd.ring x.end) xs c.args.ends.now c.args.c c.requires.rings c.requires.ring in
-    rw (shown_here k.received xs c.args.c c.after.new.take [] w, shown_here k.known xs c.args.c c.after.new.take [] w, shown_here (λ (x : SamplerEndState g.row.T-End.Denot). g.T.End.RingEnd.all_sent x.end) c.args.ends.now c.args.c c.after.new.self [] c.requires.ring) c.after.ensures.left
+    let ys = c.args.ends.now in
+    let w = within k.ring (λ (x : SamplerEndState g.row.T-End.Denot). r.ring x.end) xs ys c.args.c c.requires.rings c.requires.ring in
+    let sent = shown_here (λ (x : SamplerEndState g.row.T-End.Denot). r.all_sent x.end) ys c.args.c c.after.new.self [] c.requires.ring in
+    let same = sent_joined r (set ys c.args.c c.after.new.self) ∙ ap sent_by (returns-clause-stay g c).ends.ends in
+    rw (shown_here k.received xs c.args.c c.after.new.take [] w, shown_here k.known xs c.args.c c.after.new.take [] w) (c.after.ensures.left ∙ (sym sent ∙ ap (λ t. of_ring t c.args.c) same))
 
 pub returns-clause-some : goal.returns-clause-some
 returns-clause-some g c =

@@ -6,7 +6,7 @@ use Rattle.copy_plan.specs.Config.{IsInside, odt}
 use Rattle.copy_plan.specs.Pids.{pid}
 use Rattle.copy_plan.specs.Packet.{elements, timestamp}
 use Rattle.copy_plan.specs.Joined.{copied}
-use Rattle.copy_plan.proofs.JoinedLemmas.{copied-joined, inside-joined}
+use Rattle.copy_plan.proofs.JoinedLemmas.{copied-joined_runs, inside-joined_runs}
 use Rattle.copy_plan.proofs.PacketLemmas.{length-packet, packet-appended}
 use Rattle.copy_plan.proofs.plan.CopyPlan.append_packet.Goals as goal
 use Rattle.copy_plan.proofs.plan.CopyPlan.append_packet.Goals.{After-copies_of}
@@ -28,7 +28,7 @@ stamped c =
 
 -- what the copies copy is the elements
 copied_is : (c : After-copies_of) → copied c.args.image.now c.copies_of.result.now ≡ elements c.args.image.now (odt c.args.self.now c.args.k)
-copied_is c = ap (copied c.args.image.now) c.copies_of.ensures.runs ∙ copied-joined c.args.image.now (odt c.args.self.now c.args.k)
+copied_is c = ap (copied c.args.image.now) c.copies_of.ensures.runs ∙ copied-joined_runs c.args.image.now (odt c.args.self.now c.args.k)
 
 pub append_runs-requires : goal.append_runs-requires
 append_runs-requires c =
@@ -37,7 +37,7 @@ append_runs-requires c =
     = rw c.requires.image (c.copies_of.ensures.plan.inside c.args.k c.requires.odt) in
     record {
       some = omega (arith, ap length (stamped c), length-append c.args.sample.now (front ∷ []));
-      inside = rw c.copies_of.ensures.runs (inside-joined (length c.args.image.now) (odt c.args.self.now c.args.k) inside);
+      inside = rw c.copies_of.ensures.runs (inside-joined_runs (length c.args.image.now) (odt c.args.self.now c.args.k) inside);
       room = omega (arith, length-packet c.args.self.now c.args.image.now c.args.stamp c.args.k c.requires.image c.copies_of.ensures.plan c.requires.odt, ap (λ qs. length (last_packet qs)) (stamped c), ap length (last_packet-push c.args.sample.now front), ap length (copied_is c));
     }
 

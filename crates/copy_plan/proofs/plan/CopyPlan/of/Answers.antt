@@ -1,6 +1,6 @@
 use Rattle.std.proofs.Common.{arith, ◌∙◌}
 use Rattle.copy_plan.specs.Config.{IsPlan, plan_of}
-use Rattle.copy_plan.proofs.JoinedLemmas.{map-joined-written}
+use Rattle.copy_plan.proofs.JoinedLemmas.{map-joined_runs-written_entries}
 use Rattle.copy_plan.proofs.ReadyLemmas.{ready, plan_is}
 use Rattle.copy_plan.proofs.plan.CopyPlan.of.Goals as goal
 use Rattle.copy_plan.proofs.plan.CopyPlan.of.Goals.{After-of}
@@ -16,7 +16,7 @@ planned c =
 pub invariant_of-result : goal.invariant_of-result
 invariant_of-result c = record {
   plan = rw (c.channel.ensures.value, c.prescaler.ensures.value, c.stamped.ensures, c.of.ensures) (planned c);
-  odts = rw c.of.ensures (c.in_ok-odts.ensures.value ∙ map-joined-written c.args.conf.now.odts);
+  odts = rw c.of.ensures (c.in_ok-odts.ensures.value ∙ map-joined_runs-written_entries c.args.conf.now.odts);
 }
 
 pub returns-clause-plan : goal.returns-clause-plan

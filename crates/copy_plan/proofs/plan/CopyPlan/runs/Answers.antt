@@ -3,7 +3,7 @@ use Rattle.std.specs.Prelude.{option_map}
 use Rattle.std.proofs.lemmas.Option.{slice_get-get_or}
 use Rattle.copy_plan.specs.Config.{odt}
 use Rattle.copy_plan.specs.Runs.{runs_needed}
-use Rattle.copy_plan.proofs.JoinedLemmas.{length-joined}
+use Rattle.copy_plan.proofs.JoinedLemmas.{length-joined_runs}
 use Rattle.copy_plan.proofs.plan.CopyPlan.runs.Goals as goal
 
 -- each ODT of a plan has an entry, and as many runs as it needs
@@ -11,5 +11,5 @@ pub returns : goal.returns
 returns c =
     let here : c.args.k < length c.args.self.now.odts = omega (arith, c.if-k-odts.false, c.odts.ensures.value) in
     ap (λ rs. Some (length rs)) c.copies_of.ensures.runs
-    ∙ ap Some (length-joined (odt c.args.self.now c.args.k) (c.odts.ensures.plan.entries c.args.k here))
+    ∙ ap Some (length-joined_runs (odt c.args.self.now c.args.k) (c.odts.ensures.plan.entries c.args.k here))
     ∙ sym (ap (option_map runs_needed) (slice_get-get_or c.args.self.now.odts c.args.k [] here))

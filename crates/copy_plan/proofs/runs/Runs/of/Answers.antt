@@ -2,9 +2,9 @@ use Rattle.std.proofs.Common.{◌<◌, length, arith, ◌≡◌, ◌+◌, List, 
 use Rattle.daq_store.specs.declared.entry.Entry.{Entry}
 use Rattle.daq_store.specs.Configuration.{odt_entries}
 use Rattle.copy_plan.specs.declared.runs.Run.{Run}
-use Rattle.copy_plan.specs.Config.{OdtEntry, written}
-use Rattle.copy_plan.specs.Joined.{joined}
-use Rattle.copy_plan.proofs.WrittenLemmas.{shown-Some, written-drop}
+use Rattle.copy_plan.specs.Config.{OdtEntry, written_entries}
+use Rattle.copy_plan.specs.Joined.{joined_runs}
+use Rattle.copy_plan.proofs.WrittenLemmas.{shown-Some, written_entries-drop}
 use Rattle.copy_plan.proofs.JoinedLemmas.{one_apart, one_joined, apart_if, same_if}
 use Rattle.copy_plan.proofs.runs.Runs.of.Goals as goal
 use Rattle.copy_plan.proofs.runs.Runs.of.Goals.{then-not-begins_at+in_ok-push, else-not-begins_at}
@@ -13,10 +13,10 @@ use Rattle.copy_plan.proofs.runs.Runs.of.Goals.{then-not-begins_at+in_ok-push, e
 pub loop-entry-preserved : goal.loop-entry-preserved
 loop-entry-preserved c =
     let es : List (Option Entry) = odt_entries c.args.conf.now c.args.odt in
-    let all : List Run = joined (written es) in
+    let all : List Run = joined_runs (written_entries es) in
     let e : OdtEntry = (c.in-Some-entry.address, c.in-Some-entry.size) in
-    let rest : List OdtEntry = written (drop (c.loop-entry.entry + 1) es) in
-    let step : written (drop c.loop-entry.entry es) ≡ e ∷ rest = written-drop es c.loop-entry.entry e c.in-Some-entry.ensures.value in
+    let rest : List OdtEntry = written_entries (drop (c.loop-entry.entry + 1) es) in
+    let step : written_entries (drop c.loop-entry.entry es) ≡ e ∷ rest = written_entries-drop es c.loop-entry.entry e c.in-Some-entry.ensures.value in
     let here = rw step at c.loop-entry.invariant in
     elim c.if-not-begins_at.branch [
       | then-not-begins_at+in_ok-push w ↦ rw (w.runs-is, w.start-is, w.in_ok-push.ensures.items) (one_apart c.loop-entry.runs.items all c.loop-entry.start c.loop-entry.end e rest here (apart_if c.in-Some-entry.address c.loop-entry.end (sym c.begins_at.ensures ∙ w.if-not-begins_at.true)))

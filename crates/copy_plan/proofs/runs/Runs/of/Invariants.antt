@@ -1,11 +1,11 @@
 use Rattle.std.proofs.Common.{◌≡◌, ◌++◌, drop}
 use Rattle.daq_store.specs.Configuration.{odt_entries}
-use Rattle.copy_plan.specs.Config.{written}
-use Rattle.copy_plan.specs.Joined.{with_bytes, joined}
+use Rattle.copy_plan.specs.Config.{written_entries}
+use Rattle.copy_plan.specs.Joined.{with_bytes, joined_runs}
 use Rattle.copy_plan.proofs.runs.Runs.of.Given as goal
 
 -- the runs so far, the bytes in hand and the entries to come are all
 abbrev pub invariant-loop-entry : goal.invariant-loop-entry
 invariant-loop-entry l =
-    l.runs.items ++ with_bytes l.start l.end (joined (written (drop l.entry (odt_entries l.conf l.odt))))
-    ≡ joined (written (odt_entries l.conf l.odt))
+    l.runs.items ++ with_bytes l.start l.end (joined_runs (written_entries (drop l.entry (odt_entries l.conf l.odt))))
+    ≡ joined_runs (written_entries (odt_entries l.conf l.odt))

@@ -1,7 +1,8 @@
 -- one packet is too long; one ODT more is filled and short
-use Rattle.std.proofs.Common.{◌≡◌, ◌∙◌, ◌+◌, ◌<◌, slice_index_or, length, refl, sym, arith, nat_le, ℕ}
+use Rattle.std.proofs.Common.{◌≡◌, ◌∙◌, ◌+◌, ◌<◌, slice_index_or, length, refl, sym, arith}
 use Rattle.std.proofs.lemmas.Grind.{common_steps}
-use Rattle.daq_store.specs.Configuration.{odt_entries, packet_len, is_filled}
+use Rattle.xcp_base.specs.Packets.{packet_len}
+use Rattle.daq_store.specs.Configuration.{odt_entries, entries_len, is_filled, is_short, is_stamped}
 use Rattle.daq_store.proofs.ReadyLemmas.{all_more, all_taken, short_is, long_packet, odt_at}
 use Rattle.daq_store.proofs.list_conf.ListConf.ready.Goals as goal
 
@@ -10,7 +11,7 @@ returns-then-stamp_len-bytes-gt-MAX_DTO c =
     let inside : c.loop-k.k < length c.args.self.now.odts = grind (arith, common_steps) in
     let is : c.odt-item.result ≡ slice_index_or c.args.self.now.odts c.loop-k.k c.odt-item.result = grind (arith, common_steps) in
     let entries : odt_entries c.args.self.now c.loop-k.k ≡ c.odt-item.result = odt_at c.args.self.now c.loop-k.k c.odt-item.result inside is in
-    let len : packet_len c.args.self.now c.loop-k.k ≡ 1 + c.stamp_len.result + c.bytes.result
+    let len : packet_len (is_stamped c.args.self.now.mode) c.loop-k.k (entries_len c.args.self.now c.loop-k.k) ≡ 1 + c.stamp_len.result + c.bytes.result
     = rw (entries, ← c.stamp_len.ensures.value, ← c.bytes.ensures.value) refl in
     long_packet c.args.image_len c.args.self.now c.loop-k.k inside (omega (arith, len))
 
@@ -19,11 +20,11 @@ loop-k-preserved c =
     let inside : c.loop-k.k < length c.args.self.now.odts = grind (arith, common_steps) in
     let is : c.odt-item.result ≡ slice_index_or c.args.self.now.odts c.loop-k.k c.odt-item.result = grind (arith, common_steps) in
     let entries : odt_entries c.args.self.now c.loop-k.k ≡ c.odt-item.result = odt_at c.args.self.now c.loop-k.k c.odt-item.result inside is in
-    let len : packet_len c.args.self.now c.loop-k.k ≡ 1 + c.stamp_len.result + c.bytes.result
+    let len : packet_len (is_stamped c.args.self.now.mode) c.loop-k.k (entries_len c.args.self.now c.loop-k.k) ≡ 1 + c.stamp_len.result + c.bytes.result
     = rw (entries, ← c.stamp_len.ensures.value, ← c.bytes.ensures.value) refl in
     record {
       filled = all_taken (is_filled c.args.image_len) c.args.self.now.odts c.loop-k.k c.odt-item.result inside is
           c.loop-k.invariant.filled (sym c.is_filled.ensures ∙ c.if-not-is_filled.false);
-      short = all_more (λ (i : ℕ). nat_le (packet_len c.args.self.now i) 64) c.loop-k.k c.loop-k.invariant.short
-          (short_is (packet_len c.args.self.now c.loop-k.k) (omega (arith, len)));
+      short = all_more (is_short c.args.self.now) c.loop-k.k c.loop-k.invariant.short
+          (short_is (packet_len (is_stamped c.args.self.now.mode) c.loop-k.k (entries_len c.args.self.now c.loop-k.k)) (omega (arith, len)));
     }

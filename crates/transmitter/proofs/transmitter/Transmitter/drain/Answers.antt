@@ -8,7 +8,7 @@ use Rattle.transmitter.specs.Pumps.{PumpAnswers, Pumps}
 use Rattle.transmitter.specs.Rounds.{Drains}
 use Rattle.transmitter.specs.Written.{HasTaken, TransmitterState, transmission}
 use Rattle.transmitter.proofs.DrainLemmas.{all_taken, drain-more, first_look, looked-rings, one_round, pumped-rings, stopped_by, takes_some}
-use Rattle.transmitter.proofs.RingLemmas.{same_count}
+use Rattle.transmitter.proofs.RingLemmas.{ends_stay-more, same_count}
 use Rattle.transmitter.proofs.transmitter.Transmitter.drain.Goals as goal
 
 none_of : {X : Type 0} → (o : Option X) → is_some o ≡ false → o ≡ None
@@ -25,10 +25,9 @@ loop-left-init g c =
     let was_open = sym c.closed.ensures ∙ c.if-closed.false in
     let none = none_of s.hand (sym s.held ∙ was_open) in
     record {
-      emptying = first_look sent (transmission g.O.Out t s) (transmission g.O.Out t c.after-left.new.self) was_open none (record { same = e.same; rest = e.left });
-      rings = looked-rings (transmission g.O.Out t s) (transmission g.O.Out t c.after-left.new.self) e.same;
-      end_rings = e.end_rings;
-      ends = e.ends;
+      emptying = first_look sent (transmission g.O.Out t s) (transmission g.O.Out t c.after-left.new.self) was_open none (record { same = e.looked; rest = e.left });
+      rings = looked-rings (transmission g.O.Out t s) (transmission g.O.Out t c.after-left.new.self) e.looked;
+      ends = e.ends_stay;
       some = e.some;
       none = e.none;
     }
@@ -45,14 +44,13 @@ loop-left-preserved g c =
     let b = transmission g.O.Out t c.loop-left.self in
     let m = transmission g.O.Out t c.pump-answer.new.self in
     let d = transmission g.O.Out t c.after-left-in-loop-left.new.self in
-    let rings : d.rings ≡ b.rings = pumped-rings b m d p.taken p.leads e.same in
+    let rings : d.rings ≡ b.rings = pumped-rings b m d p.taken p.leads e.looked in
     let pumps : Pumps b m p.taken c.in_ok-answer.field-0 = subst (PumpAnswers b m p.taken) c.in_ok-answer.was p.answers in
     let as_many : length d.known ≡ length b.known = same_count t.ring t.known c.after-left-in-loop-left.new.self.ends.items c.loop-left.self.ends.items rings in
     record {
-      emptying = one_round sent a b m d p.taken c.in_ok-answer.field-0 i.emptying p.leads p.rising pumps (record { same = e.same; rest = λ k. e.left k ∙ ap (λ es. of_ring (sent_by es) k) i.ends }) as_many;
+      emptying = one_round sent a b m d p.taken c.in_ok-answer.field-0 i.emptying p.leads p.rising pumps (record { same = e.looked; rest = λ k. e.left k ∙ ap (λ es. of_ring (sent_by es) k) i.ends.ends }) as_many;
       rings = rings ∙ i.rings;
-      end_rings = e.end_rings ∙ i.end_rings;
-      ends = e.ends ∙ i.ends;
+      ends = ends_stay-more i.ends e.ends_stay;
       some = e.some;
       none = e.none;
     }
@@ -74,7 +72,7 @@ returns-in_err-answer-clause-drains g c =
     let answers : PumpAnswers b m p.taken (Err fault) = subst (PumpAnswers b m p.taken) c.in_err-answer.was p.answers in
     let was_open : b.writer.closed ≡ false = s.held ∙ ap is_some i.emptying.hand in
     let same = err_from_is_err_and c.from_residual.result c.from_residual.ensures.1 in
-    let stopped = stopped_by sent a b m d p.taken fault i.emptying was_open p.leads p.rising answers (record { same = e.same; rest = λ k. e.left k ∙ ap (λ es. of_ring (sent_by es) k) i.ends }) in
+    let stopped = stopped_by sent a b m d p.taken fault i.emptying was_open p.leads p.rising answers (record { same = e.looked; rest = λ k. e.left k ∙ ap (λ es. of_ring (sent_by es) k) i.ends.ends }) in
     subst (Drains sent a d) (sym (same.1 ∙ ap Err same.2)) stopped
 
 -- each pump takes an item
@@ -86,7 +84,7 @@ loop-left-smaller g c =
     let m = transmission g.O.Out t c.pump-answer.new.self in
     let pumps : Pumps b m p.taken c.in_ok-answer.field-0 = subst (PumpAnswers b m p.taken) c.in_ok-answer.was p.answers in
     let more = takes_some b m p.taken c.in_ok-answer.field-0 p.leads pumps (c.loop-left.invariant.some c.loop-left-test.true) in
-    let kept = ap (λ (s : TransmitterState). s.taken) c.after-left-in-loop-left.ensures.same in
+    let kept = ap (λ (s : TransmitterState). s.taken) c.after-left-in-loop-left.ensures.looked in
     omega (arith, more, kept, pumps.could.1)
 
 -- whatever it answers, it took what it says

@@ -1,7 +1,7 @@
-use Rattle.std.proofs.Common.{◌≡◌, ◌-◌, ◌<◌, ℕ, [], true, false, length, map}
+use Rattle.std.proofs.Common.{◌≡◌, ◌-◌, true, false, map}
 use Rattle.xcp_base.specs.declared.limits.TheConstants.{MAX_TAKEN}
-use Rattle.sampler.specs.State.{SamplerEndState, joined, sent_by}
-use Rattle.transmitter.specs.Merge.{of_ring}
+use Rattle.sampler.specs.State.{joined, sent_by}
+use Rattle.transmitter.specs.Looks.{EndsStay, KnowsNone, KnowsSome}
 use Rattle.transmitter.specs.Written.{transmission}
 use Rattle.transmitter.proofs.DrainLemmas.{Emptying}
 use Rattle.transmitter.proofs.transmitter.Transmitter.drain.Given as goal
@@ -11,14 +11,12 @@ abbrev pub invariant-loop-left : goal.invariant-loop-left
 invariant-loop-left g l =
     let t = g.T.TakeEnd in
     let r = g.T.End.RingEnd in
-    let name_of = λ (e : SamplerEndState g.row.T-End.Denot). r.ring e.end in
     record {
       emptying : Emptying (sent_by (map (joined r) l.fn.ends)) (transmission g.O.Out t l.fn.self) (transmission g.O.Out t l.self);
       rings : map t.ring l.self.ends.items ≡ map t.ring l.fn.self.ends.items;
-      end_rings : map name_of l.ends ≡ map name_of l.fn.ends;
-      ends : map (joined r) l.ends ≡ map (joined r) l.fn.ends;
-      some : l.left ≡ true → (c : ℕ) × (0 < length (of_ring (map t.known l.self.ends.items) c));
-      none : l.left ≡ false → (c : ℕ) → of_ring (map t.known l.self.ends.items) c ≡ [];
+      ends : EndsStay r l.fn.ends l.ends;
+      some : l.left ≡ true → KnowsSome (transmission g.O.Out t l.self);
+      none : l.left ≡ false → KnowsNone (transmission g.O.Out t l.self);
     }
 
 -- each pump takes an item

@@ -1,5 +1,7 @@
--- How `Packets` keeps its packets: one behind another in one body, each behind a byte that has its length.
-use Rattle.std.specs.Prelude.{◌≡◌, ℕ, zero, suc, ◌+◌, ◌<◌, ◌≤◌, List, [], ◌∷◌, ◌++◌, length, take, drop}
+-- Inner: how `Packets` keeps its packets, one behind another in one body, each behind a byte that
+-- has its length.
+use Rattle.std.specs.Prelude.{◌≡◌, ℕ, zero, suc, ◌+◌, ◌<◌, ◌≤◌, List, [], ◌∷◌, ◌++◌, length, take}
+use Rattle.std.specs.Prelude.{drop}
 use Rattle.xcp_base.specs.declared.limits.TheConstants.{MAX_ODTS}
 use Rattle.xcp_base.specs.declared.packets.Packets.TheInside.{Inside}
 use Rattle.xcp_base.specs.Packets.{ArePackets, last_packet}
@@ -24,7 +26,7 @@ abbrev pub StandsAtLast : ℕ → List ℕ → List (List ℕ) → Type 0
 StandsAtLast last body packets =
     0 < length packets → last + 1 + length (last_packet packets) ≡ length body
 
--- the body is that of the packets, of which there are at most eight
+-- the body is that of the packets, of which there are at most MAX_ODTS
 pub record IsBody (a : Inside) : Type 0 where
   pub body : a.body.items ≡ body_of (packets_view a)
   pub count : length (packets_view a) ≡ a.count
