@@ -1,5 +1,5 @@
 /// Why a step was not read from its text.
-#[derive(Clone, Copy, Debug, PartialEq, Eq)]
+#[derive(Clone, Copy)]
 pub enum StepFault {
     /// The text is no step.
     NoStep,
