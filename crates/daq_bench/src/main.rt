@@ -6,7 +6,6 @@
 //! samples have the right length and are sent and written.
 #![tactic(auto)]
 
-mod byte_log;
 mod copies;
 mod engine;
 mod fill;
