@@ -4,7 +4,6 @@
 //! Without words it measures nothing: it says of each set whether the samples have the right length and are sent and written.
 #![tactic(auto)]
 
-mod byte_log;
 mod copies;
 mod engine;
 mod fill;

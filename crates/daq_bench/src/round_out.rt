@@ -1,7 +1,6 @@
 ghost use Rattle.std.specs.Prelude.{◌≡◌, ◌≤◌, ◌<◌, IfOk, vec_len};
 
-use crate::byte_log::ByteLog;
-use frame_writer::{Out, OutFault};
+use frame_writer::{ByteLog, Out, OutFault};
 use std::alloc::{AllocError, Global};
 
 /// A writer into memory that is made once: what finds no room behind the bytes before it goes to the front again.

@@ -3,4 +3,5 @@ pub mod Frame
 pub mod MemoryOuts
 pub mod Shown
 pub mod Split
+pub mod Streams
 pub mod Writing

@@ -1,15 +1,19 @@
 //! XCP on Ethernet: packets are written as frames to a writer, and read back from bytes.
 #![tactic(auto)]
 
+mod byte_log;
 mod fuse_out;
 pub mod laws;
 mod out;
 mod reader;
+mod std_out;
 mod vec_out;
 mod writer;
 
+pub use byte_log::ByteLog;
 pub use fuse_out::FuseOut;
 pub use out::{Out, OutFault};
 pub use reader::next_frame;
+pub use std_out::StdOut;
 pub use vec_out::VecOut;
 pub use writer::{FrameWriter, WriteFault};

@@ -1,0 +1,12 @@
+use Rattle.std.proofs.Common.{string_bytes, ◌∙◌, rules, tests}
+use Rattle.std.specs.Map.{keys_of}
+use Rattle.std.proofs.lemmas.Iterator.Consumers.{YieldsList-from_rest}
+use Rattle.std.proofs.lemmas.Iterator.Search.{all_from_yields_List}
+use Rattle.run_file.specs.Keys.{is_among, keys}
+use Rattle.run_file.proofs.KeyLemmas.{are_keys-entries}
+use Rattle.run_file.proofs.keys.are_keys.Goals as goal
+
+pub returns : goal.returns
+returns c =
+    all_from_yields_List (λ k. is_among keys (string_bytes k)) _ _ _ c.all.ensures.ran (YieldsList-from_rest (keys_of c.args.table.now.entries) cc) (λ x b q k. search (rules, tests))
+    ∙ are_keys-entries c.args.table.now.entries

@@ -1,0 +1,111 @@
+-- The keys of a run file, and their values as the table of the document has them.
+use Rattle.std.specs.Prelude.{◌≡◌, ◌==◌, ◌&&◌, ◌||◌, nat_le, ℕ, ℤ, pos, Bool, true, false}
+use Rattle.std.specs.Prelude.{if◌then◌else◌, List, [], ◌∷◌, length, codes, Option, Some, None}
+use Rattle.std.specs.Prelude.{option_and_then}
+use Rattle.std.specs.Str.{bytes_eq}
+use Rattle.toml.specs.Data.{Data, Items, no_items, item, Members, no_members, member, get_member}
+use Rattle.toml.specs.Data.{as_str, as_integer, as_bool, as_array}
+use Rattle.xcp_base.specs.declared.limits.TheConstants.{MAX_CHANNELS, MAX_IMAGE_LEN}
+use Rattle.xcp_base.specs.declared.limits.TheConstants.{MAX_SAMPLE_RING}
+use Rattle.run_file.specs.declared.limits.TheConstants.{MAX_PACKETS, MAX_STEPS}
+
+-- the keys of a run file
+abbrev pub keys : List (List ℕ)
+keys =
+    codes "channels" ∷ codes "image_len" ∷ codes "caps" ∷ codes "setup" ∷ codes "steps"
+    ∷ codes "drain" ∷ []
+
+-- a word is one of these
+abbrev pub is_among : List (List ℕ) → List ℕ → Bool
+is_among [] key = false
+is_among (k ∷ ks) key = bytes_eq key k || is_among ks key
+
+-- each key of the table is one of a run file
+abbrev pub are_keys : Members → Bool
+are_keys no_members = true
+are_keys (member key d ms) = is_among keys key && are_keys ms
+
+-- the number of an integer, if it is within the bounds
+abbrev pub bounded : ℕ → ℕ → ℤ → Option ℕ
+bounded least most (pos n) = if nat_le least n && nat_le n most then Some n else None
+bounded least most _ = None
+
+abbrev pub number_in : ℕ → ℕ → Data → Option ℕ
+number_in least most d = option_and_then (bounded least most) (as_integer d)
+
+-- all of them, if each is there
+abbrev pub onto : {X : Type 0} → Option X → Option (List X) → Option (List X)
+onto (Some x) (Some xs) = Some (x ∷ xs)
+onto _ _ = None
+
+abbrev pub all_of : {X : Type 0} → (Data → Option X) → Items → Option (List X)
+all_of f no_items = Some []
+all_of f (item d ds) = onto (f d) (all_of f ds)
+
+-- the list, if its length passes
+abbrev pub if_length : {X : Type 0} → (ℕ → Bool) → List X → Option (List X)
+if_length test xs = if test (length xs) then Some xs else None
+
+-- the value of a key, and the items of an array there
+abbrev pub at_key : {X : Type 0} → (Data → Option X) → List ℕ → Members → Option X
+at_key f key ms = option_and_then f (get_member key ms)
+
+-- each item of an array read, if the array is as long as the test wants it
+abbrev pub read_items : {X : Type 0} → (Data → Option X) → (ℕ → Bool) → Items → Option (List X)
+read_items f test ds = option_and_then (if_length test) (all_of f ds)
+
+abbrev pub texts_in : ℕ → Items → Option (List (List ℕ))
+texts_in most ds = read_items as_str (λ n. nat_le n most) ds
+
+abbrev pub caps_in : ℕ → Items → Option (List ℕ)
+caps_in channels ds = read_items (number_in 1 MAX_SAMPLE_RING) (λ n. n == channels) ds
+
+-- the value of `drain`: true where the key is absent
+abbrev pub drain_value : Option Data → Option Bool
+drain_value None = Some true
+drain_value (Some d) = as_bool d
+
+abbrev pub channels_of : Members → Option ℕ
+channels_of ms = at_key (number_in 1 MAX_CHANNELS) (codes "channels") ms
+
+abbrev pub image_len_of : Members → Option ℕ
+image_len_of ms = at_key (number_in 1 MAX_IMAGE_LEN) (codes "image_len") ms
+
+abbrev pub caps_of : ℕ → Members → Option (List ℕ)
+caps_of channels ms = option_and_then (caps_in channels) (at_key as_array (codes "caps") ms)
+
+-- the strings of an array, if they aren't too many
+abbrev pub texts_at : ℕ → List ℕ → Members → Option (List (List ℕ))
+texts_at most key ms = option_and_then (texts_in most) (at_key as_array key ms)
+
+abbrev pub setup_of : Members → Option (List (List ℕ))
+setup_of ms = texts_at MAX_PACKETS (codes "setup") ms
+
+abbrev pub steps_of : Members → Option (List (List ℕ))
+steps_of ms = texts_at MAX_STEPS (codes "steps") ms
+
+abbrev pub drain_of : Members → Option Bool
+drain_of ms = drain_value (get_member (codes "drain") ms)
+
+-- the values of the keys, with the texts of packets and steps
+pub record KeyValues : Type 0 where
+  pub channels : ℕ
+  pub image_len : ℕ
+  pub caps : List ℕ
+  pub setup : List (List ℕ)
+  pub steps : List (List ℕ)
+  pub drain : Bool
+
+-- in the table these are the values, and no other key is there
+pub record AreKeyValues (ms : Members) (v : KeyValues) : Type 0 where
+  pub known : are_keys ms ≡ true
+  pub channels_is : channels_of ms ≡ Some v.channels
+  pub image_len_is : image_len_of ms ≡ Some v.image_len
+  pub caps_are : caps_of v.channels ms ≡ Some v.caps
+  pub setup_is : setup_of ms ≡ Some v.setup
+  pub steps_are : steps_of ms ≡ Some v.steps
+  pub drain_is : drain_of ms ≡ Some v.drain
+
+-- a key isn't known, is missing, or has no value as it has to be: no values are those of the table
+abbrev pub HasBadKey : Members → Type 0
+HasBadKey ms = (v : KeyValues) → ¬ (AreKeyValues ms v)

@@ -1,0 +1,163 @@
+//! The keys of a run file, and their values.
+ghost use Rattle.std.specs.Prelude.{◌≡◌, ◌≤◌, IfOk, IfSome, MatchBool, None, Some, map, option_map};
+ghost use Rattle.std.specs.Prelude.{vec_items};
+ghost use Rattle.toml.specs.Data.{as_array, as_str};
+ghost use Rattle.toml.specs.View.{items_view, table_view, view};
+ghost use Rattle.run_file.specs.Keys.{all_of, are_keys, at_key, caps_in, drain_of, is_among, keys};
+ghost use Rattle.run_file.specs.Keys.{number_in, texts_at, texts_in};
+ghost use Rattle.run_file.specs.Texts.{text_in};
+
+use std::alloc::{AllocError, Global};
+use toml::{Table, Value};
+use xcp_base::limits::MAX_SAMPLE_RING;
+
+/// Whether each key of a table is one of a run file.
+pub fn are_keys(table: &Table) -> bool
+    ensures { result ≡ are_keys (table_view table.now) }
+{
+    table.keys().all(|key| is_key(key.as_str()))
+}
+
+/// Whether a word is a key of a run file.
+fn is_key(word: &str) -> bool
+    ensures { result ≡ is_among keys word.now }
+{
+    word == "channels"
+        || word == "image_len"
+        || word == "caps"
+        || word == "setup"
+        || word == "steps"
+        || word == "drain"
+}
+
+/// The integer of a key, if it is within bounds.
+pub fn number_at(table: &Table, key: &str, least: usize, most: usize) -> Option<usize>
+    ensures value { result ≡ at_key (number_in least most) key.now (table_view table.now) }
+    ensures within { IfSome result (λ n. (least ≤ n) × (n ≤ most)) }
+{
+    match table.get(key) {
+        Some(value) => number_in(value, least, most),
+        None => None,
+    }
+}
+
+/// The integer of a value, if it is within bounds.
+fn number_in(value: &Value, least: usize, most: usize) -> Option<usize>
+    ensures value { result ≡ number_in least most (view value.now) }
+    ensures within { IfSome result (λ n. (least ≤ n) × (n ≤ most)) }
+{
+    let Some(integer) = value.as_integer() else {
+        return None;
+    };
+    let Ok(number) = usize::try_from(integer) else {
+        return None;
+    };
+    if least <= number && number <= most {
+        Some(number)
+    } else {
+        None
+    }
+}
+
+/// The values of the array of a key.
+pub fn array_at<'a>(table: &'a Table, key: &str) -> Option<&'a [Value]>
+    ensures { option_map (λ values. items_view values.now) result
+        ≡ at_key as_array key.now (table_view table.now) }
+{
+    match table.get(key) {
+        Some(value) => items_in(value),
+        None => None,
+    }
+}
+
+/// The values of the array of a key, if they are strings and no more than `most`.
+pub fn texts_at<'a>(table: &'a Table, key: &str, most: usize) -> Option<&'a [Value]>
+    ensures { option_map (λ values. map text_in values.now) result
+        ≡ texts_at most key.now (table_view table.now) }
+{
+    let Some(values) = array_at(table, key) else {
+        return None;
+    };
+    if are_texts(values, most) {
+        Some(values)
+    } else {
+        None
+    }
+}
+
+/// The values of an array.
+fn items_in(value: &Value) -> Option<&[Value]>
+    ensures { option_map (λ values. items_view values.now) result ≡ as_array (view value.now) }
+{
+    match value.as_array() {
+        Some(array) => Some(array.as_slice()),
+        None => None,
+    }
+}
+
+/// Whether values are strings, and no more than `most`.
+fn are_texts(values: &[Value], most: usize) -> bool
+    ensures { MatchBool result
+        (texts_in most (items_view values.now) ≡ Some (map text_in values.now))
+        (texts_in most (items_view values.now) ≡ None) }
+{
+    if !are_strings(values) {
+        return false;
+    }
+    values.len() <= most
+}
+
+/// Whether values are strings.
+fn are_strings(values: &[Value]) -> bool
+    ensures { MatchBool result
+        (all_of as_str (items_view values.now) ≡ Some (map text_in values.now))
+        (all_of as_str (items_view values.now) ≡ None) }
+{
+    values.iter().all(|value| value.is_str())
+}
+
+/// The capacities, if there is one for each event channel and each is within bounds.
+pub fn caps_in(
+    alloc: Global,
+    channels: usize,
+    values: &[Value],
+) -> Result<Option<Vec<usize>>, AllocError>
+    ensures { IfOk result (λ caps.
+        option_map vec_items caps ≡ caps_in channels (items_view values.now)) }
+{
+    let Some(caps) = numbers_in(alloc, values)? else {
+        return Ok(None);
+    };
+    if caps.len() == channels {
+        Ok(Some(caps))
+    } else {
+        Ok(None)
+    }
+}
+
+/// The capacities, if each is within bounds.
+fn numbers_in(alloc: Global, values: &[Value]) -> Result<Option<Vec<usize>>, AllocError>
+    ensures { IfOk result (λ caps. option_map vec_items caps
+        ≡ all_of (number_in 1 MAX_SAMPLE_RING) (items_view values.now)) }
+{
+    let mut caps = Vec::with_capacity(alloc, values.len())?;
+    for value in values {
+        let Some(cap) = number_in(value, 1, MAX_SAMPLE_RING) else {
+            return Ok(None);
+        };
+        let Ok(()) = caps.push(cap) else {
+            return Err(AllocError);
+        };
+    }
+    Ok(Some(caps))
+}
+
+/// The boolean of `drain`; true where the key is absent.
+pub fn drain_of(table: &Table) -> Option<bool>
+    ensures { result ≡ drain_of (table_view table.now) }
+{
+    match table.get("drain") {
+        Some(value) => value.as_bool(),
+        None => Some(true),
+    }
+}

@@ -1,0 +1,19 @@
+//! Run files: from the text of a TOML document to the command packets and the steps of a run.
+#![tactic(auto)]
+
+mod kept;
+mod keys;
+pub mod laws;
+pub mod limits;
+mod run;
+mod run_fault;
+mod step;
+mod step_fault;
+mod step_list;
+mod texts;
+mod values;
+mod wording;
+
+pub use run::Run;
+pub use run_fault::RunFault;
+pub use step::Step;

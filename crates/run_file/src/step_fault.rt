@@ -1,0 +1,8 @@
+/// Why a step was not read from its text.
+#[derive(Clone, Copy)]
+pub enum StepFault {
+    /// The text is no step.
+    NoStep,
+    /// Memory was wanting.
+    Memory,
+}

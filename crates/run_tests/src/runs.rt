@@ -1,0 +1,163 @@
+//! Texts that are run files, and what a run shows of them.
+use crate::same::same;
+use crate::text::{BYTES_31, BYTES_32, NO_STEPS, ONE_CHANNEL, ONE_LIST, TWO_TRIGGERS, joined};
+use run_file::{Run, Step};
+use std::process::Abort;
+use std::test::Fail;
+
+/// The parts of a text, and what its run has.
+#[derive(Clone, Copy)]
+struct Accepted<'a> {
+    name: &'a str,
+    parts: &'a [&'a str],
+    channels: u16,
+    image_len: usize,
+    caps: &'a [usize],
+    setup: &'a [&'a [u8]],
+    steps: &'a [Step<'a>],
+    drain: bool,
+}
+
+/// The set-up of one list, which then runs.
+const SETUP: &[&[u8]] = &[
+    &[0xD6],
+    &[0xD5, 0, 1, 0],
+    &[0xD4, 0, 0, 0, 1],
+    &[0xD3, 0, 0, 0, 0, 1],
+    &[0xE2, 0, 0, 0, 0, 0],
+    &[0xE1, 0xFF, 2, 0, 0, 0, 0, 0],
+    &[0xE0, 0, 0, 0, 0, 0, 1, 0],
+    &[0xDE, 1, 0, 0],
+];
+
+const ACCEPTED: [Accepted; 5] = [
+    Accepted {
+        name: "two triggers of one list",
+        parts: &[ONE_CHANNEL, ONE_LIST, TWO_TRIGGERS],
+        channels: 1,
+        image_len: 2,
+        caps: &[4],
+        setup: SETUP,
+        steps: &[
+            Step::Trigger {
+                channel: 0,
+                stamp: 0,
+                image: &[0xAA, 0xBB],
+            },
+            Step::Trigger {
+                channel: 0,
+                stamp: 0,
+                image: &[0xCC, 0xDD],
+            },
+        ],
+        drain: true,
+    },
+    Accepted {
+        name: "no steps",
+        parts: &[ONE_CHANNEL, ONE_LIST, NO_STEPS],
+        channels: 1,
+        image_len: 2,
+        caps: &[4],
+        setup: SETUP,
+        steps: &[],
+        drain: true,
+    },
+    Accepted {
+        name: "each step, with its numbers at both ends",
+        parts: &[
+            "channels = 8\nimage_len = 4096\ncaps = [1, 2, 3, 4, 5, 6, 7, 1024]\nsetup = []\n",
+            "steps = ['start 0 0', 'trigger 7 4294967295 0fF0', 'pump', 'stop 7 255',\n",
+            "  'trigger 0 10 00']\ndrain = true\n",
+        ],
+        channels: 8,
+        image_len: 4096,
+        caps: &[1, 2, 3, 4, 5, 6, 7, 1024],
+        setup: &[],
+        steps: &[
+            Step::Start {
+                channel: 0,
+                list: 0,
+            },
+            Step::Trigger {
+                channel: 7,
+                stamp: 4_294_967_295,
+                image: &[0x0F, 0xF0],
+            },
+            Step::Pump,
+            Step::Stop {
+                channel: 7,
+                list: 255,
+            },
+            Step::Trigger {
+                channel: 0,
+                stamp: 10,
+                image: &[0x00],
+            },
+        ],
+        drain: true,
+    },
+    Accepted {
+        name: "keys in any order, a comment, no drain",
+        parts: &[
+            "# a run\ndrain = false\nsteps = ['pump']\nsetup = ['', 'D6']\n",
+            "caps = [0x10]\nimage_len = 1\nchannels = 1",
+        ],
+        channels: 1,
+        image_len: 1,
+        caps: &[16],
+        setup: &[&[], &[0xD6]],
+        steps: &[Step::Pump],
+        drain: false,
+    },
+    Accepted {
+        name: "a packet of 255 bytes",
+        parts: &[
+            "channels = 1\nimage_len = 1\ncaps = [1]\nsetup = ['",
+            BYTES_31,
+            BYTES_32,
+            BYTES_32,
+            BYTES_32,
+            BYTES_32,
+            BYTES_32,
+            BYTES_32,
+            BYTES_32,
+            "']\n",
+            NO_STEPS,
+        ],
+        channels: 1,
+        image_len: 1,
+        caps: &[1],
+        setup: &[&[0xD6; 255]],
+        steps: &[],
+        drain: true,
+    },
+];
+
+/// Compares what a run shows with what a row wants.
+fn shows(rt: &impl Abort, run: &Run, row: &Accepted) {
+    same(rt, run.channels(), row.channels, row.name, "the channels");
+    same(rt, run.image_len(), row.image_len, row.name, "the images");
+    same(rt, run.caps(), row.caps, row.name, "the capacities");
+    same(rt, run.drain(), row.drain, row.name, "the drain");
+    same(rt, run.setup().len(), row.setup.len(), row.name, "packets");
+    for (packet, wanted) in run.setup().iter().zip(row.setup) {
+        same(rt, packet.as_slice(), *wanted, row.name, "a packet");
+    }
+    same(rt, run.steps(), row.steps.len(), row.name, "steps");
+    for (i, wanted) in row.steps.iter().enumerate() {
+        same(rt, run.step(i), Some(*wanted), row.name, "a step");
+    }
+    same(rt, run.step(row.steps.len()), None, row.name, "behind them");
+}
+
+#[test]
+fn a_run_shows_what_its_text_says(rt: HostRuntime) -> Result<(), Fail> {
+    for row in ACCEPTED {
+        let text = joined(rt.alloc(), row.parts)?;
+        match Run::read(rt.alloc(), &text) {
+            Ok(run) => shows(&rt, &run, &row),
+            Err(fault) => same(&rt, Some(fault), None, row.name, "the fault"),
+        }
+    }
+    Ok(())
+}
