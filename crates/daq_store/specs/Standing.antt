@@ -4,7 +4,6 @@ use Rattle.std.specs.Prelude.{sum_by, take, slice_get, unwrap_or, option_map, If
 use Rattle.std.specs.Prelude.{Some, None}
 use Rattle.xcp_base.specs.declared.limits.TheConstants.{MAX_CHANNELS, MAX_IMAGE_LEN, MAX_LISTS}
 use Rattle.xcp_base.specs.declared.limits.TheConstants.{MAX_ODTS_IN_ALL}
-use Rattle.xcp_base.specs.declared.err_code.ErrCode.{ErrCode}
 use Rattle.daq_store.specs.declared.command.Command.{Command}
 use Rattle.daq_store.specs.declared.phase.Phase.{Phase}
 use Rattle.daq_store.specs.declared.refusal.Refusal.{Refusal}
