@@ -62,7 +62,3 @@ pub record IsPlan (plan : ListPlan) : Type 0 where
   pub inside : (k : ℕ) → k < length plan.odts → All (IsInside plan.image_len) (odt plan k)
   pub short :
       (k : ℕ) → k < length plan.odts → packet_len plan.stamped k (elements_len plan k) ≤ MAX_DTO
-
--- each ODT has an entry, and each entry is written
-abbrev pub AreFilled : Configuration → Type 0
-AreFilled conf = All (λ entries. (0 < length entries) × All IsSome entries) conf.odts
