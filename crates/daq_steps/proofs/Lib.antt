@@ -1,0 +1,4 @@
+pub mod AskLemmas
+pub mod DoneLemmas
+pub mod StepLemmas
+pub mod LoopLemmas

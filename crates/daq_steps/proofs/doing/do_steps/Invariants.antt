@@ -1,0 +1,22 @@
+use Rattle.std.proofs.Common.{◌≤◌, ℕ, map, take}
+use Rattle.frame_writer.specs.Writing.{WriterState}
+use Rattle.sampler.specs.History.{Opening}
+use Rattle.daq_engine.specs.Engines.{Stands, engine_state, first_standing}
+use Rattle.daq_engine.specs.Samplers.{StayThose}
+use Rattle.daq_steps.specs.Runs.{HasDone}
+use Rattle.daq_steps.specs.Steps.{run_step}
+use Rattle.daq_steps.proofs.doing.do_steps.Given as goal
+
+-- the first i steps were done
+abbrev pub invariant-loop-i : goal.invariant-loop-i
+invariant-loop-i g l =
+    let send = g.T.Send.SendEnd in
+    let ring = g.T.End.RingEnd in
+    let a = engine_state g.O.Out g.T.TakeEnd l.fn.engine in
+    let b = engine_state g.O.Out g.T.TakeEnd l.engine in
+    record {
+      few : l.refused ≤ l.i;
+      those : StayThose send a.samplers b.samplers;
+      does : (start : WriterState) (openings : ℕ → Opening) → Stands send ring a (first_standing start openings)
+          → HasDone send ring b start openings (map run_step (take l.i l.run.steps)) l.refused;
+    }
