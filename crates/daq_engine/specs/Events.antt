@@ -1,6 +1,6 @@
 -- What a call adds to what an engine stands after: an event of a channel, or the items of a pump
 -- (own).
-use Rattle.std.specs.Prelude.{◌≡◌, ℕ, Bool, cond, List, [], ◌∷◌, ◌++◌, length, nat_eq, slice_get}
+use Rattle.std.specs.Prelude.{◌≡◌, ℕ, Bool, cond, List, ◌++◌, length, nat_eq, slice_get}
 use Rattle.std.specs.Prelude.{Result, Some}
 use Rattle.xcp_base.specs.declared.item.Item.{Item}
 use Rattle.channel_ring.specs.declared.ends.SendEnd.{Ghosts as SendGhosts}
