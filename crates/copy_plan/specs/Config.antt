@@ -1,7 +1,7 @@
 -- What the samples of one DAQ list are made of (ASAM MCD-1 XCP, protocol layer, DAQ list, ODT, ODT
 -- entry). The limits are (own).
 use Rattle.std.specs.Prelude.{ℕ, ◌+◌, ◌<◌, ◌≤◌, Bool, All, List, [], length, map, filter_map}
-use Rattle.std.specs.Prelude.{slice_index_or, sum_by, Option, option_map, IsSome}
+use Rattle.std.specs.Prelude.{slice_index_or, sum_by, Option, option_map}
 use Rattle.xcp_base.specs.declared.limits.TheConstants.{MAX_CHANNELS, MAX_DTO, MAX_LISTS}
 use Rattle.xcp_base.specs.declared.limits.TheConstants.{MAX_ODTS, MAX_ODTS_IN_ALL}
 use Rattle.xcp_base.specs.Packets.{packet_len}

@@ -11,8 +11,8 @@ use Rattle.sampler.specs.declared.taken.Taken.{Taken}
 use Rattle.xcp_base.specs.declared.item.Item.{Item}
 use Rattle.frame_writer.specs.Writing.{WriterState}
 use Rattle.transmitter.specs.Written.{HasTaken, TransmitterState}
-use Rattle.daq_engine.specs.Asked.{LeadInOrder}
-use Rattle.daq_engine.specs.Asking.{StopLeaves, StopLeavesEngine}
+use Rattle.daq_engine.specs.Inner.Asked.{LeadInOrder, StopLeaves}
+use Rattle.daq_engine.specs.Asking.{StopLeavesEngine}
 use Rattle.sampler.specs.Past.{Past}
 use Rattle.daq_engine.specs.Configuration.{IsConfiguration}
 use Rattle.daq_engine.specs.Engines.{EngineState, LeadsTo, Standing, Stands}

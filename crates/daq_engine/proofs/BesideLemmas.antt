@@ -1,5 +1,5 @@
 -- Samplers beside a transmitter: looks at what was sent, and what a pump takes between two looks.
-use Rattle.std.proofs.Common.{◌≡◌, ◌≢◌, ℕ, ◌+◌, ◌<◌, List, [], ◌++◌, length, get_or, refl, sym, ap, subst, ◌∙◌, arith}
+use Rattle.std.proofs.Common.{◌≡◌, ◌≢◌, ℕ, ◌<◌, List, [], ◌++◌, length, get_or, refl, sym, ap, subst, ◌∙◌, arith}
 use Rattle.std.specs.Prelude.{Some, Result, slice_get}
 use Rattle.std.specs.Option.{option_map}
 use Rattle.std.proofs.lemmas.List.{get_or-map, length-map}
@@ -18,7 +18,7 @@ use Rattle.transmitter.specs.declared.faults.PumpFault.{PumpFault}
 use Rattle.transmitter.proofs.DrainLemmas.{LookedAtAll, known_taken, takes_front, takes_round, with_known}
 use Rattle.daq_engine.specs.Configuration.{upto}
 use Rattle.daq_engine.specs.PumpSteps.{IsPumpStep}
-use Rattle.daq_engine.specs.Samplers.{AreBeside, OnlyLook, StayThose, sent_of_each}
+use Rattle.daq_engine.specs.Samplers.{AreBeside, AllOnlyLooked, StayThose, sent_of_each}
 use Rattle.daq_engine.proofs.EndLemmas.{get_or-upto}
 
 module _ {S E : Type 0} (send : SendGhosts S E) where
@@ -59,8 +59,8 @@ module _ {S E : Type 0} (send : SendGhosts S E) where
     sent_at = get_or-map (λ (s : SamplerState S). send.sent s.end) xs c old [] h ∙ ap (λ (s : SamplerState S). send.sent s.end) (sym is)
 
 -- samplers that only look, twice
-pub only_look-more : {S E : Type 0} {send : SendGhosts S E} {ring : EndGhosts E} {xs ys zs : List (SamplerState S)} → OnlyLook send ring xs ys → OnlyLook send ring ys zs → OnlyLook send ring xs zs
-only_look-more {S} {E} {send} {ring} {xs} {ys} {zs} a b = record {
+pub all_looked-more : {S E : Type 0} {send : SendGhosts S E} {ring : EndGhosts E} {xs ys zs : List (SamplerState S)} → AllOnlyLooked send ring xs ys → AllOnlyLooked send ring ys zs → AllOnlyLooked send ring xs zs
+all_looked-more {S} {E} {send} {ring} {xs} {ys} {zs} a b = record {
   those = stay_on send xs ys zs a.those b.those;
   sent = b.sent ∙ a.sent;
   stand = λ past stand. b.stand past (a.stand past stand);

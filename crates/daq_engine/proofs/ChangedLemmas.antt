@@ -1,24 +1,25 @@
 -- One of the samplers was changed.
-use Rattle.std.proofs.Common.{◌≡◌, ◌≢◌, ℕ, zero, suc, ◌+◌, ◌<◌, ◌≤◌, inl, inr, ◌++◌, List, [], ◌∷◌, length, set, get_or, Bool, Some, refl, sym, ap, subst, ◌∙◌, arith, append-nil}
-use Rattle.std.specs.Prelude.{Result, Ok, Err, IfErr, OnErr, slice_get}
+use Rattle.std.proofs.Common.{◌≡◌, ◌≢◌, ℕ, zero, suc, ◌+◌, ◌<◌, ◌≤◌, inl, inr, List, [], ◌∷◌, length, set, get_or, Bool, Some, refl, sym, ap, subst, ◌∙◌, arith}
+use Rattle.std.specs.Prelude.{Result, Ok, Err, IfErr, IfOk, OnErr, slice_get}
 use Rattle.std.proofs.Math.Seq.{map-set_same}
 use Rattle.std.proofs.lemmas.Bool.Decides.{eqb_tells}
 use Rattle.std.proofs.lemmas.Option.{same_Some, slice_get_read}
 use Rattle.channel_ring.specs.Room.{units}
 use Rattle.channel_ring.specs.declared.ends.SendEnd.{Ghosts as SendGhosts}
 use Rattle.channel_ring.specs.declared.ends.RingEnd.{Ghosts as EndGhosts}
-use Rattle.sampler.specs.History.{Event, Opening}
-use Rattle.sampler.specs.Standing.{DropsOnlyWhenFull, GoesOn, StandsAfter}
+use Rattle.sampler.specs.History.{Event, Trigger}
+use Rattle.sampler.specs.Standing.{DropsOnlyWhenFull, GoesOn, StandsAfter, TakesTrigger}
 use Rattle.sampler.specs.State.{SamplerState}
 use Rattle.sampler.specs.Stays.{KeepsSetUp, OnlyLooked}
+use Rattle.sampler.specs.declared.faults.TriggerFault.{TriggerFault}
+use Rattle.sampler.specs.declared.taken.Taken.{Taken}
 use Rattle.sampler.specs.declared.faults.StopFault.{StopFault}
 use Rattle.sampler.specs.declared.faults.StopFault.TheVariants.{NoRoom, NotOfChannel, NotRunning}
 use Rattle.transmitter.specs.Merge.{of_ring}
 use Rattle.transmitter.specs.Written.{TransmitterState}
-use Rattle.daq_engine.specs.Asked.{LeadInOrder}
-use Rattle.daq_engine.specs.Asking.{StopLeaves}
+use Rattle.daq_engine.specs.Inner.Asked.{LeadInOrder, StopLeaves}
 use Rattle.sampler.specs.Past.{Past, one_more}
-use Rattle.daq_engine.specs.Events.{past_with}
+use Rattle.daq_engine.specs.Events.{TriggersAt, decisions_at, past_with}
 use Rattle.daq_engine.specs.Samplers.{FreesAt, IsRoomyAt, OnlyAt, sent_of_each}
 use Rattle.daq_engine.specs.Standings.{StandInOrder}
 
@@ -135,3 +136,19 @@ module _ {S E : Type 0} (send : SendGhosts S E) (xs : List (SamplerState S)) (c 
   stop_at_leaves ring (Err NotOfChannel) of running looked = ap (set xs c) (of refl) ∙ set_back xs c old is
   stop_at_leaves ring (Err NotRunning) of running looked = ap (set xs c) (running refl) ∙ set_back xs c old is
   stop_at_leaves ring (Err NoRoom) of running looked = frees_at looked.rest looked.sent looked.free
+
+  -- a trigger that was taken
+  pub triggers_at : (ring : EndGhosts E) (r : Result Taken TriggerFault) (image : List ℕ) (stamp : ℕ)
+      → IfOk r (λ taken. (p : Past) → StandsAfter send ring old p → TakesTrigger send ring old new taken p image stamp)
+      → IfOk r (λ taken. (past : ℕ → Past) → StandInOrder send ring xs past → TriggersAt send ring xs (set xs c new) c taken past image stamp)
+  triggers_at ring (Err fault) image stamp takes = tt
+  triggers_at ring (Ok taken) image stamp takes = λ past before.
+      let now = takes (past c) (stood ring past before) in
+      record {
+        old = old;
+        new = new;
+        was = was;
+        is = is_now;
+        takes = now;
+        stand = stand-set ring past before (Trigger image stamp) (decisions_at past c taken image stamp) now.stands;
+      }

@@ -1,5 +1,5 @@
 -- What the calls of an engine in one thread are refused for, and what a refusal leaves (own).
-use Rattle.std.specs.Prelude.{◌≡◌, ℕ, ◌<◌, ◌≤◌, ◌↔◌, List, length, map, slice_get, slice_index}
+use Rattle.std.specs.Prelude.{◌≡◌, ℕ, ◌≤◌, ◌↔◌, List, length, map, slice_get, slice_index}
 use Rattle.std.specs.Prelude.{Option, None, Some, Result, Ok, Err}
 use Rattle.channel_ring.specs.declared.ends.SendEnd.{Ghosts as SendGhosts}
 use Rattle.channel_ring.specs.declared.ends.RingEnd.{Ghosts as EndGhosts}
@@ -36,16 +36,8 @@ FindsNoRoom send ring samplers c l =
     (s : SamplerState _) → slice_get samplers c ≡ Some s →
     HasNoRoomFor send ring s.end (marker_of s.channel l)
 
--- what a refused stop leaves of the samplers: all; or, where there was no room, all but what is
--- known to be free to that of channel c
-abbrev pub StopLeaves :
-    {S E : Type 0} → SendGhosts S E → ℕ → List (SamplerState S) → List (SamplerState S)
-    → StopFault → Type 0
-StopLeaves send c before after NotOfChannel = after ≡ before
-StopLeaves send c before after NotRunning = after ≡ before
-StopLeaves send c before after NoRoom = FreesAt send c before after
-
--- and of an engine, beside what no call on a channel changes
+-- what a refused stop leaves: all; or, where there was no room, all but what the sampler of channel
+-- c knows to be free, beside what no call on that channel changes
 abbrev pub StopLeavesEngine :
     {S E : Type 0} → SendGhosts S E → ℕ → EngineState S → EngineState S → ChannelFault StopFault
     → Type 0

@@ -1,6 +1,6 @@
 -- What a call adds to what an engine stands after: an event of a channel, or the items of a pump
 -- (own).
-use Rattle.std.specs.Prelude.{◌≡◌, ℕ, Bool, cond, List, [], ◌∷◌, ◌++◌, length, nat_eq, slice_get}
+use Rattle.std.specs.Prelude.{◌≡◌, ℕ, Bool, cond, List, ◌++◌, length, nat_eq, slice_get}
 use Rattle.std.specs.Prelude.{Result, Some}
 use Rattle.xcp_base.specs.declared.item.Item.{Item}
 use Rattle.channel_ring.specs.declared.ends.SendEnd.{Ghosts as SendGhosts}
@@ -15,7 +15,7 @@ use Rattle.transmitter.specs.declared.faults.PumpFault.{PumpFault}
 use Rattle.sampler.specs.Past.{Past, one_more}
 use Rattle.daq_engine.specs.Engines.{EngineState, LeadsTo, Standing, Stands}
 use Rattle.daq_engine.specs.PumpSteps.{IsPumpStep}
-use Rattle.daq_engine.specs.Samplers.{AreRoomy, OnlyLook, sent_of_each}
+use Rattle.daq_engine.specs.Samplers.{AllOnlyLooked, AreRoomy, sent_of_each}
 use Rattle.daq_engine.specs.Standings.{StandInOrder}
 
 -- channel c has one event more behind it, and these decisions of the lists that it found due
@@ -79,6 +79,6 @@ pub record PumpsOn {S E : Type 0} (send : SendGhosts S E) (ring : EndGhosts E)
   pub step :
       IsPumpStep (length before.samplers) (of_ring (sent_of_each send before.samplers))
       before.transmitter after.transmitter answer
-  pub samplers : OnlyLook send ring before.samplers after.samplers
+  pub samplers : AllOnlyLooked send ring before.samplers after.samplers
   pub stands : LeadsTo send ring before after (with_taken step.pumps.taken)
   pub roomy : AreRoomy send ring after.samplers after.transmitter

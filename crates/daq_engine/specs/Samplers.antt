@@ -59,7 +59,7 @@ pub record FreesAt {S E : Type 0} (send : SendGhosts S E) (c : ℕ)
   pub grows : send.free old.end ≤ send.free new.end
 
 -- they only looked at their rings: they are still those, sent nothing and stand as they stood
-pub record OnlyLook {S E : Type 0} (send : SendGhosts S E) (ring : EndGhosts E)
+pub record AllOnlyLooked {S E : Type 0} (send : SendGhosts S E) (ring : EndGhosts E)
     (before after : List (SamplerState S))
     : Type 0 where
   pub those : StayThose send before after

@@ -4,7 +4,8 @@ ghost use Rattle.transmitter.specs.Looks.{KnowsAll, Looked, LookedAt};
 ghost use Rattle.transmitter.specs.Merge.{of_ring};
 ghost use Rattle.transmitter.specs.Written.{transmission};
 ghost use Rattle.daq_engine.specs.PumpSteps.{IsPumpStep};
-ghost use Rattle.daq_engine.specs.Samplers.{AreBeside, AreRoomy, IsRoomyAt, OnlyLook, sent_of_each};
+ghost use Rattle.daq_engine.specs.Samplers.{AllOnlyLooked, AreBeside, AreRoomy, IsRoomyAt};
+ghost use Rattle.daq_engine.specs.Samplers.{sent_of_each};
 
 use channel_ring::{Beside, RingEnd, SendEnd, TakeEnd};
 use frame_writer::Out;
@@ -22,7 +23,7 @@ pub(crate) fn look_at<O: Out, T: Beside>(
     requires beside { AreBeside T.Send.SendEnd samplers.old.items
         (transmission O.Out T.TakeEnd transmitter.old) }
     requires place { c < length samplers.old.items }
-    ensures samplers { OnlyLook T.Send.SendEnd T.Send.End.RingEnd
+    ensures samplers { AllOnlyLooked T.Send.SendEnd T.Send.End.RingEnd
         samplers.old.items samplers.new.items }
     ensures others_stay { (e : ℕ) → e ≢ c
         → slice_get samplers.new.items e ≡ slice_get samplers.old.items e }
@@ -47,7 +48,7 @@ pub(crate) fn look<O: Out, T: Beside>(
 )
     requires beside { AreBeside T.Send.SendEnd samplers.old.items
         (transmission O.Out T.TakeEnd transmitter.old) }
-    ensures samplers { OnlyLook T.Send.SendEnd T.Send.End.RingEnd
+    ensures samplers { AllOnlyLooked T.Send.SendEnd T.Send.End.RingEnd
         samplers.old.items samplers.new.items }
     ensures looked { Looked (transmission O.Out T.TakeEnd transmitter.old)
         (transmission O.Out T.TakeEnd transmitter.new) }
@@ -72,7 +73,7 @@ pub(crate) fn pump_step<O: Out, T: Beside>(
 ) -> Result<Pumped, PumpFault>
     requires beside { AreBeside T.Send.SendEnd samplers.old.items
         (transmission O.Out T.TakeEnd transmitter.old) }
-    ensures samplers { OnlyLook T.Send.SendEnd T.Send.End.RingEnd
+    ensures samplers { AllOnlyLooked T.Send.SendEnd T.Send.End.RingEnd
         samplers.old.items samplers.new.items }
     ensures rings_stay { (transmission O.Out T.TakeEnd transmitter.new).rings
         ≡ (transmission O.Out T.TakeEnd transmitter.old).rings }

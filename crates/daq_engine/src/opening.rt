@@ -6,7 +6,7 @@ ghost use Rattle.frame_writer.specs.Writing.{state_of};
 ghost use Rattle.transmitter.specs.Written.{transmission, writer_of};
 ghost use Rattle.daq_engine.specs.Openings.{AreOpened, CanOpen, IsPaired};
 ghost use Rattle.daq_engine.specs.Openings.{fit_caps, is_cap, refusal_of, some_list_runs};
-ghost use Rattle.daq_engine.specs.Opened.{IsOpenedAt, AreOpenedTo};
+ghost use Rattle.daq_engine.specs.Inner.Opened.{IsOpenedAt, AreOpenedTo};
 
 use crate::channel_plans::{plans_of, running_of};
 use crate::open_fault::OpenFault;

@@ -20,9 +20,9 @@ use Rattle.sampler.specs.Past.{first_past}
 use Rattle.sampler.specs.Decisions.{overload_pending}
 use Rattle.sampler.specs.Items.{items}
 use Rattle.sampler.specs.Tracks.{track_of, phase_after, counts_of}
-use Rattle.sampler.specs.inner.Fits.{first_track}
+use Rattle.sampler.specs.Inner.Fits.{first_track}
 use Rattle.sampler.specs.State.{ArePlansOf, RiseFrom, place_of, track_runs}
-use Rattle.sampler.specs.inner.Fits.{TracksFit, IsSampler, list_runs}
+use Rattle.sampler.specs.Inner.Fits.{TracksFit, IsSampler, list_runs}
 use Rattle.sampler.specs.Standing.{StandsAfter, DropsOnlyWhenFull}
 use Rattle.sampler.specs.declared.track.Track.{Track}
 use Rattle.sampler.proofs.Places.{no_plan, no_track, rise_least, slice_get-get_or}

@@ -9,9 +9,9 @@ use Rattle.channel_ring.specs.declared.ends.RingEnd.{Ghosts as EndGhosts}
 use Rattle.copy_plan.specs.Config.{ListPlan}
 use Rattle.std.proofs.lemmas.Nat.Bits.{bit_at-zero}
 use Rattle.sampler.specs.State.{ArePlansOf}
-use Rattle.sampler.specs.inner.Fits.{TracksFit, IsSampler}
-use Rattle.sampler.specs.inner.Moments.{MomentParts}
-use Rattle.sampler.specs.inner.AtTrigger.{Row, due_now, triggered, row_after, row_due, row_accepted, row_dropped, item_of, row_items, row_count, rows_items, rows_count, Adds, Stage, first_stage, HandlesLists}
+use Rattle.sampler.specs.Inner.Fits.{TracksFit, IsSampler}
+use Rattle.sampler.specs.Inner.Moments.{MomentParts}
+use Rattle.sampler.specs.Inner.AtTrigger.{Row, due_now, triggered, row_after, row_due, row_accepted, row_dropped, item_of, row_items, row_count, rows_items, rows_count, Adds, Stage, first_stage, HandlesLists}
 use Rattle.sampler.specs.declared.track.Track.{Track}
 use Rattle.sampler.proofs.Histories.{append_nil, length-map_of}
 use Rattle.sampler.proofs.Drops.{split_last}

@@ -8,7 +8,7 @@ use Rattle.std.proofs.lemmas.Bool.Decides.{nat_tests}
 use Rattle.std.proofs.lemmas.List.Quantifiers.{position-Some}
 use Rattle.copy_plan.specs.Config.{ListPlan}
 use Rattle.sampler.specs.State.{RiseFrom, ArePlansOf, place_of}
-use Rattle.sampler.specs.inner.Fits.{TracksFit, IsSampler}
+use Rattle.sampler.specs.Inner.Fits.{TracksFit, IsSampler}
 use Rattle.std.proofs.Math.ListN.{length-set}
 use Rattle.sampler.specs.declared.track.Track.{Track}
 

@@ -14,8 +14,8 @@ use Rattle.sampler.specs.Decisions.{decided, pairs_of, is_of_list, is_drop, over
 use Rattle.sampler.specs.Items.{sample, samples_from}
 use Rattle.sampler.specs.Tracks.{track_of}
 use Rattle.sampler.specs.State.{RiseFrom}
-use Rattle.sampler.specs.inner.Moments.{MomentParts}
-use Rattle.sampler.specs.inner.AtTrigger.{Row, due_now, item_of, row_items, row_count, rows_items, rows_count}
+use Rattle.sampler.specs.Inner.Moments.{MomentParts}
+use Rattle.sampler.specs.Inner.AtTrigger.{Row, due_now, item_of, row_items, row_count, rows_items, rows_count}
 use Rattle.sampler.specs.declared.track.Track.{Track}
 use Rattle.sampler.proofs.Histories.{append_nil, due-more, decided-more, length-zip_same, slice_get-behind}
 use Rattle.sampler.proofs.Handled.{rows_count-one}

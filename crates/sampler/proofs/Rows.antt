@@ -12,7 +12,7 @@ use Rattle.sampler.specs.History.{Event, Trigger, Opening, due, due_at, is_due, 
 use Rattle.sampler.specs.Decisions.{Decided, decided, pairs_of, is_of_list, is_drop, overload_pending}
 use Rattle.sampler.specs.Tracks.{track_of, phase_after, counts_of}
 use Rattle.sampler.specs.State.{RiseFrom}
-use Rattle.sampler.specs.inner.AtTrigger.{Row, due_now, triggered}
+use Rattle.sampler.specs.Inner.AtTrigger.{Row, due_now, triggered}
 use Rattle.sampler.specs.declared.track.Track.{Track}
 use Rattle.sampler.proofs.Histories.{append_nil, decided-more}
 use Rattle.sampler.proofs.Tracking.{runs-trigger, since-trigger}

@@ -7,7 +7,7 @@ use Rattle.copy_plan.specs.Config.{ListPlan}
 use Rattle.xcp_base.specs.Lists.{has_list}
 use Rattle.sampler.specs.Sets.{are_in}
 use Rattle.sampler.specs.State.{RiseFrom}
-use Rattle.sampler.specs.inner.AtTrigger.{Row, due_now}
+use Rattle.sampler.specs.Inner.AtTrigger.{Row, due_now}
 use Rattle.sampler.proofs.Rows.{due_plans, decisions, plans_of, rise_in}
 
 and_false : (b : Bool) → (b && false) ≡ false

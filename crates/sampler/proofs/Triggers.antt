@@ -14,8 +14,8 @@ use Rattle.sampler.specs.Decisions.{accepted_in}
 use Rattle.sampler.specs.Items.{items, items_at, sample, samples_from}
 use Rattle.sampler.specs.Tracks.{track_of}
 use Rattle.sampler.specs.State.{SamplerState, RiseFrom}
-use Rattle.sampler.specs.inner.Moments.{MomentParts}
-use Rattle.sampler.specs.inner.AtTrigger.{Row, due_now, triggered, item_of, rows_items, rows_count, first_stage, HandlesLists}
+use Rattle.sampler.specs.Inner.Moments.{MomentParts}
+use Rattle.sampler.specs.Inner.AtTrigger.{Row, due_now, triggered, item_of, rows_items, rows_count, first_stage, HandlesLists}
 use Rattle.sampler.specs.Standing.{StandsAfter, TakesTrigger}
 use Rattle.sampler.specs.Sets.{are_in}
 use Rattle.sampler.proofs.TakenSets.{any-due_plans, any-here, accepted-due, dropped-due, decisions-are_in}

@@ -4,7 +4,7 @@ use Rattle.std.specs.Prelude.{List, [], ◌∷◌, ◌++◌, length, map, revers
 use Rattle.std.specs.Prelude.{count_by, take_while}
 use Rattle.std.specs.List.{list_any}
 use Rattle.copy_plan.specs.Config.{ListPlan}
-pub use Rattle.xcp_base.specs.Lists.{has_list}
+use Rattle.xcp_base.specs.Lists.{has_list}
 
 -- what the sampler of a channel accepted: a trigger with its image and timestamp, a start or a stop
 -- of a DAQ list

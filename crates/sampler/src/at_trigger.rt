@@ -3,9 +3,9 @@ ghost use Rattle.std.specs.Prelude.{◌≡◌, ◌+◌, ◌^◌, ◌<◌, ◌≤
 ghost use Rattle.xcp_base.specs.declared.limits.TheConstants.{MAX_TRIGGERS};
 ghost use Rattle.channel_ring.specs.Room.{units};
 ghost use Rattle.sampler.specs.State.{ArePlansOf};
-ghost use Rattle.sampler.specs.inner.AtTrigger.{HandlesLists, first_stage};
-ghost use Rattle.sampler.specs.inner.AtTrigger.{due_now, item_of, row_items, row_of};
-ghost use Rattle.sampler.specs.inner.Fits.{TracksFit};
+ghost use Rattle.sampler.specs.Inner.AtTrigger.{HandlesLists, first_stage};
+ghost use Rattle.sampler.specs.Inner.AtTrigger.{due_now, item_of, row_items, row_of};
+ghost use Rattle.sampler.specs.Inner.Fits.{TracksFit};
 
 use crate::moment::Moment;
 use crate::offering::offer_sample;
@@ -16,7 +16,7 @@ use copy_plan::CopyPlan;
 
 /// What a trigger sends of one list, and whether a sample of it was accepted; `track` is what was
 /// kept of it before.
-#[tactic(auto, unfolding(crate::specs::inner::AtTrigger::row_items))]
+#[tactic(auto, unfolding(crate::specs::Inner::AtTrigger::row_items))]
 fn sample_list<S: SendEnd>(
     end: &mut S,
     moment: &Moment,

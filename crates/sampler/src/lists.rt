@@ -3,7 +3,7 @@ ghost use Rattle.copy_plan.specs.Config.{ListPlan};
 ghost use Rattle.xcp_base.specs.Lists.{has_list};
 ghost use Rattle.sampler.specs.Sets.{IsSetOf};
 ghost use Rattle.sampler.specs.State.{RiseFrom, found_at, place_of};
-ghost use Rattle.sampler.specs.inner.Fits.{first_track, list_runs};
+ghost use Rattle.sampler.specs.Inner.Fits.{first_track, list_runs};
 ghost use Rattle.sampler.specs.declared.track.Track.{Track};
 
 use crate::counts::ListCounts;

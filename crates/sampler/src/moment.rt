@@ -12,7 +12,7 @@ pub struct Moment<'a> {
 impl<'a> Model for Moment<'a> {
     ghost use Rattle.std.specs.Prelude.{◌<◌};
     ghost use Rattle.xcp_base.specs.declared.limits.TheConstants.{MAX_CHANNELS};
-    ghost use Rattle.sampler.specs.inner.Moments.{MomentParts};
+    ghost use Rattle.sampler.specs.Inner.Moments.{MomentParts};
 
     ghost Value = { MomentParts };
 

@@ -1,5 +1,5 @@
 ghost use Rattle.std.specs.Prelude.{◌≡◌, ◌+◌, ◌<◌, ◌≤◌, true, false, [], ◌∷◌, ◌++◌, length};
-ghost use Rattle.sampler.specs.inner.AtTrigger.{item_of};
+ghost use Rattle.sampler.specs.Inner.AtTrigger.{item_of};
 
 use crate::moment::Moment;
 use channel_ring::SendEnd;
@@ -7,7 +7,7 @@ use copy_plan::CopyPlan;
 use xcp_base::{Item, Packets, Sample};
 
 /// Offers the sample of a list, and tells whether it was accepted.
-#[tactic(auto, unfolding(crate::specs::inner::AtTrigger::item_of))]
+#[tactic(auto, unfolding(crate::specs::Inner::AtTrigger::item_of))]
 pub fn offer_sample<S: SendEnd>(
     end: &mut S,
     moment: &Moment,

@@ -1,7 +1,7 @@
 //! What is kept of lists at the opening.
 ghost use Rattle.std.specs.Prelude.{◌≡◌, ◌<◌, ◌≤◌, length, map, take};
 ghost use Rattle.copy_plan.specs.Config.{ListPlan};
-ghost use Rattle.sampler.specs.inner.Fits.{first_track};
+ghost use Rattle.sampler.specs.Inner.Fits.{first_track};
 
 use crate::track::{FIRST_TRACK, Track};
 use copy_plan::CopyPlan;

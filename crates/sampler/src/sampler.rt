@@ -51,7 +51,7 @@ pub struct Sampler<S: SendEnd> {
 impl<S: SendEnd> Model for Sampler<S> {
     ghost use Rattle.std.specs.Prelude.{◌≡◌, ◌<◌, ◌≤◌, ◌+◌, ◌^◌, ◌*◌, length, take};
     ghost use Rattle.sampler.specs.State.{SamplerState};
-    ghost use Rattle.sampler.specs.inner.Fits.{IsSampler};
+    ghost use Rattle.sampler.specs.Inner.Fits.{IsSampler};
 
     ghost Value = { SamplerState S };
 

@@ -1,5 +1,5 @@
 ghost use Rattle.std.specs.Prelude.{◌≡◌};
-ghost use Rattle.sampler.specs.inner.AtTrigger.{Adds, row_of};
+ghost use Rattle.sampler.specs.Inner.AtTrigger.{Adds, row_of};
 
 use crate::track::Track;
 use copy_plan::CopyPlan;

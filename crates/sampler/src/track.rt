@@ -1,6 +1,6 @@
 ghost use Rattle.std.specs.Prelude.{◌≡◌, ◌+◌, ◌<◌, ◌≤◌, true, false};
 ghost use Rattle.xcp_base.specs.declared.limits.TheConstants.{MAX_TRIGGERS};
-ghost use Rattle.sampler.specs.inner.AtTrigger.{due_now, triggered};
+ghost use Rattle.sampler.specs.Inner.AtTrigger.{due_now, triggered};
 
 use crate::counts::ListCounts;
 use copy_plan::CopyPlan;
@@ -59,7 +59,7 @@ impl Track {
     }
 
     /// The same after a trigger, at which a sample of it was accepted or not.
-    #[tactic(auto, unfolding(crate::specs::inner::AtTrigger::triggered))]
+    #[tactic(auto, unfolding(crate::specs::Inner::AtTrigger::triggered))]
     pub fn triggered(self, plan: &CopyPlan, accepted: bool) -> Track
         requires phase { self.phase < plan.now.prescaler }
         requires counts { self.counts.due ≤ MAX_TRIGGERS }

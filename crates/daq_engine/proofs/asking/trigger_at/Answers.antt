@@ -3,31 +3,15 @@ use Rattle.std.proofs.lemmas.List.{get_or-map}
 use Rattle.sampler.specs.Refusals.{trigger_refusal}
 use Rattle.sampler.specs.State.{SamplerState}
 use Rattle.daq_engine.specs.Asking.{image_len_at}
-use Rattle.daq_engine.proofs.AskingLemmas.{if_ok, on_err}
-use Rattle.daq_engine.proofs.ChangedLemmas.{is_now, only_at, set_back, stand-set, stood, was}
+use Rattle.daq_engine.proofs.AskingLemmas.{on_err}
+use Rattle.daq_engine.proofs.ChangedLemmas.{only_at, set_back, stood, triggers_at}
 use Rattle.daq_engine.proofs.asking.trigger_at.Goals as goal
 
 -- the others stand as they stood
 pub returns-clause-ok : goal.returns-clause-ok
 returns-clause-ok g c =
-    let send = g.S.SendEnd in
-    let ring = g.S.End.RingEnd in
-    let xs = c.args.samplers.now.items in
-    let i = c.args.c in
-    let old = c.index_mut.result.now in
-    let new = c.trigger.new.self in
-    let at = c.index_mut.ensures.value in
-    if_ok _ _ c.trigger.result (λ taken takes past stand.
-    let now = takes (past i) (stood send xs i old new at c.requires ring past stand) in
-    record {
-      old = old;
-      new = new;
-      was = was send xs i old new at c.requires;
-      is = is_now send xs i old new at c.requires;
-      takes = now;
-      stand = stand-set send xs i old new at c.requires ring past stand _ _ now.stands;
-    })
-    c.trigger.ensures.ok
+    triggers_at g.S.SendEnd c.args.samplers.now.items c.args.c c.index_mut.result.now c.trigger.new.self c.index_mut.ensures.value c.requires
+    g.S.End.RingEnd c.trigger.result c.args.image.now c.args.stamp c.trigger.ensures.ok
 
 -- by the past of its channel
 pub returns-clause-refused : goal.returns-clause-refused

@@ -1,7 +1,7 @@
 use Rattle.std.proofs.Common.{ap, ◌∙◌, arith, below_more}
 use Rattle.transmitter.specs.Merge.{of_ring}
 use Rattle.transmitter.specs.Written.{transmission}
-use Rattle.daq_engine.proofs.BesideLemmas.{looked_elsewhere, looks_again, only_look-more}
+use Rattle.daq_engine.proofs.BesideLemmas.{looked_elsewhere, looks_again, all_looked-more}
 use Rattle.daq_engine.proofs.beside.look.Goals as goal
 
 -- one ring more
@@ -13,7 +13,7 @@ loop-c-preserved g c =
     let a = transmission g.O.Out g.T.TakeEnd c.loop-c.transmitter in
     let b = transmission g.O.Out g.T.TakeEnd c.look_at.new.transmitter in
     record {
-      samplers = only_look-more i.samplers e.samplers;
+      samplers = all_looked-more i.samplers e.samplers;
       looked = looks_again t a b i.looked e.looked.same;
       left = below_more _ _ (λ k h. looked_elsewhere c.loop-c.c k a b e.looked (omega (arith, h)) ∙ i.left k h) (e.left ∙ ap (λ xs. of_ring xs c.loop-c.c) i.samplers.sent);
       roomy = below_more _ _ (λ k h. rw (e.others_stay k (omega (arith, h)), e.looked.others k (omega (arith, h))) (i.roomy k h)) e.roomy;

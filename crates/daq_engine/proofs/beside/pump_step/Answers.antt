@@ -2,12 +2,12 @@ use Rattle.std.proofs.Common.{length, ap, ◌∙◌}
 use Rattle.transmitter.specs.Merge.{of_ring}
 use Rattle.transmitter.specs.Written.{transmission}
 use Rattle.daq_engine.specs.Samplers.{sent_of_each}
-use Rattle.daq_engine.proofs.BesideLemmas.{only_look-more, pump_between}
+use Rattle.daq_engine.proofs.BesideLemmas.{all_looked-more, pump_between}
 use Rattle.daq_engine.proofs.beside.pump_step.Goals as goal
 
 -- both looks leave the samplers
 pub returns-clause-samplers : goal.returns-clause-samplers
-returns-clause-samplers g c = only_look-more c.look.ensures.samplers c.look-2.ensures.samplers
+returns-clause-samplers g c = all_looked-more c.look.ensures.samplers c.look-2.ensures.samplers
 
 -- the second look tells what the pump took, as the first told what was left
 pub returns-clause-pumps : goal.returns-clause-pumps

@@ -1,7 +1,7 @@
 use Rattle.std.proofs.Common.{◌≡◌, ◌+◌, ℕ, List, [], ◌∷◌, ◌++◌, length, get_or, set, take, arith, ap, sym, ◌∙◌, refl, subst, length-take, ◌^◌, suc}
 use Rattle.std.proofs.Math.Seq.{take-suc}
 use Rattle.copy_plan.specs.Config.{ListPlan}
-use Rattle.sampler.specs.inner.AtTrigger.{HandlesLists, Row, Stage, first_stage, row_count, triggered}
+use Rattle.sampler.specs.Inner.AtTrigger.{HandlesLists, Row, Stage, first_stage, row_count, triggered}
 use Rattle.sampler.specs.declared.track.Track.{Track}
 use Rattle.sampler.proofs.Handled.{handles-none, handles-more, track-at, fit-at, plan-at, row_count-yes, row_count-no, row_count-le}
 use Rattle.sampler.proofs.Places.{no_track}

@@ -1,5 +1,5 @@
 use Rattle.std.proofs.Common.{◌≡◌, ◌≤◌, ◌+◌, take}
-use Rattle.sampler.specs.inner.AtTrigger.{HandlesLists, first_stage}
+use Rattle.sampler.specs.Inner.AtTrigger.{HandlesLists, first_stage}
 use Rattle.sampler.proofs.at_trigger.sample_lists.Given as goal
 
 abbrev pub invariant-loop-place : goal.invariant-loop-place

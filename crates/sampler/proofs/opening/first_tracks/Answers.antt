@@ -2,7 +2,7 @@ use Rattle.std.proofs.Common.{◌≡◌, ◌+◌, ℕ, ◌∷◌, [], ◌++◌, 
 use Rattle.std.proofs.Math.Seq.{take-suc}
 use Rattle.std.proofs.Math.ListN.{length-set}
 use Rattle.copy_plan.specs.Config.{ListPlan}
-use Rattle.sampler.specs.inner.Fits.{first_track}
+use Rattle.sampler.specs.Inner.Fits.{first_track}
 use Rattle.sampler.proofs.Handled.{map-append_of}
 use Rattle.sampler.proofs.FirstTracks.{take-set-suc}
 use Rattle.sampler.proofs.opening.first_tracks.Goals as goal

@@ -1,6 +1,6 @@
 use Rattle.std.proofs.Common.{◌≡◌, length, map, take}
 use Rattle.copy_plan.specs.Config.{ListPlan}
-use Rattle.sampler.specs.inner.Fits.{first_track}
+use Rattle.sampler.specs.Inner.Fits.{first_track}
 use Rattle.sampler.proofs.opening.first_tracks.Given as goal
 
 abbrev pub invariant-loop-place : goal.invariant-loop-place

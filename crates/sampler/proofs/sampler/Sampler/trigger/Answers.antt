@@ -2,8 +2,8 @@ use Rattle.std.proofs.Common.{◌+◌, ◌^◌, List, length, take, refl, sym, a
 use Rattle.copy_plan.specs.Config.{ListPlan}
 use Rattle.sampler.specs.State.{SamplerState}
 use Rattle.sampler.specs.Standing.{StandsAfter, TakesTrigger}
-use Rattle.sampler.specs.inner.AtTrigger.{HandlesLists, Stage, first_stage}
-use Rattle.sampler.specs.inner.Moments.{MomentParts}
+use Rattle.sampler.specs.Inner.AtTrigger.{HandlesLists, Stage, first_stage}
+use Rattle.sampler.specs.Inner.Moments.{MomentParts}
 use Rattle.sampler.proofs.Handled.{TracksFit-mono, IsSampler-handled}
 use Rattle.sampler.proofs.Triggers.{takes-trigger}
 use Rattle.sampler.proofs.sampler.Sampler.trigger.Given.{Over}

@@ -1,4 +1,4 @@
--- (inner: no public clause cites it) What the samples of one trigger have in common.
+-- What the samples of one trigger have in common.
 use Rattle.std.specs.Prelude.{ℕ, List}
 
 -- the event channel, the memory image and the timestamp

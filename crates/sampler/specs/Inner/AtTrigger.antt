@@ -1,4 +1,4 @@
--- (inner: no public clause cites it) One trigger, list by list, by what the sampler keeps.
+-- One trigger, list by list, by what the sampler keeps.
 use Rattle.std.specs.Prelude.{◌≡◌, ℕ, ◌+◌, ◌%◌, ◌<◌, ◌≤◌, nat_eq, if◌then◌else◌}
 use Rattle.std.specs.Prelude.{Bool, true, false, not, ◌&&◌, ◌||◌}
 use Rattle.std.specs.Prelude.{List, [], ◌∷◌, ◌++◌, length, map, take, drop}
@@ -11,7 +11,7 @@ use Rattle.channel_ring.specs.declared.ends.RingEnd.{Ghosts as EndGhosts}
 use Rattle.copy_plan.specs.Config.{ListPlan}
 use Rattle.copy_plan.specs.Packet.{packets}
 use Rattle.xcp_base.specs.Lists.{has_list}
-use Rattle.sampler.specs.inner.Moments.{MomentParts}
+use Rattle.sampler.specs.Inner.Moments.{MomentParts}
 use Rattle.sampler.specs.declared.track.Track.{Track}
 use Rattle.sampler.specs.declared.taken.Taken.{Taken}
 

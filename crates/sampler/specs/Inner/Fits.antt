@@ -1,4 +1,4 @@
--- (inner: no public clause cites it) What is kept of the lists of a channel, and what it fits.
+-- What is kept of the lists of a channel, and what it fits.
 use Rattle.std.specs.Prelude.{◌≡◌, ℕ, ◌+◌, ◌*◌, ◌<◌, ◌≤◌, Bool, false, length, List, [], ◌∷◌}
 use Rattle.xcp_base.specs.declared.limits.TheConstants.{MAX_CHANNELS, MAX_LISTS, MAX_TRIGGERS}
 use Rattle.copy_plan.specs.Config.{ListPlan}

@@ -1,4 +1,4 @@
--- (inner) A pump's turn at one ring, and a look at the rings one by one.
+-- A pump's turn at one ring, and a look at the rings one by one.
 use Rattle.std.specs.Prelude.{ℕ, ◌<◌, ◌≤◌, ◌≡◌, List, [], ◌∷◌, length, map}
 use Rattle.std.specs.Prelude.{Option, None, Some}
 use Rattle.xcp_base.specs.Samples.{SampleParts, MarkParts}
