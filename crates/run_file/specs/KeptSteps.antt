@@ -1,24 +1,35 @@
 -- Steps as a run keeps them, all images one behind another, and as it lends them.
-use Rattle.std.specs.Prelude.{◌≡◌, ◌≤◌, ◌++◌, ℕ, List, length, slice_range, take, Option, Some, ⊤}
+use Rattle.std.specs.Prelude.{◌≡◌, ◌≤◌, ◌++◌, ℕ, List, [], ◌∷◌, length, slice_range, take}
+use Rattle.std.specs.Prelude.{Option, Some, ⊤}
+use Rattle.run_file.specs.declared.kept.Action.{Action}
+use Rattle.run_file.specs.declared.kept.Action.TheVariants as kept
 use Rattle.run_file.specs.declared.kept.Kept.{Kept}
-use Rattle.run_file.specs.declared.kept.Kept.TheVariants as kept
 use Rattle.run_file.specs.declared.step.Step.{Step}
 use Rattle.run_file.specs.declared.step.Step.TheVariants as lent
 use Rattle.run_file.specs.Steps.{StepData, trigger, start, stop, pump}
 
--- what a step does that is kept among these images
-abbrev pub kept_data : List ℕ → Kept → StepData
-kept_data images (kept.Trigger c s from end) = trigger c s (slice_range images from end)
-kept_data images (kept.Start c l) = start c l
-kept_data images (kept.Stop c l) = stop c l
-kept_data images kept.Pump = pump
+-- what a step does with this image
+abbrev pub with_bytes : Action → List ℕ → StepData
+with_bytes (kept.Trigger c s) image = trigger c s image
+with_bytes (kept.Start c l) image = start c l
+with_bytes (kept.Stop c l) image = stop c l
+with_bytes kept.Pump image = pump
 
--- its image stands among so many bytes
-abbrev pub IsWithin : ℕ → Kept → Type 0
-IsWithin n (kept.Trigger c s from end) = (from ≤ end) × (end ≤ n)
-IsWithin n (kept.Start c l) = ⊤
-IsWithin n (kept.Stop c l) = ⊤
-IsWithin n kept.Pump = ⊤
+-- where the image before those of these steps ends: where theirs begin, or behind all n bytes
+abbrev pub next_from : ℕ → List Kept → ℕ
+next_from n [] = n
+next_from n (k ∷ ks) = k.from
+
+-- what the steps do that are kept beside these images
+abbrev pub kept_data : List ℕ → List Kept → List StepData
+kept_data images [] = []
+kept_data images (k ∷ ks) =
+    with_bytes k.action (slice_range images k.from (next_from (length images) ks)) ∷ kept_data images ks
+
+-- each image begins where the one before it ends, and all end within so many bytes
+abbrev pub AreInOrder : ℕ → List Kept → Type 0
+AreInOrder n [] = ⊤
+AreInOrder n (k ∷ ks) = (k.from ≤ next_from n ks) × (next_from n ks ≤ n) × AreInOrder n ks
 
 -- what a step does that is lent
 abbrev pub step_data : Step → StepData
@@ -31,14 +42,14 @@ step_data lent.Pump = pump
 abbrev pub BeginsWith : List ℕ → List ℕ → Type 0
 BeginsWith images more = take (length images) more ≡ images
 
--- a step is kept, and its image stands behind those that were there
-pub record KeepsStep (read : Option StepData) (images more : List ℕ) (step : Kept) : Type 0 where
-  pub is : read ≡ Some (kept_data more step)
-  pub within : IsWithin (length more) step
-  pub front : BeginsWith images more
-
 -- behind the images stands one more
 pub record GainsImage (read : Option (List ℕ)) (images more : List ℕ) : Type 0 where
   pub image : List ℕ
   pub is : read ≡ Some image
+  pub at_end : more ≡ images ++ image
+
+-- what was read is this action, with the image that came behind the others
+pub record GainsAction (read : Option StepData) (images more : List ℕ) (action : Action) : Type 0 where
+  pub image : List ℕ
+  pub is : read ≡ Some (with_bytes action image)
   pub at_end : more ≡ images ++ image

@@ -66,7 +66,7 @@ pub fn steps_of(alloc: Global, last: u8, values: &[Value]) -> Result<StepList, R
 fn read_step(steps: &mut StepList, last: u8, text: &str) -> Result<(), StepFault>
     ensures ok { OnOk result (Gains (IsStepText (last + 1) text.now) steps.old steps.new) }
     ensures no_step { IsErrOf result StepFault.NoStep → HasNone (IsStepText (last + 1) text.now) }
-    ensures err { OnErr result (steps.new ≡ steps.old) }
+    ensures same { IsErrOf result StepFault.NoStep → steps.new ≡ steps.old }
 {
     let Some(step) = wording_of(last, text) else {
         return Err(StepFault::NoStep);
