@@ -6,8 +6,8 @@ use Rattle.std.proofs.lemmas.Option.{same_Some}
 use Rattle.run_file.specs.declared.kept.Action.{Action}
 use Rattle.run_file.specs.declared.kept.Kept.{Kept}
 use Rattle.run_file.specs.declared.step_fault.StepFault.{StepFault}
-use Rattle.run_file.specs.KeptSteps.{AreInOrder, BeginsWith, GainsAction, kept_data, next_from, with_bytes}
-use Rattle.run_file.specs.Reading.{Gains}
+use Rattle.run_file.specs.Inner.{AreInOrder, BeginsWith, GainsAction, kept_data, next_from, with_bytes}
+use Rattle.run_file.specs.Inner.{Gains}
 use Rattle.run_file.specs.Steps.{StepData}
 
 slice_range-more : (images more : List ℕ) (from end : ℕ) → from ≤ end → end ≤ length images
@@ -104,6 +104,7 @@ module _ (read : Option StepData) (images more : List ℕ) (ks new : List Kept) 
     where
       size : length more ≡ length images + length gains.image
       size = ap length gains.at_end ∙ length-append images gains.image
+
       by_answer : (a : Result (Unit {0}) StepFault) → OnOk a (new ≡ ks ++ k ∷ []) → OnErr a (new ≡ ks) → AreInOrder (length more) new
       by_answer (Ok u) h same =
           subst (AreInOrder (length more)) (sym h) (in_order-push (length images) (length more) ks k before at (omega (arith, size)))

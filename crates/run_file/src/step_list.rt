@@ -1,12 +1,14 @@
-ghost use Rattle.std.specs.Prelude.{◌≡◌, ◌+◌, ◌<◌, ◌++◌, ◌∷◌, [], IfErr, IfOk, IsErrOf, None, OnErr, OnOk};
+ghost use Rattle.std.specs.Prelude.{◌≡◌, ◌+◌, ◌<◌, ◌++◌, ◌∷◌, [], IfErr, IfOk, IsErrOf, None};
+ghost use Rattle.std.specs.Prelude.{OnErr, OnOk};
 ghost use Rattle.std.specs.Prelude.{◌≤◌, Some, drop, length, option_map, slice_get, slice_range};
 ghost use Rattle.run_file.specs.declared.step_fault.StepFault.TheVariants.{Memory};
-ghost use Rattle.run_file.specs.KeptSteps.{BeginsWith, GainsAction, GainsImage, next_from, step_data};
-ghost use Rattle.run_file.specs.KeptSteps.{with_bytes};
-ghost use Rattle.run_file.specs.Reading.{Gains};
+ghost use Rattle.run_file.specs.Inner.{BeginsWith, GainsAction, GainsImage, next_from};
+ghost use Rattle.run_file.specs.Lent.{step_data};
+ghost use Rattle.run_file.specs.Inner.{with_bytes};
+ghost use Rattle.run_file.specs.Inner.{Gains};
 ghost use Rattle.run_file.specs.StepOf.{image_of, with_image};
 ghost use Rattle.run_file.specs.Steps.{trigger};
-ghost use Rattle.run_file.specs.Wordings.{wording_data};
+ghost use Rattle.run_file.specs.Inner.{wording_data};
 
 use crate::kept::{Action, Kept};
 use crate::step::Step;
@@ -25,7 +27,7 @@ pub struct StepList {
 
 impl Model for StepList {
     ghost use Rattle.std.specs.Prelude.{List, length};
-    ghost use Rattle.run_file.specs.KeptSteps.{AreInOrder, kept_data};
+    ghost use Rattle.run_file.specs.Inner.{AreInOrder, kept_data};
     ghost use Rattle.run_file.specs.Steps.{StepData};
 
     ghost Value = { List StepData };
@@ -71,7 +73,7 @@ impl StepList {
             (Gains (λ s. with_image (wording_data step.entry) ≡ Some s) self.old self.new) }
         ensures no_step { IsErrOf result StepFault.NoStep
             → with_image (wording_data step.entry) ≡ None }
-        ensures same { IsErrOf result StepFault.NoStep → self.new ≡ self.old }
+        ensures stays { IsErrOf result StepFault.NoStep → self.new ≡ self.old }
     {
         let from = self.images.len();
         let action = push_action(&mut self.images, step)?;
@@ -128,7 +130,7 @@ fn push_action(images: &mut Vec<u8>, step: Wording<'_>) -> Result<Action, StepFa
         images.old.items images.new.items) }
     ensures no_step { IsErrOf result StepFault.NoStep
         → with_image (wording_data step.entry) ≡ None }
-    ensures same { IsErrOf result StepFault.NoStep → images.new.items ≡ images.old.items }
+    ensures stays { IsErrOf result StepFault.NoStep → images.new.items ≡ images.old.items }
     ensures front { BeginsWith images.old.items images.new.items }
 {
     match step {
@@ -154,7 +156,7 @@ fn push_trigger(
         images.old.items images.new.items) }
     ensures no_step { IsErrOf result StepFault.NoStep
         → with_image (trigger channel stamp digits.now) ≡ None }
-    ensures same { IsErrOf result StepFault.NoStep → images.new.items ≡ images.old.items }
+    ensures stays { IsErrOf result StepFault.NoStep → images.new.items ≡ images.old.items }
     ensures front { BeginsWith images.old.items images.new.items }
 {
     push_image(images, digits)?;
@@ -165,7 +167,7 @@ fn push_trigger(
 fn push_image(images: &mut Vec<u8>, digits: &str) -> Result<(), StepFault>
     ensures ok { OnOk result (GainsImage (image_of digits.now) images.old.items images.new.items) }
     ensures no_step { IsErrOf result StepFault.NoStep → image_of digits.now ≡ None }
-    ensures same { IsErrOf result StepFault.NoStep → images.new.items ≡ images.old.items }
+    ensures stays { IsErrOf result StepFault.NoStep → images.new.items ≡ images.old.items }
     ensures front { BeginsWith images.old.items images.new.items }
 {
     if digits.is_empty() {

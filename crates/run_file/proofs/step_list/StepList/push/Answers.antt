@@ -1,7 +1,7 @@
 use Rattle.std.proofs.Common.{◌≡◌, length, ap, ◌∙◌, rules}
-use Rattle.run_file.specs.KeptSteps.{kept_data}
+use Rattle.run_file.specs.Inner.{kept_data}
 use Rattle.run_file.specs.StepOf.{with_image}
-use Rattle.run_file.specs.Wordings.{wording_data}
+use Rattle.run_file.specs.Inner.{wording_data}
 use Rattle.run_file.proofs.KeptLemmas.{kept_gains, kept_in_order, still_in_order}
 use Rattle.run_file.proofs.step_list.StepList.push.Goals as goal
 
