@@ -11,7 +11,7 @@ use Rattle.daq_store.specs.declared.entry.Entry.{Entry}
 use Rattle.copy_plan.specs.Config.{OdtEntry, IsInside, written_entries}
 use Rattle.copy_plan.specs.Packet.{elements}
 use Rattle.copy_plan.specs.Runs.{continues, runs_needed}
-use Rattle.copy_plan.specs.Joined.{with_bytes, joined_runs, copied, IsRunInside}
+use Rattle.copy_plan.specs.Inner.Joined.{with_bytes, joined_runs, copied, IsRunInside}
 
 -- bytes that end where the first run begins are joined with it, other bytes are a run of their own
 joins : (start end : ℕ) (r : Run) (rs : List Run) → r.start ≡ end → with_bytes start end (r ∷ rs) ≡ record { start = start; end = r.end } ∷ rs

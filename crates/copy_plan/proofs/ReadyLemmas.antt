@@ -12,7 +12,8 @@ use Rattle.xcp_base.specs.declared.limits.TheConstants.{MAX_CHANNELS, MAX_DTO, M
 use Rattle.xcp_base.specs.Packets.{packet_len}
 use Rattle.daq_store.specs.Calls.{numbers_below}
 use Rattle.daq_store.specs.Configuration.{Configuration, channel_of, prescaler_of, is_stamped, odt_entries, entries_len, is_within, is_filled, is_short, is_ready}
-use Rattle.copy_plan.specs.Config.{OdtEntry, IsPlan, AreFilled, elements_len, plan_of, written_entries}
+use Rattle.copy_plan.specs.Config.{OdtEntry, IsPlan, elements_len, plan_of, written_entries}
+use Rattle.copy_plan.specs.Inner.Filled.{AreFilled}
 use Rattle.copy_plan.proofs.WrittenLemmas.{IsSome-within, inside-within, some-written_entries, sum_by-written_entries}
 
 -- the ODTs of a configuration

@@ -5,7 +5,7 @@ use Rattle.copy_plan.specs.Config.{ListPlan, OdtEntry, plan_of}
 use Rattle.copy_plan.specs.Packet.{packet, packets}
 use Rattle.copy_plan.specs.Pids.{pid}
 use Rattle.copy_plan.specs.Runs.{runs_needed}
-use Rattle.copy_plan.specs.Joined.{joined_runs}
+use Rattle.copy_plan.specs.Inner.Joined.{joined_runs}
 
 -- a list of two ODTs with a timestamp, as it is set in the store
 two_odts : Configuration

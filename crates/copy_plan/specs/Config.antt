@@ -1,7 +1,7 @@
 -- What the samples of one DAQ list are made of (ASAM MCD-1 XCP, protocol layer, DAQ list, ODT, ODT
 -- entry). The limits are (own).
 use Rattle.std.specs.Prelude.{ℕ, ◌+◌, ◌<◌, ◌≤◌, Bool, All, List, [], length, map, filter_map}
-use Rattle.std.specs.Prelude.{slice_index_or, sum_by, Option, option_map, IsSome}
+use Rattle.std.specs.Prelude.{slice_index_or, sum_by, Option, option_map}
 use Rattle.xcp_base.specs.declared.limits.TheConstants.{MAX_CHANNELS, MAX_DTO, MAX_LISTS}
 use Rattle.xcp_base.specs.declared.limits.TheConstants.{MAX_ODTS, MAX_ODTS_IN_ALL}
 use Rattle.xcp_base.specs.Packets.{packet_len}
@@ -62,7 +62,3 @@ pub record IsPlan (plan : ListPlan) : Type 0 where
   pub inside : (k : ℕ) → k < length plan.odts → All (IsInside plan.image_len) (odt plan k)
   pub short :
       (k : ℕ) → k < length plan.odts → packet_len plan.stamped k (elements_len plan k) ≤ MAX_DTO
-
--- each ODT has an entry, and each entry is written
-abbrev pub AreFilled : Configuration → Type 0
-AreFilled conf = All (λ entries. (0 < length entries) × All IsSome entries) conf.odts

@@ -1,6 +1,5 @@
 pub mod Config
-pub mod Joined
-pub mod Kept
+pub mod Inner
 pub mod Packet
 pub mod Pids
 pub mod Runs

@@ -6,7 +6,7 @@ ghost use Rattle.copy_plan.specs.Config.{IsPlan, odt};
 ghost use Rattle.copy_plan.specs.Packet.{packet, packets, timestamp};
 ghost use Rattle.copy_plan.specs.Pids.{pid};
 ghost use Rattle.copy_plan.specs.Runs.{runs_needed};
-ghost use Rattle.copy_plan.specs.Joined.{IsRunInside, copied, joined_runs};
+ghost use Rattle.copy_plan.specs.Inner.Joined.{IsRunInside, copied, joined_runs};
 
 use crate::plan::CopyPlan;
 use crate::runs::Run;

@@ -1,8 +1,9 @@
 ghost use Rattle.std.specs.Prelude.{◌≡◌, ◌+◌, ◌<◌, ◌≤◌, IfOk, true, length, map};
 ghost use Rattle.daq_store.specs.Configuration.{is_ready};
 ghost use Rattle.copy_plan.specs.declared.plan.PlanFault.TheVariants.{Memory};
-ghost use Rattle.copy_plan.specs.Config.{IsPlan, AreFilled, plan_of, written_entries};
-ghost use Rattle.copy_plan.specs.Joined.{joined_runs};
+ghost use Rattle.copy_plan.specs.Config.{IsPlan, plan_of, written_entries};
+ghost use Rattle.copy_plan.specs.Inner.Filled.{AreFilled};
+ghost use Rattle.copy_plan.specs.Inner.Joined.{joined_runs};
 
 use crate::runs::Runs;
 use daq_store::ListConf;
@@ -49,7 +50,7 @@ pub struct CopyPlan {
 
 impl Model for CopyPlan {
     ghost use Rattle.copy_plan.specs.Config.{ListPlan};
-    ghost use Rattle.copy_plan.specs.Kept.{IsKept, plan_view};
+    ghost use Rattle.copy_plan.specs.Inner.Kept.{IsKept, plan_view};
 
     ghost Value = { ListPlan };
 

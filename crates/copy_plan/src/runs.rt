@@ -1,7 +1,7 @@
 ghost use Rattle.std.specs.Prelude.{◌≡◌, ◌==◌, ◌<◌, IfOk, IsSome, All, length};
 ghost use Rattle.daq_store.specs.Configuration.{odt_entries};
 ghost use Rattle.copy_plan.specs.Config.{written_entries};
-ghost use Rattle.copy_plan.specs.Joined.{joined_runs};
+ghost use Rattle.copy_plan.specs.Inner.Joined.{joined_runs};
 
 use daq_store::ListConf;
 use std::alloc::{AllocError, Global};

@@ -14,8 +14,8 @@ use Rattle.daq_store.specs.Entries.{odt_of, last_write}
 use Rattle.daq_store.specs.Modes.{mode_of, stamps}
 use Rattle.daq_store.specs.Running.{is_running, is_selected}
 use Rattle.daq_store.specs.Configuration.{configuration, odt_entries}
-use Rattle.daq_store.specs.Standing.{StoreState, StandsAfter, list_after}
-use Rattle.daq_store.specs.Effects.{fresh_state, state_of, shows_odt, shows_entry, lists_put, odts_put, entries_put, entry_put, mode_put, start_stop_put, synch_put, with_odts, with_entries, with_mode, with_entry, start_stopped, synched}
+use Rattle.daq_store.specs.Standing.{StoreState, StoreStandsAfter, list_after}
+use Rattle.daq_store.specs.Inner.Effects.{fresh_state, list_at, shows_odt, shows_entry, lists_put, odts_put, entries_put, entry_put, mode_put, start_stop_put, synch_put, with_odts, with_entries, with_mode, with_entry, start_stopped, synched}
 use Rattle.daq_store.proofs.TableLemmas.{map-same, set-map_below, map-one, and_left, and_right, below_from}
 use Rattle.daq_store.proofs.StandingLemmas.{count_stands, get_stands, odt_within, has_odt_stands, has_entry_stands}
 
@@ -50,7 +50,7 @@ list_same a b l h =
     cc
 
 -- the table after a call that changes list l alone
-one_list : (s : StoreState) (calls : List Command) (call : Command) (l : ℕ) (x : ListState) → StandsAfter s calls → l < length s.lists
+one_list : (s : StoreState) (calls : List Command) (call : Command) (l : ℕ) (x : ListState) → StoreStandsAfter s calls → l < length s.lists
     → (l < list_count calls → x ≡ list_after (call ∷ calls) l)
     → ((i : ℕ) → (l == i) ≡ false → SameOf calls (call ∷ calls) i)
     → set s.lists l x ≡ map (list_after (call ∷ calls)) (numbers_below (list_count calls))
@@ -62,7 +62,7 @@ one_list s calls call l x h inside is others =
     (λ i _ other. list_same calls (call ∷ calls) i (others i (ne_eqb l i (λ e. other (sym e)))))
 
 -- ALLOC_DAQ
-pub lists_put_stands : (s : StoreState) (calls : List Command) (n : ℕ) → StandsAfter (lists_put s n) (AllocDaq n ∷ calls)
+pub lists_put_stands : (s : StoreState) (calls : List Command) (n : ℕ) → StoreStandsAfter (lists_put s n) (AllocDaq n ∷ calls)
 lists_put_stands s calls n = record {
   lists = sym (map-one (list_after (AllocDaq n ∷ calls)) fresh_state n 0 (λ k. refl));
   pointer = refl;
@@ -88,11 +88,11 @@ alloc_odt_here calls l n e x is =
     = map-one _ _ n 0 (λ k. alloc_odt_empty calls l n k e) in
     rw (is, e, odts) refl
 
-pub odts_put_stands : (s : StoreState) (calls : List Command) (l n : ℕ) → StandsAfter s calls → l < length s.lists
-    → StandsAfter (odts_put s l n) (AllocOdt l n ∷ calls)
+pub odts_put_stands : (s : StoreState) (calls : List Command) (l n : ℕ) → StoreStandsAfter s calls → l < length s.lists
+    → StoreStandsAfter (odts_put s l n) (AllocOdt l n ∷ calls)
 odts_put_stands s calls l n h inside = record {
   lists = one_list s calls (AllocOdt l n) l _ h inside
-      (λ here. alloc_odt_here calls l n (eq-eqb l l refl) (state_of s l) (get_stands s calls l fresh_state h here))
+      (λ here. alloc_odt_here calls l n (eq-eqb l l refl) (list_at s l) (get_stands s calls l fresh_state h here))
       (λ i other. alloc_odt_other calls l n i other);
   pointer = refl;
   phase = refl;
@@ -140,15 +140,15 @@ alloc_odt_entry_here calls l k n inside x is =
     ≡ map (odt_of (AllocOdtEntry l k n ∷ calls) l) (numbers_below (odt_count calls l)) = odts_unwritten calls l k n inside in
     rw (is, odts) refl
 
-pub entries_put_stands : (s : StoreState) (calls : List Command) (l k n : ℕ) → StandsAfter s calls → shows_odt s l k ≡ true
-    → StandsAfter (entries_put s l k n) (AllocOdtEntry l k n ∷ calls)
+pub entries_put_stands : (s : StoreState) (calls : List Command) (l k n : ℕ) → StoreStandsAfter s calls → shows_odt s l k ≡ true
+    → StoreStandsAfter (entries_put s l k n) (AllocOdtEntry l k n ∷ calls)
 entries_put_stands s calls l k n h shown =
     let there : has_odt calls l k ≡ true = has_odt_stands s calls l k h ∙ shown in
     let list : l < list_count calls = below_from _ _ (and_left _ _ there) in
     let odt : k < odt_count calls l = below_from _ _ (and_right _ _ there) in
     record {
       lists = one_list s calls (AllocOdtEntry l k n) l _ h (rw (count_stands s calls h) list)
-          (λ here. alloc_odt_entry_here calls l k n odt (state_of s l) (get_stands s calls l fresh_state h here))
+          (λ here. alloc_odt_entry_here calls l k n odt (list_at s l) (get_stands s calls l fresh_state h here))
           (λ i other. alloc_odt_entry_other calls l k n i other);
       pointer = refl;
       phase = refl;
@@ -163,8 +163,8 @@ set_ptr_same calls l k e i = record {
   selected = refl;
 }
 
-pub pointer_put_stands : (s : StoreState) (calls : List Command) (l k e : ℕ) → StandsAfter s calls → shows_entry s l k e ≡ true
-    → StandsAfter (record s { pointer = Some (l, k, e) }) (SetDaqPtr l k e ∷ calls)
+pub pointer_put_stands : (s : StoreState) (calls : List Command) (l k e : ℕ) → StoreStandsAfter s calls → shows_entry s l k e ≡ true
+    → StoreStandsAfter (record s { pointer = Some (l, k, e) }) (SetDaqPtr l k e ∷ calls)
 pointer_put_stands s calls l k e h shown = record {
   lists = h.lists ∙ map-same (list_after calls) (list_after (SetDaqPtr l k e ∷ calls)) (numbers_below (list_count calls))
       (λ i. list_same calls (SetDaqPtr l k e ∷ calls) i (set_ptr_same calls l k e i));
@@ -257,21 +257,21 @@ moved new calls l k e w (Some p) same h =
     let at : p.2 + (w + 1) ≡ e + 1 = omega (arith, parts.2) in
     rw (parts.0, parts.1, at, same l k) refl
 
-pub entry_put_stands : (s : StoreState) (calls : List Command) (bit size ext addr l k e : ℕ) → StandsAfter s calls
+pub entry_put_stands : (s : StoreState) (calls : List Command) (bit size ext addr l k e : ℕ) → StoreStandsAfter s calls
     → s.pointer ≡ Some (l, k, e) → shows_entry s l k e ≡ true
-    → StandsAfter (entry_put s l k e (record { address = addr; size = size })) (WriteDaq bit size ext addr ∷ calls)
+    → StoreStandsAfter (entry_put s l k e (record { address = addr; size = size })) (WriteDaq bit size ext addr ∷ calls)
 entry_put_stands s calls bit size ext addr l k e h pointed shown =
     let at : pointer calls ≡ Some (l, k, e) = sym h.pointer ∙ pointed in
     let there : has_entry calls l k e ≡ true = has_entry_stands s calls l k e h ∙ shown in
     let list : l < list_count calls = below_from _ _ (and_left _ _ (and_left _ _ there)) in
     let odt : k < odt_count calls l = below_from _ _ (and_right _ _ (and_left _ _ there)) in
     let entry : e < entry_count calls l k = below_from _ _ (and_right _ _ there) in
-    let is : state_of s l ≡ list_after calls l = get_stands s calls l fresh_state h list in
-    let len : length (odt_entries (state_of s l).conf k) ≡ entry_count calls l k
+    let is : list_at s l ≡ list_after calls l = get_stands s calls l fresh_state h list in
+    let len : length (odt_entries (list_at s l).conf k) ≡ entry_count calls l k
     = ap (λ (x : ListState). length (odt_entries x.conf k)) is ∙ ap length (odt_within calls l k odt) ∙ length-map-range_with_len (last_write calls l k) 0 (entry_count calls l k) in
     record {
       lists = one_list s calls (WriteDaq bit size ext addr) l _ h (rw (count_stands s calls h) list)
-          (λ here. write_here calls bit size ext addr l k e at entry odt (state_of s l) is)
+          (λ here. write_here calls bit size ext addr l k e at entry odt (list_at s l) is)
           (λ i other. written_other_list calls bit size ext addr l k e i at other);
       pointer = sym (moved (WriteDaq bit size ext addr ∷ calls) calls l k e (writes_since calls) (set_place calls) (λ i j. refl) at ∙ rw len refl);
       phase = h.phase;
@@ -304,11 +304,11 @@ set_mode_here calls mode l channel prescaler priority e x is =
     = odts_same calls new l (set_mode_odts calls mode l channel prescaler priority l) in
     rw (is, e, odts) refl
 
-pub mode_put_stands : (s : StoreState) (calls : List Command) (mode l channel prescaler priority : ℕ) → StandsAfter s calls → l < length s.lists
-    → StandsAfter (mode_put s l (mode_byte mode channel prescaler priority)) (SetDaqListMode mode l channel prescaler priority ∷ calls)
+pub mode_put_stands : (s : StoreState) (calls : List Command) (mode l channel prescaler priority : ℕ) → StoreStandsAfter s calls → l < length s.lists
+    → StoreStandsAfter (mode_put s l (mode_byte mode channel prescaler priority)) (SetDaqListMode mode l channel prescaler priority ∷ calls)
 mode_put_stands s calls mode l channel prescaler priority h inside = record {
   lists = one_list s calls (SetDaqListMode mode l channel prescaler priority) l _ h inside
-      (λ here. set_mode_here calls mode l channel prescaler priority (eq-eqb l l refl) (state_of s l) (get_stands s calls l fresh_state h here))
+      (λ here. set_mode_here calls mode l channel prescaler priority (eq-eqb l l refl) (list_at s l) (get_stands s calls l fresh_state h here))
       (λ i other. set_mode_other calls mode l channel prescaler priority i other);
   pointer = h.pointer;
   phase = h.phase;
@@ -341,11 +341,11 @@ start_stop_here calls mode l e x is =
     = stopped_or_started (mode == 2) (is_running calls l) (mode == 1) in
     rw (is, e, odts, runs) refl
 
-pub start_stop_put_stands : (s : StoreState) (calls : List Command) (mode l : ℕ) → StandsAfter s calls → l < length s.lists
-    → StandsAfter (start_stop_put s mode l) (StartStopDaqList mode l ∷ calls)
+pub start_stop_put_stands : (s : StoreState) (calls : List Command) (mode l : ℕ) → StoreStandsAfter s calls → l < length s.lists
+    → StoreStandsAfter (start_stop_put s mode l) (StartStopDaqList mode l ∷ calls)
 start_stop_put_stands s calls mode l h inside = record {
   lists = one_list s calls (StartStopDaqList mode l) l _ h inside
-      (λ here. start_stop_here calls mode l (eq-eqb l l refl) (state_of s l) (get_stands s calls l fresh_state h here))
+      (λ here. start_stop_here calls mode l (eq-eqb l l refl) (list_at s l) (get_stands s calls l fresh_state h here))
       (λ i other. start_stop_other calls mode l i other);
   pointer = h.pointer;
   phase = h.phase;
@@ -361,8 +361,8 @@ synch_here calls mode i =
     = odts_same calls (StartStopSynch mode ∷ calls) i (synch_odts calls mode i) in
     rw odts refl
 
-pub synch_put_stands : (s : StoreState) (calls : List Command) (mode : ℕ) → StandsAfter s calls
-    → StandsAfter (synch_put s mode) (StartStopSynch mode ∷ calls)
+pub synch_put_stands : (s : StoreState) (calls : List Command) (mode : ℕ) → StoreStandsAfter s calls
+    → StoreStandsAfter (synch_put s mode) (StartStopSynch mode ∷ calls)
 synch_put_stands s calls mode h = record {
   lists =
       ap (map (synched mode)) h.lists

@@ -14,7 +14,7 @@ use Rattle.daq_store.specs.declared.mode.Mode.{Mode}
 use Rattle.daq_store.specs.declared.list_state.ListState.{ListState}
 use Rattle.daq_store.specs.Configuration.{fresh_conf, odt_entries, is_ready}
 use Rattle.daq_store.specs.Standing.{StoreState, IsStore, IsAtEntry, RunsReady, conf_of, odts_of}
-use Rattle.daq_store.specs.Effects.{with_mode, with_entry, start_stopped, synched, is_unready}
+use Rattle.daq_store.specs.Inner.Effects.{with_mode, with_entry, start_stopped, synched, is_unready}
 use Rattle.daq_store.proofs.TableLemmas.{sum_by-map, below_from}
 use Rattle.daq_store.proofs.StandingLemmas.{conf_at}
 

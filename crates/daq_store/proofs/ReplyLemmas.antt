@@ -9,8 +9,9 @@ use Rattle.daq_store.specs.declared.reply.Reply.{Reply}
 use Rattle.daq_store.specs.declared.reply.Reply.TheVariants.{Error}
 use Rattle.daq_store.specs.Calls.{Profile, and_then}
 use Rattle.daq_store.specs.Answer.{accepted_reply, answer, fault_of, reply_by}
-use Rattle.daq_store.specs.Standing.{Refuses, StandsAfter, StoreState}
-use Rattle.daq_store.specs.Replies.{CarriesOut, IsAccepted, IsPositive, calls_after_packet, calls_after_packets, packet_reply, replies, reply_bytes}
+use Rattle.daq_store.specs.Standing.{Refuses, StoreStandsAfter, StoreState}
+use Rattle.daq_store.specs.Inner.Accepted.{IsAccepted, IsPositive}
+use Rattle.daq_store.specs.Replies.{CarriesOut, calls_after_packet, calls_after_packets, packet_reply, replies, reply_bytes}
 
 -- a reply that is no error comes from no fault
 no_fault : (accepted reply : Reply) (fault : Option ErrCode) → reply_by accepted fault ≡ reply → IsPositive reply → is_some fault ≡ false
@@ -39,7 +40,7 @@ accepted_is_carried old new call reply accepted = λ calls stands.
     let both = accepted.1 calls stands in
     let none : is_some (fault_of old.profile calls call) ≡ false =
     no_fault (accepted_reply calls call) reply (fault_of old.profile calls call) both.0 accepted.0 in
-    let P : Bool → Type 0 = λ b. StandsAfter new (if b then calls else and_then calls call) in
+    let P : Bool → Type 0 = λ b. StoreStandsAfter new (if b then calls else and_then calls call) in
     (sym both.0, subst P (sym none) both.1)
 
 -- and so is a refused one, which changes nothing
@@ -48,8 +49,8 @@ refused_is_carried old new call code refused same = λ calls stands.
     let answered : answer old.profile calls call ≡ Error code = refused calls stands in
     let some : is_some (fault_of old.profile calls call) ≡ true =
     some_fault (accepted_reply calls call) code (fault_of old.profile calls call) (accepted_is_positive calls call) answered in
-    let P : Bool → Type 0 = λ b. StandsAfter new (if b then calls else and_then calls call) in
-    let Q : StoreState → Type 0 = λ s. StandsAfter s calls in
+    let P : Bool → Type 0 = λ b. StoreStandsAfter new (if b then calls else and_then calls call) in
+    let Q : StoreState → Type 0 = λ s. StoreStandsAfter s calls in
     (sym answered, subst P (sym some) (subst Q (sym same) stands))
 
 -- one packet more

@@ -13,21 +13,21 @@ use Rattle.daq_store.specs.Shape.{list_count, odt_count, entry_count, is_list, h
 use Rattle.daq_store.specs.Entries.{odt_of, last_write}
 use Rattle.daq_store.specs.Running.{is_active, is_chosen, any_list}
 use Rattle.daq_store.specs.Configuration.{configuration, fresh_conf, odt_entries, is_ready, list_is_ready}
-use Rattle.daq_store.specs.Standing.{IsStore, StoreState, StandsAfter, list_after, conf_of, shows_running, shows_selected, odts_of, first_pid_of, first_pid_after}
-use Rattle.daq_store.specs.Effects.{fresh_state, shows_list, shows_odt, shows_entry}
+use Rattle.daq_store.specs.Standing.{IsStore, StoreState, StoreStandsAfter, list_after, conf_of, shows_running, shows_selected, odts_of, first_pid_of, first_pid_after}
+use Rattle.daq_store.specs.Inner.Effects.{fresh_state, shows_list, shows_odt, shows_entry}
 use Rattle.daq_store.proofs.TableLemmas.{list_any-map, sum_by-map, sum_by-same, and_left, and_right, below_from, below_is}
 
 -- the number of lists
-pub count_stands : (s : StoreState) (calls : List Command) → StandsAfter s calls → length s.lists ≡ list_count calls
+pub count_stands : (s : StoreState) (calls : List Command) → StoreStandsAfter s calls → length s.lists ≡ list_count calls
 count_stands s calls h = ap length h.lists ∙ length-map-range_with_len (list_after calls) 0 (list_count calls)
 
 -- a test of some list
-pub any_stands : (s : StoreState) (calls : List Command) (test : ListState → Bool) → StandsAfter s calls
+pub any_stands : (s : StoreState) (calls : List Command) (test : ListState → Bool) → StoreStandsAfter s calls
     → any_list calls (λ l. test (list_after calls l)) ≡ list_any test s.lists
 any_stands s calls test h = sym (ap (list_any test) h.lists ∙ list_any-map test (list_after calls) (numbers_below (list_count calls)))
 
 -- the ODTs of the lists before one
-pub first_pid_stands : (s : StoreState) (calls : List Command) (l : ℕ) → StandsAfter s calls → l ≤ list_count calls
+pub first_pid_stands : (s : StoreState) (calls : List Command) (l : ℕ) → StoreStandsAfter s calls → l ≤ list_count calls
     → first_pid_of s l ≡ odts_before calls l
 first_pid_stands s calls l h inside =
     ap (λ xs. sum_by odts_of (take l xs)) h.lists
@@ -37,40 +37,40 @@ first_pid_stands s calls l h inside =
     (λ x. length-map-range_with_len (odt_of calls x) 0 (odt_count calls x))
 
 -- the list at a place
-pub get_stands : (s : StoreState) (calls : List Command) (l : ℕ) (d : ListState) → StandsAfter s calls → l < list_count calls
+pub get_stands : (s : StoreState) (calls : List Command) (l : ℕ) (d : ListState) → StoreStandsAfter s calls → l < list_count calls
     → get_or s.lists l d ≡ list_after calls l
 get_stands s calls l d h inside =
     ap (λ xs. get_or xs l d) h.lists ∙ get_or-map-range_with_len (list_after calls) 0 (list_count calls) l l d inside (zero-add l)
 
-pub is_list_stands : (s : StoreState) (calls : List Command) (l : ℕ) → StandsAfter s calls → is_list calls l ≡ shows_list s l
+pub is_list_stands : (s : StoreState) (calls : List Command) (l : ℕ) → StoreStandsAfter s calls → is_list calls l ≡ shows_list s l
 is_list_stands s calls l h = ap (nat_lt l) (sym (count_stands s calls h))
 
 -- what is shown of a list, at a place that is there, and past the last
-pub at_stands : (s : StoreState) (calls : List Command) (l : ℕ) → StandsAfter s calls → l < list_count calls
+pub at_stands : (s : StoreState) (calls : List Command) (l : ℕ) → StoreStandsAfter s calls → l < list_count calls
     → slice_get s.lists l ≡ Some (list_after calls l)
 at_stands s calls l h inside =
     let long : l < length s.lists = rw (count_stands s calls h) inside in
     slice_get-get_or s.lists l fresh_state long ∙ ap Some (get_stands s calls l fresh_state h inside)
 
-past_stands : (s : StoreState) (calls : List Command) (l : ℕ) → StandsAfter s calls → list_count calls ≤ l
+past_stands : (s : StoreState) (calls : List Command) (l : ℕ) → StoreStandsAfter s calls → list_count calls ≤ l
     → slice_get s.lists l ≡ None
 past_stands s calls l h past =
     let long : length s.lists ≤ l = rw (count_stands s calls h) past in
     slice_get_past s.lists l long
 
-pub conf_stands : (s : StoreState) (calls : List Command) (l : ℕ) → StandsAfter s calls → l < list_count calls
+pub conf_stands : (s : StoreState) (calls : List Command) (l : ℕ) → StoreStandsAfter s calls → l < list_count calls
     → conf_of s l ≡ configuration calls l
 conf_stands s calls l h inside =
     ap (λ (o : Option ListState). unwrap_or (option_map (λ x. x.conf) o) fresh_conf) (at_stands s calls l h inside)
 
 -- whether a list runs, whether it is selected
-pub active_stands : (s : StoreState) (calls : List Command) (l : ℕ) → StandsAfter s calls → is_active calls l ≡ shows_running s l
+pub active_stands : (s : StoreState) (calls : List Command) (l : ℕ) → StoreStandsAfter s calls → is_active calls l ≡ shows_running s l
 active_stands s calls l h = elim (leb_tells (suc l) (list_count calls)) [
   | inl here ↦ rw here.0 (sym (ap (λ (o : Option ListState). unwrap_or (option_map (λ x. x.running) o) false) (at_stands s calls l h here.1)))
   | inr past ↦ rw past.0 (sym (ap (λ (o : Option ListState). unwrap_or (option_map (λ x. x.running) o) false) (past_stands s calls l h (omega arith))))
 ]
 
-pub chosen_stands : (s : StoreState) (calls : List Command) (l : ℕ) → StandsAfter s calls → is_chosen calls l ≡ shows_selected s l
+pub chosen_stands : (s : StoreState) (calls : List Command) (l : ℕ) → StoreStandsAfter s calls → is_chosen calls l ≡ shows_selected s l
 chosen_stands s calls l h = elim (leb_tells (suc l) (list_count calls)) [
   | inl here ↦ rw here.0 (sym (ap (λ (o : Option ListState). unwrap_or (option_map (λ x. x.selected) o) false) (at_stands s calls l h here.1)))
   | inr past ↦ rw past.0 (sym (ap (λ (o : Option ListState). unwrap_or (option_map (λ x. x.selected) o) false) (past_stands s calls l h (omega arith))))
@@ -94,7 +94,7 @@ none_below : (e : ℕ) → nat_lt e 0 ≡ false
 none_below e = elim (leb_tells (suc e) 0) [ inl h ↦ absurd (omega (arith, h.1)) | inr h ↦ h.0 ]
 
 -- there is such an ODT
-pub has_odt_stands : (s : StoreState) (calls : List Command) (l k : ℕ) → StandsAfter s calls → has_odt calls l k ≡ shows_odt s l k
+pub has_odt_stands : (s : StoreState) (calls : List Command) (l k : ℕ) → StoreStandsAfter s calls → has_odt calls l k ≡ shows_odt s l k
 has_odt_stands s calls l k h = elim (leb_tells (suc l) (list_count calls)) [
   | inl here ↦
       let len : length (conf_of s l).odts ≡ odt_count calls l
@@ -118,7 +118,7 @@ entry_within calls l k e = elim (leb_tells (suc k) (odt_count calls l)) [
       rw (past.0, none) (sym (none_below e))
 ]
 
-pub has_entry_stands : (s : StoreState) (calls : List Command) (l k e : ℕ) → StandsAfter s calls
+pub has_entry_stands : (s : StoreState) (calls : List Command) (l k e : ℕ) → StoreStandsAfter s calls
     → has_entry calls l k e ≡ shows_entry s l k e
 has_entry_stands s calls l k e h = elim (leb_tells (suc l) (list_count calls)) [
   | inl here ↦
@@ -141,7 +141,7 @@ list_inside s l k e shown = elim (leb_tells (suc l) (length s.lists)) [
 ]
 
 -- FIRST_PID, where there is such a list, and past the last
-pub first_pid_here : (s : StoreState) (calls : List Command) (l : ℕ) → StandsAfter s calls → l < length s.lists
+pub first_pid_here : (s : StoreState) (calls : List Command) (l : ℕ) → StoreStandsAfter s calls → l < length s.lists
     → first_pid_after calls l ≡ Some (first_pid_of s l)
 first_pid_here s calls l h inside =
     let here : l < list_count calls = rw (count_stands s calls h) at inside in
@@ -151,7 +151,7 @@ first_pid_here s calls l h inside =
       | inr past ↦ absurd (omega (arith, past.1))
     ]
 
-pub first_pid_past : (s : StoreState) (calls : List Command) (l : ℕ) → StandsAfter s calls → length s.lists ≤ l
+pub first_pid_past : (s : StoreState) (calls : List Command) (l : ℕ) → StoreStandsAfter s calls → length s.lists ≤ l
     → first_pid_after calls l ≡ None
 first_pid_past s calls l h past =
     let short : list_count calls ≤ l = rw (count_stands s calls h) at past in
@@ -190,14 +190,14 @@ room s l store inside =
     omega (arith, own, sum_by_more_le odts_of s.lists l fresh_state inside, store.odts)
 
 -- a list that is there and ready
-pub ready_stands : (s : StoreState) (calls : List Command) (l : ℕ) → StandsAfter s calls → l < length s.lists
+pub ready_stands : (s : StoreState) (calls : List Command) (l : ℕ) → StoreStandsAfter s calls → l < length s.lists
     → list_is_ready s.profile calls l ≡ is_ready s.profile.image_len (conf_of s l)
 ready_stands s calls l h inside =
     let here : l < list_count calls = rw (count_stands s calls h) at inside in
     ap (is_ready s.profile.image_len) (sym (conf_stands s calls l h here))
 
 -- what is set of a list that is there
-pub conf_after : (s : StoreState) (calls : List Command) (l : ℕ) → StandsAfter s calls → l < length s.lists → conf_of s l ≡ configuration calls l
+pub conf_after : (s : StoreState) (calls : List Command) (l : ℕ) → StoreStandsAfter s calls → l < length s.lists → conf_of s l ≡ configuration calls l
 conf_after s calls l h inside =
     let here : l < list_count calls = rw (count_stands s calls h) at inside in
     conf_stands s calls l h here
@@ -206,13 +206,13 @@ conf_after s calls l h inside =
 abbrev pub IsReadyAt : StoreState → ℕ → Type 0
 IsReadyAt s l = (l < length s.lists) × (is_ready s.profile.image_len (conf_of s l) ≡ true)
 
-pub ready_after : (s : StoreState) (calls : List Command) (l : ℕ) → StandsAfter s calls → IsReadyAt s l
+pub ready_after : (s : StoreState) (calls : List Command) (l : ℕ) → StoreStandsAfter s calls → IsReadyAt s l
     → (is_list calls l && list_is_ready s.profile calls l) ≡ true
 ready_after s calls l h ready =
     let there : is_list calls l ≡ true = is_list_stands s calls l h ∙ below_is l (length s.lists) ready.0 in
     rw (there, ready_stands s calls l h ready.0) ready.1
 
-pub ready_before : (s : StoreState) (calls : List Command) (l : ℕ) → StandsAfter s calls
+pub ready_before : (s : StoreState) (calls : List Command) (l : ℕ) → StoreStandsAfter s calls
     → (is_list calls l && list_is_ready s.profile calls l) ≡ true → IsReadyAt s l
 ready_before s calls l h both =
     let there : shows_list s l ≡ true = sym (is_list_stands s calls l h) ∙ and_left _ _ both in

@@ -7,6 +7,6 @@ pub mod Running
 pub mod Configuration
 pub mod Answer
 pub mod Standing
-pub mod Effects
 pub mod Commands
 pub mod Replies
+pub mod Inner

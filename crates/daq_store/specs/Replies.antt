@@ -9,7 +9,7 @@ use Rattle.daq_store.specs.declared.reply.Reply.{Reply}
 use Rattle.daq_store.specs.declared.reply.Reply.TheVariants.{Positive, Started, Error}
 use Rattle.daq_store.specs.Calls.{Profile}
 use Rattle.daq_store.specs.Answer.{answer, calls_after}
-use Rattle.daq_store.specs.Standing.{Accepts, StandsAfter, StoreState}
+use Rattle.daq_store.specs.Standing.{StoreStandsAfter, StoreState}
 use Rattle.daq_store.specs.Commands.{command}
 
 -- the bytes of a reply: RES is FF, to START_STOP_DAQ_LIST with FIRST_PID behind it; ERR is FE and
@@ -30,17 +30,9 @@ Allocates _ = ⊥
 -- new store stands after these calls and, if it was accepted, the call
 abbrev pub CarriesOut : StoreState → StoreState → Command → Reply → Type 0
 CarriesOut old new call reply =
-    (calls : List Command) → StandsAfter old calls
-    → (reply ≡ answer old.profile calls call) × StandsAfter new (calls_after old.profile calls call)
-
--- a reply that is no error
-abbrev pub IsPositive : Reply → Type 0
-IsPositive (Error code) = ⊥
-IsPositive _ = Unit {0}
-
--- the call was accepted with this reply
-abbrev pub IsAccepted : StoreState → StoreState → Command → Reply → Type 0
-IsAccepted old new call reply = IsPositive reply × Accepts old new call reply
+    (calls : List Command) → StoreStandsAfter old calls
+    → (reply ≡ answer old.profile calls call)
+    × StoreStandsAfter new (calls_after old.profile calls call)
 
 -- where the reply is an error, nothing changed
 abbrev pub KeepsOnError : StoreState → StoreState → Reply → Type 0

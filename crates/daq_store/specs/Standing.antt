@@ -4,7 +4,6 @@ use Rattle.std.specs.Prelude.{sum_by, take, slice_get, unwrap_or, option_map, If
 use Rattle.std.specs.Prelude.{Some, None}
 use Rattle.xcp_base.specs.declared.limits.TheConstants.{MAX_CHANNELS, MAX_IMAGE_LEN, MAX_LISTS}
 use Rattle.xcp_base.specs.declared.limits.TheConstants.{MAX_ODTS_IN_ALL}
-use Rattle.xcp_base.specs.declared.err_code.ErrCode.{ErrCode}
 use Rattle.daq_store.specs.declared.command.Command.{Command}
 use Rattle.daq_store.specs.declared.phase.Phase.{Phase}
 use Rattle.daq_store.specs.declared.refusal.Refusal.{Refusal}
@@ -37,7 +36,7 @@ list_after calls l =
     }
 
 -- the store shows what is read off the calls
-pub record StandsAfter (s : StoreState) (calls : List Command) : Type 0 where
+pub record StoreStandsAfter (s : StoreState) (calls : List Command) : Type 0 where
   pub lists : s.lists ≡ map (list_after calls) (numbers_below (list_count calls))
   pub pointer : s.pointer ≡ pointer calls
   pub phase : s.phase ≡ phase_of calls
@@ -46,23 +45,18 @@ pub record StandsAfter (s : StoreState) (calls : List Command) : Type 0 where
 -- new store stands after these calls and the call
 abbrev pub Accepts : StoreState → StoreState → Command → Reply → Type 0
 Accepts old new call reply =
-    (calls : List Command) → StandsAfter old calls
-    → (answer old.profile calls call ≡ reply) × StandsAfter new (and_then calls call)
+    (calls : List Command) → StoreStandsAfter old calls
+    → (answer old.profile calls call ≡ reply) × StoreStandsAfter new (and_then calls call)
 
 -- after all calls that the store stands after, every check of the call passes
 abbrev pub PassesAll : StoreState → Command → Type 0
 PassesAll s call =
-    (calls : List Command) → StandsAfter s calls → fault_of s.profile calls call ≡ None
-
--- after all calls that the store stands after, this error is the first check of the call that fails
-abbrev pub FailsBy : StoreState → Command → ErrCode → Type 0
-FailsBy s call code =
-    (calls : List Command) → StandsAfter s calls → fault_of s.profile calls call ≡ Some code
+    (calls : List Command) → StoreStandsAfter s calls → fault_of s.profile calls call ≡ None
 
 -- an error is the answer to the call; want of memory comes only where every check passes
 abbrev pub Refuses : StoreState → Command → Refusal → Type 0
 Refuses s call (Code code) =
-    (calls : List Command) → StandsAfter s calls → answer s.profile calls call ≡ Error code
+    (calls : List Command) → StoreStandsAfter s calls → answer s.profile calls call ≡ Error code
 Refuses s call Memory = PassesAll s call
 
 -- what is set of list l; what a fresh list has where there is no list l

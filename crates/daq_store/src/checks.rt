@@ -5,10 +5,12 @@ ghost use Rattle.std.specs.Prelude.{◌≡◌, ◌+◌, ◌<◌, ◌≤◌, ◌&
 ghost use Rattle.std.specs.Prelude.{length, Some};
 ghost use Rattle.std.specs.List.{list_any};
 ghost use Rattle.daq_store.specs.Answer.{is_bad_entry};
-ghost use Rattle.daq_store.specs.Effects.{some_runs, shows_list, shows_odt, shows_entry};
-ghost use Rattle.daq_store.specs.Effects.{other_odts, shows_too_many, shows_unready, is_unready};
-ghost use Rattle.daq_store.specs.Effects.{is_bad_target, is_bad_mode, allocation_fault, Passes};
-ghost use Rattle.daq_store.specs.Effects.{Fails};
+ghost use Rattle.daq_store.specs.Inner.Effects.{some_runs, shows_list, shows_odt, shows_entry};
+ghost use Rattle.daq_store.specs.Inner.Effects.{other_odts, shows_too_many, shows_unready};
+ghost use Rattle.daq_store.specs.Inner.Effects.{is_unready};
+ghost use Rattle.daq_store.specs.Inner.Effects.{is_bad_target, is_bad_mode, allocation_fault};
+ghost use Rattle.daq_store.specs.Inner.Effects.{Passes};
+ghost use Rattle.daq_store.specs.Inner.Effects.{Fails};
 
 use crate::command::Command;
 use crate::list_state::{SELECT, START};

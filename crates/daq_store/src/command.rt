@@ -1,11 +1,12 @@
 //! The commands that set DAQ lists (ASAM MCD-1 XCP, protocol layer, data acquisition): how they are
 //! read from packets, and carried out.
 
-ghost use Rattle.std.specs.Prelude.{◌≡◌, ◌↔◌, IfOk, IfErr, OnErr};
+ghost use Rattle.std.specs.Prelude.{◌≡◌, ◌↔◌, IfOk, IfErr, OnErr, OnOk};
 ghost use Rattle.std.specs.Result.{result_err};
-ghost use Rattle.daq_store.specs.Commands.{IsPacketOf, command, packet_fault};
-ghost use Rattle.daq_store.specs.Replies.{Allocates, CarriesOut, IsAccepted, KeepsOnError};
-ghost use Rattle.daq_store.specs.Standing.{PassesAll, Refuses};
+ghost use Rattle.daq_store.specs.Commands.{IsPacketOf, command, packet_fault, word};
+ghost use Rattle.daq_store.specs.Inner.Accepted.{IsAccepted, IsPlain};
+ghost use Rattle.daq_store.specs.Replies.{Allocates, CarriesOut, KeepsOnError};
+ghost use Rattle.daq_store.specs.Standing.{Accepts, PassesAll, Refuses};
 
 use crate::refusal::{NoMemory, Refusal};
 use crate::reply::Reply;
@@ -83,44 +84,49 @@ fn fields_of(packet: &[u8]) -> Result<Command, ErrCode>
 {
     match packet {
         [0xD6, ..] => Ok(Command::FreeDaq),
-        [0xD5, _, n0, n1, ..] => Ok(Command::AllocDaq {
-            count: u16::from_le_bytes([*n0, *n1]),
-        }),
-        [0xD4, _, l0, l1, count, ..] => Ok(Command::AllocOdt {
-            list: u16::from_le_bytes([*l0, *l1]),
+        [0xD5, _, a, b, ..] => Ok(Command::AllocDaq { count: word(a, b) }),
+        [0xD4, _, a, b, count, ..] => Ok(Command::AllocOdt {
+            list: word(a, b),
             count: *count,
         }),
-        [0xD3, _, l0, l1, odt, count, ..] => Ok(Command::AllocOdtEntry {
-            list: u16::from_le_bytes([*l0, *l1]),
+        [0xD3, _, a, b, odt, count, ..] => Ok(Command::AllocOdtEntry {
+            list: word(a, b),
             odt: *odt,
             count: *count,
         }),
-        [0xE2, _, l0, l1, odt, entry, ..] => Ok(Command::SetDaqPtr {
-            list: u16::from_le_bytes([*l0, *l1]),
+        [0xE2, _, a, b, odt, entry, ..] => Ok(Command::SetDaqPtr {
+            list: word(a, b),
             odt: *odt,
             entry: *entry,
         }),
-        [0xE1, bit, size, ext, a0, a1, a2, a3, ..] => Ok(Command::WriteDaq {
+        [0xE1, bit, size, ext, a, b, c, d, ..] => Ok(Command::WriteDaq {
             bit: *bit,
             size: *size,
             ext: *ext,
-            addr: u32::from_le_bytes([*a0, *a1, *a2, *a3]),
+            addr: u32::from_le_bytes([*a, *b, *c, *d]),
         }),
-        [0xE0, mode, l0, l1, c0, c1, prescaler, priority, ..] => Ok(Command::SetDaqListMode {
+        [0xE0, mode, a, b, c, d, prescaler, priority, ..] => Ok(Command::SetDaqListMode {
             mode: *mode,
-            list: u16::from_le_bytes([*l0, *l1]),
-            channel: u16::from_le_bytes([*c0, *c1]),
+            list: word(a, b),
+            channel: word(c, d),
             prescaler: *prescaler,
             priority: *priority,
         }),
-        [0xDE, mode, l0, l1, ..] => Ok(Command::StartStopDaqList {
+        [0xDE, mode, a, b, ..] => Ok(Command::StartStopDaqList {
             mode: *mode,
-            list: u16::from_le_bytes([*l0, *l1]),
+            list: word(a, b),
         }),
         [0xDD, mode, ..] => Ok(Command::StartStopSynch { mode: *mode }),
         [] | [0xD3..=0xD5 | 0xDD..=0xDE | 0xE0..=0xE2, ..] => Err(ErrCode::CmdSyntax),
         _ => Err(ErrCode::CmdUnknown),
     }
+}
+
+/// The WORD that stands in two bytes.
+fn word(low: &u8, high: &u8) -> u16
+    ensures { result ≡ word low.now high.now }
+{
+    u16::from_le_bytes([*low, *high])
 }
 
 /// Carries a command out by the store's call of its name, and answers it. Want of memory is
@@ -132,7 +138,7 @@ pub fn carry_out(store: &mut Store, command: Command) -> Result<Reply, NoMemory>
     ensures no_memory { OnErr result (Allocates command × PassesAll store.old command) }
     ensures unchanged { OnErr result (store.new ≡ store.old) }
 
-    ensures profile { store.new.profile ≡ store.old.profile }
+    ensures profile_stays { store.new.profile ≡ store.old.profile }
 {
     match call(store, command) {
         Ok(reply) => Ok(reply),
@@ -147,55 +153,52 @@ fn call(store: &mut Store, command: Command) -> Result<Reply, Refusal>
     ensures refused { IfErr result (Refuses store.old command) }
     ensures memory { result ≡ Err Refusal.Memory → Allocates command }
     ensures unchanged { OnErr result (store.new ≡ store.old) }
-    ensures profile { store.new.profile ≡ store.old.profile }
+    ensures profile_stays { store.new.profile ≡ store.old.profile }
+{
+    match command {
+        Command::StartStopDaqList { mode, list } => {
+            let first_pid = store.start_stop(mode, list)?;
+            Ok(Reply::Started { first_pid })
+        }
+        _ => {
+            call_plainly(store, command)?;
+            Ok(Reply::Positive)
+        }
+    }
+}
+
+/// Makes the store's call with the values of a command whose positive reply has nothing more.
+fn call_plainly(store: &mut Store, command: Command) -> Result<(), Refusal>
+    requires { IsPlain command }
+    ensures accepted { OnOk result (Accepts store.old store.new command Reply.Positive) }
+    ensures refused { IfErr result (Refuses store.old command) }
+    ensures memory { result ≡ Err Refusal.Memory → Allocates command }
+    ensures unchanged { OnErr result (store.new ≡ store.old) }
+    ensures profile_stays { store.new.profile ≡ store.old.profile }
 {
     match command {
         Command::FreeDaq => {
             store.free_daq();
-            Ok(Reply::Positive)
+            Ok(())
         }
-        Command::AllocDaq { count } => {
-            store.alloc_daq(count)?;
-            Ok(Reply::Positive)
-        }
-        Command::AllocOdt { list, count } => {
-            store.alloc_odt(list, count)?;
-            Ok(Reply::Positive)
-        }
-        Command::AllocOdtEntry { list, odt, count } => {
-            store.alloc_odt_entry(list, odt, count)?;
-            Ok(Reply::Positive)
-        }
-        Command::SetDaqPtr { list, odt, entry } => {
-            store.set_ptr(list, odt, entry)?;
-            Ok(Reply::Positive)
-        }
+        Command::AllocDaq { count } => store.alloc_daq(count),
+        Command::AllocOdt { list, count } => store.alloc_odt(list, count),
+        Command::AllocOdtEntry { list, odt, count } => store.alloc_odt_entry(list, odt, count),
+        Command::SetDaqPtr { list, odt, entry } => store.set_ptr(list, odt, entry),
         Command::WriteDaq {
             bit,
             size,
             ext,
             addr,
-        } => {
-            store.write(bit, size, ext, addr)?;
-            Ok(Reply::Positive)
-        }
+        } => store.write(bit, size, ext, addr),
         Command::SetDaqListMode {
             mode,
             list,
             channel,
             prescaler,
             priority,
-        } => {
-            store.set_mode(mode, list, channel, prescaler, priority)?;
-            Ok(Reply::Positive)
-        }
-        Command::StartStopDaqList { mode, list } => {
-            let first_pid = store.start_stop(mode, list)?;
-            Ok(Reply::Started { first_pid })
-        }
-        Command::StartStopSynch { mode } => {
-            store.synch(mode)?;
-            Ok(Reply::Positive)
-        }
+        } => store.set_mode(mode, list, channel, prescaler, priority),
+        Command::StartStopSynch { mode } => store.synch(mode),
+        Command::StartStopDaqList { .. } => unreachable!(),
     }
 }

@@ -4,9 +4,11 @@ ghost use Rattle.std.specs.Prelude.{◌≡◌, ◌+◌, ◌<◌, ◌≤◌, ◌&
 ghost use Rattle.std.specs.Prelude.{length, map, nat_lt, if◌then◌else◌};
 ghost use Rattle.std.specs.List.{list_any};
 ghost use Rattle.daq_store.specs.Configuration.{IsMode};
-ghost use Rattle.daq_store.specs.Effects.{some_runs, shows_odt, shows_entry, shows_unready};
-ghost use Rattle.daq_store.specs.Effects.{is_unready, other_odts, lists_put, odts_put, entries_put};
-ghost use Rattle.daq_store.specs.Effects.{entry_put, mode_put, start_stop_put, synch_put, synched};
+ghost use Rattle.daq_store.specs.Inner.Effects.{some_runs, shows_odt, shows_entry, shows_unready};
+ghost use Rattle.daq_store.specs.Inner.Effects.{is_unready, other_odts, lists_put, odts_put};
+ghost use Rattle.daq_store.specs.Inner.Effects.{entries_put};
+ghost use Rattle.daq_store.specs.Inner.Effects.{entry_put, mode_put, start_stop_put, synch_put};
+ghost use Rattle.daq_store.specs.Inner.Effects.{synched};
 
 use crate::entry::Entry;
 use crate::list_state::{ListState, fresh_lists};

@@ -1,5 +1,5 @@
 ghost use Rattle.std.specs.Prelude.{◌≡◌, IfOk, replicate};
-ghost use Rattle.daq_store.specs.Effects.{fresh_state, start_stopped, synched};
+ghost use Rattle.daq_store.specs.Inner.Effects.{fresh_state, start_stopped, synched};
 
 use crate::list_conf::ListConf;
 use std::alloc::{AllocError, Global};

@@ -13,7 +13,8 @@ use crate::store::Store;
 use xcp_base::limits::{MAX_CHANNELS, MAX_IMAGE_LEN, MAX_LISTS, MAX_ODTS_IN_ALL};
 
 impl Store {
-    ghost use Rattle.daq_store.specs.Standing.{StandsAfter, conf_of, first_pid_of, first_pid_after};
+    ghost use Rattle.daq_store.specs.Standing.{StoreStandsAfter, conf_of, first_pid_of};
+    ghost use Rattle.daq_store.specs.Standing.{first_pid_after};
     ghost use Rattle.daq_store.specs.Standing.{shows_running, shows_selected};
 
     /// The number of event channels.
@@ -36,7 +37,7 @@ impl Store {
     pub fn lists(&self) -> u16
         ensures value { result ≡ length self.now.lists }
         ensures limit { result ≤ MAX_LISTS }
-        ensures after { (calls : List Command) → StandsAfter self.now calls
+        ensures after { (calls : List Command) → StoreStandsAfter self.now calls
             → result ≡ list_count calls }
     {
         self.lists.len() as u16
@@ -49,7 +50,7 @@ impl Store {
         ensures value { IfSome result (λ pid. pid ≡ first_pid_of self.now list) }
         ensures room { IfSome result
             (λ pid. pid + length (conf_of self.now list).odts ≤ MAX_ODTS_IN_ALL) }
-        ensures after { (calls : List Command) → StandsAfter self.now calls
+        ensures after { (calls : List Command) → StoreStandsAfter self.now calls
             → result ≡ first_pid_after calls list }
     {
         let list = list as usize;
@@ -64,7 +65,7 @@ impl Store {
         ensures value { result ≡ shows_running self.now list }
         ensures ready { IsTrue result
             → is_ready self.now.profile.image_len (conf_of self.now list) ≡ true }
-        ensures after { (calls : List Command) → StandsAfter self.now calls
+        ensures after { (calls : List Command) → StoreStandsAfter self.now calls
             → result ≡ is_active calls list }
     {
         match self.lists.get(list as usize) {
@@ -76,7 +77,7 @@ impl Store {
     /// Whether a DAQ list is selected; not where there is no such list.
     pub fn selected(&self, list: u16) -> bool
         ensures value { result ≡ shows_selected self.now list }
-        ensures after { (calls : List Command) → StandsAfter self.now calls
+        ensures after { (calls : List Command) → StoreStandsAfter self.now calls
             → result ≡ is_chosen calls list }
     {
         match self.lists.get(list as usize) {
@@ -88,7 +89,7 @@ impl Store {
     /// The DAQ pointer, if it is defined: list, ODT and entry.
     pub fn pointer(&self) -> Option<(u16, u8, u8)>
         ensures value { result ≡ self.now.pointer }
-        ensures after { (calls : List Command) → StandsAfter self.now calls
+        ensures after { (calls : List Command) → StoreStandsAfter self.now calls
             → result ≡ pointer calls }
     {
         self.pointer
@@ -99,10 +100,10 @@ impl Store {
         ensures ready { IsSome result ↔ ((list < length self.now.lists)
             × (is_ready self.now.profile.image_len (conf_of self.now list) ≡ true)) }
         ensures value { IfSome result (λ conf. conf.now ≡ conf_of self.now list) }
-        ensures ready_after { (calls : List Command) → StandsAfter self.now calls
+        ensures ready_after { (calls : List Command) → StoreStandsAfter self.now calls
             → IsSome result
             ↔ ((is_list calls list && list_is_ready self.now.profile calls list) ≡ true) }
-        ensures value_after { (calls : List Command) → StandsAfter self.now calls
+        ensures value_after { (calls : List Command) → StoreStandsAfter self.now calls
             → IfSome result (λ conf. conf.now ≡ configuration calls list) }
     {
         let list = self.lists.get(list as usize)?;

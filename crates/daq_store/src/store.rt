@@ -48,7 +48,7 @@ impl Model for Store {
 }
 
 impl Store {
-    ghost use Rattle.daq_store.specs.Standing.{StandsAfter, Accepts, Refuses};
+    ghost use Rattle.daq_store.specs.Standing.{StoreStandsAfter, Accepts, Refuses};
 
     /// A store without lists, as after FREE_DAQ, for 1 to 8 event channels and images of 1 to 4096
     /// bytes. It takes no memory; the allocator is kept for the three allocations.
@@ -57,7 +57,7 @@ impl Store {
             × (1 ≤ image_len) × (image_len ≤ MAX_IMAGE_LEN)) }
         ensures profile { IfOk result
             (λ s. s.profile ≡ record { channels = channels; image_len = image_len }) }
-        ensures fresh { IfOk result (λ s. StandsAfter s []) }
+        ensures fresh { IfOk result (λ s. StoreStandsAfter s []) }
     {
         if channels == 0 || channels > MAX_CHANNELS {
             return Err(BadLimits);
@@ -77,8 +77,8 @@ impl Store {
 
     /// FREE_DAQ: gives up all DAQ lists, also those that run (own); the pointer is undefined.
     pub fn free_daq(&mut self)
-        ensures fresh { StandsAfter self.new [] }
-        ensures profile { self.new.profile ≡ self.old.profile }
+        ensures fresh { StoreStandsAfter self.new [] }
+        ensures profile_stays { self.new.profile ≡ self.old.profile }
     {
         self.lists = Vec::new(self.alloc);
         self.pointer = None;
@@ -94,7 +94,7 @@ impl Store {
             (Accepts self.old self.new (Command.AllocDaq count) Reply.Positive) }
         ensures refused { IfErr result (Refuses self.old (Command.AllocDaq count)) }
         ensures unchanged { OnErr result (self.new ≡ self.old) }
-        ensures profile { self.new.profile ≡ self.old.profile }
+        ensures profile_stays { self.new.profile ≡ self.old.profile }
     {
         self.check_alloc_daq(count)?;
         self.put_lists(count)?;
@@ -112,7 +112,7 @@ impl Store {
             (Accepts self.old self.new (Command.AllocOdt list count) Reply.Positive) }
         ensures refused { IfErr result (Refuses self.old (Command.AllocOdt list count)) }
         ensures unchanged { OnErr result (self.new ≡ self.old) }
-        ensures profile { self.new.profile ≡ self.old.profile }
+        ensures profile_stays { self.new.profile ≡ self.old.profile }
     {
         self.check_alloc_odt(list, count)?;
         self.put_odts(list, count)?;
@@ -130,7 +130,7 @@ impl Store {
             (Accepts self.old self.new (Command.AllocOdtEntry list odt count) Reply.Positive) }
         ensures refused { IfErr result (Refuses self.old (Command.AllocOdtEntry list odt count)) }
         ensures unchanged { OnErr result (self.new ≡ self.old) }
-        ensures profile { self.new.profile ≡ self.old.profile }
+        ensures profile_stays { self.new.profile ≡ self.old.profile }
     {
         self.check_alloc_odt_entry(list, odt, count)?;
         self.put_entries(list, odt, count)?;
@@ -147,7 +147,7 @@ impl Store {
         ensures refused { IfErr result (Refuses self.old (Command.SetDaqPtr list odt entry)) }
         ensures memory { result ≢ Err Refusal.Memory }
         ensures unchanged { OnErr result (self.new ≡ self.old) }
-        ensures profile { self.new.profile ≡ self.old.profile }
+        ensures profile_stays { self.new.profile ≡ self.old.profile }
     {
         self.check_set_ptr(list, odt, entry)?;
         self.put_pointer(list, odt, entry);
@@ -166,7 +166,7 @@ impl Store {
         ensures refused { IfErr result (Refuses self.old (Command.WriteDaq bit size ext addr)) }
         ensures memory { result ≢ Err Refusal.Memory }
         ensures unchanged { OnErr result (self.new ≡ self.old) }
-        ensures profile { self.new.profile ≡ self.old.profile }
+        ensures profile_stays { self.new.profile ≡ self.old.profile }
     {
         let (list, odt, entry) = self.check_write(bit, size, ext, addr)?;
         self.put_entry(
@@ -200,7 +200,7 @@ impl Store {
             (Command.SetDaqListMode mode list channel prescaler priority)) }
         ensures memory { result ≢ Err Refusal.Memory }
         ensures unchanged { OnErr result (self.new ≡ self.old) }
-        ensures profile { self.new.profile ≡ self.old.profile }
+        ensures profile_stays { self.new.profile ≡ self.old.profile }
     {
         self.check_set_mode(mode, list, channel, prescaler, priority)?;
         self.put_mode(
@@ -227,7 +227,7 @@ impl Store {
         ensures refused { IfErr result (Refuses self.old (Command.StartStopDaqList mode list)) }
         ensures memory { result ≢ Err Refusal.Memory }
         ensures unchanged { OnErr result (self.new ≡ self.old) }
-        ensures profile { self.new.profile ≡ self.old.profile }
+        ensures profile_stays { self.new.profile ≡ self.old.profile }
     {
         self.check_start_stop(mode, list)?;
         let first_pid = self.odts_before(list as usize) as u8;
@@ -246,7 +246,7 @@ impl Store {
         ensures refused { IfErr result (Refuses self.old (Command.StartStopSynch mode)) }
         ensures memory { result ≢ Err Refusal.Memory }
         ensures unchanged { OnErr result (self.new ≡ self.old) }
-        ensures profile { self.new.profile ≡ self.old.profile }
+        ensures profile_stays { self.new.profile ≡ self.old.profile }
     {
         self.check_synch(mode)?;
         self.put_synch(mode);

@@ -73,18 +73,18 @@ impl<A: Allocator> Out for FuseOut<A> {
         ensures least { IfOk result (λ n. n ≡ fuse_takes self.old bytes.now) }
         ensures taken { IfOk result
             (λ n. self.new.contents ≡ self.old.contents ++ take n bytes.now) }
-        ensures well { OnOk result (self.new.failures ≡ self.old.failures) }
+        ensures failures_stay { OnOk result (self.new.failures ≡ self.old.failures) }
         ensures stalled { IfOk result
             (λ n. self.new.stalls ≡ counted (is_stall bytes.now n) self.old.stalls) }
 
         ensures burnt { length self.old.contents ≡ self.old.good → IsErr result }
         ensures no_room { OnErr result (length self.old.contents < self.old.good
             → self.old.capacity < length self.old.contents + fuse_takes self.old bytes.now) }
-        ensures none_taken { OnErr result (self.new.contents ≡ self.old.contents) }
+        ensures contents_stay { OnErr result (self.new.contents ≡ self.old.contents) }
         ensures failed { OnErr result (self.new.failures ≡ raised self.old.failures) }
-        ensures no_stall { OnErr result (self.new.stalls ≡ self.old.stalls) }
+        ensures stalls_stay { OnErr result (self.new.stalls ≡ self.old.stalls) }
 
-        ensures same { (self.new.chunk ≡ self.old.chunk) × (self.new.good ≡ self.old.good) }
+        ensures limits_stay { (self.new.chunk ≡ self.old.chunk) × (self.new.good ≡ self.old.good) }
     {
         let left = self.good - self.bytes.len();
         let taken = bytes.len().min(self.chunk).min(left);

@@ -24,11 +24,11 @@ pub trait Out {
         ensures within { IfOk result (λ n. n ≤ length bytes.now) }
         ensures taken { IfOk result
             (λ n. contents self.new ≡ contents self.old ++ take n bytes.now) }
-        ensures well { IfOk result (λ _. failures self.new ≡ failures self.old) }
+        ensures failures_stay { IfOk result (λ _. failures self.new ≡ failures self.old) }
         ensures stalled { IfOk result
             (λ n. stalls self.new ≡ counted (is_stall bytes.now n) (stalls self.old)) }
 
-        ensures none_taken { OnErr result (contents self.new ≡ contents self.old) }
+        ensures contents_stay { OnErr result (contents self.new ≡ contents self.old) }
         ensures failed { OnErr result (failures self.new ≡ raised (failures self.old)) }
-        ensures no_stall { OnErr result (stalls self.new ≡ stalls self.old) };
+        ensures stalls_stay { OnErr result (stalls self.new ≡ stalls self.old) };
 }

@@ -53,13 +53,13 @@ impl<W: Write> Out for StdOut<W> {
         ensures within { IfOk result (λ n. n ≤ length bytes.now) }
         ensures taken { IfOk result (λ n.
             (told self.new).contents ≡ (told self.old).contents ++ take n bytes.now) }
-        ensures well { OnOk result ((told self.new).failures ≡ (told self.old).failures) }
+        ensures failures_stay { OnOk result ((told self.new).failures ≡ (told self.old).failures) }
         ensures stalled { IfOk result (λ n.
             (told self.new).stalls ≡ counted (is_stall bytes.now n) (told self.old).stalls) }
 
-        ensures none_taken { OnErr result ((told self.new).contents ≡ (told self.old).contents) }
+        ensures contents_stay { OnErr result ((told self.new).contents ≡ (told self.old).contents) }
         ensures failed { OnErr result ((told self.new).failures ≡ raised (told self.old).failures) }
-        ensures no_stall { OnErr result ((told self.new).stalls ≡ (told self.old).stalls) }
+        ensures stalls_stay { OnErr result ((told self.new).stalls ≡ (told self.old).stalls) }
 
         ensures inner { WriteAppends
             (W.contents (inner_of self.old)) (W.contents (inner_of self.new)) result bytes.now }

@@ -58,11 +58,11 @@ impl<A: Allocator> Out for VecOut<A> {
     fn put(&mut self, bytes: &[u8]) -> Result<usize, OutFault>
         ensures all { IfOk result (λ n. n ≡ length bytes.now) }
         ensures taken { OnOk result (self.new.contents ≡ self.old.contents ++ bytes.now) }
-        ensures well { OnOk result (self.new.failures ≡ self.old.failures) }
+        ensures failures_stay { OnOk result (self.new.failures ≡ self.old.failures) }
 
         ensures no_room { OnErr result
             (self.old.capacity < length self.old.contents + length bytes.now) }
-        ensures none_taken { OnErr result (self.new.contents ≡ self.old.contents) }
+        ensures contents_stay { OnErr result (self.new.contents ≡ self.old.contents) }
         ensures failed { OnErr result (self.new.failures ≡ raised self.old.failures) }
     {
         if self.bytes.extend_from_slice(bytes).is_err() {

@@ -4,13 +4,13 @@ use Rattle.std.proofs.lemmas.Grind.{common_steps}
 use Rattle.std.proofs.lemmas.List.Elements.{All-head, All-tail}
 use Rattle.std.specs.Prelude.{Some, slice_get}
 use Rattle.xcp_base.specs.Packets.{ArePackets, IsPacket}
-use Rattle.xcp_base.specs.Inner.{body_of, packets_in}
+use Rattle.xcp_base.specs.Inner.{body_of, packets_of_body}
 
 -- the packets of a body are those that it was made of
-pub packets_in-body_of : (qs : List (List ℕ)) → packets_in (length qs) (body_of qs) ≡ qs
-unfolding body_of packets_in
-packets_in-body_of [] = refl
-packets_in-body_of (q ∷ qs) = grind (arith, common_steps, packets_in-body_of qs)
+pub packets_of_body-body_of : (qs : List (List ℕ)) → packets_of_body (length qs) (body_of qs) ≡ qs
+unfolding body_of packets_of_body
+packets_of_body-body_of [] = refl
+packets_of_body-body_of (q ∷ qs) = grind (arith, common_steps, packets_of_body-body_of qs)
 
 pub body_of-append : (qs rs : List (List ℕ)) → body_of (qs ++ rs) ≡ body_of qs ++ body_of rs
 unfolding body_of
@@ -31,12 +31,12 @@ length-body_of (q ∷ qs) each =
     grind (arith, common_steps, length-body_of qs (All-tail IsPacket q qs each), fits)
 
 -- a packet written behind a body is read back as its last one
-pub packets_in-push : (body new : List ℕ) (n : ℕ) (q : List ℕ) → body ≡ body_of (packets_in n body) → length (packets_in n body) ≡ n → new ≡ body ++ length q ∷ q → packets_in (n + 1) new ≡ packets_in n body ++ q ∷ []
-packets_in-push body new n q whole count is =
-    let qs : List (List ℕ) = packets_in n body in
+pub packets_of_body-push : (body new : List ℕ) (n : ℕ) (q : List ℕ) → body ≡ body_of (packets_of_body n body) → length (packets_of_body n body) ≡ n → new ≡ body ++ length q ∷ q → packets_of_body (n + 1) new ≡ packets_of_body n body ++ q ∷ []
+packets_of_body-push body new n q whole count is =
+    let qs : List (List ℕ) = packets_of_body n body in
     let e : new ≡ body_of (qs ++ q ∷ []) = is ∙ ap (λ b. b ++ length q ∷ q) whole ∙ sym (body_of-push qs q) in
     let m : n + 1 ≡ length (qs ++ q ∷ []) = omega (arith, length-append qs (q ∷ []), count) in
-    ap (λ k. packets_in k new) m ∙ ap (packets_in (length (qs ++ q ∷ []))) e ∙ packets_in-body_of (qs ++ q ∷ [])
+    ap (λ k. packets_of_body k new) m ∙ ap (packets_of_body (length (qs ++ q ∷ []))) e ∙ packets_of_body-body_of (qs ++ q ∷ [])
 
 -- from packet i on a body begins with that packet
 pub body_of-drop : (qs : List (List ℕ)) (i : ℕ) → i < length qs → body_of (drop i qs) ≡ length (get_or qs i []) ∷ (get_or qs i [] ++ body_of (drop (i + 1) qs))

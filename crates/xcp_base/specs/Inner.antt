@@ -1,5 +1,5 @@
--- Inner: how `Packets` keeps its packets, one behind another in one body, each behind a byte that
--- has its length.
+-- What no public clause cites: how `Packets` keeps its packets, one behind another in one body,
+-- each behind a byte that has its length.
 use Rattle.std.specs.Prelude.{◌≡◌, ℕ, zero, suc, ◌+◌, ◌<◌, ◌≤◌, List, [], ◌∷◌, ◌++◌, length, take}
 use Rattle.std.specs.Prelude.{drop}
 use Rattle.xcp_base.specs.declared.limits.TheConstants.{MAX_ODTS}
@@ -12,14 +12,14 @@ body_of [] = []
 body_of (q ∷ qs) = length q ∷ q ++ body_of qs
 
 -- the first n packets of a body
-unfoldable pub packets_in : ℕ → List ℕ → List (List ℕ)
-packets_in zero bytes = []
-packets_in (suc n) [] = []
-packets_in (suc n) (len ∷ rest) = take len rest ∷ packets_in n (drop len rest)
+unfoldable pub packets_of_body : ℕ → List ℕ → List (List ℕ)
+packets_of_body zero bytes = []
+packets_of_body (suc n) [] = []
+packets_of_body (suc n) (len ∷ rest) = take len rest ∷ packets_of_body n (drop len rest)
 
 -- the packets that are kept
 abbrev pub packets_view : Inside → List (List ℕ)
-packets_view a = packets_in a.count a.body.items
+packets_view a = packets_of_body a.count a.body.items
 
 -- the length of the last packet of a body stands at this place, if there is a packet
 abbrev pub StandsAtLast : ℕ → List ℕ → List (List ℕ) → Type 0

@@ -46,4 +46,4 @@ pub const MAX_BYTE_RING: usize = 65536;
 pub const MAX_CONTROL_RING: usize = 64;
 
 /// The packets of a sample at their longest, each behind its length, in bytes.
-pub(crate) const MAX_BODY: usize = 520;
+pub(crate) const MAX_BODY: usize = MAX_ODTS * (1 + MAX_DTO);

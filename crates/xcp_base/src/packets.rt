@@ -36,7 +36,7 @@ impl Model for Packets {
 
 impl Packets {
     /// No packet.
-    #[tactic(auto, unfolding(crate::specs::Inner::packets_in, crate::specs::Inner::body_of))]
+    #[tactic(auto, unfolding(crate::specs::Inner::packets_of_body, crate::specs::Inner::body_of))]
     pub fn new() -> Packets
         ensures { result ≡ [] }
     {

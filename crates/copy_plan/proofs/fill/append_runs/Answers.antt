@@ -4,7 +4,7 @@ use Rattle.std.proofs.lemmas.List.Folds.{length-flat_map-take}
 use Rattle.xcp_base.specs.Packets.{last_packet, with_longer_last}
 use Rattle.xcp_base.proofs.LastPacketLemmas.{StaysAsLong, stays_as_long, with_longer_last-nil, with_longer_last-twice}
 use Rattle.copy_plan.specs.declared.runs.Run.{Run}
-use Rattle.copy_plan.specs.Joined.{copied}
+use Rattle.copy_plan.specs.Inner.Joined.{copied}
 use Rattle.copy_plan.proofs.JoinedLemmas.{copied-more}
 use Rattle.copy_plan.proofs.fill.append_runs.Goals as goal
 

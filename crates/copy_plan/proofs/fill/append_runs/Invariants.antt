@@ -1,6 +1,6 @@
 use Rattle.std.proofs.Common.{◌≡◌, take}
 use Rattle.xcp_base.specs.Packets.{with_longer_last}
-use Rattle.copy_plan.specs.Joined.{copied}
+use Rattle.copy_plan.specs.Inner.Joined.{copied}
 use Rattle.copy_plan.proofs.fill.append_runs.Given as goal
 
 -- the last packet is longer by what the runs so far copy

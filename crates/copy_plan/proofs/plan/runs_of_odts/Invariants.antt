@@ -1,6 +1,6 @@
 use Rattle.std.proofs.Common.{◌≡◌, map, take}
 use Rattle.copy_plan.specs.Config.{written_entries}
-use Rattle.copy_plan.specs.Joined.{joined_runs}
+use Rattle.copy_plan.specs.Inner.Joined.{joined_runs}
 use Rattle.copy_plan.proofs.plan.runs_of_odts.Given as goal
 
 -- the runs of the ODTs so far

@@ -1,5 +1,5 @@
 -- one list more is written
-use Rattle.daq_store.specs.Effects.{synched}
+use Rattle.daq_store.specs.Inner.Effects.{synched}
 use Rattle.std.proofs.lemmas.List.Edits.{map_over_more}
 use Rattle.daq_store.proofs.effects.synch_all.Goals as goal
 

@@ -1,6 +1,6 @@
 -- the lists so far are stopped or started, and the others as they were
 use Rattle.std.proofs.Common.{◌≡◌, ◌++◌, map, take, drop}
-use Rattle.daq_store.specs.Effects.{synched}
+use Rattle.daq_store.specs.Inner.Effects.{synched}
 use Rattle.daq_store.proofs.effects.synch_all.Given as goal
 
 abbrev pub invariant-loop-state : goal.invariant-loop-state

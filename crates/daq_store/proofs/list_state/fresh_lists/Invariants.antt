@@ -1,6 +1,6 @@
 -- so many fresh lists were pushed, within the room that was made for all
 use Rattle.std.proofs.Common.{◌≡◌, replicate, vec_len, vec_capacity}
-use Rattle.daq_store.specs.Effects.{fresh_state}
+use Rattle.daq_store.specs.Inner.Effects.{fresh_state}
 use Rattle.daq_store.proofs.list_state.fresh_lists.Given as goal
 
 abbrev pub invariant-loop : goal.invariant-loop

@@ -25,6 +25,6 @@ loop-done-preserved g c =
     record {
       within = next.0;
       taken = next.1;
-      failures = put.well ∙ old.failures;
+      failures = put.failures_stay ∙ old.failures;
       stalls = put.stalled ∙ (unstalled _ c.in-Ok.n _ c.in-Ok.n-test.1 ∙ old.stalls);
     }

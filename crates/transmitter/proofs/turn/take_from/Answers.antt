@@ -5,7 +5,7 @@ use Rattle.transmitter.proofs.turn.take_from.Goals as goal
 
 -- the end that was asked keeps its ring
 pub returns-clause-rings : goal.returns-clause-rings
-returns-clause-rings g c = map-set_same g.T.TakeEnd.ring c.args.ends.now.items c.args.c c.take.new.self c.index_mut.result.now (c.take.ensures.ring ∙ ap g.T.TakeEnd.ring c.index_mut.ensures.value)
+returns-clause-rings g c = map-set_same g.T.TakeEnd.ring c.args.ends.now.items c.args.c c.take.new.self c.index_mut.result.now (c.take.ensures.ring_stays ∙ ap g.T.TakeEnd.ring c.index_mut.ensures.value)
 
 -- and what it answers is what was taken
 pub returns-clause-takes : goal.returns-clause-takes

@@ -5,7 +5,7 @@ use Rattle.xcp_base.proofs.LastPacketLemmas.{last_packet-push, with_longer_last-
 use Rattle.copy_plan.specs.Config.{IsInside, odt}
 use Rattle.copy_plan.specs.Pids.{pid}
 use Rattle.copy_plan.specs.Packet.{elements, timestamp}
-use Rattle.copy_plan.specs.Joined.{copied}
+use Rattle.copy_plan.specs.Inner.Joined.{copied}
 use Rattle.copy_plan.proofs.JoinedLemmas.{copied-joined_runs, inside-joined_runs}
 use Rattle.copy_plan.proofs.PacketLemmas.{length-packet, packet-appended}
 use Rattle.copy_plan.proofs.plan.CopyPlan.append_packet.Goals as goal

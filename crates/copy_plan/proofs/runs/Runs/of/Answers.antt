@@ -3,7 +3,7 @@ use Rattle.daq_store.specs.declared.entry.Entry.{Entry}
 use Rattle.daq_store.specs.Configuration.{odt_entries}
 use Rattle.copy_plan.specs.declared.runs.Run.{Run}
 use Rattle.copy_plan.specs.Config.{OdtEntry, written_entries}
-use Rattle.copy_plan.specs.Joined.{joined_runs}
+use Rattle.copy_plan.specs.Inner.Joined.{joined_runs}
 use Rattle.copy_plan.proofs.WrittenLemmas.{shown-Some, written_entries-drop}
 use Rattle.copy_plan.proofs.JoinedLemmas.{one_apart, one_joined, apart_if, same_if}
 use Rattle.copy_plan.proofs.runs.Runs.of.Goals as goal

@@ -1,7 +1,7 @@
 use Rattle.std.proofs.Common.{◌≡◌, ◌++◌, drop}
 use Rattle.daq_store.specs.Configuration.{odt_entries}
 use Rattle.copy_plan.specs.Config.{written_entries}
-use Rattle.copy_plan.specs.Joined.{with_bytes, joined_runs}
+use Rattle.copy_plan.specs.Inner.Joined.{with_bytes, joined_runs}
 use Rattle.copy_plan.proofs.runs.Runs.of.Given as goal
 
 -- the runs so far, the bytes in hand and the entries to come are all

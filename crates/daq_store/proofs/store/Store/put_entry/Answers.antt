@@ -4,7 +4,7 @@ use Rattle.std.proofs.lemmas.List.{get_or_default}
 use Rattle.daq_store.specs.contracts.store.Store.{the_view}
 use Rattle.daq_store.specs.Configuration.{odt_entries}
 use Rattle.daq_store.specs.Standing.{conf_of}
-use Rattle.daq_store.specs.Effects.{fresh_state}
+use Rattle.daq_store.specs.Inner.Effects.{fresh_state}
 use Rattle.daq_store.proofs.TableLemmas.{below_from}
 use Rattle.daq_store.proofs.InvariantLemmas.{entry_keeps}
 use Rattle.daq_store.proofs.StandingLemmas.{conf_at, running_at, list_inside}

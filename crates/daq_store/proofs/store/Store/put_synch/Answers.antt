@@ -2,7 +2,7 @@
 use Rattle.std.proofs.Common.{◌≡◌, ◌++◌, take, drop, length, map, arith}
 use Rattle.std.proofs.lemmas.Grind.{common_steps}
 use Rattle.daq_store.specs.contracts.store.Store.{the_view}
-use Rattle.daq_store.specs.Effects.{synched}
+use Rattle.daq_store.specs.Inner.Effects.{synched}
 use Rattle.daq_store.proofs.InvariantLemmas.{synch_keeps}
 use Rattle.daq_store.proofs.store.Store.put_synch.Goals as goal
 

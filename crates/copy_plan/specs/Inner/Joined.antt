@@ -1,4 +1,4 @@
--- Inner: the runs of an ODT, which are its entries with neighbours joined, and what they copy.
+-- The runs of an ODT, which are its entries with neighbours joined, and what they copy.
 use Rattle.std.specs.Prelude.{ℕ, ◌+◌, ◌≤◌, ◌==◌, if◌then◌else◌, List, [], ◌∷◌, slice_range}
 use Rattle.std.specs.Prelude.{flat_map}
 use Rattle.copy_plan.specs.declared.runs.Run.{Run}

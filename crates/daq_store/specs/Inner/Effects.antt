@@ -1,4 +1,4 @@
--- Inner: what the private helpers of the store test and change. No public clause cites this file.
+-- What the private helpers of the store test and change.
 use Rattle.std.specs.Prelude.{◌≡◌, ℕ, ◌+◌, ◌-◌, ◌==◌, ◌&&◌, ◌||◌, not, nat_lt, Bool, false}
 use Rattle.std.specs.Prelude.{if◌then◌else◌, [], length, map, sum_by, slice_index_or, slice_set}
 use Rattle.std.specs.Prelude.{replicate, Option, Some, None, is_none}
@@ -28,8 +28,8 @@ abbrev pub fresh_state : ListState
 fresh_state = record { conf = fresh_conf; running = false; selected = false }
 
 -- the list at a place
-abbrev pub state_of : StoreState → ℕ → ListState
-state_of s l = slice_index_or s.lists l fresh_state
+abbrev pub list_at : StoreState → ℕ → ListState
+list_at s l = slice_index_or s.lists l fresh_state
 
 -- some list runs
 abbrev pub some_runs : StoreState → Bool
@@ -47,7 +47,7 @@ shows_entry s l k e = nat_lt e (length (odt_entries (conf_of s l) k))
 
 -- the ODTs of all lists but one
 abbrev pub other_odts : StoreState → ℕ → ℕ
-other_odts s l = sum_by odts_of s.lists - odts_of (state_of s l)
+other_odts s l = sum_by odts_of s.lists - odts_of (list_at s l)
 
 -- with n ODTs in list l, in place of those that it has, there would be too many
 abbrev pub shows_too_many : StoreState → ℕ → ℕ → Bool
@@ -71,9 +71,9 @@ abbrev pub is_bad_mode : ℕ → Bool
 is_bad_mode mode = not (mode == 0 || mode == 0x10)
 
 -- the pointer is defined, and its list runs
-abbrev pub runs_at : StoreState → Option (ℕ × ℕ × ℕ) → Bool
-runs_at s None = false
-runs_at s (Some p) = shows_running s p.0
+abbrev pub runs_at_pointer : StoreState → Option (ℕ × ℕ × ℕ) → Bool
+runs_at_pointer s None = false
+runs_at_pointer s (Some p) = shows_running s p.0
 
 -- the first two checks of an allocation, where its phase forbids it or not
 abbrev pub allocation_fault : StoreState → Bool → Option ErrCode
@@ -103,7 +103,7 @@ shown_fault s (SetDaqPtr list odt entry) =
     if shows_running s list then Some DaqActive
     else if not (shows_entry s list odt entry) then Some OutOfRange else None
 shown_fault s (WriteDaq bit size ext addr) =
-    if runs_at s s.pointer then Some DaqActive
+    if runs_at_pointer s s.pointer then Some DaqActive
     else if is_none s.pointer then Some Sequence
     else if is_bad_entry s.profile.image_len bit size ext addr then Some OutOfRange else None
 shown_fault s (SetDaqListMode mode list channel prescaler priority) =
@@ -166,7 +166,7 @@ synched mode x =
 abbrev pub odts_put : StoreState → ℕ → ℕ → StoreState
 odts_put s l n =
     record s {
-      lists = slice_set s.lists l (with_odts (state_of s l) n);
+      lists = slice_set s.lists l (with_odts (list_at s l) n);
       pointer = None;
       phase = phase.Odt;
     }
@@ -174,28 +174,28 @@ odts_put s l n =
 abbrev pub entries_put : StoreState → ℕ → ℕ → ℕ → StoreState
 entries_put s l k n =
     record s {
-      lists = slice_set s.lists l (with_entries (state_of s l) k n);
+      lists = slice_set s.lists l (with_entries (list_at s l) k n);
       pointer = None;
       phase = phase.Entry;
     }
 
 abbrev pub mode_put : StoreState → ℕ → Mode → StoreState
-mode_put s l mode = record s { lists = slice_set s.lists l (with_mode (state_of s l) mode) }
+mode_put s l mode = record s { lists = slice_set s.lists l (with_mode (list_at s l) mode) }
 
 abbrev pub start_stop_put : StoreState → ℕ → ℕ → StoreState
 start_stop_put s mode l =
-    record s { lists = slice_set s.lists l (start_stopped mode (state_of s l)) }
+    record s { lists = slice_set s.lists l (start_stopped mode (list_at s l)) }
 
 -- the next entry of the same ODT, if there is one
 abbrev pub next_place : StoreState → ℕ → ℕ → ℕ → Option (ℕ × ℕ × ℕ)
 next_place s l k e =
-    if nat_lt (e + 1) (length (odt_entries (state_of s l).conf k)) then Some (l, k, e + 1) else None
+    if nat_lt (e + 1) (length (odt_entries (list_at s l).conf k)) then Some (l, k, e + 1) else None
 
 -- the store with the entry at a place written, and the pointer moved on
 abbrev pub entry_put : StoreState → ℕ → ℕ → ℕ → Entry → StoreState
 entry_put s l k e entry =
     record s {
-      lists = slice_set s.lists l (with_entry (state_of s l) k e entry);
+      lists = slice_set s.lists l (with_entry (list_at s l) k e entry);
       pointer = next_place s l k e;
     }
 

@@ -1,8 +1,8 @@
--- Inner: how `CopyPlan` keeps its configuration: the runs in place of the entries.
+-- How `CopyPlan` keeps its configuration: the runs in place of the entries.
 use Rattle.std.specs.Prelude.{◌≡◌, map}
 use Rattle.copy_plan.specs.declared.plan.CopyPlan.TheInside.{Inside}
 use Rattle.copy_plan.specs.Config.{ListPlan, IsPlan, written_entries}
-use Rattle.copy_plan.specs.Joined.{joined_runs}
+use Rattle.copy_plan.specs.Inner.Joined.{joined_runs}
 
 -- the configuration
 abbrev pub plan_view : Inside → ListPlan

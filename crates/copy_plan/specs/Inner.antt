@@ -1,0 +1,4 @@
+-- What no public clause cites.
+pub mod Filled
+pub mod Joined
+pub mod Kept
