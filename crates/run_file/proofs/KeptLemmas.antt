@@ -1,9 +1,8 @@
 -- Steps that are kept: the images behind theirs change nothing.
-use Rattle.std.proofs.Common.{◌≡◌, ◌<◌, ◌≤◌, ◌-◌, ◌+◌, ℕ, zero, suc, List, [], ◌∷◌, ◌++◌, length, take, drop, slice_get, slice_range, Option, None, Some, Result, Ok, Err, OnErr, OnOk, refl, sym, ap, ◌∙◌, subst, arith, take_all}
+use Rattle.std.proofs.Common.{◌≡◌, ◌≤◌, ◌-◌, ◌+◌, ℕ, zero, suc, List, [], ◌∷◌, ◌++◌, length, take, drop, slice_get, slice_range, Option, None, Some, Result, Ok, Err, OnErr, OnOk, refl, sym, ap, ◌∙◌, subst, arith, take_all}
 use Rattle.std.proofs.Math.Seq.{drop-append_seam}
-use Rattle.std.proofs.lemmas.List.{append-nil, drop-append-le, length-append, length-drop, take-append-drop, take-append-le}
+use Rattle.std.proofs.lemmas.List.{drop-append-le, length-append, length-drop, take-append-drop, take-append-le}
 use Rattle.std.proofs.lemmas.Option.{same_Some}
-use Rattle.run_file.specs.declared.kept.Action.{Action}
 use Rattle.run_file.specs.declared.kept.Kept.{Kept}
 use Rattle.run_file.specs.declared.step_fault.StepFault.{StepFault}
 use Rattle.run_file.specs.Inner.{AreInOrder, BeginsWith, GainsAction, kept_data, next_from, with_bytes}

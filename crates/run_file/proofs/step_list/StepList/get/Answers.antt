@@ -1,4 +1,4 @@
-use Rattle.std.proofs.Common.{◌≡◌, ◌+◌, ◌≤◌, None, Some, drop, length, slice_get, slice_range, refl, sym, ap, ◌∙◌, subst, rules, arith}
+use Rattle.std.proofs.Common.{◌≡◌, ◌+◌, ◌≤◌, Some, drop, length, slice_get, slice_range, refl, sym, ap, ◌∙◌, subst, rules, arith}
 use Rattle.std.proofs.lemmas.Option.{slice_get_past, slice_get_read}
 use Rattle.run_file.specs.Inner.{next_from, with_bytes}
 use Rattle.run_file.proofs.KeptLemmas.{none_at, step_at}
@@ -52,8 +52,8 @@ returns c =
     let all : c.deref-3.result.now ≡ c.self.inside.images.items = search (rules, c.deref-3.ensures.value) in
     record {
       value =
-        ap Some
-        (c.lent.ensures.value ∙ ap (λ xs. with_bytes c.in-Some.kept.now.action (slice_range xs c.in-Some.kept.now.from c.end_of-end.result)) all
-        ∙ ap (λ e. with_bytes c.in-Some.kept.now.action (slice_range c.self.inside.images.items c.in-Some.kept.now.from e)) is_end)
-        ∙ sym at.is ∙ ap (λ l. slice_get l c.args.i) c.self.view_is;
+          ap Some
+          (c.lent.ensures.value ∙ ap (λ xs. with_bytes c.in-Some.kept.now.action (slice_range xs c.in-Some.kept.now.from c.end_of-end.result)) all
+          ∙ ap (λ e. with_bytes c.in-Some.kept.now.action (slice_range c.self.inside.images.items c.in-Some.kept.now.from e)) is_end)
+          ∙ sym at.is ∙ ap (λ l. slice_get l c.args.i) c.self.view_is;
     }

@@ -1,5 +1,4 @@
-use Rattle.std.proofs.Common.{◌≡◌, length, ap, ◌∙◌, rules}
-use Rattle.run_file.specs.Inner.{kept_data}
+use Rattle.std.proofs.Common.{rules}
 use Rattle.run_file.specs.StepOf.{with_image}
 use Rattle.run_file.specs.Inner.{wording_data}
 use Rattle.run_file.proofs.KeptLemmas.{kept_gains, kept_in_order, still_in_order}
