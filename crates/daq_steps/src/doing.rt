@@ -3,7 +3,7 @@ ghost use Rattle.std.specs.Prelude.{◌≤◌, ◌≡◌, ℕ, cond, length, map
 ghost use Rattle.std.specs.Option.{is_some};
 ghost use Rattle.frame_writer.specs.Writing.{WriterState};
 ghost use Rattle.sampler.specs.History.{Opening};
-ghost use Rattle.run_file.specs.KeptSteps.{step_data};
+ghost use Rattle.run_file.specs.Lent.{step_data};
 ghost use Rattle.daq_engine.specs.Engines.{Stands, engine_state, first_standing};
 ghost use Rattle.daq_engine.specs.Samplers.{StayThose};
 ghost use Rattle.daq_steps.specs.Runs.{DoesStep, HasDone, IsStepOf};

@@ -1,4 +1,4 @@
-//! The tests of run files, and of the writer over a stream. As a library this crate is empty.
+//! The tests of run files and their steps, and of the writer over a stream. As a library this crate is empty.
 #![tactic(auto)]
 
 #[cfg(test)]
@@ -7,6 +7,8 @@ mod faults;
 mod runs;
 #[cfg(test)]
 mod same;
+#[cfg(test)]
+mod steps;
 #[cfg(test)]
 mod streams;
 #[cfg(test)]

@@ -1,6 +1,6 @@
 use Rattle.std.proofs.Common.{◌++◌, ◌∷◌, [], ◌+◌, length, sym, ap, subst}
 use Rattle.sampler.specs.History.{Start, Stop, Trigger}
-use Rattle.run_file.specs.KeptSteps.{step_data}
+use Rattle.run_file.specs.Lent.{step_data}
 use Rattle.run_file.specs.declared.step.Step.{Step}
 use Rattle.daq_engine.specs.Engines.{engine_state}
 use Rattle.daq_steps.specs.Runs.{HasDone, IsStepOf}

@@ -1,7 +1,7 @@
 use Rattle.std.proofs.Common.{◌≡◌, ◌≤◌, ◌+◌, length, map, take, sym, ap, subst, ◌∙◌, arith}
 use Rattle.std.specs.Prelude.{Some, slice_get}
 use Rattle.std.specs.Option.{option_map}
-use Rattle.run_file.specs.KeptSteps.{step_data}
+use Rattle.run_file.specs.Lent.{step_data}
 use Rattle.daq_engine.specs.Engines.{engine_state}
 use Rattle.daq_engine.proofs.BesideLemmas.{as_many_stay, stay_on}
 use Rattle.daq_steps.specs.Runs.{HasDone}
