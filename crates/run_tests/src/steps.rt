@@ -11,13 +11,14 @@ use std::alloc::Global;
 use std::process::Abort;
 use std::test::Fail;
 
-/// The parts of a text, the account of its one list, how many steps are refused, and the bytes.
+/// The parts of a text, how many steps are refused, how many samples of list 0 were due, written,
+/// dropped and left, and the frames behind the replies.
 #[derive(Clone, Copy)]
 struct Done<'a> {
     name: &'a str,
     parts: &'a [&'a str],
     refused: u64,
-    line: ListReport,
+    counts: [u64; 4],
     frames: &'a [u8],
 }
 
@@ -26,34 +27,23 @@ const ONE_PLACE: &str = "channels = 1\nimage_len = 2\ncaps = [1]\n";
 
 /// The frames of the eight replies.
 const REPLIES: [u8; 41] = [
-    1, 0, 0, 0, 0xFF, 1, 0, 1, 0, 0xFF, 1, 0, 2, 0, 0xFF, 1, 0, 3, 0, 0xFF, 1, 0, 4, 0, 0xFF, 1, 0, 5,
-    0, 0xFF, 1, 0, 6, 0, 0xFF, 2, 0, 7, 0, 0xFF, 0,
+    1, 0, 0, 0, 0xFF, 1, 0, 1, 0, 0xFF, 1, 0, 2, 0, 0xFF, 1, 0, 3, 0, 0xFF, 1, 0, 4, 0, 0xFF, 1, 0,
+    5, 0, 0xFF, 1, 0, 6, 0, 0xFF, 2, 0, 7, 0, 0xFF, 0,
 ];
-
-/// What became of the samples of list 0.
-const fn line(due: u64, written: u64, dropped: u64, left: u64) -> ListReport {
-    ListReport {
-        list: 0,
-        due,
-        written,
-        dropped,
-        left,
-    }
-}
 
 const DONE: [Done; 5] = [
     Done {
         name: "two triggers of one list",
         parts: &[ONE_CHANNEL, ONE_LIST, TWO_TRIGGERS],
         refused: 0,
-        line: line(2, 2, 0, 0),
+        counts: [2, 2, 0, 0],
         frames: &[3, 0, 8, 0, 0, 0xAA, 0xBB, 3, 0, 9, 0, 0, 0xCC, 0xDD],
     },
     Done {
         name: "no steps",
         parts: &[ONE_CHANNEL, ONE_LIST, NO_STEPS],
         refused: 0,
-        line: line(0, 0, 0, 0),
+        counts: [0, 0, 0, 0],
         frames: &[],
     },
     Done {
@@ -65,7 +55,7 @@ const DONE: [Done; 5] = [
             "  'trigger 0 0 0404', 'pump', 'trigger 0 0 0505']\n",
         ],
         refused: 0,
-        line: line(5, 3, 2, 0),
+        counts: [5, 3, 2, 0],
         frames: &[
             3, 0, 8, 0, 0, 1, 1, 3, 0, 9, 0, 0x80, 4, 4, 3, 0, 10, 0, 0, 5, 5,
         ],
@@ -79,20 +69,20 @@ const DONE: [Done; 5] = [
             "  'start 0 9']\n",
         ],
         refused: 4,
-        line: line(1, 1, 0, 0),
+        counts: [1, 1, 0, 0],
         frames: &[3, 0, 8, 0, 0, 1, 1],
     },
     Done {
         name: "no drain",
         parts: &[ONE_CHANNEL, ONE_LIST, TWO_TRIGGERS, "drain = false\n"],
         refused: 0,
-        line: line(2, 0, 0, 2),
+        counts: [2, 0, 0, 2],
         frames: &[],
     },
 ];
 
 /// Sets a run up, opens its engine, does its steps and closes it.
-fn done(alloc: Global, run: &Run) -> Result<(u64, Report, VecOut), Fail> {
+fn outcome_of(alloc: Global, run: &Run) -> Result<(u64, Report, VecOut), Fail> {
     let mut store = Store::new(alloc, run.channels(), run.image_len())?;
     let mut writer = FrameWriter::new(VecOut::new(alloc));
     carry_all(&mut store, run.setup(), &mut writer)?;
@@ -112,10 +102,36 @@ fn done(alloc: Global, run: &Run) -> Result<(u64, Report, VecOut), Fail> {
 
 /// Compares what a run came to with what a row wants.
 fn comes_to(rt: &impl Abort, refused: u64, report: &Report, bytes: &[u8], row: &Done) {
+    let [due, written, dropped, left] = row.counts;
+    let line = ListReport {
+        list: 0,
+        due,
+        written,
+        dropped,
+        left,
+    };
     same(rt, refused, row.refused, row.name, "the refused");
-    same(rt, report.lists.as_slice(), &[row.line], row.name, "the account");
-    same(rt, report.failed, false, row.name, "whether the writer failed");
-    same(rt, bytes.strip_prefix(&REPLIES), Some(row.frames), row.name, "the frames");
+    same(
+        rt,
+        report.lists.as_slice(),
+        &[line],
+        row.name,
+        "the account",
+    );
+    same(
+        rt,
+        report.failed,
+        false,
+        row.name,
+        "whether the writer failed",
+    );
+    same(
+        rt,
+        bytes.strip_prefix(&REPLIES),
+        Some(row.frames),
+        row.name,
+        "the frames",
+    );
 }
 
 #[test]
@@ -123,7 +139,7 @@ fn the_steps_of_a_run_come_to_its_frames_and_account(rt: HostRuntime) -> Result<
     for row in DONE {
         let text = joined(rt.alloc(), row.parts)?;
         let run = Run::read(rt.alloc(), &text)?;
-        let (refused, report, out) = done(rt.alloc(), &run)?;
+        let (refused, report, out) = outcome_of(rt.alloc(), &run)?;
         comes_to(&rt, refused, &report, out.bytes(), &row);
     }
     Ok(())
