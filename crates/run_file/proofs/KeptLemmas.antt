@@ -1,16 +1,13 @@
 -- Steps that are kept: the images behind theirs change nothing.
-use Rattle.std.proofs.Common.{◌≡◌, ◌≤◌, ◌-◌, ◌+◌, ℕ, List, [], ◌∷◌, ◌++◌, length, take, drop, map, slice_range, All, Option, Some, Result, Ok, Err, OnErr, OnOk, option_map, refl, sym, ap, ◌∙◌, subst, arith, take_all}
-use Rattle.std.proofs.Math.Seq.{drop-append_seam, take-append_seam}
+use Rattle.std.proofs.Common.{◌≡◌, ◌≤◌, ◌-◌, ◌+◌, ℕ, zero, suc, List, [], ◌∷◌, ◌++◌, length, take, drop, slice_get, slice_range, Option, None, Some, Result, Ok, Err, OnErr, OnOk, refl, sym, ap, ◌∙◌, subst, arith, take_all}
+use Rattle.std.proofs.Math.Seq.{drop-append_seam}
 use Rattle.std.proofs.lemmas.List.{drop-append-le, length-append, length-drop, take-append-drop, take-append-le}
-use Rattle.std.proofs.lemmas.List.Elements.{All-head, All-tail, All-weaker, All-push}
+use Rattle.std.proofs.lemmas.Option.{same_Some}
 use Rattle.run_file.specs.declared.kept.Kept.{Kept}
-use Rattle.run_file.specs.declared.kept.Kept.TheVariants as kept
 use Rattle.run_file.specs.declared.step_fault.StepFault.{StepFault}
-use Rattle.run_file.specs.KeptSteps.{BeginsWith, GainsImage, IsWithin, KeepsStep, kept_data}
-use Rattle.run_file.specs.Reading.{Gains}
-use Rattle.run_file.specs.StepOf.{image_of, with_image}
-use Rattle.run_file.specs.Steps.{StepData, trigger}
-use Rattle.run_file.proofs.ReadLemmas.{map-push}
+use Rattle.run_file.specs.Inner.{AreInOrder, BeginsWith, GainsAction, kept_data, next_from, with_bytes}
+use Rattle.run_file.specs.Inner.{Gains}
+use Rattle.run_file.specs.Steps.{StepData}
 
 slice_range-more : (images more : List ℕ) (from end : ℕ) → from ≤ end → end ≤ length images
     → slice_range (images ++ more) from end ≡ slice_range images from end
@@ -24,104 +21,126 @@ slice_range-behind images image =
     ap (take (length (images ++ image) - length images)) (drop-append_seam images image)
     ∙ take_all (length (images ++ image) - length images) image (omega (arith, length-append images image))
 
-kept_data-more : (images more : List ℕ) (k : Kept) → IsWithin (length images) k → kept_data (images ++ more) k ≡ kept_data images k
-kept_data-more images more (kept.Trigger c s from end) within =
-    ap (λ image. trigger c s image) (slice_range-more images more from end within.0 within.1)
-kept_data-more images more (kept.Start c l) within = refl
-kept_data-more images more (kept.Stop c l) within = refl
-kept_data-more images more kept.Pump within = refl
+pub length-kept_data : (images : List ℕ) (ks : List Kept) → length (kept_data images ks) ≡ length ks
+length-kept_data images [] = refl
+length-kept_data images (k ∷ ks) = ap suc (length-kept_data images ks)
 
-all-more : (images more : List ℕ) (ks : List Kept) → All (IsWithin (length images)) ks
-    → map (kept_data (images ++ more)) ks ≡ map (kept_data images) ks
-all-more images more [] within = refl
-all-more images more (k ∷ ks) within =
-    ap (λ x. x ∷ map (kept_data (images ++ more)) ks) (kept_data-more images more k (All-head (IsWithin (length images)) k ks within))
-    ∙ ap (λ xs. kept_data images k ∷ xs) (all-more images more ks (All-tail (IsWithin (length images)) k ks within))
+-- behind all of n bytes stands nothing; one step more begins there
+next_from-push : (m n : ℕ) (ks : List Kept) (k : Kept) → k.from ≡ n → next_from m (ks ++ k ∷ []) ≡ next_from n ks
+next_from-push m n [] k at = at
+next_from-push m n (x ∷ ks) k at = refl
+
+in_order-push : (n m : ℕ) (ks : List Kept) (k : Kept) → AreInOrder n ks → k.from ≡ n → n ≤ m → AreInOrder m (ks ++ k ∷ [])
+in_order-push n m [] k before at low = (omega (arith, at, low), omega arith, tt)
+in_order-push n m (x ∷ ks) k before at low =
+    let e : next_from m (ks ++ k ∷ []) ≡ next_from n ks = next_from-push m n ks k at in
+    (omega (arith, e, before.0), omega (arith, e, before.1, low), in_order-push n m ks k before.2 at low)
+
+next_from-grow : (n m : ℕ) (ks : List Kept) → n ≤ m → next_from n ks ≤ next_from m ks
+next_from-grow n m [] low = low
+next_from-grow n m (x ∷ ks) low = omega arith
+
+next_from-low : (n m : ℕ) (ks : List Kept) → n ≤ m → next_from n ks ≤ n → next_from m ks ≤ m
+next_from-low n m [] low under = omega arith
+next_from-low n m (x ∷ ks) low under = omega (arith, low, under)
+
+-- more bytes behind all images change no order
+pub in_order-grow : (n m : ℕ) (ks : List Kept) → n ≤ m → AreInOrder n ks → AreInOrder m ks
+in_order-grow n m [] low before = tt
+in_order-grow n m (x ∷ ks) low before =
+    (omega (arith, before.0, next_from-grow n m ks low), next_from-low n m ks low before.1, in_order-grow n m ks low before.2)
+
+kept_data-push : (images image : List ℕ) (ks : List Kept) (k : Kept) → AreInOrder (length images) ks → k.from ≡ length images
+    → kept_data (images ++ image) (ks ++ k ∷ []) ≡ kept_data images ks ++ with_bytes k.action image ∷ []
+kept_data-push images image [] k before at =
+    ap (λ b. with_bytes k.action (slice_range (images ++ image) b (length (images ++ image))) ∷ []) at
+    ∙ ap (λ i. with_bytes k.action i ∷ []) (slice_range-behind images image)
+kept_data-push images image (x ∷ ks) k before at =
+    let e : next_from (length (images ++ image)) (ks ++ k ∷ []) ≡ next_from (length images) ks =
+    next_from-push (length (images ++ image)) (length images) ks k at in
+    ap (λ b. with_bytes x.action (slice_range (images ++ image) x.from b) ∷ kept_data (images ++ image) (ks ++ k ∷ [])) e
+    ∙ ap (λ i. with_bytes x.action i ∷ kept_data (images ++ image) (ks ++ k ∷ []))
+    (slice_range-more images image x.from (next_from (length images) ks) before.0 before.1)
+    ∙ ap (λ ys. with_bytes x.action (slice_range images x.from (next_from (length images) ks)) ∷ ys)
+    (kept_data-push images image ks k before.2 at)
 
 behind : (images more : List ℕ) → BeginsWith images more → images ++ drop (length images) more ≡ more
 behind images more front =
     ap (λ l. l ++ drop (length images) more) (sym front) ∙ take-append-drop (length images) more
 
--- the steps stay, whatever images come behind theirs
-pub same_steps : (images more : List ℕ) → BeginsWith images more → (ks : List Kept) → All (IsWithin (length images)) ks
-    → map (kept_data more) ks ≡ map (kept_data images) ks
-same_steps images more front ks within =
-    ap (λ m. map (kept_data m) ks) (sym (behind images more front)) ∙ all-more images (drop (length images) more) ks within
-
 longer : (images more : List ℕ) → BeginsWith images more → length images ≤ length more
 longer images more front =
     subst (λ m. length images ≤ length m) (behind images more front) (omega (arith, length-append images (drop (length images) more)))
 
-within_more : (m n : ℕ) → m ≤ n → (k : Kept) → IsWithin m k → IsWithin n k
-within_more m n low (kept.Trigger c s from end) within = (within.0, omega (arith, low, within.1))
-within_more m n low (kept.Start c l) within = tt
-within_more m n low (kept.Stop c l) within = tt
-within_more m n low kept.Pump within = tt
+-- whatever images came behind, the order stays
+pub still_in_order : (images more : List ℕ) (ks : List Kept) → BeginsWith images more → AreInOrder (length images) ks
+    → AreInOrder (length more) ks
+still_in_order images more ks front before = in_order-grow (length images) (length more) ks (longer images more front) before
 
--- and so do their places
-pub still_within : (images more : List ℕ) → BeginsWith images more → (ks : List Kept) → All (IsWithin (length images)) ks
-    → All (IsWithin (length more)) ks
-still_within images more front ks within =
-    All-weaker (IsWithin (length images)) (IsWithin (length more)) (within_more (length images) (length more) (longer images more front)) ks within
+module _ (read : Option StepData) (images more : List ℕ) (ks new : List Kept) (k : Kept) (r : Result (Unit {0}) StepFault)
+    (at_end : OnOk r (new ≡ ks ++ k ∷ [])) (gains : GainsAction read images more k.action) (at : k.from ≡ length images)
+    (before : AreInOrder (length images) ks) where
+  -- one step came to the others
+  gained : new ≡ ks ++ k ∷ [] → kept_data more new ≡ kept_data images ks ++ with_bytes k.action gains.image ∷ []
+  gained e =
+      ap (kept_data more) e ∙ ap (λ m. kept_data m (ks ++ k ∷ [])) gains.at_end
+      ∙ kept_data-push images gains.image ks k before at
 
--- one step more, with its image
-pub gains_step : (read : Option StepData) (images more : List ℕ) (ks new : List Kept) (k : Kept) → KeepsStep read images more k
-    → All (IsWithin (length images)) ks → new ≡ ks ++ k ∷ []
-    → Gains (λ s. read ≡ Some s) (map (kept_data images) ks) (map (kept_data more) new)
-gains_step read images more ks new k keeps within at_end = record {
-  value = kept_data more k;
-  is = keeps.is;
-  at_end =
-      ap (map (kept_data more)) at_end ∙ map-push (kept_data more) ks k
-      ∙ ap (λ xs. xs ++ kept_data more k ∷ []) (same_steps images more keeps.front ks within);
-}
+  pub kept_gains : (old : List StepData) → kept_data images ks ≡ old → OnOk r (Gains (λ s. read ≡ Some s) old (kept_data more new))
+  kept_gains old view = by_answer r at_end
+    where
+      by_answer : (a : Result (Unit {0}) StepFault) → OnOk a (new ≡ ks ++ k ∷ []) → OnOk a (Gains (λ s. read ≡ Some s) old (kept_data more new))
+      by_answer (Err e) h = tt
+      by_answer (Ok u) h = record {
+        value = with_bytes k.action gains.image;
+        is = gains.is;
+        at_end = gained h ∙ ap (λ steps. steps ++ with_bytes k.action gains.image ∷ []) view;
+      }
 
-pub all_within : (read : Option StepData) (images more : List ℕ) (ks new : List Kept) (k : Kept) → KeepsStep read images more k
-    → All (IsWithin (length images)) ks → new ≡ ks ++ k ∷ [] → All (IsWithin (length more)) new
-all_within read images more ks new k keeps within at_end =
-    subst (All (IsWithin (length more))) (sym at_end)
-    (All-push (IsWithin (length more)) ks k (still_within images more keeps.front ks within) keeps.within)
+  -- and all are in order, whether it came or not
+  pub kept_in_order : OnErr r (new ≡ ks) → AreInOrder (length more) new
+  kept_in_order same = by_answer r at_end same
+    where
+      size : length more ≡ length images + length gains.image
+      size = ap length gains.at_end ∙ length-append images gains.image
 
--- a trigger whose image stands behind the others
-pub keeps_trigger : (c s : ℕ) (digits images more : List ℕ) (from end : ℕ) → GainsImage (image_of digits) images more
-    → from ≡ length images → end ≡ length more
-    → KeepsStep (with_image (trigger c s digits)) images more (kept.Trigger c s from end)
-keeps_trigger c s digits images more from end gains at_from at_end =
-    let behind : slice_range more from end ≡ gains.image =
-    ap (λ b. slice_range more b end) at_from ∙ ap (slice_range more (length images)) at_end
-    ∙ ap (λ m. slice_range m (length images) (length m)) gains.at_end ∙ slice_range-behind images gains.image in
-    let size : length more ≡ length images + length gains.image = ap length gains.at_end ∙ length-append images gains.image in
-    record {
-      is = ap (option_map (λ image. trigger c s image)) gains.is ∙ ap (λ image. Some (trigger c s image)) (sym behind);
-      within = (omega (arith, at_from, at_end, size), omega (arith, at_end));
-      front = ap (take (length images)) gains.at_end ∙ take-append_seam images gains.image;
-    }
+      by_answer : (a : Result (Unit {0}) StepFault) → OnOk a (new ≡ ks ++ k ∷ []) → OnErr a (new ≡ ks) → AreInOrder (length more) new
+      by_answer (Ok u) h same =
+          subst (AreInOrder (length more)) (sym h) (in_order-push (length images) (length more) ks k before at (omega (arith, size)))
+      by_answer (Err e) h same =
+          subst (AreInOrder (length more)) (sym same) (in_order-grow (length images) (length more) ks (omega (arith, size)) before)
 
-module _ (read : Option StepData) (images more : List ℕ) (ks new : List Kept) (k : Kept) where
-  -- what was kept stands among all images, whether the step came to it or not
-  pub kept_within : (r : Result (Unit {0}) StepFault) → OnOk r (new ≡ ks ++ k ∷ []) → OnErr r (new ≡ ks) → KeepsStep read images more k
-      → All (IsWithin (length images)) ks → All (IsWithin (length more)) new
-  kept_within (Ok u) at_end same keeps within = all_within read images more ks new k keeps within at_end
-  kept_within (Err e) at_end same keeps within =
-      subst (All (IsWithin (length more))) (sym same) (still_within images more keeps.front ks within)
+-- where the image of a step ends
+pub next_from-drop : (n j : ℕ) (ks : List Kept) → slice_get ks j ≡ None → next_from n (drop j ks) ≡ n
+next_from-drop n zero [] h = refl
+next_from-drop n zero (k ∷ ks) h = cc h
+next_from-drop n (suc j) [] h = refl
+next_from-drop n (suc j) (k ∷ ks) h = next_from-drop n j ks h
 
-  -- the step came to the others
-  pub kept_gains : (r : Result (Unit {0}) StepFault) (old : List StepData) → OnOk r (new ≡ ks ++ k ∷ []) → KeepsStep read images more k
-      → All (IsWithin (length images)) ks → map (kept_data images) ks ≡ old
-      → OnOk r (Gains (λ s. read ≡ Some s) old (map (kept_data more) new))
-  kept_gains (Ok u) old at_end keeps within view =
-      subst (λ steps. Gains (λ s. read ≡ Some s) steps (map (kept_data more) new)) view
-      (gains_step read images more ks new k keeps within at_end)
-  kept_gains (Err e) old at_end keeps within view = tt
+pub next_from-get : (n j : ℕ) (k : Kept) (ks : List Kept) → slice_get ks j ≡ Some k → next_from n (drop j ks) ≡ k.from
+next_from-get n zero k [] h = cc h
+next_from-get n zero k (x ∷ ks) h = ap (λ (y : Kept). y.from) (same_Some x k h)
+next_from-get n (suc j) k [] h = cc h
+next_from-get n (suc j) k (x ∷ ks) h = next_from-get n j k ks h
 
--- the steps are those that were there
-pub kept_same : {A : Type 0} (r : Result A StepFault) (images more : List ℕ) (ks new : List Kept) (old : List StepData) → OnErr r (new ≡ ks)
-    → BeginsWith images more → All (IsWithin (length images)) ks → map (kept_data images) ks ≡ old
-    → OnErr r (map (kept_data more) new ≡ old)
-kept_same (Ok u) images more ks new old same front within view = tt
-kept_same (Err e) images more ks new old same front within view =
-    ap (map (kept_data more)) same ∙ same_steps images more front ks within ∙ view
+-- the step at a place, with its image
+pub record IsStepAt (images : List ℕ) (ks : List Kept) (i : ℕ) (k : Kept) (end : ℕ) : Type 0 where
+  pub up : k.from ≤ end
+  pub low : end ≤ length images
+  pub is : slice_get (kept_data images ks) i ≡ Some (with_bytes k.action (slice_range images k.from end))
 
-pub on_err-all : {A E : Type 0} (r : Result A E) {P : Type 0} → P → OnErr r P
-on_err-all (Ok a) p = tt
-on_err-all (Err e) p = p
+pub step_at : (images : List ℕ) (ks : List Kept) (i : ℕ) (k : Kept) → slice_get ks i ≡ Some k → AreInOrder (length images) ks
+    → IsStepAt images ks i k (next_from (length images) (drop (i + 1) ks))
+step_at images [] i k h before = cc h
+step_at images (x ∷ ks) zero k h before =
+    let e : x ≡ k = same_Some x k h in
+    subst (λ y. IsStepAt images (x ∷ ks) zero y (next_from (length images) ks)) e (record { up = before.0; low = before.1; is = refl })
+step_at images (x ∷ ks) (suc i) k h before =
+    let rest = step_at images ks i k h before.2 in
+    let e : suc i + 1 ≡ suc (i + 1) = omega arith in
+    rw e (record { up = rest.up; low = rest.low; is = rest.is })
+
+pub none_at : (images : List ℕ) (ks : List Kept) (i : ℕ) → slice_get ks i ≡ None → slice_get (kept_data images ks) i ≡ None
+none_at images [] i h = refl
+none_at images (x ∷ ks) zero h = cc h
+none_at images (x ∷ ks) (suc i) h = none_at images ks i h

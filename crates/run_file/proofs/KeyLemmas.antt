@@ -8,7 +8,7 @@ use Rattle.toml.specs.Data.{Data, as_str}
 use Rattle.toml.specs.View.{items_view, members_view, view}
 use Rattle.toml.specs.declared.value.Value.{Value}
 use Rattle.run_file.specs.Keys.{all_of, are_keys, is_among, keys, onto}
-use Rattle.run_file.specs.Texts.{or_empty, text_in}
+use Rattle.run_file.specs.Inner.{or_empty, text_in}
 
 -- the keys of a table, one after another
 pub are_keys-entries : (es : List (String Global × Value)) → list_all (λ k. is_among keys (string_bytes k)) (keys_of es) ≡ are_keys (members_view es)

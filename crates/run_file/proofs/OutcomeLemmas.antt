@@ -1,12 +1,12 @@
 -- A text comes to one thing alone.
-use Rattle.std.proofs.Common.{◌≡◌, ℕ, List, [], ◌∷◌, ◌++◌, length, get_or, drop, suc, Option, Some, None, refl, sym, ap, ◌∙◌, subst}
+use Rattle.std.proofs.Common.{◌≡◌, ℕ, List, [], ◌∷◌, ◌++◌, length, get_or, drop, suc, Some, None, refl, sym, ap, ◌∙◌, subst}
 use Rattle.std.proofs.lemmas.Option.{same_Some}
 use Rattle.toml.specs.Data.{Members}
 use Rattle.toml.specs.Parse.{parse_document}
-use Rattle.run_file.specs.Keys.{AreKeyValues, HasBadKey, KeyValues, caps_of}
+use Rattle.run_file.specs.Keys.{AreKeyValues, KeyValues}
 use Rattle.run_file.specs.Outcomes.{IsOutcome, Outcome, bad_key, bad_setup, bad_step, not_toml, run}
 use Rattle.run_file.specs.Reading.{AreTextsOf, HasNone, IsFirstBad}
-use Rattle.run_file.specs.RunFile.{HasBadKeyText, HasBadSetup, HasBadStep, IsDocumentOf, IsPacketText, IsRunText}
+use Rattle.run_file.specs.RunFile.{HasBadKeyText, HasBadSetup, HasBadStep, IsDocumentOf, IsPacketText}
 use Rattle.run_file.specs.Steps.{IsStepText, StepData}
 use Rattle.run_file.proofs.RunLemmas.{some_is_none}
 

@@ -8,7 +8,8 @@ use Rattle.toml.specs.Data.{Members}
 use Rattle.toml.specs.Parse.{parse_document}
 use Rattle.run_file.specs.declared.limits.TheConstants.{MAX_COMMAND_LEN}
 use Rattle.run_file.specs.Keys.{AreKeyValues, KeyValues}
-use Rattle.run_file.specs.Reading.{AreTextsOf, Gains, HasNone, IsFirstBad}
+use Rattle.run_file.specs.Inner.{Gains}
+use Rattle.run_file.specs.Reading.{AreTextsOf, HasNone, IsFirstBad}
 use Rattle.run_file.specs.RunFile.{HasBadStep, IsPacketText, IsRunText}
 use Rattle.run_file.specs.StepOf.{bytes_of, packet_of, step_of, with_image, wording_of}
 use Rattle.run_file.specs.Steps.{IsStepText, StepData}

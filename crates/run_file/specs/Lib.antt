@@ -1,11 +1,9 @@
 pub mod Steps
 pub mod StepOf
 pub mod Reading
-pub mod Wordings
-pub mod KeptSteps
 pub mod Keys
 pub mod RunFile
 pub mod Limits
-pub mod Texts
-pub mod Values
 pub mod Outcomes
+pub mod Lent
+pub mod Inner

@@ -23,9 +23,3 @@ pub record IsFirstBad {X : Type 0} (R : List ℕ → X → Type 0) (texts : List
   pub good : List X
   pub read : AreTextsOf R before good
   pub none : HasNone (R bad)
-
--- one such value came behind the others
-pub record Gains {X : Type 0} (P : X → Type 0) (old new : List X) : Type 0 where
-  pub value : X
-  pub is : P value
-  pub at_end : new ≡ old ++ value ∷ []

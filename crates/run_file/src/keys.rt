@@ -5,7 +5,7 @@ ghost use Rattle.toml.specs.Data.{as_array, as_str};
 ghost use Rattle.toml.specs.View.{items_view, table_view, view};
 ghost use Rattle.run_file.specs.Keys.{all_of, are_keys, at_key, caps_in, drain_of, is_among, keys};
 ghost use Rattle.run_file.specs.Keys.{number_in, texts_at, texts_in};
-ghost use Rattle.run_file.specs.Texts.{text_in};
+ghost use Rattle.run_file.specs.Inner.{text_in};
 
 use std::alloc::{AllocError, Global};
 use toml::{Table, Value};

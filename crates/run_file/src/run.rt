@@ -3,7 +3,7 @@ ghost use Rattle.std.specs.Prelude.{option_map, slice_get, vec_items};
 ghost use Rattle.toml.specs.Parse.{parse_document};
 ghost use Rattle.toml.specs.View.{table_view};
 ghost use Rattle.run_file.specs.declared.run_fault.RunFault.TheVariants.{Memory, NotToml};
-ghost use Rattle.run_file.specs.KeptSteps.{step_data};
+ghost use Rattle.run_file.specs.Lent.{step_data};
 ghost use Rattle.run_file.specs.Limits.{HasLimits};
 ghost use Rattle.run_file.specs.RunFile.{HasBadKeyText, HasBadSetup, HasBadStep, IsRunText};
 

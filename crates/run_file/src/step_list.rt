@@ -1,14 +1,16 @@
-ghost use Rattle.std.specs.Prelude.{◌≡◌, ◌++◌, ◌∷◌, [], All, IfErr, IfOk, IsErrOf, None, OnErr};
-ghost use Rattle.std.specs.Prelude.{OnOk, Some, length, option_map, slice_get};
+ghost use Rattle.std.specs.Prelude.{◌≡◌, ◌+◌, ◌<◌, ◌++◌, ◌∷◌, [], IfErr, IfOk, IsErrOf, None};
+ghost use Rattle.std.specs.Prelude.{OnErr, OnOk};
+ghost use Rattle.std.specs.Prelude.{◌≤◌, Some, drop, length, option_map, slice_get, slice_range};
 ghost use Rattle.run_file.specs.declared.step_fault.StepFault.TheVariants.{Memory};
-ghost use Rattle.run_file.specs.KeptSteps.{BeginsWith, GainsImage, IsWithin, KeepsStep, kept_data};
-ghost use Rattle.run_file.specs.KeptSteps.{step_data};
-ghost use Rattle.run_file.specs.Reading.{Gains};
+ghost use Rattle.run_file.specs.Inner.{BeginsWith, GainsAction, GainsImage, next_from};
+ghost use Rattle.run_file.specs.Lent.{step_data};
+ghost use Rattle.run_file.specs.Inner.{with_bytes};
+ghost use Rattle.run_file.specs.Inner.{Gains};
 ghost use Rattle.run_file.specs.StepOf.{image_of, with_image};
 ghost use Rattle.run_file.specs.Steps.{trigger};
-ghost use Rattle.run_file.specs.Wordings.{wording_data};
+ghost use Rattle.run_file.specs.Inner.{wording_data};
 
-use crate::kept::Kept;
+use crate::kept::{Action, Kept};
 use crate::step::Step;
 use crate::step_fault::StepFault;
 use crate::wording::Wording;
@@ -24,15 +26,15 @@ pub struct StepList {
 }
 
 impl Model for StepList {
-    ghost use Rattle.std.specs.Prelude.{All, List, length, map};
-    ghost use Rattle.run_file.specs.KeptSteps.{IsWithin, kept_data};
+    ghost use Rattle.std.specs.Prelude.{List, length};
+    ghost use Rattle.run_file.specs.Inner.{AreInOrder, kept_data};
     ghost use Rattle.run_file.specs.Steps.{StepData};
 
     ghost Value = { List StepData };
 
-    ghost view = { λ a. map (kept_data a.images.items) a.kept.items };
+    ghost view = { λ a. kept_data a.images.items a.kept.items };
 
-    ghost invariant = { λ a. All (IsWithin (length a.images.items)) a.kept.items };
+    ghost invariant = { λ a. AreInOrder (length a.images.items) a.kept.items };
 }
 
 impl StepList {
@@ -61,7 +63,8 @@ impl StepList {
         let Some(kept) = self.kept.get(i) else {
             return None;
         };
-        Some(lent(&self.images, *kept))
+        let end = end_of(&self.kept, i, self.images.len());
+        Some(lent(&self.images, *kept, end))
     }
 
     /// One step more, with the image that its word says.
@@ -70,32 +73,42 @@ impl StepList {
             (Gains (λ s. with_image (wording_data step.entry) ≡ Some s) self.old self.new) }
         ensures no_step { IsErrOf result StepFault.NoStep
             → with_image (wording_data step.entry) ≡ None }
-        ensures err { OnErr result (self.new ≡ self.old) }
+        ensures stays { IsErrOf result StepFault.NoStep → self.new ≡ self.old }
     {
-        let kept = with_images(&mut self.images, step)?;
-        keep(&mut self.kept, kept)
+        let from = self.images.len();
+        let action = push_action(&mut self.images, step)?;
+        keep(&mut self.kept, Kept { action, from })
     }
 }
 
-/// A step that is kept among these images, as it is lent.
-fn lent(images: &[u8], kept: Kept) -> Step<'_>
-    requires within { IsWithin (length images.now) kept }
-    ensures value { step_data result ≡ kept_data images.now kept }
+/// Where the image of step `i` ends, where so many bytes of images are there.
+fn end_of(kept: &[Kept], i: usize, len: usize) -> usize
+    requires there { i < length kept.now }
+    ensures { result ≡ next_from len (drop (i + 1) kept.now) }
 {
-    match kept {
-        Kept::Trigger {
+    match kept.get(i + 1) {
+        Some(next) => next.from,
+        None => len,
+    }
+}
+
+/// A step whose image ends here among all images, as it is lent.
+fn lent(images: &[u8], kept: Kept, end: usize) -> Step<'_>
+    requires up { kept.from ≤ end }
+    requires low { end ≤ length images.now }
+    ensures value { step_data result
+        ≡ with_bytes kept.action (slice_range images.now kept.from end) }
+{
+    let image = &images[kept.from..end];
+    match kept.action {
+        Action::Trigger { channel, stamp } => Step::Trigger {
             channel,
             stamp,
-            from,
-            end,
-        } => Step::Trigger {
-            channel,
-            stamp,
-            image: &images[from..end],
+            image,
         },
-        Kept::Start { channel, list } => Step::Start { channel, list },
-        Kept::Stop { channel, list } => Step::Stop { channel, list },
-        Kept::Pump => Step::Pump,
+        Action::Start { channel, list } => Step::Start { channel, list },
+        Action::Stop { channel, list } => Step::Stop { channel, list },
+        Action::Pump => Step::Pump,
     }
 }
 
@@ -111,12 +124,13 @@ fn keep(kept: &mut Vec<Kept>, step: Kept) -> Result<(), StepFault>
     Ok(())
 }
 
-/// The step in words as it is kept, its image behind the other images.
-fn with_images(images: &mut Vec<u8>, step: Wording<'_>) -> Result<Kept, StepFault>
-    ensures ok { IfOk result
-        (KeepsStep (with_image (wording_data step.entry)) images.old.items images.new.items) }
+/// The action of a step in words, with its image behind the other images.
+fn push_action(images: &mut Vec<u8>, step: Wording<'_>) -> Result<Action, StepFault>
+    ensures ok { IfOk result (GainsAction (with_image (wording_data step.entry))
+        images.old.items images.new.items) }
     ensures no_step { IsErrOf result StepFault.NoStep
         → with_image (wording_data step.entry) ≡ None }
+    ensures stays { IsErrOf result StepFault.NoStep → images.new.items ≡ images.old.items }
     ensures front { BeginsWith images.old.items images.new.items }
 {
     match step {
@@ -124,41 +138,36 @@ fn with_images(images: &mut Vec<u8>, step: Wording<'_>) -> Result<Kept, StepFaul
             channel,
             stamp,
             digits,
-        } => with_trigger(images, channel, stamp, digits),
-        Wording::Start { channel, list } => Ok(Kept::Start { channel, list }),
-        Wording::Stop { channel, list } => Ok(Kept::Stop { channel, list }),
-        Wording::Pump => Ok(Kept::Pump),
+        } => push_trigger(images, channel, stamp, digits),
+        Wording::Start { channel, list } => Ok(Action::Start { channel, list }),
+        Wording::Stop { channel, list } => Ok(Action::Stop { channel, list }),
+        Wording::Pump => Ok(Action::Pump),
     }
 }
 
-/// A trigger as it is kept, its image behind the other images.
-fn with_trigger(
+/// The action of a trigger, with its image behind the other images.
+fn push_trigger(
     images: &mut Vec<u8>,
     channel: u8,
     stamp: u32,
     digits: &str,
-) -> Result<Kept, StepFault>
-    ensures ok { IfOk result (KeepsStep (with_image (trigger channel stamp digits.now))
+) -> Result<Action, StepFault>
+    ensures ok { IfOk result (GainsAction (with_image (trigger channel stamp digits.now))
         images.old.items images.new.items) }
     ensures no_step { IsErrOf result StepFault.NoStep
         → with_image (trigger channel stamp digits.now) ≡ None }
+    ensures stays { IsErrOf result StepFault.NoStep → images.new.items ≡ images.old.items }
     ensures front { BeginsWith images.old.items images.new.items }
 {
-    let from = images.len();
     push_image(images, digits)?;
-    let end = images.len();
-    Ok(Kept::Trigger {
-        channel,
-        stamp,
-        from,
-        end,
-    })
+    Ok(Action::Trigger { channel, stamp })
 }
 
 /// The image of a word in hexadecimal behind the other images.
 fn push_image(images: &mut Vec<u8>, digits: &str) -> Result<(), StepFault>
     ensures ok { OnOk result (GainsImage (image_of digits.now) images.old.items images.new.items) }
     ensures no_step { IsErrOf result StepFault.NoStep → image_of digits.now ≡ None }
+    ensures stays { IsErrOf result StepFault.NoStep → images.new.items ≡ images.old.items }
     ensures front { BeginsWith images.old.items images.new.items }
 {
     if digits.is_empty() {
@@ -170,6 +179,7 @@ fn push_image(images: &mut Vec<u8>, digits: &str) -> Result<(), StepFault>
         return Err(StepFault::Memory);
     };
     let Ok(()) = hex::decode_to_slice(digits, &mut images[from..]) else {
+        images.truncate(from);
         return Err(StepFault::NoStep);
     };
     Ok(())

@@ -2,11 +2,12 @@
 ghost use Rattle.std.specs.Prelude.{◌≡◌, ◌+◌, ◌⊎◌, ℕ, IfErr, IfOk, IsErrOf, OnErr, OnOk, map};
 ghost use Rattle.std.specs.Prelude.{option_map, vec_items};
 ghost use Rattle.run_file.specs.declared.run_fault.RunFault.TheVariants.{BadSetup, BadStep, Memory};
-ghost use Rattle.run_file.specs.Reading.{AreTextsOf, Gains, HasNone, IsFirstBad};
+ghost use Rattle.run_file.specs.Inner.{Gains};
+ghost use Rattle.run_file.specs.Reading.{AreTextsOf, HasNone, IsFirstBad};
 ghost use Rattle.run_file.specs.RunFile.{IsPacketText};
 ghost use Rattle.run_file.specs.StepOf.{bytes_of, packet_of};
 ghost use Rattle.run_file.specs.Steps.{IsStepText};
-ghost use Rattle.run_file.specs.Texts.{text_in};
+ghost use Rattle.run_file.specs.Inner.{text_in};
 
 use crate::limits::MAX_COMMAND_LEN;
 use crate::run_fault::RunFault;
@@ -66,7 +67,7 @@ pub fn steps_of(alloc: Global, last: u8, values: &[Value]) -> Result<StepList, R
 fn read_step(steps: &mut StepList, last: u8, text: &str) -> Result<(), StepFault>
     ensures ok { OnOk result (Gains (IsStepText (last + 1) text.now) steps.old steps.new) }
     ensures no_step { IsErrOf result StepFault.NoStep → HasNone (IsStepText (last + 1) text.now) }
-    ensures err { OnErr result (steps.new ≡ steps.old) }
+    ensures stays { IsErrOf result StepFault.NoStep → steps.new ≡ steps.old }
 {
     let Some(step) = wording_of(last, text) else {
         return Err(StepFault::NoStep);

@@ -3,7 +3,7 @@ ghost use Rattle.toml.specs.View.{table_view};
 ghost use Rattle.run_file.specs.declared.run_fault.RunFault.TheVariants.{BadKey, Memory};
 ghost use Rattle.run_file.specs.Keys.{AreKeyValues, HasBadKey};
 ghost use Rattle.xcp_base.specs.declared.limits.TheConstants.{MAX_CHANNELS};
-ghost use Rattle.run_file.specs.Values.{values_data};
+ghost use Rattle.run_file.specs.Inner.{values_data};
 
 use crate::keys::{are_keys, array_at, caps_in, drain_of, number_at, texts_at};
 use crate::limits::{MAX_PACKETS, MAX_STEPS};

@@ -3,7 +3,7 @@ ghost use Rattle.std.specs.Prelude.{◌≡◌, ◌∷◌, [], MatchOption, optio
 ghost use Rattle.std.specs.Str.{all_ascii_digits};
 ghost use Rattle.run_file.specs.StepOf.{is_plain, number_of, pump_of, switch_of, trigger_of};
 ghost use Rattle.run_file.specs.StepOf.{verb_switch, wording_of, words_of};
-ghost use Rattle.run_file.specs.Wordings.{wording_data};
+ghost use Rattle.run_file.specs.Inner.{wording_data};
 
 /// A step in words: of an image, its word.
 #[derive(Clone, Copy)]

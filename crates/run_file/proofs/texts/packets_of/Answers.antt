@@ -1,7 +1,7 @@
 use Rattle.std.proofs.Common.{◌≡◌, ◌++◌, ◌∷◌, [], length, map, None, Some, option_map, vec_items, refl, sym, ap, ◌∙◌, rules, inr}
 use Rattle.run_file.specs.RunFile.{IsPacketText}
 use Rattle.run_file.specs.StepOf.{packet_of}
-use Rattle.run_file.specs.Texts.{text_in}
+use Rattle.run_file.specs.Inner.{text_in}
 use Rattle.run_file.proofs.ReadLemmas.{first_bad, length-map-any, map-push, read_more}
 use Rattle.run_file.proofs.RunLemmas.{no_packet, packet_read}
 use Rattle.run_file.proofs.texts.packets_of.Goals as goal

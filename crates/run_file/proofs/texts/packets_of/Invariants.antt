@@ -1,7 +1,7 @@
 use Rattle.std.proofs.Common.{map, take, vec_items}
 use Rattle.run_file.specs.Reading.{AreTextsOf}
 use Rattle.run_file.specs.RunFile.{IsPacketText}
-use Rattle.run_file.specs.Texts.{text_in}
+use Rattle.run_file.specs.Inner.{text_in}
 use Rattle.run_file.proofs.texts.packets_of.Given as goal
 
 -- the packets so far are those of the texts so far

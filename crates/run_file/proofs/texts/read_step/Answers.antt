@@ -1,4 +1,4 @@
-use Rattle.run_file.specs.Wordings.{wording_data}
+use Rattle.run_file.specs.Inner.{wording_data}
 use Rattle.run_file.proofs.RunLemmas.{no_image, no_wording, on_ok-map, step_gained}
 use Rattle.run_file.proofs.texts.read_step.Goals as goal
 

@@ -1,14 +1,14 @@
 use Rattle.std.proofs.Common.{◌≡◌, ◌+◌, length, Err, refl, ap, ◌∙◌, subst, inr}
 use Rattle.run_file.specs.Reading.{HasNone}
 use Rattle.run_file.specs.Steps.{IsStepText}
-use Rattle.run_file.specs.Texts.{text_in}
+use Rattle.run_file.specs.Inner.{text_in}
 use Rattle.run_file.proofs.ReadLemmas.{first_bad, read_more}
 use Rattle.run_file.proofs.texts.steps_of.Goals as goal
 
 -- the refused step left the list as it was: its place is how many there are
 pub returns-in-Err-NoStep-clause-err : goal.returns-in-Err-NoStep-clause-err
 returns-in-Err-NoStep-clause-err c =
-    let size : c.len.result ≡ length c.loop-value.steps = c.len.ensures ∙ ap length c.in-Err-NoStep.ensures.err in
+    let size : c.len.result ≡ length c.loop-value.steps = c.len.ensures ∙ ap length (c.in-Err-NoStep.ensures.stays (ap Err c.in-Err-NoStep.field-0-is)) in
     let none = subst (λ t. HasNone (IsStepText (c.args.last + 1) t)) c.text_in.ensures
     (c.in-Err-NoStep.ensures.no_step (ap Err c.in-Err-NoStep.field-0-is)) in
     inr (

@@ -1,7 +1,7 @@
 use Rattle.std.proofs.Common.{◌+◌, map, take}
 use Rattle.run_file.specs.Reading.{AreTextsOf}
 use Rattle.run_file.specs.Steps.{IsStepText}
-use Rattle.run_file.specs.Texts.{text_in}
+use Rattle.run_file.specs.Inner.{text_in}
 use Rattle.run_file.proofs.texts.steps_of.Given as goal
 
 -- the steps so far are those of the texts so far

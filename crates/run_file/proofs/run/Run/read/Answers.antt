@@ -1,6 +1,6 @@
 use Rattle.std.proofs.Common.{◌≡◌, ◌+◌, ◌-◌, map, vec_items, arith}
 use Rattle.toml.specs.View.{table_view}
-use Rattle.run_file.specs.Values.{values_data}
+use Rattle.run_file.specs.Inner.{values_data}
 use Rattle.run_file.proofs.LimitLemmas.{run_limits}
 use Rattle.run_file.proofs.RunLemmas.{run_read}
 use Rattle.run_file.proofs.run.Run.read.Goals as goal
