@@ -24,7 +24,8 @@ fn copy_once(to: &mut [u8], from: &[u8])
     to.copy_from_slice(from);
 }
 
-/// What one plain copy of so many bytes takes, always from one place to one place, in tenths of a nanosecond.
+/// What one plain copy of so many bytes takes, always from one place to one place, in tenths of a
+/// nanosecond.
 pub fn measure_copy_at_one_place(rt: &impl Clock, bytes: usize) -> Result<u64> {
     let image = [0xA5u8; IMAGE_LEN];
     let mut copy = [0u8; IMAGE_LEN];

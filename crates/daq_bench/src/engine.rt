@@ -15,13 +15,15 @@ use transmitter::Transmitter;
 /// The bytes of the memory that is written to.
 pub const MEMORY: usize = 65536;
 
-/// The sampler of the event channel, and the transmitter of its ring.
+/// The sampler of the event channel, and the transmitter of its ring. A `daq_engine::Engine` looks
+/// before and after each pump; what is measured here is pumps behind one look.
 #[derive(Drop)]
 pub struct Engine {
     pub sampler: Sampler<SendHalf>,
     pub transmitter: Transmitter<RoundOut, TakeHalf>,
     ghost first: { sampler.channel ≡ 0 },
-    ghost paired: { (transmission ⟦<RoundOut as Out>⟧ ⟦<TakeHalf as TakeEnd>⟧ transmitter).rings ≡ ⟦<SendHalf as SendEnd>⟧.ring sampler.end ∷ [] },
+    ghost paired: { (transmission ⟦<RoundOut as Out>⟧ ⟦<TakeHalf as TakeEnd>⟧ transmitter).rings
+        ≡ ⟦<SendHalf as SendEnd>⟧.ring sampler.end ∷ [] },
 }
 
 impl Engine {

@@ -57,7 +57,8 @@ pub fn measure_fill(rt: &impl Clock, plan: &CopyPlan) -> Result<u64> {
     Ok(best)
 }
 
-/// What one call of `fill_into` takes, with the empty value that it fills, in tenths of a nanosecond.
+/// What one call of `fill_into` takes, with the empty value that it fills, in tenths of a
+/// nanosecond.
 pub fn measure_fill_into(rt: &impl Clock, plan: &CopyPlan) -> Result<u64> {
     let image = [0xA5u8; IMAGE_LEN];
     if plan.image_len() != IMAGE_LEN {

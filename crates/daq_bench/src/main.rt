@@ -1,7 +1,9 @@
-//! Measures copy plans and triggers, and whole engines, each beside one plain copy of the same bytes.
+//! Measures copy plans and triggers, and whole engines, each beside one plain copy of the same
+//! bytes.
 //!
-//! With the word `fill` or `engine` it measures, and prints what one call or one sample takes, in tenths of a nanosecond.
-//! Without words it measures nothing: it says of each set whether the samples have the right length and are sent and written.
+//! With the word `fill` or `engine` it measures, and prints what one call or one sample takes, in
+//! tenths of a nanosecond. Without words it measures nothing: it says of each set whether the
+//! samples have the right length and are sent and written.
 #![tactic(auto)]
 
 mod copies;
@@ -102,7 +104,8 @@ where
         let two_threads = measure_two_threads(rt, rt.alloc(), &store, set, cap)?;
         let copy = measure_copy_around(rt, rt.alloc(), bytes)?;
         println!(rt;
-            "{}, {cap} places, {bytes} bytes: one thread {one_thread}, two threads {two_threads}, copy {copy}",
+            "{}, {cap} places, {bytes} bytes: one thread {one_thread}, two threads {two_threads}, \
+            copy {copy}",
             set.name
         )?;
     }

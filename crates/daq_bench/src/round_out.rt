@@ -3,7 +3,8 @@ ghost use Rattle.std.specs.Prelude.{◌≡◌, ◌≤◌, ◌<◌, IfOk, vec_len
 use frame_writer::{ByteLog, Out, OutFault};
 use std::alloc::{AllocError, Global};
 
-/// A writer into memory that is made once: what finds no room behind the bytes before it goes to the front again.
+/// A writer into memory that is made once: what finds no room behind the bytes before it goes to
+/// the front again.
 #[derive(Drop)]
 pub struct RoundOut {
     memory: Vec<u8>,

@@ -18,7 +18,8 @@ fn triggers_of_a_round(set: &Set, cap: usize) -> u32 {
     u32::try_from(cap / lists).unwrap_or(u32::MAX)
 }
 
-/// One round: as many triggers as the ring has room for, and then all frames. It answers the samples and the frames.
+/// One round: as many triggers as the ring has room for, and then all frames. It answers the
+/// samples and the frames.
 fn round(engine: &mut Engine, image: &[u8], triggers: u32) -> (u32, u32) {
     let mut samples = 0u32;
     for stamp in 0..triggers {
@@ -36,7 +37,8 @@ pub fn sends_a_round(alloc: Global, store: &Store, set: &Set, cap: usize) -> Res
     Ok(samples as u64 == all && frames as u64 == all * set.odts as u64)
 }
 
-/// What one sample takes from its trigger to its bytes in memory, in one thread, in tenths of a nanosecond.
+/// What one sample takes from its trigger to its bytes in memory, in one thread, in tenths of a
+/// nanosecond.
 pub fn measure_one_thread(
     rt: &impl Clock,
     alloc: Global,

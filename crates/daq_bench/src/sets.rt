@@ -5,8 +5,8 @@ use std::alloc::Global;
 /// The length of the images, in bytes.
 pub const IMAGE_LEN: usize = 4096;
 
-/// DAQ lists of event channel 0 that are alike, as their ODTs are: so many entries, each of `size` bytes, `step` bytes
-/// from one to the next.
+/// DAQ lists of event channel 0 that are alike, as their ODTs are: so many entries, each of `size`
+/// bytes, `step` bytes from one to the next.
 pub struct Set {
     pub name: &'static str,
     pub mode: u8,

@@ -16,8 +16,8 @@ use std::thread::Threads;
 use std::time::Instant;
 use transmitter::Transmitter;
 
-/// Takes triggers until so many samples were sent, and answers how many were. It waits until the ring has room for all
-/// samples of a trigger, so that none is dropped.
+/// Takes triggers until so many samples were sent, and answers how many were. It waits until the
+/// ring has room for all samples of a trigger, so that none is dropped.
 fn sample_all(sampler: Sampler<SendHalf>, lists: u64, samples: u32) -> u32 {
     let mut sampler = sampler;
     let image = [0xA5u8; IMAGE_LEN];
@@ -61,8 +61,8 @@ fn pump_all(transmitter: Transmitter<RoundOut, TakeHalf>, samples: u32) -> u32 {
     frames
 }
 
-/// Runs both until `SAMPLES` samples were sent and written, and answers how many samples were sent and how many frames
-/// written.
+/// Runs both until `SAMPLES` samples were sent and written, and answers how many samples were sent
+/// and how many frames written.
 fn run_both<R: Threads + Sync>(rt: &R, engine: Engine, lists: u64) -> (u32, u32) {
     let Engine {
         sampler,
@@ -75,8 +75,8 @@ fn run_both<R: Threads + Sync>(rt: &R, engine: Engine, lists: u64) -> (u32, u32)
     )
 }
 
-/// What one sample takes from its trigger to its bytes in memory, where the two run in two threads, in tenths of a
-/// nanosecond. The time has the making of a thread in it.
+/// What one sample takes from its trigger to its bytes in memory, where the two run in two threads,
+/// in tenths of a nanosecond. The time has the making of a thread in it.
 pub fn measure_two_threads<R: Clock + Threads + Sync>(
     rt: &R,
     alloc: Global,

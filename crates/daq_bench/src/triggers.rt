@@ -11,7 +11,8 @@ use std::rt::Clock;
 use std::time::Instant;
 use xcp_base::limits::MAX_SAMPLE_RING;
 
-/// The triggers that one sampler takes: a `ListSend` never frees a place, so it has no room for more.
+/// The triggers that one sampler takes: a `ListSend` never frees a place, so it has no room for
+/// more.
 const TRIGGERS: u32 = MAX_SAMPLE_RING as u32;
 
 /// The samplers of one measurement.
@@ -56,7 +57,8 @@ fn nanos_of_triggers(rt: &impl Clock, alloc: Global, set: &Set) -> Result<u128> 
     Ok(nanos)
 }
 
-/// What one call of `Sampler::trigger` takes that sends a sample of the one list of a set, in tenths of a nanosecond.
+/// What one call of `Sampler::trigger` takes that sends a sample of the one list of a set, in
+/// tenths of a nanosecond.
 pub fn measure_trigger(rt: &impl Clock, alloc: Global, set: &Set) -> Result<u64> {
     let mut best = u64::MAX;
     for _ in 0..MEASUREMENTS {

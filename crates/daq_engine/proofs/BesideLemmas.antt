@@ -1,17 +1,12 @@
 -- Samplers beside a transmitter: looks at what was sent, and what a pump takes between two looks.
-use Rattle.std.proofs.Common.{◌≡◌, ◌≢◌, ℕ, zero, suc, ◌+◌, ◌<◌, ◌≤◌, inl, inr, List, [], ◌∷◌, ◌++◌, length, set, get_or, refl, sym, ap, subst, ◌∙◌, arith}
-use Rattle.std.specs.Prelude.{Bool, Some, Result, slice_get}
+use Rattle.std.proofs.Common.{◌≡◌, ◌≢◌, ℕ, ◌+◌, ◌<◌, List, [], ◌++◌, length, get_or, refl, sym, ap, subst, ◌∙◌, arith, below_more}
+use Rattle.std.specs.Prelude.{Some, Result, slice_get}
 use Rattle.std.specs.Option.{option_map}
-use Rattle.std.proofs.Math.Seq.{map-set_same}
 use Rattle.std.proofs.lemmas.List.{get_or-map, length-map}
-use Rattle.std.proofs.lemmas.Option.{same_Some, slice_get-get_or, slice_get-map}
-use Rattle.std.proofs.lemmas.Bool.Decides.{eqb_tells}
+use Rattle.std.proofs.lemmas.Option.{slice_get-map, slice_get_read}
 use Rattle.xcp_base.specs.declared.item.Item.{Item}
-use Rattle.channel_ring.specs.Room.{units}
 use Rattle.channel_ring.specs.declared.ends.SendEnd.{Ghosts as SendGhosts}
 use Rattle.channel_ring.specs.declared.ends.RingEnd.{Ghosts as EndGhosts}
-use Rattle.sampler.specs.History.{Event, Opening}
-use Rattle.sampler.specs.Standing.{StandsAfter}
 use Rattle.sampler.specs.State.{SamplerState}
 use Rattle.transmitter.specs.Merge.{of_ring}
 use Rattle.transmitter.specs.Looks.{Looked, LookedAt}
@@ -21,24 +16,10 @@ use Rattle.transmitter.specs.Written.{HasTaken, TransmitterState}
 use Rattle.transmitter.specs.declared.pumped.Pumped.{Pumped}
 use Rattle.transmitter.specs.declared.faults.PumpFault.{PumpFault}
 use Rattle.transmitter.proofs.DrainLemmas.{LookedAtAll, known_taken, takes_front, takes_round, with_known}
-use Rattle.daq_engine.specs.Configuration.{Past, upto}
+use Rattle.daq_engine.specs.Configuration.{upto}
 use Rattle.daq_engine.specs.PumpSteps.{IsPumpStep}
-use Rattle.daq_engine.specs.Standings.{AreBeside, IsRoomyAt, StandInOrder, StayThose, sent_of_each}
+use Rattle.daq_engine.specs.Samplers.{AllOnlyLooked, AreBeside, IsRoomyAt, StayThose, sent_of_each}
 use Rattle.daq_engine.proofs.EndLemmas.{get_or-upto}
-
--- one element was changed
-module _ {X : Type 0} where
-  pub slice_get-set_same : (xs : List X) (i : ℕ) (w : X) → i < length xs → slice_get (set xs i w) i ≡ Some w
-  slice_get-set_same [] i w h = absurd (omega (arith, h))
-  slice_get-set_same (x ∷ xs) zero w h = refl
-  slice_get-set_same (x ∷ xs) (suc i) w h = slice_get-set_same xs i w (omega (arith, h))
-
-  pub slice_get-set_other : (xs : List X) (i j : ℕ) (w : X) → j ≢ i → slice_get (set xs i w) j ≡ slice_get xs j
-  slice_get-set_other [] i j w h = refl
-  slice_get-set_other (x ∷ xs) zero zero w h = absurd (h refl)
-  slice_get-set_other (x ∷ xs) zero (suc j) w h = refl
-  slice_get-set_other (x ∷ xs) (suc i) zero w h = refl
-  slice_get-set_other (x ∷ xs) (suc i) (suc j) w h = slice_get-set_other xs i j w (λ e. h (ap suc e))
 
 module _ {S E : Type 0} (send : SendGhosts S E) where
   pub stay_on : (xs ys zs : List (SamplerState S)) → StayThose send xs ys → StayThose send ys zs → StayThose send xs zs
@@ -61,54 +42,29 @@ module _ {S E : Type 0} (send : SendGhosts S E) where
     rings = same ∙ (b.rings ∙ sym a.rings);
   }
 
-  module _ (xs : List (SamplerState S)) (c : ℕ) (d : SamplerState S) (h : c < length xs) where
+  module _ (xs : List (SamplerState S)) (c : ℕ) (old : SamplerState S) (is : old ≡ get_or xs c old) (h : c < length xs) where
     -- the sampler at place c is that of channel c, and of ring c
-    pub channel_at : (t : TransmitterState) → AreBeside send xs t → (get_or xs c d).channel ≡ c
+    pub channel_at : (t : TransmitterState) → AreBeside send xs t → old.channel ≡ c
     channel_at t b =
         let f = λ (s : SamplerState S). s.channel in
         let at : get_or (upto 0 (length xs)) c 0 ≡ c = omega (arith, get_or-upto 0 (length xs) c h) in
-        sym (get_or-map f xs c d 0 h) ∙ ap (λ ys. get_or ys c 0) b.channels ∙ at
+        ap f is ∙ sym (get_or-map f xs c old 0 h) ∙ ap (λ ys. get_or ys c 0) b.channels ∙ at
 
-    pub ring_at : (t : TransmitterState) → AreBeside send xs t → slice_get t.rings (get_or xs c d).channel ≡ Some (send.ring (get_or xs c d).end)
+    pub ring_at : (t : TransmitterState) → AreBeside send xs t → slice_get t.rings old.channel ≡ Some (send.ring old.end)
     ring_at t b =
         let f = λ (s : SamplerState S). send.ring s.end in
-        ap (slice_get t.rings) (channel_at t b) ∙ ap (λ ys. slice_get ys c) b.rings ∙ slice_get-map f xs c ∙ ap (option_map f) (slice_get-get_or xs c d h)
+        ap (slice_get t.rings) (channel_at t b) ∙ ap (λ ys. slice_get ys c) b.rings ∙ slice_get-map f xs c ∙ ap (option_map f) (slice_get_read xs (length xs) c old refl h is)
 
-    pub sent_at : of_ring (sent_of_each send xs) c ≡ send.sent (get_or xs c d).end
-    sent_at = get_or-map (λ (s : SamplerState S). send.sent s.end) xs c d [] h
+    pub sent_at : of_ring (sent_of_each send xs) c ≡ send.sent old.end
+    sent_at = get_or-map (λ (s : SamplerState S). send.sent s.end) xs c old [] h ∙ ap (λ (s : SamplerState S). send.sent s.end) (sym is)
 
-    -- it becomes `new`
-    module _ (new : SamplerState S) where
-      pub stay-set : new ≡ record (get_or xs c d) { end = new.end } → send.ring new.end ≡ send.ring (get_or xs c d).end → send.capacity new.end ≡ send.capacity (get_or xs c d).end
-          → StayThose send xs (set xs c new)
-      stay-set is ring capacity = record {
-        channels = map-set_same (λ (s : SamplerState S). s.channel) xs c new d (ap (λ (s : SamplerState S). s.channel) is);
-        rings = map-set_same (λ (s : SamplerState S). send.ring s.end) xs c new d ring;
-        image_lens = map-set_same (λ (s : SamplerState S). s.image_len) xs c new d (ap (λ (s : SamplerState S). s.image_len) is);
-        capacities = map-set_same (λ (s : SamplerState S). send.capacity s.end) xs c new d capacity;
-      }
-
-      pub sent-set : send.sent new.end ≡ send.sent (get_or xs c d).end → sent_of_each send (set xs c new) ≡ sent_of_each send xs
-      sent-set sent = map-set_same (λ (s : SamplerState S). send.sent s.end) xs c new d sent
-
-      -- whatever the old one stood after, the new one stands after
-      pub stand-set : (ring : EndGhosts E) (past : ℕ → Past)
-          → ((o : Opening) (es : List Event) (ds : List Bool) → StandsAfter send ring (get_or xs c d) o es ds → StandsAfter send ring new o es ds)
-          → StandInOrder send ring xs past → StandInOrder send ring (set xs c new) past
-      stand-set ring past on before k s at = elim (eqb_tells k c) [
-        | inl w ↦
-            let here = subst (λ j. slice_get (set xs c new) j ≡ Some s) w.1 at in
-            let same : new ≡ s = same_Some new s (sym (slice_get-set_same xs c new h) ∙ here) in
-            let p = past c in
-            let then = subst (λ x. StandsAfter send ring x p.opening p.history p.decisions) same (on p.opening p.history p.decisions (before c (get_or xs c d) (slice_get-get_or xs c d h))) in
-            subst (λ j. StandsAfter send ring s (past j).opening (past j).history (past j).decisions) (sym w.1) then
-        | inr w ↦ before k s (sym (slice_get-set_other xs c k new w.1) ∙ at)
-      ]
-
-      pub roomy-set : (ring : EndGhosts E) (t : TransmitterState) → send.capacity new.end ≤ send.free new.end + units ring.cost (of_ring t.known c) → IsRoomyAt send ring (set xs c new) t c
-      roomy-set ring t roomy s at =
-          let same : new ≡ s = same_Some new s (sym (slice_get-set_same xs c new h) ∙ at) in
-          subst (λ (x : SamplerState S). send.capacity x.end ≤ send.free x.end + units ring.cost (of_ring t.known c)) same roomy
+-- samplers that only look, twice
+pub all_looked-more : {S E : Type 0} {send : SendGhosts S E} {ring : EndGhosts E} {xs ys zs : List (SamplerState S)} → AllOnlyLooked send ring xs ys → AllOnlyLooked send ring ys zs → AllOnlyLooked send ring xs zs
+all_looked-more {S} {E} {send} {ring} {xs} {ys} {zs} a b = record {
+  those = stay_on send xs ys zs a.those b.those;
+  sent = b.sent ∙ a.sent;
+  stand = λ past stand. b.stand past (a.stand past stand);
+}
 
 -- a look at one ring leaves what is known of another
 pub looked_elsewhere : (c k : ℕ) (a b : TransmitterState) → LookedAt c a b → k ≢ c → of_ring b.received k ++ of_ring b.known k ≡ of_ring a.received k ++ of_ring a.known k
@@ -117,6 +73,25 @@ looked_elsewhere c k a b look other = rw (ap (λ (u : TransmitterState). u.recei
 -- one look more
 pub looks_again : (t a b : TransmitterState) → Looked t a → Looked a b → Looked t b
 looks_again t a b first second = second ∙ ap (λ (u : TransmitterState). record u { known = b.known }) first
+
+-- the rings below n were looked at: samplers xs became ys, and transmitter t became u
+pub record LookedBelow {S E : Type 0} (send : SendGhosts S E) (ring : EndGhosts E) (n : ℕ) (xs ys : List (SamplerState S)) (t u : TransmitterState) : Type 0 where
+  pub samplers : AllOnlyLooked send ring xs ys
+  pub looked : Looked t u
+  pub left : (e : ℕ) → e < n → of_ring u.received e ++ of_ring u.known e ≡ of_ring (sent_of_each send xs) e
+  pub roomy : (e : ℕ) → e < n → IsRoomyAt send ring ys u e
+
+-- one ring more
+pub looked_below-more : {S E : Type 0} (send : SendGhosts S E) (ring : EndGhosts E) (n : ℕ) (xs ys zs : List (SamplerState S)) (t u v : TransmitterState) → LookedBelow send ring n xs ys t u
+    → AllOnlyLooked send ring ys zs → ((e : ℕ) → e ≢ n → slice_get zs e ≡ slice_get ys e) → LookedAt n u v
+    → of_ring v.received n ++ of_ring v.known n ≡ of_ring (sent_of_each send ys) n → IsRoomyAt send ring zs v n
+    → LookedBelow send ring (n + 1) xs zs t v
+looked_below-more send ring n xs ys zs t u v i samplers others looked left roomy = record {
+  samplers = all_looked-more i.samplers samplers;
+  looked = looks_again t u v i.looked looked.same;
+  left = below_more _ _ (λ k h. looked_elsewhere n k u v looked (omega (arith, h)) ∙ i.left k h) (left ∙ ap (λ ss. of_ring ss n) i.samplers.sent);
+  roomy = below_more _ _ (λ k h. rw (others k (omega (arith, h)), looked.others k (omega (arith, h))) (i.roomy k h)) roomy;
+}
 
 -- a pump between two looks, where this was left before it
 between : (sent : List (List Item)) (n : ℕ) (a : TransmitterState) (left : List (List Item)) (p d : TransmitterState) (answer : Result Pumped PumpFault)

@@ -14,7 +14,7 @@ use Rattle.transmitter.specs.Written.{HasTaken, HasWritten, TransmitterState}
 use Rattle.transmitter.specs.declared.faults.PumpFault.{PumpFault}
 use Rattle.transmitter.specs.declared.faults.PumpFault.TheVariants.{Closed, Failed, Spent}
 use Rattle.daq_engine.specs.Closed.{HasClosed, WasDrained}
-use Rattle.daq_engine.specs.Configuration.{Past}
+use Rattle.sampler.specs.Past.{Past}
 use Rattle.daq_engine.specs.Drained.{DrainLeavesNothing, LeavesNothing}
 use Rattle.daq_engine.specs.Headline.{AllStand, Headline}
 use Rattle.daq_engine.specs.declared.report.Report.{Report}

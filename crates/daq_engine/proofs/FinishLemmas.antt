@@ -1,13 +1,12 @@
 -- One sampler more that was finished.
-use Rattle.std.proofs.Common.{◌≡◌, ℕ, zero, suc, ◌⊎◌, inl, inr, ◌++◌, List, [], ◌∷◌, length, map, Bool, IfSome, Option, Some, refl, sym, ap, subst, ◌∙◌}
+use Rattle.std.proofs.Common.{◌≡◌, ℕ, zero, suc, ◌⊎◌, inl, inr, ◌++◌, List, [], ◌∷◌, length, map, IfSome, Option, Some, refl, sym, ap, subst, ◌∙◌}
 use Rattle.std.specs.Prelude.{slice_get}
 use Rattle.std.proofs.lemmas.List.{length-map, map-append}
 use Rattle.channel_ring.specs.declared.ends.SendEnd.{Ghosts as SendGhosts}
 use Rattle.channel_ring.specs.declared.ends.RingEnd.{Ghosts as EndGhosts}
-use Rattle.sampler.specs.History.{Event, Opening}
-use Rattle.sampler.specs.State.{SamplerEndState, SamplerState, joined}
+use Rattle.sampler.specs.State.{JoinedEnd, SamplerEndState, SamplerState, joined}
 use Rattle.sampler.specs.Standing.{EndStandsAfter, StandsAfter}
-use Rattle.daq_engine.specs.Configuration.{Past}
+use Rattle.sampler.specs.Past.{Past}
 use Rattle.daq_engine.specs.Standings.{EndsStandInOrder, StandInOrder}
 
 -- where two lists show the same, they still do after an element more in each that shows the same
@@ -37,7 +36,7 @@ module _ {S E : Type 0} (send : SendGhosts S E) (ring : EndGhosts E) (past : ℕ
   -- the ends stand in order, where the samplers did
   pub ends-more : (ys : List (SamplerState S)) (s : SamplerState S) (xs zs : List (SamplerEndState E)) (end : SamplerEndState E) (r : Option (SamplerEndState E))
       → zs ≡ xs ++ end ∷ [] → length xs ≡ length ys → r ≡ Some end
-      → IfSome r (λ left. (o : Opening) (h : List Event) (d : List Bool) → StandsAfter send ring s o h d → EndStandsAfter (joined ring left) o h d)
+      → IfSome r (λ left. (past : Past) → StandsAfter send ring s past → EndStandsAfter (joined ring left) past)
       → (StandInOrder send ring ys past → EndsStandInOrder (map (joined ring) xs) past)
       → StandInOrder send ring (ys ++ s ∷ []) past → EndsStandInOrder (map (joined ring) zs) past
   ends-more ys s xs zs end r is as_many found finishes before stand c e at =
@@ -48,8 +47,13 @@ module _ {S E : Type 0} (send : SendGhosts S E) (ring : EndGhosts E) (past : ℕ
         | inl earlier ↦ before (λ k x there. stand k x (still_at ys (s ∷ []) k x there)) c e earlier
         | inr last ↦
             let stood = stand (length ys) s (last_at ys s) in
-            let left = subst (λ o. IfSome o (λ left. (o : Opening) (h : List Event) (d : List Bool) → StandsAfter send ring s o h d → EndStandsAfter (joined ring left) o h d)) found finishes in
-            let now = left (past (length ys)).opening (past (length ys)).history (past (length ys)).decisions stood in
-            subst (λ k. EndStandsAfter e (past k).opening (past k).history (past k).decisions) (sym (last.0 ∙ many))
-            (subst (λ j. EndStandsAfter j (past (length ys)).opening (past (length ys)).history (past (length ys)).decisions) last.1 now)
+            let left = subst (λ o. IfSome o (λ left. (past : Past) → StandsAfter send ring s past → EndStandsAfter (joined ring left) past)) found finishes in
+            let now = left (past (length ys)) stood in
+            subst (λ k. EndStandsAfter e (past k)) (sym (last.0 ∙ many))
+            (subst (λ j. EndStandsAfter j (past (length ys))) last.1 now)
       ]
+
+-- a joined end has the capacity of the end
+pub capacities-joined : {E : Type 0} (ring : EndGhosts E) (es : List (SamplerEndState E)) → map (λ (e : JoinedEnd). e.capacity) (map (joined ring) es) ≡ map (λ (e : SamplerEndState E). e.capacity) es
+capacities-joined ring [] = refl
+capacities-joined ring (e ∷ es) = ap (λ ns. e.capacity ∷ ns) (capacities-joined ring es)

@@ -1,5 +1,6 @@
 -- What an engine that was opened over a store is (own).
-use Rattle.std.specs.Prelude.{◌≡◌, ℕ, ◌<◌, ◌&&◌, Bool, All, List, [], length, map, filter, nat_eq, nat_le}
+use Rattle.std.specs.Prelude.{◌≡◌, ℕ, ◌<◌, ◌&&◌, Bool, true, nat_eq, nat_le}
+use Rattle.std.specs.Prelude.{All, List, [], length, map, filter}
 use Rattle.std.specs.Prelude.{Option, Some, None, Result, Ok, Err}
 use Rattle.std.specs.List.{list_all, list_any}
 use Rattle.xcp_base.specs.declared.limits.TheConstants.{MAX_SAMPLE_RING}
@@ -9,12 +10,14 @@ use Rattle.daq_store.specs.Standing.{StoreState, conf_of, first_pid_of, shows_ru
 use Rattle.copy_plan.specs.Config.{ListPlan, plan_of}
 use Rattle.channel_ring.specs.declared.ends.SendEnd.{Ghosts as SendGhosts}
 use Rattle.channel_ring.specs.declared.ends.RingEnd.{Ghosts as EndGhosts}
-use Rattle.sampler.specs.History.{Opening, has_list, is_list_of}
+use Rattle.xcp_base.specs.Lists.{has_list}
+use Rattle.sampler.specs.History.{Opening, is_list_of}
 use Rattle.sampler.specs.State.{SamplerState}
 use Rattle.frame_writer.specs.Writing.{WriterState}
 use Rattle.transmitter.specs.Written.{HasTaken, TransmitterState}
 use Rattle.daq_engine.specs.Configuration.{IsConfiguration, upto}
-use Rattle.daq_engine.specs.Standings.{StandInOrder, first_past}
+use Rattle.sampler.specs.Past.{first_past}
+use Rattle.daq_engine.specs.Standings.{StandInOrder}
 
 -- a ring of items may have this capacity
 abbrev pub is_cap : ℕ → Bool
@@ -28,9 +31,14 @@ fit_caps s caps = nat_eq (length caps) s.profile.channels && list_all is_cap cap
 abbrev pub some_list_runs : StoreState → Bool
 some_list_runs s = list_any (shows_running s) (numbers_below (length s.lists))
 
+-- an engine may be opened, if there is memory: the capacities fit, and a list runs
+abbrev pub CanOpen : StoreState → List ℕ → Type 0
+CanOpen s caps = (fit_caps s caps ≡ true) × (some_list_runs s ≡ true)
+
 -- list l is ready, and its event channel is c
 abbrev pub is_ready_on : StoreState → ℕ → ℕ → Bool
-is_ready_on s c l = is_ready s.profile.image_len (conf_of s l) && nat_eq (channel_of (conf_of s l).mode) c
+is_ready_on s c l =
+    is_ready s.profile.image_len (conf_of s l) && nat_eq (channel_of (conf_of s l).mode) c
 
 -- the plan of list l, by what the store has of it
 abbrev pub list_plan : StoreState → ℕ → ListPlan
@@ -38,27 +46,35 @@ list_plan s l = plan_of l (conf_of s l) (first_pid_of s l) s.profile.image_len
 
 -- the plans of the lists that are there, ready and of event channel c, in rising list number
 abbrev pub channel_plans : StoreState → ℕ → List ListPlan
-channel_plans s c = map (list_plan s) (filter (is_ready_on s c) (numbers_below (length s.lists)))
+channel_plans s c =
+    map (list_plan s) (filter (is_ready_on s c) (numbers_below (length s.lists)))
 
--- the opening is that of event channel c of the store: the plans are those of its ready lists, and of these run those
--- that run in the store
+-- the opening is that of event channel c of the store: the plans are those of its ready lists, and
+-- of these run those that run in the store
 pub record IsOpeningOf (s : StoreState) (c : ℕ) (opening : Opening) : Type 0 where
   pub channel : opening.channel ≡ c
   pub plans : opening.plans ≡ channel_plans s c
   pub running : (l : ℕ) → has_list opening.running l ≡ (is_list_of opening l && shows_running s l)
 
--- the samplers are those of all event channels of the store, in rising order; sampler c stands after nothing, from opening c
-pub record AreOpened {S E : Type 0} (send : SendGhosts S E) (ring : EndGhosts E) (s : StoreState) (caps : List ℕ) (samplers : List (SamplerState S)) (openings : ℕ → Opening) : Type 0 where
+-- the samplers are those of all event channels of the store, in rising order; sampler c stands
+-- after nothing, from opening c
+pub record AreOpened {S E : Type 0} (send : SendGhosts S E) (ring : EndGhosts E) (s : StoreState)
+    (caps : List ℕ) (samplers : List (SamplerState S)) (openings : ℕ → Opening)
+    : Type 0 where
   pub of_store : (c : ℕ) → c < s.profile.channels → IsOpeningOf s c (openings c)
   pub configuration : IsConfiguration s.profile.channels openings
-  pub channels : map (λ (sampler : SamplerState S). sampler.channel) samplers ≡ upto 0 s.profile.channels
+  pub channels :
+      map (λ (sampler : SamplerState S). sampler.channel) samplers ≡ upto 0 s.profile.channels
   pub stands : StandInOrder send ring samplers (λ c. first_past (openings c))
   pub capacities : map (λ (sampler : SamplerState S). send.capacity sampler.end) samplers ≡ caps
-  pub image_len : All (λ (sampler : SamplerState S). sampler.image_len ≡ s.profile.image_len) samplers
+  pub image_len :
+      All (λ (sampler : SamplerState S). sampler.image_len ≡ s.profile.image_len) samplers
   pub nothing_sent : All (λ (sampler : SamplerState S). send.sent sampler.end ≡ []) samplers
 
 -- the transmitter took nothing yet; its ring c is that of sampler c
-pub record IsPaired {S E : Type 0} (send : SendGhosts S E) (samplers : List (SamplerState S)) (start : WriterState) (t : TransmitterState) : Type 0 where
+pub record IsPaired {S E : Type 0} (send : SendGhosts S E) (samplers : List (SamplerState S))
+    (start : WriterState) (t : TransmitterState)
+    : Type 0 where
   pub rings : t.rings ≡ map (λ (sampler : SamplerState S). send.ring sampler.end) samplers
   pub taken : HasTaken start t []
 

@@ -1,11 +1,11 @@
 //! Samplers beside the transmitter of their rings, in one thread: looks, and a pump step.
 ghost use Rattle.std.specs.Prelude.{◌≡◌, ◌≢◌, ℕ, ◌<◌, ◌++◌, length, slice_get};
+ghost use Rattle.transmitter.specs.Looks.{KnowsAll, Looked, LookedAt};
 ghost use Rattle.transmitter.specs.Merge.{of_ring};
-ghost use Rattle.transmitter.specs.Looks.{LookedAt};
 ghost use Rattle.transmitter.specs.Written.{transmission};
-ghost use Rattle.daq_engine.specs.Configuration.{Past};
 ghost use Rattle.daq_engine.specs.PumpSteps.{IsPumpStep};
-ghost use Rattle.daq_engine.specs.Standings.{AreBeside, AreRoomy, IsRoomyAt, StandInOrder, StayThose, sent_of_each};
+ghost use Rattle.daq_engine.specs.Samplers.{AllOnlyLooked, AreBeside, AreRoomy, IsRoomyAt};
+ghost use Rattle.daq_engine.specs.Samplers.{sent_of_each};
 
 use channel_ring::{Beside, RingEnd, SendEnd, TakeEnd};
 use frame_writer::Out;
@@ -16,26 +16,23 @@ use transmitter::{PumpFault, Pumped, Transmitter};
 ///
 /// From then on each item left is known there, and each unit to be free that no item takes up.
 pub(crate) fn look_at<O: Out, T: Beside>(
-    samplers: &mut [Sampler<T::Send>],
+    samplers: &mut Vec<Sampler<T::Send>>,
     transmitter: &mut Transmitter<O, T>,
     c: usize,
 )
-    requires beside { AreBeside T.Send.SendEnd samplers.old
+    requires beside { AreBeside T.Send.SendEnd samplers.old.items
         (transmission O.Out T.TakeEnd transmitter.old) }
-    requires place { c < length samplers.old }
-    ensures stay { StayThose T.Send.SendEnd samplers.old samplers.new }
-    ensures others { (e : ℕ) → e ≢ c → slice_get samplers.new e ≡ slice_get samplers.old e }
-    ensures sent { sent_of_each T.Send.SendEnd samplers.new
-        ≡ sent_of_each T.Send.SendEnd samplers.old }
-    ensures stand { (past : ℕ → Past) →
-        StandInOrder T.Send.SendEnd T.Send.End.RingEnd samplers.old past →
-        StandInOrder T.Send.SendEnd T.Send.End.RingEnd samplers.new past }
+    requires place { c < length samplers.old.items }
+    ensures samplers { AllOnlyLooked T.Send.SendEnd T.Send.End.RingEnd
+        samplers.old.items samplers.new.items }
+    ensures others_stay { (e : ℕ) → e ≢ c
+        → slice_get samplers.new.items e ≡ slice_get samplers.old.items e }
     ensures looked { LookedAt c (transmission O.Out T.TakeEnd transmitter.old)
         (transmission O.Out T.TakeEnd transmitter.new) }
     ensures left { of_ring (transmission O.Out T.TakeEnd transmitter.new).received c
         ++ of_ring (transmission O.Out T.TakeEnd transmitter.new).known c
-        ≡ of_ring (sent_of_each T.Send.SendEnd samplers.old) c }
-    ensures roomy { IsRoomyAt T.Send.SendEnd T.Send.End.RingEnd samplers.new
+        ≡ of_ring (sent_of_each T.Send.SendEnd samplers.old.items) c }
+    ensures roomy { IsRoomyAt T.Send.SendEnd T.Send.End.RingEnd samplers.new.items
         (transmission O.Out T.TakeEnd transmitter.new) c }
 {
     let sampler = &mut samplers[c];
@@ -46,27 +43,20 @@ pub(crate) fn look_at<O: Out, T: Beside>(
 ///
 /// From then on each item left is known, and each unit to be free that no item takes up.
 pub(crate) fn look<O: Out, T: Beside>(
-    samplers: &mut [Sampler<T::Send>],
+    samplers: &mut Vec<Sampler<T::Send>>,
     transmitter: &mut Transmitter<O, T>,
 )
-    requires beside { AreBeside T.Send.SendEnd samplers.old
+    requires beside { AreBeside T.Send.SendEnd samplers.old.items
         (transmission O.Out T.TakeEnd transmitter.old) }
-    ensures stay { StayThose T.Send.SendEnd samplers.old samplers.new }
-    ensures sent { sent_of_each T.Send.SendEnd samplers.new
-        ≡ sent_of_each T.Send.SendEnd samplers.old }
-    ensures stand { (past : ℕ → Past) →
-        StandInOrder T.Send.SendEnd T.Send.End.RingEnd samplers.old past →
-        StandInOrder T.Send.SendEnd T.Send.End.RingEnd samplers.new past }
-    ensures same { transmission O.Out T.TakeEnd transmitter.new ≡
-        record (transmission O.Out T.TakeEnd transmitter.old) {
-          known = (transmission O.Out T.TakeEnd transmitter.new).known;
-        } }
-    ensures left { (c : ℕ) → of_ring (transmission O.Out T.TakeEnd transmitter.new).received c
-        ++ of_ring (transmission O.Out T.TakeEnd transmitter.new).known c
-        ≡ of_ring (sent_of_each T.Send.SendEnd samplers.old) c }
+    ensures samplers { AllOnlyLooked T.Send.SendEnd T.Send.End.RingEnd
+        samplers.old.items samplers.new.items }
+    ensures looked { Looked (transmission O.Out T.TakeEnd transmitter.old)
+        (transmission O.Out T.TakeEnd transmitter.new) }
+    ensures left { KnowsAll (sent_of_each T.Send.SendEnd samplers.old.items)
+        (transmission O.Out T.TakeEnd transmitter.new) }
     ensures as_many { length (transmission O.Out T.TakeEnd transmitter.new).known
-        ≡ length samplers.old }
-    ensures roomy { AreRoomy T.Send.SendEnd T.Send.End.RingEnd samplers.new
+        ≡ length samplers.old.items }
+    ensures roomy { AreRoomy T.Send.SendEnd T.Send.End.RingEnd samplers.new.items
         (transmission O.Out T.TakeEnd transmitter.new) }
 {
     for c in 0..samplers.len() {
@@ -78,24 +68,20 @@ pub(crate) fn look<O: Out, T: Beside>(
 ///
 /// From then on each item left is known, and each unit to be free that no item takes up.
 pub(crate) fn pump_step<O: Out, T: Beside>(
-    samplers: &mut [Sampler<T::Send>],
+    samplers: &mut Vec<Sampler<T::Send>>,
     transmitter: &mut Transmitter<O, T>,
 ) -> Result<Pumped, PumpFault>
-    requires beside { AreBeside T.Send.SendEnd samplers.old
+    requires beside { AreBeside T.Send.SendEnd samplers.old.items
         (transmission O.Out T.TakeEnd transmitter.old) }
-    ensures stay { StayThose T.Send.SendEnd samplers.old samplers.new }
-    ensures sent { sent_of_each T.Send.SendEnd samplers.new
-        ≡ sent_of_each T.Send.SendEnd samplers.old }
-    ensures stand { (past : ℕ → Past) →
-        StandInOrder T.Send.SendEnd T.Send.End.RingEnd samplers.old past →
-        StandInOrder T.Send.SendEnd T.Send.End.RingEnd samplers.new past }
-    ensures rings { (transmission O.Out T.TakeEnd transmitter.new).rings
+    ensures samplers { AllOnlyLooked T.Send.SendEnd T.Send.End.RingEnd
+        samplers.old.items samplers.new.items }
+    ensures rings_stay { (transmission O.Out T.TakeEnd transmitter.new).rings
         ≡ (transmission O.Out T.TakeEnd transmitter.old).rings }
-    ensures pumps { IsPumpStep (length samplers.old)
-        (of_ring (sent_of_each T.Send.SendEnd samplers.old))
+    ensures pumps { IsPumpStep (length samplers.old.items)
+        (of_ring (sent_of_each T.Send.SendEnd samplers.old.items))
         (transmission O.Out T.TakeEnd transmitter.old)
         (transmission O.Out T.TakeEnd transmitter.new) result }
-    ensures roomy { AreRoomy T.Send.SendEnd T.Send.End.RingEnd samplers.new
+    ensures roomy { AreRoomy T.Send.SendEnd T.Send.End.RingEnd samplers.new.items
         (transmission O.Out T.TakeEnd transmitter.new) }
 {
     look(samplers, transmitter);

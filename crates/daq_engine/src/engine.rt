@@ -1,47 +1,55 @@
 //! An engine in one thread.
 ghost use Rattle.transmitter.specs.Written.{transmission};
-ghost use Rattle.daq_engine.specs.Standings.{AreBeside};
+ghost use Rattle.daq_engine.specs.Samplers.{AreBeside};
 
 use crate::asking::{start_at, stop_at, trigger_at};
 use crate::beside::pump_step;
 use crate::channel_fault::ChannelFault;
 use crate::finishing::{account_after, finish_all};
 use crate::report::Report;
+use crate::unclosed::Unclosed;
 use channel_ring::{Beside, RingEnd, SendEnd, TakeEnd};
-use frame_writer::{FrameWriter, Out};
+use frame_writer::Out;
 use sampler::{ListCounts, Sampler, StartFault, StopFault, Taken, TriggerFault};
 use std::alloc::Global;
 use transmitter::{PumpFault, Pumped, Transmitter};
 
 /// The samplers of all event channels beside the transmitter of their rings, in one thread.
 ///
-/// Contracts speak of what it stands after: the frame writer that it began with, the past of each event channel, and the
-/// items that it took from the rings.
+/// Contracts speak of what it stands after: the frame writer that it began with, the past of each
+/// event channel, and the items that it took from the rings.
 #[derive(Drop)]
 pub struct Engine<O: Out, T: Beside> {
     samplers: Vec<Sampler<T::Send>>,
     transmitter: Transmitter<O, T>,
-    ghost beside: { AreBeside T.Send.SendEnd samplers.items (transmission O.Out T.TakeEnd transmitter) },
+    ghost beside: { AreBeside T.Send.SendEnd samplers.items
+        (transmission O.Out T.TakeEnd transmitter) },
 }
 
 impl<O: Out, T: Beside> Engine<O, T>
 where
     T::Send: SendEnd<End = T::End>,
 {
-    ghost use Rattle.std.specs.Prelude.{◌≡◌, ◌<◌, ◌≤◌, ◌↔◌, [], IfErr, IfOk, OnErr, OnOk, length};
+    ghost use Rattle.std.specs.Prelude.{◌≡◌, ◌<◌, ◌≤◌, [], IfErr, IfOk, OnErr, OnOk, length};
     ghost use Rattle.frame_writer.specs.Shown.{shown};
     ghost use Rattle.sampler.specs.History.{Start, Stop};
-    ghost use Rattle.sampler.specs.Refusals.{AnswersStop, running_at, start_refusal, stop_refusal, trigger_refusal};
+    ghost use Rattle.sampler.specs.Refusals.{AnswersStop, running_at};
+    ghost use Rattle.sampler.specs.Refusals.{start_refusal, stop_refusal, trigger_refusal};
     ghost use Rattle.sampler.specs.Tracks.{counts_after};
-    ghost use Rattle.daq_engine.specs.Asking.{FindsNoRoom, image_len_at, refusal_in};
     ghost use Rattle.transmitter.specs.Written.{transmission};
-    ghost use Rattle.daq_engine.specs.Engines.{ClosesEngine, PumpsOn, Stands, Standing, TakesAt, engine_state, with_event};
-    ghost use Rattle.daq_engine.specs.Standings.{AreBeside, StayThose};
-    ghost use Rattle.daq_engine.specs.Refused.{KeepsEngine};
+    ghost use Rattle.daq_engine.specs.Asking.{FindsNoRoom, StopLeavesEngine, TellsNoChannel};
+    ghost use Rattle.daq_engine.specs.Asking.{image_len_at, refusal_in};
+    ghost use Rattle.daq_engine.specs.Closings.{ClosesEngine, GivesBack};
+    ghost use Rattle.daq_engine.specs.Engines.{LeadsTo, OfPast, Stands, Standing, StaysBut};
+    ghost use Rattle.daq_engine.specs.Engines.{engine_state};
+    ghost use Rattle.daq_engine.specs.Events.{PumpsOn, Triggers, with_event};
+    ghost use Rattle.daq_engine.specs.Samplers.{AreBeside};
 
-    /// An engine of samplers, in rising event channel from 0 on, and the transmitter of their rings.
+    /// An engine of samplers, in rising event channel from 0 on, and the transmitter of their
+    /// rings.
     pub fn new(samplers: Vec<Sampler<T::Send>>, transmitter: Transmitter<O, T>) -> Engine<O, T>
-        requires { AreBeside T.Send.SendEnd samplers.items (transmission O.Out T.TakeEnd transmitter) }
+        requires { AreBeside T.Send.SendEnd samplers.items
+            (transmission O.Out T.TakeEnd transmitter) }
         ensures samplers { (engine_state O.Out T.TakeEnd result).samplers ≡ samplers.items }
         ensures transmitter { (engine_state O.Out T.TakeEnd result).transmitter
             ≡ transmission O.Out T.TakeEnd transmitter }
@@ -57,7 +65,8 @@ where
         ensures samplers { result.0.items ≡ (engine_state O.Out T.TakeEnd self).samplers }
         ensures transmitter { transmission O.Out T.TakeEnd result.1
             ≡ (engine_state O.Out T.TakeEnd self).transmitter }
-        ensures beside { AreBeside T.Send.SendEnd result.0.items (transmission O.Out T.TakeEnd result.1) }
+        ensures beside { AreBeside T.Send.SendEnd result.0.items
+            (transmission O.Out T.TakeEnd result.1) }
     {
         let Engine {
             samplers,
@@ -73,14 +82,17 @@ where
         self.samplers.len()
     }
 
-    /// The transmitter, to be read: the sample in hand, and how many samples of a list were written.
+    /// The transmitter, to be read: the sample in hand, and how many samples of a list were
+    /// written.
     pub fn transmitter(&self) -> &Transmitter<O, T>
-        ensures { transmission O.Out T.TakeEnd result.now ≡ (engine_state O.Out T.TakeEnd self.now).transmitter }
+        ensures { transmission O.Out T.TakeEnd result.now
+            ≡ (engine_state O.Out T.TakeEnd self.now).transmitter }
     {
         &self.transmitter
     }
 
-    /// Hands a trigger to the sampler of event channel `c`, with the memory image and a timestamp in ticks.
+    /// Hands a trigger to the sampler of event channel `c`, with the memory image and a timestamp
+    /// in ticks.
     ///
     /// Refused with `NoChannel`, or as `Sampler::trigger` refuses it; then nothing changes.
     pub fn trigger(
@@ -89,29 +101,23 @@ where
         image: &[u8],
         stamp: u32,
     ) -> Result<Taken, ChannelFault<TriggerFault>>
-        ensures ok { IfOk result (λ taken. (st : Standing) →
-            Stands T.Send.SendEnd T.End.RingEnd (engine_state O.Out T.TakeEnd self.old) st →
-            TakesAt T.Send.SendEnd T.End.RingEnd (engine_state O.Out T.TakeEnd self.old)
-            (engine_state O.Out T.TakeEnd self.new) c taken st image.now stamp) }
-        ensures refused { (st : Standing) →
-            Stands T.Send.SendEnd T.End.RingEnd (engine_state O.Out T.TakeEnd self.old) st →
-            c < length (engine_state O.Out T.TakeEnd self.old).samplers →
-            refusal_in result
-            ≡ trigger_refusal (image_len_at (engine_state O.Out T.TakeEnd self.old).samplers c)
-            (st.past c).history image.now }
-        ensures no_channel { (result ≡ Err ChannelFault.NoChannel)
-            ↔ (length (engine_state O.Out T.TakeEnd self.old).samplers ≤ c) }
+        ensures ok { IfOk result (λ taken. Triggers T.Send.SendEnd T.End.RingEnd
+            (engine_state O.Out T.TakeEnd self.old) (engine_state O.Out T.TakeEnd self.new)
+            c taken image.now stamp) }
+        ensures refused { OfPast T.Send.SendEnd T.End.RingEnd
+            (engine_state O.Out T.TakeEnd self.old) c (λ past. refusal_in result ≡ trigger_refusal
+            (image_len_at (engine_state O.Out T.TakeEnd self.old).samplers c)
+            past image.now) }
+        ensures no_channel { TellsNoChannel c (engine_state O.Out T.TakeEnd self.old) result }
         ensures err { OnErr result
             (engine_state O.Out T.TakeEnd self.new ≡ engine_state O.Out T.TakeEnd self.old) }
-        ensures stay { StayThose T.Send.SendEnd (engine_state O.Out T.TakeEnd self.old).samplers
-            (engine_state O.Out T.TakeEnd self.new).samplers }
-        ensures transmitter { (engine_state O.Out T.TakeEnd self.new).transmitter
-            ≡ (engine_state O.Out T.TakeEnd self.old).transmitter }
+        ensures others_stay { StaysBut T.Send.SendEnd c
+            (engine_state O.Out T.TakeEnd self.old) (engine_state O.Out T.TakeEnd self.new) }
     {
         if c >= self.samplers.len() {
             return Err(ChannelFault::NoChannel);
         }
-        match trigger_at(self.samplers.as_mut_slice(), c, image, stamp) {
+        match trigger_at(&mut self.samplers, c, image, stamp) {
             Ok(taken) => Ok(taken),
             Err(fault) => Err(ChannelFault::Refused(fault)),
         }
@@ -121,27 +127,22 @@ where
     ///
     /// Refused with `NoChannel`, or as `Sampler::start` refuses it; then nothing changes.
     pub fn start(&mut self, c: usize, l: u8) -> Result<(), ChannelFault<StartFault>>
-        ensures ok { OnOk result ((st : Standing) →
-            Stands T.Send.SendEnd T.End.RingEnd (engine_state O.Out T.TakeEnd self.old) st →
-            Stands T.Send.SendEnd T.End.RingEnd (engine_state O.Out T.TakeEnd self.new)
-            (with_event c (Start l) [] st)) }
-        ensures refused { (st : Standing) →
-            Stands T.Send.SendEnd T.End.RingEnd (engine_state O.Out T.TakeEnd self.old) st →
-            c < length (engine_state O.Out T.TakeEnd self.old).samplers →
-            refusal_in result ≡ start_refusal (running_at (st.past c).opening (st.past c).history l) }
-        ensures no_channel { (result ≡ Err ChannelFault.NoChannel)
-            ↔ (length (engine_state O.Out T.TakeEnd self.old).samplers ≤ c) }
+        ensures ok { OnOk result (LeadsTo T.Send.SendEnd T.End.RingEnd
+            (engine_state O.Out T.TakeEnd self.old) (engine_state O.Out T.TakeEnd self.new)
+            (with_event c (Start l) [])) }
+        ensures refused { OfPast T.Send.SendEnd T.End.RingEnd
+            (engine_state O.Out T.TakeEnd self.old) c (λ past. refusal_in result
+            ≡ start_refusal (running_at past l)) }
+        ensures no_channel { TellsNoChannel c (engine_state O.Out T.TakeEnd self.old) result }
         ensures err { OnErr result
             (engine_state O.Out T.TakeEnd self.new ≡ engine_state O.Out T.TakeEnd self.old) }
-        ensures stay { StayThose T.Send.SendEnd (engine_state O.Out T.TakeEnd self.old).samplers
-            (engine_state O.Out T.TakeEnd self.new).samplers }
-        ensures transmitter { (engine_state O.Out T.TakeEnd self.new).transmitter
-            ≡ (engine_state O.Out T.TakeEnd self.old).transmitter }
+        ensures others_stay { StaysBut T.Send.SendEnd c
+            (engine_state O.Out T.TakeEnd self.old) (engine_state O.Out T.TakeEnd self.new) }
     {
         if c >= self.samplers.len() {
             return Err(ChannelFault::NoChannel);
         }
-        match start_at(self.samplers.as_mut_slice(), c, l) {
+        match start_at(&mut self.samplers, c, l) {
             Ok(()) => Ok(()),
             Err(fault) => Err(ChannelFault::Refused(fault)),
         }
@@ -149,59 +150,57 @@ where
 
     /// Stops a DAQ list of event channel `c`, and sends its stop marker.
     ///
-    /// Refused with `NoChannel`, or as `Sampler::stop` refuses it; then it stands as it stood.
+    /// Refused with `NoChannel`, or as `Sampler::stop` refuses it. Then nothing changes but, with
+    /// `NoRoom`, what the channel's sampler knows to be free.
     pub fn stop(&mut self, c: usize, l: u8) -> Result<(), ChannelFault<StopFault>>
-        ensures ok { OnOk result ((st : Standing) →
-            Stands T.Send.SendEnd T.End.RingEnd (engine_state O.Out T.TakeEnd self.old) st →
-            Stands T.Send.SendEnd T.End.RingEnd (engine_state O.Out T.TakeEnd self.new)
-            (with_event c (Stop l) [] st)) }
-        ensures refused { (st : Standing) →
-            Stands T.Send.SendEnd T.End.RingEnd (engine_state O.Out T.TakeEnd self.old) st →
-            c < length (engine_state O.Out T.TakeEnd self.old).samplers →
-            AnswersStop (stop_refusal (running_at (st.past c).opening (st.past c).history l))
-            (refusal_in result) }
+        ensures ok { OnOk result (LeadsTo T.Send.SendEnd T.End.RingEnd
+            (engine_state O.Out T.TakeEnd self.old) (engine_state O.Out T.TakeEnd self.new)
+            (with_event c (Stop l) [])) }
+        ensures refused { OfPast T.Send.SendEnd T.End.RingEnd
+            (engine_state O.Out T.TakeEnd self.old) c
+            (λ past. AnswersStop (stop_refusal (running_at past l))
+            (refusal_in result)) }
         ensures no_room { result ≡ Err (ChannelFault.Refused StopFault.NoRoom) →
-            FindsNoRoom T.Send.SendEnd T.End.RingEnd (engine_state O.Out T.TakeEnd self.old).samplers c l }
-        ensures no_channel { (result ≡ Err ChannelFault.NoChannel)
-            ↔ (length (engine_state O.Out T.TakeEnd self.old).samplers ≤ c) }
-        ensures err { OnErr result ((st : Standing) →
-            Stands T.Send.SendEnd T.End.RingEnd (engine_state O.Out T.TakeEnd self.old) st →
-            Stands T.Send.SendEnd T.End.RingEnd (engine_state O.Out T.TakeEnd self.new) st) }
-        ensures stay { StayThose T.Send.SendEnd (engine_state O.Out T.TakeEnd self.old).samplers
-            (engine_state O.Out T.TakeEnd self.new).samplers }
-        ensures transmitter { (engine_state O.Out T.TakeEnd self.new).transmitter
-            ≡ (engine_state O.Out T.TakeEnd self.old).transmitter }
+            FindsNoRoom T.Send.SendEnd T.End.RingEnd
+            (engine_state O.Out T.TakeEnd self.old).samplers c l }
+        ensures no_channel { TellsNoChannel c (engine_state O.Out T.TakeEnd self.old) result }
+        ensures err { IfErr result (StopLeavesEngine T.Send.SendEnd c
+            (engine_state O.Out T.TakeEnd self.old) (engine_state O.Out T.TakeEnd self.new)) }
+        ensures err_stands { OnErr result (LeadsTo T.Send.SendEnd T.End.RingEnd
+            (engine_state O.Out T.TakeEnd self.old) (engine_state O.Out T.TakeEnd self.new)
+            (λ st. st)) }
+        ensures others_stay { StaysBut T.Send.SendEnd c
+            (engine_state O.Out T.TakeEnd self.old) (engine_state O.Out T.TakeEnd self.new) }
     {
         if c >= self.samplers.len() {
             return Err(ChannelFault::NoChannel);
         }
-        match stop_at(self.samplers.as_mut_slice(), c, l) {
+        match stop_at(&mut self.samplers, c, l) {
             Ok(()) => Ok(()),
             Err(fault) => Err(ChannelFault::Refused(fault)),
         }
     }
 
-    /// Pumps: all that was sent is looked at, then the first item left in each ring that has one is taken, in rising event
-    /// channel, and each sample is written as frames; then all is looked at again.
+    /// Pumps: all that was sent is looked at, then the first item left in each ring that has one is
+    /// taken, in rising event channel, and each sample is written as frames; then all is looked at
+    /// again.
     ///
     /// Refused as `Transmitter::pump` refuses it.
     pub fn pump(&mut self) -> Result<Pumped, PumpFault>
-        ensures pumps { PumpsOn T.Send.SendEnd T.End.RingEnd (engine_state O.Out T.TakeEnd self.old)
-            (engine_state O.Out T.TakeEnd self.new) result }
-        ensures stay { StayThose T.Send.SendEnd (engine_state O.Out T.TakeEnd self.old).samplers
-            (engine_state O.Out T.TakeEnd self.new).samplers }
+        ensures pumps { PumpsOn T.Send.SendEnd T.End.RingEnd
+            (engine_state O.Out T.TakeEnd self.old) (engine_state O.Out T.TakeEnd self.new) result }
     {
-        pump_step(self.samplers.as_mut_slice(), &mut self.transmitter)
+        pump_step(&mut self.samplers, &mut self.transmitter)
     }
 
-    /// How often a DAQ list of event channel `c` was due, and what became of its samples; `None` where there is no such
-    /// channel, or the list isn't of it.
+    /// How often a DAQ list of event channel `c` was due, and what became of its samples; `None`
+    /// where there is no such channel, or the list isn't of it.
     pub fn counts(&self, c: usize, l: u8) -> Option<ListCounts>
-        ensures after { (st : Standing) →
-            Stands T.Send.SendEnd T.End.RingEnd (engine_state O.Out T.TakeEnd self.now) st →
-            c < length (engine_state O.Out T.TakeEnd self.now).samplers →
-            result ≡ counts_after (st.past c).opening (st.past c).history (st.past c).decisions l }
-        ensures no_channel { length (engine_state O.Out T.TakeEnd self.now).samplers ≤ c → result ≡ None }
+        ensures after { OfPast T.Send.SendEnd T.End.RingEnd
+            (engine_state O.Out T.TakeEnd self.now) c
+            (λ past. result ≡ counts_after past l) }
+        ensures no_channel { length (engine_state O.Out T.TakeEnd self.now).samplers ≤ c
+            → result ≡ None }
     {
         if c >= self.samplers.len() {
             return None;
@@ -209,15 +208,19 @@ where
         self.samplers[c].counts(l)
     }
 
-    /// Closes the engine, after a drain of its rings where that is wanted: the report, and the writer as it stands.
+    /// Closes the engine, after a drain of its rings where that is wanted: the report, and the
+    /// writer as it stands.
     ///
-    /// A fault of the drain doesn't keep it from being closed: the report says that the writer failed. Refused with `Memory`,
-    /// before anything is done, and then the engine comes back; or with `Lost` where a ring's `finish` gave nothing.
+    /// A fault of the drain doesn't keep it from being closed: the report says that the writer
+    /// failed. Refused with `Memory`, before anything is done, and then the engine comes back; or
+    /// with `Lost` where a ring's `finish` gave nothing, and then the frame writer does.
     pub fn close(self, alloc: Global, drain: bool) -> Result<(Report, O), Unclosed<O, T>>
         ensures closed { IfOk result (λ r. (st : Standing) →
             Stands T.Send.SendEnd T.End.RingEnd (engine_state O.Out T.TakeEnd self) st →
-            ClosesEngine T.Send.SendEnd drain (engine_state O.Out T.TakeEnd self) st r.0 (shown O.Out r.1)) }
-        ensures memory { IfErr result (λ r. KeepsEngine O.Out T.TakeEnd r (engine_state O.Out T.TakeEnd self)) }
+            ClosesEngine T.Send.SendEnd drain (engine_state O.Out T.TakeEnd self) st
+            r.0 (shown O.Out r.1)) }
+        ensures back { IfErr result (λ r.
+            GivesBack O.Out T.TakeEnd r (engine_state O.Out T.TakeEnd self)) }
     {
         let Ok(room) = Vec::with_capacity(alloc, self.samplers.len()) else {
             return Err(Unclosed::Memory(self));
@@ -234,13 +237,4 @@ where
             None => Err(Unclosed::Lost(transmitter.into_writer())),
         }
     }
-}
-
-/// Why an engine was not closed.
-#[derive(Drop)]
-pub enum Unclosed<O: Out, T: Beside> {
-    /// There was no memory for its closing. The engine is as it was.
-    Memory(Engine<O, T>),
-    /// What is left of a sampler didn't come back from its ring. No ring of this crate does so while its transmitter is there.
-    Lost(FrameWriter<O>),
 }

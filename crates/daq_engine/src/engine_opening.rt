@@ -3,7 +3,8 @@ ghost use Rattle.std.specs.Prelude.{◌≡◌, ℕ, ◌↔◌, IfErr, IfOk, OnOk
 ghost use Rattle.frame_writer.specs.Writing.{state_of};
 ghost use Rattle.sampler.specs.History.{Opening};
 ghost use Rattle.daq_engine.specs.Engines.{Stands, engine_state, first_standing};
-ghost use Rattle.daq_engine.specs.Openings.{AreOpened, fit_caps, refusal_of, some_list_runs};
+ghost use Rattle.daq_engine.specs.Openings.{AreOpened, CanOpen};
+ghost use Rattle.daq_engine.specs.Openings.{fit_caps, refusal_of, some_list_runs};
 
 use crate::engine::Engine;
 use crate::open_fault::OpenFault;
@@ -25,7 +26,7 @@ impl<O: Out> Engine<O, TakeHalf> {
     ) -> Result<Engine<O, TakeHalf>, (OpenFault, FrameWriter<O>)>
         requires is_open { (state_of O.Out writer).closed ≡ false }
 
-        ensures ok { OnOk result ((fit_caps store.now caps.now ≡ true) × (some_list_runs store.now ≡ true)) }
+        ensures ok { OnOk result (CanOpen store.now caps.now) }
         ensures opened { IfOk result (λ engine. (openings : ℕ → Opening)
             × AreOpened ⟦<SendHalf as SendEnd>⟧ ⟦<SendLeft as RingEnd>⟧ store.now caps.now
             (engine_state O.Out ⟦<TakeHalf as TakeEnd>⟧ engine).samplers openings
@@ -34,11 +35,11 @@ impl<O: Out> Engine<O, TakeHalf> {
             (first_standing (state_of O.Out writer) openings)) }
 
         // the checks, in their order
-        ensures bad_caps { (refusal_of result ≡ Some OpenFault.BadCaps) ↔ (fit_caps store.now caps.now ≡ false) }
+        ensures bad_caps { (refusal_of result ≡ Some OpenFault.BadCaps)
+            ↔ (fit_caps store.now caps.now ≡ false) }
         ensures nothing_running { (refusal_of result ≡ Some OpenFault.NothingRunning)
             ↔ ((fit_caps store.now caps.now ≡ true) × (some_list_runs store.now ≡ false)) }
-        ensures memory { refusal_of result ≡ Some OpenFault.Memory
-            → (fit_caps store.now caps.now ≡ true) × (some_list_runs store.now ≡ true) }
+        ensures memory { refusal_of result ≡ Some OpenFault.Memory → CanOpen store.now caps.now }
 
         ensures back { IfErr result (λ refusal. refusal.1 ≡ writer) }
     {

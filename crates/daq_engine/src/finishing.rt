@@ -1,17 +1,18 @@
 //! From samplers to their ends, and from these to the account.
-ghost use Rattle.std.specs.Prelude.{◌≡◌, ℕ, ◌↔◌, ◌≤◌, IfErr, IfOk, IfSome, List, OnOk, map, vec_capacity, vec_len};
-ghost use Rattle.xcp_base.specs.declared.item.Item.{Item};
+ghost use Rattle.std.specs.Prelude.{◌≡◌, ℕ, ◌↔◌, ◌≤◌, map, vec_capacity, vec_len};
+ghost use Rattle.std.specs.Prelude.{IfErr, IfOk, IfSome, OnOk};
 ghost use Rattle.frame_writer.specs.Shown.{shown};
-ghost use Rattle.frame_writer.specs.Writing.{WriterState};
 ghost use Rattle.sampler.specs.State.{joined, sent_by};
+ghost use Rattle.transmitter.specs.Looks.{AreOfRings};
 ghost use Rattle.transmitter.specs.Pumps.{TakesMore};
-ghost use Rattle.transmitter.specs.Written.{HasTaken, transmission};
-ghost use Rattle.daq_engine.specs.Closed.{HasClosed, WasDrained};
-ghost use Rattle.daq_engine.specs.Configuration.{Past};
-ghost use Rattle.daq_engine.specs.Headline.{AllStand, AreEndsOf};
-ghost use Rattle.daq_engine.specs.Standings.{EndsStandInOrder, StandInOrder, sent_of_each};
+ghost use Rattle.transmitter.specs.Written.{transmission};
+ghost use Rattle.daq_engine.specs.Closed.{ClosesWith, WasDrained};
+ghost use Rattle.sampler.specs.Past.{Past};
+ghost use Rattle.daq_engine.specs.Headline.{AreEndsOf};
+ghost use Rattle.daq_engine.specs.Samplers.{sent_of_each};
+ghost use Rattle.daq_engine.specs.Standings.{EndsStandInOrder, StandInOrder};
 
-use crate::closing::{account, are_in_order};
+use crate::closing::{account, room_for};
 use crate::faults::CloseFault;
 use crate::laws::drained_engines_leave_nothing;
 use crate::report::{ListReport, Report};
@@ -21,7 +22,8 @@ use sampler::{Sampler, SamplerEnd};
 use std::alloc::Global;
 use transmitter::Transmitter;
 
-/// What is left of some samplers, which are all finished, in their order and in the room that was made for it.
+/// What is left of some samplers, which are all finished, in their order and in the room that was
+/// made for it.
 ///
 /// `None` only where the `finish` of a ring answers it.
 pub fn finish_all<S: SendEnd>(
@@ -56,22 +58,25 @@ fn drain_if<O: Out, T: TakeEnd>(
     ends: &mut Vec<SamplerEnd<T::End>>,
     drain: bool,
 )
-    requires one_ring { (transmission O.Out T.TakeEnd transmitter.old).rings
-        ≡ map (λ e. T.End.ring e.end) ends.old.items }
+    requires one_ring { AreOfRings T.End.RingEnd (transmission O.Out T.TakeEnd transmitter.old)
+        ends.old.items }
     ensures drained { WasDrained drain (sent_by (map (joined T.End.RingEnd) ends.old.items))
-        (transmission O.Out T.TakeEnd transmitter.old) (transmission O.Out T.TakeEnd transmitter.new) }
+        (transmission O.Out T.TakeEnd transmitter.old)
+        (transmission O.Out T.TakeEnd transmitter.new) }
     ensures more { TakesMore (transmission O.Out T.TakeEnd transmitter.old)
         (transmission O.Out T.TakeEnd transmitter.new) }
-    ensures one_ring { (transmission O.Out T.TakeEnd transmitter.new).rings
-        ≡ map (λ e. T.End.ring e.end) ends.new.items }
-    ensures ends { map (joined T.End.RingEnd) ends.new.items ≡ map (joined T.End.RingEnd) ends.old.items }
+    ensures one_ring { AreOfRings T.End.RingEnd (transmission O.Out T.TakeEnd transmitter.new)
+        ends.new.items }
+    ensures ends_stay { map (joined T.End.RingEnd) ends.new.items
+        ≡ map (joined T.End.RingEnd) ends.old.items }
 {
     if drain {
         let _ = transmitter.drain(ends.as_mut_slice());
     }
 }
 
-/// The report of an engine, in the room that was made for its lines, and the writer, after a drain where that is wanted.
+/// The report of an engine, in the room that was made for its lines, and the writer, after a drain
+/// where that is wanted.
 pub fn account_after<O: Out, T: TakeEnd>(
     room: Vec<ListReport>,
     mut transmitter: Transmitter<O, T>,
@@ -80,23 +85,22 @@ pub fn account_after<O: Out, T: TakeEnd>(
 ) -> (Report, O)
     requires empty { vec_len room ≡ 0 }
     requires enough { 16 ≤ vec_capacity room }
-    requires one_ring { (transmission O.Out T.TakeEnd transmitter).rings
-        ≡ map (λ e. T.End.ring e.end) ends.items }
-    ensures { (start : WriterState) (ps : List (ℕ × Item)) (past : ℕ → Past) →
-        HasTaken start (transmission O.Out T.TakeEnd transmitter) ps →
-        AllStand (map (joined T.End.RingEnd) ends.items) past →
-        HasClosed drain start ps (transmission O.Out T.TakeEnd transmitter)
-        (map (joined T.End.RingEnd) ends.items) past result.0 (shown O.Out result.1) }
+    requires one_ring { AreOfRings T.End.RingEnd (transmission O.Out T.TakeEnd transmitter)
+        ends.items }
+    ensures { ClosesWith drain (transmission O.Out T.TakeEnd transmitter)
+        (map (joined T.End.RingEnd) ends.items) result.0 (shown O.Out result.1) }
 {
     drained_engines_leave_nothing();
     drain_if(&mut transmitter, &mut ends, drain);
     account(room, transmitter, ends)
 }
 
-/// Closes an engine whose samplers were finished, as `close` does, after a drain of its rings where that is wanted.
+/// Closes an engine whose samplers were finished, as `close` does, after a drain of its rings where
+/// that is wanted.
 ///
-/// A fault of the drain doesn't keep the engine from being closed: the report says that the writer failed. Refused as
-/// `close` is, before anything is drained; each refusal hands all back, as it was.
+/// A fault of the drain doesn't keep the engine from being closed: the report says that the writer
+/// failed. Refused as `close` is, before anything is drained; each refusal hands all back, as it
+/// was.
 pub fn drain_and_close<O: Out, T: TakeEnd>(
     alloc: Global,
     transmitter: Transmitter<O, T>,
@@ -104,13 +108,10 @@ pub fn drain_and_close<O: Out, T: TakeEnd>(
     drain: bool,
 ) -> Result<(Report, O), (CloseFault, Transmitter<O, T>, Vec<SamplerEnd<T::End>>)>
     requires one_ring { AreEndsOf (transmission O.Out T.TakeEnd transmitter) ends.items
-        → (transmission O.Out T.TakeEnd transmitter).rings ≡ map (λ e. T.End.ring e.end) ends.items }
+        → AreOfRings T.End.RingEnd (transmission O.Out T.TakeEnd transmitter) ends.items }
 
-    ensures closed { IfOk result (λ r. (start : WriterState) (ps : List (ℕ × Item)) (past : ℕ → Past) →
-        HasTaken start (transmission O.Out T.TakeEnd transmitter) ps →
-        AllStand (map (joined T.End.RingEnd) ends.items) past →
-        HasClosed drain start ps (transmission O.Out T.TakeEnd transmitter)
-        (map (joined T.End.RingEnd) ends.items) past r.0 (shown O.Out r.1)) }
+    ensures closed { IfOk result (λ r. ClosesWith drain (transmission O.Out T.TakeEnd transmitter)
+        (map (joined T.End.RingEnd) ends.items) r.0 (shown O.Out r.1)) }
     ensures fit { OnOk result (AreEndsOf (transmission O.Out T.TakeEnd transmitter) ends.items) }
 
     ensures wrong_ends { IfErr result (λ back. (back.0 ≡ CloseFault.WrongEnds)
@@ -119,11 +120,8 @@ pub fn drain_and_close<O: Out, T: TakeEnd>(
         → AreEndsOf (transmission O.Out T.TakeEnd transmitter) ends.items) }
     ensures back { IfErr result (λ back. (back.1 ≡ transmitter) × (back.2 ≡ ends)) }
 {
-    if !are_in_order(ends.as_slice(), transmitter.rings()) {
-        return Err((CloseFault::WrongEnds, transmitter, ends));
+    match room_for(alloc, &transmitter, &ends) {
+        Ok(room) => Ok(account_after(room, transmitter, ends, drain)),
+        Err(fault) => Err((fault, transmitter, ends)),
     }
-    let Ok(room) = Vec::with_capacity(alloc, 16) else {
-        return Err((CloseFault::Memory, transmitter, ends));
-    };
-    Ok(account_after(room, transmitter, ends, drain))
 }

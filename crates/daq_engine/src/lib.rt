@@ -14,12 +14,14 @@ pub mod laws;
 mod open_fault;
 mod opening;
 mod report;
+mod unclosed;
 
 pub use channel_fault::ChannelFault;
 pub use closing::close;
-pub use engine::{Engine, Unclosed};
+pub use engine::Engine;
 pub use faults::CloseFault;
 pub use finishing::{drain_and_close, finish_all};
 pub use open_fault::OpenFault;
 pub use opening::open;
 pub use report::{ListReport, Report};
+pub use unclosed::Unclosed;

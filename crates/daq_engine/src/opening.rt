@@ -1,10 +1,12 @@
-ghost use Rattle.std.specs.Prelude.{◌≡◌, ℕ, ◌<◌, ◌≤◌, ◌↔◌, IfErr, IfOk, OnOk, Some, false, length, true};
+ghost use Rattle.std.specs.Prelude.{◌≡◌, ℕ, ◌<◌, ◌≤◌, ◌↔◌, false, true, length};
+ghost use Rattle.std.specs.Prelude.{IfErr, IfOk, OnOk, Some};
 ghost use Rattle.std.specs.List.{list_all};
 ghost use Rattle.sampler.specs.History.{Opening};
 ghost use Rattle.frame_writer.specs.Writing.{state_of};
 ghost use Rattle.transmitter.specs.Written.{transmission, writer_of};
-ghost use Rattle.daq_engine.specs.Openings.{AreOpened, IsPaired, fit_caps, is_cap, refusal_of, some_list_runs};
-ghost use Rattle.daq_engine.specs.Opened.{IsOpenedAt, AreOpenedTo};
+ghost use Rattle.daq_engine.specs.Openings.{AreOpened, CanOpen, IsPaired};
+ghost use Rattle.daq_engine.specs.Openings.{fit_caps, is_cap, refusal_of, some_list_runs};
+ghost use Rattle.daq_engine.specs.Inner.Opened.{IsOpenedAt, AreOpenedTo};
 
 use crate::channel_plans::{plans_of, running_of};
 use crate::open_fault::OpenFault;
@@ -16,11 +18,13 @@ use std::alloc::{AllocError, Global};
 use transmitter::Transmitter;
 use xcp_base::limits::MAX_SAMPLE_RING;
 
-/// Opens an engine over a store: a sampler for each event channel, in rising order, and the transmitter of their rings.
+/// Opens an engine over a store: a sampler for each event channel, in rising order, and the
+/// transmitter of their rings.
 ///
-/// Each DAQ list that is ready is in the sampler of its event channel, and runs there where it runs in the store. The ring
-/// of event channel `c` has `caps[c]` places, 1 to `MAX_SAMPLE_RING`. Refused with `BadCaps`, `NothingRunning` or `Memory`,
-/// in this order; then the writer comes back as it was.
+/// Each DAQ list that is ready is in the sampler of its event channel, and runs there where it runs
+/// in the store. The ring of event channel `c` has `caps[c]` places, 1 to `MAX_SAMPLE_RING`.
+/// Refused with `BadCaps`, `NothingRunning` or `Memory`, in this order; then the writer comes back
+/// as it was.
 pub fn open<O: Out>(
     alloc: Global,
     store: &Store,
@@ -29,19 +33,21 @@ pub fn open<O: Out>(
 ) -> Result<(Vec<Sampler<SendHalf>>, Transmitter<O, TakeHalf>), (OpenFault, FrameWriter<O>)>
     requires is_open { (state_of O.Out writer).closed ≡ false }
 
-    ensures ok { OnOk result ((fit_caps store.now caps.now ≡ true) × (some_list_runs store.now ≡ true)) }
+    ensures ok { OnOk result (CanOpen store.now caps.now) }
     ensures opened { IfOk result (λ engine. (openings : ℕ → Opening)
-        × AreOpened ⟦<SendHalf as SendEnd>⟧ ⟦<SendLeft as RingEnd>⟧ store.now caps.now engine.0.items openings) }
-    ensures paired { IfOk result (λ engine. IsPaired ⟦<SendHalf as SendEnd>⟧ engine.0.items (state_of O.Out writer)
+        × AreOpened ⟦<SendHalf as SendEnd>⟧ ⟦<SendLeft as RingEnd>⟧ store.now caps.now
+        engine.0.items openings) }
+    ensures paired { IfOk result (λ engine. IsPaired ⟦<SendHalf as SendEnd>⟧
+        engine.0.items (state_of O.Out writer)
         (transmission O.Out ⟦<TakeHalf as TakeEnd>⟧ engine.1)) }
     ensures writer { IfOk result (λ engine. writer_of engine.1 ≡ writer) }
 
     // the checks, in their order
-    ensures bad_caps { (refusal_of result ≡ Some OpenFault.BadCaps) ↔ (fit_caps store.now caps.now ≡ false) }
+    ensures bad_caps { (refusal_of result ≡ Some OpenFault.BadCaps)
+        ↔ (fit_caps store.now caps.now ≡ false) }
     ensures nothing_running { (refusal_of result ≡ Some OpenFault.NothingRunning)
         ↔ ((fit_caps store.now caps.now ≡ true) × (some_list_runs store.now ≡ false)) }
-    ensures memory { refusal_of result ≡ Some OpenFault.Memory
-        → (fit_caps store.now caps.now ≡ true) × (some_list_runs store.now ≡ true) }
+    ensures memory { refusal_of result ≡ Some OpenFault.Memory → CanOpen store.now caps.now }
 
     ensures back { IfErr result (λ refusal. refusal.1 ≡ writer) }
 {
@@ -88,7 +94,8 @@ fn any_runs(store: &Store) -> bool
     (0..store.lists()).any(|l| store.running(l))
 }
 
-/// The sampler of an event channel of the store, and the take end of its ring, which has `cap` places.
+/// The sampler of an event channel of the store, and the take end of its ring, which has `cap`
+/// places.
 fn sampler_of(
     alloc: Global,
     store: &Store,
@@ -97,7 +104,8 @@ fn sampler_of(
 ) -> Result<(Sampler<SendHalf>, TakeHalf), AllocError>
     requires channel { c < 8 }
     ensures opened { IfOk result (λ r. (opening : Opening)
-        × IsOpenedAt ⟦<SendHalf as SendEnd>⟧ ⟦<SendLeft as RingEnd>⟧ ⟦<TakeHalf as TakeEnd>⟧ store.now c cap r.0 r.1 opening) }
+        × IsOpenedAt ⟦<SendHalf as SendEnd>⟧ ⟦<SendLeft as RingEnd>⟧ ⟦<TakeHalf as TakeEnd>⟧
+        store.now c cap r.0 r.1 opening) }
 {
     let Ok(plans) = plans_of(alloc, store, c) else {
         return Err(AllocError);
@@ -118,7 +126,8 @@ fn samplers_of(
 ) -> Result<(Vec<Sampler<SendHalf>>, Vec<TakeHalf>), AllocError>
     requires caps { length caps.now ≡ store.now.profile.channels }
     ensures opened { IfOk result (λ r.
-        AreOpenedTo ⟦<SendHalf as SendEnd>⟧ ⟦<SendLeft as RingEnd>⟧ ⟦<TakeHalf as TakeEnd>⟧ store.now caps.now r.0.items r.1.items) }
+        AreOpenedTo ⟦<SendHalf as SendEnd>⟧ ⟦<SendLeft as RingEnd>⟧ ⟦<TakeHalf as TakeEnd>⟧
+        store.now caps.now r.0.items r.1.items) }
     ensures some { 1 ≤ store.now.profile.channels }
     ensures few { store.now.profile.channels ≤ 8 }
 {

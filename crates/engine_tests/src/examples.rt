@@ -11,8 +11,9 @@ use std::process::Abort;
 use std::test::Fail;
 use transmitter::PumpFault;
 
-/// A worked example: the lists that run, the length of the images, the rings' places, how many bytes the writer takes a
-/// call and in all, the calls; then what the engine comes to, after a drain or without one.
+/// A worked example: the lists that run, the length of the images, the rings' places, how many
+/// bytes the writer takes a call and in all, the calls; then what the engine comes to, after a
+/// drain or without one.
 #[derive(Clone, Copy)]
 struct Example<'a> {
     name: &'a str,

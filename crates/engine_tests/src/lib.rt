@@ -1,4 +1,5 @@
-//! The tests of whole engines, in one thread and in three, and of what refused memory leaves. As a library this crate is empty.
+//! The tests of whole engines, in one thread and in three, and of what refused memory leaves. As a
+//! library this crate is empty.
 #![tactic(auto)]
 
 #[cfg(test)]

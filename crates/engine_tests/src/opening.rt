@@ -10,7 +10,8 @@ use std::alloc::Global;
 use std::test::Fail;
 use transmitter::Transmitter;
 
-/// Why an engine isn't opened over the store, and CTR of the next frame of the writer that comes back, which wrote one.
+/// Why an engine isn't opened over the store, and CTR of the next frame of the writer that comes
+/// back, which wrote one.
 fn refusal(rt: &HostRuntime, store: &Store, caps: &[usize]) -> Result<(OpenFault, u16), Fail> {
     let mut writer = FrameWriter::new(VecOut::new(rt.alloc()));
     writer.send(&[0xFF])?;
@@ -20,8 +21,8 @@ fn refusal(rt: &HostRuntime, store: &Store, caps: &[usize]) -> Result<(OpenFault
     }
 }
 
-/// Engines that aren't opened over a store of one list: whether it runs (START_STOP_DAQ_LIST 1) or not (0), the capacities, and
-/// why.
+/// Engines that aren't opened over a store of one list: whether it runs (START_STOP_DAQ_LIST 1) or
+/// not (0), the capacities, and why.
 const REFUSED: [(&str, u8, &[usize], OpenFault); 9] = [
     ("no capacity, nothing runs", 0, &[], OpenFault::BadCaps),
     ("capacity 0, nothing runs", 0, &[0], OpenFault::BadCaps),
@@ -60,8 +61,8 @@ fn an_engine_that_is_refused_gives_the_writer_back(rt: HostRuntime) -> Result<()
     Ok(())
 }
 
-/// A store in which lists 1 and 3 are of event channel 0, and lists 0, 2 and 4 of channel 1; lists 1 and 2 run, and list 4
-/// isn't ready, since its entry isn't written.
+/// A store in which lists 1 and 3 are of event channel 0, and lists 0, 2 and 4 of channel 1; lists
+/// 1 and 2 run, and list 4 isn't ready, since its entry isn't written.
 fn two_channels(alloc: Global) -> Result<Store, Fail> {
     let lists = [WHOLE_OF_1, WHOLE, WHOLE_OF_1, WHOLE, WHOLE_OF_1];
     let mut store = ready_of(alloc, 2, 2, &lists)?;
@@ -137,8 +138,8 @@ fn a_sampler_sends_through_the_ring_of_its_place(rt: HostRuntime) -> Result<(), 
     Ok(())
 }
 
-/// In a run of `rt try --test --fail-alloc N` the Nth allocation fails; the first twelve are those of the store, and where a
-/// later one fails, the store and the writer still serve.
+/// In a run of `rt try --test --fail-alloc N` the Nth allocation fails; the first twelve are those
+/// of the store, and where a later one fails, the store and the writer still serve.
 #[test]
 fn after_a_refused_growth_an_engine_can_be_opened(rt: HostRuntime) -> Result<(), Fail> {
     let store = two_channels(rt.alloc())?;

@@ -10,7 +10,8 @@ use transmitter::{PumpFault, Pumped};
 /// A call, and its answer.
 #[derive(Clone, Copy)]
 pub enum Step<'a> {
-    /// A trigger of an event channel with an image and a timestamp, and the lists due, accepted and dropped.
+    /// A trigger of an event channel with an image and a timestamp, and the lists due, accepted and
+    /// dropped.
     Trigger(usize, &'a [u8], u32, [u16; 3]),
     /// A trigger of event channel 0 that is refused.
     Refused(&'a [u8], TriggerFault),

@@ -97,8 +97,8 @@ pub const WHOLE_OF_1: List = List {
     entries: &[(0, 2)],
 };
 
-/// A store of two event channels, for images of two bytes, in which list `c` of each event channel `c` runs and has the whole
-/// image.
+/// A store of two event channels, for images of two bytes, in which list `c` of each event channel
+/// `c` runs and has the whole image.
 pub fn two_lists(alloc: Global) -> Result<Store, Fail> {
     store_of(alloc, 2, 2, &[WHOLE, WHOLE_OF_1])
 }

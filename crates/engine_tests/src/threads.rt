@@ -17,7 +17,8 @@ use transmitter::Transmitter;
 
 /// A thousand triggers, each with its number as the image; then the sampler is finished.
 fn sample_all(sampler: Sampler<SendHalf>, ended: &AtomicUsize) -> Option<SamplerEnd<SendLeft>>
-    ensures ring { IfSome result (λ end. ⟦<SendLeft as RingEnd>⟧.ring end.end ≡ ⟦<SendHalf as SendEnd>⟧.ring sampler.end) }
+    ensures ring { IfSome result (λ end. ⟦<SendLeft as RingEnd>⟧.ring end.end
+        ≡ ⟦<SendHalf as SendEnd>⟧.ring sampler.end) }
     ensures channel { IfSome result (λ end. end.channel ≡ sampler.channel) }
 {
     let mut sampler = sampler;
@@ -34,7 +35,8 @@ fn pump_all(
     transmitter: Transmitter<VecOut<Global>, TakeHalf>,
     ended: &AtomicUsize,
 ) -> Transmitter<VecOut<Global>, TakeHalf>
-    ensures { (transmission ⟦<VecOut<Global> as Out>⟧ ⟦<TakeHalf as TakeEnd>⟧ result).rings ≡ (transmission ⟦<VecOut<Global> as Out>⟧ ⟦<TakeHalf as TakeEnd>⟧ transmitter).rings }
+    ensures { (transmission ⟦<VecOut<Global> as Out>⟧ ⟦<TakeHalf as TakeEnd>⟧ result).rings
+        ≡ (transmission ⟦<VecOut<Global> as Out>⟧ ⟦<TakeHalf as TakeEnd>⟧ transmitter).rings }
 {
     let mut transmitter = transmitter;
     for _ in 0..u64::MAX {
@@ -56,8 +58,10 @@ fn pump_beside(
     Option<SamplerEnd<SendLeft>>,
     Transmitter<VecOut<Global>, TakeHalf>,
 )
-    ensures ring { IfSome result.0 (λ end. ⟦<SendLeft as RingEnd>⟧.ring end.end ≡ ⟦<SendHalf as SendEnd>⟧.ring sampler.end) }
-    ensures rings { (transmission ⟦<VecOut<Global> as Out>⟧ ⟦<TakeHalf as TakeEnd>⟧ result.1).rings ≡ (transmission ⟦<VecOut<Global> as Out>⟧ ⟦<TakeHalf as TakeEnd>⟧ transmitter).rings }
+    ensures ring { IfSome result.0 (λ end. ⟦<SendLeft as RingEnd>⟧.ring end.end
+        ≡ ⟦<SendHalf as SendEnd>⟧.ring sampler.end) }
+    ensures rings { (transmission ⟦<VecOut<Global> as Out>⟧ ⟦<TakeHalf as TakeEnd>⟧ result.1).rings
+        ≡ (transmission ⟦<VecOut<Global> as Out>⟧ ⟦<TakeHalf as TakeEnd>⟧ transmitter).rings }
 {
     thread::join(
         rt,
@@ -66,7 +70,8 @@ fn pump_beside(
     )
 }
 
-/// The two samplers of a store of two event channels, and the transmitter of their rings, which have 16 places each.
+/// The two samplers of a store of two event channels, and the transmitter of their rings, which
+/// have 16 places each.
 pub fn two_of(
     rt: &HostRuntime,
     store: &Store,
@@ -78,7 +83,9 @@ pub fn two_of(
     ),
     Fail,
 >
-    ensures rings { IfOk result (λ r. (transmission ⟦<VecOut<Global> as Out>⟧ ⟦<TakeHalf as TakeEnd>⟧ r.2).rings ≡ ⟦<SendHalf as SendEnd>⟧.ring r.0.end ∷ ⟦<SendHalf as SendEnd>⟧.ring r.1.end ∷ []) }
+    ensures rings { IfOk result (λ r.
+        (transmission ⟦<VecOut<Global> as Out>⟧ ⟦<TakeHalf as TakeEnd>⟧ r.2).rings
+        ≡ ⟦<SendHalf as SendEnd>⟧.ring r.0.end ∷ ⟦<SendHalf as SendEnd>⟧.ring r.1.end ∷ []) }
 {
     let writer = FrameWriter::new(VecOut::new(rt.alloc()));
     let Ok((mut samplers, transmitter)) = open(rt.alloc(), store, &[16, 16], writer) else {
@@ -99,7 +106,9 @@ fn close_two(
     first: SamplerEnd<SendLeft>,
     second: SamplerEnd<SendLeft>,
 ) -> Result<(Report, VecOut<Global>), Fail>
-    requires rings { (transmission ⟦<VecOut<Global> as Out>⟧ ⟦<TakeHalf as TakeEnd>⟧ transmitter).rings ≡ ⟦<SendLeft as RingEnd>⟧.ring first.end ∷ ⟦<SendLeft as RingEnd>⟧.ring second.end ∷ [] }
+    requires rings { (transmission ⟦<VecOut<Global> as Out>⟧ ⟦<TakeHalf as TakeEnd>⟧
+        transmitter).rings
+        ≡ ⟦<SendLeft as RingEnd>⟧.ring first.end ∷ ⟦<SendLeft as RingEnd>⟧.ring second.end ∷ [] }
 {
     let mut transmitter = transmitter;
     let mut ends = Vec::new(alloc);
@@ -112,9 +121,9 @@ fn close_two(
     }
 }
 
-/// How many packets of lists 0 and 1 the bytes have, where the frames' counters rise by one and each list's packets carry
-/// rising numbers of triggers, with the overload indication exactly where the number isn't one more than that of the packet
-/// before.
+/// How many packets of lists 0 and 1 the bytes have, where the frames' counters rise by one and
+/// each list's packets carry rising numbers of triggers, with the overload indication exactly where
+/// the number isn't one more than that of the packet before.
 fn packets_of(bytes: &[u8]) -> Option<[u64; 2]> {
     let mut rest = bytes;
     let mut next = [0u16; 2];

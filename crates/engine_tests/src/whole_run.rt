@@ -1,11 +1,15 @@
-//! A whole run in one thread, over any writer and any kind of ring: it has the headline, with its history by name.
-ghost use Rattle.std.specs.Prelude.{◌≡◌, ℕ, ◌<◌, [], Bool, IfOk, List, true};
+//! A whole run in one thread, over any writer and any kind of ring: it has the headline, with its
+//! history by name.
+ghost use Rattle.std.specs.Prelude.{ℕ, ◌<◌, [], Bool, IfOk, List, true};
 ghost use Rattle.xcp_base.specs.declared.item.Item.{Item};
 ghost use Rattle.frame_writer.specs.Shown.{shown};
 ghost use Rattle.frame_writer.specs.Writing.{fresh_writer};
 ghost use Rattle.sampler.specs.History.{Opening, Start, Stop, Trigger};
 ghost use Rattle.daq_engine.specs.Openings.{IsOpeningOf};
-ghost use Rattle.daq_engine.specs.Engines.{ClosesEngine, EngineState, Stands, Standing, engine_state, first_standing, with_event, with_taken};
+ghost use Rattle.daq_engine.specs.Closings.{ClosesEngine};
+ghost use Rattle.daq_engine.specs.Engines.{EngineState, Stands, Standing};
+ghost use Rattle.daq_engine.specs.Engines.{engine_state, first_standing};
+ghost use Rattle.daq_engine.specs.Events.{with_event, with_taken};
 
 use crate::same::same;
 use crate::stores::two_lists;
@@ -16,8 +20,8 @@ use frame_writer::{FrameWriter, Out, VecOut};
 use std::alloc::Global;
 use std::test::Fail;
 
-/// Takes a trigger of event channel 0, pumps, stops list 0 and starts it again, and closes the engine once its rings are
-/// drained.
+/// Takes a trigger of event channel 0, pumps, stops list 0 and starts it again, and closes the
+/// engine once its rings are drained.
 fn run_once<O: Out + Drop, T: Beside>(
     alloc: Global,
     engine: Engine<O, T>,

@@ -19,7 +19,9 @@ fn one_of(
     rt: &HostRuntime,
     store: &Store,
 ) -> Result<(Sampler<SendHalf>, Transmitter<VecOut<Global>, TakeHalf>), Fail>
-    ensures rings { IfOk result (λ r. (transmission ⟦<VecOut<Global> as Out>⟧ ⟦<TakeHalf as TakeEnd>⟧ r.1).rings ≡ ⟦<SendHalf as SendEnd>⟧.ring r.0.end ∷ []) }
+    ensures rings { IfOk result (λ r.
+        (transmission ⟦<VecOut<Global> as Out>⟧ ⟦<TakeHalf as TakeEnd>⟧ r.1).rings
+        ≡ ⟦<SendHalf as SendEnd>⟧.ring r.0.end ∷ []) }
 {
     let writer = FrameWriter::new(VecOut::new(rt.alloc()));
     let Ok((mut samplers, transmitter)) = open(rt.alloc(), store, &[8], writer) else {
@@ -75,7 +77,9 @@ fn with_its_own(
     transmitter: Transmitter<VecOut<Global>, TakeHalf>,
     end: SamplerEnd<SendLeft>,
 ) -> Result<bool, Fail>
-    requires rings { (transmission ⟦<VecOut<Global> as Out>⟧ ⟦<TakeHalf as TakeEnd>⟧ transmitter).rings ≡ ⟦<SendLeft as RingEnd>⟧.ring end.end ∷ [] }
+    requires rings { (transmission ⟦<VecOut<Global> as Out>⟧ ⟦<TakeHalf as TakeEnd>⟧
+        transmitter).rings
+        ≡ ⟦<SendLeft as RingEnd>⟧.ring end.end ∷ [] }
 {
     let mut ends = Vec::new(alloc);
     ends.push(end)?;

@@ -20,7 +20,8 @@ fn main(rt: HostRuntime) -> Result<()> {
     Ok(())
 }
 
-/// One event channel and images of two bytes. Of its one DAQ list, which runs, the one entry is the whole image.
+/// One event channel and images of two bytes. Of its one DAQ list, which runs, the one entry is the
+/// whole image.
 fn set_up(alloc: Global) -> Result<Store> {
     let mut store = Store::new(alloc, 1, 2)?;
     store.alloc_daq(1)?;

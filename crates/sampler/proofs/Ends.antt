@@ -4,6 +4,7 @@ use Rattle.channel_ring.specs.declared.ends.SendEnd.{Ghosts as SendGhosts}
 use Rattle.channel_ring.specs.declared.ends.RingEnd.{Ghosts as EndGhosts}
 use Rattle.copy_plan.specs.Config.{ListPlan}
 use Rattle.sampler.specs.History.{Event, Opening}
+use Rattle.sampler.specs.Past.{Past}
 use Rattle.sampler.specs.Decisions.{decided, pairs_of}
 use Rattle.sampler.specs.Tracks.{track_of, counts_of}
 use Rattle.sampler.specs.State.{SamplerState, SamplerEndState, joined}
@@ -15,19 +16,19 @@ unfolding track_of
 counts-tracks o h d [] = refl
 counts-tracks o h d (plan ∷ plans) = ap (λ cs. counts_of (pairs_of plan.list (decided o h d)) ∷ cs) (counts-tracks o h d plans)
 
-pub end-stands : {S E : Type 0} (send : SendGhosts S E) (ring : EndGhosts E) (s : SamplerState S) (left : SamplerEndState E) (o : Opening) (h : List Event) (d : List Bool) → StandsAfter send ring s o h d → left.channel ≡ s.channel → left.plans ≡ s.plans → left.counts ≡ map (λ (t : Track). t.counts) s.tracks → left.capacity ≡ send.capacity s.end → ring.all_sent left.end ≡ send.sent s.end → EndStandsAfter (joined ring left) o h d
-end-stands send ring s left o h d stands channel plans counts capacity sent = record {
+pub end-stands : {S E : Type 0} (send : SendGhosts S E) (ring : EndGhosts E) (s : SamplerState S) (left : SamplerEndState E) (past : Past) → StandsAfter send ring s past → left.channel ≡ s.channel → left.plans ≡ s.plans → left.counts ≡ map (λ (t : Track). t.counts) s.tracks → left.capacity ≡ send.capacity s.end → ring.all_sent left.end ≡ send.sent s.end → EndStandsAfter (joined ring left) past
+end-stands send ring s left past stands channel plans counts capacity sent = record {
   channel = channel ∙ stands.channel;
   plans = plans ∙ stands.plans;
   decisions = stands.decisions;
   sent = sent ∙ stands.sent;
-  counts = counts ∙ ap (map (λ (t : Track). t.counts)) stands.tracks ∙ counts-tracks o h d o.plans;
+  counts = counts ∙ ap (map (λ (t : Track). t.counts)) stands.tracks ∙ counts-tracks past.opening past.history past.decisions past.opening.plans;
   drops = rw capacity stands.drops;
 }
 
 -- a sampler that was given another end, with the same items sent and the same capacity, stands after the same
-pub same-stands : {S E : Type 0} (send : SendGhosts S E) (ring : EndGhosts E) (s : SamplerState S) (end : S) (o : Opening) (h : List Event) (d : List Bool) → StandsAfter send ring s o h d → send.sent end ≡ send.sent s.end → send.capacity end ≡ send.capacity s.end → StandsAfter send ring (record s { end = end }) o h d
-same-stands send ring s end o h d stands sent capacity = record {
+pub same-stands : {S E : Type 0} (send : SendGhosts S E) (ring : EndGhosts E) (s : SamplerState S) (end : S) (past : Past) → StandsAfter send ring s past → send.sent end ≡ send.sent s.end → send.capacity end ≡ send.capacity s.end → StandsAfter send ring (record s { end = end }) past
+same-stands send ring s end past stands sent capacity = record {
   channel = stands.channel;
   plans = stands.plans;
   decisions = stands.decisions;

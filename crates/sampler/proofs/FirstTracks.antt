@@ -14,11 +14,15 @@ use Rattle.std.specs.List.{position_or_len}
 use Rattle.channel_ring.specs.declared.ends.SendEnd.{Ghosts as SendGhosts}
 use Rattle.channel_ring.specs.declared.ends.RingEnd.{Ghosts as EndGhosts}
 use Rattle.copy_plan.specs.Config.{ListPlan}
-use Rattle.sampler.specs.History.{Event, Trigger, Opening, has_list, runs_after, triggers_since_start, due, with_past}
+use Rattle.xcp_base.specs.Lists.{has_list}
+use Rattle.sampler.specs.History.{Event, Trigger, Opening, runs_after, triggers_since_start, due, with_past}
+use Rattle.sampler.specs.Past.{first_past}
 use Rattle.sampler.specs.Decisions.{overload_pending}
 use Rattle.sampler.specs.Items.{items}
-use Rattle.sampler.specs.Tracks.{track_of, first_track, phase_of, counts_of}
-use Rattle.sampler.specs.State.{ArePlansOf, RiseFrom, TracksFit, IsSampler, place_of, runs_at, is_running}
+use Rattle.sampler.specs.Tracks.{track_of, phase_after, counts_of}
+use Rattle.sampler.specs.Inner.Fits.{first_track}
+use Rattle.sampler.specs.State.{ArePlansOf, RiseFrom, place_of, track_runs}
+use Rattle.sampler.specs.Inner.Fits.{TracksFit, IsSampler, list_runs}
 use Rattle.sampler.specs.Standing.{StandsAfter, DropsOnlyWhenFull}
 use Rattle.sampler.specs.declared.track.Track.{Track}
 use Rattle.sampler.proofs.Places.{no_plan, no_track, rise_least, slice_get-get_or}
@@ -99,7 +103,7 @@ no_place false i e = refl
 pub not_less : (a b : ℕ) → nat_lt a b ≡ false → b ≤ a
 not_less a b e = grind (arith, nat_tests)
 
-by_place : (k : ℕ) (plans : List ListPlan) (tracks : List Track) (o : Option ℕ) → RiseFrom 0 plans → length plans ≤ length tracks → place_of k plans ≡ o → is_running (option_and_then (λ i. slice_get tracks i) o) ≡ runs_among k plans tracks
+by_place : (k : ℕ) (plans : List ListPlan) (tracks : List Track) (o : Option ℕ) → RiseFrom 0 plans → length plans ≤ length tracks → place_of k plans ≡ o → track_runs (option_and_then (λ i. slice_get tracks i) o) ≡ runs_among k plans tracks
 by_place k plans tracks None r fits e =
     let p : ListPlan → Bool = λ plan. nat_eq plan.list k in
     let none : length plans ≤ position_or_len p plans = not_less (position_or_len p plans) (length plans) (no_place (nat_lt (position_or_len p plans) (length plans)) (position_or_len p plans) e) in
@@ -107,12 +111,12 @@ by_place k plans tracks None r fits e =
 by_place k plans tracks (Some i) r fits e =
     let found : (i < length plans) × (nat_eq (get_or plans i no_plan).list k ≡ true) × ((j : ℕ) → j < i → nat_eq (get_or plans j no_plan).list k ≡ false) = position-Some (λ (plan : ListPlan). nat_eq plan.list k) plans i no_plan e in
     let is : (get_or plans i no_plan).list ≡ k = grind (arith, nat_tests, found.1) in
-    ap is_running (slice_get-get_or tracks i (omega (arith, found.0)))
+    ap track_runs (slice_get-get_or tracks i (omega (arith, found.0)))
     ∙ sym (runs_among-at k 0 plans tracks i r found.0 fits is)
 
 -- the first place of a list tells as much as all places do
-pub runs_at-among : (k : ℕ) (plans : List ListPlan) (tracks : List Track) → RiseFrom 0 plans → length plans ≤ length tracks → runs_at k plans tracks ≡ runs_among k plans tracks
-runs_at-among k plans tracks r fits = by_place k plans tracks (place_of k plans) r fits refl
+pub list_runs-among : (k : ℕ) (plans : List ListPlan) (tracks : List Track) → RiseFrom 0 plans → length plans ≤ length tracks → list_runs k plans tracks ≡ runs_among k plans tracks
+list_runs-among k plans tracks r fits = by_place k plans tracks (place_of k plans) r fits refl
 
 pub rise-length : (channel image_len least : ℕ) (plans : List ListPlan) → RiseFrom least plans → ArePlansOf channel image_len plans → least ≤ 16 → least + length plans ≤ 16
 rise-length channel image_len least [] r a h = omega arith
@@ -143,7 +147,7 @@ no_phase true p h = zero-mod p
 no_phase false p h = refl
 
 first_of : (o : Opening) (plan : ListPlan) → 0 < plan.prescaler → track_of o [] [] plan ≡ first_track o.running plan.list
-unfolding track_of phase_of runs_after triggers_since_start counts_of overload_pending due with_past
+unfolding track_of phase_after runs_after triggers_since_start counts_of overload_pending due with_past
 first_of o plan h = ap (λ n. record { running = has_list o.running plan.list; phase = n; pending = false; counts = record { due = 0; accepted = 0; dropped = 0 } }) (no_phase (has_list o.running plan.list) plan.prescaler h)
 
 firsts_of : (o : Opening) (channel image_len : ℕ) (plans : List ListPlan) → ArePlansOf channel image_len plans → map (λ (plan : ListPlan). first_track o.running plan.list) plans ≡ map (track_of o [] []) plans
@@ -164,13 +168,13 @@ no_due : (o : Opening) → due o [] ≡ []
 unfolding due with_past
 no_due o = refl
 
-pub no_drops : (capacity : ℕ) (cost : Item → ℕ) (o : Opening) → DropsOnlyWhenFull capacity cost o [] []
+pub no_drops : (capacity : ℕ) (cost : Item → ℕ) (o : Opening) → DropsOnlyWhenFull capacity cost (first_past o)
 unfolding DropsOnlyWhenFull
-no_drops capacity cost o = λ past rest image stamp k plan is. absurd (no_event past rest (Trigger image stamp) is)
+no_drops capacity cost o = λ before rest image stamp k plan is. absurd (no_event before rest (Trigger image stamp) is)
 
 -- a new sampler stands after nothing
 pub first-stands : {S E : Type 0} (send : SendGhosts S E) (ring : EndGhosts E) (channel image_len running : ℕ) (plans : List ListPlan) (end : S) (tracks : List Track) → ArePlansOf channel image_len plans → take (length plans) tracks ≡ map (λ (plan : ListPlan). first_track running plan.list) plans → send.sent end ≡ [] →
-    StandsAfter send ring (record { channel = channel; image_len = image_len; plans = plans; end = end; tracks = take (length plans) tracks; triggers = 0; accepted = 0 }) (record { channel = channel; plans = plans; running = running }) [] []
+    StandsAfter send ring (record { channel = channel; image_len = image_len; plans = plans; end = end; tracks = take (length plans) tracks; triggers = 0; accepted = 0 }) (first_past (record { channel = channel; plans = plans; running = running }))
 first-stands send ring channel image_len running plans end tracks a is none =
     let o : Opening = record { channel = channel; plans = plans; running = running } in
     record {

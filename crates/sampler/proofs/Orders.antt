@@ -6,6 +6,7 @@ use Rattle.channel_ring.specs.declared.ends.SendEnd.{Ghosts as SendGhosts}
 use Rattle.channel_ring.specs.declared.ends.RingEnd.{Ghosts as EndGhosts}
 use Rattle.copy_plan.specs.Config.{ListPlan}
 use Rattle.sampler.specs.History.{Event, Start, Stop, Opening, due_at}
+use Rattle.sampler.specs.Past.{Past, one_more}
 use Rattle.sampler.specs.Items.{items_at}
 use Rattle.sampler.specs.Tracks.{track_of}
 use Rattle.sampler.specs.State.{SamplerState, RiseFrom, place_of}
@@ -17,7 +18,16 @@ use Rattle.sampler.proofs.Places.{changed_at, no_track, place-below, take-set_at
 use Rattle.std.proofs.lemmas.List.{get_or-take}
 use Rattle.sampler.proofs.Tracking.{track-start_other, track-start_same, track-stop_other, track-stop_same}
 
-module _ {S E : Type 0} (send : SendGhosts S E) (ring : EndGhosts E) (before after : SamplerState S) (o : Opening) (h : List Event) (d : List Bool) (l i : ℕ) (rising : RiseFrom 0 before.plans) (at : place_of l before.plans ≡ Some i) (stands : StandsAfter send ring before o h d) where
+module _ {S E : Type 0} (send : SendGhosts S E) (ring : EndGhosts E) (before after : SamplerState S) (past : Past) (l i : ℕ) (rising : RiseFrom 0 before.plans) (at : place_of l before.plans ≡ Some i) (stands : StandsAfter send ring before past) where
+  abbrev o : Opening
+  o = past.opening
+
+  abbrev h : List Event
+  h = past.history
+
+  abbrev d : List Bool
+  d = past.decisions
+
   rising_there : RiseFrom 0 o.plans
   rising_there = subst (RiseFrom 0) stands.plans rising
 
@@ -34,11 +44,10 @@ module _ {S E : Type 0} (send : SendGhosts S E) (ring : EndGhosts E) (before aft
       o.plans i rising_there at_there (ap (λ ts. get_or ts i no_track) (sym stands.tracks))
       ∙ ap (λ ts. set ts i (record t { running = true })) (sym stands.tracks)
 
-  pub start-stands : (get_or before.tracks i no_track).running ≡ false → after.channel ≡ before.channel → after.plans ≡ before.plans → after.end ≡ before.end → after.tracks ≡ set before.tracks i (record (get_or before.tracks i no_track) { running = true }) → after.triggers ≡ before.triggers → after.accepted ≡ before.accepted → StandsAfter send ring after o (h ++ Start l ∷ []) d
+  pub start-stands : (get_or before.tracks i no_track).running ≡ false → after.channel ≡ before.channel → after.plans ≡ before.plans → after.end ≡ before.end → after.tracks ≡ set before.tracks i (record (get_or before.tracks i no_track) { running = true }) → after.triggers ≡ before.triggers → after.accepted ≡ before.accepted → StandsAfter send ring after (one_more past (Start l) [])
   unfolding items_at due_at
   start-stands stopped channel plans end tracks triggers accepted =
-      let P : List Bool → Type 0 = λ ds. StandsAfter send ring after o (h ++ Start l ∷ []) ds in
-      subst P (append_nil d) (stands-more send ring before after o h (Start l) d [] stands (record {
+      stands-more send ring before after past (Start l) [] stands (record {
         same_channel = channel;
         same_plans = plans;
         decisions = refl;
@@ -48,7 +57,7 @@ module _ {S E : Type 0} (send : SendGhosts S E) (ring : EndGhosts E) (before aft
         accepted = omega (arith, accepted);
         same_capacity = ap send.capacity end;
         drops = tt;
-      }))
+      })
 
   pub stop-tracks : map (track_of o (h ++ Stop l ∷ []) d) o.plans ≡ set before.tracks i (record (get_or before.tracks i no_track) { running = false; phase = 0 })
   unfolding track_of
@@ -60,11 +69,10 @@ module _ {S E : Type 0} (send : SendGhosts S E) (ring : EndGhosts E) (before aft
       o.plans i rising_there at_there (ap (λ ts. get_or ts i no_track) (sym stands.tracks))
       ∙ ap (λ ts. set ts i (record t { running = false; phase = 0 })) (sym stands.tracks)
 
-  pub stop-stands : after.channel ≡ before.channel → after.plans ≡ before.plans → send.sent after.end ≡ send.sent before.end ++ Marker (record { channel = before.channel; list = l }) ∷ [] → send.capacity after.end ≡ send.capacity before.end → after.tracks ≡ set before.tracks i (record (get_or before.tracks i no_track) { running = false; phase = 0 }) → after.triggers ≡ before.triggers → after.accepted ≡ before.accepted → StandsAfter send ring after o (h ++ Stop l ∷ []) d
+  pub stop-stands : after.channel ≡ before.channel → after.plans ≡ before.plans → send.sent after.end ≡ send.sent before.end ++ Marker (record { channel = before.channel; list = l }) ∷ [] → send.capacity after.end ≡ send.capacity before.end → after.tracks ≡ set before.tracks i (record (get_or before.tracks i no_track) { running = false; phase = 0 }) → after.triggers ≡ before.triggers → after.accepted ≡ before.accepted → StandsAfter send ring after (one_more past (Stop l) [])
   unfolding items_at due_at
   stop-stands channel plans sent capacity tracks triggers accepted =
-      let P : List Bool → Type 0 = λ ds. StandsAfter send ring after o (h ++ Stop l ∷ []) ds in
-      subst P (append_nil d) (stands-more send ring before after o h (Stop l) d [] stands (record {
+      stands-more send ring before after past (Stop l) [] stands (record {
         same_channel = channel;
         same_plans = plans;
         decisions = refl;
@@ -74,19 +82,19 @@ module _ {S E : Type 0} (send : SendGhosts S E) (ring : EndGhosts E) (before aft
         accepted = omega (arith, accepted);
         same_capacity = capacity;
         drops = tt;
-      }))
+      })
 
-module _ {S E : Type 0} (send : SendGhosts S E) (ring : EndGhosts E) (channel image_len : ℕ) (plans : List ListPlan) (end new_end : S) (tracks : List Track) (u : Track) (triggers accepted l i : ℕ) (rising : RiseFrom 0 plans) (at : place_of l plans ≡ Some i) (o : Opening) (h : List Event) (d : List Bool) where
+module _ {S E : Type 0} (send : SendGhosts S E) (ring : EndGhosts E) (channel image_len : ℕ) (plans : List ListPlan) (end new_end : S) (tracks : List Track) (u : Track) (triggers accepted l i : ℕ) (rising : RiseFrom 0 plans) (at : place_of l plans ≡ Some i) (past : Past) where
   here : get_or (take (length plans) tracks) i no_track ≡ get_or tracks i no_track
   here = get_or-take (length plans) tracks i no_track (place-below l plans i at)
 
   pub start-inside :
       (get_or tracks i no_track).running ≡ false →
       u ≡ record (get_or tracks i no_track) { running = true } →
-      StandsAfter send ring (record { channel = channel; image_len = image_len; plans = plans; end = end; tracks = take (length plans) tracks; triggers = triggers; accepted = accepted }) o h d →
-      StandsAfter send ring (record { channel = channel; image_len = image_len; plans = plans; end = end; tracks = take (length plans) (set tracks i u); triggers = triggers; accepted = accepted }) o (h ++ Start l ∷ []) d
+      StandsAfter send ring (record { channel = channel; image_len = image_len; plans = plans; end = end; tracks = take (length plans) tracks; triggers = triggers; accepted = accepted }) past →
+      StandsAfter send ring (record { channel = channel; image_len = image_len; plans = plans; end = end; tracks = take (length plans) (set tracks i u); triggers = triggers; accepted = accepted }) (one_more past (Start l) [])
   start-inside stopped is stands =
-      start-stands send ring _ _ o h d l i rising at stands (ap (λ (t : Track). t.running) here ∙ stopped) refl refl refl
+      start-stands send ring _ _ past l i rising at stands (ap (λ (t : Track). t.running) here ∙ stopped) refl refl refl
       (take-set_at tracks (length plans) i u ∙ ap (set (take (length plans) tracks) i) is ∙ ap (λ (t : Track). set (take (length plans) tracks) i (record t { running = true })) (sym here))
       refl refl
 
@@ -94,9 +102,9 @@ module _ {S E : Type 0} (send : SendGhosts S E) (ring : EndGhosts E) (channel im
       u ≡ record (get_or tracks i no_track) { running = false; phase = 0 } →
       send.sent new_end ≡ send.sent end ++ Marker (record { channel = channel; list = l }) ∷ [] →
       send.capacity new_end ≡ send.capacity end →
-      StandsAfter send ring (record { channel = channel; image_len = image_len; plans = plans; end = end; tracks = take (length plans) tracks; triggers = triggers; accepted = accepted }) o h d →
-      StandsAfter send ring (record { channel = channel; image_len = image_len; plans = plans; end = new_end; tracks = take (length plans) (set tracks i u); triggers = triggers; accepted = accepted }) o (h ++ Stop l ∷ []) d
+      StandsAfter send ring (record { channel = channel; image_len = image_len; plans = plans; end = end; tracks = take (length plans) tracks; triggers = triggers; accepted = accepted }) past →
+      StandsAfter send ring (record { channel = channel; image_len = image_len; plans = plans; end = new_end; tracks = take (length plans) (set tracks i u); triggers = triggers; accepted = accepted }) (one_more past (Stop l) [])
   stop-inside is sent capacity stands =
-      stop-stands send ring _ _ o h d l i rising at stands refl refl sent capacity
+      stop-stands send ring _ _ past l i rising at stands refl refl sent capacity
       (take-set_at tracks (length plans) i u ∙ ap (set (take (length plans) tracks) i) is ∙ ap (λ (t : Track). set (take (length plans) tracks) i (record t { running = false; phase = 0 })) (sym here))
       refl refl

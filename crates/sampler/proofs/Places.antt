@@ -7,7 +7,8 @@ use Rattle.std.proofs.lemmas.Bool.{ne_eqb}
 use Rattle.std.proofs.lemmas.Bool.Decides.{nat_tests}
 use Rattle.std.proofs.lemmas.List.Quantifiers.{position-Some}
 use Rattle.copy_plan.specs.Config.{ListPlan}
-use Rattle.sampler.specs.State.{RiseFrom, ArePlansOf, TracksFit, IsSampler, place_of}
+use Rattle.sampler.specs.State.{RiseFrom, ArePlansOf, place_of}
+use Rattle.sampler.specs.Inner.Fits.{TracksFit, IsSampler}
 use Rattle.std.proofs.Math.ListN.{length-set}
 use Rattle.sampler.specs.declared.track.Track.{Track}
 

@@ -11,9 +11,10 @@ use Rattle.channel_ring.specs.declared.ends.SendEnd.{Ghosts as SendGhosts}
 use Rattle.channel_ring.specs.declared.ends.RingEnd.{Ghosts as EndGhosts}
 use Rattle.copy_plan.specs.Config.{ListPlan}
 use Rattle.sampler.specs.History.{Event, Opening, runs_after, is_list_of}
+use Rattle.sampler.specs.Past.{Past}
 use Rattle.sampler.specs.Decisions.{decided, pairs_of}
 use Rattle.sampler.specs.Tracks.{track_of, counts_of, counts_after}
-use Rattle.sampler.specs.State.{SamplerState, JoinedEnd, place_of, found_at, track_at, runs_in, is_running}
+use Rattle.sampler.specs.State.{SamplerState, JoinedEnd, place_of, found_at, track_at, runs_in, track_runs}
 use Rattle.sampler.specs.Refusals.{running_at}
 use Rattle.sampler.specs.Standing.{StandsAfter, EndStandsAfter}
 use Rattle.sampler.specs.declared.track.Track.{Track}
@@ -64,7 +65,7 @@ map_twice : {X : Type 0} (g : Track → X) (f : ListPlan → Track) (plans : Lis
 map_twice g f [] = refl
 map_twice g f (plan ∷ plans) = ap (λ rest. g (f plan) ∷ rest) (map_twice g f plans)
 
-map-found : {X : Type 0} (g : Track → X) (tracks : List Track) (at : Option ℕ) → option_map g (option_and_then (λ i. slice_get tracks i) at) ≡ option_and_then (λ i. slice_get (map g tracks) i) at
+pub map-found : {X : Type 0} (g : Track → X) (tracks : List Track) (at : Option ℕ) → option_map g (option_and_then (λ i. slice_get tracks i) at) ≡ option_and_then (λ i. slice_get (map g tracks) i) at
 map-found g tracks None = refl
 map-found g tracks (Some i) = sym (slice_get-map g tracks i)
 
@@ -72,7 +73,7 @@ abbrev truth : Option Bool → Bool
 truth None = false
 truth (Some b) = b
 
-runs-truth : (at : Option Track) → is_running at ≡ truth (option_map (λ (track : Track). track.running) at)
+runs-truth : (at : Option Track) → track_runs at ≡ truth (option_map (λ (track : Track). track.running) at)
 runs-truth None = refl
 runs-truth (Some track) = refl
 
@@ -80,53 +81,62 @@ truth-if : (there b : Bool) → truth (if there then Some b else None) ≡ (ther
 truth-if true b = refl
 truth-if false b = refl
 
-module _ (o : Opening) (h : List Event) (d : List Bool) (l : ℕ) where
+module _ (past : Past) (l : ℕ) where
+  abbrev o : Opening
+  o = past.opening
+
+  abbrev h : List Event
+  h = past.history
+
+  abbrev d : List Bool
+  d = past.decisions
+
   -- the counts that are kept of list l
-  counts-kept : option_and_then (λ i. slice_get (map (λ (plan : ListPlan). counts_of (pairs_of plan.list (decided o h d))) o.plans) i) (place_of l o.plans) ≡ counts_after o h d l
+  counts-kept : option_and_then (λ i. slice_get (map (λ (plan : ListPlan). counts_of (pairs_of plan.list (decided o h d))) o.plans) i) (place_of l o.plans) ≡ counts_after past l
   counts-kept = found-is (λ plan. counts_of (pairs_of plan.list (decided o h d))) l (counts_of (pairs_of l (decided o h d))) (λ plan e. ap (λ k. counts_of (pairs_of k (decided o h d))) e) o.plans
 
-  counts-found_at : option_map (λ (track : Track). track.counts) (found_at l o.plans (map (track_of o h d) o.plans)) ≡ counts_after o h d l
+  counts-found_at : option_map (λ (track : Track). track.counts) (found_at l o.plans (map (track_of o h d) o.plans)) ≡ counts_after past l
   unfolding track_of
   counts-found_at =
       map-found (λ (track : Track). track.counts) (map (track_of o h d) o.plans) (place_of l o.plans)
       ∙ ap (λ cs. option_and_then (λ i. slice_get cs i) (place_of l o.plans)) (map_twice (λ (track : Track). track.counts) (track_of o h d) o.plans)
       ∙ counts-kept
 
-  running-found_at : option_map (λ (track : Track). track.running) (found_at l o.plans (map (track_of o h d) o.plans)) ≡ running_at o h l
+  running-found_at : option_map (λ (track : Track). track.running) (found_at l o.plans (map (track_of o h d) o.plans)) ≡ running_at past l
   unfolding track_of
   running-found_at =
       map-found (λ (track : Track). track.running) (map (track_of o h d) o.plans) (place_of l o.plans)
       ∙ ap (λ bs. option_and_then (λ i. slice_get bs i) (place_of l o.plans)) (map_twice (λ (track : Track). track.running) (track_of o h d) o.plans)
       ∙ found-is (λ plan. runs_after o h plan.list) l (runs_after o h l) (λ plan e. ap (runs_after o h) e) o.plans
 
-  runs-found_at : is_running (found_at l o.plans (map (track_of o h d) o.plans)) ≡ (is_list_of o l && runs_after o h l)
+  runs-found_at : track_runs (found_at l o.plans (map (track_of o h d) o.plans)) ≡ (is_list_of o l && runs_after o h l)
   runs-found_at =
       runs-truth (found_at l o.plans (map (track_of o h d) o.plans))
       ∙ ap truth running-found_at
       ∙ truth-if (is_list_of o l) (runs_after o h l)
 
-module _ {S E : Type 0} (send : SendGhosts S E) (ring : EndGhosts E) (s : SamplerState S) (o : Opening) (h : List Event) (d : List Bool) (l : ℕ) (stands : StandsAfter send ring s o h d) where
-  pub sampler-counts : option_map (λ (track : Track). track.counts) (track_at s l) ≡ counts_after o h d l
+module _ {S E : Type 0} (send : SendGhosts S E) (ring : EndGhosts E) (s : SamplerState S) (past : Past) (l : ℕ) (stands : StandsAfter send ring s past) where
+  pub sampler-counts : option_map (λ (track : Track). track.counts) (track_at s l) ≡ counts_after past l
   sampler-counts =
       ap (λ plans. option_map (λ (track : Track). track.counts) (found_at l plans s.tracks)) stands.plans
-      ∙ ap (λ tracks. option_map (λ (track : Track). track.counts) (found_at l o.plans tracks)) stands.tracks
-      ∙ counts-found_at o h d l
+      ∙ ap (λ tracks. option_map (λ (track : Track). track.counts) (found_at l past.opening.plans tracks)) stands.tracks
+      ∙ counts-found_at past l
 
   -- whether a list runs, by what is kept of it
-  pub running_found : (at : Option Track) → track_at s l ≡ at → running_at o h l ≡ option_map (λ (track : Track). track.running) at
+  pub running_found : (at : Option Track) → track_at s l ≡ at → running_at past l ≡ option_map (λ (track : Track). track.running) at
   running_found at is =
       sym (ap (λ plans. option_map (λ (track : Track). track.running) (found_at l plans s.tracks)) stands.plans
-      ∙ ap (λ tracks. option_map (λ (track : Track). track.running) (found_at l o.plans tracks)) stands.tracks
-      ∙ running-found_at o h d l) ∙ ap (option_map (λ (track : Track). track.running)) is
+      ∙ ap (λ tracks. option_map (λ (track : Track). track.running) (found_at l past.opening.plans tracks)) stands.tracks
+      ∙ running-found_at past l) ∙ ap (option_map (λ (track : Track). track.running)) is
 
-  pub sampler-runs : runs_in s l ≡ (is_list_of o l && runs_after o h l)
+  pub sampler-runs : runs_in s l ≡ (is_list_of past.opening l && runs_after past.opening past.history l)
   sampler-runs =
-      ap (λ plans. is_running (found_at l plans s.tracks)) stands.plans
-      ∙ ap (λ tracks. is_running (found_at l o.plans tracks)) stands.tracks
-      ∙ runs-found_at o h d l
+      ap (λ plans. track_runs (found_at l plans s.tracks)) stands.plans
+      ∙ ap (λ tracks. track_runs (found_at l past.opening.plans tracks)) stands.tracks
+      ∙ runs-found_at past l
 
-pub end-counts : (s : JoinedEnd) (o : Opening) (h : List Event) (d : List Bool) (l : ℕ) → EndStandsAfter s o h d → option_and_then (λ i. slice_get s.counts i) (place_of l s.plans) ≡ counts_after o h d l
-end-counts s o h d l stands =
+pub end-counts : (s : JoinedEnd) (past : Past) (l : ℕ) → EndStandsAfter s past → option_and_then (λ i. slice_get s.counts i) (place_of l s.plans) ≡ counts_after past l
+end-counts s past l stands =
     ap (λ plans. option_and_then (λ i. slice_get s.counts i) (place_of l plans)) stands.plans
-    ∙ ap (λ counts. option_and_then (λ i. slice_get counts i) (place_of l o.plans)) stands.counts
-    ∙ counts-kept o h d l
+    ∙ ap (λ counts. option_and_then (λ i. slice_get counts i) (place_of l past.opening.plans)) stands.counts
+    ∙ counts-kept past l

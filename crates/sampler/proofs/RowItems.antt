@@ -14,10 +14,11 @@ use Rattle.sampler.specs.Decisions.{decided, pairs_of, is_of_list, is_drop, over
 use Rattle.sampler.specs.Items.{sample, samples_from}
 use Rattle.sampler.specs.Tracks.{track_of}
 use Rattle.sampler.specs.State.{RiseFrom}
-use Rattle.sampler.specs.Turn.{Row, due_now, item_of, row_items, row_count, rows_items, rows_count}
+use Rattle.sampler.specs.Inner.Moments.{MomentParts}
+use Rattle.sampler.specs.Inner.AtTrigger.{Row, due_now, item_of, row_items, row_count, rows_items, rows_count}
 use Rattle.sampler.specs.declared.track.Track.{Track}
 use Rattle.sampler.proofs.Histories.{append_nil, due-more, decided-more, length-zip_same, slice_get-behind}
-use Rattle.sampler.proofs.Turns.{rows_count-one}
+use Rattle.sampler.proofs.Handled.{rows_count-one}
 use Rattle.sampler.proofs.Rows.{due_plans, decisions, new_pairs, plans_of, RowsAre, due_at-rows, pairs_before, length-due_plans}
 
 pub decisions-append : (a b : List Row) → decisions (a ++ b) ≡ decisions a ++ decisions b
@@ -76,6 +77,10 @@ get_or-past (b ∷ ds) zero h = absurd (omega arith)
 get_or-past (b ∷ ds) (suc j) h = get_or-past ds j (omega arith)
 
 module _ (o : Opening) (h : List Event) (d : List Bool) (image : List ℕ) (stamp : ℕ) (whole : length d ≡ length (due o h)) (all : List Row) (of_plans : plans_of all ≡ o.plans) (are : RowsAre o h d all) (rise : RiseFrom 0 (plans_of all)) where
+  -- what the samples of the trigger have in common
+  abbrev here : MomentParts
+  here = record { channel = o.channel; image = image; stamp = stamp }
+
   -- the pairs decided by the first rows
   decided-part : (pre post : List Row) → all ≡ pre ++ post → decided o (h ++ Trigger image stamp ∷ []) (d ++ decisions pre) ≡ decided o h d ++ new_pairs (length h) pre
   decided-part pre post is =
@@ -104,7 +109,7 @@ module _ (o : Opening) (h : List Event) (d : List Bool) (image : List ℕ) (stam
       ∙ ap (option_map of_plan) (slice_get-behind (due_plans done) (r.plan ∷ later) 0)
 
   -- the sample of a row's pair, decided by the rows up to it and some more
-  pub sample-row : (done rest post : List Row) (r : Row) → all ≡ (done ++ r ∷ rest) ++ post → due_now r.track ≡ true → r.track ≡ track_of o h d r.plan → sample o (h ++ Trigger image stamp ∷ []) (d ++ decisions (done ++ r ∷ rest)) (length d + length (decisions done)) r.plan image stamp ≡ item_of o.channel r.plan image stamp (accepted_in d + rows_count done) r.track.pending
+  pub sample-row : (done rest post : List Row) (r : Row) → all ≡ (done ++ r ∷ rest) ++ post → due_now r.track ≡ true → r.track ≡ track_of o h d r.plan → sample o (h ++ Trigger image stamp ∷ []) (d ++ decisions (done ++ r ∷ rest)) (length d + length (decisions done)) r.plan image stamp ≡ item_of here r.plan (accepted_in d + rows_count done) r.track.pending
   unfolding sample item_of overload_bit overload_pending track_of
   sample-row done rest post r is due_r kept =
       let j : ℕ = length d + length (decisions done) in
@@ -144,7 +149,7 @@ module _ (o : Opening) (h : List Event) (d : List Bool) (image : List ℕ) (stam
   -- a row's sample, before those of the rows behind it
   one-row : (done rest post : List Row) (r : Row) (ps : List ListPlan) (xs : List Item) → all ≡ (done ++ r ∷ rest) ++ post → r.track ≡ track_of o h d r.plan → (b : Bool) → due_now r.track ≡ b →
       samples_from o (h ++ Trigger image stamp ∷ []) (d ++ decisions (done ++ r ∷ rest)) (length d + length (decisions done) + (if b then 1 else 0)) ps image stamp ≡ xs →
-      samples_from o (h ++ Trigger image stamp ∷ []) (d ++ decisions (done ++ r ∷ rest)) (length d + length (decisions done)) (cond b (r.plan ∷ ps) ps) image stamp ≡ (if b && r.accepted then item_of o.channel r.plan image stamp (accepted_in d + rows_count done) r.track.pending ∷ [] else []) ++ xs
+      samples_from o (h ++ Trigger image stamp ∷ []) (d ++ decisions (done ++ r ∷ rest)) (length d + length (decisions done)) (cond b (r.plan ∷ ps) ps) image stamp ≡ (if b && r.accepted then item_of here r.plan (accepted_in d + rows_count done) r.track.pending ∷ [] else []) ++ xs
   unfolding samples_from
   one-row done rest post r ps xs is kept false due_r later =
       let at : length d + length (decisions done) ≡ length d + length (decisions done) + 0 = omega arith in
@@ -158,25 +163,25 @@ module _ (o : Opening) (h : List Event) (d : List Bool) (image : List ℕ) (stam
       let took : get_or dd j false ≡ r.accepted =
       ap (λ k. get_or dd k false) (sym n) ∙ ap (λ ds. get_or ds (length (d ++ decisions done)) false) split ∙ get_or-append_seam (d ++ decisions done) r.accepted (decisions rest) false in
       rw (took, sample-row done rest post r is due_r kept)
-      (elim (r.accepted) as (λ b. cons_option (if b then Some (item_of o.channel r.plan image stamp (accepted_in d + rows_count done) r.track.pending) else None) (samples_from o (h ++ Trigger image stamp ∷ []) dd (j + 1) ps image stamp) ≡ (if b then item_of o.channel r.plan image stamp (accepted_in d + rows_count done) r.track.pending ∷ [] else []) ++ xs) [
-        | true ↦ ap (λ ys. item_of o.channel r.plan image stamp (accepted_in d + rows_count done) r.track.pending ∷ ys) later
+      (elim (r.accepted) as (λ b. cons_option (if b then Some (item_of here r.plan (accepted_in d + rows_count done) r.track.pending) else None) (samples_from o (h ++ Trigger image stamp ∷ []) dd (j + 1) ps image stamp) ≡ (if b then item_of here r.plan (accepted_in d + rows_count done) r.track.pending ∷ [] else []) ++ xs) [
+        | true ↦ ap (λ ys. item_of here r.plan (accepted_in d + rows_count done) r.track.pending ∷ ys) later
         | false ↦ later
       ])
 
   -- the samples of the pairs from the rows done on
-  pub samples-rows : (done rest post : List Row) → all ≡ (done ++ rest) ++ post → RowsAre o h d rest → samples_from o (h ++ Trigger image stamp ∷ []) (d ++ decisions (done ++ rest)) (length d + length (decisions done)) (due_plans (rest ++ post)) image stamp ≡ rows_items o.channel image stamp (accepted_in d + rows_count done) rest
+  pub samples-rows : (done rest post : List Row) → all ≡ (done ++ rest) ++ post → RowsAre o h d rest → samples_from o (h ++ Trigger image stamp ∷ []) (d ++ decisions (done ++ rest)) (length d + length (decisions done)) (due_plans (rest ++ post)) image stamp ≡ rows_items here (accepted_in d + rows_count done) rest
   unfolding rows_items row_items
   samples-rows done [] post is kept =
       samples-none (d ++ decisions (done ++ [])) (length d + length (decisions done)) (due_plans post) (omega (arith, length-append d (decisions (done ++ [])), ap (λ rows. length (decisions rows)) (append_nil done)))
   samples-rows done (r ∷ rest) post is kept =
       let e : (done ++ r ∷ []) ++ rest ≡ done ++ r ∷ rest = append_assoc done (r ∷ []) rest in
-      let ih : samples_from o (h ++ Trigger image stamp ∷ []) (d ++ decisions ((done ++ r ∷ []) ++ rest)) (length d + length (decisions (done ++ r ∷ []))) (due_plans (rest ++ post)) image stamp ≡ rows_items o.channel image stamp (accepted_in d + rows_count (done ++ r ∷ [])) rest =
+      let ih : samples_from o (h ++ Trigger image stamp ∷ []) (d ++ decisions ((done ++ r ∷ []) ++ rest)) (length d + length (decisions (done ++ r ∷ []))) (due_plans (rest ++ post)) image stamp ≡ rows_items here (accepted_in d + rows_count (done ++ r ∷ [])) rest =
       samples-rows (done ++ r ∷ []) rest post (is ∙ ap (λ rows. rows ++ post) (sym e)) kept.1 in
       let at : length d + length (decisions done) + (if due_now r.track then 1 else 0) ≡ length d + length (decisions (done ++ r ∷ [])) =
       omega (arith, ap length (decisions-append done (r ∷ [])), length-append (decisions done) (decisions (r ∷ [])), length-one r) in
       let number : accepted_in d + rows_count (done ++ r ∷ []) ≡ accepted_in d + rows_count done + row_count r = omega (arith, rows_count-one done r) in
-      one-row done rest post r (due_plans (rest ++ post)) (rows_items o.channel image stamp (accepted_in d + rows_count done + row_count r) rest) is kept.0 (due_now r.track) refl
+      one-row done rest post r (due_plans (rest ++ post)) (rows_items here (accepted_in d + rows_count done + row_count r) rest) is kept.0 (due_now r.track) refl
       (ap (λ j. samples_from o (h ++ Trigger image stamp ∷ []) (d ++ decisions (done ++ r ∷ rest)) j (due_plans (rest ++ post)) image stamp) at
       ∙ ap (λ rows. samples_from o (h ++ Trigger image stamp ∷ []) (d ++ decisions rows) (length d + length (decisions (done ++ r ∷ []))) (due_plans (rest ++ post)) image stamp) (sym e)
       ∙ ih
-      ∙ ap (λ k. rows_items o.channel image stamp k rest) number)
+      ∙ ap (λ k. rows_items here k rest) number)

@@ -10,9 +10,9 @@ use Rattle.std.proofs.lemmas.List.Sums.{sum_by_push}
 use Rattle.copy_plan.specs.Config.{ListPlan}
 use Rattle.sampler.specs.History.{Event, Trigger, Opening, due, due_at, is_due, runs_after, triggers_since_start}
 use Rattle.sampler.specs.Decisions.{Decided, decided, pairs_of, is_of_list, is_drop, overload_pending}
-use Rattle.sampler.specs.Tracks.{track_of, phase_of, counts_of}
+use Rattle.sampler.specs.Tracks.{track_of, phase_after, counts_of}
 use Rattle.sampler.specs.State.{RiseFrom}
-use Rattle.sampler.specs.Turn.{Row, due_now, turned}
+use Rattle.sampler.specs.Inner.AtTrigger.{Row, due_now, triggered}
 use Rattle.sampler.specs.declared.track.Track.{Track}
 use Rattle.sampler.proofs.Histories.{append_nil, decided-more}
 use Rattle.sampler.proofs.Tracking.{runs-trigger, since-trigger}
@@ -79,7 +79,7 @@ module _ (o : Opening) (h : List Event) (d : List Bool) where
   RowsAre (r ∷ rows) = (r.track ≡ track_of o h d r.plan) × RowsAre rows
 
   pub due_now-is : (plan : ListPlan) → due_now (track_of o h d plan) ≡ is_due o h plan
-  unfolding track_of phase_of is_due
+  unfolding track_of phase_after is_due
   due_now-is plan = by_case (runs_after o h plan.list)
     where
       by_case : (b : Bool) → (b && nat_eq (if b then triggers_since_start h plan.list % plan.prescaler else 0) 0) ≡ (b && nat_eq (triggers_since_start h plan.list % plan.prescaler) 0)
@@ -138,8 +138,8 @@ module _ (o : Opening) (h : List Event) (d : List Bool) (image : List ℕ) (stam
       ∙ ap (λ ps. decided o h d ++ zip (map (λ (plan : ListPlan). (length h, plan.list)) ps) (decisions all)) due_at-rows
       ∙ ap (λ ps. decided o h d ++ ps) (zip-is (length h) all)
 
-  pub track-more : (done rest : List Row) (r : Row) → all ≡ done ++ r ∷ rest → RiseFrom 0 (plans_of all) → r.track ≡ track_of o h d r.plan → track_of o (h ++ Trigger image stamp ∷ []) (d ++ decisions all) r.plan ≡ turned r.plan r.track r.accepted
-  unfolding track_of phase_of overload_pending turned
+  pub track-more : (done rest : List Row) (r : Row) → all ≡ done ++ r ∷ rest → RiseFrom 0 (plans_of all) → r.track ≡ track_of o h d r.plan → track_of o (h ++ Trigger image stamp ∷ []) (d ++ decisions all) r.plan ≡ triggered r.plan r.track r.accepted
+  unfolding track_of phase_after overload_pending triggered
   track-more done rest r is rise kept =
       let l : ℕ = r.plan.list in
       let pair : Decided = ((length h, l), r.accepted) in
@@ -153,8 +153,8 @@ module _ (o : Opening) (h : List Event) (d : List Bool) (image : List ℕ) (stam
       let t : Track = record { running = runs; phase = if runs then n % r.plan.prescaler else 0; pending = is_drop (last_or None xs); counts = counts_of xs } in
       let same : due_now r.track ≡ due_now t = ap due_now kept in
       let next : ℕ = if runs then (t.phase + 1) % r.plan.prescaler else t.phase in
-      let step : record { running = runs; phase = if runs then (1 + n) % r.plan.prescaler else 0; pending = is_drop (last_or None (xs ++ cond (due_now r.track) (pair ∷ []) [])); counts = counts_of (xs ++ cond (due_now r.track) (pair ∷ []) []) } ≡ turned r.plan t r.accepted =
+      let step : record { running = runs; phase = if runs then (1 + n) % r.plan.prescaler else 0; pending = is_drop (last_or None (xs ++ cond (due_now r.track) (pair ∷ []) [])); counts = counts_of (xs ++ cond (due_now r.track) (pair ∷ []) []) } ≡ triggered r.plan t r.accepted =
       ap (λ k. record { running = runs; phase = k; pending = is_drop (last_or None (xs ++ cond (due_now r.track) (pair ∷ []) [])); counts = counts_of (xs ++ cond (due_now r.track) (pair ∷ []) []) }) (phase-one runs n r.plan.prescaler)
       ∙ ap (λ q. record { running = runs; phase = next; pending = q; counts = counts_of (xs ++ cond (due_now r.track) (pair ∷ []) []) }) (ap (λ b. is_drop (last_or None (xs ++ cond b (pair ∷ []) []))) same ∙ pending-one (due_now t) xs pair)
       ∙ ap (λ q. record { running = runs; phase = next; pending = if due_now t then not r.accepted else t.pending; counts = q }) (ap (λ b. counts_of (xs ++ cond b (pair ∷ []) [])) same ∙ counts-one (due_now t) xs pair) in
-      rw (runs-trigger o h image stamp l, since-trigger o h image stamp l, pairs) (step ∙ ap (λ (x : Track). turned r.plan x r.accepted) (sym kept))
+      rw (runs-trigger o h image stamp l, since-trigger o h image stamp l, pairs) (step ∙ ap (λ (x : Track). triggered r.plan x r.accepted) (sym kept))

@@ -7,6 +7,7 @@ use Rattle.xcp_base.specs.declared.item.Item.TheVariants.{Sample, Marker}
 use Rattle.copy_plan.specs.Config.{ListPlan}
 use Rattle.copy_plan.specs.Packet.{packets, packet}
 use Rattle.sampler.specs.History.{Event, Trigger, Start, Stop, Opening, due, due_at, is_due, with_past, runs_after, triggers_since_start}
+use Rattle.sampler.specs.Past.{Past, first_past, one_more}
 use Rattle.sampler.specs.Decisions.{overload_bit, overload_pending}
 use Rattle.sampler.specs.Items.{items, items_at, samples_from, sample}
 use Rattle.sampler.specs.Tracks.{counts_of, counts_after}
@@ -81,12 +82,15 @@ a_stopped_list_is_due_at_no_trigger : items (one_list 1) (T 1 1 ∷ Stop 0 ∷ T
 unfolding items items_at samples_from sample overload_bit overload_pending due due_at is_due with_past runs_after triggers_since_start packets packet
 a_stopped_list_is_due_at_no_trigger = refl
 
+abbrev shared_past : Past
+shared_past = record { opening = two_lists; history = shared_history; decisions = shared_decisions }
+
 -- list 1 loses two samples before its first accepted one, and one behind it
-each_list_has_its_own_counts : counts_after two_lists shared_history shared_decisions 1 ≡ Some (record { due = 4; accepted = 1; dropped = 3 })
+each_list_has_its_own_counts : counts_after shared_past 1 ≡ Some (record { due = 4; accepted = 1; dropped = 3 })
 unfolding counts_of due due_at is_due with_past runs_after triggers_since_start
 each_list_has_its_own_counts = refl
 
-a_list_of_another_channel_has_no_counts : counts_after two_lists shared_history shared_decisions 2 ≡ None
+a_list_of_another_channel_has_no_counts : counts_after shared_past 2 ≡ None
 a_list_of_another_channel_has_no_counts = refl
 
 -- one place: list 0 takes it, list 1 finds none
@@ -110,7 +114,7 @@ drop_at_one_place (suc zero) plan at dropped = omega arith
 drop_at_one_place (suc (suc k)) plan at dropped = absurd cc
 
 -- so what is left of a sampler can stand after a history with a drop
-an_end_stands_after_a_drop : EndStandsAfter one_place two_lists (T 0xAA 0xBB ∷ []) (true ∷ false ∷ [])
+an_end_stands_after_a_drop : EndStandsAfter one_place (one_more (first_past two_lists) (T 0xAA 0xBB) (true ∷ false ∷ []))
 unfolding items items_at samples_from sample overload_bit overload_pending due due_at is_due with_past runs_after triggers_since_start packets packet counts_of
 an_end_stands_after_a_drop = record {
   channel = refl;
@@ -118,5 +122,5 @@ an_end_stands_after_a_drop = record {
   decisions = refl;
   sent = refl;
   counts = refl;
-  drops = drops-more 1 (λ item. 1) two_lists [] (T 0xAA 0xBB) [] (true ∷ false ∷ []) refl (no_drops 1 (λ item. 1) two_lists) drop_at_one_place;
+  drops = drops-more 1 (λ item. 1) (first_past two_lists) (T 0xAA 0xBB) (true ∷ false ∷ []) refl (no_drops 1 (λ item. 1) two_lists) drop_at_one_place;
 }

@@ -4,10 +4,10 @@ use Rattle.std.specs.List.{list_any}
 use Rattle.std.proofs.lemmas.Bool.{ne_eqb}
 use Rattle.std.proofs.lemmas.Bool.Decides.{nat_tests, eqb_tells}
 use Rattle.copy_plan.specs.Config.{ListPlan}
-use Rattle.sampler.specs.History.{has_list}
+use Rattle.xcp_base.specs.Lists.{has_list}
 use Rattle.sampler.specs.Sets.{are_in}
 use Rattle.sampler.specs.State.{RiseFrom}
-use Rattle.sampler.specs.Turn.{Row, due_now}
+use Rattle.sampler.specs.Inner.AtTrigger.{Row, due_now}
 use Rattle.sampler.proofs.Rows.{due_plans, decisions, plans_of, rise_in}
 
 and_false : (b : Bool) → (b && false) ≡ false

@@ -5,9 +5,10 @@ use Rattle.std.proofs.Math.Nat.{zero-mod}
 use Rattle.std.proofs.lemmas.List.{reverse-append}
 use Rattle.std.proofs.lemmas.List.Sums.{sum_by-cons, take_while-cons}
 use Rattle.copy_plan.specs.Config.{ListPlan}
-use Rattle.sampler.specs.History.{Event, Trigger, Start, Stop, Opening, due, due_at, runs_after, runs_since, triggers_since_start, is_trigger, is_start, is_start_or_stop, has_list}
+use Rattle.xcp_base.specs.Lists.{has_list}
+use Rattle.sampler.specs.History.{Event, Trigger, Start, Stop, Opening, due, due_at, runs_after, runs_since, triggers_since_start, is_trigger, is_start, is_start_or_stop}
 use Rattle.sampler.specs.Decisions.{decided, pairs_of, overload_pending}
-use Rattle.sampler.specs.Tracks.{track_of, phase_of, counts_of}
+use Rattle.sampler.specs.Tracks.{track_of, phase_after, counts_of}
 use Rattle.sampler.proofs.Histories.{due-more, append_nil}
 
 back : (h : List Event) (e : Event) → reverse (h ++ e ∷ []) ≡ e ∷ reverse h
@@ -61,18 +62,18 @@ module _ (o : Opening) (h : List Event) where
 
   -- another list's start leaves what is kept
   pub track-start_other : (d : List Bool) (k : ℕ) (plan : ListPlan) → nat_eq k plan.list ≡ false → track_of o (h ++ Start k ∷ []) d plan ≡ track_of o h d plan
-  unfolding track_of phase_of
+  unfolding track_of phase_after
   track-start_other d k plan other = rw (due-start k, runs-start k plan.list, since-start k plan.list, other) refl
 
   -- a list that is started runs, from phase 0
   pub track-start_same : (d : List Bool) (k : ℕ) (plan : ListPlan) → nat_eq k plan.list ≡ true → runs_after o h plan.list ≡ false → track_of o (h ++ Start k ∷ []) d plan ≡ record (track_of o h d plan) { running = true }
-  unfolding track_of phase_of
+  unfolding track_of phase_after
   track-start_same d k plan same stopped = rw (due-start k, runs-start k plan.list, since-start k plan.list, same, stopped) (ap (λ n. record { running = true; phase = n; pending = overload_pending (decided o h d) plan.list; counts = counts_of (pairs_of plan.list (decided o h d)) }) (zero-mod plan.prescaler))
 
   pub track-stop_other : (d : List Bool) (k : ℕ) (plan : ListPlan) → nat_eq k plan.list ≡ false → track_of o (h ++ Stop k ∷ []) d plan ≡ track_of o h d plan
-  unfolding track_of phase_of
+  unfolding track_of phase_after
   track-stop_other d k plan other = rw (due-stop k, runs-stop k plan.list, since-stop k plan.list, other) refl
 
   pub track-stop_same : (d : List Bool) (k : ℕ) (plan : ListPlan) → nat_eq k plan.list ≡ true → track_of o (h ++ Stop k ∷ []) d plan ≡ record (track_of o h d plan) { running = false; phase = 0 }
-  unfolding track_of phase_of
+  unfolding track_of phase_after
   track-stop_same d k plan same = rw (due-stop k, runs-stop k plan.list, since-stop k plan.list, same) refl

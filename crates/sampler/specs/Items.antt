@@ -1,6 +1,6 @@
 -- What the sampler of a channel sends: the items of its history and decisions.
-use Rattle.std.specs.Prelude.{ℕ, Bool, false, List, [], ◌∷◌, length, take, slice_index_or, flat_map, filter_map, if◌then◌else◌}
-use Rattle.std.specs.Prelude.{None, Some}
+use Rattle.std.specs.Prelude.{ℕ, Bool, false, None, Some, if◌then◌else◌}
+use Rattle.std.specs.Prelude.{List, [], ◌∷◌, length, take, slice_index_or, flat_map, filter_map}
 use Rattle.std.specs.List.{enumerate_from}
 use Rattle.copy_plan.specs.Config.{ListPlan}
 use Rattle.copy_plan.specs.Packet.{packets}
@@ -19,15 +19,28 @@ sample opening h d j plan image stamp = Sample (record {
 })
 
 -- the samples of the pairs from number j on, of these plans, whose decision is true
-unfoldable pub samples_from : Opening → List Event → List Bool → ℕ → List ListPlan → List ℕ → ℕ → List Item
+unfoldable pub samples_from :
+    Opening → List Event → List Bool → ℕ → List ListPlan → List ℕ → ℕ → List Item
 samples_from opening h d j plans image stamp =
-    filter_map (λ (pair : ℕ × ListPlan). if slice_index_or d pair.0 false then Some (sample opening h d pair.0 pair.1 image stamp) else None) (enumerate_from j plans)
+    filter_map
+    (λ (pair : ℕ × ListPlan).
+    if slice_index_or d pair.0 false then
+    Some (sample opening h d pair.0 pair.1 image stamp)
+    else None)
+    (enumerate_from j plans)
 
--- the items of an event that follows past: a trigger's accepted samples, the marker of a stop, nothing of a start
+-- the stop marker of list l
+abbrev pub marker_of : ℕ → ℕ → Item
+marker_of channel l = Marker (record { channel = channel; list = l })
+
+-- the items of an event that follows past: a trigger's accepted samples, the marker of a stop,
+-- nothing of a start
 unfoldable pub items_at : Opening → List Event → List Bool → List Event × Event → List Item
-items_at opening h d (past, Trigger image stamp) = samples_from opening h d (length (due opening past)) (due_at opening past (Trigger image stamp)) image stamp
+items_at opening h d (past, Trigger image stamp) =
+    let plans = due_at opening past (Trigger image stamp) in
+    samples_from opening h d (length (due opening past)) plans image stamp
 items_at opening h d (past, Start l) = []
-items_at opening h d (past, Stop l) = Marker (record { channel = opening.channel; list = l }) ∷ []
+items_at opening h d (past, Stop l) = marker_of opening.channel l ∷ []
 
 -- all items of a history, by its decisions
 unfoldable pub items : Opening → List Event → List Bool → List Item

@@ -1,23 +1,16 @@
--- What a contract sees of a `Sampler`.
-use Rattle.std.specs.Prelude.{◌≡◌, ℕ, ◌+◌, ◌*◌, ◌^◌, ◌<◌, ◌≤◌, length, Bool, false, not, List, [], ◌∷◌, map, nat_eq, position, slice_get, Some, None}
+-- What a contract sees of a `Sampler`, and of what is left of one.
+use Rattle.std.specs.Prelude.{◌≡◌, ℕ, ◌+◌, ◌≤◌, Bool, false, not, List, [], ◌∷◌, map, nat_eq}
+use Rattle.std.specs.Prelude.{position, slice_get, Some, None}
 use Rattle.std.specs.Option.{option_and_then}
 use Rattle.std.specs.declared.option.Option.{Option}
 use Rattle.xcp_base.specs.declared.item.Item.{Item}
 use Rattle.channel_ring.specs.declared.ends.RingEnd.{Ghosts as EndGhosts}
-use Rattle.copy_plan.specs.Config.{ListPlan}
-use Rattle.copy_plan.specs.Config.{IsPlan}
+use Rattle.copy_plan.specs.Config.{IsPlan, ListPlan}
 use Rattle.sampler.specs.declared.track.Track.{Track}
 use Rattle.sampler.specs.declared.counts.ListCounts.{ListCounts}
 
-abbrev pub is_running : Option Track → Bool
-is_running None = false
-is_running (Some track) = track.running
-
-abbrev pub is_stopped : Option Track → Bool
-is_stopped None = false
-is_stopped (Some track) = not track.running
-
--- the event channel, its plans, the sending end, what is kept of each list, and how many triggers and samples were accepted
+-- the event channel, its plans, the send end, what is kept of each list, and how many triggers and
+-- samples were accepted
 pub record SamplerState (S : Type 0) : Type 0 where
   pub channel : ℕ
   pub image_len : ℕ
@@ -27,7 +20,8 @@ pub record SamplerState (S : Type 0) : Type 0 where
   pub triggers : ℕ
   pub accepted : ℕ
 
--- what is left of a sampler: its event channel, its plans, what is left of its sending end, what became of each list's samples, the end's capacity
+-- what is left of a sampler: its event channel, its plans, what is left of its send end, what
+-- became of each list's samples, and the end's capacity
 pub record SamplerEndState (E : Type 0) : Type 0 where
   pub channel : ℕ
   pub plans : List ListPlan
@@ -35,7 +29,8 @@ pub record SamplerEndState (E : Type 0) : Type 0 where
   pub counts : List ListCounts
   pub capacity : ℕ
 
--- the same where the ring's capacity, the cost of an item in it and all that was sent stand for the end
+-- the same where the ring's capacity, the cost of an item in it and all that was sent stand for the
+-- end
 pub record JoinedEnd : Type 0 where
   pub channel : ℕ
   pub plans : List ListPlan
@@ -46,7 +41,14 @@ pub record JoinedEnd : Type 0 where
 
 -- what is left of a sampler, where an item has this cost and these items were sent
 abbrev pub joined_with : {E : Type 0} → (Item → ℕ) → List Item → SamplerEndState E → JoinedEnd
-joined_with cost sent s = record { channel = s.channel; plans = s.plans; counts = s.counts; capacity = s.capacity; cost = cost; sent = sent }
+joined_with cost sent s = record {
+  channel = s.channel;
+  plans = s.plans;
+  counts = s.counts;
+  capacity = s.capacity;
+  cost = cost;
+  sent = sent;
+}
 
 -- what is left of a sampler, as its end says what was sent
 abbrev pub joined : {E : Type 0} → EndGhosts E → SamplerEndState E → JoinedEnd
@@ -64,10 +66,6 @@ place_of l plans = position (λ (plan : ListPlan). nat_eq plan.list l) plans
 abbrev pub found_at : ℕ → List ListPlan → List Track → Option Track
 found_at l plans tracks = option_and_then (λ i. slice_get tracks i) (place_of l plans)
 
--- list l runs, where these tracks are kept of these plans
-abbrev pub runs_at : ℕ → List ListPlan → List Track → Bool
-runs_at l plans tracks = is_running (found_at l plans tracks)
-
 -- what is kept of list l, if it is the channel's
 abbrev pub track_at : {S : Type 0} → SamplerState S → ℕ → Option Track
 track_at s l = found_at l s.plans s.tracks
@@ -76,37 +74,32 @@ track_at s l = found_at l s.plans s.tracks
 abbrev pub counts_at : {E : Type 0} → SamplerEndState E → ℕ → Option ListCounts
 counts_at s l = option_and_then (λ i. slice_get s.counts i) (place_of l s.plans)
 
+-- a list of which this is kept is there and runs
+abbrev pub track_runs : Option Track → Bool
+track_runs None = false
+track_runs (Some track) = track.running
+
+-- a list of which this is kept is there and doesn't run
+abbrev pub track_is_stopped : Option Track → Bool
+track_is_stopped None = false
+track_is_stopped (Some track) = not track.running
+
 -- list l of the channel runs
 abbrev pub runs_in : {S : Type 0} → SamplerState S → ℕ → Bool
-runs_in s l = is_running (track_at s l)
+runs_in s l = track_runs (track_at s l)
 
 -- list l is of the channel and does not run
 abbrev pub stopped_in : {S : Type 0} → SamplerState S → ℕ → Bool
-stopped_in s l = is_stopped (track_at s l)
+stopped_in s l = track_is_stopped (track_at s l)
 
 -- plans of one channel for images of one length
 abbrev pub ArePlansOf : ℕ → ℕ → List ListPlan → Type 0
 ArePlansOf channel image_len [] = Unit {0}
-ArePlansOf channel image_len (plan ∷ plans) = (IsPlan plan × (plan.channel ≡ channel) × (plan.image_len ≡ image_len)) × ArePlansOf channel image_len plans
+ArePlansOf channel image_len (plan ∷ plans) =
+    (IsPlan plan × (plan.channel ≡ channel) × (plan.image_len ≡ image_len))
+    × ArePlansOf channel image_len plans
 
 -- their list numbers rise, and the first is at least this one
 abbrev pub RiseFrom : ℕ → List ListPlan → Type 0
 RiseFrom least [] = Unit {0}
 RiseFrom least (plan ∷ plans) = (least ≤ plan.list) × RiseFrom (plan.list + 1) plans
-
--- what a sampler keeps track of fits: a track for each plan, whose phase is below the plan's prescaler, and counts that rise by one a trigger at most
-abbrev pub TracksFit : ℕ → List ListPlan → List Track → Type 0
-TracksFit triggers [] tracks = Unit {0}
-TracksFit triggers (plan ∷ plans) [] = ⊥
-TracksFit triggers (plan ∷ plans) (track ∷ tracks) =
-    ((track.phase < plan.prescaler) × (track.counts.due ≤ triggers) × (track.counts.accepted + track.counts.dropped ≡ track.counts.due)) × TracksFit triggers plans tracks
-
-pub record IsSampler (channel image_len : ℕ) (plans : List ListPlan) (tracks : List Track) (triggers accepted : ℕ) : Type 0 where
-  pub channel_below : channel < 8
-  pub plans_of : ArePlansOf channel image_len plans
-  pub rising : RiseFrom 0 plans
-  pub room : length plans ≤ 16
-  pub places : length tracks ≡ 16
-  pub tracks_fit : TracksFit triggers plans tracks
-  pub limit : triggers ≤ 2 ^ 59
-  pub accepted_limit : accepted ≤ 16 * triggers

@@ -1,13 +1,15 @@
 -- What a sampler keeps of one DAQ list, as its history and decisions say it.
-use Rattle.std.specs.Prelude.{ℕ, ◌%◌, Bool, false, not, List, length, if◌then◌else◌, count_by}
+use Rattle.std.specs.Prelude.{ℕ, ◌%◌, Bool, not, List, length, if◌then◌else◌, count_by}
 use Rattle.std.specs.Prelude.{Option, Some, None}
 use Rattle.copy_plan.specs.Config.{ListPlan}
-use Rattle.sampler.specs.History.{Event, Opening, has_list, is_list_of, runs_after, triggers_since_start}
+use Rattle.sampler.specs.History.{Event, Opening, is_list_of, runs_after, triggers_since_start}
+use Rattle.sampler.specs.Past.{Past}
 use Rattle.sampler.specs.Decisions.{Decided, decided, pairs_of, overload_pending}
 use Rattle.sampler.specs.declared.track.Track.{Track}
 use Rattle.sampler.specs.declared.counts.ListCounts.{ListCounts}
 
--- of the decided pairs of one list: how many there are, how many samples were accepted and how many dropped
+-- of the decided pairs of one list: how many there are, how many samples were accepted and how many
+-- dropped
 unfoldable pub counts_of : List Decided → ListCounts
 counts_of pairs = record {
   due = length pairs;
@@ -16,22 +18,21 @@ counts_of pairs = record {
 }
 
 -- the counts of list l, if it is of the channel
-abbrev pub counts_after : Opening → List Event → List Bool → ℕ → Option ListCounts
-counts_after opening h d l = if is_list_of opening l then Some (counts_of (pairs_of l (decided opening h d))) else None
+abbrev pub counts_after : Past → ℕ → Option ListCounts
+counts_after past l =
+    let pairs = decided past.opening past.history past.decisions in
+    if is_list_of past.opening l then Some (counts_of (pairs_of l pairs)) else None
 
 -- the triggers since the last start, modulo the prescaler; 0 where the list does not run
-unfoldable pub phase_of : Opening → List Event → ListPlan → ℕ
-phase_of opening h plan = if runs_after opening h plan.list then triggers_since_start h plan.list % plan.prescaler else 0
+unfoldable pub phase_after : Opening → List Event → ListPlan → ℕ
+phase_after opening h plan =
+    if runs_after opening h plan.list then triggers_since_start h plan.list % plan.prescaler else 0
 
 -- what is kept of a list
 unfoldable pub track_of : Opening → List Event → List Bool → ListPlan → Track
 track_of opening h d plan = record {
   running = runs_after opening h plan.list;
-  phase = phase_of opening h plan;
+  phase = phase_after opening h plan;
   pending = overload_pending (decided opening h d) plan.list;
   counts = counts_of (pairs_of plan.list (decided opening h d));
 }
-
--- what is kept at the opening of list l, which runs where it is in the set
-abbrev pub first_track : ℕ → ℕ → Track
-first_track running l = record { running = has_list running l; phase = 0; pending = false; counts = record { due = 0; accepted = 0; dropped = 0 } }

@@ -1,15 +1,19 @@
-//! Samplers: at each trigger of an event channel, the samples of the DAQ lists that are due go into its ring.
+//! Samplers: at each trigger of an event channel, the samples of the DAQ lists that are due go into
+//! its ring.
 #![tactic(auto)]
 
+mod at_trigger;
 mod counts;
 mod faults;
 pub mod laws;
-mod openings;
+mod lists;
+mod moment;
+mod offering;
+mod opening;
 mod sampler;
 mod sampler_end;
 mod taken;
 mod track;
-mod turn;
 
 pub use counts::ListCounts;
 pub use faults::{StartFault, StopFault, TriggerFault};

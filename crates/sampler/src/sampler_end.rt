@@ -1,45 +1,55 @@
-ghost use Rattle.std.specs.Prelude.{◌≡◌, ℕ, ◌<◌, List, Bool};
+ghost use Rattle.std.specs.Prelude.{◌≡◌, ℕ, ◌<◌, List};
 ghost use Rattle.xcp_base.specs.declared.item.Item.{Item};
-ghost use Rattle.sampler.specs.History.{Event, Opening};
+ghost use Rattle.xcp_base.specs.declared.limits.TheConstants.{MAX_CHANNELS};
+ghost use Rattle.sampler.specs.Past.{Past};
 ghost use Rattle.sampler.specs.Sets.{IsSetOf};
 ghost use Rattle.sampler.specs.Standing.{EndStandsAfter};
 ghost use Rattle.sampler.specs.State.{joined_with, counts_at};
 ghost use Rattle.sampler.specs.Tracks.{counts_after};
 
 use crate::counts::ListCounts;
-use crate::openings::{place_of, set_of};
-use crate::track::Track;
+use crate::lists::Lists;
 use channel_ring::{RingEnd, TakeEnd};
-use copy_plan::CopyPlan;
 use std::marker::Model;
 
-/// What is left of a sampler that was finished: its event channel, its DAQ lists and their counts, and the end of its ring.
+/// What is left of a sampler that was finished: its event channel, its DAQ lists and their counts,
+/// and the end of its ring.
 #[derive(Drop)]
 pub struct SamplerEnd<E> {
     pub(crate) channel: u8,
-    pub(crate) plans: Vec<CopyPlan>,
+    pub(crate) lists: Lists,
     pub(crate) end: E,
-    pub(crate) tracks: [Track; 16],
     pub(crate) capacity: usize,
 }
 
 impl<E> Model for SamplerEnd<E> {
     ghost use Rattle.std.specs.Prelude.{◌≡◌, ◌<◌, ◌≤◌, length, take, map};
+    ghost use Rattle.xcp_base.specs.declared.limits.TheConstants.{MAX_CHANNELS, MAX_LISTS};
     ghost use Rattle.sampler.specs.declared.track.Track.{Track};
-    ghost use Rattle.sampler.specs.State.{SamplerEndState, RiseFrom};
+    ghost use Rattle.sampler.specs.State.{SamplerEndState};
 
     ghost Value = { SamplerEndState E };
 
-    ghost view = { λ s. record { channel = s.channel; plans = s.plans.items; end = s.end; counts = map (λ (track : Track). track.counts) (take (length s.plans.items) s.tracks); capacity = s.capacity } };
+    ghost view = { λ s. record {
+      channel = s.channel;
+      plans = s.lists.plans.items;
+      end = s.end;
+      counts = map (λ (track : Track). track.counts)
+          (take (length s.lists.plans.items) s.lists.tracks);
+      capacity = s.capacity;
+    } };
 
-    ghost invariant = { λ s. (s.channel < 8) × RiseFrom 0 s.plans.items × (length s.plans.items ≤ 16) × (length s.tracks ≡ 16) };
+    ghost invariant = { λ s.
+        (s.channel < MAX_CHANNELS)
+        × (length s.lists.plans.items ≤ MAX_LISTS)
+        × (length s.lists.tracks ≡ MAX_LISTS) };
 }
 
 impl<E> SamplerEnd<E> {
     /// The number of the event channel.
     pub fn channel(&self) -> u8
         ensures value { result ≡ self.now.channel }
-        ensures below { result < 8 }
+        ensures below { result < MAX_CHANNELS }
     {
         self.channel
     }
@@ -48,18 +58,17 @@ impl<E> SamplerEnd<E> {
     pub fn lists(&self) -> u16
         ensures { IsSetOf result self.now.plans }
     {
-        set_of(self.plans.as_slice())
+        self.lists.set()
     }
 
-    /// How often a DAQ list was due, and what became of its samples; `None` where it isn't of the channel.
+    /// How often a DAQ list was due, and what became of its samples; `None` where it isn't of the
+    /// channel.
     pub fn counts(&self, l: u8) -> Option<ListCounts>
         ensures kept { result ≡ counts_at self.now l }
-        ensures after { (cost : Item → ℕ) (sent : List Item) (opening : Opening) (h : List Event) (d : List Bool) →
-            EndStandsAfter (joined_with cost sent self.now) opening h d →
-            result ≡ counts_after opening h d l }
+        ensures after { (cost : Item → ℕ) (sent : List Item) (past : Past)
+            → EndStandsAfter (joined_with cost sent self.now) past → result ≡ counts_after past l }
     {
-        let place = place_of(self.plans.as_slice(), l)?;
-        Some(self.tracks[place].counts)
+        self.lists.counts(l)
     }
 }
 
@@ -68,17 +77,18 @@ impl<E: RingEnd + Drop> SamplerEnd<E> {
 
     /// Looks at all that was sent through the finished ring, and answers how many items are left.
     ///
-    /// The take end is that of the ring. From then on it knows each item left; the sampler's end is as it was.
+    /// The take end is that of the ring. From then on it knows each item left; the sampler's end is
+    /// as it was.
     pub fn after<T: TakeEnd<End = E>>(&mut self, take: &mut T) -> usize
         requires one_ring { E.ring self.old.end ≡ T.ring take.old }
         ensures count { result ≡ length (T.known take.new) }
         ensures left { T.received take.new ++ T.known take.new ≡ E.all_sent self.new.end }
-        ensures received { T.received take.new ≡ T.received take.old }
-        ensures take_ring { T.ring take.new ≡ T.ring take.old }
+        ensures received_stays { T.received take.new ≡ T.received take.old }
+        ensures take_ring_stays { T.ring take.new ≡ T.ring take.old }
 
-        ensures rest { self.new ≡ record self.old { end = self.new.end } }
-        ensures sent { E.all_sent self.new.end ≡ E.all_sent self.old.end }
-        ensures ring { E.ring self.new.end ≡ E.ring self.old.end }
+        ensures rest_stays { self.new ≡ record self.old { end = self.new.end } }
+        ensures sent_stays { E.all_sent self.new.end ≡ E.all_sent self.old.end }
+        ensures ring_stays { E.ring self.new.end ≡ E.ring self.old.end }
     {
         take.after(&mut self.end)
     }

@@ -1,3 +1,10 @@
+ghost use Rattle.std.specs.Prelude.{◌≡◌};
+ghost use Rattle.sampler.specs.Inner.AtTrigger.{Adds, row_of};
+
+use crate::track::Track;
+use copy_plan::CopyPlan;
+use xcp_base::with_list;
+
 /// What a trigger did, as sets of DAQ lists in which bit `l` stands for list `l`.
 #[derive(Clone, Copy, Debug, PartialEq, Eq)]
 pub struct Taken {
@@ -7,4 +14,29 @@ pub struct Taken {
     pub accepted: u16,
     /// Those whose sample was dropped.
     pub dropped: u16,
+}
+
+/// No list was due.
+pub(crate) const NONE_TAKEN: Taken = Taken {
+    due: 0,
+    accepted: 0,
+    dropped: 0,
+};
+
+impl Taken {
+    /// Adds a list, if it was due; `track` is what was kept of it before.
+    pub(crate) fn add(&mut self, plan: &CopyPlan, track: Track, accepted: bool)
+        ensures { Adds self.old self.new (row_of plan.now track accepted) }
+    {
+        if !track.is_due() {
+            return;
+        }
+        let list = plan.list();
+        self.due = with_list(self.due, list);
+        if accepted {
+            self.accepted = with_list(self.accepted, list);
+        } else {
+            self.dropped = with_list(self.dropped, list);
+        }
+    }
 }

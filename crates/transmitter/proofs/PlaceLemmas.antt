@@ -9,7 +9,7 @@ use Rattle.std.proofs.lemmas.Bool.{false≢true}
 use Rattle.std.proofs.lemmas.Bool.Decides.{eqb_tells}
 use Rattle.xcp_base.specs.declared.item.Item.{Item}
 use Rattle.transmitter.specs.Merge.{Takes, of_ring}
-use Rattle.transmitter.specs.Turns.{taken_at}
+use Rattle.transmitter.specs.Inner.Turns.{taken_at}
 
 -- what is shown at the place that was changed
 pub shown_here : {A R : Type 0} → (f : A → R) (xs : List A) (c : ℕ) (new : A) (d : R) → c < length xs → get_or (map f (set xs c new)) c d ≡ f new

@@ -8,7 +8,7 @@ use Rattle.std.proofs.lemmas.Nat.Bits.{bit_at-zero}
 use Rattle.xcp_base.specs.Samples.{MarkParts, SampleParts}
 use Rattle.xcp_base.specs.declared.item.Item.{Item}
 use Rattle.xcp_base.specs.declared.item.Item.TheVariants.{Marker, Sample}
-use Rattle.sampler.specs.History.{has_list}
+use Rattle.xcp_base.specs.Lists.{has_list}
 use Rattle.transmitter.specs.Items.{packets_of, samples}
 use Rattle.transmitter.specs.Merge.{AreRising, items_taken, of_ring, taken_from}
 use Rattle.transmitter.specs.Written.{TransmitterState}

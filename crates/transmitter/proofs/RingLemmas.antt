@@ -7,7 +7,7 @@ use Rattle.sampler.specs.State.{SamplerEndState, joined, sent_by}
 use Rattle.channel_ring.specs.declared.ends.TakeEnd.{Ghosts as TakeGhosts}
 use Rattle.transmitter.specs.Looks.{EndsStay}
 use Rattle.transmitter.specs.Merge.{of_ring}
-use Rattle.transmitter.specs.Turns.{AllStay}
+use Rattle.transmitter.specs.Inner.Turns.{AllStay}
 
 pub empty_of : (xs : List Item) → length xs ≡ 0 → xs ≡ []
 empty_of [] e = refl

@@ -4,4 +4,4 @@ pub mod Written
 pub mod Looks
 pub mod Pumps
 pub mod Rounds
-pub mod Turns
+pub mod Inner

@@ -7,7 +7,7 @@ use Rattle.xcp_base.specs.Samples.{SampleParts, MarkParts}
 use Rattle.xcp_base.specs.declared.item.Item.{Item}
 use Rattle.xcp_base.specs.declared.item.Item.TheVariants.{Sample, Marker}
 use Rattle.frame_writer.specs.Writing.{WriterState}
-use Rattle.sampler.specs.History.{has_list}
+use Rattle.xcp_base.specs.Lists.{has_list}
 use Rattle.transmitter.specs.Items.{packets_of, samples}
 use Rattle.transmitter.specs.Merge.{AreRising, Takes, items_taken, of_ring, taken_from}
 use Rattle.transmitter.specs.Written.{HasTaken, TransmitterState}

@@ -1,8 +1,9 @@
 //! Looks at what is left in the rings once all send ends were finished, and empties them.
-ghost use Rattle.std.specs.Prelude.{◌≡◌, ◌≢◌, ℕ, ◌<◌, ◌↔◌, ◌++◌, [], true, false, length, map, IsTrue};
+ghost use Rattle.std.specs.Prelude.{◌≡◌, ◌≢◌, ℕ, ◌<◌, ◌↔◌, IsTrue, true, false};
+ghost use Rattle.std.specs.Prelude.{[], ◌++◌, length, map};
 ghost use Rattle.sampler.specs.State.{joined, sent_by};
 ghost use Rattle.transmitter.specs.Merge.{of_ring};
-ghost use Rattle.transmitter.specs.Turns.{AllStay};
+ghost use Rattle.transmitter.specs.Inner.Turns.{AllStay};
 
 use crate::faults::PumpFault;
 use crate::transmitter::Transmitter;

@@ -135,10 +135,9 @@ impl<O: Out, T: TakeEnd> Transmitter<O, T> {
 
 impl<O: Out, T: Beside> Transmitter<O, T> {
     ghost use Rattle.std.specs.Prelude.{◌≡◌, ◌+◌, ◌≤◌, ◌++◌};
-    ghost use Rattle.std.specs.Prelude.{List, Bool, Some, length, slice_get};
+    ghost use Rattle.std.specs.Prelude.{Some, length, slice_get};
     ghost use Rattle.channel_ring.specs.Room.{units};
-    ghost use Rattle.sampler.specs.History.{Event, Opening};
-    ghost use Rattle.sampler.specs.Standing.{StandsAfter};
+    ghost use Rattle.sampler.specs.Stays.{OnlyLooked};
     ghost use Rattle.transmitter.specs.Looks.{LookedAt};
     ghost use Rattle.transmitter.specs.Merge.{of_ring};
     ghost use Rattle.transmitter.specs.Written.{transmission, writer_of};
@@ -164,14 +163,8 @@ impl<O: Out, T: Beside> Transmitter<O, T> {
         ensures looked { LookedAt sampler.old.channel (transmission O.Out T.TakeEnd self.old)
             (transmission O.Out T.TakeEnd self.new) }
         ensures writer_stays { writer_of self.new ≡ writer_of self.old }
-        ensures stands { (opening : Opening) (h : List Event) (d : List Bool) →
-            StandsAfter T.Send.SendEnd T.Send.End.RingEnd sampler.old opening h d →
-            StandsAfter T.Send.SendEnd T.Send.End.RingEnd sampler.new opening h d }
-        ensures sampler { sampler.new ≡ record sampler.old { end = sampler.new.end } }
-        ensures sent { T.Send.sent sampler.new.end ≡ T.Send.sent sampler.old.end }
-        ensures grows { T.Send.free sampler.old.end ≤ T.Send.free sampler.new.end }
-        ensures capacity_stays { T.Send.capacity sampler.new.end ≡ T.Send.capacity sampler.old.end }
-        ensures ring { T.Send.ring sampler.new.end ≡ T.Send.ring sampler.old.end }
+        ensures sampler_looked { OnlyLooked T.Send.SendEnd T.Send.End.RingEnd
+            sampler.old sampler.new }
     {
         let c = sampler.channel() as usize;
         let take = &mut self.ends[c];

@@ -2,7 +2,7 @@
 ghost use Rattle.std.specs.Prelude.{◌≡◌, ◌<◌, [], false, IsTrue, IsNone, map, vec_len};
 ghost use Rattle.frame_writer.specs.Writing.{AfterText, state_of};
 ghost use Rattle.transmitter.specs.Merge.{Takes, of_ring};
-ghost use Rattle.transmitter.specs.Turns.{taken_at};
+ghost use Rattle.transmitter.specs.Inner.Turns.{taken_at};
 ghost use Rattle.transmitter.specs.Written.{BreaksWithin};
 
 use crate::transmitter::Transmitter;
@@ -26,7 +26,7 @@ pub enum Turn {
 impl<O: Out, T: TakeEnd> Transmitter<O, T> {
     ghost use Rattle.std.specs.Prelude.{◌≡◌, ◌+◌, ◌^◌, ◌<◌, ◌≤◌, None, length, vec_len};
     ghost use Rattle.transmitter.specs.Written.{transmission};
-    ghost use Rattle.transmitter.specs.Turns.{TurnMeans};
+    ghost use Rattle.transmitter.specs.Inner.Turns.{TurnMeans};
 
     /// Takes the next item of ring `c`, where one is there, and writes it where it is a sample.
     pub(crate) fn turn(&mut self, c: usize) -> Turn

@@ -1,4 +1,5 @@
-//! The allocations of a copy plan. The first four of this test are those of the store that it makes the plan from.
+//! The allocations of a copy plan. The first four of this test are those of the store that it makes
+//! the plan from.
 use crate::same::same;
 use copy_plan::{CopyPlan, PlanFault};
 use daq_store::{Refusal, Store};

@@ -1,6 +1,6 @@
-//! The calls of a run take no memory: all that they need was taken when the engine was opened. As soon as the allocation that
-//! is refused isn't among those of the first test, which opens an engine, the second one, which goes on with each call of a
-//! run, has to pass too.
+//! The calls of a run take no memory: all that they need was taken when the engine was opened. As
+//! soon as the allocation that is refused isn't among those of the first test, which opens an
+//! engine, the second one, which goes on with each call of a run, has to pass too.
 ghost use Rattle.std.specs.Prelude.{◌≡◌, ◌≤◌, [], IfOk, vec_capacity};
 
 use crate::opened::opened;
@@ -15,8 +15,8 @@ use sampler::SamplerEnd;
 use std::alloc::Global;
 use std::test::Fail;
 
-/// An engine of two event channels, whose rings have two places each and whose writer takes its memory from a heap of its
-/// own.
+/// An engine of two event channels, whose rings have two places each and whose writer takes its
+/// memory from a heap of its own.
 fn engine_over(
     alloc: Global,
     heap: &LocalHeap,

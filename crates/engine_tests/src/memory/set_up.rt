@@ -1,7 +1,9 @@
-//! A set-up that meets want of memory at an allocation stands before that command, and goes on from there.
+//! A set-up that meets want of memory at an allocation stands before that command, and goes on from
+//! there.
 //!
-//! `./refuse_memory` refuses each allocation of the six commands in turn, which are the 21st to the 26th of the test. The
-//! replies go to a heap of their own, so that no other call of the set-up wants memory.
+//! `./refuse_memory` refuses each allocation of the six commands in turn, which are the 21st to the
+//! 26th of the test. The replies go to a heap of their own, so that no other call of the set-up
+//! wants memory.
 
 use crate::same::same;
 use daq_sim::{SetupFault, carry_all};
@@ -15,8 +17,8 @@ use std::test::Fail;
 /// The row's name.
 const ROW: &str = "two lists";
 
-/// Two DAQ lists, of one ODT and of two, which are selected and then run. List 0 is ready and selected before list 1 has
-/// entries.
+/// Two DAQ lists, of one ODT and of two, which are selected and then run. List 0 is ready and
+/// selected before list 1 has entries.
 const TWO_LISTS: [&[u8]; 18] = [
     &[0xD6],
     &[0xD5, 0, 2, 0],
@@ -103,7 +105,8 @@ fn readers_after(alloc: Global, heap: &LocalHeap, packets: &[Vec<u8>]) -> Result
     Ok(readers(&store))
 }
 
-/// Compares what stands where `done` packets were answered and the next one met want of memory, and answers those left.
+/// Compares what stands where `done` packets were answered and the next one met want of memory, and
+/// answers those left.
 fn left_of<'a>(
     rt: &impl Abort,
     alloc: Global,

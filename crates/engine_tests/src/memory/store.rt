@@ -1,4 +1,5 @@
-//! The three allocations of the store: with N from 1 to 6 each growth of this test is refused in turn.
+//! The three allocations of the store: with N from 1 to 6 each growth of this test is refused in
+//! turn.
 use crate::same::same;
 use daq_store::{Refusal, Store};
 use std::process::Abort;
@@ -12,8 +13,8 @@ enum Growth {
     Entries(u8),
 }
 
-/// What the readers show: the lists, FIRST_PID of list 1, the pointer, whether list 0 is selected, and its first entry where it
-/// is ready.
+/// What the readers show: the lists, FIRST_PID of list 1, the pointer, whether list 0 is selected,
+/// and its first entry where it is ready.
 type Shown = (
     u16,
     Option<u8>,

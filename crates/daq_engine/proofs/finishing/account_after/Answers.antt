@@ -11,7 +11,7 @@ pub returns : goal.returns
 returns g c start ps past taken stand =
     let ends = map (joined g.T.End.RingEnd) c.args.ends.items in
     let last = transmission g.O.Out g.T.TakeEnd c.drain_if.new.transmitter in
-    let same = c.drain_if.ensures.ends in
+    let same = c.drain_if.ensures.ends_stay in
     let report = c.account.result.0 in
     has_closed c.args.drain c.drained_engines_leave_nothing.ensures start (transmission g.O.Out g.T.TakeEnd c.args.transmitter) last ps ends past report (shown g.O.Out c.account.result.1)
     c.drain_if.ensures.drained c.drain_if.ensures.more taken stand

@@ -1,7 +1,8 @@
 use Rattle.std.proofs.Common.{◌≡◌, ℕ, length, map, vec_capacity, vec_len}
 use Rattle.sampler.specs.State.{SamplerEndState, SamplerState, joined, sent_by}
-use Rattle.daq_engine.specs.Configuration.{Past}
-use Rattle.daq_engine.specs.Standings.{EndsStandInOrder, StandInOrder, sent_of_each}
+use Rattle.sampler.specs.Past.{Past}
+use Rattle.daq_engine.specs.Samplers.{sent_of_each}
+use Rattle.daq_engine.specs.Standings.{EndsStandInOrder, StandInOrder}
 use Rattle.daq_engine.proofs.finishing.finish_all.Given as goal
 
 -- those so far are finished

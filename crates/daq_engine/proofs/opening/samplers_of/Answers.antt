@@ -3,7 +3,7 @@ use Rattle.std.proofs.lemmas.List.{take_all}
 use Rattle.channel_ring.specs.contracts.sample_ring.SendHalfSendEnd.TheImpl as send
 use Rattle.channel_ring.specs.contracts.sample_ring.TakeHalfTakeEnd.TheImpl as take_end
 use Rattle.channel_ring.specs.contracts.sample_ring.SendLeftRingEnd.TheImpl as ring
-use Rattle.daq_engine.specs.Opened.{AreOpenedTo}
+use Rattle.daq_engine.specs.Inner.Opened.{AreOpenedTo}
 use Rattle.daq_engine.proofs.SamplerLists.{opened-step}
 use Rattle.daq_engine.proofs.opening.samplers_of.Goals as goal
 

@@ -2,7 +2,7 @@ use Rattle.std.proofs.Common.{◌≡◌, ◌≤◌, take, vec_len, vec_capacity}
 use Rattle.channel_ring.specs.contracts.sample_ring.SendHalfSendEnd.TheImpl as send
 use Rattle.channel_ring.specs.contracts.sample_ring.TakeHalfTakeEnd.TheImpl as take_end
 use Rattle.channel_ring.specs.contracts.sample_ring.SendLeftRingEnd.TheImpl as ring
-use Rattle.daq_engine.specs.Opened.{AreOpenedTo}
+use Rattle.daq_engine.specs.Inner.Opened.{AreOpenedTo}
 use Rattle.daq_engine.proofs.opening.samplers_of.Given as goal
 
 -- the samplers and take ends of the event channels so far

@@ -1,5 +1,6 @@
 use Rattle.sampler.specs.History.{Trigger}
-use Rattle.daq_engine.specs.Engines.{decisions_at, engine_state, with_event, with_taken}
+use Rattle.daq_engine.specs.Engines.{engine_state}
+use Rattle.daq_engine.specs.Events.{decisions_at, with_event, with_taken}
 use Rattle.engine_tests.proofs.whole_run.run_once.Goals as goal
 
 -- each call leads the standing on, and the close has it

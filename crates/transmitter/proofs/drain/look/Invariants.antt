@@ -1,7 +1,7 @@
 use Rattle.std.proofs.Common.{◌≡◌, ℕ, ◌<◌, ◌++◌, true, false, length, map}
 use Rattle.sampler.specs.State.{joined, sent_by}
 use Rattle.transmitter.specs.Merge.{of_ring}
-use Rattle.transmitter.specs.Turns.{AllStay}
+use Rattle.transmitter.specs.Inner.Turns.{AllStay}
 use Rattle.transmitter.proofs.drain.look.Given as goal
 
 -- the rings so far were looked at

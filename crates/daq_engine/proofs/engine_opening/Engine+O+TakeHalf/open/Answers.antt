@@ -7,7 +7,8 @@ use Rattle.sampler.specs.State.{SamplerState}
 use Rattle.transmitter.specs.Written.{HasTaken}
 use Rattle.daq_engine.specs.Configuration.{IsConfiguration}
 use Rattle.daq_engine.specs.Openings.{AreOpened}
-use Rattle.daq_engine.specs.Standings.{StandInOrder, first_past}
+use Rattle.sampler.specs.Past.{first_past}
+use Rattle.daq_engine.specs.Standings.{StandInOrder}
 use Rattle.daq_engine.proofs.EndLemmas.{length-upto}
 use Rattle.daq_engine.proofs.engine_opening.Engine+O+TakeHalf.open.Goals as goal
 

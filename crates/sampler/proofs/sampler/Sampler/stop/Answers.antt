@@ -1,9 +1,9 @@
-use Rattle.std.proofs.Common.{◌≡◌, Bool, List, inl, inr, ◌∷◌, [], ◌++◌, get_or, refl, sym, ap, ◌∙◌, subst, arith, true, false, not}
+use Rattle.std.proofs.Common.{◌≡◌, Bool, inl, inr, ◌∷◌, [], ◌++◌, get_or, refl, sym, ap, ◌∙◌, subst, arith, true, false, not}
 use Rattle.std.specs.Prelude.{None, Some, length, slice_get, take}
 use Rattle.std.specs.Option.{option_and_then}
 use Rattle.xcp_base.specs.declared.item.Item.TheVariants.{Marker}
-use Rattle.sampler.specs.State.{SamplerState, place_of, track_at, is_stopped, stopped_in}
-use Rattle.sampler.specs.History.{Event, Opening}
+use Rattle.sampler.specs.State.{SamplerState, place_of, track_at, track_is_stopped, stopped_in}
+use Rattle.sampler.specs.Past.{Past}
 use Rattle.sampler.specs.Refusals.{AnswersStop, running_at, stop_refusal}
 use Rattle.sampler.specs.Standing.{StandsAfter}
 use Rattle.sampler.specs.declared.faults.StopFault.TheVariants.{NoRoom, NotOfChannel, NotRunning}
@@ -14,28 +14,28 @@ use Rattle.sampler.proofs.sampler.Sampler.stop.Given.{Over}
 use Rattle.sampler.proofs.sampler.Sampler.stop.Goals as goal
 use Rattle.sampler.proofs.sampler.Sampler.stop.Goals.{In-Some}
 
-at_place : (g : Over) (c : In-Some g) → place_of c.args.l c.self.inside.plans.items ≡ Some c.in-Some.place
-at_place g c = ap (place_of c.args.l) (sym c.as_slice.ensures.value) ∙ sym c.place_of.ensures ∙ c.in-Some.is
+at_place : (g : Over) (c : In-Some g) → place_of c.args.l c.self.inside.lists.plans.items ≡ Some c.in-Some.place
+at_place g c = sym c.place_of.ensures ∙ c.in-Some.is
 
-found : (g : Over) (c : In-Some g) → track_at c.args.self.now c.args.l ≡ Some (get_or c.self.inside.tracks c.in-Some.place no_track)
-found g c = ap (λ s. track_at s c.args.l) (sym c.self.view_is) ∙ track-found c.args.l c.self.inside.plans.items c.self.inside.tracks c.in-Some.place (at_place g c) (omega (arith, c.self.invariant.room, c.self.invariant.places))
+found : (g : Over) (c : In-Some g) → track_at c.args.self.now c.args.l ≡ Some (get_or c.self.inside.lists.tracks c.in-Some.place no_track)
+found g c = ap (λ s. track_at s c.args.l) (sym c.self.view_is) ∙ track-found c.args.l c.self.inside.lists.plans.items c.self.inside.lists.tracks c.in-Some.place (at_place g c) (omega (arith, c.self.invariant.room, c.self.invariant.places))
 
 -- a list that runs is not stopped
-still_runs : (g : Over) (c : In-Some g) → (get_or c.self.inside.tracks c.in-Some.place no_track).running ≡ true → stopped_in c.args.self.now c.args.l ≡ true → ⊥
+still_runs : (g : Over) (c : In-Some g) → (get_or c.self.inside.lists.tracks c.in-Some.place no_track).running ≡ true → stopped_in c.args.self.now c.args.l ≡ true → ⊥
 still_runs g c runs e =
-    let w : not (get_or c.self.inside.tracks c.in-Some.place no_track).running ≡ true = sym (ap is_stopped (found g c)) ∙ e in
+    let w : not (get_or c.self.inside.lists.tracks c.in-Some.place no_track).running ≡ true = sym (ap track_is_stopped (found g c)) ∙ e in
     let k : false ≡ true = sym (ap not runs) ∙ w in
     absurd cc
 
 -- why a stop of it is refused
-refusal_found : (g : Over) (c : In-Some g) (o : Opening) (h : List Event) (d : List Bool) → StandsAfter g.S.SendEnd g.S.End.RingEnd c.args.self.now o h d
-    → (b : Bool) → (get_or c.self.inside.tracks c.in-Some.place no_track).running ≡ b → stop_refusal (Some b) ≡ stop_refusal (running_at o h c.args.l)
-refusal_found g c o h d stands b is =
-    sym (ap stop_refusal (running_found g.S.SendEnd g.S.End.RingEnd c.args.self.now o h d c.args.l stands (Some (get_or c.self.inside.tracks c.in-Some.place no_track)) (found g c)) ∙ ap (λ r. stop_refusal (Some r)) is)
+refusal_found : (g : Over) (c : In-Some g) (past : Past) → StandsAfter g.S.SendEnd g.S.End.RingEnd c.args.self.now past
+    → (b : Bool) → (get_or c.self.inside.lists.tracks c.in-Some.place no_track).running ≡ b → stop_refusal (Some b) ≡ stop_refusal (running_at past c.args.l)
+refusal_found g c past stands b is =
+    sym (ap stop_refusal (running_found g.S.SendEnd g.S.End.RingEnd c.args.self.now past c.args.l stands (Some (get_or c.self.inside.lists.tracks c.in-Some.place no_track)) (found g c)) ∙ ap (λ r. stop_refusal (Some r)) is)
 
 pub new-requires-clause-list_below : goal.new-requires-clause-list_below
 new-requires-clause-list_below g c =
-    list-below c.self.inside.channel c.self.inside.image_len c.args.l c.self.inside.plans.items c.in-Some.place c.self.invariant.plans_of (at_place g (goal.at.new-requires-clause-list_below g c).In-Some)
+    list-below c.self.inside.channel c.self.inside.image_len c.args.l c.self.inside.lists.plans.items c.in-Some.place c.self.invariant.plans_of (at_place g (goal.at.new-requires-clause-list_below g c).In-Some)
 
 pub returns-clause-not_of_channel : goal.returns-clause-not_of_channel
 returns-clause-not_of_channel g c =
@@ -47,30 +47,30 @@ returns-clause-not_running g c =
     ((λ e. absurd cc), (λ e. absurd (still_runs g (goal.at.returns-clause-not_running g c).In-Some c.if-not-self-place.false e)))
 
 pub returns-clause-ok : goal.returns-clause-ok
-returns-clause-ok g c = λ o h d stands.
+returns-clause-ok g c = λ past stands.
     let E = g.S.SendEnd in
     let R = g.S.End.RingEnd in
-    let P : SamplerState g.row.S.Denot → Type 0 = λ s. StandsAfter E R s o h d in
+    let P : SamplerState g.row.S.Denot → Type 0 = λ s. StandsAfter E R s past in
     let w : In-Some g = (goal.at.returns-clause-ok g c).In-Some in
-    stop-inside E R c.self.inside.channel c.self.inside.image_len c.self.inside.plans.items c.self.inside.end c.offer.new.self c.self.inside.tracks c.stopped.result c.self.inside.triggers c.self.inside.accepted c.args.l c.in-Some.place c.self.invariant.rising (at_place g w) o h d c.stopped.ensures (c.in-Ok.ensures.ok ∙ ap (λ m. E.sent c.self.inside.end ++ Marker m ∷ []) c.new.ensures) c.offer.ensures.capacity_stays (subst P (sym c.self.view_is) stands)
+    stop-inside E R c.self.inside.channel c.self.inside.image_len c.self.inside.lists.plans.items c.self.inside.end c.offer.new.self c.self.inside.lists.tracks c.stopped.result c.self.inside.triggers c.self.inside.accepted c.args.l c.in-Some.place c.self.invariant.rising (at_place g w) past c.stopped.ensures (c.in-Ok.ensures.ok ∙ ap (λ m. E.sent c.self.inside.end ++ Marker m ∷ []) c.new.ensures) c.offer.ensures.capacity_stays (subst P (sym c.self.view_is) stands)
 
 pub invariant_of-self-2 : goal.invariant_of-self-2
 invariant_of-self-2 g c =
-    IsSampler-set c.self.inside.channel c.self.inside.image_len c.self.inside.plans.items c.self.inside.tracks c.self.inside.triggers c.self.inside.accepted c.in-Some.place c.stopped.result c.self.invariant (rw c.stopped.ensures (omega arith)) (rw c.stopped.ensures refl)
+    IsSampler-set c.self.inside.channel c.self.inside.image_len c.self.inside.lists.plans.items c.self.inside.lists.tracks c.self.inside.triggers c.self.inside.accepted c.in-Some.place c.stopped.result c.self.invariant (rw c.stopped.ensures (omega arith)) (rw c.stopped.ensures refl)
 
 -- a list that is not of the channel
 pub returns-in_default-clause-refused : goal.returns-in_default-clause-refused
-returns-in_default-clause-refused g c = λ o h d stands.
-    let at : place_of c.args.l c.self.inside.plans.items ≡ None = ap (place_of c.args.l) (sym c.as_slice.ensures.value) ∙ sym c.place_of.ensures ∙ c.in_default.is in
+returns-in_default-clause-refused g c = λ past stands.
+    let at : place_of c.args.l c.self.inside.lists.plans.items ≡ None = sym c.place_of.ensures ∙ c.in_default.is in
     let none : track_at c.args.self.now c.args.l ≡ None =
-    ap (λ s. track_at s c.args.l) (sym c.self.view_is) ∙ ap (option_and_then (λ i. slice_get (take (length c.self.inside.plans.items) c.self.inside.tracks) i)) at in
-    let why = sym (ap stop_refusal (running_found g.S.SendEnd g.S.End.RingEnd c.args.self.now o h d c.args.l stands None none)) in
+    ap (λ s. track_at s c.args.l) (sym c.self.view_is) ∙ ap (option_and_then (λ i. slice_get (take (length c.self.inside.lists.plans.items) c.self.inside.lists.tracks) i)) at in
+    let why = sym (ap stop_refusal (running_found g.S.SendEnd g.S.End.RingEnd c.args.self.now past c.args.l stands None none)) in
     subst (λ r. AnswersStop r (Some NotOfChannel)) why refl
 
 -- one that doesn't run
 pub returns-then-not-self-place-clause-refused : goal.returns-then-not-self-place-clause-refused
-returns-then-not-self-place-clause-refused g c = λ o h d stands.
-    let why = refusal_found g (goal.at.returns-then-not-self-place-clause-refused g c).In-Some o h d stands false c.if-not-self-place.true in
+returns-then-not-self-place-clause-refused g c = λ past stands.
+    let why = refusal_found g (goal.at.returns-then-not-self-place-clause-refused g c).In-Some past stands false c.if-not-self-place.true in
     subst (λ r. AnswersStop r (Some NotRunning)) why refl
 
 -- one whose marker finds no room
@@ -84,12 +84,12 @@ returns-in_default-offer-clause-not_running g c =
     ((λ e. absurd cc), (λ e. absurd (still_runs g (goal.at.returns-in_default-offer-clause-not_running g c).In-Some c.if-not-self-place.false e)))
 
 pub returns-in_default-offer-clause-refused : goal.returns-in_default-offer-clause-refused
-returns-in_default-offer-clause-refused g c = λ o h d stands.
-    let why = refusal_found g (goal.at.returns-in_default-offer-clause-refused g c).In-Some o h d stands true c.if-not-self-place.false in
+returns-in_default-offer-clause-refused g c = λ past stands.
+    let why = refusal_found g (goal.at.returns-in_default-offer-clause-refused g c).In-Some past stands true c.if-not-self-place.false in
     subst (λ r. AnswersStop r (Some NoRoom)) why (inr refl)
 
 -- one that is stopped
 pub returns-clause-refused : goal.returns-clause-refused
-returns-clause-refused g c = λ o h d stands.
-    let why = refusal_found g (goal.at.returns-clause-refused g c).In-Some o h d stands true c.if-not-self-place.false in
+returns-clause-refused g c = λ past stands.
+    let why = refusal_found g (goal.at.returns-clause-refused g c).In-Some past stands true c.if-not-self-place.false in
     subst (λ r. AnswersStop r None) why (inl refl)

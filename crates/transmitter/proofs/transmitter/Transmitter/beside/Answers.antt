@@ -37,6 +37,6 @@ returns-clause-looked g c =
     let xs = c.args.self.now.ends.items in
     let k = c.channel-c.result in
     record {
-      same = but_known (transmission g.O.Out t c.args.self.now) _ _ _ (map-set_same t.ring xs k c.beside.new.take c.index_mut-take.result.now (e.take_ring ∙ ap t.ring v)) (map-set_same t.received xs k c.beside.new.take c.index_mut-take.result.now (e.received ∙ ap t.received v));
+      same = but_known (transmission g.O.Out t c.args.self.now) _ _ _ (map-set_same t.ring xs k c.beside.new.take c.index_mut-take.result.now (e.take_ring_stays ∙ ap t.ring v)) (map-set_same t.received xs k c.beside.new.take c.index_mut-take.result.now (e.received_stays ∙ ap t.received v));
       others = λ j n. shown_elsewhere t.known xs k j c.beside.new.take [] (λ q. n (q ∙ c.channel-c.ensures));
     }

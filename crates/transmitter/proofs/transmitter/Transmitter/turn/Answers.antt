@@ -4,7 +4,7 @@ use Rattle.std.proofs.lemmas.Bool.Decides.{nat_tests}
 use Rattle.xcp_base.specs.declared.item.Item.{Item}
 use Rattle.xcp_base.specs.Packets.{ArePackets}
 use Rattle.transmitter.specs.Merge.{Takes}
-use Rattle.transmitter.specs.Turns.{taken_at}
+use Rattle.transmitter.specs.Inner.Turns.{taken_at}
 use Rattle.transmitter.specs.Written.{transmission}
 use Rattle.transmitter.proofs.WrittenLemmas.{leads-broken, leads-marker, leads-sample}
 use Rattle.transmitter.proofs.transmitter.Transmitter.turn.Goals as goal

@@ -1,0 +1,4 @@
+pub mod Asked
+pub mod Opened
+pub mod Settled
+pub mod Lines

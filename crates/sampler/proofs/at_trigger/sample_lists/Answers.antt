@@ -1,0 +1,71 @@
+use Rattle.std.proofs.Common.{◌≡◌, ◌+◌, ℕ, List, [], ◌∷◌, ◌++◌, length, get_or, set, take, arith, ap, sym, ◌∙◌, refl, subst, length-take, ◌^◌, suc}
+use Rattle.std.proofs.Math.Seq.{take-suc}
+use Rattle.copy_plan.specs.Config.{ListPlan}
+use Rattle.sampler.specs.Inner.AtTrigger.{HandlesLists, Row, Stage, first_stage, row_count, triggered}
+use Rattle.sampler.specs.declared.track.Track.{Track}
+use Rattle.sampler.proofs.Handled.{handles-none, handles-more, track-at, fit-at, plan-at, row_count-yes, row_count-no, row_count-le}
+use Rattle.sampler.proofs.Places.{no_track}
+use Rattle.sampler.proofs.at_trigger.sample_lists.Goals as goal
+use Rattle.sampler.proofs.at_trigger.sample_lists.Goals.{then-accepted, else-accepted}
+
+pub loop-place-init : goal.loop-place-init
+loop-place-init g c =
+    record {
+      handled = handles-none g.S.SendEnd g.S.End.RingEnd c.args.moment.now c.args.end.now c.args.tracks.now c.args.number;
+      next_limit = omega arith;
+      capacity = refl;
+      ring = refl;
+    }
+
+pub sample_list-accepted-requires : goal.sample_list-accepted-requires
+sample_list-accepted-requires g c = record { image = sym (ap (λ (p : ListPlan). p.image_len) c.index-plans-place.is ∙ plan-at c.args.moment.now.channel (length c.args.moment.now.image) c.args.plans.now c.loop-place.place c.index-plans-place.result c.requires.plans_of (omega arith)) }
+
+pub triggered-requires : goal.triggered-requires
+triggered-requires g c =
+    let there : get_or c.loop-place.tracks c.loop-place.place no_track ≡ get_or c.args.tracks.now c.loop-place.place no_track = track-at c.args.plans.now c.loop-place.place c.loop-place.invariant.handled (omega arith) c.requires.room in
+    let fit = fit-at (2 ^ 59) c.args.plans.now c.args.tracks.now c.loop-place.place c.index-plans-place.result c.requires.fit (omega arith) in
+    record {
+      phase = omega (arith, fit.0, ap (λ (t : Track). t.phase) there, ap (λ (p : ListPlan). p.prescaler) c.index-plans-place.is);
+      counts = omega (arith, fit.1, ap (λ (t : Track). t.counts.due) there);
+      sum = ap (λ (t : Track). t.counts.accepted + t.counts.dropped) there ∙ fit.2 ∙ sym (ap (λ (t : Track). t.counts.due) there);
+    }
+
+pub loop-place-preserved : goal.loop-place-preserved
+loop-place-preserved g c =
+    let E = g.S.SendEnd in
+    let R = g.S.End.RingEnd in
+    let i : ℕ = c.loop-place.place in
+    let plan : ListPlan = c.index-plans-place.result in
+    let track : Track = get_or c.loop-place.tracks i no_track in
+    let row : Row = record { plan = plan; track = track; accepted = c.sample_list-accepted.result } in
+    let first : Stage g.row.S.Denot = first_stage c.args.end.now c.args.tracks.now c.args.number in
+    let mid : Stage g.row.S.Denot = record { end = c.loop-place.end; tracks = c.loop-place.tracks; taken = c.loop-place.taken; next = c.loop-place.next } in
+    let last : Stage g.row.S.Denot = record { end = c.sample_list-accepted.new.end; tracks = set c.loop-place.tracks i c.triggered.result; taken = c.add.new.self; next = c.if-accepted.next } in
+    let n : length (take i c.args.plans.now) ≡ i = simp length-take (omega arith) in
+    let there : track ≡ get_or c.args.tracks.now i no_track = track-at c.args.plans.now i c.loop-place.invariant.handled (omega arith) c.requires.room in
+    let one : suc i ≡ i + 1 = omega arith in
+    let more : take i c.args.plans.now ++ plan ∷ [] ≡ take (i + 1) c.args.plans.now =
+    ap (λ p. take i c.args.plans.now ++ p ∷ []) c.index-plans-place.is ∙ sym (take-suc c.args.plans.now i plan (omega arith)) ∙ ap (λ k. take k c.args.plans.now) one in
+    let count : c.if-accepted.next ≡ c.loop-place.next + row_count row =
+    elim c.if-accepted.branch [
+      | then-accepted w ↦ omega (arith, w.next-is, row_count-yes plan track c.sample_list-accepted.result w.if-accepted.true (c.sample_list-accepted.ensures.due w.if-accepted.true))
+      | else-accepted w ↦ omega (arith, w.next-is, row_count-no plan track c.sample_list-accepted.result w.if-accepted.false)
+    ] in
+    let P : List ListPlan → Type 0 = λ ps. HandlesLists E R c.args.moment.now ps first last in
+    record {
+      handled =
+          subst P more (
+          handles-more E R c.args.moment.now (take i c.args.plans.now) first mid last row
+          c.loop-place.invariant.handled
+          (omega (arith, n, c.requires.room))
+          (there ∙ ap (λ k. get_or c.args.tracks.now k no_track) (sym n))
+          (ap (set c.loop-place.tracks i) c.triggered.ensures ∙ ap (λ k. set c.loop-place.tracks k (triggered plan track c.sample_list-accepted.result)) (sym n))
+          c.sample_list-accepted.ensures.sent
+          c.sample_list-accepted.ensures.free
+          c.sample_list-accepted.ensures.over_free
+          c.add.ensures
+          count);
+      next_limit = omega (arith, count, c.loop-place.invariant.next_limit, row_count-le row);
+      capacity = c.sample_list-accepted.ensures.capacity_stays ∙ c.loop-place.invariant.capacity;
+      ring = c.sample_list-accepted.ensures.ring_stays ∙ c.loop-place.invariant.ring;
+    }

@@ -1,6 +1,0 @@
-use Rattle.std.proofs.Common.{take}
-use Rattle.sampler.specs.Sets.{IsSetOf}
-use Rattle.sampler.proofs.openings.set_of.Given as goal
-
-abbrev pub invariant-loop-place : goal.invariant-loop-place
-invariant-loop-place l = IsSetOf l.set (take l.place l.plans)

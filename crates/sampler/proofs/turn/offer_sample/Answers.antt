@@ -1,9 +1,0 @@
-use Rattle.std.proofs.Common.{length, arith, ap}
-use Rattle.std.proofs.lemmas.List.FromFn.{length-map-range_with_len}
-use Rattle.copy_plan.specs.Packet.{packet, packets}
-use Rattle.sampler.proofs.turn.offer_sample.Goals as goal
-
-pub new-sample-requires-clause-some : goal.new-sample-requires-clause-some
-unfolding packets
-new-sample-requires-clause-some g c =
-    omega (arith, ap length c.fill_into.ensures, length-map-range_with_len (packet c.args.plan.now c.args.image.now c.args.stamp c.args.marked) 0 (length c.args.plan.now.odts), c.odts.ensures.plan.some)

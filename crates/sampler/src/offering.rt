@@ -1,0 +1,40 @@
+ghost use Rattle.std.specs.Prelude.{◌≡◌, ◌+◌, ◌<◌, ◌≤◌, true, false, [], ◌∷◌, ◌++◌, length};
+ghost use Rattle.sampler.specs.Inner.AtTrigger.{item_of};
+
+use crate::moment::Moment;
+use channel_ring::SendEnd;
+use copy_plan::CopyPlan;
+use xcp_base::{Item, Packets, Sample};
+
+/// Offers the sample of a list, and tells whether it was accepted.
+#[tactic(auto, unfolding(crate::specs::Inner::AtTrigger::item_of))]
+pub fn offer_sample<S: SendEnd>(
+    end: &mut S,
+    moment: &Moment,
+    plan: &CopyPlan,
+    number: u64,
+    marked: bool,
+) -> bool
+    requires image { length moment.now.image ≡ plan.now.image_len }
+    ensures accepted { result ≡ true
+        → S.sent end.new ≡ S.sent end.old ++ item_of moment.now plan.now number marked ∷ [] }
+    ensures spent { result ≡ true
+        → S.free end.old ≤ S.free end.new + S.End.cost (item_of moment.now plan.now number marked) }
+
+    ensures dropped { result ≡ false → S.sent end.new ≡ S.sent end.old }
+    ensures over_free { result ≡ false
+        → S.free end.old < S.End.cost (item_of moment.now plan.now number marked) }
+    ensures free_stays { result ≡ false → S.free end.old ≤ S.free end.new }
+
+    ensures capacity_stays { S.capacity end.new ≡ S.capacity end.old }
+    ensures ring_stays { S.ring end.new ≡ S.ring end.old }
+{
+    let list = plan.list();
+    let mut packets = Packets::new();
+    plan.fill_into(&mut packets, moment.image, moment.stamp, marked);
+    let sample = Sample::new(moment.channel, list, number, packets);
+    match end.offer(Item::Sample(sample)) {
+        Ok(()) => true,
+        Err(_) => false,
+    }
+}

@@ -1,0 +1,40 @@
+-- A pump's turn at one ring, and a look at the rings one by one.
+use Rattle.std.specs.Prelude.{ℕ, ◌<◌, ◌≤◌, ◌≡◌, List, [], ◌∷◌, length, map}
+use Rattle.std.specs.Prelude.{Option, None, Some}
+use Rattle.xcp_base.specs.Samples.{SampleParts, MarkParts}
+use Rattle.xcp_base.specs.declared.item.Item.{Item}
+use Rattle.xcp_base.specs.declared.item.Item.TheVariants.{Sample, Marker}
+use Rattle.channel_ring.specs.declared.ends.RingEnd.{Ghosts as EndGhosts}
+use Rattle.channel_ring.specs.declared.ends.TakeEnd.{Ghosts as TakeGhosts}
+use Rattle.sampler.specs.State.{SamplerEndState}
+use Rattle.transmitter.specs.Looks.{EndsStay}
+use Rattle.transmitter.specs.Merge.{of_ring}
+use Rattle.transmitter.specs.Pumps.{Leads}
+use Rattle.transmitter.specs.Written.{TransmitterState}
+use Rattle.transmitter.specs.declared.turn.Turn.{Turn}
+use Rattle.transmitter.specs.declared.turn.Turn.TheVariants.{Broke, Nothing, Stopped, Wrote}
+
+-- one turn at ring c: nothing was there; or a sample, which was written as n packets; or the stop
+-- marker of list l; or a sample within which the writer failed
+abbrev pub TurnMeans : ℕ → TransmitterState → TransmitterState → Turn → Type 0
+TurnMeans c a b Nothing = (b.hand ≡ None) × Leads a [] b × (of_ring a.known c ≡ [])
+TurnMeans c a b (Wrote n) =
+    (s : SampleParts) × (b.hand ≡ None) × Leads a ((c, Sample s) ∷ []) b × (n ≡ length s.packets)
+    × (n ≤ 8)
+TurnMeans c a b (Stopped l) =
+    (m : MarkParts) × (b.hand ≡ None) × Leads a ((c, Marker m) ∷ []) b × (l ≡ m.list) × (l < 16)
+TurnMeans c a b Broke = (s : SampleParts) × (b.hand ≡ Some s) × Leads a ((c, Sample s) ∷ []) b
+
+-- an item of ring c, where there is one
+abbrev pub taken_at : ℕ → Option Item → List (ℕ × Item)
+taken_at c None = []
+taken_at c (Some x) = (c, x) ∷ []
+
+-- the take ends are still those of their rings, and have received what they had; and the finished
+-- ends stay
+pub record AllStay {T F E : Type 0} (take : TakeGhosts T F) (ring : EndGhosts E) (old new : List T)
+    (old_ends new_ends : List (SamplerEndState E))
+    : Type 0 where
+  pub rings : map take.ring new ≡ map take.ring old
+  pub received : map take.received new ≡ map take.received old
+  pub ends : EndsStay ring old_ends new_ends
