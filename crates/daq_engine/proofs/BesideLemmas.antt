@@ -1,5 +1,5 @@
 -- Samplers beside a transmitter: looks at what was sent, and what a pump takes between two looks.
-use Rattle.std.proofs.Common.{◌≡◌, ◌≢◌, ℕ, ◌<◌, List, [], ◌++◌, length, get_or, refl, sym, ap, subst, ◌∙◌, arith}
+use Rattle.std.proofs.Common.{◌≡◌, ◌≢◌, ℕ, ◌+◌, ◌<◌, List, [], ◌++◌, length, get_or, refl, sym, ap, subst, ◌∙◌, arith, below_more}
 use Rattle.std.specs.Prelude.{Some, Result, slice_get}
 use Rattle.std.specs.Option.{option_map}
 use Rattle.std.proofs.lemmas.List.{get_or-map, length-map}
@@ -18,7 +18,7 @@ use Rattle.transmitter.specs.declared.faults.PumpFault.{PumpFault}
 use Rattle.transmitter.proofs.DrainLemmas.{LookedAtAll, known_taken, takes_front, takes_round, with_known}
 use Rattle.daq_engine.specs.Configuration.{upto}
 use Rattle.daq_engine.specs.PumpSteps.{IsPumpStep}
-use Rattle.daq_engine.specs.Samplers.{AreBeside, AllOnlyLooked, StayThose, sent_of_each}
+use Rattle.daq_engine.specs.Samplers.{AllOnlyLooked, AreBeside, IsRoomyAt, StayThose, sent_of_each}
 use Rattle.daq_engine.proofs.EndLemmas.{get_or-upto}
 
 module _ {S E : Type 0} (send : SendGhosts S E) where
@@ -73,6 +73,25 @@ looked_elsewhere c k a b look other = rw (ap (λ (u : TransmitterState). u.recei
 -- one look more
 pub looks_again : (t a b : TransmitterState) → Looked t a → Looked a b → Looked t b
 looks_again t a b first second = second ∙ ap (λ (u : TransmitterState). record u { known = b.known }) first
+
+-- the rings below n were looked at: samplers xs became ys, and transmitter t became u
+pub record LookedBelow {S E : Type 0} (send : SendGhosts S E) (ring : EndGhosts E) (n : ℕ) (xs ys : List (SamplerState S)) (t u : TransmitterState) : Type 0 where
+  pub samplers : AllOnlyLooked send ring xs ys
+  pub looked : Looked t u
+  pub left : (e : ℕ) → e < n → of_ring u.received e ++ of_ring u.known e ≡ of_ring (sent_of_each send xs) e
+  pub roomy : (e : ℕ) → e < n → IsRoomyAt send ring ys u e
+
+-- one ring more
+pub looked_below-more : {S E : Type 0} (send : SendGhosts S E) (ring : EndGhosts E) (n : ℕ) (xs ys zs : List (SamplerState S)) (t u v : TransmitterState) → LookedBelow send ring n xs ys t u
+    → AllOnlyLooked send ring ys zs → ((e : ℕ) → e ≢ n → slice_get zs e ≡ slice_get ys e) → LookedAt n u v
+    → of_ring v.received n ++ of_ring v.known n ≡ of_ring (sent_of_each send ys) n → IsRoomyAt send ring zs v n
+    → LookedBelow send ring (n + 1) xs zs t v
+looked_below-more send ring n xs ys zs t u v i samplers others looked left roomy = record {
+  samplers = all_looked-more i.samplers samplers;
+  looked = looks_again t u v i.looked looked.same;
+  left = below_more _ _ (λ k h. looked_elsewhere n k u v looked (omega (arith, h)) ∙ i.left k h) (left ∙ ap (λ ss. of_ring ss n) i.samplers.sent);
+  roomy = below_more _ _ (λ k h. rw (others k (omega (arith, h)), looked.others k (omega (arith, h))) (i.roomy k h)) roomy;
+}
 
 -- a pump between two looks, where this was left before it
 between : (sent : List (List Item)) (n : ℕ) (a : TransmitterState) (left : List (List Item)) (p d : TransmitterState) (answer : Result Pumped PumpFault)

@@ -1,7 +1,8 @@
-use Rattle.std.proofs.Common.{◌≡◌, ℕ, ◌<◌, IsTrue, nat_lt, List, [], length, map, get_or, set, sym, ap, ◌∙◌, arith}
+use Rattle.std.proofs.Common.{◌++◌, ◌≡◌, ℕ, ◌<◌, IsTrue, nat_lt, List, [], length, map, get_or, set, sym, ap, ◌∙◌, arith}
 use Rattle.std.proofs.Math.Seq.{map-set_same}
 use Rattle.std.proofs.lemmas.List.{get_or-map, length-map}
 use Rattle.std.proofs.lemmas.Bool.Decides.{nat_tests}
+use Rattle.xcp_base.specs.declared.item.Item.{Item}
 use Rattle.channel_ring.specs.declared.ends.RingEnd.{Ghosts as EndGhosts}
 use Rattle.sampler.specs.State.{SamplerEndState, joined, sent_by}
 use Rattle.transmitter.specs.Merge.{of_ring}
@@ -54,6 +55,14 @@ within : {A B R : Type 0} (f : A → R) (g : B → R) (xs : List A) (ys : List B
 within f g xs ys c e h = omega (arith, ap length e, length-map xs f, length-map ys g, h)
 
 -- what was sent to a ring is what the new end says, and so what the joined old one says
+left_at : {T E : Type 0} (received known : T → List Item) (ring : EndGhosts E) (xs : List T) (ys : List (SamplerEndState E)) (c : ℕ) (take : T) (end : SamplerEndState E)
+    → c < length xs → c < length ys → map (joined ring) (set ys c end) ≡ map (joined ring) ys → received take ++ known take ≡ ring.all_sent end.end
+    → of_ring (map received (set xs c take)) c ++ of_ring (map known (set xs c take)) c ≡ of_ring (sent_by (map (joined ring) ys)) c
+left_at received known ring xs ys c take end w h same left =
+    let sent : of_ring (map (λ (x : SamplerEndState _). ring.all_sent x.end) (set ys c end)) c ≡ ring.all_sent end.end = shown_here (λ (x : SamplerEndState _). ring.all_sent x.end) ys c end [] h in
+    let whole : map (λ (x : SamplerEndState _). ring.all_sent x.end) (set ys c end) ≡ sent_by (map (joined ring) ys) = sent_joined ring (set ys c end) ∙ ap sent_by same in
+    rw (shown_here received xs c take [] w, shown_here known xs c take [] w) (left ∙ (sym sent ∙ ap (λ t. of_ring t c) whole))
+
 pub returns-clause-left : goal.returns-clause-left
 returns-clause-left g c =
     let k = g.T.TakeEnd in
@@ -61,9 +70,7 @@ returns-clause-left g c =
     let xs = c.args.takes.now.items in
     let ys = c.args.ends.now in
     let w = within k.ring (λ (x : SamplerEndState g.row.T-End.Denot). r.ring x.end) xs ys c.args.c c.requires.rings c.requires.ring in
-    let sent = shown_here (λ (x : SamplerEndState g.row.T-End.Denot). r.all_sent x.end) ys c.args.c c.after.new.self [] c.requires.ring in
-    let same = sent_joined r (set ys c.args.c c.after.new.self) ∙ ap sent_by (returns-clause-stay g c).ends.ends in
-    rw (shown_here k.received xs c.args.c c.after.new.take [] w, shown_here k.known xs c.args.c c.after.new.take [] w) (c.after.ensures.left ∙ (sym sent ∙ ap (λ t. of_ring t c.args.c) same))
+    left_at k.received k.known r xs ys c.args.c c.after.new.take c.after.new.self w c.requires.ring (returns-clause-stay g c).ends.ends c.after.ensures.left
 
 pub returns-clause-some : goal.returns-clause-some
 returns-clause-some g c =
