@@ -27,7 +27,8 @@ where
         (engine_state O.Out T.TakeEnd engine.old) (engine_state O.Out T.TakeEnd engine.new)
         (run_step (step_data step.entry)) result }
     ensures few { result ≤ 1 }
-    ensures samplers_stay { StayThose T.Send.SendEnd (engine_state O.Out T.TakeEnd engine.old).samplers
+    ensures samplers_stay { StayThose T.Send.SendEnd
+        (engine_state O.Out T.TakeEnd engine.old).samplers
         (engine_state O.Out T.TakeEnd engine.new).samplers }
 {
     match step {
@@ -69,7 +70,8 @@ where
         → HasDone T.Send.SendEnd T.End.RingEnd (engine_state O.Out T.TakeEnd engine.new)
         start openings (map run_step run.now.steps) result }
     ensures few { result ≤ length run.now.steps }
-    ensures samplers_stay { StayThose T.Send.SendEnd (engine_state O.Out T.TakeEnd engine.old).samplers
+    ensures samplers_stay { StayThose T.Send.SendEnd
+        (engine_state O.Out T.TakeEnd engine.old).samplers
         (engine_state O.Out T.TakeEnd engine.new).samplers }
 {
     let mut refused = 0;

@@ -1,4 +1,5 @@
-//! The tests of run files and their steps, and of the writer over a stream. As a library this crate is empty.
+//! The tests of run files and their steps, and of the writer over a stream. As a library this crate
+//! is empty.
 #![tactic(auto)]
 
 #[cfg(test)]

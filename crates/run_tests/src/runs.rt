@@ -99,13 +99,13 @@ const ACCEPTED: [Accepted; 5] = [
     Accepted {
         name: "keys in any order, a comment, no drain",
         parts: &[
-            "# a run\ndrain = false\nsteps = ['pump']\nsetup = ['', 'D6']\n",
+            "# a run\ndrain = false\nsteps = ['pump']\nsetup = ['', 'DD']\n",
             "caps = [0x10]\nimage_len = 1\nchannels = 1",
         ],
         channels: 1,
         image_len: 1,
         caps: &[16],
-        setup: &[&[], &[0xD6]],
+        setup: &[&[], &[0xDD]],
         steps: &[Step::Pump],
         drain: false,
     },
