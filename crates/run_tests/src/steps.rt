@@ -2,11 +2,11 @@
 use crate::same::same;
 use crate::text::{NO_STEPS, ONE_CHANNEL, ONE_LIST, TWO_TRIGGERS, joined};
 use daq_engine::{Engine, ListReport, Report};
-use daq_sim::carry_all;
 use daq_steps::do_steps;
 use daq_store::Store;
 use frame_writer::{FrameWriter, VecOut};
 use run_file::Run;
+use run_setup::carry_all;
 use std::alloc::Global;
 use std::process::Abort;
 use std::test::Fail;

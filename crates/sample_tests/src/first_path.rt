@@ -1,8 +1,8 @@
 //! From images to frames, by a fixed DAQ list.
 use crate::same::same;
-use daq_sim::fixed_run;
 use frame_writer::{FuseOut, VecOut, WriteFault, next_frame};
 use linked_list_allocator::LocalHeap;
+use run_setup::fixed_run;
 use std::process::Abort;
 use std::test::Fail;
 

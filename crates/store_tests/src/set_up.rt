@@ -2,9 +2,9 @@
 use crate::call::{ACCEPTED, Call};
 use crate::example::{Step, make_all};
 use crate::same::same;
-use daq_sim::{SetupFault, carry_all};
 use daq_store::Store;
 use frame_writer::{FrameWriter, FuseOut};
+use run_setup::{SetupFault, carry_all};
 use std::alloc::{AllocError, Global};
 use std::process::Abort;
 use std::test::Fail;

@@ -3,12 +3,12 @@
 #![tactic(auto)]
 
 ghost use Rattle.std.specs.Prelude.{◌≡◌, IfErr, IfOk, string_bytes};
-ghost use Rattle.daq_sim.specs.Fixed.{fixed_packets};
+ghost use Rattle.run_setup.specs.Fixed.{fixed_packets};
 ghost use Rattle.frame_writer.specs.Frame.{text};
 ghost use Rattle.hex.specs.Hex.{encode_lower};
 
-use daq_sim::fixed_run;
 use frame_writer::VecOut;
+use run_setup::fixed_run;
 use std::alloc::Global;
 use std::env;
 use std::io::{self, ErrorKind};

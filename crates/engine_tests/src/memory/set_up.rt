@@ -6,10 +6,10 @@
 //! wants memory.
 
 use crate::same::same;
-use daq_sim::{SetupFault, carry_all};
 use daq_store::Store;
 use frame_writer::{FrameWriter, VecOut};
 use linked_list_allocator::LocalHeap;
+use run_setup::{SetupFault, carry_all};
 use std::alloc::{AllocError, Global};
 use std::process::Abort;
 use std::test::Fail;
