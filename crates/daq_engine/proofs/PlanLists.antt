@@ -1,12 +1,13 @@
 -- The plans of the lists of an event channel, list by list.
-use Rattle.std.proofs.Common.{◌≡◌, ℕ, zero, suc, ◌+◌, ◌≤◌, Bool, true, false, ◌&&◌, ◌||◌, List, [], ◌∷◌, ◌++◌, map, length, filter, nat_eq, sym, refl, ap, ◌∙◌, arith, cond, subst, All}
+use Rattle.std.proofs.Common.{inl, inr, ◌≡◌, ℕ, zero, suc, ◌+◌, ◌≤◌, Bool, true, false, ◌&&◌, ◌||◌, List, [], ◌∷◌, ◌++◌, map, length, filter, nat_eq, sym, refl, ap, ◌∙◌, arith, cond, subst, All}
 use Rattle.std.specs.List.{list_all, range_with_len}
 use Rattle.std.proofs.lemmas.List.Elements.{All-head, All-tail, filter-append}
 use Rattle.std.proofs.lemmas.List.{map-append}
 use Rattle.daq_store.specs.Calls.{numbers_below}
 use Rattle.daq_store.specs.Standing.{StoreState}
 use Rattle.copy_plan.specs.Config.{ListPlan, IsPlan}
-use Rattle.std.proofs.lemmas.Bool.Decides.{nat_tests}
+use Rattle.std.proofs.Math.Bool.{and-false, and-true}
+use Rattle.std.proofs.lemmas.Bool.Decides.{eqb_tells, nat_tests}
 use Rattle.daq_store.specs.Configuration.{channel_of, is_ready}
 use Rattle.daq_store.specs.Standing.{conf_of}
 use Rattle.sampler.specs.State.{ArePlansOf, RiseFrom}
@@ -45,6 +46,14 @@ or-and false true true = refl
 or-and false true false = refl
 or-and false false true = refl
 or-and false false false = refl
+
+-- asked of a list and whether it is list k, or the other way round and of list k
+pub and-eqb : (f : ℕ → Bool) (l k : ℕ) → (f l && nat_eq l k) ≡ (nat_eq l k && f k)
+and-eqb f l k =
+    elim (eqb_tells l k) [
+      | inl v ↦ ap (λ b. f l && b) v.0 ∙ and-true (f l) ∙ ap f v.1 ∙ sym (ap (λ b. b && f k) v.0)
+      | inr v ↦ ap (λ b. f l && b) v.0 ∙ and-false (f l) ∙ sym (ap (λ b. b && f k) v.0)
+    ]
 
 and_left : (a b : Bool) → (a && b) ≡ true → a ≡ true
 and_left true b h = refl

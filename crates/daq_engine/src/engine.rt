@@ -13,6 +13,7 @@ use frame_writer::Out;
 use sampler::{ListCounts, Sampler, StartFault, StopFault, Taken, TriggerFault};
 use std::alloc::Global;
 use transmitter::{PumpFault, Pumped, Transmitter};
+use xcp_base::limits::MAX_LISTS;
 
 /// The samplers of all event channels beside the transmitter of their rings, in one thread.
 ///
@@ -225,7 +226,7 @@ where
         let Ok(room) = Vec::with_capacity(alloc, self.samplers.len()) else {
             return Err(Unclosed::Memory(self));
         };
-        let Ok(lines) = Vec::with_capacity(alloc, 16) else {
+        let Ok(lines) = Vec::with_capacity(alloc, MAX_LISTS as usize) else {
             return Err(Unclosed::Memory(self));
         };
         let Engine {

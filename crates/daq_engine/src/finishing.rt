@@ -1,6 +1,7 @@
 //! From samplers to their ends, and from these to the account.
 ghost use Rattle.std.specs.Prelude.{◌≡◌, ℕ, ◌↔◌, ◌≤◌, map, vec_capacity, vec_len};
 ghost use Rattle.std.specs.Prelude.{IfErr, IfOk, IfSome, OnOk};
+ghost use Rattle.xcp_base.specs.declared.limits.TheConstants.{MAX_LISTS};
 ghost use Rattle.frame_writer.specs.Shown.{shown};
 ghost use Rattle.sampler.specs.State.{joined, sent_by};
 ghost use Rattle.transmitter.specs.Looks.{AreOfRings};
@@ -84,7 +85,7 @@ pub fn account_after<O: Out, T: TakeEnd>(
     drain: bool,
 ) -> (Report, O)
     requires empty { vec_len room ≡ 0 }
-    requires enough { 16 ≤ vec_capacity room }
+    requires enough { MAX_LISTS ≤ vec_capacity room }
     requires one_ring { AreOfRings T.End.RingEnd (transmission O.Out T.TakeEnd transmitter)
         ends.items }
     ensures { ClosesWith drain (transmission O.Out T.TakeEnd transmitter)

@@ -1,6 +1,7 @@
 ghost use Rattle.std.specs.Prelude.{◌≡◌, ℕ, ◌<◌, ◌≤◌, ◌↔◌, false, true, length};
 ghost use Rattle.std.specs.Prelude.{IfErr, IfOk, OnOk, Some};
 ghost use Rattle.std.specs.List.{list_all};
+ghost use Rattle.xcp_base.specs.declared.limits.TheConstants.{MAX_CHANNELS};
 ghost use Rattle.sampler.specs.History.{Opening};
 ghost use Rattle.frame_writer.specs.Writing.{state_of};
 ghost use Rattle.transmitter.specs.Written.{transmission, writer_of};
@@ -102,7 +103,7 @@ fn sampler_of(
     c: u8,
     cap: usize,
 ) -> Result<(Sampler<SendHalf>, TakeHalf), AllocError>
-    requires channel { c < 8 }
+    requires channel { c < MAX_CHANNELS }
     ensures opened { IfOk result (λ r. (opening : Opening)
         × IsOpenedAt ⟦<SendHalf as SendEnd>⟧ ⟦<SendLeft as RingEnd>⟧ ⟦<TakeHalf as TakeEnd>⟧
         store.now c cap r.0 r.1 opening) }
@@ -129,7 +130,7 @@ fn samplers_of(
         AreOpenedTo ⟦<SendHalf as SendEnd>⟧ ⟦<SendLeft as RingEnd>⟧ ⟦<TakeHalf as TakeEnd>⟧
         store.now caps.now r.0.items r.1.items) }
     ensures some { 1 ≤ store.now.profile.channels }
-    ensures few { store.now.profile.channels ≤ 8 }
+    ensures few { store.now.profile.channels ≤ MAX_CHANNELS }
 {
     let channels = store.channels() as u8;
     let mut samplers = Vec::with_capacity(alloc, channels as usize)?;

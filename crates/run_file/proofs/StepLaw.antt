@@ -12,12 +12,12 @@ use Rattle.std.proofs.lemmas.Slice.Eq.{bytes_eq-Decides}
 use Rattle.hex.specs.declared.error.FromHexError.{FromHexError}
 use Rattle.hex.specs.Hex.{decode_of}
 use Rattle.hex.proofs.HexLemmas.{decode_of-ok}
-use Rattle.run_file.specs.Steps.{IsDecimal, IsImage, IsStepText, IsSwitch, StepData, joined, pump, start, stop, trigger}
+use Rattle.run_file.specs.Steps.{IsDecimal, IsImage, IsStepText, IsSwitch, StepData, spaced, pump, start, stop, trigger}
 use Rattle.run_file.specs.StepOf.{bytes_of, decoded, image_of, is_plain, is_verb, number_of, step_of, step_of_words, switch_of, trigger_of, verb_switch, with_image, words_of}
 
--- the words of a text, joined, are the text
-pub joined-words_of : (text : List ℕ) → joined (words_of text) ≡ text
-joined-words_of text = join_with_byte-slice_split 32 text
+-- the words of a text, spaced, are the text
+pub spaced-words_of : (text : List ℕ) → spaced (words_of text) ≡ text
+spaced-words_of text = join_with_byte-slice_split 32 text
 
 pub if_some : {X : Type 0} (t : Bool) (x y : X) → (if t then Some x else None) ≡ Some y → (t ≡ true) × (x ≡ y)
 if_some true x y h = (refl, same_Some x y h)
@@ -84,20 +84,20 @@ IsImage-image_of word image h =
 
 -- the verb of a switch
 verb_step : (most : ℕ) (v c l : List ℕ) (step : StepData) (n m : ℕ) → IsDecimal c n → n < most + 1 → IsDecimal l m → m < 256
-    → verb_switch v n m ≡ Some step → IsStepText (most + 1) (joined (v ∷ c ∷ l ∷ [])) step
+    → verb_switch v n m ≡ Some step → IsStepText (most + 1) (spaced (v ∷ c ∷ l ∷ [])) step
 verb_step most v c l step n m cd below ld fits h = by_verb (is_verb v (codes "start")) (is_verb v (codes "stop")) refl refl h
   where
-    whole : (verb : List ℕ) → v ≡ verb → IsSwitch verb (most + 1) (joined (v ∷ c ∷ l ∷ [])) n m
-    whole verb e = record { c = c; l = l; words = ap (λ w. joined (w ∷ c ∷ l ∷ [])) e; channel_word = cd; below = below; list_word = ld; fits = fits }
+    whole : (verb : List ℕ) → v ≡ verb → IsSwitch verb (most + 1) (spaced (v ∷ c ∷ l ∷ [])) n m
+    whole verb e = record { c = c; l = l; words = ap (λ w. spaced (w ∷ c ∷ l ∷ [])) e; channel_word = cd; below = below; list_word = ld; fits = fits }
 
     by_verb : (a b : Bool) → is_verb v (codes "start") ≡ a → is_verb v (codes "stop") ≡ b → (if a then Some (start n m) else if b then Some (stop n m) else None) ≡ Some step
-        → IsStepText (most + 1) (joined (v ∷ c ∷ l ∷ [])) step
-    by_verb true b ea eb h = subst (IsStepText (most + 1) (joined (v ∷ c ∷ l ∷ []))) (same_Some (start n m) step h) (whole (codes "start") (same_verb v (codes "start") ea))
-    by_verb false true ea eb h = subst (IsStepText (most + 1) (joined (v ∷ c ∷ l ∷ []))) (same_Some (stop n m) step h) (whole (codes "stop") (same_verb v (codes "stop") eb))
+        → IsStepText (most + 1) (spaced (v ∷ c ∷ l ∷ [])) step
+    by_verb true b ea eb h = subst (IsStepText (most + 1) (spaced (v ∷ c ∷ l ∷ []))) (same_Some (start n m) step h) (whole (codes "start") (same_verb v (codes "start") ea))
+    by_verb false true ea eb h = subst (IsStepText (most + 1) (spaced (v ∷ c ∷ l ∷ []))) (same_Some (stop n m) step h) (whole (codes "stop") (same_verb v (codes "stop") eb))
     by_verb false false ea eb h = cc h
 
 -- the verb and the numbers of a switch
-switch_step : (most : ℕ) (v c l : List ℕ) (step : StepData) → switch_of most v c l ≡ Some step → IsStepText (most + 1) (joined (v ∷ c ∷ l ∷ [])) step
+switch_step : (most : ℕ) (v c l : List ℕ) (step : StepData) → switch_of most v c l ≡ Some step → IsStepText (most + 1) (spaced (v ∷ c ∷ l ∷ [])) step
 switch_step most v c l step h =
     let a = and_then-some (λ n. option_and_then (λ m. verb_switch v n m) (number_of 255 l)) (number_of most c) step h in
     let b = and_then-some (λ m. verb_switch v a.0 m) (number_of 255 l) step a.2 in
@@ -122,7 +122,7 @@ switch_plain most v c l w h =
 
 -- a trigger's words and its image
 trigger_step : (most : ℕ) (v c s i : List ℕ) (step : StepData) → option_and_then with_image (trigger_of most v c s i) ≡ Some step
-    → IsStepText (most + 1) (joined (v ∷ c ∷ s ∷ i ∷ [])) step
+    → IsStepText (most + 1) (spaced (v ∷ c ∷ s ∷ i ∷ [])) step
 trigger_step most v c s i step h =
     let read = and_then-some with_image (trigger_of most v c s i) step h in
     let parts = if_then (is_verb v (codes "trigger")) (option_and_then (λ n. option_map (λ m. trigger n m i) (number_of 4294967295 s)) (number_of most c)) read.0 read.1 in
@@ -132,22 +132,22 @@ trigger_step most v c s i step h =
     let e = map-some (λ k. trigger a.0 b.0 k) (image_of i) step image in
     let channel = IsDecimal-number_of most a.0 c a.1 in
     let stamp = IsDecimal-number_of 4294967295 b.0 s b.1 in
-    let seen : IsStepText (most + 1) (joined (v ∷ c ∷ s ∷ i ∷ [])) (trigger a.0 b.0 e.0) = record {
+    let seen : IsStepText (most + 1) (spaced (v ∷ c ∷ s ∷ i ∷ [])) (trigger a.0 b.0 e.0) = record {
       c = c;
       s = s;
       i = i;
-      words = ap (λ w. joined (w ∷ c ∷ s ∷ i ∷ [])) (same_verb v (codes "trigger") parts.0);
+      words = ap (λ w. spaced (w ∷ c ∷ s ∷ i ∷ [])) (same_verb v (codes "trigger") parts.0);
       channel_word = channel.0;
       below = omega (arith, channel.1);
       stamp_word = stamp.0;
       fits = omega (arith, stamp.1);
       image_word = IsImage-image_of i e.0 e.1;
     } in
-    subst (IsStepText (most + 1) (joined (v ∷ c ∷ s ∷ i ∷ []))) e.2 seen
+    subst (IsStepText (most + 1) (spaced (v ∷ c ∷ s ∷ i ∷ []))) e.2 seen
 
 -- the step of a text is one of the grammar
 pub IsStepText-step_of_words : (most : ℕ) (words : List (List ℕ)) (step : StepData) → step_of_words most words ≡ Some step
-    → IsStepText (most + 1) (joined words) step
+    → IsStepText (most + 1) (spaced words) step
 IsStepText-step_of_words most [] step h = cc h
 IsStepText-step_of_words most (v ∷ []) step h =
     let read = and_then-some with_image (if is_verb v (codes "pump") then Some pump else None) step h in
@@ -158,10 +158,10 @@ IsStepText-step_of_words most (v ∷ c ∷ []) step h = cc h
 IsStepText-step_of_words most (v ∷ c ∷ l ∷ []) step h =
     let read = and_then-some with_image (switch_of most v c l) step h in
     let is : read.0 ≡ step = same_Some read.0 step (sym (switch_plain most v c l read.0 read.1) ∙ read.2) in
-    subst (IsStepText (most + 1) (joined (v ∷ c ∷ l ∷ []))) is (switch_step most v c l read.0 read.1)
+    subst (IsStepText (most + 1) (spaced (v ∷ c ∷ l ∷ []))) is (switch_step most v c l read.0 read.1)
 IsStepText-step_of_words most (v ∷ c ∷ s ∷ i ∷ []) step h = trigger_step most v c s i step h
 IsStepText-step_of_words most (v ∷ c ∷ s ∷ i ∷ w ∷ ws) step h = cc h
 
 pub IsStepText-step_of : (most : ℕ) (text : List ℕ) (step : StepData) → step_of most text ≡ Some step → IsStepText (most + 1) text step
 IsStepText-step_of most text step h =
-    subst (λ t. IsStepText (most + 1) t step) (joined-words_of text) (IsStepText-step_of_words most (words_of text) step h)
+    subst (λ t. IsStepText (most + 1) t step) (spaced-words_of text) (IsStepText-step_of_words most (words_of text) step h)

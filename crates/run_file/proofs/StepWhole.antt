@@ -9,7 +9,7 @@ use Rattle.hex.proofs.HexLemmas.{decode_of-ok}
 use Rattle.std.proofs.lemmas.List.Elements.{All-from_get_or, All-from_recursion}
 use Rattle.std.proofs.lemmas.List.Splits.{slice_split_none, slice_split_at}
 use Rattle.std.proofs.lemmas.Str.Parse.{numerals_by_value, tells_all_ascii_digits, not_in_digits}
-use Rattle.run_file.specs.Steps.{IsDecimal, IsImage, IsStepText, StepData, joined, pump, start, stop, trigger}
+use Rattle.run_file.specs.Steps.{IsDecimal, IsImage, IsStepText, StepData, spaced, pump, start, stop, trigger}
 use Rattle.run_file.specs.StepOf.{image_of, is_plain, is_space, number_of, step_of, words_of}
 
 -- a number has no space
@@ -36,9 +36,9 @@ number_of-decimal most n word d low =
 
 -- a switch's words are its words
 pub words_of-switch : (verb c l : List ℕ) → All (λ b. is_space b ≡ false) verb → All (λ b. is_space b ≡ false) c → All (λ b. is_space b ≡ false) l
-    → words_of (joined (verb ∷ c ∷ l ∷ [])) ≡ verb ∷ c ∷ l ∷ []
+    → words_of (spaced (verb ∷ c ∷ l ∷ [])) ≡ verb ∷ c ∷ l ∷ []
 words_of-switch verb c l hv hc hl =
-    slice_split_at is_space verb 32 (joined (c ∷ l ∷ [])) hv refl
+    slice_split_at is_space verb 32 (spaced (c ∷ l ∷ [])) hv refl
     ∙ ap (λ ws. verb ∷ ws) (slice_split_at is_space c 32 l hc refl ∙ ap (λ ws. c ∷ ws) (slice_split_none is_space l hl))
 
 no_space_in_start : All (λ b. is_space b ≡ false) (codes "start")
@@ -83,9 +83,9 @@ no_space_in_trigger : All (λ b. is_space b ≡ false) (codes "trigger")
 no_space_in_trigger = All-from_recursion (λ b. is_space b ≡ false) (codes "trigger") (refl, (refl, (refl, (refl, (refl, (refl, (refl, tt)))))))
 
 words_of-trigger : (verb c s i : List ℕ) → All (λ b. is_space b ≡ false) verb → All (λ b. is_space b ≡ false) c → All (λ b. is_space b ≡ false) s → All (λ b. is_space b ≡ false) i
-    → words_of (joined (verb ∷ c ∷ s ∷ i ∷ [])) ≡ verb ∷ c ∷ s ∷ i ∷ []
+    → words_of (spaced (verb ∷ c ∷ s ∷ i ∷ [])) ≡ verb ∷ c ∷ s ∷ i ∷ []
 words_of-trigger verb c s i hv hc hs hi =
-    slice_split_at is_space verb 32 (joined (c ∷ s ∷ i ∷ [])) hv refl ∙ ap (λ ws. verb ∷ ws) (words_of-switch c s i hc hs hi)
+    slice_split_at is_space verb 32 (spaced (c ∷ s ∷ i ∷ [])) hv refl ∙ ap (λ ws. verb ∷ ws) (words_of-switch c s i hc hs hi)
 
 pub step_of-trigger : (most : ℕ) (text : List ℕ) (n m : ℕ) (image : List ℕ) → IsStepText (most + 1) text (trigger n m image) → step_of most text ≡ Some (trigger n m image)
 step_of-trigger most text n m image t =

@@ -12,8 +12,8 @@ pub data StepData : Type 0 where
   pump : StepData
 
 -- the words with exactly one space between two of them, none before or after
-abbrev pub joined : List (List ℕ) → List ℕ
-joined words = join_with_byte 32 words
+abbrev pub spaced : List (List ℕ) → List ℕ
+spaced words = join_with_byte 32 words
 
 -- the word is the number in decimal digits, with no sign, and no zero in front of other digits
 pub record IsDecimal (word : List ℕ) (n : ℕ) : Type 0 where
@@ -32,7 +32,7 @@ pub record IsTrigger (channels : ℕ) (text : List ℕ) (channel stamp : ℕ) (i
   pub c : List ℕ
   pub s : List ℕ
   pub i : List ℕ
-  pub words : text ≡ joined (codes "trigger" ∷ c ∷ s ∷ i ∷ [])
+  pub words : text ≡ spaced (codes "trigger" ∷ c ∷ s ∷ i ∷ [])
   pub channel_word : IsDecimal c channel
   pub below : channel < channels
   pub stamp_word : IsDecimal s stamp
@@ -43,7 +43,7 @@ pub record IsTrigger (channels : ℕ) (text : List ℕ) (channel stamp : ℕ) (i
 pub record IsSwitch (verb : List ℕ) (channels : ℕ) (text : List ℕ) (channel list : ℕ) : Type 0 where
   pub c : List ℕ
   pub l : List ℕ
-  pub words : text ≡ joined (verb ∷ c ∷ l ∷ [])
+  pub words : text ≡ spaced (verb ∷ c ∷ l ∷ [])
   pub channel_word : IsDecimal c channel
   pub below : channel < channels
   pub list_word : IsDecimal l list

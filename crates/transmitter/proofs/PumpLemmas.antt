@@ -9,6 +9,7 @@ use Rattle.xcp_base.specs.Samples.{MarkParts, SampleParts}
 use Rattle.xcp_base.specs.declared.item.Item.{Item}
 use Rattle.xcp_base.specs.declared.item.Item.TheVariants.{Marker, Sample}
 use Rattle.xcp_base.specs.Lists.{has_list}
+use Rattle.xcp_base.specs.declared.limits.TheConstants.{MAX_ODTS}
 use Rattle.transmitter.specs.Items.{packets_of, samples}
 use Rattle.transmitter.specs.Merge.{AreRising, items_taken, of_ring, taken_from}
 use Rattle.transmitter.specs.Written.{TransmitterState}
@@ -31,7 +32,7 @@ pub record SoFar (a b : TransmitterState) (c : ℕ) (p : Pumped) : Type 0 where
   pub leads : Leads a items b
   pub count : p.taken ≡ length items
   pub few : p.taken ≤ c
-  pub few_frames : p.frames ≤ 8 * c
+  pub few_frames : p.frames ≤ MAX_ODTS * c
   pub frames : p.frames ≡ length (packets_of (samples (items_taken items)))
   pub stops : IsSetOfStops p.stopped (items_taken items)
   pub known : TakesKnownBelow c a.known items
@@ -96,7 +97,7 @@ first_turn a p hand taken frames stopped = record {
 }
 
 -- a turn that took an item
-pub item_turn : (a b d : TransmitterState) (c : ℕ) (p q : Pumped) (x : Item) → SoFar a b c p → Leads b ((c, x) ∷ []) d → d.hand ≡ None → q.taken ≡ p.taken + 1 → q.frames ≡ p.frames + length (packets_of (samples (x ∷ []))) → length (packets_of (samples (x ∷ []))) ≤ 8 → ((l : ℕ) → has_list q.stopped l ≡ (has_list p.stopped l || list_any (is_marker_of l) (x ∷ []))) → SoFar a d (c + 1) q
+pub item_turn : (a b d : TransmitterState) (c : ℕ) (p q : Pumped) (x : Item) → SoFar a b c p → Leads b ((c, x) ∷ []) d → d.hand ≡ None → q.taken ≡ p.taken + 1 → q.frames ≡ p.frames + length (packets_of (samples (x ∷ []))) → length (packets_of (samples (x ∷ []))) ≤ MAX_ODTS → ((l : ℕ) → has_list q.stopped l ≡ (has_list p.stopped l || list_any (is_marker_of l) (x ∷ []))) → SoFar a d (c + 1) q
 item_turn a b d c p q x s leads hand taken frames few stopped = record {
   items = s.items ++ (c, x) ∷ [];
   rising = rising-push 0 s.items c x s.rising s.below (omega arith);

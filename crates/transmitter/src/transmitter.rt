@@ -8,8 +8,11 @@ use crate::turn::Turn;
 use channel_ring::{Beside, TakeEnd};
 use frame_writer::{FrameWriter, Out};
 use sampler::Sampler;
-use xcp_base::limits::MAX_TAKEN;
+use xcp_base::limits::{MAX_LISTS, MAX_TAKEN};
 use xcp_base::{Sample, with_list};
+
+/// The places for counts: one for each list that there may be.
+const COUNTS: usize = MAX_LISTS as usize;
 
 /// The transmitter: it takes items from the rings of all event channels in turn, and writes the
 /// samples as frames.
@@ -21,9 +24,9 @@ pub struct Transmitter<O, T> {
     pub(crate) writer: FrameWriter<O>,
     pub(crate) ends: Vec<T>,
     pub(crate) hand: Option<Sample>,
-    pub(crate) written: [u64; 16],
+    pub(crate) written: [u64; COUNTS],
     pub(crate) taken: u64,
-    ghost few: { vec_len ends ≤ 8 },
+    ghost few: { vec_len ends ≤ MAX_CHANNELS },
     ghost counted: { (l : ℕ) → slice_index written l ≤ taken },
     ghost held: { is_closed writer ≡ is_some hand },
 }
@@ -44,7 +47,7 @@ impl<O: Out, T: TakeEnd> Transmitter<O, T> {
     /// `ends` are the take ends of event channels 0, 1, .., from which nothing was taken.
     pub fn new(writer: FrameWriter<O>, ends: Vec<T>) -> Transmitter<O, T>
         requires some { 1 ≤ vec_len ends }
-        requires few { vec_len ends ≤ 8 }
+        requires few { vec_len ends ≤ MAX_CHANNELS }
         requires nothing_taken { All (λ t. T.received t ≡ []) ends.items }
         requires is_open { (state_of O.Out writer).closed ≡ false }
         ensures stands { HasTaken (state_of O.Out writer) (transmission O.Out T.TakeEnd result) [] }
@@ -56,7 +59,7 @@ impl<O: Out, T: TakeEnd> Transmitter<O, T> {
             writer,
             ends,
             hand: None,
-            written: [0; 16],
+            written: [0; COUNTS],
             taken: 0,
         }
     }
@@ -103,7 +106,7 @@ impl<O: Out, T: TakeEnd> Transmitter<O, T> {
     /// The number of rings, and so of event channels.
     pub fn rings(&self) -> usize
         ensures value { result ≡ length (transmission O.Out T.TakeEnd self.now).rings }
-        ensures limit { result ≤ 8 }
+        ensures limit { result ≤ MAX_CHANNELS }
     {
         self.ends.len()
     }

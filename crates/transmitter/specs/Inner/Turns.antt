@@ -4,6 +4,7 @@ use Rattle.std.specs.Prelude.{Option, None, Some}
 use Rattle.xcp_base.specs.Samples.{SampleParts, MarkParts}
 use Rattle.xcp_base.specs.declared.item.Item.{Item}
 use Rattle.xcp_base.specs.declared.item.Item.TheVariants.{Sample, Marker}
+use Rattle.xcp_base.specs.declared.limits.TheConstants.{MAX_LISTS, MAX_ODTS}
 use Rattle.channel_ring.specs.declared.ends.RingEnd.{Ghosts as EndGhosts}
 use Rattle.channel_ring.specs.declared.ends.TakeEnd.{Ghosts as TakeGhosts}
 use Rattle.sampler.specs.State.{SamplerEndState}
@@ -20,9 +21,9 @@ abbrev pub TurnMeans : ℕ → TransmitterState → TransmitterState → Turn �
 TurnMeans c a b Nothing = (b.hand ≡ None) × Leads a [] b × (of_ring a.known c ≡ [])
 TurnMeans c a b (Wrote n) =
     (s : SampleParts) × (b.hand ≡ None) × Leads a ((c, Sample s) ∷ []) b × (n ≡ length s.packets)
-    × (n ≤ 8)
+    × (n ≤ MAX_ODTS)
 TurnMeans c a b (Stopped l) =
-    (m : MarkParts) × (b.hand ≡ None) × Leads a ((c, Marker m) ∷ []) b × (l ≡ m.list) × (l < 16)
+    (m : MarkParts) × (b.hand ≡ None) × Leads a ((c, Marker m) ∷ []) b × (l ≡ m.list) × (l < MAX_LISTS)
 TurnMeans c a b Broke = (s : SampleParts) × (b.hand ≡ Some s) × Leads a ((c, Sample s) ∷ []) b
 
 -- an item of ring c, where there is one

@@ -2,6 +2,7 @@ use Rattle.std.proofs.Common.{◌≡◌, ℕ, zero, suc, List, [], ◌∷◌, ma
 use Rattle.std.specs.List.{AllByRecursion}
 use Rattle.std.proofs.lemmas.List.Elements.{recursion_from_All}
 use Rattle.xcp_base.specs.declared.item.Item.{Item}
+use Rattle.xcp_base.specs.declared.limits.TheConstants.{MAX_LISTS}
 use Rattle.frame_writer.specs.Writing.{state_of}
 use Rattle.frame_writer.proofs.TextLemmas.{after_text-nil}
 use Rattle.transmitter.proofs.transmitter.Transmitter.new.Goals as goal
@@ -27,5 +28,5 @@ returns-clause-stands g c = record {
   samples = refl;
   legal = λ i d h. absurd (omega (arith, h));
   writes = after_text-nil (state_of g.O.Out c.args.writer);
-  written = zeros 16;
+  written = zeros MAX_LISTS;
 }
