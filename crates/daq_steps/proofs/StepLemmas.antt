@@ -40,7 +40,7 @@ length-round c ([] ∷ lists) = omega (arith, length-round (c + 1) lists)
 length-round c ((x ∷ xs) ∷ lists) = omega (arith, length-round (c + 1) lists)
 
 -- a list that has at most n elements for each of some others
-length-parts : {X Y : Type 0} (f : X → List Y) (n : ℕ) (xs : List X) → ((i : ℕ) (x : X) → slice_get xs i ≡ Some x → length (f x) ≤ n) → length (flat_map f xs) ≤ n * length xs
+pub length-parts : {X Y : Type 0} (f : X → List Y) (n : ℕ) (xs : List X) → ((i : ℕ) (x : X) → slice_get xs i ≡ Some x → length (f x) ≤ n) → length (flat_map f xs) ≤ n * length xs
 length-parts f n [] each = omega arith
 length-parts f n (x ∷ xs) each =
     let one = each 0 x refl in

@@ -1,0 +1,4 @@
+pub mod ItemLemmas
+pub mod DrainLemmas
+pub mod RunLemmas
+pub mod SetUpLemmas

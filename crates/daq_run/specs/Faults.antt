@@ -1,0 +1,45 @@
+-- What stands where a run was not done to its end (own).
+use Rattle.std.specs.Prelude.{◌≡◌, ◌⊎◌, ℕ, Bool, true, false}
+use Rattle.daq_store.specs.Standing.{StoreState}
+use Rattle.frame_writer.specs.Frame.{text}
+use Rattle.frame_writer.specs.Shown.{BreaksOff, OutState}
+use Rattle.frame_writer.specs.Writing.{WriterState}
+use Rattle.run_file.specs.RunFile.{RunData}
+use Rattle.run_setup.specs.declared.setup.SetupFault.{SetupFault}
+use Rattle.run_setup.specs.declared.setup.SetupFault.TheVariants.{Memory as OfMemory}
+use Rattle.run_setup.specs.declared.setup.SetupFault.TheVariants.{Write as OfWrite}
+use Rattle.daq_engine.specs.Openings.{some_list_runs}
+use Rattle.daq_run.specs.declared.sim_fault.SimFault.{SimFault}
+use Rattle.daq_run.specs.declared.sim_fault.SimFault.TheVariants.{EndLost, Memory, NoThread}
+use Rattle.daq_run.specs.declared.sim_fault.SimFault.TheVariants.{NothingRunning, SetupWrite}
+use Rattle.daq_run.specs.Runs.{HasRun}
+use Rattle.daq_run.specs.SetUps.{IsSetUp, StopsInSetUp, replies_of}
+
+-- a run was set up, and nothing was done then; whether a DAQ list runs
+pub record StopsBefore (run : RunData) (before after : OutState) (runs : Bool) : Type 0 where
+  pub store : StoreState
+  pub writer : WriterState
+  pub set_up : IsSetUp run before store writer
+  pub running : some_list_runs store ≡ runs
+  pub written : after ≡ writer.out
+
+-- the steps of a run were done, and its engine was not closed
+pub record StopsBehind (run : RunData) (before after : OutState) : Type 0 where
+  pub refused : ℕ
+  pub has_run : HasRun run before refused
+  pub written : after ≡ has_run.transmitter.writer.out
+
+-- what stands where a run ends with a fault: the writer showed this before and that after
+abbrev pub Stops : RunData → OutState → OutState → SimFault → Type 0
+Stops run before after Memory =
+    StopsInSetUp run before after
+    ⊎ (StopsBefore run before after true ⊎ StopsBehind run before after)
+Stops run before after NothingRunning = StopsBefore run before after false
+Stops run before after SetupWrite = BreaksOff before after (text 0 (replies_of run))
+Stops run before after EndLost = StopsBehind run before after
+Stops run before after NoThread = ⊥
+
+-- the fault of a set-up, as that of a run
+abbrev pub run_fault : SetupFault → SimFault
+run_fault OfMemory = Memory
+run_fault OfWrite = SetupWrite

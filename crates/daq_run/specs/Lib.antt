@@ -1,0 +1,4 @@
+pub mod SetUps
+pub mod Opened
+pub mod Runs
+pub mod Faults

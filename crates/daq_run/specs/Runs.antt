@@ -1,0 +1,72 @@
+-- What a run comes to (own).
+use Rattle.std.specs.Prelude.{◌≡◌, ℕ, ◌<◌, true, false, List, count_by, length, map, slice_get}
+use Rattle.std.specs.Prelude.{slice_index, Some}
+use Rattle.daq_store.specs.Standing.{StoreState}
+use Rattle.frame_writer.specs.Shown.{OutState}
+use Rattle.frame_writer.specs.Writing.{WriterState}
+use Rattle.run_file.specs.RunFile.{RunData}
+use Rattle.sampler.specs.Past.{Past}
+use Rattle.sampler.specs.Standing.{DropsOnlyWhenFull}
+use Rattle.sampler.specs.State.{JoinedEnd}
+use Rattle.transmitter.specs.Written.{HasTaken, TransmitterState}
+use Rattle.daq_engine.specs.Closed.{HasClosed}
+use Rattle.daq_engine.specs.Drained.{LeavesNothing}
+use Rattle.daq_engine.specs.Openings.{IsOpeningOf, some_list_runs}
+use Rattle.daq_engine.specs.declared.report.Report.{Report}
+use Rattle.daq_steps.specs.Answers.{Setting}
+use Rattle.daq_steps.specs.Runs.{AreDone, Done, is_refused, sent_in, taken_in}
+use Rattle.daq_steps.specs.Steps.{run_step}
+use Rattle.daq_run.specs.SetUps.{IsSetUp}
+
+-- what channel c of a run goes by: in its ring each item takes up one place
+abbrev pub setting_of : RunData → ℕ → Setting
+setting_of run c = record {
+  image_len = run.image_len;
+  capacity = slice_index run.caps c;
+  cost = λ item. 1;
+}
+
+-- a run was set up and opened, and its steps were done one after another, of which so many were
+-- refused
+pub record HasRun (run : RunData) (before : OutState) (refused : ℕ) : Type 0 where
+  pub store : StoreState
+  pub writer : WriterState
+  pub set_up : IsSetUp run before store writer
+  pub some_list_runs : some_list_runs store ≡ true
+  -- what each channel had behind it at last
+  pub past : ℕ → Past
+  pub openings : (c : ℕ) → c < run.channels → IsOpeningOf store c (past c).opening
+  pub drops :
+      (c : ℕ) → c < run.channels
+      → DropsOnlyWhenFull (setting_of run c).capacity (setting_of run c).cost (past c)
+  -- what was done, and what the transmitter of that writer took and wrote
+  pub done : List Done
+  pub counted : refused ≡ count_by is_refused done
+  pub transmitter : TransmitterState
+  pub taken : HasTaken writer transmitter (taken_in done)
+  pub are_done :
+      AreDone run.channels (setting_of run) (map run_step run.steps) transmitter.writer.closed past
+      done
+
+-- then its engine was closed, after a drain where the run says so. The ends are those of its
+-- channels, and tell what these sent
+pub record IsClosed (run : RunData) (before : OutState) (refused : ℕ)
+    (r : HasRun run before refused) (report : Report) (after : OutState)
+    : Type 0 where
+  pub ends : List JoinedEnd
+  pub as_many : length ends ≡ run.channels
+  pub sent :
+      (c : ℕ) (e : JoinedEnd) → slice_get ends c ≡ Some e → e.sent ≡ sent_in (r.past c)
+  pub closed :
+      HasClosed run.drain r.writer (taken_in r.done) r.transmitter ends r.past report after
+  pub nothing_left :
+      run.drain ≡ true → report.failed ≡ false
+      → LeavesNothing ends r.past report closed.headline.frames
+
+-- a run came to this: the replies to its set-up and the frames of its engine, the account, and how
+-- many of its steps were refused
+pub record ComesTo (run : RunData) (before : OutState) (refused : ℕ) (report : Report)
+    (after : OutState)
+    : Type 0 where
+  pub has_run : HasRun run before refused
+  pub closed : IsClosed run before refused has_run report after

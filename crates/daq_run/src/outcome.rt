@@ -1,0 +1,12 @@
+use daq_engine::Report;
+
+/// What came of a run.
+#[derive(Drop)]
+pub struct Outcome<O> {
+    /// How many steps a sampler refused.
+    pub refused: u64,
+    /// The account of each DAQ list, and whether the writer failed.
+    pub report: Report,
+    /// The writer, as it stands.
+    pub out: O,
+}

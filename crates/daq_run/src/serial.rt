@@ -1,0 +1,57 @@
+ghost use Rattle.std.specs.Prelude.{◌≡◌, ◌⊎◌, IfErr, IfOk};
+ghost use Rattle.frame_writer.specs.Shown.{shown};
+ghost use Rattle.daq_engine.specs.Closings.{GivesBack};
+ghost use Rattle.daq_engine.specs.Engines.{EngineState};
+ghost use Rattle.daq_run.specs.Faults.{Stops};
+ghost use Rattle.daq_run.specs.Runs.{ComesTo};
+ghost use Rattle.daq_run.specs.declared.sim_fault.SimFault.TheVariants.{EndLost, Memory};
+
+use crate::outcome::Outcome;
+use crate::set_up::opened;
+use crate::sim_fault::SimFault;
+use channel_ring::{Beside, RingEnd, SendEnd, SendHalf, SendLeft, TakeEnd, TakeHalf};
+use daq_engine::{Engine, Unclosed};
+use daq_steps::do_steps;
+use frame_writer::Out;
+use run_file::Run;
+use std::alloc::Global;
+
+/// Carries out a run in one thread: its set-up, whose replies are the first frames, then its steps
+/// in order on one engine, and at the end a drain where the run says so.
+///
+/// The steps go on where the writer fails; the report says that it failed. Refused with `Memory`,
+/// `NothingRunning` where after the set-up no DAQ list runs, `SetupWrite` where a reply isn't
+/// written whole, or `EndLost`; the writer comes back with what was written until then.
+pub fn run_serial<O: Out>(alloc: Global, run: &Run, out: O) -> Result<Outcome<O>, (SimFault, O)>
+    ensures ok { IfOk result (λ outcome. ComesTo run.now (shown O.Out out)
+        outcome.refused outcome.report (shown O.Out outcome.out)) }
+    ensures fault { IfErr result (λ e. Stops run.now (shown O.Out out) (shown O.Out e.1) e.0) }
+{
+    let mut engine = opened(alloc, run, out)?;
+    let refused = do_steps(&mut engine, run);
+    match engine.close(alloc, run.drain()) {
+        Ok((report, out)) => Ok(Outcome {
+            refused,
+            report,
+            out,
+        }),
+        Err(unclosed) => Err(given_back(unclosed)),
+    }
+}
+
+/// The fault of an engine that was not closed, and its writer.
+fn given_back<O: Out, T: Beside>(unclosed: Unclosed<O, T>) -> (SimFault, O)
+where
+    T::Send: SendEnd<End = T::End>,
+    ensures fault { (result.0 ≡ Memory) ⊎ (result.0 ≡ EndLost) }
+    ensures written { (e : EngineState T.Send) → GivesBack O.Out T.TakeEnd unclosed e
+        → shown O.Out result.1 ≡ e.transmitter.writer.out }
+{
+    match unclosed {
+        Unclosed::Memory(engine) => {
+            let (_, transmitter) = engine.into_parts();
+            (SimFault::Memory, transmitter.into_writer().into_out())
+        }
+        Unclosed::Lost(writer) => (SimFault::EndLost, writer.into_out()),
+    }
+}
