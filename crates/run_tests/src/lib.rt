@@ -1,4 +1,4 @@
-//! The tests of run files and their steps, and of the writer over a stream. As a library this crate
+//! The tests of run files and serial runs, and of the writer over a stream. As a library this crate
 //! is empty.
 #![tactic(auto)]
 
@@ -9,7 +9,7 @@ mod runs;
 #[cfg(test)]
 mod same;
 #[cfg(test)]
-mod steps;
+mod serial;
 #[cfg(test)]
 mod streams;
 #[cfg(test)]

@@ -1,0 +1,232 @@
+//! Serial runs, from the text of a run file to the frames and the account.
+use crate::same::same;
+use crate::text::{
+    NO_STEPS, ONE_CHANNEL, ONE_LIST, ONE_LIST_STOPPED, THREE_LISTS, TWO_TRIGGERS, joined,
+};
+use daq_engine::{ListReport, Report};
+use daq_run::{Outcome, SimFault, run_serial};
+use frame_writer::{FuseOut, VecOut};
+use run_file::Run;
+use std::alloc::Global;
+use std::process::Abort;
+use std::test::Fail;
+
+/// The parts of a text, how many steps are refused, of each list its number and how many samples were
+/// due, written, dropped and left, the frames of the replies and those behind them.
+#[derive(Clone, Copy)]
+struct Done<'a> {
+    name: &'a str,
+    parts: &'a [&'a str],
+    refused: u64,
+    lists: &'a [[u64; 5]],
+    replies: &'a [u8],
+    frames: &'a [u8],
+}
+
+/// One event channel, images of two bytes, and a ring of one place.
+const ONE_PLACE: &str = "channels = 1\nimage_len = 2\ncaps = [1]\n";
+
+/// The frames of the eight replies to the set-up of one list.
+const REPLIES: [u8; 41] = [
+    1, 0, 0, 0, 0xFF, 1, 0, 1, 0, 0xFF, 1, 0, 2, 0, 0xFF, 1, 0, 3, 0, 0xFF, 1, 0, 4, 0, 0xFF, 1, 0,
+    5, 0, 0xFF, 1, 0, 6, 0, 0xFF, 2, 0, 7, 0, 0xFF, 0,
+];
+
+/// The frames of the replies to the set-up of three lists.
+const THREE_REPLIES: [u8; 103] = [
+    1, 0, 0, 0, 0xFF, 1, 0, 1, 0, 0xFF, 1, 0, 2, 0, 0xFF, 1, 0, 3, 0, 0xFF, 1, 0, 4, 0, 0xFF, 1, 0,
+    5, 0, 0xFF, 1, 0, 6, 0, 0xFF, 1, 0, 7, 0, 0xFF, 1, 0, 8, 0, 0xFF, 1, 0, 9, 0, 0xFF, 1, 0, 10,
+    0, 0xFF, 1, 0, 11, 0, 0xFF, 1, 0, 12, 0, 0xFF, 1, 0, 13, 0, 0xFF, 1, 0, 14, 0, 0xFF, 1, 0, 15,
+    0, 0xFF, 1, 0, 16, 0, 0xFF, 2, 0, 17, 0, 0xFF, 0, 2, 0, 18, 0, 0xFF, 1, 2, 0, 19, 0, 0xFF, 2,
+];
+
+/// The frames of two triggers of one list, behind its replies.
+const TWO_FRAMES: [u8; 14] = [3, 0, 8, 0, 0, 0xAA, 0xBB, 3, 0, 9, 0, 0, 0xCC, 0xDD];
+
+/// All frames of that run.
+const WHOLE: [u8; 55] = [
+    1, 0, 0, 0, 0xFF, 1, 0, 1, 0, 0xFF, 1, 0, 2, 0, 0xFF, 1, 0, 3, 0, 0xFF, 1, 0, 4, 0, 0xFF, 1, 0,
+    5, 0, 0xFF, 1, 0, 6, 0, 0xFF, 2, 0, 7, 0, 0xFF, 0, 3, 0, 8, 0, 0, 0xAA, 0xBB, 3, 0, 9, 0, 0,
+    0xCC, 0xDD,
+];
+
+const DONE: [Done; 6] = [
+    Done {
+        name: "two triggers of one list",
+        parts: &[ONE_CHANNEL, ONE_LIST, TWO_TRIGGERS],
+        refused: 0,
+        lists: &[[0, 2, 2, 0, 0]],
+        replies: &REPLIES,
+        frames: &TWO_FRAMES,
+    },
+    Done {
+        name: "no steps",
+        parts: &[ONE_CHANNEL, ONE_LIST, NO_STEPS],
+        refused: 0,
+        lists: &[[0, 0, 0, 0, 0]],
+        replies: &REPLIES,
+        frames: &[],
+    },
+    Done {
+        name: "an overload between pumps",
+        parts: &[
+            ONE_PLACE,
+            ONE_LIST,
+            "steps = ['trigger 0 0 0101', 'trigger 0 0 0202', 'trigger 0 0 0303', 'pump',\n",
+            "  'trigger 0 0 0404', 'pump', 'trigger 0 0 0505']\n",
+        ],
+        refused: 0,
+        lists: &[[0, 5, 3, 2, 0]],
+        replies: &REPLIES,
+        frames: &[
+            3, 0, 8, 0, 0, 1, 1, 3, 0, 9, 0, 0x80, 4, 4, 3, 0, 10, 0, 0, 5, 5,
+        ],
+    },
+    Done {
+        name: "a stop without room, and three other refusals",
+        parts: &[
+            ONE_PLACE,
+            ONE_LIST,
+            "steps = ['trigger 0 0 0101', 'stop 0 0', 'trigger 0 0 aa', 'start 0 0',\n",
+            "  'start 0 9']\n",
+        ],
+        refused: 4,
+        lists: &[[0, 1, 1, 0, 0]],
+        replies: &REPLIES,
+        frames: &[3, 0, 8, 0, 0, 1, 1],
+    },
+    Done {
+        name: "no drain",
+        parts: &[ONE_CHANNEL, ONE_LIST, TWO_TRIGGERS, "drain = false\n"],
+        refused: 0,
+        lists: &[[0, 2, 0, 0, 2]],
+        replies: &REPLIES,
+        frames: &[],
+    },
+    Done {
+        name: "three event channels, with a pump behind the triggers of each",
+        parts: &[
+            "channels = 3\nimage_len = 2\ncaps = [8, 8, 8]\n",
+            THREE_LISTS,
+            "steps = ['trigger 0 0 005a', 'trigger 0 0 015a', 'trigger 0 0 025a',\n",
+            "  'trigger 0 0 035a', 'pump', 'trigger 1 0 105a', 'trigger 1 0 115a',\n",
+            "  'trigger 1 0 125a', 'trigger 1 0 135a', 'pump', 'trigger 2 0 205a',\n",
+            "  'trigger 2 0 215a', 'trigger 2 0 225a', 'trigger 2 0 235a', 'pump']\n",
+        ],
+        refused: 0,
+        lists: &[[0, 4, 4, 0, 0], [1, 4, 4, 0, 0], [2, 4, 4, 0, 0]],
+        replies: &THREE_REPLIES,
+        frames: &[
+            3, 0, 20, 0, 0, 0x00, 0x5A, 3, 0, 21, 0, 0, 0x01, 0x5A, 3, 0, 22, 0, 1, 0x10, 0x5A, 3,
+            0, 23, 0, 0, 0x02, 0x5A, 3, 0, 24, 0, 1, 0x11, 0x5A, 3, 0, 25, 0, 2, 0x20, 0x5A, 3, 0,
+            26, 0, 0, 0x03, 0x5A, 3, 0, 27, 0, 1, 0x12, 0x5A, 3, 0, 28, 0, 2, 0x21, 0x5A, 3, 0, 29,
+            0, 1, 0x13, 0x5A, 3, 0, 30, 0, 2, 0x22, 0x5A, 3, 0, 31, 0, 2, 0x23, 0x5A,
+        ],
+    },
+];
+
+/// The outcome of a run over a writer in memory.
+fn outcome_of(alloc: Global, run: &Run) -> Result<Outcome<VecOut>, Fail> {
+    match run_serial(alloc, run, VecOut::new(alloc)) {
+        Ok(outcome) => Ok(outcome),
+        Err((fault, _)) => Err(Fail::from(fault)),
+    }
+}
+
+/// A line of an account.
+fn line_of(line: &ListReport) -> [u64; 5] {
+    [
+        line.list as u64,
+        line.due,
+        line.written,
+        line.dropped,
+        line.left,
+    ]
+}
+
+/// Compares what a run came to with what a row wants.
+fn comes_to(rt: &impl Abort, outcome: &Outcome<VecOut>, row: &Done) {
+    same(rt, outcome.refused, row.refused, row.name, "the refused");
+    let Report { lists, failed } = &outcome.report;
+    same(rt, lists.len(), row.lists.len(), row.name, "the lists");
+    for (line, wanted) in lists.iter().zip(row.lists) {
+        same(rt, line_of(line), *wanted, row.name, "the account");
+    }
+    same(rt, *failed, false, row.name, "whether the writer failed");
+    let frames = outcome.out.bytes().strip_prefix(row.replies);
+    same(rt, frames, Some(row.frames), row.name, "the frames");
+}
+
+#[test]
+fn a_run_comes_to_its_frames_and_account(rt: HostRuntime) -> Result<(), Fail> {
+    for row in DONE {
+        let text = joined(rt.alloc(), row.parts)?;
+        let run = Run::read(rt.alloc(), &text)?;
+        let outcome = outcome_of(rt.alloc(), &run)?;
+        comes_to(&rt, &outcome, &row);
+    }
+    Ok(())
+}
+
+/// How many samples a run of two triggers writes whose writer takes so many bytes and then fails; or
+/// its fault.
+fn wanted_after(good: usize) -> Result<Option<u64>, SimFault> {
+    match good {
+        0..=40 => Err(SimFault::SetupWrite),
+        41..=47 => Ok(Some(0)),
+        48..=54 => Ok(Some(1)),
+        _ => Ok(Some(2)),
+    }
+}
+
+/// How many samples of its first list a run wrote; or its fault.
+fn came_to(
+    outcome: &Result<Outcome<FuseOut>, (SimFault, FuseOut)>,
+) -> Result<Option<u64>, SimFault> {
+    match outcome {
+        Ok(outcome) => Ok(outcome.report.lists.get(0).map(|line| line.written)),
+        Err((fault, _)) => Err(*fault),
+    }
+}
+
+/// The bytes that were written, and whether the writer failed.
+fn left_by(outcome: &Result<Outcome<FuseOut>, (SimFault, FuseOut)>) -> (&[u8], bool) {
+    match outcome {
+        Ok(outcome) => (outcome.out.bytes(), outcome.report.failed),
+        Err((_, out)) => (out.bytes(), true),
+    }
+}
+
+#[test]
+fn a_run_stops_at_whichever_byte_the_writer_fails(rt: HostRuntime) -> Result<(), Fail> {
+    let text = joined(rt.alloc(), &[ONE_CHANNEL, ONE_LIST, TWO_TRIGGERS])?;
+    let run = Run::read(rt.alloc(), &text)?;
+    for good in 0..=55 {
+        let outcome = run_serial(rt.alloc(), &run, FuseOut::new(rt.alloc(), 64, good));
+        let shown = (came_to(&outcome), left_by(&outcome));
+        let Some(bytes) = WHOLE.get(..good) else {
+            return Err(Fail::from("more bytes than there are"));
+        };
+        let wanted = (wanted_after(good), (bytes, good < 55));
+        same(&rt, shown, wanted, "two triggers", "the outcome");
+    }
+    Ok(())
+}
+
+#[test]
+fn nothing_runs_after_a_set_up_without_a_start(rt: HostRuntime) -> Result<(), Fail> {
+    let text = joined(rt.alloc(), &[ONE_CHANNEL, ONE_LIST_STOPPED, TWO_TRIGGERS])?;
+    let run = Run::read(rt.alloc(), &text)?;
+    let Err((fault, out)) = run_serial(rt.alloc(), &run, VecOut::new(rt.alloc())) else {
+        return Err(Fail::from("it ran"));
+    };
+    same(
+        &rt,
+        fault,
+        SimFault::NothingRunning,
+        "no start",
+        "the fault",
+    );
+    same(&rt, out.bytes(), &REPLIES[..35], "no start", "the replies");
+    Ok(())
+}
