@@ -27,7 +27,7 @@ use Rattle.daq_steps.specs.Runs.{AreDone, HasDone, TakesFront, past_after, sent_
 use Rattle.daq_steps.specs.Steps.{asked_of, run_step}
 use Rattle.daq_steps.proofs.AskLemmas.{read_at, sampler_at}
 use Rattle.daq_steps.proofs.StepLemmas.{few_taken, sent_stands}
-use Rattle.daq_run.specs.Faults.{Stops, StopsBehind}
+use Rattle.daq_run.specs.Faults.{StandsAtFault, StopsBehind}
 use Rattle.daq_run.specs.Opened.{IsOpened}
 use Rattle.daq_run.specs.Runs.{ComesTo, HasRun, setting_of}
 use Rattle.daq_run.specs.declared.sim_fault.SimFault.{SimFault}
@@ -177,6 +177,6 @@ module _ {S E : Type 0} (send : SendGhosts S E) (ring : EndGhosts E) (cost : rin
     unfolding has_run
     stops_behind after is = record { refused = refused; has_run = has_run; written = is }
 
-pub stops_at : (run : RunData) (before after : OutState) (fault : SimFault) → (fault ≡ Memory) ⊎ (fault ≡ EndLost) → StopsBehind run before after → Stops run before after fault
-stops_at run before after fault (inl is) behind = subst (Stops run before after) (sym is) (inr (inr behind))
-stops_at run before after fault (inr is) behind = subst (Stops run before after) (sym is) behind
+pub stops_at : (run : RunData) (before after : OutState) (fault : SimFault) → (fault ≡ Memory) ⊎ (fault ≡ EndLost) → StopsBehind run before after → StandsAtFault run before after fault
+stops_at run before after fault (inl is) behind = subst (StandsAtFault run before after) (sym is) (inr (inr behind))
+stops_at run before after fault (inr is) behind = subst (StandsAtFault run before after) (sym is) behind

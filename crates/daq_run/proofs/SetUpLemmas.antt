@@ -20,7 +20,7 @@ use Rattle.run_file.specs.RunFile.{RunData}
 use Rattle.run_setup.specs.Setup.{BreaksOffAt, LosesReply, WantsMemory, WasClosed}
 use Rattle.run_setup.specs.declared.setup.SetupFault.{SetupFault}
 use Rattle.run_setup.specs.declared.setup.SetupFault.TheVariants.{Memory, Write}
-use Rattle.daq_run.specs.Faults.{Stops, run_fault}
+use Rattle.daq_run.specs.Faults.{StandsAtFault, run_fault}
 use Rattle.daq_run.specs.SetUps.{StopsInSetUp, profile_of, replies_of}
 
 -- the replies to packets, and to those behind them
@@ -64,7 +64,7 @@ module _ (run : RunData) (s t : StoreState) (profile : s.profile ≡ profile_of 
 
   -- what stands where the set-up of a run stops
   pub stops : (fault : SetupFault) → t.profile ≡ s.profile → (fault ≡ Memory → WantsMemory s t (fresh_writer before) b run.setup)
-      → (fault ≡ Write → LosesReply s t (fresh_writer before) b run.setup) → Stops run before b.out (run_fault fault)
+      → (fault ≡ Write → LosesReply s t (fresh_writer before) b run.setup) → StandsAtFault run before b.out (run_fault fault)
   stops Memory same memory write = inl (wants_memory same (memory refl))
   stops Write same memory write = let l = write refl in loses_at l.done l.left l.packet l.split l.cause
 

@@ -30,14 +30,14 @@ pub record StopsBehind (run : RunData) (before after : OutState) : Type 0 where
   pub written : after ≡ has_run.transmitter.writer.out
 
 -- what stands where a run ends with a fault: the writer showed this before and that after
-abbrev pub Stops : RunData → OutState → OutState → SimFault → Type 0
-Stops run before after Memory =
+abbrev pub StandsAtFault : RunData → OutState → OutState → SimFault → Type 0
+StandsAtFault run before after Memory =
     StopsInSetUp run before after
     ⊎ (StopsBefore run before after true ⊎ StopsBehind run before after)
-Stops run before after NothingRunning = StopsBefore run before after false
-Stops run before after SetupWrite = BreaksOff before after (text 0 (replies_of run))
-Stops run before after EndLost = StopsBehind run before after
-Stops run before after NoThread = ⊥
+StandsAtFault run before after NothingRunning = StopsBefore run before after false
+StandsAtFault run before after SetupWrite = BreaksOff before after (text 0 (replies_of run))
+StandsAtFault run before after EndLost = StopsBehind run before after
+StandsAtFault run before after NoThread = ⊥
 
 -- the fault of a set-up, as that of a run
 abbrev pub run_fault : SetupFault → SimFault

@@ -22,7 +22,7 @@ abbrev pub replies_of : RunData → List (List ℕ)
 replies_of run = first_replies run run.setup
 
 -- the store of a run after these packets
-pub record StandsAfterPackets (run : RunData) (s : StoreState) (packets : List (List ℕ))
+pub record IsStoreAfter (run : RunData) (s : StoreState) (packets : List (List ℕ))
     : Type 0 where
   pub profile : s.profile ≡ profile_of run
   pub stands : StoreStandsAfter s (calls_after_packets (profile_of run) [] packets)
@@ -30,7 +30,7 @@ pub record StandsAfterPackets (run : RunData) (s : StoreState) (packets : List (
 -- all packets of a run were carried out, and their replies written as the first frames
 pub record IsSetUp (run : RunData) (before : OutState) (s : StoreState) (w : WriterState)
     : Type 0 where
-  pub store : StandsAfterPackets run s run.setup
+  pub store : IsStoreAfter run s run.setup
   pub replied : AfterText (fresh_writer before) w (replies_of run)
 
 -- the packets before one were carried out and answered. That one needs memory: it was not carried
@@ -41,6 +41,6 @@ pub record StopsInSetUp (run : RunData) (before after : OutState) : Type 0 where
   pub left : List (List ℕ)
   pub split : run.setup ≡ done ++ packet ∷ left
   pub store : StoreState
-  pub stands : StandsAfterPackets run store done
+  pub stands : IsStoreAfter run store done
   pub needs : NeedsMemory store packet
   pub written : after ≡ after_bytes before (text 0 (first_replies run done))

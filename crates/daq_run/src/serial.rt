@@ -2,7 +2,7 @@ ghost use Rattle.std.specs.Prelude.{◌≡◌, ◌⊎◌, IfErr, IfOk};
 ghost use Rattle.frame_writer.specs.Shown.{shown};
 ghost use Rattle.daq_engine.specs.Closings.{GivesBack};
 ghost use Rattle.daq_engine.specs.Engines.{EngineState};
-ghost use Rattle.daq_run.specs.Faults.{Stops};
+ghost use Rattle.daq_run.specs.Faults.{StandsAtFault};
 ghost use Rattle.daq_run.specs.Runs.{ComesTo};
 ghost use Rattle.daq_run.specs.declared.sim_fault.SimFault.TheVariants.{EndLost, Memory};
 
@@ -25,7 +25,8 @@ use std::alloc::Global;
 pub fn run_serial<O: Out>(alloc: Global, run: &Run, out: O) -> Result<Outcome<O>, (SimFault, O)>
     ensures ok { IfOk result (λ outcome. ComesTo run.now (shown O.Out out)
         outcome.refused outcome.report (shown O.Out outcome.out)) }
-    ensures fault { IfErr result (λ e. Stops run.now (shown O.Out out) (shown O.Out e.1) e.0) }
+    ensures fault { IfErr result (λ e.
+        StandsAtFault run.now (shown O.Out out) (shown O.Out e.1) e.0) }
 {
     let mut engine = opened(alloc, run, out)?;
     let refused = do_steps(&mut engine, run);

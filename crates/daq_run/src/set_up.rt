@@ -3,7 +3,7 @@ ghost use Rattle.std.specs.Prelude.{◌≡◌, ℕ, IfErr, IfOk, false, length};
 ghost use Rattle.frame_writer.specs.Shown.{shown};
 ghost use Rattle.frame_writer.specs.Writing.{state_of};
 ghost use Rattle.daq_engine.specs.Engines.{engine_state};
-ghost use Rattle.daq_run.specs.Faults.{Stops};
+ghost use Rattle.daq_run.specs.Faults.{StandsAtFault};
 ghost use Rattle.daq_run.specs.Opened.{IsOpened};
 ghost use Rattle.daq_run.specs.SetUps.{IsSetUp};
 
@@ -26,7 +26,8 @@ fn set_up<O: Out>(
     ensures ok { IfOk result (λ made.
         IsSetUp run.now (shown O.Out out) made.0 (state_of O.Out made.1)) }
     ensures is_open { IfOk result (λ made. (state_of O.Out made.1).closed ≡ false) }
-    ensures fault { IfErr result (λ e. Stops run.now (shown O.Out out) (shown O.Out e.1) e.0) }
+    ensures fault { IfErr result (λ e.
+        StandsAtFault run.now (shown O.Out out) (shown O.Out e.1) e.0) }
 {
     let Ok(mut store) = Store::new(alloc, run.channels(), run.image_len()) else {
         unreachable!()
@@ -47,7 +48,8 @@ pub fn opened<O: Out>(
     ensures ok { IfOk result (λ engine.
         IsOpened ⟦<SendHalf as SendEnd>⟧ ⟦<SendLeft as RingEnd>⟧ run.now (shown O.Out out)
         (engine_state O.Out ⟦<TakeHalf as TakeEnd>⟧ engine)) }
-    ensures fault { IfErr result (λ e. Stops run.now (shown O.Out out) (shown O.Out e.1) e.0) }
+    ensures fault { IfErr result (λ e.
+        StandsAtFault run.now (shown O.Out out) (shown O.Out e.1) e.0) }
 {
     let (store, writer) = set_up(alloc, run, out)?;
     match Engine::open(alloc, &store, run.caps(), writer) {

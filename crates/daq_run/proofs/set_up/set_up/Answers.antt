@@ -2,7 +2,7 @@ use Rattle.std.proofs.Common.{◌≡◌, ℕ, Err, List, map, vec_items, ap, ap�
 use Rattle.frame_writer.specs.Shown.{shown}
 use Rattle.frame_writer.specs.Writing.{WriterState, fresh_writer, state_of}
 use Rattle.run_setup.specs.Setup.{LosesReply, WantsMemory}
-use Rattle.daq_run.specs.Faults.{Stops, run_fault}
+use Rattle.daq_run.specs.Faults.{StandsAtFault, run_fault}
 use Rattle.daq_run.specs.SetUps.{profile_of}
 use Rattle.daq_run.proofs.SetUpLemmas.{stops}
 use Rattle.daq_run.proofs.set_up.set_up.Goals as goal
@@ -19,7 +19,7 @@ returns-in-Err-clause-fault g c =
     let first = state_of g.O.Out c.new-writer.result in
     let on : (P : WriterState → List (List ℕ) → Type 0) → P first (map vec_items c.setup.result.now) → P (fresh_writer before) run.setup = λ P told. subst (λ w. P w run.setup) c.new-writer.ensures.fresh (subst (P first) c.setup.ensures.value told) in
     let profile : s.profile ≡ profile_of run = c.in-Ok.ensures.profile ∙ ap₂ (λ m n. record { channels = m; image_len = n }) c.channels.ensures.value c.image_len.ensures.value in
-    let all : Stops run before b.out (run_fault c.in-Err.fault) = stops run s c.carry_all.new.store profile c.in-Ok.ensures.fresh before b c.in-Err.fault told.profile_stays
+    let all : StandsAtFault run before b.out (run_fault c.in-Err.fault) = stops run s c.carry_all.new.store profile c.in-Ok.ensures.fresh before b c.in-Err.fault told.profile_stays
     (λ is. on (λ w ps. WantsMemory s t w b ps) (told.memory (ap Err is)))
     (λ is. on (λ w ps. LosesReply s t w b ps) (told.write (ap Err is))) in
     rw (c.into_out.ensures, c.from.ensures) all
