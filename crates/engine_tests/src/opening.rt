@@ -1,14 +1,11 @@
 //! What no clause says: that an engine opens, and comes to each refusal.
 use crate::same::same;
 use crate::stores::{WHOLE, WHOLE_OF_1, ready_of};
-use channel_ring::{SendHalf, TakeHalf};
 use daq_engine::{OpenFault, open};
 use daq_store::{Refusal, Store};
 use frame_writer::{FrameWriter, VecOut};
-use sampler::Sampler;
 use std::alloc::Global;
 use std::test::Fail;
-use transmitter::Transmitter;
 
 /// Why an engine isn't opened over the store, and CTR of the next frame of the writer that comes
 /// back, which wrote one.
@@ -75,66 +72,6 @@ fn start_two(store: &mut Store) -> Result<(), Refusal> {
     store.alloc_odt_entry(4, 0, 1)?;
     store.start_stop(1, 1)?;
     store.start_stop(1, 2)?;
-    Ok(())
-}
-
-/// The event channel of a sampler, its lists, and those that run.
-fn shown(sampler: Option<Sampler<SendHalf>>) -> Result<(u8, u16, u16), Fail> {
-    let sampler = sampler.ok_or("no sampler")?;
-    Ok((sampler.channel(), sampler.lists(), sampler.running()))
-}
-
-/// The engine of that store, which writes to memory.
-fn engine_of(
-    alloc: Global,
-    caps: &[usize],
-) -> Result<(Vec<Sampler<SendHalf>>, Transmitter<VecOut, TakeHalf>), Fail> {
-    let writer = FrameWriter::new(VecOut::new(alloc));
-    match open(alloc, &two_channels(alloc)?, caps, writer) {
-        Ok(engine) => Ok(engine),
-        Err((fault, _)) => Err(Fail::from(fault)),
-    }
-}
-
-#[test]
-fn each_ready_list_is_in_the_sampler_of_its_channel(rt: HostRuntime) -> Result<(), Fail> {
-    let (mut samplers, transmitter) = engine_of(rt.alloc(), &[1, 1024])?;
-    let last = shown(samplers.pop())?;
-    let first = shown(samplers.pop())?;
-    let wanted = [(0, 0b1010, 0b0010), (1, 0b0101, 0b0100)];
-    same(&rt, [first, last], wanted, "two channels", "samplers");
-    let counter = transmitter.into_writer().next_counter();
-    same(
-        &rt,
-        (samplers.len(), counter),
-        (0, 0),
-        "two channels",
-        "no more samplers, and CTR",
-    );
-    Ok(())
-}
-
-#[test]
-fn a_sampler_sends_through_the_ring_of_its_place(rt: HostRuntime) -> Result<(), Fail> {
-    let (mut samplers, mut transmitter) = engine_of(rt.alloc(), &[1, 1])?;
-    let mut last = samplers.pop().ok_or("no sampler")?;
-    let mut first = samplers.pop().ok_or("no sampler")?;
-    // list 2, then list 1; each list has one ODT, so that FIRST_PID is the list's number
-    let of_2 = last.trigger(&[0xB1, 0xB2], 0)?.accepted;
-    let of_1 = first.trigger(&[0xA1, 0xA2], 0)?.accepted;
-    let dropped = first.trigger(&[0xA3, 0xA4], 0)?.dropped;
-    let triggers = [of_2, of_1, dropped];
-    same(
-        &rt,
-        triggers,
-        [0b0100, 0b0010, 0b0010],
-        "two channels",
-        "triggers",
-    );
-    same(&rt, transmitter.pump()?.taken, 2, "two channels", "items");
-    let out = transmitter.into_writer().into_out();
-    let frames = [3, 0, 0, 0, 1, 0xA1, 0xA2, 3, 0, 1, 0, 2, 0xB1, 0xB2];
-    same(&rt, out.bytes(), frames.as_slice(), "two channels", "bytes");
     Ok(())
 }
 

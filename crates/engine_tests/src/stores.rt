@@ -14,7 +14,7 @@ pub struct List<'a> {
 
 /// How many there are, or the most that a count can say.
 pub fn count_of<T>(items: &[T]) -> u8 {
-    u8::try_from(items.len()).unwrap_or(u8::MAX)
+    items.len().min(255) as u8
 }
 
 /// One entry in each ODT of a list.

@@ -30,8 +30,10 @@ fn one_of(
     if samplers.len() != 1 {
         return Err(Fail::from("other than one sampler"));
     }
-    let sampler = samplers.pop().ok_or("no sampler")?;
-    Ok((sampler, transmitter))
+    match samplers.pop() {
+        Some(sampler) => Ok((sampler, transmitter)),
+        None => Err(Fail::from("no sampler")),
+    }
 }
 
 /// Which fault two ends answer where there is one ring, and how many ends come back.

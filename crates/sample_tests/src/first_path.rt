@@ -1,7 +1,6 @@
 //! From images to frames, by a fixed DAQ list.
 use crate::same::same;
 use frame_writer::{FuseOut, VecOut, WriteFault, next_frame};
-use linked_list_allocator::LocalHeap;
 use run_setup::fixed_run;
 use std::process::Abort;
 use std::test::Fail;
@@ -75,18 +74,6 @@ fn a_run_writes_the_frames_of_its_images(rt: HostRuntime) {
     }
 }
 
-#[test]
-fn a_writer_that_fails_comes_back_with_what_it_took(rt: HostRuntime) {
-    for chunk in [1, 3, 64] {
-        for good in 0..14usize {
-            let (fault, out) = ended(fixed_run(&TWO_IMAGES, FuseOut::new(rt.alloc(), chunk, good)));
-            let shown = (chunk, fault, out.bytes());
-            let wanted = (chunk, Some(WriteFault::Failed), &TWO_FRAMES[..good]);
-            same(&rt, shown, wanted, "a fuse", "bytes a call, fault, bytes");
-        }
-    }
-}
-
 /// Compares frames of AA BB, one behind another, by their counters.
 fn count_frames(rt: &impl Abort, bytes: &[u8]) -> Result<(), Fail> {
     let mut rest = bytes;
@@ -124,30 +111,4 @@ fn the_counter_wraps_after_65535(rt: HostRuntime) -> Result<(), Fail> {
         "fault, length, the last two frames",
     );
     count_frames(&rt, bytes)
-}
-
-#[test]
-fn want_of_memory_is_a_writer_that_fails(rt: HostRuntime) -> Result<(), Fail> {
-    let small = LocalHeap::new(rt.alloc(), 64)?;
-    let images = [[0xAA, 0xBB]; 20];
-    let (fault, out) = ended(fixed_run(&images, VecOut::new(&small)));
-    let shown = (fault, out.bytes().len() % 7);
-    let failed = Some(WriteFault::Failed);
-    same(
-        &rt,
-        shown,
-        (failed, 0),
-        "20 images",
-        "a fault, and whole frames",
-    );
-    drop(out);
-    let (fault, out) = ended(fixed_run(&images[..2], VecOut::new(&small)));
-    same(
-        &rt,
-        (fault, out.bytes().len()),
-        (None, 14),
-        "2 images",
-        "fault, length",
-    );
-    Ok(())
 }

@@ -247,9 +247,16 @@ pub fn plan_of(alloc: Global, store: &Store, list: u8) -> Result<CopyPlan, Fail>
     ensures plan { IfOk result IsPlan }
     ensures list { IfOk result (λ plan. plan.list ≡ list) }
 {
-    let conf = store.plan(list as u16).ok_or("not ready")?;
-    let first_pid = store.first_pid(list as u16).ok_or("no list")?;
-    Ok(CopyPlan::of(alloc, list, conf, first_pid, store.image_len())?)
+    let Some(conf) = store.plan(list as u16) else {
+        return Err(Fail::from("not ready"));
+    };
+    let Some(first_pid) = store.first_pid(list as u16) else {
+        return Err(Fail::from("no list"));
+    };
+    match CopyPlan::of(alloc, list, conf, first_pid, store.image_len()) {
+        Ok(plan) => Ok(plan),
+        Err(fault) => Err(Fail::from(fault)),
+    }
 }
 
 /// The plan of the last list of a store, which stands behind lists of so many ODTs, and has such
@@ -333,62 +340,6 @@ fn each_sample_has_the_packets_of_its_odts(rt: HostRuntime) -> Result<(), Fail> 
         let plan = plan_in(rt.alloc(), row)?;
         compare(&rt, &plan, row);
     }
-    Ok(())
-}
-
-/// Eight ODTs of one entry each, which is as long as an entry may be.
-const EIGHT_ODTS: [Entries; 8] = [
-    &[(0, 63)],
-    &[(63, 63)],
-    &[(126, 63)],
-    &[(189, 63)],
-    &[(252, 63)],
-    &[(315, 63)],
-    &[(378, 63)],
-    &[(441, 63)],
-];
-
-/// Compares the packets of a sample by its eight ODTs.
-fn are_parts(rt: &impl Abort, sample: &Packets, image: &[u8; 504]) -> Result<(), Fail> {
-    same(rt, sample.len(), 8, "64 bytes each", "packets");
-    for k in 0..8usize {
-        let packet = sample.get(k).ok_or("a packet is missing")?;
-        let pid = [k as u8];
-        let wanted = (pid.as_slice(), &image[63 * k..63 * k + 63]);
-        same(
-            rt,
-            (&packet[..1], &packet[1..]),
-            wanted,
-            "64 bytes each",
-            "a packet",
-        );
-    }
-    Ok(())
-}
-
-#[test]
-fn a_sample_has_up_to_eight_packets_of_64_bytes(rt: HostRuntime) -> Result<(), Fail> {
-    // each byte shows where it stands
-    let mut image = [0; 504];
-    for place in 0..image.len() {
-        image[place] = (place % 251) as u8;
-    }
-    let plan = plan_behind(rt.alloc(), &[], 0, 1, &EIGHT_ODTS, 504)?;
-    assert_eq!(rt; plan.image_len(), 504);
-    are_parts(&rt, &plan.fill(&image, 0, false), &image)
-}
-
-#[test]
-fn the_readers_show_what_is_set(rt: HostRuntime) -> Result<(), Fail> {
-    let mut store = Store::new(rt.alloc(), 3, 7)?;
-    alloc_lists(&mut store, &[3])?;
-    alloc_odts(&mut store, 1, &[&[(6, 1)], &[(0, 3), (4, 2)]])?;
-    store.set_mode(0, 1, 2, 9, 0)?;
-    let plan = plan_of(rt.alloc(), &store, 1)?;
-    let set = (plan.list(), plan.channel(), plan.prescaler());
-    same(&rt, set, (1, 2, 9), "list 1", "list, channel, prescaler");
-    let from = (plan.first_pid(), plan.odts(), plan.image_len());
-    same(&rt, from, (3, 2, 7), "list 1", "FIRST_PID, ODTs, length");
     Ok(())
 }
 

@@ -2,7 +2,7 @@
 ghost use Rattle.std.specs.Prelude.{◌≡◌, ◌<◌};
 
 use crate::same::same;
-use channel_ring::{Beside, ListSend, RingFault, SampleRing, SendEnd, SendHalf, TakeEnd, TakeHalf};
+use channel_ring::{ListSend, RingFault, SampleRing, SendEnd, TakeEnd, TakeHalf};
 use std::test::Fail;
 use xcp_base::limits::MAX_LISTS;
 use xcp_base::{Item, StopMark};
@@ -75,18 +75,6 @@ fn lists_and_rings_have_room_for_1_to_1024_items(rt: HostRuntime) {
 }
 
 #[test]
-fn an_item_costs_one(rt: HostRuntime) {
-    let costs = [ListSend::cost(&marker(0)), SendHalf::cost(&marker(0))];
-    same(
-        &rt,
-        costs,
-        [1, 1],
-        "a marker",
-        "cost in a list and in a ring",
-    );
-}
-
-#[test]
 fn a_full_list_hands_the_item_back(rt: HostRuntime) -> Result<(), Fail> {
     let row = "a list of 2 places";
     let mut end = ListSend::new(rt.alloc(), 2)?;
@@ -128,41 +116,5 @@ fn each_end_sees_what_the_other_did_without_being_beside_it(rt: HostRuntime) -> 
             "an item",
         );
     }
-    Ok(())
-}
-
-#[test]
-fn beside_tells_what_is_left(rt: HostRuntime) -> Result<(), Fail> {
-    let row = "a ring of 4 places";
-    let (mut send, mut take) = SampleRing::new(rt.alloc(), 4)?;
-    let offered = (back(&mut send, 0), back(&mut send, 1), back(&mut send, 2));
-    same(&rt, offered, (None, None, None), row, "what comes back");
-    let first = (take.beside(&mut send), next_list(&mut take));
-    let rest = take.beside(&mut send);
-    same(&rt, (first, rest), ((3, Some(0)), 2), row, "what is left");
-    Ok(())
-}
-
-#[test]
-fn what_was_sent_is_still_there_once_the_send_end_is_finished(rt: HostRuntime) -> Result<(), Fail> {
-    let row = "a ring of 2 places";
-    let (mut send, mut take) = SampleRing::new(rt.alloc(), 2)?;
-    let offered = (back(&mut send, 6), back(&mut send, 7));
-    same(&rt, offered, (None, None), row, "what comes back");
-    let mut end = send.finish().ok_or("the send end of a ring is finished")?;
-    let before = take.after(&mut end);
-    let taken = [
-        next_list(&mut take),
-        next_list(&mut take),
-        next_list(&mut take),
-    ];
-    let shown = (before, taken, take.after(&mut end));
-    same(
-        &rt,
-        shown,
-        (2, [Some(6), Some(7), None], 0),
-        row,
-        "what is taken",
-    );
     Ok(())
 }

@@ -1,17 +1,17 @@
 //! The worked examples of the sampler, by its public calls.
-ghost use Rattle.std.specs.Prelude.{◌≡◌, ◌<◌, [], IfOk, length};
+ghost use Rattle.std.specs.Prelude.{◌≡◌, ◌<◌, IfOk, length};
 ghost use Rattle.copy_plan.specs.Config.{IsPlan};
 
 use crate::plans::plan_behind;
 use crate::same::same;
-use channel_ring::{ListSend, SampleRing, SendEnd, TakeEnd, TakeHalf};
+use channel_ring::ListSend;
 use copy_plan::CopyPlan;
 use sampler::{ListCounts, Sampler, StartFault, StopFault, Taken, TriggerFault};
 use std::alloc::Global;
 use std::process::Abort;
 use std::test::Fail;
 use xcp_base::limits::MAX_LISTS;
-use xcp_base::{Item, with_list};
+use xcp_base::with_list;
 
 /// The plan of a list of channel 0 for images of two bytes, which stands behind lists of so many
 /// ODTs.
@@ -23,8 +23,11 @@ fn plan_of(alloc: Global, before: &[u8], prescaler: u8, entry: (u32, u8)) -> Res
     ensures image_len { IfOk result (λ plan. plan.image_len ≡ 2) }
 {
     let plan = plan_behind(alloc, before, 0, prescaler, &[&[entry]], 2)?;
-    if plan.channel() != 0 || plan.image_len() != 2 {
-        return Err(Fail::from("another plan"));
+    if plan.channel() != 0 {
+        return Err(Fail::from("another channel"));
+    }
+    if plan.image_len() != 2 {
+        return Err(Fail::from("images of another length"));
     }
     Ok(plan)
 }
@@ -37,14 +40,12 @@ fn one_list(alloc: Global, prescaler: u8, cap: usize) -> Result<Sampler<ListSend
     Ok(Sampler::new(0, plans, end, 2, with_list(0, 0)))
 }
 
-/// A running sampler of lists 0 and 1, which have one byte of the image each, over an end of a
-/// ring.
-fn two_lists<S: SendEnd>(alloc: Global, end: S) -> Result<Sampler<S>, Fail>
-    requires { S.sent end ≡ [] }
-{
+/// A running sampler of lists 0 and 1, which have one byte of the image each.
+fn two_lists(alloc: Global, cap: usize) -> Result<Sampler<ListSend>, Fail> {
     let mut plans = Vec::new(alloc);
     plans.push(plan_of(alloc, &[], 1, (0, 1))?)?;
     plans.push(plan_of(alloc, &[1], 1, (1, 1))?)?;
+    let end = ListSend::new(alloc, cap)?;
     Ok(Sampler::new(0, plans, end, 2, with_list(with_list(0, 0), 1)))
 }
 
@@ -67,7 +68,7 @@ fn counts(counts: Option<ListCounts>) -> Option<[u64; 3]> {
 }
 
 /// Asks a sampler, and compares its answer.
-fn answer<S: SendEnd>(rt: &impl Abort, sampler: &mut Sampler<S>, ask: Ask, row: &str, at: usize) {
+fn answer(rt: &impl Abort, sampler: &mut Sampler<ListSend>, ask: Ask, row: &str, at: usize) {
     match ask {
         Ask::Trigger(image, wanted) => {
             same(
@@ -105,7 +106,7 @@ fn answer<S: SendEnd>(rt: &impl Abort, sampler: &mut Sampler<S>, ask: Ask, row: 
 }
 
 /// Asks a sampler one thing after another.
-fn ask_all<S: SendEnd>(rt: &impl Abort, sampler: &mut Sampler<S>, asks: &[Ask], row: &str) {
+fn ask_all(rt: &impl Abort, sampler: &mut Sampler<ListSend>, asks: &[Ask], row: &str) {
     for (at, ask) in asks.iter().enumerate() {
         answer(rt, sampler, *ask, row, at);
     }
@@ -203,17 +204,8 @@ const EXAMPLES: [Example; 5] = [
     },
 ];
 
-#[test]
-fn each_sampler_answers(rt: HostRuntime) -> Result<(), Fail> {
-    for example in &EXAMPLES {
-        let mut sampler = one_list(rt.alloc(), example.prescaler, example.cap)?;
-        ask_all(&rt, &mut sampler, example.asks, example.name);
-    }
-    Ok(())
-}
-
-/// Triggers that a sampler of lists 0 and 1 takes over a ring of one place, where only list 0's
-/// sample has room.
+/// A trigger that a sampler of lists 0 and 1 takes over an end of one place, where only list 0's
+/// sample has room, and what is shown then.
 const DROPS: [Ask; 5] = [
     Ask::Trigger(
         &[0xAA, 0xBB],
@@ -229,37 +221,17 @@ const DROPS: [Ask; 5] = [
     Ask::Shown(0, 3, 3, 0),
 ];
 
-/// Has such a sampler drop list 1's sample, and gives it up.
-fn drop_one<S: SendEnd>(rt: &impl Abort, sampler: Sampler<S>, row: &str) -> Result<(), Fail> {
-    let mut sampler = sampler;
-    ask_all(rt, &mut sampler, &DROPS, row);
+#[test]
+fn each_sampler_answers(rt: HostRuntime) -> Result<(), Fail> {
+    for example in &EXAMPLES {
+        let mut sampler = one_list(rt.alloc(), example.prescaler, example.cap)?;
+        ask_all(&rt, &mut sampler, example.asks, example.name);
+    }
+    let row = "what finds no room is dropped";
+    let mut sampler = two_lists(rt.alloc(), 1)?;
+    ask_all(&rt, &mut sampler, &DROPS, row);
     let left = sampler.finish().ok_or("an end is finished")?;
     let shown = (left.channel(), left.lists(), counts(left.counts(1)));
-    same(rt, shown, (0, 3, Some([1, 0, 1])), row, "what is left");
-    Ok(())
-}
-
-/// Takes the packets of a sample, and compares the first; nothing is behind it.
-fn take_one(rt: &impl Abort, take: &mut TakeHalf, packet: &[u8]) {
-    let Some(Item::Sample(sample)) = take.take() else {
-        panic!(rt; "no sample");
-    };
-    same(
-        rt,
-        sample.packets().get(0),
-        Some(packet),
-        "a ring",
-        "a packet",
-    );
-    same(rt, take.take().is_none(), true, "a ring", "nothing more");
-}
-
-#[test]
-fn what_finds_no_room_is_dropped(rt: HostRuntime) -> Result<(), Fail> {
-    let end = ListSend::new(rt.alloc(), 1)?;
-    drop_one(&rt, two_lists(rt.alloc(), end)?, "a list")?;
-    let (send, mut take) = SampleRing::new(rt.alloc(), 1)?;
-    drop_one(&rt, two_lists(rt.alloc(), send)?, "a ring")?;
-    take_one(&rt, &mut take, &[0x00, 0xAA]);
+    same(&rt, shown, (0, 3, Some([1, 0, 1])), row, "what is left");
     Ok(())
 }

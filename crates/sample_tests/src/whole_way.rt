@@ -39,9 +39,9 @@ fn sends<O: Out>(writer: &mut FrameWriter<O>, packets: &Packets) -> bool {
         let Some(packet) = packets.get(k) else {
             return false;
         };
-        if writer.send(packet).is_err() {
+        let Ok(()) = writer.send(packet) else {
             return false;
-        }
+        };
     }
     true
 }

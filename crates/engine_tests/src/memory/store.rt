@@ -24,7 +24,10 @@ type Shown = (
 );
 
 fn first_entry(store: &Store) -> Option<(u32, u8)> {
-    store.plan(0)?.entry(0, 0)
+    match store.plan(0) {
+        Some(conf) => conf.entry(0, 0),
+        None => None,
+    }
 }
 
 fn shown(store: &Store) -> Shown {
