@@ -1,0 +1,21 @@
+-- The faults of the program: what stands for a fault of a run file, and the status of each.
+use Rattle.std.specs.Prelude.{ℕ}
+use Rattle.run_file.specs.declared.run_fault.RunFault.{RunFault}
+use Rattle.run_file.specs.declared.run_fault.RunFault.TheVariants as bad
+use Rattle.daq_run.specs.declared.sim_fault.SimFault.TheVariants.{Memory}
+use Rattle.daq_sim.specs.declared.program_fault.ProgramFault.{ProgramFault}
+use Rattle.daq_sim.specs.declared.program_fault.ProgramFault.TheVariants.{Run, Sim}
+
+-- want of memory, wherever it was met
+abbrev pub want_of_memory : ProgramFault
+want_of_memory = Sim Memory
+
+-- want of memory is the same one, whoever met it
+abbrev pub fault_of_run : RunFault → ProgramFault
+fault_of_run bad.Memory = want_of_memory
+fault_of_run fault = Run fault
+
+-- 1 for a run that was begun and for want of memory, 2 for what is wrong with words, text or file
+abbrev pub status_of : ProgramFault → ℕ
+status_of (Sim fault) = 1
+status_of _ = 2

@@ -1,0 +1,94 @@
+//! The program: from its words and streams to its status.
+ghost use Rattle.std.specs.Prelude.{◌≡◌, ◌≤◌, IfOk, OnErr};
+ghost use Rattle.std.specs.Io.KnownBytes.{Keeps};
+
+use crate::carrying::{status_of, to_file, to_memory};
+use crate::program_fault::ProgramFault;
+use crate::run_text::text_from;
+use crate::words::{Asked, Words, read_words};
+use clap::Error;
+use run_file::Run;
+use std::alloc::Global;
+use std::fs;
+use std::io::{BufWriter, Read, Write};
+use std::rt::Files;
+
+/// The program over its words, without its name, its standard input, standard output and standard
+/// error. It answers its status.
+pub fn program<R: Files, I: Read + Drop, W: Write + Drop, E: Write + Drop>(
+    rt: &R,
+    alloc: Global,
+    words: &[String],
+    input: I,
+    out: W,
+    err: E,
+) -> u8
+    ensures { result ≤ 2 }
+{
+    let mut err = err;
+    let answer = match BufWriter::new(alloc, out) {
+        Ok(mut out) => answer(rt, alloc, words, input, &mut out),
+        Err(_) => Err(ProgramFault::MEMORY),
+    };
+    match answer {
+        Ok(status) => status,
+        Err(fault) => {
+            let _ = writeln!(err, "{fault}");
+            fault.status()
+        }
+    }
+}
+
+/// What the words ask for: the status once that is printed, or the fault that is still to be.
+fn answer<R: Files, I: Read + Drop, W: Write>(
+    rt: &R,
+    alloc: Global,
+    words: &[String],
+    input: I,
+    out: &mut W,
+) -> Result<u8, ProgramFault>
+    ensures status { IfOk result (λ status. status ≤ 1) }
+    ensures silent { OnErr result (Keeps (W.contents out.old) (W.contents out.new)) }
+{
+    let Words { run, out: file } = match read_words(alloc, words)? {
+        Asked::Help(text) => return Ok(print_help(out, text)),
+        Asked::Run(words) => words,
+    };
+    let run = run_of(rt, alloc, run, input)?;
+    match file {
+        Some(path) => to_file(rt, alloc, &run, path, out),
+        None => to_memory(alloc, &run, out),
+    }
+}
+
+/// Prints the help, and answers the status.
+fn print_help<W: Write>(out: &mut W, help: Error) -> u8
+    ensures { result ≤ 1 }
+{
+    status_of(write!(out, "{help}").and_then(|()| out.flush()), false)
+}
+
+/// The run of a file, or of standard input where no file is named.
+fn run_of<R: Files, I: Read + Drop>(
+    rt: &R,
+    alloc: Global,
+    path: Option<&str>,
+    input: I,
+) -> Result<Run, ProgramFault> {
+    let text = match path {
+        Some(path) => text_of_file(rt, alloc, path)?,
+        None => {
+            let mut input = input;
+            text_from(alloc, &mut input)?
+        }
+    };
+    Ok(Run::read(alloc, &text)?)
+}
+
+/// The text of a file.
+fn text_of_file<R: Files>(rt: &R, alloc: Global, path: &str) -> Result<String, ProgramFault> {
+    match fs::open(rt, path) {
+        Ok(mut file) => text_from(alloc, &mut file),
+        Err(error) => Err(ProgramFault::Unreadable.or_memory(&error)),
+    }
+}

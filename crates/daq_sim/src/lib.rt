@@ -1,0 +1,15 @@
+//! The program `xcpdaq`, generic over its files and streams; and with it all of whole runs: run
+//! files, set-ups, runs and their outcomes.
+#![tactic(auto)]
+
+mod carrying;
+mod command_line;
+mod program_fault;
+mod report_text;
+mod run_text;
+mod words;
+
+pub use command_line::program;
+pub use daq_run::{Outcome, SimFault, run_serial};
+pub use run_file::{Run, RunFault, Step};
+pub use run_setup::{SetupFault, carry_all, fixed_run};

@@ -1,0 +1,69 @@
+//! The text of a run, from a file or from standard input.
+ghost use Rattle.std.specs.Prelude.{◌≡◌, ◌⊎◌, ◌<◌, ◌≤◌, IfErr, IfOk, OnOk, length, string_bytes, true};
+ghost use Rattle.std.specs.Io.{StartsWith, appended_bytes};
+ghost use Rattle.std.specs.Io.KnownBytes.{Consumes, IsAtEnd};
+ghost use Rattle.daq_sim.specs.declared.program_fault.ProgramFault.TheVariants.{Unreadable};
+ghost use Rattle.daq_sim.specs.Faults.{want_of_memory};
+
+use crate::program_fault::ProgramFault;
+use std::alloc::Global;
+use std::io::{ErrorKind, Read};
+
+/// The longest text of a run, in bytes.
+const MAX_TEXT: usize = 67_108_864;
+
+/// The most reads of a text, the one that finds its end among them.
+const MAX_READS: usize = 67_108_864;
+
+/// How many bytes are asked for in one read.
+const CHUNK: usize = 65_536;
+
+/// Reads a text to its end.
+///
+/// Refused where a read fails, but for an interruption, which counts as a read of no byte; where
+/// the text is longer than `MAX_TEXT`, or isn't at its end after `MAX_READS`; and where it isn't
+/// UTF-8.
+pub fn text_from<I: Read>(alloc: Global, input: &mut I) -> Result<String, ProgramFault>
+    ensures whole { IfOk result (λ text.
+        Consumes (I.remaining input.old) (I.remaining input.new) (string_bytes text)) }
+    ensures end { OnOk result (IsAtEnd (I.remaining input.new)) }
+    ensures within { IfOk result (λ text. length (string_bytes text) ≤ MAX_TEXT) }
+    ensures fault { IfErr result (λ f. (f ≡ Unreadable) ⊎ (f ≡ want_of_memory)) }
+{
+    let mut bytes = Vec::new(alloc);
+    let mut chunk = [0; CHUNK];
+    for _ in 0..MAX_READS {
+        if is_read_to_end(input, &mut chunk, &mut bytes)? {
+            return String::from_utf8(bytes).map_err(|_| ProgramFault::Unreadable);
+        }
+    }
+    Err(ProgramFault::Unreadable)
+}
+
+/// Makes one read, appends what it gave, and tells whether it met the end.
+fn is_read_to_end<I: Read>(
+    input: &mut I,
+    chunk: &mut [u8],
+    bytes: &mut Vec<u8>,
+) -> Result<bool, ProgramFault>
+    requires room { 0 < length chunk.old }
+    requires short { length bytes.old.items ≤ MAX_TEXT }
+    ensures appends { OnOk result (StartsWith bytes.new.items bytes.old.items) }
+    ensures taken { OnOk result (Consumes (I.remaining input.old) (I.remaining input.new)
+        (appended_bytes bytes.old.items bytes.new.items)) }
+    ensures end { IfOk result (λ at_end. at_end ≡ true → IsAtEnd (I.remaining input.new)) }
+    ensures within { OnOk result (length bytes.new.items ≤ MAX_TEXT) }
+    ensures room_stays { length chunk.new ≡ length chunk.old }
+    ensures fault { IfErr result (λ f. (f ≡ Unreadable) ⊎ (f ≡ want_of_memory)) }
+{
+    let count = match input.read(chunk) {
+        Ok(count) => count,
+        Err(error) if error.kind() == ErrorKind::Interrupted => return Ok(false),
+        Err(error) => return Err(ProgramFault::Unreadable.or_memory(&error)),
+    };
+    if bytes.len() + count > MAX_TEXT {
+        return Err(ProgramFault::Unreadable);
+    }
+    bytes.extend_from_slice(&chunk[..count])?;
+    Ok(count == 0)
+}

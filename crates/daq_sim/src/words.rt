@@ -1,0 +1,62 @@
+//! The command line.
+
+use crate::program_fault::ProgramFault;
+use clap::error::ErrorKind;
+use clap::{Arg, ArgAction, ArgMatches, Command, Error};
+use std::alloc::{AllocError, Global};
+
+/// What the command line asks for.
+#[derive(Drop)]
+pub enum Asked<'a> {
+    /// The help, which is the error's text.
+    Help(Error),
+    /// A run.
+    Run(Words<'a>),
+}
+
+/// Where a run is read from, and where its frames go.
+#[derive(Clone, Copy)]
+pub struct Words<'a> {
+    /// The file of the run; standard input where there is none.
+    pub run: Option<&'a str>,
+    /// The file for the frames; they are kept and printed where there is none.
+    pub out: Option<&'a str>,
+}
+
+/// Reads the words behind the program's name.
+pub fn read_words<'a>(alloc: Global, words: &'a [String]) -> Result<Asked<'a>, ProgramFault> {
+    match command(alloc)?.try_get_matches_from(words) {
+        Ok(matches) => Ok(Asked::Run(words_of(&matches))),
+        Err(error) => match error.kind() {
+            ErrorKind::DisplayHelp => Ok(Asked::Help(error)),
+            ErrorKind::OutOfMemory => Err(ProgramFault::MEMORY),
+            _ => Err(ProgramFault::CommandLine),
+        },
+    }
+}
+
+/// The words that the program takes.
+fn command<'a>(alloc: Global) -> Result<Command<'a>, AllocError> {
+    let out = Arg::new(alloc, "out")
+        .long("out")
+        .value_name("FILE")
+        .action(ArgAction::Set)
+        .help("Write the frames to FILE, and print the account alone");
+    let run = Arg::new(alloc, "run")
+        .value_name("RUN")
+        .action(ArgAction::Set)
+        .help("The run file [default: standard input]");
+    Command::new(alloc, "xcpdaq")
+        .about("Carries out a run file, and prints its frames and its account")
+        .no_binary_name(true)
+        .arg(out)?
+        .arg(run)
+}
+
+/// What matched.
+fn words_of<'a>(matches: &ArgMatches<'a>) -> Words<'a> {
+    Words {
+        run: matches.get_str("run"),
+        out: matches.get_str("out"),
+    }
+}
