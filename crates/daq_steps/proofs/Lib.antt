@@ -2,3 +2,4 @@ pub mod AskLemmas
 pub mod DoneLemmas
 pub mod StepLemmas
 pub mod LoopLemmas
+pub mod LawLemmas

@@ -5,6 +5,7 @@
 mod asking;
 mod cause;
 mod doing;
+pub mod laws;
 
 pub use cause::Cause;
 pub use doing::{do_step, do_steps};
