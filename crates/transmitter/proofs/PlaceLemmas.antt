@@ -1,15 +1,12 @@
 -- A list in which one element was changed, and what is shown of each element.
-use Rattle.std.proofs.Common.{◌≡◌, ◌≢◌, ℕ, ◌<◌, inl, inr, List, [], ◌∷◌, ◌++◌, Option, Some, None, length, map, get_or, set, refl, sym, ap, ◌∙◌, append-nil, arith, get_or-set_same, get_or-set_other}
-use Rattle.std.specs.Prelude.{IfSome, IsNone, IsSome}
+use Rattle.std.proofs.Common.{◌≡◌, ◌≢◌, ℕ, ◌<◌, inl, inr, List, [], ◌∷◌, ◌++◌, Some, length, map, get_or, set, sym, ap, ◌∙◌, append-nil, arith, get_or-set_same, get_or-set_other}
 use mathlib.Core.List.{IsPrefix}
 use Rattle.std.proofs.lemmas.List.{map-set, get_or-map, length-map}
 use Rattle.std.specs.List.{slice_get}
 use Rattle.std.proofs.lemmas.Option.{slice_get_within}
-use Rattle.std.proofs.lemmas.Bool.{false≢true}
 use Rattle.std.proofs.lemmas.Bool.Decides.{eqb_tells}
 use Rattle.xcp_base.specs.declared.item.Item.{Item}
 use Rattle.transmitter.specs.Merge.{Takes, of_ring}
-use Rattle.transmitter.specs.Inner.Turns.{taken_at}
 
 -- what is shown at the place that was changed
 pub shown_here : {A R : Type 0} → (f : A → R) (xs : List A) (c : ℕ) (new : A) (d : R) → c < length xs → get_or (map f (set xs c new)) c d ≡ f new
@@ -25,15 +22,15 @@ shown_at g f xs k c new d q same at =
 pub shown_elsewhere : {A R : Type 0} → (f : A → R) (xs : List A) (c e : ℕ) (new : A) (d : R) → e ≢ c → get_or (map f (set xs c new)) e d ≡ get_or (map f xs) e d
 shown_elsewhere f xs c e new d n = ap (λ t. get_or t e d) (map-set f xs c new) ∙ get_or-set_other (map f xs) c e (f new) d n
 
--- one ring gave nothing, of which nothing was known
-takes-nothing : {T : Type 0} → (r k : T → List Item) (ts : List T) (c : ℕ) (old new : T) → c < length ts → old ≡ get_or ts c old → r new ≡ r old → k old ≡ [] → Takes (map r ts) (map r (set ts c new)) (map k ts) (map k (set ts c new)) []
-takes-nothing r k ts c old new h at received known = record {
+-- one ring was looked at
+pub takes-look : {T : Type 0} → (r k : T → List Item) (ts : List T) (c : ℕ) (old new : T) → c < length ts → old ≡ get_or ts c old → r new ≡ r old → IsPrefix (k old) (k new) → Takes (map r ts) (map r (set ts c new)) (map k ts) (map k (set ts c new)) []
+takes-look r k ts c old new h at received known = record {
   gains = λ e. elim (eqb_tells c e) [
     | inl w ↦ rw (← w.1) (shown_here r ts c new [] h ∙ (received ∙ (ap r at ∙ (sym (get_or-map r ts c old [] h) ∙ sym (append-nil (of_ring (map r ts) c))))))
     | inr w ↦ shown_elsewhere r ts c e new [] (λ q. w.1 (sym q)) ∙ sym (append-nil (of_ring (map r ts) e))
   ];
   first = λ e. elim (eqb_tells c e) [
-    | inl w ↦ rw (← w.1, get_or-map k ts c old [] h, ← at, known) (of_ring (map k (set ts c new)) c, refl)
+    | inl w ↦ rw (← w.1, get_or-map k ts c old [] h, ← at, shown_here k ts c new [] h) known
     | inr w ↦ ([], append-nil (of_ring (map k ts) e) ∙ sym (shown_elsewhere k ts c e new [] (λ q. w.1 (sym q))))
   ];
 }
@@ -51,20 +48,6 @@ takes-one r k ts c old new x h at received first = record {
   ];
 }
 
--- nothing is known where a known item would be given
-nothing_known : (xs : List Item) → (0 < length xs → IsSome {T = Item} None) → xs ≡ []
-nothing_known [] gives = refl
-nothing_known (x ∷ xs) gives = absurd (false≢true (gives (omega arith)))
-
--- what a take end answers, among all ends
-pub takes-at : {T : Type 0} → (r k : T → List Item) (ts : List T) (c : ℕ) (old new : T) (o : Option Item) → c < length ts → old ≡ get_or ts c old
-    → (0 < length (k old) → IsSome o) → IfSome o (λ x. r new ≡ r old ++ x ∷ []) → IfSome o (λ x. IsPrefix (k old) (x ∷ k new)) → (IsNone o → r new ≡ r old)
-    → Takes (map r ts) (map r (set ts c new)) (map k ts) (map k (set ts c new)) (taken_at c o)
-takes-at r k ts c old new None h at gives some first none = takes-nothing r k ts c old new h at (none refl) (nothing_known (k old) gives)
-takes-at r k ts c old new (Some x) h at gives some first none = takes-one r k ts c old new x h at some first
-
--- of a ring that gave nothing, nothing was known
-pub empty-at : {T : Type 0} → (k : T → List Item) (ts : List T) (c : ℕ) (old : T) (o : Option Item) → c < length ts → old ≡ get_or ts c old
-    → (0 < length (k old) → IsSome o) → IsNone o → of_ring (map k ts) c ≡ []
-empty-at k ts c old None h at gives none = get_or-map k ts c old [] h ∙ (ap k (sym at) ∙ nothing_known (k old) gives)
-empty-at k ts c old (Some x) h at gives none = absurd (false≢true (sym none))
+-- what is known there
+pub known_here : {T : Type 0} → (k : T → List Item) (ts : List T) (c : ℕ) (old : T) → c < length ts → old ≡ get_or ts c old → of_ring (map k ts) c ≡ k old
+known_here k ts c old h at = get_or-map k ts c old [] h ∙ ap k (sym at)

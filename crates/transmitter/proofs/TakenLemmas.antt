@@ -95,3 +95,17 @@ one_each low c ((e, x) ∷ qs) r = elim (eqb_tells e c) [
       omega (arith, ap length one, ap length none)
   | inr w ↦ rw w.0 (one_each (e + 1) c qs r.1)
 ]
+
+-- a list that begins with an item begins with no other
+pub same_first : (x y : Item) (xs : List Item) → IsPrefix (x ∷ []) xs → IsPrefix (y ∷ []) xs → x ≡ y
+same_first x y [] h k = absurd cc
+same_first x y (z ∷ xs) h k = let a : x ≡ z = cc in let b : y ≡ z = cc in a ∙ sym b
+
+-- where nothing is known after a look, nothing was
+pub none_known : (r s k l : List (List Item)) (c : ℕ) → Takes r s k l [] → (0 < length (of_ring l c) → ⊥) → of_ring k c ≡ []
+none_known r s k l c t none = none_of (of_ring k c) (of_ring l c) (t.first c) none
+  where
+    none_of : (xs ys : List Item) → IsPrefix xs ys → (0 < length ys → ⊥) → xs ≡ []
+    none_of [] ys h none = refl
+    none_of (x ∷ xs) [] h none = absurd cc
+    none_of (x ∷ xs) (y ∷ ys) h none = absurd (none (omega arith))

@@ -1,14 +1,15 @@
 //! A turn of a pump at one ring.
-ghost use Rattle.std.specs.Prelude.{◌≡◌, ◌<◌, [], false, IsTrue, IsNone, map, vec_len};
+ghost use Rattle.std.specs.Prelude.{◌≡◌, ◌<◌, ◌↔◌, [], ◌∷◌, false, IsTrue, length, map, vec_len};
+ghost use mathlib.Core.List.{IsPrefix};
 ghost use Rattle.frame_writer.specs.Writing.{AfterText, state_of};
 ghost use Rattle.transmitter.specs.Merge.{Takes, of_ring};
-ghost use Rattle.transmitter.specs.Inner.Turns.{taken_at};
+ghost use Rattle.transmitter.specs.Inner.Turns.{BeginsWithSample, TakesFirst};
 ghost use Rattle.transmitter.specs.Written.{BreaksWithin};
 
 use crate::transmitter::Transmitter;
 use channel_ring::TakeEnd;
 use frame_writer::{FrameWriter, Out};
-use xcp_base::{Item, Packets};
+use xcp_base::{Item, Packets, Sample};
 
 /// What one turn at a ring came to.
 #[derive(Clone, Copy)]
@@ -37,20 +38,25 @@ impl<O: Out, T: TakeEnd> Transmitter<O, T> {
             (transmission O.Out T.TakeEnd self.new) result }
         ensures as_many { vec_len self.new.ends ≡ vec_len self.old.ends }
     {
-        let Some(item) = take_from(&mut self.ends, c) else {
+        if !look_for(&mut self.ends, c) {
             return Turn::Nothing;
-        };
+        }
         self.taken += 1;
-        match item {
-            Item::Marker(marker) => Turn::Stopped(marker.list()),
+        match first_of(&self.ends, c) {
+            Item::Marker(marker) => {
+                let list = marker.list();
+                let_go(&mut self.ends, c);
+                Turn::Stopped(list)
+            }
             Item::Sample(sample) => {
                 let list = sample.list() as usize;
                 let frames = sample.packets().len() as u8;
                 if write_all(&mut self.writer, sample.packets()) {
+                    let_go(&mut self.ends, c);
                     self.written[list] += 1;
                     Turn::Wrote(frames)
                 } else {
-                    self.hand = Some(sample);
+                    self.hand = Some(take_sample(&mut self.ends, c));
                     Turn::Broke
                 }
             }
@@ -58,16 +64,53 @@ impl<O: Out, T: TakeEnd> Transmitter<O, T> {
     }
 }
 
-/// Takes the next item of ring `c`.
-fn take_from<T: TakeEnd>(ends: &mut Vec<T>, c: usize) -> Option<Item>
-    requires { c < vec_len ends.old }
-    ensures rings { map T.ring ends.new.items ≡ map T.ring ends.old.items }
+/// Whether an item of ring `c` is there, which is then known.
+fn look_for<T: TakeEnd>(ends: &mut Vec<T>, c: usize) -> bool
+    requires within { c < vec_len ends.old }
+    ensures value { IsTrue result ↔ (0 < length (of_ring (map T.known ends.new.items) c)) }
+    ensures looks { Takes (map T.received ends.old.items) (map T.received ends.new.items)
+        (map T.known ends.old.items) (map T.known ends.new.items) [] }
+    ensures rings_stay { map T.ring ends.new.items ≡ map T.ring ends.old.items }
     ensures as_many { vec_len ends.new ≡ vec_len ends.old }
-    ensures takes { Takes (map T.received ends.old.items) (map T.received ends.new.items)
-        (map T.known ends.old.items) (map T.known ends.new.items) (taken_at c result) }
-    ensures empty { IsNone result → of_ring (map T.known ends.old.items) c ≡ [] }
 {
-    ends[c].take()
+    ends[c].look()
+}
+
+/// The first item of ring `c`, which is known to be there.
+fn first_of<T: TakeEnd>(ends: &Vec<T>, c: usize) -> &Item
+    requires within { c < vec_len ends.now }
+    requires some { 0 < length (of_ring (map T.known ends.now.items) c) }
+    ensures { IsPrefix (result.now ∷ []) (of_ring (map T.known ends.now.items) c) }
+{
+    ends[c].first()
+}
+
+/// Lets the first item of ring `c` go, which is known to be there.
+fn let_go<T: TakeEnd>(ends: &mut Vec<T>, c: usize)
+    requires within { c < vec_len ends.old }
+    requires some { 0 < length (of_ring (map T.known ends.old.items) c) }
+    ensures takes { TakesFirst c (map T.received ends.old.items) (map T.received ends.new.items)
+        (map T.known ends.old.items) (map T.known ends.new.items) }
+    ensures rings_stay { map T.ring ends.new.items ≡ map T.ring ends.old.items }
+    ensures as_many { vec_len ends.new ≡ vec_len ends.old }
+{
+    ends[c].pass();
+}
+
+/// Takes the sample that is the first item of ring `c`.
+fn take_sample<T: TakeEnd>(ends: &mut Vec<T>, c: usize) -> Sample
+    requires within { c < vec_len ends.old }
+    requires sample { BeginsWithSample (of_ring (map T.known ends.old.items) c) }
+    ensures takes { Takes (map T.received ends.old.items) (map T.received ends.new.items)
+        (map T.known ends.old.items) (map T.known ends.new.items) ((c, Item.Sample result) ∷ []) }
+    ensures first { IsPrefix (Item.Sample result ∷ []) (of_ring (map T.known ends.old.items) c) }
+    ensures rings_stay { map T.ring ends.new.items ≡ map T.ring ends.old.items }
+    ensures as_many { vec_len ends.new ≡ vec_len ends.old }
+{
+    match ends[c].take() {
+        Some(Item::Sample(sample)) => sample,
+        _ => unreachable!(),
+    }
 }
 
 /// Whether all packets were written as frames.

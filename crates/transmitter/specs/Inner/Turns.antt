@@ -1,6 +1,7 @@
 -- A pump's turn at one ring, and a look at the rings one by one.
 use Rattle.std.specs.Prelude.{ℕ, ◌<◌, ◌≤◌, ◌≡◌, List, [], ◌∷◌, length, map}
-use Rattle.std.specs.Prelude.{Option, None, Some}
+use Rattle.std.specs.Prelude.{None, Some}
+use mathlib.Core.List.{IsPrefix}
 use Rattle.xcp_base.specs.Samples.{SampleParts, MarkParts}
 use Rattle.xcp_base.specs.declared.item.Item.{Item}
 use Rattle.xcp_base.specs.declared.item.Item.TheVariants.{Sample, Marker}
@@ -9,7 +10,7 @@ use Rattle.channel_ring.specs.declared.ends.RingEnd.{Ghosts as EndGhosts}
 use Rattle.channel_ring.specs.declared.ends.TakeEnd.{Ghosts as TakeGhosts}
 use Rattle.sampler.specs.State.{SamplerEndState}
 use Rattle.transmitter.specs.Looks.{EndsStay}
-use Rattle.transmitter.specs.Merge.{of_ring}
+use Rattle.transmitter.specs.Merge.{Takes, of_ring}
 use Rattle.transmitter.specs.Pumps.{Leads}
 use Rattle.transmitter.specs.Written.{TransmitterState}
 use Rattle.transmitter.specs.declared.turn.Turn.{Turn}
@@ -23,13 +24,20 @@ TurnMeans c a b (Wrote n) =
     (s : SampleParts) × (b.hand ≡ None) × Leads a ((c, Sample s) ∷ []) b × (n ≡ length s.packets)
     × (n ≤ MAX_ODTS)
 TurnMeans c a b (Stopped l) =
-    (m : MarkParts) × (b.hand ≡ None) × Leads a ((c, Marker m) ∷ []) b × (l ≡ m.list) × (l < MAX_LISTS)
+    (m : MarkParts) × (b.hand ≡ None) × Leads a ((c, Marker m) ∷ []) b × (l ≡ m.list)
+    × (l < MAX_LISTS)
 TurnMeans c a b Broke = (s : SampleParts) × (b.hand ≡ Some s) × Leads a ((c, Sample s) ∷ []) b
 
--- an item of ring c, where there is one
-abbrev pub taken_at : ℕ → Option Item → List (ℕ × Item)
-taken_at c None = []
-taken_at c (Some x) = (c, x) ∷ []
+-- the first item known of ring c was taken, whatever it is
+abbrev pub TakesFirst :
+    ℕ → List (List Item) → List (List Item) → List (List Item) → List (List Item) → Type 0
+TakesFirst c received new_received known new_known =
+    (x : Item) × IsPrefix (x ∷ []) (of_ring known c)
+    × Takes received new_received known new_known ((c, x) ∷ [])
+
+-- the first of these items is a sample
+abbrev pub BeginsWithSample : List Item → Type 0
+BeginsWithSample xs = (s : SampleParts) × IsPrefix (Sample s ∷ []) xs
 
 -- the take ends are still those of their rings, and have received what they had; and the finished
 -- ends stay

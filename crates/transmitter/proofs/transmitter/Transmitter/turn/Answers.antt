@@ -1,47 +1,70 @@
-use Rattle.std.proofs.Common.{◌≡◌, ℕ, ◌+◌, ◌<◌, List, [], ◌∷◌, Option, Some, length, get_or, set, slice_index, cond, eqb, get_or-set_same, get_or-set_other, refl, ap, ◌∙◌, arith, subst}
+use Rattle.std.proofs.Common.{◌≡◌, ℕ, ◌+◌, ◌<◌, List, [], ◌∷◌, length, map, get_or, set, slice_index, cond, eqb, get_or-set_same, get_or-set_other, refl, sym, ap, ◌∙◌, arith, subst}
 use Rattle.std.proofs.lemmas.Grind.{common_steps}
+use Rattle.std.proofs.lemmas.Bool.{false≢true}
 use Rattle.std.proofs.lemmas.Bool.Decides.{nat_tests}
+use mathlib.Core.List.{IsPrefix}
 use Rattle.xcp_base.specs.declared.item.Item.{Item}
+use Rattle.xcp_base.specs.declared.item.Item.TheVariants.{Sample}
+use Rattle.xcp_base.specs.Samples.{SampleParts}
 use Rattle.xcp_base.specs.Packets.{ArePackets}
-use Rattle.transmitter.specs.Merge.{Takes}
-use Rattle.transmitter.specs.Inner.Turns.{taken_at}
+use Rattle.transmitter.specs.Merge.{Takes, of_ring}
+use Rattle.transmitter.specs.Inner.Turns.{TakesFirst}
 use Rattle.transmitter.specs.Written.{transmission}
-use Rattle.transmitter.proofs.WrittenLemmas.{leads-broken, leads-marker, leads-sample}
+use Rattle.transmitter.proofs.TakenLemmas.{none_known, same_first, takes-append}
+use Rattle.transmitter.proofs.WrittenLemmas.{leads-broken, leads-marker, leads-none, leads-sample}
 use Rattle.transmitter.proofs.transmitter.Transmitter.turn.Goals as goal
 
--- the item that was taken, by what it is
-takes_that : {r s k l : List (List Item)} (c : ℕ) (o : Option Item) (x y : Item) → o ≡ Some x → x ≡ y → Takes r s k l (taken_at c o) → Takes r s k l ((c, y) ∷ [])
-takes_that {r} {s} {k} {l} c o x y is same takes = subst (λ z. Takes r s k l ((c, z) ∷ [])) same (subst (λ z. Takes r s k l (taken_at c z)) is takes)
+-- behind a look, what was let go is the item that was first
+takes_that : {r s t k l m : List (List Item)} (c : ℕ) (x y : Item) → Takes r s k l [] → IsPrefix (x ∷ []) (of_ring l c) → x ≡ y → TakesFirst c s t l m → Takes r t k m ((c, y) ∷ [])
+takes_that {r} {s} {t} {k} {l} {m} c x y looked first is taken =
+    let same : taken.0 ≡ y = same_first taken.0 x (of_ring l c) taken.1 first ∙ is in
+    subst (λ z. Takes r t k m ((c, z) ∷ [])) same (takes-append r s t k l m [] ((c, taken.0) ∷ []) looked taken.2)
+
+-- samples that are one item are one sample
+of_samples : {r s : SampleParts} → ◌≡◌ {A = Item} (Sample r) (Sample s) → r ≡ s
+of_samples e = cc
 
 -- one sample more of a list
 one_more : (w : List ℕ) (k l : ℕ) → k < length w → slice_index (set w k (get_or w k 0 + 1)) l ≡ slice_index w l + (0 + cond (eqb k l) 1 0)
 one_more w k l h = grind (arith, nat_tests, common_steps, get_or-set_same, get_or-set_other)
+
+pub returns-then-not-look_for-clause-turn : goal.returns-then-not-look_for-clause-turn
+returns-then-not-look_for-clause-turn g c =
+    let a = transmission g.O.Out g.T.TakeEnd c.args.self.now in
+    let e = c.look_for.ensures in (
+      c.requires.nothing_in_hand,
+      leads-none a _ e.rings_stay e.looks refl refl refl refl,
+      none_known _ _ _ _ c.args.c e.looks (λ h. false≢true (sym c.if-not-look_for.true ∙ e.value.1 h)),
+    )
 
 pub returns-in-Marker-clause-turn : goal.returns-in-Marker-clause-turn
 returns-in-Marker-clause-turn g c =
     let a = transmission g.O.Out g.T.TakeEnd c.args.self.now in
     let m = c.in-Marker.marker in
     let none = c.requires.nothing_in_hand in
-    let takes = takes_that c.args.c _ _ _ c.in-Some.is c.in-Marker.is c.take_from.ensures.takes in
-    (m, none, leads-marker a _ c.args.c m none none c.take_from.ensures.rings takes refl refl refl, c.list.ensures.value, c.list.ensures.below)
+    let takes = takes_that c.args.c _ _ c.look_for.ensures.looks c.first_of.ensures c.in-Marker.is c.let_go.ensures.takes in
+    (m, none, leads-marker a _ c.args.c m none none (c.let_go.ensures.rings_stay ∙ c.look_for.ensures.rings_stay) takes refl refl refl, c.list-list.ensures.value, c.list-list.ensures.below)
 
 pub returns-then-write_all-clause-turn : goal.returns-then-write_all-clause-turn
 returns-then-write_all-clause-turn g c =
     let a = transmission g.O.Out g.T.TakeEnd c.args.self.now in
     let r = c.in-Sample.sample in
     let none = c.requires.nothing_in_hand in
-    let takes = takes_that c.args.c _ _ _ c.in-Some.is c.in-Sample.is c.take_from.ensures.takes in
+    let takes = takes_that c.args.c _ _ c.look_for.ensures.looks c.first_of.ensures c.in-Sample.is c.let_go-then-write_all.ensures.takes in
     let qs = c.packets.ensures.value in
     let size : c.len-frames.result ≡ length r.packets = c.len-frames.ensures.value ∙ ap length qs in
     let after = rw c.packets-in-Sample.ensures.value at (c.if-write_all.ensures.all refl) in
-    let of = c.list-list.ensures.value in
-    (r, none, leads-sample a _ c.args.c r none none c.take_from.ensures.rings takes refl after (subst ArePackets qs c.len-frames.ensures.each) (λ l. rw (← of) (one_more c.args.self.now.written c.list-list.result l (omega arith))), size, c.len-frames.ensures.limit)
+    let of = c.list-list-in-Sample.ensures.value in
+    (r, none, leads-sample a _ c.args.c r none none (c.let_go-then-write_all.ensures.rings_stay ∙ c.look_for.ensures.rings_stay) takes refl after (subst ArePackets qs c.len-frames.ensures.each) (λ l. rw (← of) (one_more c.args.self.now.written c.list-list-in-Sample.result l (omega arith))), size, c.len-frames.ensures.limit)
 
 pub returns-else-write_all-clause-turn : goal.returns-else-write_all-clause-turn
 returns-else-write_all-clause-turn g c =
     let a = transmission g.O.Out g.T.TakeEnd c.args.self.now in
-    let r = c.in-Sample.sample in
+    let r = c.take_sample.result in
+    let e = c.take_sample.ensures in
     let none = c.requires.nothing_in_hand in
-    let takes = takes_that c.args.c _ _ _ c.in-Some.is c.in-Sample.is c.take_from.ensures.takes in
+    let there : List Item = of_ring (map g.T.TakeEnd.known c.look_for.new.ends.items) c.args.c in
+    let same : r ≡ c.in-Sample.sample = of_samples (same_first (Sample r) (Sample c.in-Sample.sample) there e.first (subst (λ x. IsPrefix (x ∷ []) there) c.in-Sample.is c.first_of.ensures)) in
+    let takes = takes-append _ _ _ _ _ _ [] ((c.args.c, Sample r) ∷ []) c.look_for.ensures.looks e.takes in
     let breaks = rw c.packets-in-Sample.ensures.value at (c.if-write_all.ensures.part refl) in
-    (r, refl, leads-broken a _ c.args.c r none refl c.take_from.ensures.rings takes refl breaks refl)
+    (r, refl, leads-broken a _ c.args.c r none refl (e.rings_stay ∙ c.look_for.ensures.rings_stay) takes refl (rw same breaks) refl)
