@@ -84,6 +84,7 @@ pub(crate) fn pump_step<O: Out, T: Beside>(
     ensures roomy { AreRoomy T.Send.SendEnd T.Send.End.RingEnd samplers.new.items
         (transmission O.Out T.TakeEnd transmitter.new) }
 {
+    // the pump is to find all that was sent
     look(samplers, transmitter);
     let answer = transmitter.pump();
     look(samplers, transmitter);
