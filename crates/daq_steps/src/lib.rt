@@ -6,6 +6,8 @@ mod asking;
 mod cause;
 mod doing;
 pub mod laws;
+mod sampling;
 
 pub use cause::Cause;
 pub use doing::{do_step, do_steps};
+pub use sampling::ask;
