@@ -1,4 +1,9 @@
 pub mod ItemLemmas
+pub mod TakenLemmas
 pub mod DrainLemmas
 pub mod RunLemmas
+pub mod WorkLemmas
+pub mod AmpleLemmas
+pub mod ApartLemmas
+pub mod ThreadLemmas
 pub mod SetUpLemmas

@@ -1,5 +1,5 @@
 -- From an engine that was opened and did its steps to a run.
-use Rattle.std.proofs.Common.{◌≡◌, ◌⊎◌, ℕ, zero, suc, ◌*◌, ◌<◌, ◌≤◌, inl, inr, All, true, List, [], ◌∷◌, length, map, take, Option, Some, None, refl, sym, ap, ap₂, subst, ◌∙◌, arith}
+use Rattle.std.proofs.Common.{◌≡◌, ◌⊎◌, ℕ, ◌*◌, ◌<◌, ◌≤◌, inl, inr, All, true, List, length, map, take, Some, sym, ap, ap₂, subst, ◌∙◌, arith}
 use Rattle.std.specs.Prelude.{slice_get, slice_index}
 use Rattle.std.proofs.lemmas.List.{get_or-map, length-map}
 use Rattle.std.proofs.lemmas.List.Elements.{All-get_or}
@@ -26,25 +26,14 @@ use Rattle.daq_steps.specs.Answers.{AreAnswered, Setting}
 use Rattle.daq_steps.specs.Runs.{AreDone, HasDone, TakesFront, past_after, sent_in, settings_of, taken_in, told_of}
 use Rattle.daq_steps.specs.Steps.{asked_of, run_step}
 use Rattle.daq_steps.proofs.AskLemmas.{read_at, sampler_at}
-use Rattle.daq_steps.proofs.StepLemmas.{few_taken, sent_stands}
+use Rattle.daq_steps.proofs.StepLemmas.{decided, few_taken, sent_stands}
 use Rattle.daq_run.specs.Faults.{StandsAtFault, StopsBehind}
 use Rattle.daq_run.specs.Opened.{IsOpened}
 use Rattle.daq_run.specs.Runs.{ComesTo, HasRun, setting_of}
 use Rattle.daq_run.specs.declared.sim_fault.SimFault.{SimFault}
 use Rattle.daq_run.specs.declared.sim_fault.SimFault.TheVariants.{EndLost, Memory}
-use Rattle.daq_run.proofs.DrainLemmas.{few_drained}
+use Rattle.daq_run.proofs.DrainLemmas.{few_at_last}
 use Rattle.daq_run.proofs.ItemLemmas.{few_sent}
-
--- no ring, no items
-none_beyond : (lists : List (List Item)) (c : ℕ) → length lists ≤ c → of_ring lists c ≡ []
-none_beyond [] c h = refl
-none_beyond (xs ∷ lists) zero h = absurd (omega (arith, h))
-none_beyond (xs ∷ lists) (suc c) h = none_beyond lists c (omega (arith, h))
-
-end_beyond : {X : Type 0} (xs : List X) (c : ℕ) → slice_get xs c ≡ None → length xs ≤ c
-end_beyond [] c is = omega arith
-end_beyond (x ∷ xs) zero is = absurd cc
-end_beyond (x ∷ xs) (suc c) is = omega (arith, end_beyond xs c is)
 
 -- what all of some have, one of them has
 all_at : {X : Type 0} (f : X → ℕ) (n : ℕ) (xs : List X) (k : ℕ) → All (λ x. f x ≡ n) xs → k < length xs → slice_index (map f xs) k ≡ n
@@ -60,7 +49,7 @@ module _ {S E : Type 0} (send : SendGhosts S E) (ring : EndGhosts E) (cost : rin
       ∙ (sym (length-map a.samplers (λ (s : SamplerState S). s.channel)) ∙ (ap length opened.opened.channels ∙ (length-upto 0 opened.store.profile.channels ∙ ap (λ p. p.channels) opened.set_up.store.profile)))
 
   -- the samplers go by what the run says
-  setting : (c : ℕ) → c < run.channels → settings_of send ring b.samplers c ≡ setting_of run c
+  pub setting : (c : ℕ) → c < run.channels → settings_of send ring b.samplers c ≡ setting_of run c
   setting c within =
       let images : slice_index (map (λ (s : SamplerState S). s.image_len) b.samplers) c ≡ run.image_len =
       ap (λ xs. slice_index xs c) stay.image_lens
@@ -99,13 +88,16 @@ module _ {S E : Type 0} (send : SendGhosts S E) (ring : EndGhosts E) (cost : rin
 
     pub has_run : HasRun run before refused
     has_run = record {
-      store = opened.store;
       writer = opened.writer;
-      set_up = opened.set_up;
-      some_list_runs = opened.running;
       past = h.past;
-      openings = opening;
-      drops = drops;
+      has_pasts = record {
+        store = opened.store;
+        set_up = opened.set_up;
+        some_list_runs = opened.running;
+        openings = opening;
+        decided = λ c within. decided send ring b (record { start = opened.writer; past = h.past; taken = taken_in h.done }) h.stands c (within_samplers c within);
+        drops = drops;
+      };
       done = h.done;
       counted = h.counted;
       transmitter = b.transmitter;
@@ -129,15 +121,14 @@ module _ {S E : Type 0} (send : SendGhosts S E) (ring : EndGhosts E) (cost : rin
           ∙ (ap (λ (lists : List (List Item)). of_ring lists c) closes.sent ∙ sent_stands send ring b standing h.stands c (within_samplers c (within_ends c e at)))
 
       -- what each channel sent, and the pumps took, is little
-      few_each : (c : ℕ) (at : Option JoinedEnd) → slice_get ends c ≡ at → length (of_ring (sent_by ends) c) ≤ 16000000
-      few_each c (Some e) is =
-          let within = within_ends c e is in
-          let few = few_sent (setting_of run c) c (map run_step run.steps) (told_of c h.done) (h.past c) opened.store (are_done.answered c within) (opening c within) opened.few_lists (let many = length-map run.steps run_step in let l = opened.limits.steps in omega (arith, many, l)) in
-          omega (arith, few, ap length (sent_at ends c e is), ap length (sent c e is))
-      few_each c None is =
-          let beyond = end_beyond ends c is in
-          let many = length-map ends (λ (e : JoinedEnd). e.sent) in
-          omega (arith, ap length (none_beyond (sent_by ends) c (omega (arith, beyond, many))))
+      few : (c : ℕ) → c < length ends → length (sent_in (h.past c)) ≤ 16000000
+      few c at =
+          let many = closes.as_many in
+          let all = as_many in
+          let within : c < run.channels = omega (arith, at, many, all) in
+          let steps = length-map run.steps run_step in
+          let l = opened.limits.steps in
+          few_sent (setting_of run c) c (map run_step run.steps) (told_of c h.done) (h.past c) opened.store (are_done.answered c within) (opening c within) opened.few_lists (omega (arith, steps, l))
 
       few_before : b.transmitter.taken ≤ 8000000
       few_before =
@@ -149,15 +140,14 @@ module _ {S E : Type 0} (send : SendGhosts S E) (ring : EndGhosts E) (cost : rin
           let all = h.stands.transmitter.taken in
           omega (arith, all, taken, one, rows, columns)
 
-      few_at_last : run.drain ≡ true → closes.closed.last.taken < MAX_TAKEN
-      few_at_last wanted =
-          let drained = subst (λ d. WasDrained d (sent_by ends) b.transmitter closes.closed.last) wanted closes.closed.drained in
-          let many = length-map ends (λ (e : JoinedEnd). e.sent) in
-          let ends_many = closes.as_many in
+      few_drained : run.drain ≡ true → closes.closed.last.taken < MAX_TAKEN
+      few_drained wanted =
+          let many = closes.as_many in
           let all = as_many in
-          let few = opened.limits.channels in
-          few_drained (sent_by ends) b.transmitter closes.closed.last few_before (λ c. few_each c (slice_get ends c) refl)
-          (λ c above. ap length (none_beyond (sent_by ends) c (omega (arith, many, ends_many, all, few, above)))) drained.0 drained.1
+          let eight = opened.limits.channels in
+          let before = few_before in
+          few_at_last ends h.past (omega (arith, many, all, eight)) sent few b.transmitter closes.closed.last (omega (arith, before))
+          (subst (λ d. WasDrained d (sent_by ends) b.transmitter closes.closed.last) wanted closes.closed.drained)
 
       pub comes_to : ComesTo run before refused report after
       unfolding has_run
@@ -168,7 +158,7 @@ module _ {S E : Type 0} (send : SendGhosts S E) (ring : EndGhosts E) (cost : rin
           as_many = closes.as_many ∙ as_many;
           sent = sent;
           closed = closes.closed;
-          nothing_left = λ wanted good. closes.closed.nothing_left wanted good (few_at_last wanted);
+          nothing_left = λ wanted good. closes.closed.nothing_left wanted good (few_drained wanted);
         };
       }
 

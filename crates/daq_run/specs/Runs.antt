@@ -1,10 +1,12 @@
 -- What a run comes to (own).
 use Rattle.std.specs.Prelude.{◌≡◌, ℕ, ◌<◌, true, false, List, count_by, length, map, slice_get}
 use Rattle.std.specs.Prelude.{slice_index, Some}
+use Rattle.xcp_base.specs.declared.item.Item.{Item}
 use Rattle.daq_store.specs.Standing.{StoreState}
 use Rattle.frame_writer.specs.Shown.{OutState}
 use Rattle.frame_writer.specs.Writing.{WriterState}
 use Rattle.run_file.specs.RunFile.{RunData}
+use Rattle.sampler.specs.History.{due}
 use Rattle.sampler.specs.Past.{Past}
 use Rattle.sampler.specs.Standing.{DropsOnlyWhenFull}
 use Rattle.sampler.specs.State.{JoinedEnd}
@@ -26,19 +28,28 @@ setting_of run c = record {
   cost = λ item. 1;
 }
 
--- a run was set up and opened, and its steps were done one after another, of which so many were
--- refused
-pub record HasRun (run : RunData) (before : OutState) (refused : ℕ) : Type 0 where
+-- a run was set up and opened, with the replies written by that writer. Its channels have come to
+-- these pasts: each with its opening in the store, a decision for each list that it found due, and
+-- drops only within the bound
+pub record HasPasts (run : RunData) (before : OutState) (writer : WriterState) (past : ℕ → Past)
+    : Type 0 where
   pub store : StoreState
-  pub writer : WriterState
   pub set_up : IsSetUp run before store writer
   pub some_list_runs : some_list_runs store ≡ true
-  -- what each channel had behind it at last
-  pub past : ℕ → Past
   pub openings : (c : ℕ) → c < run.channels → IsOpeningOf store c (past c).opening
+  pub decided :
+      (c : ℕ) → c < run.channels
+      → length (past c).decisions ≡ length (due (past c).opening (past c).history)
   pub drops :
       (c : ℕ) → c < run.channels
       → DropsOnlyWhenFull (setting_of run c).capacity (setting_of run c).cost (past c)
+
+-- the steps of such a run were done one after another, of which so many were refused
+pub record HasRun (run : RunData) (before : OutState) (refused : ℕ) : Type 0 where
+  pub writer : WriterState
+  -- what each channel had behind it at last
+  pub past : ℕ → Past
+  pub has_pasts : HasPasts run before writer past
   -- what was done, and what the transmitter of that writer took and wrote
   pub done : List Done
   pub counted : refused ≡ count_by is_refused done
@@ -48,25 +59,25 @@ pub record HasRun (run : RunData) (before : OutState) (refused : ℕ) : Type 0 w
       AreDone run.channels (setting_of run) (map run_step run.steps) transmitter.writer.closed past
       done
 
--- then its engine was closed, after a drain where the run says so. The ends are those of its
--- channels, and tell what these sent
-pub record IsClosed (run : RunData) (before : OutState) (refused : ℕ)
-    (r : HasRun run before refused) (report : Report) (after : OutState)
+-- the engine of a run, whose transmitter had taken these items, was closed, after a drain where the
+-- run says so. The ends are those of its channels, and tell what these sent
+pub record IsClosed (run : RunData) (writer : WriterState) (past : ℕ → Past)
+    (taken : List (ℕ × Item)) (transmitter : TransmitterState) (report : Report) (after : OutState)
     : Type 0 where
   pub ends : List JoinedEnd
   pub as_many : length ends ≡ run.channels
-  pub sent :
-      (c : ℕ) (e : JoinedEnd) → slice_get ends c ≡ Some e → e.sent ≡ sent_in (r.past c)
-  pub closed :
-      HasClosed run.drain r.writer (taken_in r.done) r.transmitter ends r.past report after
+  pub sent : (c : ℕ) (e : JoinedEnd) → slice_get ends c ≡ Some e → e.sent ≡ sent_in (past c)
+  pub closed : HasClosed run.drain writer taken transmitter ends past report after
   pub nothing_left :
       run.drain ≡ true → report.failed ≡ false
-      → LeavesNothing ends r.past report closed.headline.frames
+      → LeavesNothing ends past report closed.headline.frames
 
--- a run came to this: the replies to its set-up and the frames of its engine, the account, and how
--- many of its steps were refused
+-- a run in one thread came to this: the replies to its set-up and the frames of its engine, the
+-- account, and how many of its steps were refused
 pub record ComesTo (run : RunData) (before : OutState) (refused : ℕ) (report : Report)
     (after : OutState)
     : Type 0 where
   pub has_run : HasRun run before refused
-  pub closed : IsClosed run before refused has_run report after
+  pub closed :
+      IsClosed run has_run.writer has_run.past (taken_in has_run.done) has_run.transmitter report
+      after

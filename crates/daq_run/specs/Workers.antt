@@ -1,0 +1,68 @@
+-- What the threads of the event channels do (own).
+use Rattle.std.specs.Prelude.{◌≡◌, ℕ, ◌+◌, Bool, false, List, [], ◌∷◌, nat_eq}
+use Rattle.std.specs.Prelude.{IfSome, Option, count_by}
+use Rattle.channel_ring.specs.declared.ends.SendEnd.{Ghosts as SendGhosts}
+use Rattle.channel_ring.specs.declared.ends.RingEnd.{Ghosts as EndGhosts}
+use Rattle.sampler.specs.History.{Event, Opening}
+use Rattle.sampler.specs.Past.{Past, first_past}
+use Rattle.sampler.specs.Standing.{EndStandsAfter, StandsAfter}
+use Rattle.sampler.specs.State.{JoinedEnd, SamplerEndState, SamplerState, joined}
+use Rattle.transmitter.specs.Pumps.{TakesMore}
+use Rattle.transmitter.specs.Written.{TransmitterState}
+use Rattle.daq_steps.specs.Answers.{Answered, AreAnswered, Setting}
+use Rattle.daq_steps.specs.Samplings.{setting_at, was_refused}
+use Rattle.daq_steps.specs.Steps.{Ask, Pump, RunStep, asked_of}
+
+-- the step is of channel c
+abbrev pub is_of : ℕ → RunStep → Bool
+is_of c (Ask k event) = nat_eq c k
+is_of c Pump = false
+
+-- from its opening on, the sampler of which this is the end was asked for these, of which so many
+-- were refused
+pub record EndHasAnswered (s : Setting) (e : JoinedEnd) (opening : Opening) (asked : List Event)
+    (refused : ℕ)
+    : Type 0 where
+  pub past : Past
+  pub opened : past.opening ≡ opening
+  pub told : List Answered
+  pub answered : AreAnswered s asked told past
+  pub counted : refused ≡ count_by was_refused told
+  pub stands : EndStandsAfter e past
+
+-- what is left of a sampler that was asked for what the steps ask of its channel, of which so many
+-- were refused
+pub record IsLeftOf {S E : Type 0} (send : SendGhosts S E) (ring : EndGhosts E)
+    (before : SamplerState S) (steps : List RunStep) (left : SamplerEndState E) (refused : ℕ)
+    : Type 0 where
+  pub channel : left.channel ≡ before.channel
+  pub one_ring : ring.ring left.end ≡ send.ring before.end
+  pub capacity : left.capacity ≡ send.capacity before.end
+  pub answers :
+      (opening : Opening) → StandsAfter send ring before (first_past opening)
+      → EndHasAnswered (setting_at send ring before) (joined ring left) opening
+      (asked_of before.channel steps) refused
+
+-- a sampler did the steps of its channel, of which so many were refused, and was finished: what is
+-- left of it, where anything is
+abbrev pub HasWorked :
+    {S E : Type 0} → SendGhosts S E → EndGhosts E → SamplerState S → List RunStep
+    → Option (SamplerEndState E) → ℕ → Type 0
+HasWorked send ring before steps end refused =
+    IfSome end (λ left. IsLeftOf send ring before steps left refused)
+
+-- so did some samplers: what is left of each, in their order, and so many were refused in all
+abbrev pub HaveWorked :
+    {S E : Type 0} → SendGhosts S E → EndGhosts E → List (SamplerState S) → List RunStep
+    → List (SamplerEndState E) → ℕ → Type 0
+HaveWorked send ring [] steps [] refused = refused ≡ 0
+HaveWorked send ring (s ∷ samplers) steps (e ∷ ends) refused =
+    (own : ℕ) × IsLeftOf send ring s steps e own
+    × ((others : ℕ) × HaveWorked send ring samplers steps ends others
+    × (refused ≡ own + others))
+HaveWorked send ring _ steps _ refused = ⊥
+
+-- a transmitter took some items more of the same rings, or none
+pub record KeepsTaking (before after : TransmitterState) : Type 0 where
+  pub more : TakesMore before after
+  pub rings : after.rings ≡ before.rings

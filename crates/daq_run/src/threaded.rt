@@ -1,0 +1,254 @@
+//! A whole run with a thread for each event channel.
+ghost use Rattle.std.specs.Prelude.{◌≡◌, ◌≤◌, All, IfErr, IfOk, map};
+ghost use Rattle.std.specs.Prelude.{true, vec_capacity, vec_len};
+ghost use Rattle.xcp_base.specs.declared.limits.TheConstants.{MAX_CHANNELS};
+ghost use Rattle.frame_writer.specs.Shown.{shown};
+ghost use Rattle.run_file.specs.RunFile.{RunData};
+ghost use Rattle.transmitter.specs.Written.{transmission};
+ghost use Rattle.daq_steps.specs.Steps.{run_step};
+ghost use Rattle.daq_run.specs.Threads.{MayComeLate, ThreadsComeTo, ThreadsStandAtFault};
+ghost use Rattle.daq_run.specs.Workers.{HaveWorked, KeepsTaking};
+
+use crate::gate::Gate;
+use crate::meanwhile::{Flags, Meanwhile, Pumping, take_back};
+use crate::outcome::Outcome;
+use crate::set_up::opened;
+use crate::sim_fault::SimFault;
+use crate::worker::{WillWork, Worked, work};
+use channel_ring::{RingEnd, SendEnd, TakeEnd};
+use daq_engine::{CloseFault, drain_and_close};
+use frame_writer::Out;
+use run_file::Run;
+use sampler::{Sampler, SamplerEnd};
+use std::alloc::Global;
+use std::snapshot::Snapshot;
+use std::sync::Wait;
+use std::sync::atomic::AtomicBool;
+use std::thread::{self, PromisedHandle, Scope, Threads};
+use transmitter::Transmitter;
+
+/// A thread of a sampler.
+type Worker<'a, S> = PromisedHandle<Worked<<S as SendEnd>::End>, WillWork<'a, S>>;
+
+/// Carries out a run with one thread for each event channel, which does that channel's steps in
+/// order; pump steps are passed over. The transmitter pumps in the caller's thread until each
+/// sampler was finished in its own. Then come a drain, where the run says so, and the account. It
+/// may wait.
+///
+/// The steps go on where the writer fails; the report says that it failed. Refused with `Memory`,
+/// `NothingRunning` where after the set-up no DAQ list runs, `SetupWrite` where a reply isn't
+/// written whole, `EndLost`, or `NoThread` where a thread can't be had; then those that run are
+/// joined first. The writer comes back with what was written until then.
+pub fn run_threads<R: Threads + Wait + Sync, O: Out, G: Gate + Sync>(
+    rt: &R,
+    alloc: Global,
+    run: &Run,
+    out: O,
+    gate: &G,
+) -> Result<Outcome<O>, (SimFault, O)>
+    ensures ok { IfOk result (λ outcome. ThreadsComeTo run.now (shown O.Out out)
+        outcome.refused outcome.report (shown O.Out outcome.out)) }
+    ensures fault { IfErr result (λ e. ThreadsStandAtFault run.now (shown O.Out out)
+        (shown O.Out e.1) e.0) }
+{
+    let engine = opened(alloc, run, out)?;
+    let (samplers, mut transmitter) = engine.into_parts();
+    let (ends, refused) = match work_and_pump(rt, alloc, samplers, &mut transmitter, run, gate) {
+        Ok(worked) => worked,
+        Err(fault) => return Err((fault, transmitter.into_writer().into_out())),
+    };
+    match drain_and_close(alloc, transmitter, ends, run.drain()) {
+        Ok((report, out)) => Ok(Outcome {
+            refused,
+            report,
+            out,
+        }),
+        Err((CloseFault::Memory, transmitter, _ends)) => {
+            Err((SimFault::Memory, transmitter.into_writer().into_out()))
+        }
+        Err((CloseFault::WrongEnds, _transmitter, _ends)) => unreachable!(),
+    }
+}
+
+/// Runs each sampler in a thread of its own, and pumps in the caller's until each was finished:
+/// what is left of the samplers, in their order, and how many of their steps were refused.
+fn work_and_pump<R: Threads + Wait + Sync, S: SendEnd + Send, O: Out, T: TakeEnd, G: Gate + Sync>(
+    rt: &R,
+    alloc: Global,
+    samplers: Vec<Sampler<S>>,
+    transmitter: &mut Transmitter<O, T>,
+    run: &Run,
+    gate: &G,
+) -> Result<(Vec<SamplerEnd<S::End>>, u64), SimFault>
+where
+    S::End: Send,
+    requires few { vec_len samplers ≤ MAX_CHANNELS }
+    ensures worked { IfOk result (λ r. HaveWorked S.SendEnd S.End.RingEnd
+        samplers.items (map run_step run.now.steps) r.0.items r.1) }
+    ensures late { IfErr result MayComeLate }
+    ensures takes { KeepsTaking (transmission O.Out T.TakeEnd transmitter.old)
+        (transmission O.Out T.TakeEnd transmitter.new) }
+{
+    let ended = no_flags();
+    let pumping = Pumping {
+        rt,
+        transmitter: &mut *transmitter,
+        gate,
+        ended: &ended,
+    };
+    let (worked, lent) = work_beside(rt, alloc, samplers, run, gate, &ended, pumping);
+    take_back(lent);
+    worked
+}
+
+/// No thread has ended.
+fn no_flags() -> Flags {
+    [
+        AtomicBool::new(false),
+        AtomicBool::new(false),
+        AtomicBool::new(false),
+        AtomicBool::new(false),
+        AtomicBool::new(false),
+        AtomicBool::new(false),
+        AtomicBool::new(false),
+        AtomicBool::new(false),
+    ]
+}
+
+/// Runs each sampler in a thread of its own, and `meanwhile` in the caller's: what is left of the
+/// samplers, in their order, and how many of their steps were refused.
+fn work_beside<
+    'e,
+    R: Threads + Wait + Sync,
+    S: SendEnd + Send + 'e,
+    G: Gate + Sync + 'e,
+    M: Meanwhile + Drop,
+>(
+    rt: &'e R,
+    alloc: Global,
+    samplers: Vec<Sampler<S>>,
+    run: &'e Run,
+    gate: &'e G,
+    ended: &'e Flags,
+    meanwhile: M,
+) -> (Result<(Vec<SamplerEnd<S::End>>, u64), SimFault>, M::Output)
+where
+    S::End: Send + 'e,
+    requires few { vec_len samplers ≤ MAX_CHANNELS }
+    ensures worked { IfOk result.0 (λ r. HaveWorked S.SendEnd S.End.RingEnd
+        samplers.items (map run_step run.now.steps) r.0.items r.1) }
+    ensures late { IfErr result.0 MayComeLate }
+    ensures meanwhile { M.gives meanwhile result.1 }
+{
+    thread::scope(
+        thread::scope_env(),
+        rt,
+        |scope| -> (Result<(Vec<SamplerEnd<S::End>>, u64), SimFault>, M::Output)
+            requires { vec_len samplers ≤ MAX_CHANNELS }
+            ensures worked { IfOk result.0 (λ r. HaveWorked S.SendEnd S.End.RingEnd
+                samplers.items (map run_step run.entry.now.steps) r.0.items r.1) }
+            ensures late { IfErr result.0 MayComeLate }
+            ensures meanwhile { M.gives meanwhile result.1 }
+        { in_scope(rt, alloc, scope, samplers, run, gate, ended, meanwhile) },
+    )
+}
+
+/// The same in a scope of threads.
+fn in_scope<'s, 'e, R: Threads, S: SendEnd + Send + 'e, G: Gate + Sync + 'e, M: Meanwhile>(
+    rt: &R,
+    alloc: Global,
+    scope: &'s Scope<'s, &'e ()>,
+    samplers: Vec<Sampler<S>>,
+    run: &'e Run,
+    gate: &'e G,
+    ended: &'e Flags,
+    meanwhile: M,
+) -> (Result<(Vec<SamplerEnd<S::End>>, u64), SimFault>, M::Output)
+where
+    S::End: Send + 'e,
+    requires few { vec_len samplers ≤ MAX_CHANNELS }
+    ensures worked { IfOk result.0 (λ r. HaveWorked S.SendEnd S.End.RingEnd
+        samplers.items (map run_step run.now.steps) r.0.items r.1) }
+    ensures late { IfErr result.0 MayComeLate }
+    ensures meanwhile { M.gives meanwhile result.1 }
+{
+    let Ok(workers) = Vec::with_capacity(alloc, samplers.len()) else {
+        return (Err(SimFault::Memory), meanwhile.run(0));
+    };
+    let Ok(ends) = Vec::with_capacity(alloc, samplers.len()) else {
+        return (Err(SimFault::Memory), meanwhile.run(0));
+    };
+    let (workers, all) = start_all(scope, samplers, workers, run, gate, ended);
+    let done = meanwhile.run(workers.len());
+    let joined = join_all(rt, workers, ends);
+    if !all {
+        return (Err(SimFault::NoThread), done);
+    }
+    (joined, done)
+}
+
+/// Starts a thread for each of the samplers, up to the first for which none can be had, and tells
+/// whether all were started.
+fn start_all<'s, 'e, S: SendEnd + Send + 'e, G: Gate + Sync + 'e>(
+    scope: &'s Scope<'s, &'e ()>,
+    samplers: Vec<Sampler<S>>,
+    room: Vec<Worker<'e, S>>,
+    run: &'e Run,
+    gate: &'e G,
+    ended: &'e Flags,
+) -> (Vec<Worker<'e, S>>, bool)
+where
+    S::End: Send + 'e,
+    requires few { vec_len samplers ≤ MAX_CHANNELS }
+    requires empty { vec_len room ≡ 0 }
+    requires enough { vec_len samplers ≤ vec_capacity room }
+    ensures of_samplers { result.1 ≡ true
+        → map (λ h. h.promise.sampler.value) result.0.items ≡ samplers.items }
+    ensures of_run { All (λ h. h.promise.run.now ≡ run.now) result.0.items }
+    ensures few { vec_len result.0 ≤ vec_len samplers }
+{
+    let mut workers = room;
+    for sampler in samplers {
+        let flag = &ended[workers.len()];
+        let promise = WillWork {
+            sampler: Snapshot::of(&sampler),
+            run,
+        };
+        match scope.spawn_with(promise, move || work(sampler, run, gate, flag)) {
+            Ok(worker) => workers.push_reserved(worker),
+            Err(_) => return (workers, false),
+        }
+    }
+    (workers, true)
+}
+
+/// Joins the threads: what is left of the samplers, in the order of the threads and in the room
+/// that was made for it, and how many of their steps were refused. The scope waits for a thread
+/// that isn't joined.
+fn join_all<'e, R: Threads, S: SendEnd>(
+    rt: &R,
+    workers: Vec<Worker<'e, S>>,
+    room: Vec<SamplerEnd<S::End>>,
+) -> Result<(Vec<SamplerEnd<S::End>>, u64), SimFault>
+    requires few { vec_len workers ≤ MAX_CHANNELS }
+    requires empty { vec_len room ≡ 0 }
+    requires enough { vec_len workers ≤ vec_capacity room }
+    ensures worked { IfOk result (λ r. (run : RunData)
+        → All (λ h. h.promise.run.now ≡ run) workers.entry.items
+        → HaveWorked S.SendEnd S.End.RingEnd
+        (map (λ h. h.promise.sampler.value) workers.entry.items) (map run_step run.steps)
+        r.0.items r.1) }
+    ensures late { IfErr result MayComeLate }
+{
+    let mut ends = room;
+    let mut refused = 0;
+    for worker in workers {
+        let Worked { end, refused: more } = worker.join(rt);
+        refused += more;
+        let Some(end) = end else {
+            return Err(SimFault::EndLost);
+        };
+        ends.push_reserved(end);
+    }
+    Ok((ends, refused))
+}

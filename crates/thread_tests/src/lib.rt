@@ -1,0 +1,13 @@
+//! The tests of runs with a thread for each event channel. As a library this crate is empty.
+#![tactic(auto)]
+
+#[cfg(test)]
+mod holds;
+#[cfg(test)]
+mod lists;
+#[cfg(test)]
+mod same;
+#[cfg(test)]
+mod schedules;
+#[cfg(test)]
+mod text;
