@@ -1,1 +1,4 @@
 pub mod Faults
+pub mod Printed
+pub mod Done
+pub mod Stops

@@ -1,8 +1,10 @@
 //! Carries a run out, and prints what came of it.
-ghost use Rattle.std.specs.Prelude.{◌≡◌, ◌≤◌, IfErr, IfOk, OnErr, string_bytes};
+ghost use Rattle.std.specs.Prelude.{◌≡◌, ◌↔◌, ◌≤◌, IfErr, IfOk, IsOk, OnErr, false};
 ghost use Rattle.std.specs.Io.KnownBytes.{Keeps};
-ghost use Rattle.hex.specs.Hex.{encode_lower};
-ghost use Rattle.daq_sim.specs.Faults.{want_of_memory};
+ghost use Rattle.frame_writer.specs.Shown.{shown};
+ghost use Rattle.daq_run.specs.Runs.{ComesTo};
+ghost use Rattle.daq_sim.specs.Done.{PrintsRun, in_hex, not_printed, nothing_written};
+ghost use Rattle.daq_sim.specs.Stops.{StopsOf};
 
 use crate::program_fault::ProgramFault;
 use crate::report_text::print_outcome;
@@ -23,6 +25,9 @@ pub fn to_file<R: Files, W: Write>(
     out: &mut W,
 ) -> Result<u8, ProgramFault>
     ensures status { IfOk result (λ status. status ≤ 1) }
+    ensures printed { IfOk result (λ status.
+        PrintsRun not_printed run.now status (W.contents out.old) (W.contents out.new)) }
+    ensures stops { IfErr result (StopsOf run.now) }
     ensures silent { OnErr result (Keeps (W.contents out.old) (W.contents out.new)) }
 {
     let file = match fs::create(rt, path) {
@@ -41,6 +46,9 @@ pub fn to_file<R: Files, W: Write>(
 /// Carries out a run whose frames are kept in memory, and prints them and the account.
 pub fn to_memory<W: Write>(alloc: Global, run: &Run, out: &mut W) -> Result<u8, ProgramFault>
     ensures status { IfOk result (λ status. status ≤ 1) }
+    ensures printed { IfOk result (λ status.
+        PrintsRun in_hex run.now status (W.contents out.old) (W.contents out.new)) }
+    ensures stops { IfErr result (StopsOf run.now) }
     ensures silent { OnErr result (Keeps (W.contents out.old) (W.contents out.new)) }
 {
     let Outcome {
@@ -54,13 +62,22 @@ pub fn to_memory<W: Write>(alloc: Global, run: &Run, out: &mut W) -> Result<u8, 
 }
 
 /// What comes of a run.
-fn outcome_of<O: Out + Drop>(alloc: Global, run: &Run, out: O) -> Result<Outcome<O>, ProgramFault> {
-    run_serial(alloc, run, out).map_err(|(fault, _)| ProgramFault::Sim(fault))
+fn outcome_of<O: Out + Drop>(alloc: Global, run: &Run, out: O) -> Result<Outcome<O>, ProgramFault>
+    requires unused { shown O.Out out ≡ nothing_written }
+    ensures ok { IfOk result (λ outcome. ComesTo run.now nothing_written
+        outcome.refused outcome.report (shown O.Out outcome.out)) }
+    ensures stops { IfErr result (StopsOf run.now) }
+{
+    match run_serial(alloc, run, out) {
+        Ok(outcome) => Ok(outcome),
+        Err((fault, _)) => Err(ProgramFault::Sim(fault)),
+    }
 }
 
 /// The status: 1 where the writer failed or the output can't be printed, else 0.
 pub fn status_of(printing: io::Result<()>, failed: bool) -> u8
-    ensures { result ≤ 1 }
+    ensures range { result ≤ 1 }
+    ensures well { (result ≡ 0) ↔ (IsOk printing × (failed ≡ false)) }
 {
     if failed || printing.is_err() { 1 } else { 0 }
 }

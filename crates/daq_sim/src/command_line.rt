@@ -1,10 +1,13 @@
 //! The program: from its words and streams to its status.
-ghost use Rattle.std.specs.Prelude.{◌≡◌, ◌≤◌, IfOk, OnErr};
+ghost use Rattle.std.specs.Prelude.{◌≡◌, ◌≤◌, IfErr, IfOk, IfSome, None, OnErr};
 ghost use Rattle.std.specs.Io.KnownBytes.{Keeps};
+ghost use Rattle.run_file.specs.RunFile.{IsRunText};
+ghost use Rattle.daq_sim.specs.Done.{PrintsText, frames_line_of};
+ghost use Rattle.daq_sim.specs.Stops.{StopsAt};
 
 use crate::carrying::{status_of, to_file, to_memory};
 use crate::program_fault::ProgramFault;
-use crate::run_text::text_from;
+use crate::run_text::run_from;
 use crate::words::{Asked, Words, read_words};
 use clap::Error;
 use run_file::Run;
@@ -50,12 +53,30 @@ fn answer<R: Files, I: Read + Drop, W: Write>(
     ensures status { IfOk result (λ status. status ≤ 1) }
     ensures silent { OnErr result (Keeps (W.contents out.old) (W.contents out.new)) }
 {
-    let Words { run, out: file } = match read_words(alloc, words)? {
-        Asked::Help(text) => return Ok(print_help(out, text)),
-        Asked::Run(words) => words,
-    };
-    let run = run_of(rt, alloc, run, input)?;
-    match file {
+    match read_words(alloc, words)? {
+        Asked::Help(text) => Ok(print_help(out, text)),
+        Asked::Run(words) => carry_out(rt, alloc, words, input, out),
+    }
+}
+
+/// Carries out the run that words name, and prints what came of it.
+fn carry_out<R: Files, I: Read + Drop, W: Write>(
+    rt: &R,
+    alloc: Global,
+    words: Words<'_>,
+    input: I,
+    out: &mut W,
+) -> Result<u8, ProgramFault>
+    ensures status { IfOk result (λ status. status ≤ 1) }
+    ensures silent { OnErr result (Keeps (W.contents out.old) (W.contents out.new)) }
+    ensures of_input { words.entry.run ≡ None → IfOk result (λ status.
+        IfSome (I.remaining input) (λ text. PrintsText (frames_line_of words.entry.out) text status
+        (W.contents out.old) (W.contents out.new))) }
+    ensures stops { words.entry.run ≡ None
+        → IfErr result (λ fault. IfSome (I.remaining input) (λ text. StopsAt text fault)) }
+{
+    let run = run_of(rt, alloc, words.run, input)?;
+    match words.out {
         Some(path) => to_file(rt, alloc, &run, path, out),
         None => to_memory(alloc, &run, out),
     }
@@ -74,21 +95,18 @@ fn run_of<R: Files, I: Read + Drop>(
     alloc: Global,
     path: Option<&str>,
     input: I,
-) -> Result<Run, ProgramFault> {
-    let text = match path {
-        Some(path) => text_of_file(rt, alloc, path)?,
-        None => {
-            let mut input = input;
-            text_from(alloc, &mut input)?
-        }
+) -> Result<Run, ProgramFault>
+    ensures ok { path.entry ≡ None → IfOk result (λ run.
+        IfSome (I.remaining input) (λ text. IsRunText text run)) }
+    ensures stops { path.entry ≡ None
+        → IfErr result (λ fault. IfSome (I.remaining input) (λ text. StopsAt text fault)) }
+{
+    let mut input = input;
+    let Some(path) = path else {
+        return run_from(alloc, &mut input);
     };
-    Ok(Run::read(alloc, &text)?)
-}
-
-/// The text of a file.
-fn text_of_file<R: Files>(rt: &R, alloc: Global, path: &str) -> Result<String, ProgramFault> {
     match fs::open(rt, path) {
-        Ok(mut file) => text_from(alloc, &mut file),
+        Ok(mut file) => run_from(alloc, &mut file),
         Err(error) => Err(ProgramFault::Unreadable.or_memory(&error)),
     }
 }

@@ -1,11 +1,15 @@
-//! The text of a run, from a file or from standard input.
-ghost use Rattle.std.specs.Prelude.{◌≡◌, ◌⊎◌, ◌<◌, ◌≤◌, IfErr, IfOk, OnOk, length, string_bytes, true};
+//! The run of a text, from a file or from standard input.
+ghost use Rattle.std.specs.Prelude.{◌≡◌, ◌⊎◌, ◌<◌, ◌≤◌, IfErr, IfOk, IfSome, OnOk, length};
+ghost use Rattle.std.specs.Prelude.{string_bytes, true};
 ghost use Rattle.std.specs.Io.{StartsWith, appended_bytes};
 ghost use Rattle.std.specs.Io.KnownBytes.{Consumes, IsAtEnd};
+ghost use Rattle.run_file.specs.RunFile.{IsRunText};
 ghost use Rattle.daq_sim.specs.declared.program_fault.ProgramFault.TheVariants.{Unreadable};
 ghost use Rattle.daq_sim.specs.Faults.{want_of_memory};
+ghost use Rattle.daq_sim.specs.Stops.{StopsAt};
 
 use crate::program_fault::ProgramFault;
+use run_file::Run;
 use std::alloc::Global;
 use std::io::{ErrorKind, Read};
 
@@ -18,12 +22,23 @@ const MAX_READS: usize = 67_108_864;
 /// How many bytes are asked for in one read.
 const CHUNK: usize = 65_536;
 
+/// Reads a run, from a text that is read to its end.
+pub fn run_from<I: Read>(alloc: Global, input: &mut I) -> Result<Run, ProgramFault>
+    ensures ok { IfOk result (λ run.
+        IfSome (I.remaining input.old) (λ text. IsRunText text run)) }
+    ensures stops { IfErr result (λ fault.
+        IfSome (I.remaining input.old) (λ text. StopsAt text fault)) }
+{
+    let text = text_from(alloc, input)?;
+    Ok(Run::read(alloc, &text)?)
+}
+
 /// Reads a text to its end.
 ///
 /// Refused where a read fails, but for an interruption, which counts as a read of no byte; where
 /// the text is longer than `MAX_TEXT`, or isn't at its end after `MAX_READS`; and where it isn't
 /// UTF-8.
-pub fn text_from<I: Read>(alloc: Global, input: &mut I) -> Result<String, ProgramFault>
+fn text_from<I: Read>(alloc: Global, input: &mut I) -> Result<String, ProgramFault>
     ensures whole { IfOk result (λ text.
         Consumes (I.remaining input.old) (I.remaining input.new) (string_bytes text)) }
     ensures end { OnOk result (IsAtEnd (I.remaining input.new)) }

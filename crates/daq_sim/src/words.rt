@@ -1,4 +1,7 @@
 //! The command line.
+ghost use Rattle.std.specs.Prelude.{◌≡◌, ◌⊎◌, IfErr};
+ghost use Rattle.daq_sim.specs.declared.program_fault.ProgramFault.TheVariants.{CommandLine};
+ghost use Rattle.daq_sim.specs.Faults.{want_of_memory};
 
 use crate::program_fault::ProgramFault;
 use clap::error::ErrorKind;
@@ -24,7 +27,9 @@ pub struct Words<'a> {
 }
 
 /// Reads the words behind the program's name.
-pub fn read_words<'a>(alloc: Global, words: &'a [String]) -> Result<Asked<'a>, ProgramFault> {
+pub fn read_words<'a>(alloc: Global, words: &'a [String]) -> Result<Asked<'a>, ProgramFault>
+    ensures { IfErr result (λ fault. (fault ≡ CommandLine) ⊎ (fault ≡ want_of_memory)) }
+{
     match command(alloc)?.try_get_matches_from(words) {
         Ok(matches) => Ok(Asked::Run(words_of(&matches))),
         Err(error) => match error.kind() {
