@@ -21,7 +21,7 @@ use Rattle.sampler.specs.declared.faults.TriggerFault.{TriggerFault}
 use Rattle.sampler.proofs.Histories.{append_nil, due-append, due-more, items-more, length-map_of, length-zip_same, slice_get-behind, zip-append}
 use Rattle.daq_steps.specs.declared.cause.Cause.{Cause}
 use Rattle.daq_steps.specs.declared.cause.Cause.TheVariants.{Start as OfStart, Stop as OfStop, Trigger as OfTrigger}
-use Rattle.daq_steps.specs.Answers.{Answered, ExceedsRoom, IsAnswer, Setting, accepted, accepted_in, refusal, until}
+use Rattle.daq_steps.specs.Answers.{Answered, ExceedsRoom, IsAnswer, Setting, accepted, accepted_event, refusal, until}
 use Rattle.daq_steps.proofs.DoneLemmas.{due_of_front}
 use Rattle.daq_run.specs.Ample.{AmpleRingsDropNothing, fit_events, no_drops, whole_past}
 
@@ -302,7 +302,7 @@ module _ (s : Setting) (past : Past) (told : List Answered)
       let later : h ++ fit_events s.image_len o h (e ∷ asked_in rest) ≡ H ++ fit_events s.image_len o H (asked_in rest) = ap (λ x. h ++ x) fits ∙ sym (append_assoc h (e ∷ []) (fit_events s.image_len o H (asked_in rest))) in
       let enough_on : units s.cost (whole_items o (H ++ fit_events s.image_len o H (asked_in rest))) ≤ s.capacity = subst (λ x. units s.cost (whole_items o x) ≤ s.capacity) later enough in
       let enough_here : units s.cost (whole_items o H) ≤ s.capacity = omega (arith, enough_on, whole-mono s.cost o H (fit_events s.image_len o H (asked_in rest))) in
-      let events : past.history ≡ h ++ e ∷ accepted rest = history ∙ (ap accepted split ∙ (filter_map-append accepted_in front ((e, None) ∷ rest) ∙ ap (λ x. x ++ (e ∷ accepted rest)) is)) in
+      let events : past.history ≡ h ++ e ∷ accepted rest = history ∙ (ap accepted split ∙ (filter_map-append accepted_event front ((e, None) ∷ rest) ∙ ap (λ x. x ++ (e ∷ accepted rest)) is)) in
       let d = past.decisions in
       let J = length (due o h) in
       let N = length (due o H) in
@@ -318,7 +318,7 @@ module _ (s : Setting) (past : Past) (told : List Answered)
       let decisions : d ≡ (no_drops o h ++ ds) ++ drop N d = sym (take-append-drop N d) ∙ ap (λ x. x ++ drop N d) parts in
       let none = none_new s o h (accepted rest) past.history e d ds (drop N d) many events decisions drops enough_here in
       let split_on : told ≡ (front ++ (e, None) ∷ []) ++ rest = split ∙ sym (append_assoc front ((e, None) ∷ []) rest) in
-      let is_on : accepted (front ++ (e, None) ∷ []) ≡ H = filter_map-append accepted_in front ((e, None) ∷ []) ∙ ap (λ x. x ++ e ∷ []) is in
+      let is_on : accepted (front ++ (e, None) ∷ []) ≡ H = filter_map-append accepted_event front ((e, None) ∷ []) ∙ ap (λ x. x ++ e ∷ []) is in
       let done = ample-from (front ++ (e, None) ∷ []) rest H split_on is_on (parts ∙ none) enough_on in
       (done.0 ∙ sym later, done.1, no_room_behind e rest done.2)
     where
@@ -331,7 +331,7 @@ module _ (s : Setting) (past : Past) (told : List Answered)
         let fits = fits-Some s.image_len o h e (asked_in rest) cause why in
         let later : h ++ fit_events s.image_len o h (e ∷ asked_in rest) ≡ h ++ fit_events s.image_len o h (asked_in rest) = ap (λ x. h ++ x) fits in
         let split_on : told ≡ (front ++ (e, Some cause) ∷ []) ++ rest = split ∙ sym (append_assoc front ((e, Some cause) ∷ []) rest) in
-        let is_on : accepted (front ++ (e, Some cause) ∷ []) ≡ h = filter_map-append accepted_in front ((e, Some cause) ∷ []) ∙ (append_nil (accepted front) ∙ is) in
+        let is_on : accepted (front ++ (e, Some cause) ∷ []) ≡ h = filter_map-append accepted_event front ((e, Some cause) ∷ []) ∙ (append_nil (accepted front) ∙ is) in
         let done = ample-from (front ++ (e, Some cause) ∷ []) rest h split_on is_on so (subst (λ x. units s.cost (whole_items o x) ≤ s.capacity) later enough) in
         (done.0 ∙ sym later, done.1, refused_behind e cause rest (λ same. never_room s.image_len (whole_past o h) e (why ∙ ap Some same)) done.2)
     | inr full ↦

@@ -14,7 +14,7 @@ use Rattle.sampler.specs.History.{Event, Trigger, Start, Stop, Opening, due, due
 use Rattle.sampler.specs.Items.{items, items_at, sample, samples_from}
 use Rattle.sampler.specs.Past.{Past}
 use Rattle.daq_engine.specs.Openings.{IsOpeningOf, is_ready_on, list_plan}
-use Rattle.daq_steps.specs.Answers.{Answered, AreAnswered, Setting, accepted_in}
+use Rattle.daq_steps.specs.Answers.{Answered, AreAnswered, Setting, accepted_event}
 use Rattle.daq_steps.specs.Runs.{sent_in}
 use Rattle.daq_steps.specs.Steps.{Ask, Pump, RunStep, asked_at, asked_of}
 use Rattle.daq_steps.proofs.StepLemmas.{length-parts}
@@ -64,7 +64,7 @@ one_asked c Pump = omega arith
 few_accepted : (s : Setting) (c : ℕ) (steps : List RunStep) (told : List Answered) (past : Past) → AreAnswered s (asked_of c steps) told past → length past.history ≤ length steps
 few_accepted s c steps told past a =
     let asked = length-parts (asked_at c) 1 steps (λ i step at. one_asked c step) in
-    omega (arith, ap length a.history, few_mapped accepted_in told, ap length a.asks, length-map told (λ (x : Answered). x.0), asked)
+    omega (arith, ap length a.history, few_mapped accepted_event told, ap length a.asks, length-map told (λ (x : Answered). x.0), asked)
 
 -- the lists of one event channel are some of the store's
 few_plans : (s : StoreState) (c : ℕ) (o : Opening) → IsOpeningOf s c o → length s.lists ≤ MAX_LISTS → length o.plans ≤ MAX_LISTS

@@ -12,8 +12,8 @@ use Rattle.sampler.proofs.Histories.{due-append}
 use Rattle.transmitter.specs.Merge.{of_ring, taken_from}
 use Rattle.sampler.specs.Past.{Past}
 use Rattle.daq_steps.specs.declared.cause.Cause.{Cause}
-use Rattle.daq_steps.specs.Answers.{Answered, AreAnswered, IsAnswer, Setting, accepted, accepted_in, until}
-use Rattle.daq_steps.specs.Runs.{AreDone, Done, Pumped, TakesFront, sent_in, step_of, taken_at, taken_in, told_at, told_of}
+use Rattle.daq_steps.specs.Answers.{Answered, AreAnswered, IsAnswer, Setting, accepted, accepted_event, until}
+use Rattle.daq_steps.specs.Runs.{AreDone, Done, Pumped, TakesFront, sent_in, step_done, taken_at, taken_in, told_at, told_of}
 use Rattle.daq_steps.specs.Steps.{RunStep, asked_at, asked_of}
 
 -- a past is its parts
@@ -41,7 +41,7 @@ due_of_front o a b =
 
 -- what was accepted of the first i, and of the others
 pub accepted_front : (i : ℕ) (told : List Answered) → accepted told ≡ accepted (take i told) ++ accepted (drop i told)
-accepted_front i told = ap accepted (sym (take-append-drop i told)) ∙ filter_map-append accepted_in (take i told) (drop i told)
+accepted_front i told = ap accepted (sym (take-append-drop i told)) ∙ filter_map-append accepted_event (take i told) (drop i told)
 
 -- what a channel had behind it then doesn't change when more is behind it
 module _ (past next : Past) (ds : List Bool) (opening : next.opening ≡ past.opening) (decisions : next.decisions ≡ past.decisions ++ ds) where
@@ -62,7 +62,7 @@ pub answered_more : (s : Setting) (asked : List Event) (told : List Answered) (p
     → IsAnswer s past e answer → AreAnswered s (asked ++ e ∷ []) (told ++ (e, answer) ∷ []) next
 answered_more s asked told past next e answer ds a whole opening history decisions is = record {
   asks = map-append (λ (x : Answered). x.0) told ((e, answer) ∷ []) ∙ ap (λ es. es ++ e ∷ []) a.asks;
-  history = history ∙ (ap (λ h. h ++ accepted ((e, answer) ∷ [])) a.history ∙ sym (filter_map-append accepted_in told ((e, answer) ∷ [])));
+  history = history ∙ (ap (λ h. h ++ accepted ((e, answer) ∷ [])) a.history ∙ sym (filter_map-append accepted_event told ((e, answer) ∷ [])));
   each = λ i f b at. elim (before_or_last told (e, answer) (f, b) i at) [
     | inl w ↦
         let front : take i (told ++ (e, answer) ∷ []) ≡ take i told = take-append-le i told ((e, answer) ∷ []) (omega (arith, w.0)) in
@@ -121,7 +121,7 @@ module _ (n : ℕ) (settings : ℕ → Setting) (steps : List RunStep) (failed f
       let all : told_of c done ≡ told_of c (take i done) ++ told_of c (drop i done) =
       ap (told_of c) (sym (take-append-drop i done)) ∙ flat_map-append (told_at c) (take i done) (drop i done) in
       let history : (past c).history ≡ h ++ accepted (told_of c (drop i done)) =
-      a.history ∙ (ap accepted all ∙ filter_map-append accepted_in (told_of c (take i done)) (told_of c (drop i done))) in
+      a.history ∙ (ap accepted all ∙ filter_map-append accepted_event (told_of c (take i done)) (told_of c (drop i done))) in
       let some = due_of_front (past c).opening h (accepted (told_of c (drop i done))) in
       let full = ap (λ (es : List Event). length (due (past c).opening es)) history in
       let fits : length (due (past c).opening h) ≤ length (past c).decisions = omega (arith, some, full, whole c within) in
@@ -135,14 +135,14 @@ module _ (n : ℕ) (settings : ℕ → Setting) (steps : List RunStep) (failed f
       ∙ ap (λ h. sent_in (until (next c) h)) (are.answered c within).history
 
   pub done_more : (fails ≡ false → failed ≡ false)
-      → ((c : ℕ) → c < n → AreAnswered (settings c) (asked_of c steps ++ asked_at c (step_of x)) (told_of c done ++ told_at c x) (next c))
+      → ((c : ℕ) → c < n → AreAnswered (settings c) (asked_of c steps ++ asked_at c (step_done x)) (told_of c done ++ told_at c x) (next c))
       → ((qs : List (ℕ × Item)) → x ≡ Pumped qs → TakesFront n (λ c. sent_in (past c)) (taken_in done) fails qs)
-      → AreDone n settings (steps ++ step_of x ∷ []) fails next (done ++ x ∷ [])
+      → AreDone n settings (steps ++ step_done x ∷ []) fails next (done ++ x ∷ [])
   done_more mono answered pumped = record {
-    steps_done = map-append step_of done (x ∷ []) ∙ ap (λ ss. ss ++ step_of x ∷ []) are.steps_done;
+    steps_done = map-append step_done done (x ∷ []) ∙ ap (λ ss. ss ++ step_done x ∷ []) are.steps_done;
     answered = λ c within.
-        subst (λ es. AreAnswered (settings c) es (told_of c (done ++ x ∷ [])) (next c)) (sym (asked-more c steps (step_of x)))
-        (subst (λ t. AreAnswered (settings c) (asked_of c steps ++ asked_at c (step_of x)) t (next c)) (sym (told-more c done x)) (answered c within));
+        subst (λ es. AreAnswered (settings c) es (told_of c (done ++ x ∷ [])) (next c)) (sym (asked-more c steps (step_done x)))
+        (subst (λ t. AreAnswered (settings c) (asked_of c steps ++ asked_at c (step_done x)) t (next c)) (sym (told-more c done x)) (answered c within));
     pumped = λ i qs at. elim (before_or_last done x (Pumped qs) i at) [
       | inl w ↦
           let front : take i done ≡ take i (done ++ x ∷ []) = sym (take-append-le i done (x ∷ []) (omega (arith, w.0))) in

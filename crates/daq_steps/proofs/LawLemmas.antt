@@ -11,7 +11,7 @@ use Rattle.transmitter.specs.Merge.{of_ring, taken_from}
 use Rattle.transmitter.specs.Rounds.{round}
 use Rattle.daq_steps.specs.Answers.{accepted, until}
 use Rattle.daq_steps.specs.Laws.{DoneFollows, answer_of}
-use Rattle.daq_steps.specs.Runs.{Done, Pumped, TakesFront, Told, past_after, sent_in, step_of, taken_in, told_of}
+use Rattle.daq_steps.specs.Runs.{Done, Pumped, TakesFront, Told, past_after, sent_in, step_done, taken_in, told_of}
 
 -- lists of as many lists, the same at each place
 same_lists : (n : ℕ) (xs ys : List (List Item)) → length xs ≡ n → length ys ≡ n → ((c : ℕ) → c < n → of_ring xs c ≡ of_ring ys c) → xs ≡ ys
@@ -43,7 +43,7 @@ module _ (n : ℕ) (past : ℕ → Past) where
   abbrev TakesBehind : List Done → Done → Type 0
   TakesBehind before x = (qs : List (ℕ × Item)) → x ≡ Pumped qs → TakesFront n (λ c. sent_in (until (past c) (accepted (told_of c before)))) (taken_in before) false qs
 
-  same_step : (before : List Done) (x y : Done) → step_of x ≡ step_of y → answer_of x ≡ answer_of y → TakesBehind before x → TakesBehind before y → x ≡ y
+  same_step : (before : List Done) (x y : Done) → step_done x ≡ step_done y → answer_of x ≡ answer_of y → TakesBehind before x → TakesBehind before y → x ≡ y
   same_step before (Told c e a) (Told k f b) step answer t u =
       let channel : c ≡ k = cc in
       let event : e ≡ f = cc in
@@ -58,7 +58,7 @@ module _ (n : ℕ) (past : ℕ → Past) where
   AllTake before [] = Unit {0}
   AllTake before (x ∷ xs) = TakesBehind before x × AllTake (before ++ x ∷ []) xs
 
-  same_done : (before xs ys : List Done) → map step_of xs ≡ map step_of ys → map answer_of xs ≡ map answer_of ys → AllTake before xs → AllTake before ys → xs ≡ ys
+  same_done : (before xs ys : List Done) → map step_done xs ≡ map step_done ys → map answer_of xs ≡ map answer_of ys → AllTake before xs → AllTake before ys → xs ≡ ys
   unfolding AllTake
   same_done before [] [] steps answers t u = refl
   same_done before [] (y ∷ ys) steps answers t u = absurd cc

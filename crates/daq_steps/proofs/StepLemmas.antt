@@ -28,7 +28,7 @@ use Rattle.daq_engine.specs.Samplers.{StayThose, sent_of_each}
 use Rattle.daq_engine.proofs.BesideLemmas.{as_many_stay}
 use Rattle.daq_steps.specs.declared.cause.Cause.{Cause}
 use Rattle.daq_steps.specs.Answers.{Answered, AreAnswered, IsAnswer, Setting}
-use Rattle.daq_steps.specs.Runs.{AnswersAt, AreDone, DoesStep, Done, HasDone, Pumped, TakesFront, Told, after_answer, is_refused, sent_in, settings_of, step_of, taken_at, taken_in, told_at, told_of}
+use Rattle.daq_steps.specs.Runs.{AnswersAt, AreDone, DoesStep, Done, HasDone, Pumped, TakesFront, Told, after_answer, is_refused, sent_in, settings_of, step_done, taken_at, taken_in, told_at, told_of}
 use Rattle.daq_steps.specs.Steps.{Ask, Pump, RunStep, asked_at, asked_of}
 use Rattle.daq_steps.proofs.AskLemmas.{read_at, sampler_at}
 use Rattle.daq_steps.proofs.DoneLemmas.{answered_more, answered_still, done_more, taken-more}
@@ -61,7 +61,7 @@ module _ (n : ℕ) (settings : ℕ → Setting) (steps : List RunStep) (failed :
   pub few_taken : length (taken_in done) ≤ n * length steps
   few_taken =
       let few = length-parts taken_at n done few_at in
-      let many : length done ≡ length steps = sym (length-map done step_of) ∙ ap length are.steps_done in
+      let many : length done ≡ length steps = sym (length-map done step_done) ∙ ap length are.steps_done in
       subst (λ k. length (taken_in done) ≤ n * k) many few
 
 -- a pump takes the first items left, and all of them where the writer is open afterwards; then it was open before

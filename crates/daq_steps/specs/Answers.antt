@@ -48,13 +48,13 @@ abbrev pub Answered : Type 0
 Answered = Event × Option Cause
 
 -- the event, where it was accepted
-abbrev pub accepted_in : Answered → Option Event
-accepted_in (e, None) = Some e
-accepted_in (e, Some cause) = None
+abbrev pub accepted_event : Answered → Option Event
+accepted_event (e, None) = Some e
+accepted_event (e, Some cause) = None
 
 -- those that were accepted, in order
 abbrev pub accepted : List Answered → List Event
-accepted told = filter_map accepted_in told
+accepted told = filter_map accepted_event told
 
 -- what the channel had behind it when this was its history, with the decisions of that time
 abbrev pub until : Past → List Event → Past

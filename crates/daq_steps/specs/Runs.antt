@@ -27,9 +27,9 @@ pub data Done : Type 0 where
   Told : (channel : ℕ) → (event : Event) → (answer : Option Cause) → Done
   Pumped : (taken : List (ℕ × Item)) → Done
 
-abbrev pub step_of : Done → RunStep
-step_of (Told c event answer) = Ask c event
-step_of (Pumped taken) = Pump
+abbrev pub step_done : Done → RunStep
+step_done (Told c event answer) = Ask c event
+step_done (Pumped taken) = Pump
 
 -- what channel c was asked for, with its answer
 abbrev pub told_at : ℕ → Done → List Answered
@@ -80,7 +80,7 @@ past_after past done i c = until (past c) (accepted (told_of c (take i done)))
 pub record AreDone (n : ℕ) (settings : ℕ → Setting) (steps : List RunStep) (failed : Bool)
     (past : ℕ → Past) (done : List Done)
     : Type 0 where
-  pub steps_done : map step_of done ≡ steps
+  pub steps_done : map step_done done ≡ steps
   pub answered :
       (c : ℕ) → c < n
       → AreAnswered (settings c) (asked_of c steps) (told_of c done) (past c)

@@ -5,7 +5,7 @@ use Rattle.std.proofs.lemmas.List.{drop-append-le, length-append, length-drop, t
 use Rattle.std.proofs.lemmas.Option.{same_Some}
 use Rattle.run_file.specs.declared.kept.Kept.{Kept}
 use Rattle.run_file.specs.declared.step_fault.StepFault.{StepFault}
-use Rattle.run_file.specs.Inner.{AreInOrder, BeginsWith, GainsAction, kept_data, next_from, with_bytes}
+use Rattle.run_file.specs.Inner.{AreInOrder, BeginsWith, GainsAction, kept_data, next_from, step_with}
 use Rattle.run_file.specs.Inner.{Gains}
 use Rattle.run_file.specs.Steps.{StepData}
 
@@ -51,17 +51,17 @@ in_order-grow n m (x ∷ ks) low before =
     (omega (arith, before.0, next_from-grow n m ks low), next_from-low n m ks low before.1, in_order-grow n m ks low before.2)
 
 kept_data-push : (images image : List ℕ) (ks : List Kept) (k : Kept) → AreInOrder (length images) ks → k.from ≡ length images
-    → kept_data (images ++ image) (ks ++ k ∷ []) ≡ kept_data images ks ++ with_bytes k.action image ∷ []
+    → kept_data (images ++ image) (ks ++ k ∷ []) ≡ kept_data images ks ++ step_with k.action image ∷ []
 kept_data-push images image [] k before at =
-    ap (λ b. with_bytes k.action (slice_range (images ++ image) b (length (images ++ image))) ∷ []) at
-    ∙ ap (λ i. with_bytes k.action i ∷ []) (slice_range-behind images image)
+    ap (λ b. step_with k.action (slice_range (images ++ image) b (length (images ++ image))) ∷ []) at
+    ∙ ap (λ i. step_with k.action i ∷ []) (slice_range-behind images image)
 kept_data-push images image (x ∷ ks) k before at =
     let e : next_from (length (images ++ image)) (ks ++ k ∷ []) ≡ next_from (length images) ks =
     next_from-push (length (images ++ image)) (length images) ks k at in
-    ap (λ b. with_bytes x.action (slice_range (images ++ image) x.from b) ∷ kept_data (images ++ image) (ks ++ k ∷ [])) e
-    ∙ ap (λ i. with_bytes x.action i ∷ kept_data (images ++ image) (ks ++ k ∷ []))
+    ap (λ b. step_with x.action (slice_range (images ++ image) x.from b) ∷ kept_data (images ++ image) (ks ++ k ∷ [])) e
+    ∙ ap (λ i. step_with x.action i ∷ kept_data (images ++ image) (ks ++ k ∷ []))
     (slice_range-more images image x.from (next_from (length images) ks) before.0 before.1)
-    ∙ ap (λ ys. with_bytes x.action (slice_range images x.from (next_from (length images) ks)) ∷ ys)
+    ∙ ap (λ ys. step_with x.action (slice_range images x.from (next_from (length images) ks)) ∷ ys)
     (kept_data-push images image ks k before.2 at)
 
 behind : (images more : List ℕ) → BeginsWith images more → images ++ drop (length images) more ≡ more
@@ -81,7 +81,7 @@ module _ (read : Option StepData) (images more : List ℕ) (ks new : List Kept) 
     (at_end : OnOk r (new ≡ ks ++ k ∷ [])) (gains : GainsAction read images more k.action) (at : k.from ≡ length images)
     (before : AreInOrder (length images) ks) where
   -- one step came to the others
-  gained : new ≡ ks ++ k ∷ [] → kept_data more new ≡ kept_data images ks ++ with_bytes k.action gains.image ∷ []
+  gained : new ≡ ks ++ k ∷ [] → kept_data more new ≡ kept_data images ks ++ step_with k.action gains.image ∷ []
   gained e =
       ap (kept_data more) e ∙ ap (λ m. kept_data m (ks ++ k ∷ [])) gains.at_end
       ∙ kept_data-push images gains.image ks k before at
@@ -92,9 +92,9 @@ module _ (read : Option StepData) (images more : List ℕ) (ks new : List Kept) 
       by_answer : (a : Result (Unit {0}) StepFault) → OnOk a (new ≡ ks ++ k ∷ []) → OnOk a (Gains (λ s. read ≡ Some s) old (kept_data more new))
       by_answer (Err e) h = tt
       by_answer (Ok u) h = record {
-        value = with_bytes k.action gains.image;
+        value = step_with k.action gains.image;
         is = gains.is;
-        at_end = gained h ∙ ap (λ steps. steps ++ with_bytes k.action gains.image ∷ []) view;
+        at_end = gained h ∙ ap (λ steps. steps ++ step_with k.action gains.image ∷ []) view;
       }
 
   -- and all are in order, whether it came or not
@@ -127,7 +127,7 @@ next_from-get n (suc j) k (x ∷ ks) h = next_from-get n j k ks h
 pub record IsStepAt (images : List ℕ) (ks : List Kept) (i : ℕ) (k : Kept) (end : ℕ) : Type 0 where
   pub up : k.from ≤ end
   pub low : end ≤ length images
-  pub is : slice_get (kept_data images ks) i ≡ Some (with_bytes k.action (slice_range images k.from end))
+  pub is : slice_get (kept_data images ks) i ≡ Some (step_with k.action (slice_range images k.from end))
 
 pub step_at : (images : List ℕ) (ks : List Kept) (i : ℕ) (k : Kept) → slice_get ks i ≡ Some k → AreInOrder (length images) ks
     → IsStepAt images ks i k (next_from (length images) (drop (i + 1) ks))

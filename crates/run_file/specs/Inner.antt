@@ -41,11 +41,11 @@ wording_data (said.Stop c l) = stop c l
 wording_data said.Pump = pump
 
 -- what a step does with this image
-abbrev pub with_bytes : Action → List ℕ → StepData
-with_bytes (kept.Trigger c s) image = trigger c s image
-with_bytes (kept.Start c l) image = start c l
-with_bytes (kept.Stop c l) image = stop c l
-with_bytes kept.Pump image = pump
+abbrev pub step_with : Action → List ℕ → StepData
+step_with (kept.Trigger c s) image = trigger c s image
+step_with (kept.Start c l) image = start c l
+step_with (kept.Stop c l) image = stop c l
+step_with kept.Pump image = pump
 
 -- where the image before those of these steps ends: where theirs begin, or behind all n bytes
 abbrev pub next_from : ℕ → List Kept → ℕ
@@ -56,7 +56,7 @@ next_from n (k ∷ ks) = k.from
 abbrev pub kept_data : List ℕ → List Kept → List StepData
 kept_data images [] = []
 kept_data images (k ∷ ks) =
-    with_bytes k.action (slice_range images k.from (next_from (length images) ks))
+    step_with k.action (slice_range images k.from (next_from (length images) ks))
     ∷ kept_data images ks
 
 -- each image begins where the one before it ends, and all end within so many bytes
@@ -78,7 +78,7 @@ pub record GainsImage (read : Option (List ℕ)) (images more : List ℕ) : Type
 pub record GainsAction (read : Option StepData) (images more : List ℕ) (action : Action)
     : Type 0 where
   pub image : List ℕ
-  pub is : read ≡ Some (with_bytes action image)
+  pub is : read ≡ Some (step_with action image)
   pub at_end : more ≡ images ++ image
 
 -- one such value came behind the others

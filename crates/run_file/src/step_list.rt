@@ -4,7 +4,7 @@ ghost use Rattle.std.specs.Prelude.{◌≤◌, Some, drop, length, option_map, s
 ghost use Rattle.run_file.specs.declared.step_fault.StepFault.TheVariants.{Memory};
 ghost use Rattle.run_file.specs.Inner.{BeginsWith, GainsAction, GainsImage, next_from};
 ghost use Rattle.run_file.specs.Lent.{step_data};
-ghost use Rattle.run_file.specs.Inner.{with_bytes};
+ghost use Rattle.run_file.specs.Inner.{step_with};
 ghost use Rattle.run_file.specs.Inner.{Gains};
 ghost use Rattle.run_file.specs.StepOf.{image_of, with_image};
 ghost use Rattle.run_file.specs.Steps.{trigger};
@@ -97,7 +97,7 @@ fn lent(images: &[u8], kept: Kept, end: usize) -> Step<'_>
     requires up { kept.from ≤ end }
     requires low { end ≤ length images.now }
     ensures value { step_data result
-        ≡ with_bytes kept.action (slice_range images.now kept.from end) }
+        ≡ step_with kept.action (slice_range images.now kept.from end) }
 {
     let image = &images[kept.from..end];
     match kept.action {

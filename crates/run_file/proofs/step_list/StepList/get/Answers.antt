@@ -1,6 +1,6 @@
 use Rattle.std.proofs.Common.{◌≡◌, ◌+◌, ◌≤◌, Some, drop, length, slice_get, slice_range, refl, sym, ap, ◌∙◌, subst, rules, arith}
 use Rattle.std.proofs.lemmas.Option.{slice_get_past, slice_get_read}
-use Rattle.run_file.specs.Inner.{next_from, with_bytes}
+use Rattle.run_file.specs.Inner.{next_from, step_with}
 use Rattle.run_file.proofs.KeptLemmas.{none_at, step_at}
 use Rattle.run_file.proofs.step_list.StepList.get.Goals as goal
 
@@ -53,7 +53,7 @@ returns c =
     record {
       value =
           ap Some
-          (c.lent.ensures.value ∙ ap (λ xs. with_bytes c.in-Some.kept.now.action (slice_range xs c.in-Some.kept.now.from c.end_of-end.result)) all
-          ∙ ap (λ e. with_bytes c.in-Some.kept.now.action (slice_range c.self.inside.images.items c.in-Some.kept.now.from e)) is_end)
+          (c.lent.ensures.value ∙ ap (λ xs. step_with c.in-Some.kept.now.action (slice_range xs c.in-Some.kept.now.from c.end_of-end.result)) all
+          ∙ ap (λ e. step_with c.in-Some.kept.now.action (slice_range c.self.inside.images.items c.in-Some.kept.now.from e)) is_end)
           ∙ sym at.is ∙ ap (λ l. slice_get l c.args.i) c.self.view_is;
     }
