@@ -5,10 +5,8 @@ use Rattle.std.specs.Option.{is_some}
 use Rattle.std.proofs.lemmas.List.{map-append}
 use Rattle.std.proofs.lemmas.List.Elements.{All-cons, All-head, All-nil, All-push, All-tail}
 use Rattle.std.proofs.lemmas.List.Sums.{sum_by-append}
-use Rattle.xcp_base.specs.declared.item.Item.{Item}
 use Rattle.channel_ring.specs.declared.ends.SendEnd.{Ghosts as SendGhosts}
 use Rattle.channel_ring.specs.declared.ends.RingEnd.{Ghosts as EndGhosts}
-use Rattle.frame_writer.specs.Writing.{WriterState}
 use Rattle.sampler.specs.History.{Event, Opening}
 use Rattle.sampler.specs.Past.{Past, first_past, one_more}
 use Rattle.sampler.specs.Standing.{EndStandsAfter, StandsAfter}
@@ -23,14 +21,16 @@ use Rattle.daq_steps.specs.Steps.{Ask, Pump, RunStep, asked_at, asked_of}
 use Rattle.daq_steps.proofs.DoneLemmas.{answered_more}
 use Rattle.daq_run.specs.Workers.{HasWorked, HaveWorked, IsLeftOf, is_of}
 
--- nothing more was taken, or what a pump took
+-- nothing more was taken
 pub takes_none : (a : TransmitterState) → TakesMore a a
 takes_none a start ps taken = ([], subst (HasTaken start a) (sym (append-nil ps)) taken)
 
-pub pumps_more : (a b c : TransmitterState) → TakesMore a b → (qs : List (ℕ × Item)) → ((start : WriterState) (ps : List (ℕ × Item)) → HasTaken start b ps → HasTaken start c (ps ++ qs)) → TakesMore a c
-pumps_more a b c more qs leads start ps taken =
+-- what takes some more, and then some more, takes more
+pub takes_on : (a b c : TransmitterState) → TakesMore a b → TakesMore b c → TakesMore a c
+takes_on a b c more again start ps taken =
     let first = more start ps taken in
-    (first.0 ++ qs, subst (HasTaken start c) (append_assoc ps first.0 qs) (leads start (ps ++ first.0) first.1))
+    let second = again start (ps ++ first.0) first.1 in
+    (first.0 ++ second.0, subst (HasTaken start c) (append_assoc ps first.0 second.0) second.1)
 
 -- one answer more is counted
 counted-more : (told : List Answered) (x : Answered) (refused : ℕ) → refused ≡ count_by was_refused told → refused + cond (was_refused x) 1 0 ≡ count_by was_refused (told ++ x ∷ [])

@@ -73,10 +73,23 @@ fn pump_until<R: Wait, O: Out, T: TakeEnd, G: Gate>(
         if have_ended(ended, threads) {
             break;
         }
-        match transmitter.pump() {
-            Ok(pumped) => gate.pumped(&pumped),
-            Err(_) => thread::yield_now(),
+        if !pumps_some(transmitter, gate) {
+            thread::yield_now();
         }
+    }
+}
+
+/// Pumps once, tells the gate where that answered Ok, and tells whether anything was taken.
+fn pumps_some<O: Out, T: TakeEnd, G: Gate>(transmitter: &mut Transmitter<O, T>, gate: &G) -> bool
+    ensures { KeepsTaking (transmission O.Out T.TakeEnd transmitter.old)
+        (transmission O.Out T.TakeEnd transmitter.new) }
+{
+    match transmitter.pump() {
+        Ok(pumped) => {
+            gate.pumped(&pumped);
+            pumped.taken > 0
+        }
+        Err(_) => false,
     }
 }
 
