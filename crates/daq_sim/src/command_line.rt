@@ -1,5 +1,5 @@
 //! The program: from its words and streams to its status.
-ghost use Rattle.std.specs.Prelude.{◌≡◌, ◌≤◌, IfErr, IfOk, IfSome, None, OnErr};
+ghost use Rattle.std.specs.Prelude.{◌≡◌, ◌≤◌, Bool, IfErr, IfOk, IfSome, None, OnErr};
 ghost use Rattle.std.specs.Io.KnownBytes.{Keeps};
 ghost use Rattle.run_file.specs.RunFile.{IsRunText};
 ghost use Rattle.daq_sim.specs.Done.{PrintsText, frames_line_of};
@@ -15,10 +15,14 @@ use std::alloc::Global;
 use std::fs;
 use std::io::{BufWriter, Read, Write};
 use std::rt::Files;
+use std::sync::Wait;
+use std::thread::Threads;
 
 /// The program over its words, without its name, its standard input, standard output and standard
 /// error. It answers its status.
-pub fn program<R: Files, I: Read + Drop, W: Write + Drop, E: Write + Drop>(
+///
+/// With `--threads` it may wait.
+pub fn program<R: Files + Threads + Wait + Sync, I: Read + Drop, W: Write + Drop, E: Write + Drop>(
     rt: &R,
     alloc: Global,
     words: &[String],
@@ -43,7 +47,7 @@ pub fn program<R: Files, I: Read + Drop, W: Write + Drop, E: Write + Drop>(
 }
 
 /// What the words ask for: the status once that is printed, or the fault that is still to be.
-fn answer<R: Files, I: Read + Drop, W: Write>(
+fn answer<R: Files + Threads + Wait + Sync, I: Read + Drop, W: Write>(
     rt: &R,
     alloc: Global,
     words: &[String],
@@ -60,7 +64,7 @@ fn answer<R: Files, I: Read + Drop, W: Write>(
 }
 
 /// Carries out the run that words name, and prints what came of it.
-fn carry_out<R: Files, I: Read + Drop, W: Write>(
+fn carry_out<R: Files + Threads + Wait + Sync, I: Read + Drop, W: Write>(
     rt: &R,
     alloc: Global,
     words: Words<'_>,
@@ -70,15 +74,16 @@ fn carry_out<R: Files, I: Read + Drop, W: Write>(
     ensures status { IfOk result (λ status. status ≤ 1) }
     ensures silent { OnErr result (Keeps (W.contents out.old) (W.contents out.new)) }
     ensures of_input { words.entry.run ≡ None → IfOk result (λ status.
-        IfSome (I.remaining input) (λ text. PrintsText (frames_line_of words.entry.out) text status
+        IfSome (I.remaining input) (λ text. PrintsText words.entry.threads
+        (frames_line_of words.entry.out) text status
         (W.contents out.old) (W.contents out.new))) }
-    ensures stops { words.entry.run ≡ None
-        → IfErr result (λ fault. IfSome (I.remaining input) (λ text. StopsAt text fault)) }
+    ensures stops { words.entry.run ≡ None → IfErr result (λ fault.
+        IfSome (I.remaining input) (λ text. StopsAt words.entry.threads text fault)) }
 {
     let run = run_of(rt, alloc, words.run, input)?;
     match words.out {
-        Some(path) => to_file(rt, alloc, &run, path, out),
-        None => to_memory(alloc, &run, out),
+        Some(path) => to_file(rt, alloc, &run, words.threads, path, out),
+        None => to_memory(rt, alloc, &run, words.threads, out),
     }
 }
 
@@ -98,8 +103,8 @@ fn run_of<R: Files, I: Read + Drop>(
 ) -> Result<Run, ProgramFault>
     ensures ok { path.entry ≡ None → IfOk result (λ run.
         IfSome (I.remaining input) (λ text. IsRunText text run)) }
-    ensures stops { path.entry ≡ None
-        → IfErr result (λ fault. IfSome (I.remaining input) (λ text. StopsAt text fault)) }
+    ensures stops { path.entry ≡ None → (threads : Bool) → IfErr result (λ fault.
+        IfSome (I.remaining input) (λ text. StopsAt threads text fault)) }
 {
     let mut input = input;
     let Some(path) = path else {

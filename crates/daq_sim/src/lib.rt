@@ -10,6 +10,6 @@ mod run_text;
 mod words;
 
 pub use command_line::program;
-pub use daq_run::{Outcome, SimFault, run_serial};
+pub use daq_run::{Gate, NoGate, Outcome, SimFault, run_serial, run_threads};
 pub use run_file::{Run, RunFault, Step};
 pub use run_setup::{SetupFault, carry_all, fixed_run};

@@ -1,6 +1,6 @@
 //! The run of a text, from a file or from standard input.
 ghost use Rattle.std.specs.Prelude.{◌≡◌, ◌⊎◌, ◌<◌, ◌≤◌, IfErr, IfOk, IfSome, OnOk, length};
-ghost use Rattle.std.specs.Prelude.{string_bytes, true};
+ghost use Rattle.std.specs.Prelude.{Bool, string_bytes, true};
 ghost use Rattle.std.specs.Io.{StartsWith, appended_bytes};
 ghost use Rattle.std.specs.Io.KnownBytes.{Consumes, IsAtEnd};
 ghost use Rattle.run_file.specs.RunFile.{IsRunText};
@@ -26,8 +26,8 @@ const CHUNK: usize = 65_536;
 pub fn run_from<I: Read>(alloc: Global, input: &mut I) -> Result<Run, ProgramFault>
     ensures ok { IfOk result (λ run.
         IfSome (I.remaining input.old) (λ text. IsRunText text run)) }
-    ensures stops { IfErr result (λ fault.
-        IfSome (I.remaining input.old) (λ text. StopsAt text fault)) }
+    ensures stops { (threads : Bool) → IfErr result (λ fault.
+        IfSome (I.remaining input.old) (λ text. StopsAt threads text fault)) }
 {
     let text = text_from(alloc, input)?;
     Ok(Run::read(alloc, &text)?)

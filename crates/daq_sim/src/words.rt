@@ -24,6 +24,8 @@ pub struct Words<'a> {
     pub run: Option<&'a str>,
     /// The file for the frames; they are kept and printed where there is none.
     pub out: Option<&'a str>,
+    /// Whether each event channel has a thread of its own.
+    pub threads: bool,
 }
 
 /// Reads the words behind the program's name.
@@ -47,6 +49,10 @@ fn command<'a>(alloc: Global) -> Result<Command<'a>, AllocError> {
         .value_name("FILE")
         .action(ArgAction::Set)
         .help("Write the frames to FILE, and print the account alone");
+    let threads = Arg::new(alloc, "threads")
+        .long("threads")
+        .action(ArgAction::SetTrue)
+        .help("Sample each event channel in a thread of its own");
     let run = Arg::new(alloc, "run")
         .value_name("RUN")
         .action(ArgAction::Set)
@@ -55,6 +61,7 @@ fn command<'a>(alloc: Global) -> Result<Command<'a>, AllocError> {
         .about("Carries out a run file, and prints its frames and its account")
         .no_binary_name(true)
         .arg(out)?
+        .arg(threads)?
         .arg(run)
 }
 
@@ -63,5 +70,6 @@ fn words_of<'a>(matches: &ArgMatches<'a>) -> Words<'a> {
     Words {
         run: matches.get_str("run"),
         out: matches.get_str("out"),
+        threads: matches.get_flag("threads"),
     }
 }

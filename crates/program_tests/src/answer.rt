@@ -4,6 +4,8 @@ use crate::streams::{Sink, Source};
 use crate::text::{RUN, joined, owned};
 use daq_sim::program;
 use std::alloc::{AllocError, Global};
+use std::sync::Wait;
+use std::thread::Threads;
 
 /// Standard input: the parts of a text, read at once or behind three interruptions, or another
 /// source.
@@ -34,10 +36,15 @@ pub struct Answer {
 }
 
 /// Runs the program on a case.
-pub fn answer_of(alloc: Global, case: &Case) -> Result<Answer, AllocError> {
+pub fn answer_of<R: Threads + Wait + Sync>(
+    rt: &R,
+    alloc: Global,
+    case: &Case,
+) -> Result<Answer, AllocError> {
     let words = owned(alloc, case.words)?;
     let text = joined(alloc, RUN)?;
     let folder = Folder {
+        rt,
         run: text.as_bytes(),
     };
     let mut out = Sink::new(alloc, usize::MAX);

@@ -5,6 +5,8 @@ use std::alloc::Allocator;
 use std::fs::{Metadata, OpenFile, OpenOptions};
 use std::io::{self, Empty, Error, ErrorKind, Read, Seek, SeekFrom, Write};
 use std::rt::Files;
+use std::sync::Wait;
+use std::thread::Threads;
 
 /// A folder with these files:
 ///
@@ -18,11 +20,16 @@ use std::rt::Files;
 /// | `locked` | what may not be opened |
 /// | `busy` | where memory is wanting |
 ///
-/// There is no file of any other name.
+/// There is no file of any other name. Its threads are those of a runtime.
 #[derive(Clone, Copy)]
-pub struct Folder<'a> {
+pub struct Folder<'a, R> {
+    pub rt: &'a R,
     pub run: &'a [u8],
 }
+
+impl<R: Threads> Threads for Folder<'_, R> {}
+
+impl<R: Wait> Wait for Folder<'_, R> {}
 
 /// An open file: what is read from it, and the bytes that it may be written to with.
 #[derive(Clone, Copy)]
@@ -93,7 +100,7 @@ impl OpenFile for OneFile<'_> {
     }
 }
 
-impl<'a> Files for Folder<'a> {
+impl<'a, R> Files for Folder<'a, R> {
     type File = OneFile<'a>;
 
     type Dir = Empty;
@@ -143,7 +150,7 @@ impl<'a> Files for Folder<'a> {
     }
 }
 
-impl<'a> Folder<'a> {
+impl<'a, R> Folder<'a, R> {
     /// Opens a file to be read.
     fn open(&self, path: &str) -> io::Result<OneFile<'a>> {
         match path {

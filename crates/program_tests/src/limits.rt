@@ -64,7 +64,7 @@ fn case_of<'a>(row: &Long<'a>) -> Case<'a> {
 #[test]
 fn a_text_is_read_up_to_its_limits(rt: HostRuntime) -> Result<(), Fail> {
     for row in LONG {
-        let Answer { out, err, status } = answer_of(rt.alloc(), &case_of(&row))?;
+        let Answer { out, err, status } = answer_of(&rt, rt.alloc(), &case_of(&row))?;
         let printed = err.kept.as_slice();
         same(&rt, printed, row.err.as_bytes(), row.name, "standard error");
         same(&rt, out.kept.len(), 0, row.name, "standard output");

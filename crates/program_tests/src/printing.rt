@@ -6,7 +6,9 @@ use crate::text::{RUN, joined, owned};
 use daq_sim::program;
 use std::alloc::{AllocError, Global};
 use std::io::ErrorKind;
+use std::sync::Wait;
 use std::test::Fail;
+use std::thread::Threads;
 
 /// The words, how many bytes standard output and standard error take before they fail, how many of
 /// them are printed there, and the status.
@@ -76,10 +78,16 @@ const HELPS: [&[&str]; 6] = [
 
 /// Runs the program on words, with standard output and standard error of this room, and answers
 /// what these kept and the status.
-fn print(alloc: Global, words: &[&str], room: [usize; 2]) -> Result<(Sink, Sink, u8), AllocError> {
+fn print<R: Threads + Wait + Sync>(
+    rt: &R,
+    alloc: Global,
+    words: &[&str],
+    room: [usize; 2],
+) -> Result<(Sink, Sink, u8), AllocError> {
     let words = owned(alloc, words)?;
     let text = joined(alloc, RUN)?;
     let folder = Folder {
+        rt,
         run: text.as_bytes(),
     };
     let [out, err] = room;
@@ -93,7 +101,7 @@ fn print(alloc: Global, words: &[&str], room: [usize; 2]) -> Result<(Sink, Sink,
 #[test]
 fn output_that_cant_be_printed_is_a_status(rt: HostRuntime) -> Result<(), Fail> {
     for row in PRINTINGS {
-        let (out, err, status) = print(rt.alloc(), row.words, row.room)?;
+        let (out, err, status) = print(&rt, rt.alloc(), row.words, row.room)?;
         let printed = [out.kept.len(), err.kept.len()];
         same(&rt, printed, row.printed, row.name, "what is printed");
         same(&rt, status, row.status, row.name, "the status");
@@ -105,10 +113,11 @@ fn output_that_cant_be_printed_is_a_status(rt: HostRuntime) -> Result<(), Fail> 
 fn help_is_printed_to_standard_output(rt: HostRuntime) -> Result<(), Fail> {
     for words in HELPS {
         let name = words.first().copied().unwrap_or("");
-        let (out, err, status) = print(rt.alloc(), words, [usize::MAX, usize::MAX])?;
+        let (out, err, status) = print(&rt, rt.alloc(), words, [usize::MAX, usize::MAX])?;
         let text = String::from_utf8(out.kept).map_err(|_| "no text")?;
         same(&rt, text.contains("xcpdaq"), true, name, "the program");
         same(&rt, text.contains("--out <FILE>"), true, name, "the option");
+        same(&rt, text.contains("--threads"), true, name, "the threads");
         same(&rt, text.contains("[RUN]"), true, name, "the run");
         same(&rt, err.kept.len(), 0, name, "standard error");
         same(&rt, status, 0, name, "the status");

@@ -9,12 +9,15 @@ use crate::text::{
 use std::alloc::Global;
 use std::io::ErrorKind;
 use std::process::Abort;
+use std::sync::Wait;
 use std::test::Fail;
+use std::thread::Threads;
 
 /// Standard input that must not be read.
 const UNREAD: Input = Input::Of(Source::Fails(ErrorKind::Other));
 
-static CASES: [Case; 50] = [
+/// Runs that are done, and bad command lines.
+static CASES: [Case; 27] = [
     // runs that are done
     Case {
         name: "two triggers of one list",
@@ -155,6 +158,14 @@ static CASES: [Case; 50] = [
         err: "",
         status: 0,
     },
+    Case {
+        name: "a thread for the event channel",
+        words: &["--threads"],
+        input: Input::Text(RUN),
+        out: PRINTED,
+        err: "",
+        status: 0,
+    },
     // bad command lines
     Case {
         name: "an unknown flag",
@@ -165,8 +176,16 @@ static CASES: [Case; 50] = [
         status: 2,
     },
     Case {
-        name: "threads, which there are none of yet",
-        words: &["--threads"],
+        name: "threads twice",
+        words: &["--threads", "--threads"],
+        input: UNREAD,
+        out: &[],
+        err: "xcpdaq: bad command line\n",
+        status: 2,
+    },
+    Case {
+        name: "a value for the threads",
+        words: &["--threads=true"],
         input: UNREAD,
         out: &[],
         err: "xcpdaq: bad command line\n",
@@ -244,6 +263,10 @@ static CASES: [Case; 50] = [
         err: "xcpdaq: bad command line\n",
         status: 2,
     },
+];
+
+/// Runs that can't be read, are none, or end with a fault.
+static FAULTS: [Case; 25] = [
     // runs that can't be read
     Case {
         name: "no such file",
@@ -459,9 +482,13 @@ static CASES: [Case; 50] = [
 ];
 
 /// Compares what the program does in each case with what is wanted.
-fn all_are_answered(rt: &impl Abort, alloc: Global, cases: &[Case]) -> Result<(), Fail> {
+fn all_are_answered<R: Abort + Threads + Wait + Sync>(
+    rt: &R,
+    alloc: Global,
+    cases: &[Case],
+) -> Result<(), Fail> {
     for case in cases {
-        let Answer { out, err, status } = answer_of(alloc, case)?;
+        let Answer { out, err, status } = answer_of(rt, alloc, case)?;
         let wanted = joined(alloc, case.out)?;
         let (out, err) = (out.kept.as_slice(), err.kept.as_slice());
         same(rt, err, case.err.as_bytes(), case.name, "standard error");
@@ -474,4 +501,11 @@ fn all_are_answered(rt: &impl Abort, alloc: Global, cases: &[Case]) -> Result<()
 #[test]
 fn the_program_prints_its_answer_and_ends_with_its_status(rt: HostRuntime) -> Result<(), Fail> {
     all_are_answered(&rt, rt.alloc(), &CASES)
+}
+
+#[test]
+fn the_program_prints_the_fault_of_a_run_and_ends_with_its_status(
+    rt: HostRuntime,
+) -> Result<(), Fail> {
+    all_are_answered(&rt, rt.alloc(), &FAULTS)
 }
