@@ -36,8 +36,8 @@ StopsOf threads run OutFile = ⊤
 StopsOf threads run (Sim fault) = StopsRun threads run fault
 StopsOf threads run _ = ⊥
 
--- a text stops for this: it can't be read, or is no run; memory was wanting; or it is a run, and that
--- stops for this
+-- a text stops for this: it can't be read, or is no run; memory was wanting; or it is a run, and
+-- that stops for this
 abbrev pub StopsAt : Bool → List ℕ → ProgramFault → Type 0
 StopsAt threads text CommandLine = ⊥
 StopsAt threads text Unreadable = ⊤

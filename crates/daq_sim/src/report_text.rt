@@ -15,7 +15,8 @@ pub fn print_outcome<W: Write>(
     report: &Report,
 ) -> io::Result<()>
     ensures { OnOk result (Appends (W.contents out.old) (W.contents out.new)
-        (frames_text (option_map (λ line. line.now) frames.entry) ++ account_text refused report.now)) }
+        (frames_text (option_map (λ line. line.now) frames.entry)
+        ++ account_text refused report.now)) }
 {
     print_frames(out, frames)?;
     print_lists(out, &report.lists)?;

@@ -11,8 +11,8 @@ use std::alloc::Global;
 use std::process::Abort;
 use std::test::Fail;
 
-/// The parts of a text, how many steps are refused, of each list its number and how many samples were
-/// due, written, dropped and left, the frames of the replies and those behind them.
+/// The parts of a text, how many steps are refused, of each list its number and how many samples
+/// were due, written, dropped and left, the frames of the replies and those behind them.
 #[derive(Clone, Copy)]
 struct Done<'a> {
     name: &'a str,
@@ -168,8 +168,8 @@ fn a_run_comes_to_its_frames_and_account(rt: HostRuntime) -> Result<(), Fail> {
     Ok(())
 }
 
-/// How many samples a run of two triggers writes whose writer takes so many bytes and then fails; or
-/// its fault.
+/// How many samples a run of two triggers writes whose writer takes so many bytes and then fails;
+/// or its fault.
 fn wanted_after(good: usize) -> Result<Option<u64>, SimFault> {
     match good {
         0..=40 => Err(SimFault::SetupWrite),
