@@ -7,3 +7,4 @@ pub mod AmpleLemmas
 pub mod ApartLemmas
 pub mod ThreadLemmas
 pub mod SetUpLemmas
+pub mod WholeLemmas

@@ -5,3 +5,4 @@ pub mod Faults
 pub mod Workers
 pub mod Ample
 pub mod Threads
+pub mod Whole

@@ -1,8 +1,16 @@
 //! Laws of the definitions: each is the contract of a function that does nothing.
 ghost use Rattle.daq_run.specs.Ample.{AmpleRingsDropNothing};
+ghost use Rattle.daq_run.specs.Whole.{AmpleRunsAreWhole};
 
 /// Where a ring holds all items that its channel's steps would give if none were refused for want
 /// of room, no sample is dropped, and no stop is refused for want of room.
 pub fn ample_rings_drop_nothing()
     ensures { AmpleRingsDropNothing }
+{}
+
+/// Where a ring held all, the packets of its channel and its lines of the account are those of the
+/// opening and the steps alone, once the run was drained and its writer didn't fail: the same in
+/// one thread and in every schedule of many.
+pub fn ample_runs_are_whole()
+    ensures { AmpleRunsAreWhole }
 {}
