@@ -4,7 +4,7 @@ use Rattle.std.proofs.Math.Seq.{get_or-append_seam, set-append_seam}
 use Rattle.std.proofs.lemmas.List.Elements.{All-nil, All-cons, All-append, All-head, All-tail}
 use Rattle.std.specs.Prelude.{slice_index, slice_set, All}
 use Rattle.xcp_base.specs.Packets.{ArePackets, IsPacket, last_packet, with_longer_last}
-use Rattle.xcp_base.specs.Inner.{body_of}
+use Rattle.xcp_base.specs.Bodies.{body_of}
 use Rattle.xcp_base.proofs.PacketsLemmas.{body_of-push, length-body_of}
 
 pub last_packet-push : (ps : List (List ℕ)) (q : List ℕ) → last_packet (ps ++ q ∷ []) ≡ q

@@ -4,7 +4,7 @@ use Rattle.std.proofs.lemmas.Grind.{common_steps}
 use Rattle.std.proofs.lemmas.List.Elements.{All-head, All-tail}
 use Rattle.std.specs.Prelude.{Some, slice_get}
 use Rattle.xcp_base.specs.Packets.{ArePackets, IsPacket}
-use Rattle.xcp_base.specs.Inner.{body_of, packets_of_body}
+use Rattle.xcp_base.specs.Bodies.{body_of, packets_of_body}
 
 -- the packets of a body are those that it was made of
 pub packets_of_body-body_of : (qs : List (List ℕ)) → packets_of_body (length qs) (body_of qs) ≡ qs

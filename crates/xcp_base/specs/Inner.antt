@@ -1,21 +1,9 @@
--- What no public clause cites: how `Packets` keeps its packets, one behind another in one body,
--- each behind a byte that has its length.
-use Rattle.std.specs.Prelude.{◌≡◌, ℕ, zero, suc, ◌+◌, ◌<◌, ◌≤◌, List, [], ◌∷◌, ◌++◌, length, take}
-use Rattle.std.specs.Prelude.{drop}
+-- What no public clause cites: how `Packets` keeps its packets in one body.
+use Rattle.std.specs.Prelude.{◌≡◌, ℕ, ◌+◌, ◌<◌, ◌≤◌, List, length}
 use Rattle.xcp_base.specs.declared.limits.TheConstants.{MAX_ODTS}
 use Rattle.xcp_base.specs.declared.packets.Packets.TheInside.{Inside}
+use Rattle.xcp_base.specs.Bodies.{body_of, packets_of_body}
 use Rattle.xcp_base.specs.Packets.{ArePackets, last_packet}
-
--- the body of some packets
-unfoldable pub body_of : List (List ℕ) → List ℕ
-body_of [] = []
-body_of (q ∷ qs) = length q ∷ q ++ body_of qs
-
--- the first n packets of a body
-unfoldable pub packets_of_body : ℕ → List ℕ → List (List ℕ)
-packets_of_body zero bytes = []
-packets_of_body (suc n) [] = []
-packets_of_body (suc n) (len ∷ rest) = take len rest ∷ packets_of_body n (drop len rest)
 
 -- the packets that are kept
 abbrev pub packets_view : Inside → List (List ℕ)

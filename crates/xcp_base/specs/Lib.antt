@@ -1,3 +1,4 @@
+pub mod Bodies
 pub mod ErrorCodes
 pub mod Inner
 pub mod Lists

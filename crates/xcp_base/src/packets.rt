@@ -2,6 +2,7 @@ ghost use Rattle.std.specs.Prelude.{◌≡◌, ◌<◌, ◌≤◌, ◌+◌, [], 
 ghost use Rattle.std.specs.Prelude.{OnOk, drop, length, slice_get, slice_index, slice_set, take};
 ghost use Rattle.std.specs.Option.{option_copied};
 ghost use Rattle.arrayvec.specs.ArrayVec.{array_vec_len};
+ghost use Rattle.xcp_base.specs.Bodies.{body_of};
 ghost use Rattle.xcp_base.specs.Packets.{ArePackets, IsPacket, last_packet, with_longer_last};
 
 use crate::limits::{MAX_BODY, MAX_DTO, MAX_ODTS};
@@ -36,7 +37,7 @@ impl Model for Packets {
 
 impl Packets {
     /// No packet.
-    #[tactic(auto, unfolding(crate::specs::Inner::packets_of_body, crate::specs::Inner::body_of))]
+    #[tactic(auto, unfolding(crate::specs::Bodies::packets_of_body, crate::specs::Bodies::body_of))]
     pub fn new() -> Packets
         ensures { result ≡ [] }
     {
@@ -83,6 +84,16 @@ impl Packets {
         ensures { self.new ≡ with_longer_last self.old bytes.now }
     {
         lengthen(&mut self.body, self.last, bytes);
+    }
+
+    /// The packets, one behind another, each behind a byte that has its length.
+    pub fn body(&self) -> &[u8]
+        ensures value { result.now ≡ body_of self.now }
+        ensures limit { length result.now ≤ MAX_BODY }
+        ensures each { ArePackets self.now }
+        ensures few { length self.now ≤ MAX_ODTS }
+    {
+        self.body.as_slice()
     }
 
     /// The packet at an index, counted from 0; `None` exactly where there is none.

@@ -2,7 +2,7 @@ use Rattle.std.proofs.Common.{◌≡◌, ◌+◌, ◌<◌, ◌≤◌, ℕ, List,
 use Rattle.std.proofs.lemmas.List.Elements.{All-from_get_or}
 use Rattle.std.specs.Prelude.{All}
 use Rattle.xcp_base.specs.Packets.{last_packet, with_longer_last}
-use Rattle.xcp_base.specs.Inner.{body_of, packets_of_body}
+use Rattle.xcp_base.specs.Bodies.{body_of, packets_of_body}
 use Rattle.xcp_base.proofs.PacketsLemmas.{packets_of_body-body_of}
 use Rattle.xcp_base.proofs.LastPacketLemmas.{IsLonger, HasRoom, is_longer, has_room, longer_packets}
 use Rattle.xcp_base.proofs.packets.Packets.append.Goals as goal

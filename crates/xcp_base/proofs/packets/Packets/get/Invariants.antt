@@ -1,5 +1,5 @@
 use Rattle.std.proofs.Common.{◌≡◌, drop}
-use Rattle.xcp_base.specs.Inner.{body_of}
+use Rattle.xcp_base.specs.Bodies.{body_of}
 use Rattle.xcp_base.proofs.packets.Packets.get.Given as goal
 
 -- what is left is the body from this packet on

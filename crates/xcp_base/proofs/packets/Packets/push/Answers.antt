@@ -1,7 +1,7 @@
 use Rattle.std.proofs.Common.{◌≡◌, ◌+◌, ◌<◌, ℕ, List, [], ◌∷◌, ◌++◌, length, arith, ap, ◌∙◌, sym, length-append}
 use Rattle.std.proofs.lemmas.List.Elements.{All-from_get_or, All-push}
 use Rattle.xcp_base.specs.Packets.{IsPacket}
-use Rattle.xcp_base.specs.Inner.{body_of, packets_of_body}
+use Rattle.xcp_base.specs.Bodies.{body_of, packets_of_body}
 use Rattle.xcp_base.proofs.LastPacketLemmas.{last_packet-push}
 use Rattle.xcp_base.proofs.PacketsLemmas.{body_of-push, length-body_of, packets_of_body-push}
 use Rattle.xcp_base.proofs.packets.Packets.push.Goals as goal
