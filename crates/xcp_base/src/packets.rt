@@ -48,6 +48,31 @@ impl Packets {
         }
     }
 
+    /// The same packets once more.
+    pub fn copied(&self) -> Packets
+        ensures { result ≡ self.now }
+    {
+        let mut body = ArrayVec::new();
+        let Ok(()) = body.try_extend_from_slice(self.body.as_slice()) else {
+            unreachable!();
+        };
+        Packets {
+            body,
+            count: self.count,
+            last: self.last,
+        }
+    }
+
+    /// Takes all packets away.
+    #[tactic(auto, unfolding(crate::specs::Bodies::packets_of_body, crate::specs::Bodies::body_of))]
+    pub fn clear(&mut self)
+        ensures { self.new ≡ [] }
+    {
+        self.body.clear();
+        self.count = 0;
+        self.last = 0;
+    }
+
     /// The number of packets.
     pub fn len(&self) -> usize
         ensures value { result ≡ length self.now }
