@@ -1,2 +1,3 @@
+pub mod BodyLemmas
 pub mod PacketsLemmas
 pub mod LastPacketLemmas

@@ -1,9 +1,9 @@
 -- What no public clause cites: how `Packets` keeps its packets in one body.
-use Rattle.std.specs.Prelude.{◌≡◌, ℕ, ◌+◌, ◌<◌, ◌≤◌, List, length}
+use Rattle.std.specs.Prelude.{◌≡◌, ℕ, ◌+◌, ◌<◌, ◌≤◌, List, ◌∷◌, ◌++◌, length, drop}
 use Rattle.xcp_base.specs.declared.limits.TheConstants.{MAX_ODTS}
 use Rattle.xcp_base.specs.declared.packets.Packets.TheInside.{Inside}
 use Rattle.xcp_base.specs.Bodies.{body_of, packets_of_body}
-use Rattle.xcp_base.specs.Packets.{ArePackets, last_packet}
+use Rattle.xcp_base.specs.Packets.{ArePackets, IsPacket, last_packet}
 
 -- the packets that are kept
 abbrev pub packets_view : Inside → List (List ℕ)
@@ -21,3 +21,35 @@ pub record IsBody (a : Inside) : Type 0 where
   pub room : a.count ≤ MAX_ODTS
   pub each : ArePackets (packets_view a)
   pub last : StandsAtLast a.last a.body.items (packets_view a)
+
+-- some bytes begin with a packet behind its length
+pub record BeginsWithPacket (bytes : List ℕ) : Type 0 where
+  pub packet : List ℕ
+  pub rest : List ℕ
+  pub is_packet : IsPacket packet
+  pub is : bytes ≡ length packet ∷ (packet ++ rest)
+
+-- a packet begins at a place, behind its length, and ends at another
+pub record EndsAt (bytes : List ℕ) (start stop : ℕ) : Type 0 where
+  pub packet : List ℕ
+  pub is_packet : IsPacket packet
+  pub is : drop start bytes ≡ length packet ∷ (packet ++ drop stop bytes)
+  pub next : stop ≡ start + 1 + length packet
+  pub within : stop ≤ length bytes
+
+-- the bytes are the body of so many packets, the last of which begins at this place
+pub record HasLast (number last : ℕ) (bytes : List ℕ) : Type 0 where
+  pub packets : List (List ℕ)
+  pub body : bytes ≡ body_of packets
+  pub count : length packets ≡ number
+  pub each : ArePackets packets
+  pub at : StandsAtLast last bytes packets
+
+-- the same of the bytes in front of a place
+pub record HasFront (number last stop : ℕ) (bytes : List ℕ) : Type 0 where
+  pub packets : List (List ℕ)
+  pub body : bytes ≡ body_of packets ++ drop stop bytes
+  pub count : length packets ≡ number
+  pub each : ArePackets packets
+  pub within : stop ≤ length bytes
+  pub at : 0 < length packets → last + 1 + length (last_packet packets) ≡ stop

@@ -1,5 +1,5 @@
 -- Samples and stop markers, the items of an event channel's ring (own).
-use Rattle.std.specs.Prelude.{ℕ, ◌<◌, ◌≤◌, ◌^◌, List, length}
+use Rattle.std.specs.Prelude.{◌≡◌, ℕ, ◌<◌, ◌≤◌, ◌^◌, List, length}
 use Rattle.xcp_base.specs.declared.limits.TheConstants.{MAX_CHANNELS, MAX_LISTS, MAX_ODTS}
 use Rattle.xcp_base.specs.Packets.{ArePackets}
 
@@ -19,6 +19,12 @@ pub record IsSample (s : SampleParts) : Type 0 where
   pub some : 0 < length s.packets
   pub limit : length s.packets ≤ MAX_ODTS
   pub each : ArePackets s.packets
+
+-- a sample of this channel and list, which has this number
+pub record HasParts (c l n : ℕ) (s : SampleParts) : Type 0 where
+  pub channel : s.channel ≡ c
+  pub list : s.list ≡ l
+  pub number : s.number ≡ n
 
 -- a stop marker: the event channel, and the DAQ list that was stopped
 pub record MarkParts : Type 0 where

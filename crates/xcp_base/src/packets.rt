@@ -1,8 +1,9 @@
-ghost use Rattle.std.specs.Prelude.{◌≡◌, ◌<◌, ◌≤◌, ◌+◌, [], ◌∷◌, ◌++◌, ◌↔◌, IfSome, IsOk, OnErr};
-ghost use Rattle.std.specs.Prelude.{OnOk, drop, length, slice_get, slice_index, slice_set, take};
+ghost use Rattle.std.specs.Prelude.{◌≡◌, ℕ, ◌<◌, ◌≤◌, ◌+◌, List, [], ◌∷◌, ◌++◌, ◌↔◌, IfSome};
+ghost use Rattle.std.specs.Prelude.{true, false, IsNone, IsOk, OnErr, OnOk, drop, length, slice_get, slice_index, slice_set, take};
 ghost use Rattle.std.specs.Option.{option_copied};
 ghost use Rattle.arrayvec.specs.ArrayVec.{array_vec_len};
-ghost use Rattle.xcp_base.specs.Bodies.{body_of};
+ghost use Rattle.xcp_base.specs.Bodies.{IsBodyOf, body_of};
+ghost use Rattle.xcp_base.specs.Inner.{BeginsWithPacket, EndsAt, HasLast};
 ghost use Rattle.xcp_base.specs.Packets.{ArePackets, IsPacket, last_packet, with_longer_last};
 
 use crate::limits::{MAX_BODY, MAX_DTO, MAX_ODTS};
@@ -121,6 +122,29 @@ impl Packets {
         self.body.as_slice()
     }
 
+    /// Reads packets off their body, in the place of those that were there. Bytes that are no body of
+    /// so many packets are refused, and nothing changes then.
+    pub fn read_body(&mut self, count: u8, body: &[u8]) -> bool
+        ensures yes { result ≡ true → IsBodyOf count body.now self.new }
+        ensures no { result ≡ false → (qs : List (List ℕ)) → ¬ IsBodyOf count body.now qs }
+        ensures stays { result ≡ false → self.new ≡ self.old }
+    {
+        let count = count as usize;
+        if count > MAX_ODTS {
+            return false;
+        }
+        let Some(last) = last_in(body, count) else {
+            return false;
+        };
+        self.body.clear();
+        let Ok(()) = self.body.try_extend_from_slice(body) else {
+            unreachable!();
+        };
+        self.count = count;
+        self.last = last;
+        true
+    }
+
     /// The packet at an index, counted from 0; `None` exactly where there is none.
     pub fn get(&self, index: usize) -> Option<&[u8]>
         ensures value { option_copied result ≡ slice_get self.now index }
@@ -162,6 +186,42 @@ fn lengthen(body: &mut ArrayVec<u8, MAX_BODY>, last: usize, bytes: &[u8])
     let Ok(()) = body.try_extend_from_slice(bytes) else {
         unreachable!();
     };
+}
+
+/// Where the packet ends that begins at `start`, behind its length; `None` where there is none.
+fn packet_end(body: &[u8], start: usize) -> Option<usize>
+    ensures some { IfSome result (λ end. EndsAt body.now start end) }
+    ensures none { IsNone result → ¬ BeginsWithPacket (drop start body.now) }
+{
+    if start >= body.len() {
+        return None;
+    }
+    let len = body[start] as usize;
+    if len == 0 || len > MAX_DTO {
+        return None;
+    }
+    if len >= body.len() - start {
+        return None;
+    }
+    Some(start + 1 + len)
+}
+
+/// Where the last of the packets begins that have this body, of which there are so many; `None`
+/// where it is no such body.
+fn last_in(body: &[u8], count: usize) -> Option<usize>
+    ensures some { IfSome result (λ last. HasLast count last body.now) }
+    ensures none { IsNone result → (qs : List (List ℕ)) → ¬ IsBodyOf count body.now qs }
+{
+    let mut last = 0;
+    let mut end = 0;
+    for _ in 0..count {
+        last = end;
+        end = packet_end(body, end)?;
+    }
+    if end < body.len() {
+        return None;
+    }
+    Some(last)
 }
 
 /// The packet that stands first in a body.

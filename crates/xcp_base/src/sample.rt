@@ -1,4 +1,6 @@
-ghost use Rattle.std.specs.Prelude.{◌≡◌, ◌<◌, length};
+ghost use Rattle.std.specs.Prelude.{◌≡◌, ℕ, ◌<◌, List, true, false, length};
+ghost use Rattle.xcp_base.specs.Bodies.{IsBodyOf};
+ghost use Rattle.xcp_base.specs.Samples.{HasParts};
 
 use crate::limits::{MAX_CHANNELS, MAX_LISTS};
 use crate::packets::Packets;
@@ -52,6 +54,29 @@ impl Sample {
             number,
             packets,
         }
+    }
+
+    /// Puts another sample in its place, whose packets are read off their body. Bytes that are no
+    /// body of so many packets, and a body of none, are refused, and nothing changes then.
+    pub fn read(&mut self, channel: u8, list: u8, number: u64, count: u8, body: &[u8]) -> bool
+        requires channel_below { channel < MAX_CHANNELS }
+        requires list_below { list < MAX_LISTS }
+        ensures yes { result ≡ true → HasParts channel list number self.new }
+        ensures body { result ≡ true → IsBodyOf count body.now self.new.packets }
+        ensures no { result ≡ false
+            → (qs : List (List ℕ)) → 0 < length qs → ¬ IsBodyOf count body.now qs }
+        ensures stays { result ≡ false → self.new ≡ self.old }
+    {
+        if count == 0 {
+            return false;
+        }
+        if !self.packets.read_body(count, body) {
+            return false;
+        }
+        self.channel = channel;
+        self.list = list;
+        self.number = number;
+        true
     }
 
     /// The number of the event channel.
