@@ -1,15 +1,15 @@
 #!/bin/sh
-# Proves and builds a program of bench/ and prints the path of what was built: bench/build.sh NAME LIBRARY.., where the libraries
-# are the crates of this repository that it calls and those below them, lowest first, and behind the word -- those of the kit.
+# Proves and builds a program of bench/ and prints the path of what was built: bench/build.sh NAME. The file bench/NAME/libraries
+# has the crates of this repository that it calls and those below them, lowest first, and behind the word -- those of the kit.
 #
 # It is built in the folder DAQ_BENCH, ~/.cache/daq_bench where that isn't set, beside copies of these crates: rt ci wants each
 # .rt and .antt file of the repository to be of a crate that it proves, so the sources in bench/NAME have .txt behind their names.
 set -e
 name=$1
-shift
-libraries=$(echo "$*" | sed 's/ *--.*//')
-others=$(echo "$*" | sed 's/.*-- *//')
 top=$(cd "$(dirname "$0")/.." && pwd)
+all=$(tr '\n' ' ' < "$top/bench/$name/libraries")
+libraries=${all%%-- *}
+others=${all##*-- }
 build=${DAQ_BENCH:-${XDG_CACHE_HOME:-$HOME/.cache}/daq_bench}/$name
 
 rm -rf "$build/crates/$name/src" "$build/crates/$name/proofs"

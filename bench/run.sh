@@ -4,7 +4,7 @@
 # measures the one or the other alone; with the word check neither: it says of each set whether all that is measured works.
 set -e
 cd "$(dirname "$0")"
-program=$(./build.sh daq_bench xcp_base daq_store copy_plan channel_ring sampler frame_writer transmitter daq_engine -- anyhow)
+program=$(./build.sh daq_bench)
 if [ "$1" = check ]; then
     "$program" | diff daq_bench/stdout -
     exit

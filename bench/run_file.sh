@@ -4,8 +4,7 @@
 # microseconds, each the least of five; and the peak of each process's memory over the length of the text.
 set -e
 cd "$(dirname "$0")"
-program=$(./build.sh run_bench xcp_base daq_store copy_plan channel_ring sampler frame_writer transmitter daq_engine run_setup \
-    run_file daq_steps daq_run -- toml anyhow)
+program=$(./build.sh run_bench)
 file=$(mktemp)
 log=$(mktemp)
 trap 'rm -f "$file" "$log"' EXIT

@@ -4,8 +4,7 @@
 # step comes, which a run in threads passes over. The least of five processes each, in nanoseconds a trigger, and their ratio.
 set -e
 cd "$(dirname "$0")"
-program=$(./build.sh run_bench xcp_base daq_store copy_plan channel_ring sampler frame_writer transmitter daq_engine run_setup \
-    run_file daq_steps daq_run -- toml anyhow)
+program=$(./build.sh run_bench)
 file=$(mktemp)
 log=$(mktemp)
 trap 'rm -f "$file" "$log"' EXIT

@@ -15,7 +15,7 @@ use Rattle.daq_steps.specs.Answers.{Answered, AreAnswered}
 use Rattle.daq_steps.specs.Samplings.{setting_at, was_refused}
 use Rattle.daq_steps.specs.Steps.{RunStep, asked_of}
 use Rattle.daq_run.specs.Threads.{refused_in}
-use Rattle.daq_run.specs.Workers.{HaveWorked}
+use Rattle.daq_run.specs.Inner.Workers.{HaveWorked}
 
 -- the first, and those behind it
 abbrev pub cons_at : {X : Type 0} → X → (ℕ → X) → ℕ → X

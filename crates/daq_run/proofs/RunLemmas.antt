@@ -28,7 +28,7 @@ use Rattle.daq_steps.specs.Steps.{asked_of, run_step}
 use Rattle.daq_steps.proofs.AskLemmas.{read_at, sampler_at}
 use Rattle.daq_steps.proofs.StepLemmas.{decided, few_taken, sent_stands}
 use Rattle.daq_run.specs.Faults.{StandsAtFault, StopsBehind}
-use Rattle.daq_run.specs.Opened.{IsOpened}
+use Rattle.daq_run.specs.Inner.Opened.{IsOpened}
 use Rattle.daq_run.specs.Runs.{ComesTo, HasRun, setting_of}
 use Rattle.daq_run.specs.declared.sim_fault.SimFault.{SimFault}
 use Rattle.daq_run.specs.declared.sim_fault.SimFault.TheVariants.{EndLost, Memory}

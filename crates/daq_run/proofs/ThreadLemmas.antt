@@ -35,10 +35,10 @@ use Rattle.daq_steps.specs.Steps.{asked_of, run_step}
 use Rattle.daq_steps.proofs.AskLemmas.{read_at, sampler_at}
 use Rattle.daq_steps.proofs.StepLemmas.{stay_still}
 use Rattle.daq_run.specs.Faults.{StandsAtFault, StopsBehind}
-use Rattle.daq_run.specs.Opened.{IsOpened}
+use Rattle.daq_run.specs.Inner.Opened.{IsOpened}
 use Rattle.daq_run.specs.Runs.{setting_of}
-use Rattle.daq_run.specs.Threads.{HasRunApart, MayComeLate, StopsAmongThreads, ThreadsComeTo, ThreadsStandAtFault, refused_in}
-use Rattle.daq_run.specs.Workers.{HaveWorked, KeepsTaking}
+use Rattle.daq_run.specs.Threads.{HasRunApart, StopsAmongThreads, ThreadsComeTo, ThreadsStandAtFault, refused_in}
+use Rattle.daq_run.specs.Inner.Workers.{HaveWorked, KeepsTaking, MayComeLate}
 use Rattle.daq_run.specs.declared.sim_fault.SimFault.{SimFault}
 use Rattle.daq_run.specs.declared.sim_fault.SimFault.TheVariants.{EndLost, Memory, NoThread, NothingRunning, SetupWrite}
 use Rattle.daq_run.proofs.AmpleLemmas.{ample}

@@ -19,7 +19,7 @@ use Rattle.daq_steps.specs.Answers.{Answered, AreAnswered, Setting}
 use Rattle.daq_steps.specs.Samplings.{Answers, AnswersStep, HasAnswered, HasAnsweredMore, setting_at, was_refused}
 use Rattle.daq_steps.specs.Steps.{Ask, Pump, RunStep, asked_at, asked_of}
 use Rattle.daq_steps.proofs.DoneLemmas.{answered_more}
-use Rattle.daq_run.specs.Workers.{HasWorked, HaveWorked, IsLeftOf, is_of}
+use Rattle.daq_run.specs.Inner.Workers.{HasWorked, HaveWorked, IsLeftOf, is_of}
 
 -- nothing more was taken
 pub takes_none : (a : TransmitterState) → TakesMore a a

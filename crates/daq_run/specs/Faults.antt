@@ -29,15 +29,21 @@ pub record StopsBehind (run : RunData) (before after : OutState) : Type 0 where
   pub has_run : HasRun run before refused
   pub written : after ≡ has_run.transmitter.writer.out
 
+-- what stands at a fault, where `behind` stands at a fault that comes once the engine was opened,
+-- and `apart` where a thread can't be had
+abbrev pub StandsBy : Type 0 → Type 0 → RunData → OutState → OutState → SimFault → Type 0
+StandsBy behind apart run before after Memory =
+    StopsInSetUp run before after ⊎ (StopsBefore run before after true ⊎ behind)
+StandsBy behind apart run before after NothingRunning = StopsBefore run before after false
+StandsBy behind apart run before after SetupWrite =
+    BreaksOff before after (text 0 (replies_of run))
+StandsBy behind apart run before after EndLost = behind
+StandsBy behind apart run before after NoThread = apart
+
 -- what stands where a run ends with a fault: the writer showed this before and that after
 abbrev pub StandsAtFault : RunData → OutState → OutState → SimFault → Type 0
-StandsAtFault run before after Memory =
-    StopsInSetUp run before after
-    ⊎ (StopsBefore run before after true ⊎ StopsBehind run before after)
-StandsAtFault run before after NothingRunning = StopsBefore run before after false
-StandsAtFault run before after SetupWrite = BreaksOff before after (text 0 (replies_of run))
-StandsAtFault run before after EndLost = StopsBehind run before after
-StandsAtFault run before after NoThread = ⊥
+StandsAtFault run before after fault =
+    StandsBy (StopsBehind run before after) ⊥ run before after fault
 
 -- the fault of a set-up, as that of a run
 abbrev pub run_fault : SetupFault → SimFault

@@ -1,9 +1,8 @@
 -- What a run with a thread for each event channel comes to, whatever the schedule (own).
-use Rattle.std.specs.Prelude.{◌≡◌, ◌⊎◌, ℕ, ◌<◌, true, false, List, count_by, map, sum_by}
+use Rattle.std.specs.Prelude.{◌≡◌, ℕ, ◌<◌, true, false, List, count_by, map, sum_by}
 use Rattle.xcp_base.specs.declared.item.Item.{Item}
 use Rattle.daq_store.specs.Standing.{StoreState}
-use Rattle.frame_writer.specs.Frame.{text}
-use Rattle.frame_writer.specs.Shown.{BreaksOff, OutState}
+use Rattle.frame_writer.specs.Shown.{OutState}
 use Rattle.frame_writer.specs.Writing.{WriterState}
 use Rattle.run_file.specs.RunFile.{RunData}
 use Rattle.sampler.specs.Past.{Past}
@@ -15,12 +14,10 @@ use Rattle.daq_steps.specs.Answers.{Answered, AreAnswered}
 use Rattle.daq_steps.specs.Samplings.{was_refused}
 use Rattle.daq_steps.specs.Steps.{asked_of, run_step}
 use Rattle.daq_run.specs.declared.sim_fault.SimFault.{SimFault}
-use Rattle.daq_run.specs.declared.sim_fault.SimFault.TheVariants.{EndLost, Memory, NoThread}
-use Rattle.daq_run.specs.declared.sim_fault.SimFault.TheVariants.{NothingRunning, SetupWrite}
 use Rattle.daq_run.specs.Ample.{DropsNothing, HoldsAll}
-use Rattle.daq_run.specs.Faults.{StopsBefore}
+use Rattle.daq_run.specs.Faults.{StandsBy}
 use Rattle.daq_run.specs.Runs.{HasPasts, IsClosed, setting_of}
-use Rattle.daq_run.specs.SetUps.{IsSetUp, StopsInSetUp, replies_of}
+use Rattle.daq_run.specs.SetUps.{IsSetUp}
 
 -- how many of the answers that n channels got are refusals
 abbrev pub refused_in : ℕ → (ℕ → List Answered) → ℕ
@@ -73,18 +70,6 @@ pub record StopsAmongThreads (run : RunData) (before after : OutState) : Type 0 
 -- what stands where a run in threads ends with a fault: the writer showed this before and that
 -- after
 abbrev pub ThreadsStandAtFault : RunData → OutState → OutState → SimFault → Type 0
-ThreadsStandAtFault run before after Memory =
-    StopsInSetUp run before after
-    ⊎ (StopsBefore run before after true ⊎ StopsAmongThreads run before after)
-ThreadsStandAtFault run before after NothingRunning = StopsBefore run before after false
-ThreadsStandAtFault run before after SetupWrite = BreaksOff before after (text 0 (replies_of run))
-ThreadsStandAtFault run before after EndLost = StopsAmongThreads run before after
-ThreadsStandAtFault run before after NoThread = StopsAmongThreads run before after
-
--- such a fault may come once the engine was opened
-abbrev pub MayComeLate : SimFault → Type 0
-MayComeLate Memory = Unit {0}
-MayComeLate NothingRunning = ⊥
-MayComeLate SetupWrite = ⊥
-MayComeLate EndLost = Unit {0}
-MayComeLate NoThread = Unit {0}
+ThreadsStandAtFault run before after fault =
+    StandsBy (StopsAmongThreads run before after) (StopsAmongThreads run before after)
+    run before after fault

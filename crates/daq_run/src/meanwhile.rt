@@ -1,7 +1,7 @@
 //! What the caller's thread does while others run.
 ghost use Rattle.std.specs.Prelude.{◌≡◌};
 ghost use Rattle.transmitter.specs.Written.{transmission};
-ghost use Rattle.daq_run.specs.Workers.{KeepsTaking};
+ghost use Rattle.daq_run.specs.Inner.Workers.{KeepsTaking};
 
 use crate::gate::Gate;
 use channel_ring::TakeEnd;

@@ -4,7 +4,7 @@ ghost use Rattle.frame_writer.specs.Shown.{shown};
 ghost use Rattle.frame_writer.specs.Writing.{state_of};
 ghost use Rattle.daq_engine.specs.Engines.{engine_state};
 ghost use Rattle.daq_run.specs.Faults.{StandsAtFault};
-ghost use Rattle.daq_run.specs.Opened.{IsOpened};
+ghost use Rattle.daq_run.specs.Inner.Opened.{IsOpened};
 ghost use Rattle.daq_run.specs.SetUps.{IsSetUp};
 
 use crate::sim_fault::SimFault;

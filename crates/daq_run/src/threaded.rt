@@ -6,8 +6,8 @@ ghost use Rattle.frame_writer.specs.Shown.{shown};
 ghost use Rattle.run_file.specs.RunFile.{RunData};
 ghost use Rattle.transmitter.specs.Written.{transmission};
 ghost use Rattle.daq_steps.specs.Steps.{run_step};
-ghost use Rattle.daq_run.specs.Threads.{MayComeLate, ThreadsComeTo, ThreadsStandAtFault};
-ghost use Rattle.daq_run.specs.Workers.{HaveWorked, KeepsTaking};
+ghost use Rattle.daq_run.specs.Inner.Workers.{HaveWorked, KeepsTaking, MayComeLate};
+ghost use Rattle.daq_run.specs.Threads.{ThreadsComeTo, ThreadsStandAtFault};
 
 use crate::gate::Gate;
 use crate::meanwhile::{Flags, Meanwhile, Pumping, take_back};

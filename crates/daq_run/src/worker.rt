@@ -5,7 +5,7 @@ ghost use Rattle.run_file.specs.declared.limits.TheConstants.{MAX_STEPS};
 ghost use Rattle.sampler.specs.Stays.{KeepsSetUp};
 ghost use Rattle.daq_steps.specs.Samplings.{HasAnsweredMore};
 ghost use Rattle.daq_steps.specs.Steps.{asked_at, asked_of, run_step};
-ghost use Rattle.daq_run.specs.Workers.{HasWorked, is_of};
+ghost use Rattle.daq_run.specs.Inner.Workers.{HasWorked, is_of};
 
 use crate::gate::Gate;
 use channel_ring::{RingEnd, SendEnd};

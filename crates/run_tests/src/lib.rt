@@ -1,4 +1,4 @@
-//! The tests of run files and serial runs, and of the writer over a stream. As a library this crate
+//! The tests of run files and whole runs, and of the writer over a stream. As a library this crate
 //! is empty.
 #![tactic(auto)]
 
@@ -9,8 +9,8 @@ mod runs;
 #[cfg(test)]
 mod same;
 #[cfg(test)]
-mod serial;
-#[cfg(test)]
 mod streams;
 #[cfg(test)]
 mod text;
+#[cfg(test)]
+mod whole;

@@ -1,5 +1,5 @@
 use Rattle.transmitter.specs.Written.{transmission}
-use Rattle.daq_run.specs.Workers.{KeepsTaking}
+use Rattle.daq_run.specs.Inner.Workers.{KeepsTaking}
 use Rattle.daq_run.proofs.meanwhile.pump_until.Given as goal
 
 -- some more was taken of the same rings

@@ -5,7 +5,7 @@ use Rattle.std.proofs.lemmas.Iterator.Consumers.{YieldsList-end}
 use Rattle.std.proofs.lemmas.List.{map-append, map-id}
 use Rattle.run_file.specs.RunFile.{RunData}
 use Rattle.daq_steps.specs.Steps.{run_step}
-use Rattle.daq_run.specs.Workers.{HaveWorked, IsLeftOf}
+use Rattle.daq_run.specs.Inner.Workers.{HaveWorked, IsLeftOf}
 use Rattle.daq_run.specs.declared.worker.WillWork.{WillWork}
 use Rattle.daq_run.proofs.WorkLemmas.{all-before, worked-more}
 use Rattle.daq_run.proofs.threaded.join_all.Goals as goal

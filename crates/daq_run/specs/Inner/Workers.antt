@@ -9,6 +9,9 @@ use Rattle.sampler.specs.Standing.{EndStandsAfter, StandsAfter}
 use Rattle.sampler.specs.State.{JoinedEnd, SamplerEndState, SamplerState, joined}
 use Rattle.transmitter.specs.Pumps.{TakesMore}
 use Rattle.transmitter.specs.Written.{TransmitterState}
+use Rattle.daq_run.specs.declared.sim_fault.SimFault.{SimFault}
+use Rattle.daq_run.specs.declared.sim_fault.SimFault.TheVariants.{EndLost, Memory, NoThread}
+use Rattle.daq_run.specs.declared.sim_fault.SimFault.TheVariants.{NothingRunning, SetupWrite}
 use Rattle.daq_steps.specs.Answers.{Answered, AreAnswered, Setting}
 use Rattle.daq_steps.specs.Samplings.{setting_at, was_refused}
 use Rattle.daq_steps.specs.Steps.{Ask, Pump, RunStep, asked_of}
@@ -66,3 +69,11 @@ HaveWorked send ring _ steps _ refused = ⊥
 pub record KeepsTaking (before after : TransmitterState) : Type 0 where
   pub more : TakesMore before after
   pub rings : after.rings ≡ before.rings
+
+-- such a fault may come once the engine was opened
+abbrev pub MayComeLate : SimFault → Type 0
+MayComeLate Memory = Unit {0}
+MayComeLate NothingRunning = ⊥
+MayComeLate SetupWrite = ⊥
+MayComeLate EndLost = Unit {0}
+MayComeLate NoThread = Unit {0}

@@ -1,15 +1,17 @@
-//! Serial runs, from the text of a run file to the frames and the account.
+//! Whole runs, from the text of a run file to the frames and the account.
 use crate::same::same;
 use crate::text::{
     NO_STEPS, ONE_CHANNEL, ONE_LIST, ONE_LIST_STOPPED, THREE_LISTS, TWO_TRIGGERS, joined,
 };
 use daq_engine::{ListReport, Report};
-use daq_run::{Outcome, SimFault, run_serial};
-use frame_writer::{FuseOut, VecOut};
+use daq_run::{NoGate, Outcome, SimFault, run_serial, run_threads};
+use frame_writer::{FuseOut, Out, VecOut};
 use run_file::Run;
 use std::alloc::Global;
 use std::process::Abort;
+use std::sync::Wait;
 use std::test::Fail;
+use std::thread::Threads;
 
 /// The parts of a text, how many steps are refused, of each list its number and how many samples
 /// were due, written, dropped and left, the frames of the replies and those behind them.
@@ -168,6 +170,24 @@ fn a_run_comes_to_its_frames_and_account(rt: HostRuntime) -> Result<(), Fail> {
     Ok(())
 }
 
+/// Carries out a run, in one thread or with one for each event channel.
+fn carried_out<R: Threads + Wait + Sync, O: Out>(
+    rt: &R,
+    alloc: Global,
+    run: &Run,
+    out: O,
+    threads: bool,
+) -> Result<Outcome<O>, (SimFault, O)> {
+    if threads {
+        run_threads(rt, alloc, run, out, &NoGate)
+    } else {
+        run_serial(alloc, run, out)
+    }
+}
+
+/// Both ways to carry out a run: what each is called, and whether it has threads.
+const WAYS: [(&str, bool); 2] = [("in one thread", false), ("in threads", true)];
+
 /// How many samples a run of two triggers writes whose writer takes so many bytes and then fails;
 /// or its fault.
 fn wanted_after(good: usize) -> Result<Option<u64>, SimFault> {
@@ -197,18 +217,32 @@ fn left_by(outcome: &Result<Outcome<FuseOut>, (SimFault, FuseOut)>) -> (&[u8], b
     }
 }
 
-#[test]
-fn a_run_stops_at_whichever_byte_the_writer_fails(rt: HostRuntime) -> Result<(), Fail> {
-    let text = joined(rt.alloc(), &[ONE_CHANNEL, ONE_LIST, TWO_TRIGGERS])?;
-    let run = Run::read(rt.alloc(), &text)?;
+/// Carries a run of two triggers out once for each byte at which the writer may fail.
+fn fails_at_each_byte<R: Threads + Wait + Sync + Abort>(
+    rt: &R,
+    alloc: Global,
+    run: &Run,
+    way: (&str, bool),
+) -> Result<(), Fail> {
+    let (name, threads) = way;
     for good in 0..=55 {
-        let outcome = run_serial(rt.alloc(), &run, FuseOut::new(rt.alloc(), 64, good));
+        let outcome = carried_out(rt, alloc, run, FuseOut::new(alloc, 64, good), threads);
         let shown = (came_to(&outcome), left_by(&outcome));
         let Some(bytes) = WHOLE.get(..good) else {
             return Err(Fail::from("more bytes than there are"));
         };
         let wanted = (wanted_after(good), (bytes, good < 55));
-        same(&rt, shown, wanted, "two triggers", "the outcome");
+        same(rt, shown, wanted, name, "the outcome");
+    }
+    Ok(())
+}
+
+#[test]
+fn a_run_stops_at_whichever_byte_the_writer_fails(rt: HostRuntime) -> Result<(), Fail> {
+    let text = joined(rt.alloc(), &[ONE_CHANNEL, ONE_LIST, TWO_TRIGGERS])?;
+    let run = Run::read(rt.alloc(), &text)?;
+    for way in WAYS {
+        fails_at_each_byte(&rt, rt.alloc(), &run, way)?;
     }
     Ok(())
 }
@@ -217,16 +251,13 @@ fn a_run_stops_at_whichever_byte_the_writer_fails(rt: HostRuntime) -> Result<(),
 fn nothing_runs_after_a_set_up_without_a_start(rt: HostRuntime) -> Result<(), Fail> {
     let text = joined(rt.alloc(), &[ONE_CHANNEL, ONE_LIST_STOPPED, TWO_TRIGGERS])?;
     let run = Run::read(rt.alloc(), &text)?;
-    let Err((fault, out)) = run_serial(rt.alloc(), &run, VecOut::new(rt.alloc())) else {
-        return Err(Fail::from("it ran"));
-    };
-    same(
-        &rt,
-        fault,
-        SimFault::NothingRunning,
-        "no start",
-        "the fault",
-    );
-    same(&rt, out.bytes(), &REPLIES[..35], "no start", "the replies");
+    for (name, threads) in WAYS {
+        let out = VecOut::new(rt.alloc());
+        let Err((fault, out)) = carried_out(&rt, rt.alloc(), &run, out, threads) else {
+            return Err(Fail::from("it ran"));
+        };
+        same(&rt, fault, SimFault::NothingRunning, name, "the fault");
+        same(&rt, out.bytes(), &REPLIES[..35], name, "the replies");
+    }
     Ok(())
 }
