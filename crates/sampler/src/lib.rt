@@ -10,6 +10,8 @@ mod lists;
 mod moment;
 mod offering;
 mod opening;
+mod polled;
+mod polling;
 mod sampler;
 mod sampler_end;
 mod taken;
@@ -17,6 +19,7 @@ mod track;
 
 pub use counts::ListCounts;
 pub use faults::{StartFault, StopFault, TriggerFault};
+pub use polled::Polled;
 pub use sampler::Sampler;
 pub use sampler_end::SamplerEnd;
 pub use taken::Taken;

@@ -1,0 +1,65 @@
+ghost use Rattle.std.specs.Prelude.{◌≡◌, ◌+◌, ◌≤◌, [], ◌∷◌, ◌++◌};
+ghost use Rattle.std.specs.Prelude.{IfErr, IfSome, IsOk, OnErr, OnOk, length};
+
+use crate::ended::ControlEnded;
+use crate::order::Order;
+use rtrb::{Producer, PushError};
+use std::marker::Model;
+
+/// The send end of a ring of orders.
+#[derive(Drop)]
+pub struct ControlSend {
+    pub(crate) producer: Producer<Order>,
+}
+
+impl Model for ControlSend {
+    ghost use Rattle.rtrb.specs.Ring.{known_free, producer_capacity, sent};
+    ghost use Rattle.channel_ring.specs.Names.{name_of};
+    ghost use Rattle.control_ring.specs.Orders.{SendState};
+
+    ghost Value = { SendState };
+
+    ghost view = { λ s. record {
+      sent = sent s.producer;
+      free = known_free s.producer;
+      capacity = producer_capacity s.producer;
+      ring = name_of s.producer.end;
+    } };
+}
+
+impl ControlSend {
+    /// Sends an order, or gives it back. It takes no memory.
+    ///
+    /// It may succeed where no place is known to be free: the take end may have freed some since.
+    pub fn send(&mut self, order: Order) -> Result<(), Order>
+        ensures succeeds { 1 ≤ self.old.free → IsOk result }
+
+        ensures ok { OnOk result (self.new.sent ≡ self.old.sent ++ order ∷ []) }
+        ensures spent { OnOk result (self.old.free ≤ self.new.free + 1) }
+
+        ensures back { IfErr result (λ returned. returned ≡ order) }
+        ensures err { OnErr result (self.new.sent ≡ self.old.sent) }
+        ensures err_free { OnErr result (self.old.free ≤ self.new.free) }
+
+        // what isn't known to be free is taken up by what was sent
+        ensures enough { self.new.capacity ≤ self.new.free + length self.new.sent }
+        ensures capacity_stays { self.new.capacity ≡ self.old.capacity }
+        ensures ring_stays { self.new.ring ≡ self.old.ring }
+    {
+        match self.producer.push(order) {
+            Ok(()) => Ok(()),
+            Err(PushError::Full(order)) => Err(order),
+        }
+    }
+
+    /// Gives the end up. What was sent stays in the ring. No clause says that the answer is `Some`.
+    pub fn finish(self) -> Option<ControlEnded>
+        ensures sent { IfSome result (λ end. end.sent ≡ self.sent) }
+        ensures ring { IfSome result (λ end. end.ring ≡ self.ring) }
+    {
+        match self.producer.finish() {
+            Some(finished) => Some(ControlEnded { finished }),
+            None => None,
+        }
+    }
+}

@@ -1,0 +1,84 @@
+ghost use Rattle.std.specs.Prelude.{◌≡◌, ◌<◌, [], ◌∷◌, ◌++◌, length};
+ghost use Rattle.std.specs.Prelude.{IfSome, IsNone, IsSome};
+ghost use mathlib.Core.List.{IsPrefix};
+
+use crate::ended::ControlEnded;
+use crate::order::Order;
+use rtrb::Consumer;
+use std::marker::Model;
+
+/// The take end of a ring of orders.
+#[derive(Drop)]
+pub struct ControlTake {
+    pub(crate) consumer: Consumer<Order>,
+}
+
+impl Model for ControlTake {
+    ghost use Rattle.rtrb.specs.Ring.{known_items, received};
+    ghost use Rattle.channel_ring.specs.Names.{name_of};
+    ghost use Rattle.control_ring.specs.Orders.{TakeState};
+
+    ghost Value = { TakeState };
+
+    ghost view = { λ t. record {
+      received = received t.consumer;
+      known = known_items t.consumer;
+      ring = name_of t.consumer.end;
+    } };
+}
+
+impl ControlTake {
+    /// The oldest order, which stays in the ring: it is what the next `take` gives.
+    ///
+    /// It may find an order where none is known: the send end may have sent one since.
+    pub fn front(&mut self) -> Option<Order>
+        ensures gives { 0 < length self.old.known → IsSome result }
+        ensures some { IfSome result (λ order. IsPrefix (order ∷ []) self.new.known) }
+        ensures none { IsNone result → self.new.known ≡ [] }
+        ensures grows { IsPrefix self.old.known self.new.known }
+        ensures received_stays { self.new.received ≡ self.old.received }
+        ensures ring_stays { self.new.ring ≡ self.old.ring }
+    {
+        if self.consumer.is_empty() {
+            return None;
+        }
+        Some(*self.consumer.peek_known())
+    }
+
+    /// Takes the oldest order. It takes no memory.
+    ///
+    /// It may find an order where none is known: the send end may have sent one since.
+    pub fn take(&mut self) -> Option<Order>
+        ensures gives { 0 < length self.old.known → IsSome result }
+
+        ensures some { IfSome result (λ order.
+            self.new.received ≡ self.old.received ++ order ∷ []) }
+        // the first order that is known, and none of the others is forgotten
+        ensures first { IfSome result (λ order.
+            IsPrefix self.old.known (order ∷ self.new.known)) }
+
+        ensures none { IsNone result → self.new.received ≡ self.old.received }
+        ensures empty { IsNone result → self.new.known ≡ [] }
+
+        ensures ring_stays { self.new.ring ≡ self.old.ring }
+    {
+        self.consumer.pop().ok()
+    }
+
+    /// Looks at all that was sent through the finished send end of this ring, and answers how many
+    /// orders are left.
+    ///
+    /// From then on each order left is known. It holds in whichever threads the two ends were.
+    pub fn after(&mut self, end: &mut ControlEnded) -> usize
+        requires one_ring { end.old.ring ≡ self.old.ring }
+        ensures count { result ≡ length self.new.known }
+        ensures left { self.new.received ++ self.new.known ≡ end.new.sent }
+
+        ensures received_stays { self.new.received ≡ self.old.received }
+        ensures sent_stays { end.new.sent ≡ end.old.sent }
+        ensures ring_stays { self.new.ring ≡ self.old.ring }
+        ensures end_ring_stays { end.new.ring ≡ end.old.ring }
+    {
+        self.consumer.slots_after(&mut end.finished)
+    }
+}

@@ -1,0 +1,15 @@
+use control_ring::Order;
+
+/// What became of a look at a control ring.
+#[derive(Clone, Copy, Debug, PartialEq, Eq)]
+pub enum Polled {
+    /// No order was there.
+    Nothing,
+    /// The order was taken off and carried out.
+    Done(Order),
+    /// The order was taken off and refused, for another cause than want of room. The sampler is
+    /// unchanged.
+    Refused(Order),
+    /// The marker of a stop found no room. The order stays at the front, and the list still runs.
+    Waiting(Order),
+}
