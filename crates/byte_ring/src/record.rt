@@ -1,0 +1,93 @@
+//! Items as records: how they are written.
+ghost use Rattle.std.specs.Prelude.{◌≡◌, ◌+◌, ◌<◌, ◌≤◌, [], ◌∷◌, ◌++◌, length};
+ghost use Rattle.std.specs.Int.{to_le_bytes, w64};
+ghost use Rattle.arrayvec.specs.ArrayVec.{array_vec_len};
+ghost use Rattle.channel_ring.specs.Ends.{sample_item};
+ghost use Rattle.byte_ring.specs.Records.{IsItem, record_of};
+
+use arrayvec::ArrayVec;
+use xcp_base::limits::{MAX_CHANNELS, MAX_LISTS, MIN_BYTE_RING};
+use xcp_base::{Item, Packets};
+
+/// The longest record, in bytes: the smallest ring has room for it.
+pub(crate) const MAX_RECORD: usize = MIN_BYTE_RING;
+
+/// The bytes in front of the packets in the record of a sample.
+pub(crate) const HEAD: usize = 12;
+
+/// The first byte of a sample's record.
+pub(crate) const SAMPLE: u8 = 1;
+
+/// The first byte of a stop marker's record.
+pub(crate) const MARKER: u8 = 2;
+
+/// The bytes of a stop marker's record.
+pub(crate) const MARKER_LEN: usize = 3;
+
+/// The number of bytes of an item's record.
+#[tactic(auto, unfolding(crate::specs::Records::record_of))]
+pub(crate) fn record_len(item: &Item) -> usize
+    ensures { result ≡ length (record_of item.now) }
+{
+    match item {
+        Item::Sample(sample) => HEAD + sample.packets().body().len(),
+        Item::Marker(_) => MARKER_LEN,
+    }
+}
+
+/// What stands in front of the packets in the record of a sample.
+fn head_of(channel: u8, list: u8, number: u64, count: u8) -> [u8; HEAD]
+    ensures { result ≡ 1 ∷ channel ∷ list ∷ (to_le_bytes w64 number ++ count ∷ []) }
+{
+    let [a, b, c, d, e, f, g, h] = number.to_le_bytes();
+    [SAMPLE, channel, list, a, b, c, d, e, f, g, h, count]
+}
+
+/// Appends bytes for which there is room.
+fn append(out: &mut ArrayVec<u8, MAX_RECORD>, bytes: &[u8])
+    requires { array_vec_len out.old + length bytes.now ≤ MAX_RECORD }
+    ensures bytes { out.new.items ≡ out.old.items ++ bytes.now }
+    ensures len { array_vec_len out.new ≡ array_vec_len out.old + length bytes.now }
+{
+    let Ok(()) = out.try_extend_from_slice(bytes) else {
+        unreachable!();
+    };
+}
+
+/// Writes the record of a sample in the place of what was there.
+#[tactic(auto, unfolding(crate::specs::Records::record_of))]
+pub(crate) fn write_sample(
+    out: &mut ArrayVec<u8, MAX_RECORD>,
+    channel: u8,
+    list: u8,
+    number: u64,
+    packets: &Packets,
+)
+    requires channel_below { channel < MAX_CHANNELS }
+    requires list_below { list < MAX_LISTS }
+    requires some { 0 < length packets.now }
+    ensures bytes { out.new.items ≡ record_of (sample_item channel list number packets.now) }
+    ensures item { IsItem (sample_item channel list number packets.now) }
+{
+    out.clear();
+    append(out, &head_of(channel, list, number, packets.len() as u8));
+    append(out, packets.body());
+}
+
+/// Writes the record of an item in the place of what was there.
+#[tactic(auto, unfolding(crate::specs::Records::record_of))]
+pub(crate) fn write_record(out: &mut ArrayVec<u8, MAX_RECORD>, item: &Item)
+    ensures bytes { out.new.items ≡ record_of item.now }
+    ensures item { IsItem item.now }
+{
+    match item {
+        Item::Sample(sample) => {
+            let (channel, list) = (sample.channel(), sample.list());
+            write_sample(out, channel, list, sample.number(), sample.packets());
+        }
+        Item::Marker(marker) => {
+            out.clear();
+            append(out, &[MARKER, marker.channel(), marker.list()]);
+        }
+    }
+}
