@@ -4,6 +4,7 @@
 mod byte_log;
 mod fuse_out;
 pub mod laws;
+mod layout;
 mod out;
 mod reader;
 mod std_out;

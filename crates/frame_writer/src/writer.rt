@@ -1,18 +1,14 @@
 ghost use Rattle.std.specs.Prelude.{◌≡◌, ◌+◌, ◌%◌, ◌<◌, ◌≤◌, ◌↔◌, ◌++◌, false, true, IsErrOf};
 ghost use Rattle.std.specs.Prelude.{IsTrue, OnOk, length};
-ghost use Rattle.arrayvec.specs.ArrayVec.{array_vec_len};
-ghost use Rattle.frame_writer.specs.Frame.{frame, two_bytes};
+ghost use Rattle.frame_writer.specs.Frame.{frame};
 ghost use Rattle.frame_writer.specs.Shown.{BreaksOff, after_bytes, shown};
 ghost use Rattle.frame_writer.specs.Writing.{FailsWithin, after_frame, fresh_writer, out_of};
 ghost use Rattle.frame_writer.specs.Writing.{state_of};
 
+use crate::layout::{MAX_TEXT, place_frame};
 use crate::out::Out;
-use arrayvec::ArrayVec;
 use thiserror::Error;
 use xcp_base::limits::MAX_DTO;
-
-/// LEN, CTR and the longest packet, in bytes.
-const MAX_FRAME: usize = 4 + MAX_DTO;
 
 /// Why a frame was not written.
 #[derive(Clone, Copy, Debug, PartialEq, Eq, Error)]
@@ -31,6 +27,7 @@ pub struct FrameWriter<O> {
     out: O,
     counter: u16,
     closed: bool,
+    room: [u8; MAX_TEXT],
 }
 
 impl<O: Out> FrameWriter<O> {
@@ -43,6 +40,7 @@ impl<O: Out> FrameWriter<O> {
             out,
             counter: 0,
             closed: false,
+            room: [0; MAX_TEXT],
         }
     }
 
@@ -71,8 +69,8 @@ impl<O: Out> FrameWriter<O> {
         if self.closed {
             return Err(WriteFault::Closed);
         }
-        let frame = frame_of(self.counter, packet);
-        if !put_all(&mut self.out, frame.as_slice()) {
+        let end = place_frame(&mut self.room, 0, self.counter, packet);
+        if !put_all(&mut self.out, &self.room[..end]) {
             self.closed = true;
             return Err(WriteFault::Failed);
         }
@@ -100,37 +98,6 @@ impl<O: Out> FrameWriter<O> {
     {
         self.out
     }
-}
-
-/// LEN and CTR.
-fn header_of(len: u16, counter: u16) -> [u8; 4]
-    ensures { result ≡ two_bytes len ++ two_bytes (counter % 65536) }
-{
-    let [len_low, len_high] = len.to_le_bytes();
-    let [counter_low, counter_high] = counter.to_le_bytes();
-    [len_low, len_high, counter_low, counter_high]
-}
-
-/// The frame of a packet.
-fn frame_of(counter: u16, packet: &[u8]) -> ArrayVec<u8, MAX_FRAME>
-    requires { length packet.now ≤ MAX_DTO }
-    ensures { result.items ≡ frame counter packet.now }
-{
-    let mut frame = ArrayVec::new();
-    append(&mut frame, &header_of(packet.len() as u16, counter));
-    append(&mut frame, packet);
-    frame
-}
-
-/// Appends bytes for which there is room.
-fn append(frame: &mut ArrayVec<u8, MAX_FRAME>, bytes: &[u8])
-    requires { array_vec_len frame.old + length bytes.now ≤ MAX_FRAME }
-    ensures bytes { frame.new.items ≡ frame.old.items ++ bytes.now }
-    ensures len { array_vec_len frame.new ≡ array_vec_len frame.old + length bytes.now }
-{
-    let Ok(()) = frame.try_extend_from_slice(bytes) else {
-        unreachable!();
-    };
 }
 
 /// Whether the writer took all of the bytes; if not, it failed or stalled once, at its last call.

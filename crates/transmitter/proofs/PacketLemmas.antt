@@ -1,8 +1,6 @@
 -- A frame writer that goes over the packets of a sample.
-use Rattle.std.proofs.Common.{◌≡◌, ℕ, zero, suc, ◌+◌, List, [], ◌∷◌, ◌++◌, length, take, drop, Some, sym, ap, ◌∙◌, arith, append_assoc, length-append}
-use Rattle.std.specs.List.{slice_get}
-use Rattle.std.proofs.lemmas.List.{take_more}
-use Rattle.std.proofs.lemmas.Option.{slice_get_within, get_or_from_slice_get}
+use Rattle.std.proofs.Common.{◌≡◌, ℕ, ◌+◌, List, [], ◌∷◌, ◌++◌, length, map, sym, ap, ◌∙◌, arith, append_assoc, length-append, Bor}
+use Rattle.std.proofs.lemmas.List.{map_push}
 use Rattle.frame_writer.specs.Frame.{frame, text}
 use Rattle.frame_writer.specs.Shown.{OutState, after_bytes}
 use Rattle.frame_writer.specs.Writing.{AfterText, FailsWithin, WriterState, after_frame}
@@ -22,22 +20,23 @@ after_text-append a b c ps qs first more =
       closed = more.closed ∙ first.closed;
     }
 
--- one packet more of some was sent
-pub after_text-next : (a m b : WriterState) (qs : List (List ℕ)) (k : ℕ) (q : List ℕ) → AfterText a m (take k qs) → slice_get qs k ≡ Some q → b ≡ after_frame m q → AfterText a b (take (k + 1) qs)
-after_text-next a m b qs k q sent at is =
-    let more : take (k + 1) qs ≡ take k qs ++ q ∷ [] =
-    take_more qs k q (slice_get_within qs k q at) ∙ ap (λ (x : List ℕ). take k qs ++ x ∷ []) (get_or_from_slice_get qs k q q at) in
-    rw (more, is) (after_text-push a m (take k qs) q sent)
+-- the packets that an iterator gave and those that are left are all of them, also behind one more
+pub given-next : (given : List (Bor (List ℕ))) (q : Bor (List ℕ)) (it left all : List (List ℕ)) → map (λ x. x.now) given ++ it ≡ all → it ≡ q.now ∷ left → map (λ x. x.now) (given ++ q ∷ []) ++ left ≡ all
+given-next given q it left all are is =
+    ap (λ qs. qs ++ left) (map_push (λ (x : Bor (List ℕ)). x.now) given q)
+    ∙ append_assoc (map (λ x. x.now) given) (q.now ∷ []) left
+    ∙ ap (λ qs. map (λ x. x.now) given ++ qs) (sym is)
+    ∙ are
 
-split_at : (qs : List (List ℕ)) (k : ℕ) (q : List ℕ) → slice_get qs k ≡ Some q → qs ≡ take k qs ++ q ∷ drop (suc k) qs
-split_at [] k q e = cc
-split_at (x ∷ qs) zero q e = cc
-split_at (x ∷ qs) (suc k) q e = ap (λ t. x ∷ t) (split_at qs k q e)
+-- one packet more was sent
+pub after_text-next : (a m b : WriterState) (given : List (Bor (List ℕ))) (q : Bor (List ℕ)) → AfterText a m (map (λ x. x.now) given) → b ≡ after_frame m q.now → AfterText a b (map (λ x. x.now) (given ++ q ∷ []))
+after_text-next a m b given q sent is =
+    rw (map_push (λ (x : Bor (List ℕ)). x.now) given q, is) (after_text-push a m (map (λ x. x.now) given) q.now sent)
 
 -- the writer failed within one packet of some, behind those that were sent
-pub breaks-at : (a m b : WriterState) (qs : List (List ℕ)) (k : ℕ) (q : List ℕ) → AfterText a m (take k qs) → slice_get qs k ≡ Some q → FailsWithin m b (frame m.counter q) → BreaksWithin a b qs
-breaks-at a m b qs k q sent at fails = record {
-  out = breaks_off-text a m b (take k qs) q (drop (suc k) qs) qs sent fails (split_at qs k q at);
-  was_open = sym sent.closed ∙ fails.was_open;
+pub breaks-at : (a m b : WriterState) (sent : List (List ℕ)) (q : List ℕ) (it left all : List (List ℕ)) → AfterText a m sent → sent ++ it ≡ all → it ≡ q ∷ left → FailsWithin m b (frame m.counter q) → BreaksWithin a b all
+breaks-at a m b sent q it left all were are is fails = record {
+  out = breaks_off-text a m b sent q left all were fails (sym are ∙ ap (λ qs. sent ++ qs) is);
+  was_open = sym were.closed ∙ fails.was_open;
   closed = fails.closed;
 }

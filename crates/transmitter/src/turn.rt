@@ -121,8 +121,7 @@ fn write_all<O: Out>(writer: &mut FrameWriter<O>, packets: &Packets) -> bool
     ensures part { result ≡ false
         → BreaksWithin (state_of O.Out writer.old) (state_of O.Out writer.new) packets.now }
 {
-    for k in 0..packets.len() {
-        let packet = packets.get(k).unwrap();
+    for packet in packets.iter() {
         match writer.send(packet) {
             Ok(()) => {}
             Err(_) => return false,

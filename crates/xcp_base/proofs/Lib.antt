@@ -1,3 +1,4 @@
 pub mod BodyLemmas
 pub mod PacketsLemmas
 pub mod LastPacketLemmas
+pub mod IterLemmas

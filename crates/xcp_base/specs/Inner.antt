@@ -53,3 +53,11 @@ pub record HasFront (number last stop : ℕ) (bytes : List ℕ) : Type 0 where
   pub each : ArePackets packets
   pub within : stop ≤ length bytes
   pub at : 0 < length packets → last + 1 + length (last_packet packets) ≡ stop
+
+-- all packets of a body, which has a byte at least for each
+abbrev pub packets_in : List ℕ → List (List ℕ)
+packets_in bytes = packets_of_body (length bytes) bytes
+
+-- the bytes are the body of some packets
+pub record IsWholeBody (bytes : List ℕ) : Type 0 where
+  pub whole : bytes ≡ body_of (packets_in bytes)

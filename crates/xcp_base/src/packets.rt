@@ -7,6 +7,7 @@ ghost use Rattle.xcp_base.specs.Inner.{BeginsWithPacket, EndsAt, HasLast};
 ghost use Rattle.xcp_base.specs.Packets.{ArePackets, IsPacket, last_packet, with_longer_last};
 
 use crate::limits::{MAX_BODY, MAX_DTO, MAX_ODTS};
+use crate::packet_iter::PacketIter;
 use arrayvec::ArrayVec;
 use std::marker::Model;
 use thiserror::Error;
@@ -145,7 +146,18 @@ impl Packets {
         true
     }
 
+    /// The packets in order, each found where the one before it ends.
+    pub fn iter(&self) -> PacketIter<'_>
+        ensures value { result ≡ self.now }
+        ensures each { ArePackets self.now }
+        ensures few { length self.now ≤ MAX_ODTS }
+    {
+        PacketIter { rest: self.body() }
+    }
+
     /// The packet at an index, counted from 0; `None` exactly where there is none.
+    ///
+    /// It goes over the packets before it. Whoever wants all of them takes `iter`.
     pub fn get(&self, index: usize) -> Option<&[u8]>
         ensures value { option_copied result ≡ slice_get self.now index }
         ensures packet { IfSome result (λ q. IsPacket q.now) }

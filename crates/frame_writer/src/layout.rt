@@ -1,0 +1,44 @@
+//! Frames, laid out one behind another in a buffer.
+ghost use Rattle.std.specs.Prelude.{◌≡◌, ◌+◌, ◌%◌, ◌≤◌, ◌++◌, length, take};
+ghost use Rattle.frame_writer.specs.Frame.{frame, two_bytes};
+
+use xcp_base::limits::{MAX_DTO, MAX_ODTS};
+
+/// LEN, CTR and the longest packet, in bytes.
+const MAX_FRAME: usize = 4 + MAX_DTO;
+
+/// The frames of a sample at their longest, in bytes.
+pub const MAX_TEXT: usize = MAX_ODTS * MAX_FRAME;
+
+/// LEN and CTR.
+fn header_of(len: u16, counter: u16) -> [u8; 4]
+    ensures { result ≡ two_bytes len ++ two_bytes (counter % 65536) }
+{
+    let [len_low, len_high] = len.to_le_bytes();
+    let [counter_low, counter_high] = counter.to_le_bytes();
+    [len_low, len_high, counter_low, counter_high]
+}
+
+/// Writes bytes from `at` on, and answers where they end.
+fn place(room: &mut [u8], at: usize, bytes: &[u8]) -> usize
+    requires room { at + length bytes.now ≤ length room.old }
+    ensures bytes { take result room.new ≡ take at room.old ++ bytes.now }
+    ensures end { result ≡ at + length bytes.now }
+    ensures len { length room.new ≡ length room.old }
+{
+    let end = at + bytes.len();
+    room[at..end].copy_from_slice(bytes);
+    end
+}
+
+/// Writes the frame of a packet from `at` on, and answers where it ends.
+pub fn place_frame(room: &mut [u8; MAX_TEXT], at: usize, counter: u16, packet: &[u8]) -> usize
+    requires fits { length packet.now ≤ MAX_DTO }
+    requires room { at + MAX_FRAME ≤ MAX_TEXT }
+    ensures frame { take result room.new ≡ take at room.old ++ frame counter packet.now }
+    ensures end { result ≡ at + 4 + length packet.now }
+{
+    let header = header_of(packet.len() as u16, counter);
+    let body = place(&mut room[..], at, &header[..]);
+    place(&mut room[..], body, packet)
+}
