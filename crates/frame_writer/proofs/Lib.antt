@@ -1,4 +1,5 @@
 pub mod FaultLemmas
 pub mod SplitLemmas
+pub mod LayoutLemmas
 mod StandardFacts
 pub mod TextLemmas

@@ -44,7 +44,7 @@ after_text-push a b qs q sent =
     }
 
 -- within the middle of some bytes is within them all
-take_within : (front middle back : List ℕ) (k : ℕ) → k < length middle → take (length front + k) (front ++ (middle ++ back)) ≡ front ++ take k middle
+pub take_within : (front middle back : List ℕ) (k : ℕ) → k < length middle → take (length front + k) (front ++ (middle ++ back)) ≡ front ++ take k middle
 take_within front middle back k h =
     take-append-add front (middle ++ back) k ∙ ap (λ t. front ++ t) (take-append-le k middle back (omega arith))
 

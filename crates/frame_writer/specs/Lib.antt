@@ -1,5 +1,6 @@
 pub mod Counts
 pub mod Frame
+pub mod Inner
 pub mod MemoryOuts
 pub mod Shown
 pub mod Split

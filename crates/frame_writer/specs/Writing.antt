@@ -1,5 +1,5 @@
 -- What a frame writer shows, and what it leaves.
-use Rattle.std.specs.Prelude.{◌≡◌, ℕ, ◌+◌, ◌%◌, Bool, false, true, List, length}
+use Rattle.std.specs.Prelude.{◌≡◌, ℕ, ◌+◌, ◌%◌, Bool, false, true, List, ◌∷◌, ◌++◌, length}
 use Rattle.frame_writer.specs.declared.out.Out.{Ghosts}
 use Rattle.frame_writer.specs.declared.writer.FrameWriter.{FrameWriter}
 use Rattle.frame_writer.specs.Frame.{frame, text}
@@ -46,3 +46,20 @@ pub record AfterText (a b : WriterState) (qs : List (List ℕ)) : Type 0 where
   pub out : b.out ≡ after_bytes a.out (text a.counter qs)
   pub counter : b.counter % 65536 ≡ (a.counter + length qs) % 65536
   pub closed : b.closed ≡ a.closed
+
+-- what the packets leave that were sent, one after another
+abbrev pub after_text : WriterState → List (List ℕ) → WriterState
+after_text a qs = record {
+  out = after_bytes a.out (text a.counter qs);
+  counter = (a.counter + length qs) % 65536;
+  closed = a.closed;
+}
+
+-- the frames of the first packets were written whole, and the writer failed within the next one's:
+-- what is left is what it would be had each packet been sent by itself
+pub record FailsWithinText (a b : WriterState) (qs : List (List ℕ)) : Type 0 where
+  pub whole : List (List ℕ)
+  pub torn : List ℕ
+  pub unsent : List (List ℕ)
+  pub packets : qs ≡ whole ++ torn ∷ unsent
+  pub fails : FailsWithin (after_text a whole) b (frame (after_text a whole).counter torn)

@@ -1,7 +1,9 @@
 //! Frames, laid out one behind another in a buffer.
-ghost use Rattle.std.specs.Prelude.{◌≡◌, ◌+◌, ◌%◌, ◌≤◌, ◌++◌, length, take};
-ghost use Rattle.frame_writer.specs.Frame.{frame, two_bytes};
+ghost use Rattle.std.specs.Prelude.{◌≡◌, ◌+◌, ◌%◌, ◌<◌, ◌≤◌, ◌++◌, length, take};
+ghost use Rattle.frame_writer.specs.Frame.{frame, text, two_bytes};
+ghost use Rattle.frame_writer.specs.Inner.{ReachesInto, text_len};
 
+use xcp_base::Packets;
 use xcp_base::limits::{MAX_DTO, MAX_ODTS};
 
 /// LEN, CTR and the longest packet, in bytes.
@@ -37,8 +39,42 @@ pub fn place_frame(room: &mut [u8; MAX_TEXT], at: usize, counter: u16, packet: &
     requires room { at + MAX_FRAME ≤ MAX_TEXT }
     ensures frame { take result room.new ≡ take at room.old ++ frame counter packet.now }
     ensures end { result ≡ at + 4 + length packet.now }
+    ensures within { result ≤ MAX_TEXT }
 {
     let header = header_of(packet.len() as u16, counter);
     let body = place(&mut room[..], at, &header[..]);
     place(&mut room[..], body, packet)
+}
+
+/// Writes the frames of packets, the first of them with this counter, and answers where they end.
+pub fn place_text(room: &mut [u8; MAX_TEXT], counter: u16, packets: &Packets) -> usize
+    ensures text { take result room.new ≡ text counter packets.now }
+    ensures end { result ≡ text_len packets.now }
+    ensures within { result ≤ MAX_TEXT }
+{
+    let mut end = 0;
+    let mut next = counter;
+    for packet in packets.iter() {
+        end = place_frame(room, end, next, packet);
+        next = next.wrapping_add(1);
+    }
+    end
+}
+
+/// How many of the packets' frames are whole in the first `taken` bytes of what is written of them.
+pub fn whole_frames(packets: &Packets, taken: usize) -> u16
+    requires { taken < text_len packets.now }
+    ensures { ReachesInto packets.now taken result }
+{
+    let mut whole = 0;
+    let mut left = taken;
+    for packet in packets.iter() {
+        let len = 4 + packet.len();
+        if left < len {
+            return whole;
+        }
+        left -= len;
+        whole += 1;
+    }
+    whole
 }

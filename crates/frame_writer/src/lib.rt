@@ -8,6 +8,7 @@ mod layout;
 mod out;
 mod reader;
 mod std_out;
+mod together;
 mod vec_out;
 mod writer;
 

@@ -1,7 +1,8 @@
 ghost use Rattle.std.specs.Prelude.{◌≡◌, ◌+◌, ◌%◌, ◌<◌, ◌≤◌, ◌↔◌, ◌++◌, false, true, IsErrOf};
 ghost use Rattle.std.specs.Prelude.{IsTrue, OnOk, length};
 ghost use Rattle.frame_writer.specs.Frame.{frame};
-ghost use Rattle.frame_writer.specs.Shown.{BreaksOff, after_bytes, shown};
+ghost use Rattle.frame_writer.specs.Inner.{BreaksOffAfter};
+ghost use Rattle.frame_writer.specs.Shown.{after_bytes, shown};
 ghost use Rattle.frame_writer.specs.Writing.{FailsWithin, after_frame, fresh_writer, out_of};
 ghost use Rattle.frame_writer.specs.Writing.{state_of};
 
@@ -24,10 +25,10 @@ pub enum WriteFault {
 /// Writes packets as frames (XCP on Ethernet, header) to a writer, until that fails.
 #[derive(Debug, Drop)]
 pub struct FrameWriter<O> {
-    out: O,
-    counter: u16,
-    closed: bool,
-    room: [u8; MAX_TEXT],
+    pub(crate) out: O,
+    pub(crate) counter: u16,
+    pub(crate) closed: bool,
+    pub(crate) room: [u8; MAX_TEXT],
 }
 
 impl<O: Out> FrameWriter<O> {
@@ -70,12 +71,22 @@ impl<O: Out> FrameWriter<O> {
             return Err(WriteFault::Closed);
         }
         let end = place_frame(&mut self.room, 0, self.counter, packet);
-        if !put_all(&mut self.out, &self.room[..end]) {
-            self.closed = true;
-            return Err(WriteFault::Failed);
+        if put_all(&mut self.out, &self.room[..end]) < end {
+            return Err(self.break_off(0));
         }
         self.counter = self.counter.wrapping_add(1);
         Ok(())
+    }
+
+    /// Closes it behind so many whole frames.
+    pub(crate) fn break_off(&mut self, whole: u16) -> WriteFault
+        ensures fault { result ≡ WriteFault.Failed }
+        ensures after { self.new
+            ≡ record self.old { counter = (self.old.counter + whole) % 65536; closed = true } }
+    {
+        self.counter = self.counter.wrapping_add(whole);
+        self.closed = true;
+        WriteFault::Failed
     }
 
     /// CTR of the next frame.
@@ -85,7 +96,7 @@ impl<O: Out> FrameWriter<O> {
         self.counter
     }
 
-    /// Whether a call of `send` failed.
+    /// Whether a call of `send` or `send_all` failed.
     pub fn closed(&self) -> bool
         ensures { result ≡ (state_of O.Out self.now).closed }
     {
@@ -100,20 +111,21 @@ impl<O: Out> FrameWriter<O> {
     }
 }
 
-/// Whether the writer took all of the bytes; if not, it failed or stalled once, at its last call.
-fn put_all<O: Out>(out: &mut O, bytes: &[u8]) -> bool
-    ensures all { IsTrue result
+/// How many of the bytes the writer took; if not all, it failed or stalled once, at its last call.
+pub fn put_all<O: Out>(out: &mut O, bytes: &[u8]) -> usize
+    ensures within { result ≤ length bytes.now }
+    ensures all { result ≡ length bytes.now
         → shown O.Out out.new ≡ after_bytes (shown O.Out out.old) bytes.now }
-    ensures part { result ≡ false
-        → BreaksOff (shown O.Out out.old) (shown O.Out out.new) bytes.now }
+    ensures part { result < length bytes.now
+        → BreaksOffAfter result (shown O.Out out.old) (shown O.Out out.new) bytes.now }
 {
     let mut done = 0;
     while done < bytes.len() {
         match out.put(&bytes[done..]) {
-            Ok(0) => return false,
+            Ok(0) => return done,
             Ok(n) => done += n,
-            Err(_) => return false,
+            Err(_) => return done,
         }
     }
-    true
+    done
 }

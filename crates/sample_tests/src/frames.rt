@@ -6,6 +6,7 @@ use linked_list_allocator::LocalHeap;
 use std::process::Abort;
 use std::test::Fail;
 use xcp_base::limits::MAX_DTO;
+use xcp_base::{Full, Packets};
 
 /// A writer that notes how many bytes each call hands it.
 #[derive(Drop)]
@@ -112,7 +113,7 @@ const SENDINGS: [Sending; 5] = [
 ];
 
 /// Sends packets, and compares what each answers and what stands behind it.
-fn send_all<O: Out>(
+fn send_each<O: Out>(
     rt: &impl Abort,
     writer: &mut FrameWriter<O>,
     sent: &[(&[u8], Result<(), WriteFault>, u16)],
@@ -134,7 +135,7 @@ fn each_packet_is_handed_over_as_one_frame(rt: HostRuntime) {
             out: FuseOut::new(rt.alloc(), row.chunk, row.good),
             handed: ArrayVec::new(),
         });
-        send_all(&rt, &mut writer, row.sent, row.name);
+        send_each(&rt, &mut writer, row.sent, row.name);
         let out = writer.into_out();
         same(
             &rt,
@@ -158,7 +159,7 @@ fn send_two(rt: &impl Abort, fuse: FuseOut, good: usize) {
     } else {
         [(PACKET, Ok(()), 1), (PACKET, Err(WriteFault::Failed), 1)]
     };
-    send_all(rt, &mut writer, &sent, "a fuse");
+    send_each(rt, &mut writer, &sent, "a fuse");
     let out = writer.into_out();
     let wanted = FIRST_FRAME.get(..good).unwrap_or(&[]);
     same(
@@ -177,6 +178,121 @@ fn a_writer_that_fails_at_any_byte_leaves_the_bytes_before_it(rt: HostRuntime) {
             send_two(&rt, FuseOut::new(rt.alloc(), chunk, good), good);
         }
     }
+}
+
+/// The frames of `PACKET`, of its last two bytes, and of its first byte.
+const THREE_FRAMES: &[u8] = &[
+    0x03, 0x00, 0x00, 0x00, 0xAA, 0xBB, 0xCC, 0x02, 0x00, 0x01, 0x00, 0xBB, 0xCC, 0x01, 0x00, 0x02,
+    0x00, 0xAA,
+];
+
+/// Three packets that are sent together to a writer which takes `chunk` bytes a call and `good` in
+/// all: the answer, CTR after it, how many bytes each call handed over, and how many of the bytes of
+/// the three frames were taken.
+#[derive(Clone, Copy)]
+struct SendingTogether<'a> {
+    name: &'a str,
+    chunk: usize,
+    good: usize,
+    answer: Result<(), WriteFault>,
+    counter: u16,
+    handed: &'a [usize],
+    taken: usize,
+}
+
+const TOGETHER: [SendingTogether; 7] = [
+    SendingTogether {
+        name: "three frames in one call",
+        chunk: 64,
+        good: 1000,
+        answer: Ok(()),
+        counter: 3,
+        handed: &[18],
+        taken: 18,
+    },
+    SendingTogether {
+        name: "what was not taken of three frames is handed over again",
+        chunk: 8,
+        good: 1000,
+        answer: Ok(()),
+        counter: 3,
+        handed: &[18, 10, 2],
+        taken: 18,
+    },
+    SendingTogether {
+        name: "a writer that takes none of three frames",
+        chunk: 0,
+        good: 1000,
+        answer: Err(WriteFault::Failed),
+        counter: 0,
+        handed: &[18],
+        taken: 0,
+    },
+    SendingTogether {
+        name: "it breaks off one byte before the first frame's end",
+        chunk: 64,
+        good: 6,
+        answer: Err(WriteFault::Failed),
+        counter: 0,
+        handed: &[18, 12],
+        taken: 6,
+    },
+    SendingTogether {
+        name: "it breaks off behind the first frame",
+        chunk: 64,
+        good: 7,
+        answer: Err(WriteFault::Failed),
+        counter: 1,
+        handed: &[18, 11],
+        taken: 7,
+    },
+    SendingTogether {
+        name: "it breaks off in the last frame",
+        chunk: 64,
+        good: 17,
+        answer: Err(WriteFault::Failed),
+        counter: 2,
+        handed: &[18, 1],
+        taken: 17,
+    },
+    SendingTogether {
+        name: "it would fail at the next byte",
+        chunk: 64,
+        good: 18,
+        answer: Ok(()),
+        counter: 3,
+        handed: &[18],
+        taken: 18,
+    },
+];
+
+/// The packets of the three frames.
+fn three_packets() -> Result<Packets, Full> {
+    let mut packets = Packets::new();
+    packets.push(PACKET)?;
+    packets.push(&[0xBB, 0xCC])?;
+    packets.push(&[0xAA])?;
+    Ok(packets)
+}
+
+#[test]
+fn the_packets_of_a_sample_are_handed_over_together(rt: HostRuntime) -> Result<(), Fail> {
+    let packets = three_packets()?;
+    for row in TOGETHER {
+        let mut writer = FrameWriter::new(Noting {
+            out: FuseOut::new(rt.alloc(), row.chunk, row.good),
+            handed: ArrayVec::new(),
+        });
+        let answer = writer.send_all(&packets);
+        let shown = (answer, writer.closed(), writer.next_counter());
+        let wanted = (row.answer, row.answer.is_err(), row.counter);
+        same(&rt, shown, wanted, row.name, "answer, closed, CTR");
+        let out = writer.into_out();
+        let shown = (out.handed.as_slice(), out.out.bytes());
+        let wanted = (row.handed, THREE_FRAMES.get(..row.taken).unwrap_or(&[]));
+        same(&rt, shown, wanted, row.name, "bytes a call, bytes");
+    }
+    Ok(())
 }
 
 /// Bytes, and the frame that stands at their front: its counter, its packet and what is behind it.

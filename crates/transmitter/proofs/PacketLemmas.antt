@@ -1,10 +1,9 @@
--- A frame writer that goes over the packets of a sample.
-use Rattle.std.proofs.Common.{◌≡◌, ℕ, ◌+◌, List, [], ◌∷◌, ◌++◌, length, map, sym, ap, ◌∙◌, arith, append_assoc, length-append, Bor}
-use Rattle.std.proofs.lemmas.List.{map_push}
-use Rattle.frame_writer.specs.Frame.{frame, text}
+-- A frame writer that was handed the packets of a sample.
+use Rattle.std.proofs.Common.{◌≡◌, ℕ, ◌+◌, List, ◌++◌, length, refl, sym, ap, ◌∙◌, arith, append_assoc, length-append}
+use Rattle.frame_writer.specs.Frame.{text}
 use Rattle.frame_writer.specs.Shown.{OutState, after_bytes}
-use Rattle.frame_writer.specs.Writing.{AfterText, FailsWithin, WriterState, after_frame}
-use Rattle.frame_writer.proofs.TextLemmas.{after_text-push, breaks_off-text, text-append, text-mod}
+use Rattle.frame_writer.specs.Writing.{AfterText, FailsWithinText, WriterState, after_text}
+use Rattle.frame_writer.proofs.TextLemmas.{breaks_off-text, text-append, text-mod}
 use Rattle.transmitter.specs.Written.{BreaksWithin}
 
 -- packets were sent, and then more
@@ -20,23 +19,16 @@ after_text-append a b c ps qs first more =
       closed = more.closed ∙ first.closed;
     }
 
--- the packets that an iterator gave and those that are left are all of them, also behind one more
-pub given-next : (given : List (Bor (List ℕ))) (q : Bor (List ℕ)) (it left all : List (List ℕ)) → map (λ x. x.now) given ++ it ≡ all → it ≡ q.now ∷ left → map (λ x. x.now) (given ++ q ∷ []) ++ left ≡ all
-given-next given q it left all are is =
-    ap (λ qs. qs ++ left) (map_push (λ (x : Bor (List ℕ)). x.now) given q)
-    ∙ append_assoc (map (λ x. x.now) given) (q.now ∷ []) left
-    ∙ ap (λ qs. map (λ x. x.now) given ++ qs) (sym is)
-    ∙ are
+-- the packets were sent together
+pub after_text-sent : (a b : WriterState) (qs : List (List ℕ)) → b ≡ after_text a qs → AfterText a b qs
+after_text-sent a b qs is = rw is (record { out = refl; counter = omega arith; closed = refl })
 
--- one packet more was sent
-pub after_text-next : (a m b : WriterState) (given : List (Bor (List ℕ))) (q : Bor (List ℕ)) → AfterText a m (map (λ x. x.now) given) → b ≡ after_frame m q.now → AfterText a b (map (λ x. x.now) (given ++ q ∷ []))
-after_text-next a m b given q sent is =
-    rw (map_push (λ (x : Bor (List ℕ)). x.now) given q, is) (after_text-push a m (map (λ x. x.now) given) q.now sent)
-
--- the writer failed within one packet of some, behind those that were sent
-pub breaks-at : (a m b : WriterState) (sent : List (List ℕ)) (q : List ℕ) (it left all : List (List ℕ)) → AfterText a m sent → sent ++ it ≡ all → it ≡ q ∷ left → FailsWithin m b (frame m.counter q) → BreaksWithin a b all
-breaks-at a m b sent q it left all were are is fails = record {
-  out = breaks_off-text a m b sent q left all were fails (sym are ∙ ap (λ qs. sent ++ qs) is);
-  was_open = sym were.closed ∙ fails.was_open;
-  closed = fails.closed;
-}
+-- the writer failed within one of the packets, and so within what is written of all
+pub breaks_within : (a b : WriterState) (qs : List (List ℕ)) → FailsWithinText a b qs → BreaksWithin a b qs
+breaks_within a b qs fails =
+    let between : WriterState = after_text a fails.whole in
+    record {
+      out = breaks_off-text a between b fails.whole fails.torn fails.unsent qs (after_text-sent a between fails.whole refl) fails.fails fails.packets;
+      was_open = fails.fails.was_open;
+      closed = fails.fails.closed;
+    }

@@ -121,11 +121,8 @@ fn write_all<O: Out>(writer: &mut FrameWriter<O>, packets: &Packets) -> bool
     ensures part { result ≡ false
         → BreaksWithin (state_of O.Out writer.old) (state_of O.Out writer.new) packets.now }
 {
-    for packet in packets.iter() {
-        match writer.send(packet) {
-            Ok(()) => {}
-            Err(_) => return false,
-        }
+    match writer.send_all(packets) {
+        Ok(()) => true,
+        Err(_) => false,
     }
-    true
 }

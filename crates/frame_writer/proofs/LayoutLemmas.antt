@@ -1,0 +1,77 @@
+-- Frames of several packets in one buffer, and how many of them are whole in its first bytes.
+use Rattle.std.proofs.Common.{◌≡◌, ℕ, ◌+◌, ◌*◌, ◌%◌, ◌≤◌, List, [], ◌∷◌, ◌++◌, length, map, take, false, true, refl, sym, ap, ◌∙◌, arith, append_assoc, append-nil, length-append, Bor}
+use Rattle.std.proofs.lemmas.List.{length-map, map_push}
+use Rattle.std.proofs.lemmas.List.Elements.{All-head, All-tail}
+use Rattle.xcp_base.specs.Packets.{ArePackets, IsPacket}
+use Rattle.frame_writer.specs.Frame.{frame, text}
+use Rattle.frame_writer.specs.Inner.{BreaksOffAfter, ReachesInto, text_len}
+use Rattle.frame_writer.specs.Writing.{FailsWithinText, WriterState, after_text}
+use Rattle.frame_writer.proofs.TextLemmas.{frame-mod, take_within, text-append}
+
+-- the packets that an iterator gave
+abbrev pub packets_given : List (Bor (List ℕ)) → List (List ℕ)
+packets_given given = map (λ q. q.now) given
+
+-- those and the ones that are left are all of them, also behind one more
+pub given-next : (given : List (Bor (List ℕ))) (q : Bor (List ℕ)) (it left all : List (List ℕ)) → packets_given given ++ it ≡ all → it ≡ q.now ∷ left → packets_given (given ++ q ∷ []) ++ left ≡ all
+given-next given q it left all are is =
+    ap (λ qs. qs ++ left) (map_push (λ (x : Bor (List ℕ)). x.now) given q)
+    ∙ append_assoc (packets_given given) (q.now ∷ []) left
+    ∙ ap (λ qs. packets_given given ++ qs) (sym is)
+    ∙ are
+
+-- one packet more was given
+pub text-given : (n m : ℕ) (given : List (Bor (List ℕ))) (q : Bor (List ℕ)) → m ≡ (n + length given) % 65536 → text n (packets_given (given ++ q ∷ [])) ≡ text n (packets_given given) ++ frame m q.now
+text-given n m given q e =
+    let done : List (List ℕ) = packets_given given in
+    let as_many : length done ≡ length given = length-map given (λ (x : Bor (List ℕ)). x.now) in
+    ap (text n) (map_push (λ (x : Bor (List ℕ)). x.now) given q)
+    ∙ text-append n done (q.now ∷ [])
+    ∙ ap (λ t. text n done ++ t) (append-nil (frame (n + length done) q.now) ∙ frame-mod (n + length done) m q.now (omega (arith, e, as_many)))
+
+text_len-push : (qs : List (List ℕ)) (q : List ℕ) → text_len (qs ++ q ∷ []) ≡ text_len qs + 4 + length q
+text_len-push [] q = omega arith
+text_len-push (x ∷ qs) q = omega (arith, text_len-push qs q)
+
+pub text_len-given : (given : List (Bor (List ℕ))) (q : Bor (List ℕ)) → text_len (packets_given (given ++ q ∷ [])) ≡ text_len (packets_given given) + 4 + length q.now
+text_len-given given q = ap text_len (map_push (λ (x : Bor (List ℕ)). x.now) given q) ∙ text_len-push (packets_given given) q.now
+
+pub length-text : (n : ℕ) (qs : List (List ℕ)) → length (text n qs) ≡ text_len qs
+length-text n [] = refl
+length-text n (q ∷ qs) = omega (arith, length-text (n + 1) qs, length-append (frame n q) (text (n + 1) qs))
+
+-- there is room for one frame more of those that a sample may have
+pub room_for : (done left : List (List ℕ)) (q : List ℕ) → ArePackets (done ++ q ∷ left) → text_len done + 68 * (length left + 1) ≤ 68 * length (done ++ q ∷ left)
+room_for [] left q each = omega arith
+room_for (x ∷ done) left q each =
+    let fits : length x ≤ 64 = (All-head IsPacket x (done ++ q ∷ left) each).fits in
+    omega (arith, fits, room_for done left q (All-tail IsPacket x (done ++ q ∷ left) each))
+
+-- the writer failed within what is written of packets, and the counter rose by the whole frames
+pub fails_within_text : (a b : WriterState) (qs : List (List ℕ)) (taken count : ℕ) → BreaksOffAfter taken a.out b.out (text a.counter qs) → ReachesInto qs taken count → b.counter ≡ (a.counter + count) % 65536 → a.closed ≡ false → b.closed ≡ true → FailsWithinText a b qs
+fails_within_text a b qs taken count off into counter was_open closed =
+    let m : WriterState = after_text a into.whole in
+    let front : List ℕ = text a.counter into.whole in
+    let middle : List ℕ = frame m.counter into.torn in
+    let back : List ℕ = text (a.counter + length into.whole + 1) into.unsent in
+    let same : m.counter % 65536 ≡ (a.counter + length into.whole) % 65536 = omega arith in
+    let bytes : text a.counter qs ≡ front ++ (middle ++ back) =
+    ap (text a.counter) into.packets ∙ text-append a.counter into.whole (into.torn ∷ into.unsent)
+    ∙ ap (λ f. front ++ (f ++ back)) (frame-mod (a.counter + length into.whole) m.counter into.torn (sym same)) in
+    let reach : taken ≡ length front + into.into = omega (arith, into.are, length-text a.counter into.whole) in
+    let kept : take taken (text a.counter qs) ≡ front ++ take into.into middle =
+    ap (λ n. take n (text a.counter qs)) reach ∙ ap (take (length front + into.into)) bytes ∙ take_within front middle back into.into (omega (arith, into.within)) in
+    let contents : b.out.contents ≡ (a.out.contents ++ front) ++ take into.into middle =
+    off.contents ∙ ap (λ t. a.out.contents ++ t) kept ∙ sym (append_assoc a.out.contents front (take into.into middle)) in
+    record {
+      whole = into.whole;
+      torn = into.torn;
+      unsent = into.unsent;
+      packets = into.packets;
+      fails = record {
+        out = record { kept = into.into; proper = omega (arith, into.within); contents = contents; rose = off.rose; once = off.once };
+        counter = counter ∙ ap (λ n. (a.counter + n) % 65536) into.as_many;
+        was_open = was_open;
+        closed = closed;
+      };
+    }

@@ -1,0 +1,31 @@
+use Rattle.std.proofs.Common.{◌≡◌, ◌++◌, [], ◌∷◌, List, ℕ, length, sym, ap, ◌∙◌, subst, arith, length-append}
+use Rattle.xcp_base.specs.Packets.{ArePackets}
+use Rattle.frame_writer.specs.Frame.{frame}
+use Rattle.frame_writer.proofs.LayoutLemmas.{given-next, packets_given, room_for, text-given, text_len-given}
+use Rattle.frame_writer.proofs.layout.place_text.Goals as goal
+
+-- eight frames have room, and this packet is one of eight at most
+pub place_frame-end-requires-clause-room : goal.place_frame-end-requires-clause-room
+place_frame-end-requires-clause-room c =
+    let before = c.loop-packet.invariant in
+    let done = packets_given c.loop-packet.yielded in
+    let all : c.args.packets.now ≡ done ++ c.in-Some.packet.now ∷ c.next.new.self = sym before.packets ∙ ap (λ qs. done ++ qs) c.in-Some.ensures.steps in
+    let room = room_for done c.next.new.self c.in-Some.packet.now (subst ArePackets all c.iter-packet-items.ensures.each) in
+    omega (arith, room, before.end, ap length all, c.iter-packet-items.ensures.few)
+
+-- one frame more stands behind those before
+pub loop-packet-preserved : goal.loop-packet-preserved
+loop-packet-preserved c =
+    let before = c.loop-packet.invariant in
+    let given = c.loop-packet.yielded in
+    let q = c.in-Some.packet in
+    let last : List ℕ = frame c.loop-packet.next q.now in
+    record {
+      can = tt;
+      ends = tt;
+      packets = given-next given q c.loop-packet.packet-iterator c.next.new.self c.args.packets.now before.packets c.in-Some.ensures.steps;
+      text = c.place_frame-end.ensures.frame ∙ ap (λ t. t ++ last) before.text ∙ sym (text-given c.args.counter c.loop-packet.next given q before.next);
+      end = omega (arith, c.place_frame-end.ensures.end, before.end, text_len-given given q);
+      within = c.place_frame-end.ensures.within;
+      next = omega (arith, before.next, length-append given (q ∷ []));
+    }
