@@ -3,7 +3,7 @@ ghost use Rattle.std.specs.Prelude.{◌≡◌, ◌<◌, ◌↔◌, [], ◌∷◌
 ghost use mathlib.Core.List.{IsPrefix};
 ghost use Rattle.frame_writer.specs.Writing.{AfterText, state_of};
 ghost use Rattle.transmitter.specs.Merge.{Takes, of_ring};
-ghost use Rattle.transmitter.specs.Inner.Turns.{BeginsWithSample, TakesFirst};
+ghost use Rattle.transmitter.specs.Inner.Turns.{BeginsWithSample, HoldsFirst, TakesFirst};
 ghost use Rattle.transmitter.specs.Written.{BreaksWithin};
 
 use crate::transmitter::Transmitter;
@@ -56,7 +56,7 @@ impl<O: Out, T: TakeEnd> Transmitter<O, T> {
                     self.written[list] += 1;
                     Turn::Wrote(frames)
                 } else {
-                    self.hand = Some(take_sample(&mut self.ends, c));
+                    hold(&mut self.ends, c, &mut self.hand);
                     Turn::Broke
                 }
             }
@@ -95,6 +95,21 @@ fn let_go<T: TakeEnd>(ends: &mut Vec<T>, c: usize)
     ensures as_many { vec_len ends.new ≡ vec_len ends.old }
 {
     ends[c].pass();
+}
+
+/// Takes the sample that is the first item of ring `c` into the hand.
+///
+/// It stands out of line, so that a turn doesn't clear the place of a sample that it seldom moves.
+#[inline(never)]
+fn hold<T: TakeEnd>(ends: &mut Vec<T>, c: usize, hand: &mut Option<Sample>)
+    requires within { c < vec_len ends.old }
+    requires sample { BeginsWithSample (of_ring (map T.known ends.old.items) c) }
+    ensures holds { HoldsFirst c (map T.received ends.old.items) (map T.received ends.new.items)
+        (map T.known ends.old.items) (map T.known ends.new.items) hand.new }
+    ensures rings_stay { map T.ring ends.new.items ≡ map T.ring ends.old.items }
+    ensures as_many { vec_len ends.new ≡ vec_len ends.old }
+{
+    *hand = Some(take_sample(ends, c));
 }
 
 /// Takes the sample that is the first item of ring `c`.

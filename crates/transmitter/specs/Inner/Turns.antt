@@ -1,6 +1,6 @@
 -- A pump's turn at one ring, and a look at the rings one by one.
 use Rattle.std.specs.Prelude.{ℕ, ◌<◌, ◌≤◌, ◌≡◌, List, [], ◌∷◌, length, map}
-use Rattle.std.specs.Prelude.{None, Some}
+use Rattle.std.specs.Prelude.{Option, None, Some}
 use mathlib.Core.List.{IsPrefix}
 use Rattle.xcp_base.specs.Samples.{SampleParts, MarkParts}
 use Rattle.xcp_base.specs.declared.item.Item.{Item}
@@ -34,6 +34,14 @@ abbrev pub TakesFirst :
 TakesFirst c received new_received known new_known =
     (x : Item) × IsPrefix (x ∷ []) (of_ring known c)
     × Takes received new_received known new_known ((c, x) ∷ [])
+
+-- the first item known of ring c, a sample, was taken and is held
+pub record HoldsFirst (c : ℕ) (received new_received known new_known : List (List Item))
+    (held : Option SampleParts) : Type 0 where
+  pub sample : SampleParts
+  pub hand : held ≡ Some sample
+  pub first : IsPrefix (Sample sample ∷ []) (of_ring known c)
+  pub takes : Takes received new_received known new_known ((c, Sample sample) ∷ [])
 
 -- the first of these items is a sample
 abbrev pub BeginsWithSample : List Item → Type 0

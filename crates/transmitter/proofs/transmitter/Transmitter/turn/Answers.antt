@@ -60,11 +60,11 @@ returns-then-write_all-clause-turn g c =
 pub returns-else-write_all-clause-turn : goal.returns-else-write_all-clause-turn
 returns-else-write_all-clause-turn g c =
     let a = transmission g.O.Out g.T.TakeEnd c.args.self.now in
-    let r = c.take_sample.result in
-    let e = c.take_sample.ensures in
+    let e = c.hold.ensures in
+    let r = e.holds.sample in
     let none = c.requires.nothing_in_hand in
     let there : List Item = of_ring (map g.T.TakeEnd.known c.look_for.new.ends.items) c.args.c in
-    let same : r ≡ c.in-Sample.sample = of_samples (same_first (Sample r) (Sample c.in-Sample.sample) there e.first (subst (λ x. IsPrefix (x ∷ []) there) c.in-Sample.is c.first_of.ensures)) in
-    let takes = takes-append _ _ _ _ _ _ [] ((c.args.c, Sample r) ∷ []) c.look_for.ensures.looks e.takes in
+    let same : r ≡ c.in-Sample.sample = of_samples (same_first (Sample r) (Sample c.in-Sample.sample) there e.holds.first (subst (λ x. IsPrefix (x ∷ []) there) c.in-Sample.is c.first_of.ensures)) in
+    let takes = takes-append _ _ _ _ _ _ [] ((c.args.c, Sample r) ∷ []) c.look_for.ensures.looks e.holds.takes in
     let breaks = rw c.packets-in-Sample.ensures.value at (c.if-write_all.ensures.part refl) in
-    (r, refl, leads-broken a _ c.args.c r none refl (e.rings_stay ∙ c.look_for.ensures.rings_stay) takes refl (rw same breaks) refl)
+    (r, e.holds.hand, leads-broken a _ c.args.c r none e.holds.hand (e.rings_stay ∙ c.look_for.ensures.rings_stay) takes refl (rw same breaks) refl)
