@@ -11,7 +11,7 @@ use Rattle.std.proofs.lemmas.Bool.Decides.{eqb_tells, nat_tests}
 use Rattle.daq_store.specs.Configuration.{channel_of, is_ready}
 use Rattle.daq_store.specs.Standing.{conf_of}
 use Rattle.sampler.specs.State.{ArePlansOf, RiseFrom}
-use Rattle.daq_engine.specs.Openings.{is_ready_on, list_plan, channel_plans, fit_caps, is_cap}
+use Rattle.daq_engine.specs.Openings.{is_ready_on, list_plan, channel_plans, fit_caps_of}
 
 -- the plans of event channel c among the lists below n
 abbrev pub plans_below : StoreState → ℕ → ℕ → List ListPlan
@@ -108,7 +108,7 @@ pub rising : (s : StoreState) (c : ℕ) (plans : List ListPlan) → plans ≡ ch
 rising s c plans e = subst (RiseFrom 0) (sym e) (rising-from s c 0 (length s.lists))
 
 -- capacities that fit are one for each event channel
-pub one_for_each : (s : StoreState) (caps : List ℕ) → fit_caps s caps ≡ true → length caps ≡ s.profile.channels
-one_for_each s caps h =
-    let e : nat_eq (length caps) s.profile.channels ≡ true = and_left (nat_eq (length caps) s.profile.channels) (list_all is_cap caps) h in
+pub one_for_each : (may_have : ℕ → Bool) (s : StoreState) (caps : List ℕ) → fit_caps_of may_have s caps ≡ true → length caps ≡ s.profile.channels
+one_for_each may_have s caps h =
+    let e : nat_eq (length caps) s.profile.channels ≡ true = and_left (nat_eq (length caps) s.profile.channels) (list_all may_have caps) h in
     grind (arith, nat_tests, e)

@@ -3,7 +3,8 @@ use Rattle.std.specs.Prelude.{◌≡◌, ℕ, ◌<◌, ◌&&◌, Bool, true, nat
 use Rattle.std.specs.Prelude.{All, List, [], length, map, filter}
 use Rattle.std.specs.Prelude.{Option, Some, None, Result, Ok, Err}
 use Rattle.std.specs.List.{list_all, list_any}
-use Rattle.xcp_base.specs.declared.limits.TheConstants.{MAX_SAMPLE_RING}
+use Rattle.xcp_base.specs.declared.limits.TheConstants.{MAX_BYTE_RING, MAX_SAMPLE_RING}
+use Rattle.xcp_base.specs.declared.limits.TheConstants.{MIN_BYTE_RING}
 use Rattle.daq_store.specs.Calls.{numbers_below}
 use Rattle.daq_store.specs.Configuration.{channel_of, is_ready}
 use Rattle.daq_store.specs.Standing.{StoreState, conf_of, first_pid_of, shows_running}
@@ -23,17 +24,29 @@ use Rattle.daq_engine.specs.Standings.{StandInOrder}
 abbrev pub is_cap : ℕ → Bool
 is_cap cap = nat_le 1 cap && nat_le cap MAX_SAMPLE_RING
 
--- there is one capacity for each event channel, and a ring may have each of them
+-- a ring of bytes may have this capacity
+abbrev pub is_byte_cap : ℕ → Bool
+is_byte_cap cap = nat_le MIN_BYTE_RING cap && nat_le cap MAX_BYTE_RING
+
+-- there is one capacity for each event channel, and a ring of this kind may have each of them
+abbrev pub fit_caps_of : (ℕ → Bool) → StoreState → List ℕ → Bool
+fit_caps_of may_have s caps = nat_eq (length caps) s.profile.channels && list_all may_have caps
+
+-- the same of rings of items
 abbrev pub fit_caps : StoreState → List ℕ → Bool
-fit_caps s caps = nat_eq (length caps) s.profile.channels && list_all is_cap caps
+fit_caps = fit_caps_of is_cap
 
 -- a DAQ list of the store runs
 abbrev pub some_list_runs : StoreState → Bool
 some_list_runs s = list_any (shows_running s) (numbers_below (length s.lists))
 
 -- an engine may be opened, if there is memory: the capacities fit, and a list runs
+abbrev pub CanOpenOver : (ℕ → Bool) → StoreState → List ℕ → Type 0
+CanOpenOver may_have s caps = (fit_caps_of may_have s caps ≡ true) × (some_list_runs s ≡ true)
+
+-- the same over rings of items
 abbrev pub CanOpen : StoreState → List ℕ → Type 0
-CanOpen s caps = (fit_caps s caps ≡ true) × (some_list_runs s ≡ true)
+CanOpen = CanOpenOver is_cap
 
 -- list l is ready, and its event channel is c
 abbrev pub is_ready_on : StoreState → ℕ → ℕ → Bool

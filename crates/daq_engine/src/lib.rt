@@ -14,14 +14,17 @@ pub mod laws;
 mod open_fault;
 mod opening;
 mod report;
+mod ring;
 mod unclosed;
 
 pub use channel_fault::ChannelFault;
 pub use closing::close;
 pub use engine::Engine;
+pub use engine_opening::engine_over;
 pub use faults::CloseFault;
 pub use finishing::{drain_and_close, finish_all};
 pub use open_fault::OpenFault;
-pub use opening::open;
+pub use opening::{open, open_bytes, open_over};
 pub use report::{ListReport, Report};
+pub use ring::Ring;
 pub use unclosed::Unclosed;

@@ -5,19 +5,21 @@ ghost use Rattle.xcp_base.specs.declared.limits.TheConstants.{MAX_CHANNELS};
 ghost use Rattle.sampler.specs.History.{Opening};
 ghost use Rattle.frame_writer.specs.Writing.{state_of};
 ghost use Rattle.transmitter.specs.Written.{transmission, writer_of};
-ghost use Rattle.daq_engine.specs.Openings.{AreOpened, CanOpen, IsPaired};
-ghost use Rattle.daq_engine.specs.Openings.{fit_caps, is_cap, refusal_of, some_list_runs};
+ghost use Rattle.daq_engine.specs.Openings.{AreOpened, CanOpen, CanOpenOver, IsPaired};
+ghost use Rattle.daq_engine.specs.Openings.{fit_caps, fit_caps_of, is_byte_cap, refusal_of};
+ghost use Rattle.daq_engine.specs.Openings.{some_list_runs};
 ghost use Rattle.daq_engine.specs.Inner.Opened.{IsOpenedAt, AreOpenedTo};
 
 use crate::channel_plans::{plans_of, running_of};
 use crate::open_fault::OpenFault;
+use crate::ring::Ring;
+use byte_ring::{ByteLeft, ByteRing, ByteSend, ByteTake};
 use channel_ring::{RingEnd, SampleRing, SendEnd, SendHalf, SendLeft, TakeEnd, TakeHalf};
 use daq_store::Store;
 use frame_writer::{FrameWriter, Out};
 use sampler::Sampler;
 use std::alloc::{AllocError, Global};
 use transmitter::Transmitter;
-use xcp_base::limits::MAX_SAMPLE_RING;
 
 /// Opens an engine over a store: a sampler for each event channel, in rising order, and the
 /// transmitter of their rings.
@@ -52,40 +54,98 @@ pub fn open<O: Out>(
 
     ensures back { IfErr result (λ refusal. refusal.1 ≡ writer) }
 {
-    if !caps_fit(store, caps) {
+    open_over::<SampleRing, O>(alloc, store, caps, writer)
+}
+
+/// `open` over rings of bytes: that of event channel `c` has `caps[c]` bytes, `MIN_BYTE_RING` to
+/// `MAX_BYTE_RING`.
+pub fn open_bytes<O: Out>(
+    alloc: Global,
+    store: &Store,
+    caps: &[usize],
+    writer: FrameWriter<O>,
+) -> Result<(Vec<Sampler<ByteSend>>, Transmitter<O, ByteTake>), (OpenFault, FrameWriter<O>)>
+    requires is_open { (state_of O.Out writer).closed ≡ false }
+
+    ensures ok { OnOk result (CanOpenOver is_byte_cap store.now caps.now) }
+    ensures opened { IfOk result (λ engine. (openings : ℕ → Opening)
+        × AreOpened ⟦<ByteSend as SendEnd>⟧ ⟦<ByteLeft as RingEnd>⟧ store.now caps.now
+        engine.0.items openings) }
+    ensures paired { IfOk result (λ engine. IsPaired ⟦<ByteSend as SendEnd>⟧
+        engine.0.items (state_of O.Out writer)
+        (transmission O.Out ⟦<ByteTake as TakeEnd>⟧ engine.1)) }
+    ensures writer { IfOk result (λ engine. writer_of engine.1 ≡ writer) }
+
+    // the checks, in their order
+    ensures bad_caps { (refusal_of result ≡ Some OpenFault.BadCaps)
+        ↔ (fit_caps_of is_byte_cap store.now caps.now ≡ false) }
+    ensures nothing_running { (refusal_of result ≡ Some OpenFault.NothingRunning)
+        ↔ ((fit_caps_of is_byte_cap store.now caps.now ≡ true)
+        × (some_list_runs store.now ≡ false)) }
+    ensures memory { refusal_of result ≡ Some OpenFault.Memory
+        → CanOpenOver is_byte_cap store.now caps.now }
+
+    ensures back { IfErr result (λ refusal. refusal.1 ≡ writer) }
+{
+    open_over::<ByteRing, O>(alloc, store, caps, writer)
+}
+
+/// `open` over rings of one kind.
+pub fn open_over<R: Ring, O: Out>(
+    alloc: Global,
+    store: &Store,
+    caps: &[usize],
+    writer: FrameWriter<O>,
+) -> Result<(Vec<Sampler<R::Send>>, Transmitter<O, R::Take>), (OpenFault, FrameWriter<O>)>
+    requires is_open { (state_of O.Out writer).closed ≡ false }
+
+    ensures ok { OnOk result (CanOpenOver R.is_cap store.now caps.now) }
+    ensures opened { IfOk result (λ engine. (openings : ℕ → Opening)
+        × AreOpened R.Send.SendEnd R.Send.End.RingEnd store.now caps.now
+        engine.0.items openings) }
+    ensures paired { IfOk result (λ engine. IsPaired R.Send.SendEnd
+        engine.0.items (state_of O.Out writer)
+        (transmission O.Out R.Take.TakeEnd engine.1)) }
+    ensures writer { IfOk result (λ engine. writer_of engine.1 ≡ writer) }
+
+    // the checks, in their order
+    ensures bad_caps { (refusal_of result ≡ Some OpenFault.BadCaps)
+        ↔ (fit_caps_of R.is_cap store.now caps.now ≡ false) }
+    ensures nothing_running { (refusal_of result ≡ Some OpenFault.NothingRunning)
+        ↔ ((fit_caps_of R.is_cap store.now caps.now ≡ true)
+        × (some_list_runs store.now ≡ false)) }
+    ensures memory { refusal_of result ≡ Some OpenFault.Memory
+        → CanOpenOver R.is_cap store.now caps.now }
+
+    ensures back { IfErr result (λ refusal. refusal.1 ≡ writer) }
+{
+    if !caps_fit::<R>(store, caps) {
         return Err((OpenFault::BadCaps, writer));
     }
     if !any_runs(store) {
         return Err((OpenFault::NothingRunning, writer));
     }
-    match samplers_of(alloc, store, caps) {
+    match samplers_of::<R>(alloc, store, caps) {
         Ok((samplers, ends)) => Ok((samplers, Transmitter::new(writer, ends))),
         Err(_) => Err((OpenFault::Memory, writer)),
     }
 }
 
-/// Whether a ring may have this capacity.
-fn is_cap(cap: usize) -> bool
-    ensures { result ≡ is_cap cap }
-{
-    1 <= cap && cap <= MAX_SAMPLE_RING
-}
-
 /// Whether a ring may have each of these capacities.
-fn are_caps(caps: &[usize]) -> bool
-    ensures { result ≡ list_all is_cap caps.now }
+fn are_caps<R: Ring>(caps: &[usize]) -> bool
+    ensures { result ≡ list_all R.is_cap caps.now }
 {
-    caps.iter().all(|&cap| is_cap(cap))
+    caps.iter().all(|&cap| R::is_cap(cap))
 }
 
 /// Whether there is one capacity for each event channel, each within the ring's limits.
-fn caps_fit(store: &Store, caps: &[usize]) -> bool
-    ensures { result ≡ fit_caps store.now caps.now }
+fn caps_fit<R: Ring>(store: &Store, caps: &[usize]) -> bool
+    ensures { result ≡ fit_caps_of R.is_cap store.now caps.now }
 {
     if caps.len() != store.channels() as usize {
         return false;
     }
-    are_caps(caps)
+    are_caps::<R>(caps)
 }
 
 /// Whether a DAQ list of the store runs.
@@ -97,21 +157,21 @@ fn any_runs(store: &Store) -> bool
 
 /// The sampler of an event channel of the store, and the take end of its ring, which has `cap`
 /// places.
-fn sampler_of(
+fn sampler_of<R: Ring>(
     alloc: Global,
     store: &Store,
     c: u8,
     cap: usize,
-) -> Result<(Sampler<SendHalf>, TakeHalf), AllocError>
+) -> Result<(Sampler<R::Send>, R::Take), AllocError>
     requires channel { c < MAX_CHANNELS }
     ensures opened { IfOk result (λ r. (opening : Opening)
-        × IsOpenedAt ⟦<SendHalf as SendEnd>⟧ ⟦<SendLeft as RingEnd>⟧ ⟦<TakeHalf as TakeEnd>⟧
+        × IsOpenedAt R.Send.SendEnd R.Send.End.RingEnd R.Take.TakeEnd
         store.now c cap r.0 r.1 opening) }
 {
     let Ok(plans) = plans_of(alloc, store, c) else {
         return Err(AllocError);
     };
-    let Ok((send, take)) = SampleRing::new(alloc, cap) else {
+    let Ok((send, take)) = R::make(alloc, cap) else {
         return Err(AllocError);
     };
     let running = running_of(store, plans.as_slice());
@@ -120,14 +180,14 @@ fn sampler_of(
 }
 
 /// The samplers of all event channels of the store, and the take ends of their rings.
-fn samplers_of(
+fn samplers_of<R: Ring>(
     alloc: Global,
     store: &Store,
     caps: &[usize],
-) -> Result<(Vec<Sampler<SendHalf>>, Vec<TakeHalf>), AllocError>
+) -> Result<(Vec<Sampler<R::Send>>, Vec<R::Take>), AllocError>
     requires caps { length caps.now ≡ store.now.profile.channels }
     ensures opened { IfOk result (λ r.
-        AreOpenedTo ⟦<SendHalf as SendEnd>⟧ ⟦<SendLeft as RingEnd>⟧ ⟦<TakeHalf as TakeEnd>⟧
+        AreOpenedTo R.Send.SendEnd R.Send.End.RingEnd R.Take.TakeEnd
         store.now caps.now r.0.items r.1.items) }
     ensures some { 1 ≤ store.now.profile.channels }
     ensures few { store.now.profile.channels ≤ MAX_CHANNELS }
@@ -136,7 +196,7 @@ fn samplers_of(
     let mut samplers = Vec::with_capacity(alloc, channels as usize)?;
     let mut ends = Vec::with_capacity(alloc, channels as usize)?;
     for c in 0..channels {
-        let (sampler, take) = sampler_of(alloc, store, c, caps[c as usize])?;
+        let (sampler, take) = sampler_of::<R>(alloc, store, c, caps[c as usize])?;
         samplers.push_reserved(sampler);
         ends.push_reserved(take);
     }

@@ -1,7 +1,5 @@
 use Rattle.std.proofs.Common.{◌≡◌, [], List, length, ap, sym, subst, ◌∙◌}
 use Rattle.std.proofs.lemmas.List.{length-map}
-use Rattle.channel_ring.specs.contracts.sample_ring.SendHalfSendEnd.TheImpl as send
-use Rattle.channel_ring.specs.contracts.sample_ring.SendLeftRingEnd.TheImpl as ring
 use Rattle.frame_writer.specs.Writing.{state_of}
 use Rattle.sampler.specs.State.{SamplerState}
 use Rattle.transmitter.specs.Written.{HasTaken}
@@ -10,7 +8,7 @@ use Rattle.daq_engine.specs.Openings.{AreOpened}
 use Rattle.sampler.specs.Past.{first_past}
 use Rattle.daq_engine.specs.Standings.{StandInOrder}
 use Rattle.daq_engine.proofs.EndLemmas.{length-upto}
-use Rattle.daq_engine.proofs.engine_opening.Engine+O+TakeHalf.open.Goals as goal
+use Rattle.daq_engine.proofs.engine_opening.engine_over.Goals as goal
 
 -- the samplers stand after nothing, and nothing was taken
 pub returns-in-Ok-clause-opened : goal.returns-in-Ok-clause-opened
@@ -23,10 +21,10 @@ returns-in-Ok-clause-opened g c =
     let as_many : length c.new.result.samplers.items ≡ s.profile.channels =
     ap length same ∙ sym (length-map c.in-Ok.samplers.items channel_of) ∙ ap length opened.channels ∙ length-upto 0 s.profile.channels in (
       openings,
-      subst (λ (ss : List (SamplerState _)). AreOpened send.ghosts ring.ghosts s c.args.caps.now ss openings) (sym same) opened,
+      subst (λ (ss : List (SamplerState _)). AreOpened g.R.Send.SendEnd g.R.Send.End.RingEnd s c.args.caps.now ss openings) (sym same) opened,
       record {
         configuration = subst (λ n. IsConfiguration n openings) (sym as_many) opened.configuration;
-        samplers = subst (λ (ss : List (SamplerState _)). StandInOrder send.ghosts ring.ghosts ss (λ k. first_past (openings k))) (sym same) opened.stands;
+        samplers = subst (λ (ss : List (SamplerState _)). StandInOrder g.R.Send.SendEnd g.R.Send.End.RingEnd ss (λ k. first_past (openings k))) (sym same) opened.stands;
         transmitter = subst (λ t. HasTaken (state_of g.O.Out c.args.writer) t []) (sym c.new.ensures.transmitter) c.in-Ok.ensures.paired.taken;
       },
     )

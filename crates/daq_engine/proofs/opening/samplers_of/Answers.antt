@@ -1,21 +1,18 @@
 use Rattle.std.proofs.Common.{◌≡◌, ◌<◌, subst, arith, take, length}
 use Rattle.std.proofs.lemmas.List.{take_all}
-use Rattle.channel_ring.specs.contracts.sample_ring.SendHalfSendEnd.TheImpl as send
-use Rattle.channel_ring.specs.contracts.sample_ring.TakeHalfTakeEnd.TheImpl as take_end
-use Rattle.channel_ring.specs.contracts.sample_ring.SendLeftRingEnd.TheImpl as ring
 use Rattle.daq_engine.specs.Inner.Opened.{AreOpenedTo}
 use Rattle.daq_engine.proofs.SamplerLists.{opened-step}
 use Rattle.daq_engine.proofs.opening.samplers_of.Goals as goal
 
 -- the sampler and the take end of one channel more
 pub loop-c-preserved : goal.loop-c-preserved
-loop-c-preserved c =
+loop-c-preserved g c =
     let v = c.loop-c.invariant in
     let xs = c.push_reserved.ensures in
     let ys = c.push_reserved-in-loop-c.ensures in
     let s = c.args.store.now in
     let here : c.loop-c.c < length c.args.caps.now = omega (arith, c.loop-c-test.true, c.channels-channels.ensures.value, c.requires.caps) in (
-      opened-step send.ghosts ring.ghosts take_end.ghosts s c.loop-c.c c.args.caps.now c.loop-c.samplers.items c.push_reserved.new.self.items
+      opened-step g.R.Send.SendEnd g.R.Send.End.RingEnd g.R.Take.TakeEnd s c.loop-c.c c.args.caps.now c.loop-c.samplers.items c.push_reserved.new.self.items
           c.loop-c.ends.items c.push_reserved-in-loop-c.new.self.items c.in_ok-sampler.sampler c.in_ok-sampler.take
           here xs.items ys.items v.0 c.in_ok-sampler.ensures.opened,
       omega (arith, xs.len, v.1),
@@ -26,6 +23,6 @@ loop-c-preserved c =
 
 -- then all capacities are taken
 pub returns-clause-opened : goal.returns-clause-opened
-returns-clause-opened c =
+returns-clause-opened g c =
     let all : take c.loop-c.c c.args.caps.now ≡ c.args.caps.now = take_all c.loop-c.c c.args.caps.now (omega (arith, c.loop-c-test.false, c.channels-channels.ensures.value, c.requires.caps)) in
-    subst (λ ks. AreOpenedTo send.ghosts ring.ghosts take_end.ghosts c.args.store.now ks c.loop-c.samplers.items c.loop-c.ends.items) all c.loop-c.invariant.0
+    subst (λ ks. AreOpenedTo g.R.Send.SendEnd g.R.Send.End.RingEnd g.R.Take.TakeEnd c.args.store.now ks c.loop-c.samplers.items c.loop-c.ends.items) all c.loop-c.invariant.0
