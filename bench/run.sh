@@ -1,7 +1,7 @@
 #!/bin/sh
 # Proves and builds the program daq_bench and measures. It prints, for each set of DAQ lists, what one call or one sample takes
-# in tenths of a nanosecond: the calls `fill`, `fill_into` and `trigger`, and whole engines. With the word fill or engine it
-# measures the one or the other alone; with the word check neither: it says of each set whether all that is measured works.
+# in tenths of a nanosecond: the calls `fill`, `fill_into` and `trigger`, whole engines, and pumps of empty rings. With the word
+# fill, engine or empty it measures the one alone; with the word check none: it says of each set whether all that is measured works.
 set -e
 cd "$(dirname "$0")"
 program=$(./build.sh daq_bench)
@@ -9,6 +9,6 @@ if [ "$1" = check ]; then
     "$program" | diff daq_bench/stdout -
     exit
 fi
-for what in ${1:-fill engine}; do
+for what in ${1:-fill engine empty}; do
     "$program" "$what"
 done
