@@ -25,12 +25,12 @@ impl CopyPlan {
         sample
     }
 
-    /// The same in place, in a value without packets: it saves the move of a sample.
+    /// The same in place, whatever packets the value has: it saves the move of a sample.
     pub fn fill_into(&self, sample: &mut Packets, image: &[u8], stamp: u32, overload: bool)
-        requires empty { sample.old ≡ [] }
         requires image { length image.now ≡ self.now.image_len }
         ensures { sample.new ≡ packets self.now image.now stamp overload }
     {
+        sample.clear();
         for k in 0..self.odts() {
             self.append_packet(sample, image, stamp, overload, k);
         }

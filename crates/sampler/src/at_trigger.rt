@@ -13,6 +13,7 @@ use crate::taken::{NONE_TAKEN, Taken};
 use crate::track::Track;
 use channel_ring::SendEnd;
 use copy_plan::CopyPlan;
+use xcp_base::Packets;
 
 /// What a trigger sends of one list, and whether a sample of it was accepted; `track` is what was
 /// kept of it before.
@@ -23,6 +24,7 @@ fn sample_list<S: SendEnd>(
     plan: &CopyPlan,
     number: u64,
     track: Track,
+    packets: &mut Packets,
 ) -> bool
     requires image { length moment.now.image ≡ plan.now.image_len }
     ensures due { result ≡ true → due_now track ≡ true }
@@ -38,19 +40,20 @@ fn sample_list<S: SendEnd>(
     if !track.is_due() {
         return false;
     }
-    offer_sample(end, moment, plan, number, track.pending)
+    offer_sample(end, moment, plan, number, track.pending, packets)
 }
 
 /// What a trigger does for all lists of a channel: the sets of those due, accepted and dropped, and
 /// the next sample's number.
 ///
-/// `number` is that of the first sample.
+/// `number` is that of the first sample; `packets` is where the packets of each are made.
 pub fn sample_lists<S: SendEnd>(
     end: &mut S,
     moment: &Moment,
     number: u64,
     plans: &[CopyPlan],
     tracks: &mut [Track],
+    packets: &mut Packets,
 ) -> (Taken, u64)
     requires plans_of { ArePlansOf moment.now.channel (length moment.now.image) plans.now }
     requires room { length plans.now ≤ length tracks.old }
@@ -67,7 +70,7 @@ pub fn sample_lists<S: SendEnd>(
     let mut next = number;
     for (place, plan) in plans.iter().enumerate() {
         let track = tracks[place];
-        let accepted = sample_list(end, moment, plan, next, track);
+        let accepted = sample_list(end, moment, plan, next, track, packets);
         taken.add(plan, track, accepted);
         if accepted {
             next += 1;

@@ -4,9 +4,10 @@ ghost use Rattle.sampler.specs.Inner.AtTrigger.{item_of};
 use crate::moment::Moment;
 use channel_ring::SendEnd;
 use copy_plan::CopyPlan;
-use xcp_base::{Item, Packets, Sample};
+use xcp_base::Packets;
 
-/// Offers the sample of a list, and tells whether it was accepted.
+/// Offers the sample of a list, and tells whether it was accepted. Its packets are made in a value
+/// that is kept from sample to sample.
 #[tactic(auto, unfolding(crate::specs::Inner::AtTrigger::item_of))]
 pub fn offer_sample<S: SendEnd>(
     end: &mut S,
@@ -14,6 +15,7 @@ pub fn offer_sample<S: SendEnd>(
     plan: &CopyPlan,
     number: u64,
     marked: bool,
+    packets: &mut Packets,
 ) -> bool
     requires image { length moment.now.image ≡ plan.now.image_len }
     ensures accepted { result ≡ true
@@ -30,11 +32,6 @@ pub fn offer_sample<S: SendEnd>(
     ensures ring_stays { S.ring end.new ≡ S.ring end.old }
 {
     let list = plan.list();
-    let mut packets = Packets::new();
-    plan.fill_into(&mut packets, moment.image, moment.stamp, marked);
-    let sample = Sample::new(moment.channel, list, number, packets);
-    match end.offer(Item::Sample(sample)) {
-        Ok(()) => true,
-        Err(_) => false,
-    }
+    plan.fill_into(packets, moment.image, moment.stamp, marked);
+    end.offer_sample(moment.channel, list, number, packets)
 }

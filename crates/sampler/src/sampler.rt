@@ -30,7 +30,7 @@ use channel_ring::{Beside, SendEnd};
 use copy_plan::CopyPlan;
 use std::marker::Model;
 use xcp_base::limits::MAX_TRIGGERS;
-use xcp_base::{Item, StopMark};
+use xcp_base::{Item, Packets, StopMark};
 
 /// The sampler of one event channel: it takes the triggers, decides which DAQ lists are due, and
 /// sends their samples.
@@ -46,6 +46,8 @@ pub struct Sampler<S: SendEnd> {
     end: S,
     triggers: u64,
     accepted: u64,
+    // The packets of the sample that was made last. Each is made in this place.
+    packets: Packets,
 }
 
 impl<S: SendEnd> Model for Sampler<S> {
@@ -100,6 +102,7 @@ impl<S: SendEnd> Sampler<S> {
             end,
             triggers: 0,
             accepted: 0,
+            packets: Packets::new(),
         }
     }
 
@@ -141,6 +144,7 @@ impl<S: SendEnd> Sampler<S> {
             self.accepted,
             self.lists.plans.as_slice(),
             &mut self.lists.tracks,
+            &mut self.packets,
         );
         self.accepted = accepted;
         self.triggers += 1;
@@ -290,6 +294,7 @@ impl<S: SendEnd> Sampler<S> {
             end,
             triggers: _,
             accepted: _,
+            packets: _,
         } = self;
         let capacity = end.capacity();
         let end = end.finish()?;

@@ -7,7 +7,7 @@ use Rattle.xcp_base.specs.Packets.{ArePackets, IsPacket, last_packet}
 
 -- the packets that are kept
 abbrev pub packets_view : Inside → List (List ℕ)
-packets_view a = packets_of_body a.count a.body.items
+packets_view a = packets_of_body a.count a.body
 
 -- the length of the last packet of a body stands at this place, if there is a packet
 abbrev pub StandsAtLast : ℕ → List ℕ → List (List ℕ) → Type 0
@@ -16,11 +16,11 @@ StandsAtLast last body packets =
 
 -- the body is that of the packets, of which there are at most MAX_ODTS
 pub record IsBody (a : Inside) : Type 0 where
-  pub body : a.body.items ≡ body_of (packets_view a)
+  pub body : a.body ≡ body_of (packets_view a)
   pub count : length (packets_view a) ≡ a.count
   pub room : a.count ≤ MAX_ODTS
   pub each : ArePackets (packets_view a)
-  pub last : StandsAtLast a.last a.body.items (packets_view a)
+  pub last : StandsAtLast a.last a.body (packets_view a)
 
 -- some bytes begin with a packet behind its length
 pub record BeginsWithPacket (bytes : List ℕ) : Type 0 where

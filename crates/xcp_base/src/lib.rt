@@ -2,6 +2,7 @@
 //! and sets of DAQ lists.
 #![tactic(auto)]
 
+mod body;
 mod err_code;
 mod item;
 pub mod limits;

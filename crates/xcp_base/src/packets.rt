@@ -1,14 +1,13 @@
 ghost use Rattle.std.specs.Prelude.{◌≡◌, ℕ, ◌<◌, ◌≤◌, ◌+◌, List, [], ◌∷◌, ◌++◌, ◌↔◌, IfSome};
 ghost use Rattle.std.specs.Prelude.{true, false, IsNone, IsOk, OnErr, OnOk, drop, length, slice_get, slice_index, slice_set, take};
 ghost use Rattle.std.specs.Option.{option_copied};
-ghost use Rattle.arrayvec.specs.ArrayVec.{array_vec_len};
 ghost use Rattle.xcp_base.specs.Bodies.{IsBodyOf, body_of};
 ghost use Rattle.xcp_base.specs.Inner.{BeginsWithPacket, EndsAt, HasLast};
 ghost use Rattle.xcp_base.specs.Packets.{ArePackets, IsPacket, last_packet, with_longer_last};
 
+use crate::body::Body;
 use crate::limits::{MAX_BODY, MAX_DTO, MAX_ODTS};
 use crate::packet_iter::PacketIter;
-use arrayvec::ArrayVec;
 use std::marker::Model;
 use thiserror::Error;
 
@@ -21,7 +20,7 @@ pub struct Full;
 /// size.
 #[derive(Debug, Drop)]
 pub struct Packets {
-    body: ArrayVec<u8, MAX_BODY>,
+    body: Body,
     count: usize,
     last: usize,
 }
@@ -44,7 +43,7 @@ impl Packets {
         ensures { result ≡ [] }
     {
         Packets {
-            body: ArrayVec::new(),
+            body: Body::new(),
             count: 0,
             last: 0,
         }
@@ -54,12 +53,8 @@ impl Packets {
     pub fn copied(&self) -> Packets
         ensures { result ≡ self.now }
     {
-        let mut body = ArrayVec::new();
-        let Ok(()) = body.try_extend_from_slice(self.body.as_slice()) else {
-            unreachable!();
-        };
         Packets {
-            body,
+            body: self.body.copied(),
             count: self.count,
             last: self.last,
         }
@@ -138,9 +133,7 @@ impl Packets {
             return false;
         };
         self.body.clear();
-        let Ok(()) = self.body.try_extend_from_slice(body) else {
-            unreachable!();
-        };
+        self.body.extend(body);
         self.count = count;
         self.last = last;
         true
@@ -174,30 +167,26 @@ impl Packets {
 }
 
 /// Appends a packet behind its length.
-fn append(body: &mut ArrayVec<u8, MAX_BODY>, packet: &[u8])
-    requires room { array_vec_len body.old + length packet.now < MAX_BODY }
+fn append(body: &mut Body, packet: &[u8])
+    requires room { length body.old + length packet.now < MAX_BODY }
     requires fits { length packet.now ≤ MAX_DTO }
-    ensures { body.new.items ≡ body.old.items ++ length packet.now ∷ packet.now }
+    ensures { body.new ≡ body.old ++ length packet.now ∷ packet.now }
 {
-    body.push(packet.len() as u8);
-    let Ok(()) = body.try_extend_from_slice(packet) else {
-        unreachable!();
-    };
+    body.extend(&[packet.len() as u8]);
+    body.extend(packet);
 }
 
 /// Appends bytes to the packet that stands last in a body, whose length stands at `last`.
-fn lengthen(body: &mut ArrayVec<u8, MAX_BODY>, last: usize, bytes: &[u8])
-    requires at { last < array_vec_len body.old }
-    requires room { array_vec_len body.old + length bytes.now ≤ MAX_BODY }
-    requires fits { slice_index body.old.items last + length bytes.now ≤ MAX_DTO }
-    ensures { body.new.items
-        ≡ slice_set body.old.items last (slice_index body.old.items last + length bytes.now)
+fn lengthen(body: &mut Body, last: usize, bytes: &[u8])
+    requires at { last < length body.old }
+    requires room { length body.old + length bytes.now ≤ MAX_BODY }
+    requires fits { slice_index body.old last + length bytes.now ≤ MAX_DTO }
+    ensures { body.new
+        ≡ slice_set body.old last (slice_index body.old last + length bytes.now)
         ++ bytes.now }
 {
-    body[last] += bytes.len() as u8;
-    let Ok(()) = body.try_extend_from_slice(bytes) else {
-        unreachable!();
-    };
+    body.raise(last, bytes.len() as u8);
+    body.extend(bytes);
 }
 
 /// Where the packet ends that begins at `start`, behind its length; `None` where there is none.

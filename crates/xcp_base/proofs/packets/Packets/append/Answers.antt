@@ -12,37 +12,37 @@ use Rattle.xcp_base.proofs.packets.Packets.append.Goals.{After-lengthen}
 pub lengthen-requires : goal.lengthen-requires
 lengthen-requires c =
     let i = c.self.invariant in
-    let qs : List (List ℕ) = packets_of_body c.self.inside.count c.self.inside.body.items in
+    let qs : List (List ℕ) = packets_of_body c.self.inside.count c.self.inside.body in
     let some : 0 < length qs = omega (arith, c.requires.some, ap length c.self.view_is) in
     let fits : length (last_packet qs) + length c.args.bytes.now ≤ 64 = omega (arith, c.requires.fits, ap (λ ps. length (last_packet ps)) c.self.view_is) in
     let small : All (λ (b : ℕ). b < 256) c.args.bytes.now = All-from_get_or (λ (b : ℕ). b < 256) c.args.bytes.now 0 (λ k h. (c.type_inv.bytes k).fits) in
-    let has : HasRoom c.self.inside.body.items c.self.inside.last (length c.args.bytes.now)
-    = has_room qs c.self.inside.body.items c.args.bytes.now c.self.inside.last some (omega (arith, i.count, i.room)) i.body (i.last some) i.each small fits in
+    let has : HasRoom c.self.inside.body c.self.inside.last (length c.args.bytes.now)
+    = has_room qs c.self.inside.body c.args.bytes.now c.self.inside.last some (omega (arith, i.count, i.room)) i.body (i.last some) i.each small fits in
     record { at = has.at; room = has.room; fits = has.fits }
 
 -- the new body is that of the packets with the last one longer
-longer : (c : After-lengthen) → IsLonger c.self.inside.body.items (packets_of_body c.self.inside.count c.self.inside.body.items) c.self.inside.last c.args.bytes.now
+longer : (c : After-lengthen) → IsLonger c.self.inside.body (packets_of_body c.self.inside.count c.self.inside.body) c.self.inside.last c.args.bytes.now
 longer c =
     let i = c.self.invariant in
-    let some : 0 < length (packets_of_body c.self.inside.count c.self.inside.body.items) = omega (arith, c.requires.some, ap length c.self.view_is) in
-    is_longer (packets_of_body c.self.inside.count c.self.inside.body.items) c.self.inside.body.items c.args.bytes.now c.self.inside.last some i.body (i.last some)
+    let some : 0 < length (packets_of_body c.self.inside.count c.self.inside.body) = omega (arith, c.requires.some, ap length c.self.view_is) in
+    is_longer (packets_of_body c.self.inside.count c.self.inside.body) c.self.inside.body c.args.bytes.now c.self.inside.last some i.body (i.last some)
 
-new_body : (c : After-lengthen) → c.lengthen.new.body.items ≡ body_of (with_longer_last (packets_of_body c.self.inside.count c.self.inside.body.items) c.args.bytes.now)
+new_body : (c : After-lengthen) → c.lengthen.new.body ≡ body_of (with_longer_last (packets_of_body c.self.inside.count c.self.inside.body) c.args.bytes.now)
 new_body c = c.lengthen.ensures ∙ (longer c).new
 
 -- so it reads as these packets
-reads : (c : After-lengthen) → packets_of_body c.self.inside.count c.lengthen.new.body.items ≡ with_longer_last (packets_of_body c.self.inside.count c.self.inside.body.items) c.args.bytes.now
+reads : (c : After-lengthen) → packets_of_body c.self.inside.count c.lengthen.new.body ≡ with_longer_last (packets_of_body c.self.inside.count c.self.inside.body) c.args.bytes.now
 reads c =
-    let qs : List (List ℕ) = packets_of_body c.self.inside.count c.self.inside.body.items in
+    let qs : List (List ℕ) = packets_of_body c.self.inside.count c.self.inside.body in
     let n : c.self.inside.count ≡ length (with_longer_last qs c.args.bytes.now) = sym ((longer c).count ∙ c.self.invariant.count) in
-    ap (λ k. packets_of_body k c.lengthen.new.body.items) n
+    ap (λ k. packets_of_body k c.lengthen.new.body) n
     ∙ ap (packets_of_body (length (with_longer_last qs c.args.bytes.now))) (new_body c)
     ∙ packets_of_body-body_of (with_longer_last qs c.args.bytes.now)
 
 pub invariant_of-self : goal.invariant_of-self
 invariant_of-self c =
     let i = c.self.invariant in
-    let qs : List (List ℕ) = packets_of_body c.self.inside.count c.self.inside.body.items in
+    let qs : List (List ℕ) = packets_of_body c.self.inside.count c.self.inside.body in
     let q : List ℕ = c.args.bytes.now in
     let some : 0 < length qs = omega (arith, c.requires.some, ap length c.self.view_is) in
     let fits : length (last_packet qs) + length q ≤ 64 = omega (arith, c.requires.fits, ap (λ ps. length (last_packet ps)) c.self.view_is) in

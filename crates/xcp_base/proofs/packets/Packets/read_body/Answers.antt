@@ -1,23 +1,22 @@
-use Rattle.std.proofs.Common.{◌≡◌, false, true, ◌++◌, arith, ap, length, subst, sym, ◌∙◌}
+use Rattle.std.proofs.Common.{◌≡◌, ◌++◌, arith, ap, length, subst, sym, ◌∙◌}
 use Rattle.xcp_base.proofs.BodyLemmas.{Reads, reads}
 use Rattle.xcp_base.proofs.packets.Packets.read_body.Goals as goal
 
 -- at most eight packets take 520 bytes at most
-pub unreachable-requires : goal.unreachable-requires
-unreachable-requires c =
+pub extend-requires : goal.extend-requires
+extend-requires c =
     let r = reads c.args.count c.in-Some.last c.args.body.now c.in-Some.ensures.some in
-    let bad : false ≡ true = (c.in_default-try_extend_from_slice).ensures.variant.1 (omega (arith, r.short, c.if-count-gt-MAX_ODTS.false, ap length c.clear.ensures)) in
-    cc
+    omega (arith, r.short, c.if-count-gt-MAX_ODTS.false, ap length c.clear.ensures)
 
 -- the bytes are those that were handed in
 pub invariant_of-self : goal.invariant_of-self
 invariant_of-self c =
-    let is : c.try_extend_from_slice.new.self.items ≡ c.args.body.now = c.in-Ok.ensures.ok ∙ ap (λ l. l ++ c.args.body.now) c.clear.ensures in
+    let is : c.extend.new.self ≡ c.args.body.now = c.extend.ensures ∙ ap (λ l. l ++ c.args.body.now) c.clear.ensures in
     let r = subst (Reads c.args.count c.in-Some.last) (sym is) (reads c.args.count c.in-Some.last c.args.body.now c.in-Some.ensures.some) in
     record { body = r.body; count = r.count; room = c.if-count-gt-MAX_ODTS.false; each = r.each; last = r.last_is }
 
 pub returns-clause-yes : goal.returns-clause-yes
 returns-clause-yes c = λ _.
-    let is : c.try_extend_from_slice.new.self.items ≡ c.args.body.now = c.in-Ok.ensures.ok ∙ ap (λ l. l ++ c.args.body.now) c.clear.ensures in
+    let is : c.extend.new.self ≡ c.args.body.now = c.extend.ensures ∙ ap (λ l. l ++ c.args.body.now) c.clear.ensures in
     let r = subst (Reads c.args.count c.in-Some.last) (sym is) (reads c.args.count c.in-Some.last c.args.body.now c.in-Some.ensures.some) in
     record { body = sym is ∙ r.body; count = r.count; few = c.if-count-gt-MAX_ODTS.false; each = r.each }
