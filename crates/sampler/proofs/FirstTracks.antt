@@ -4,7 +4,6 @@ use Rattle.std.specs.Prelude.{Option, Some, None, if◌then◌else◌}
 use Rattle.std.specs.Option.{option_and_then}
 use Rattle.std.specs.Prelude.{slice_get}
 use Rattle.xcp_base.specs.declared.item.Item.{Item}
-use Rattle.std.proofs.Math.Nat.{zero-mod}
 use Rattle.std.proofs.lemmas.Bool.{ne_eqb}
 use Rattle.std.proofs.lemmas.Bool.Decides.{nat_tests}
 use Rattle.std.proofs.lemmas.List.Quantifiers.{position-Some}
@@ -19,12 +18,14 @@ use Rattle.sampler.specs.History.{Event, Trigger, Opening, runs_after, triggers_
 use Rattle.sampler.specs.Past.{first_past}
 use Rattle.sampler.specs.Decisions.{overload_pending}
 use Rattle.sampler.specs.Items.{items}
-use Rattle.sampler.specs.Tracks.{track_of, phase_after, counts_of}
+use Rattle.sampler.specs.Tracks.{track_of, next_after, until_due, counts_of}
 use Rattle.sampler.specs.Inner.Fits.{first_track}
 use Rattle.sampler.specs.State.{ArePlansOf, RiseFrom, place_of, track_runs}
-use Rattle.sampler.specs.Inner.Fits.{TracksFit, IsSampler, list_runs}
+use Rattle.sampler.specs.Inner.Fits.{TracksFit, NoneDueBefore, IsSampler, list_runs}
 use Rattle.sampler.specs.Standing.{StandsAfter, DropsOnlyWhenFull}
+use Rattle.sampler.specs.declared.track.TheConstants.{NEVER}
 use Rattle.sampler.specs.declared.track.Track.{Track}
+use Rattle.sampler.proofs.NextDue.{until_due-zero}
 use Rattle.sampler.proofs.Places.{no_plan, no_track, rise_least, slice_get-get_or}
 
 pub take-all : (plans : List ListPlan) → take (length plans) plans ≡ plans
@@ -128,33 +129,32 @@ first-fit channel image_len running (plan ∷ plans) [] a is = absurd cc
 first-fit channel image_len running (plan ∷ plans) (t ∷ tracks) a is =
     let first : t ≡ first_track running plan.list = cc in
     let rest : take (length plans) tracks ≡ map (λ (plan : ListPlan). first_track running plan.list) plans = cc in
-    (rw first (omega (arith, a.0.0.prescaler), omega arith, refl), first-fit channel image_len running plans tracks a.1 rest)
+    (rw first (omega arith, refl), first-fit channel image_len running plans tracks a.1 rest)
 
-pub first-sampler : (channel image_len running : ℕ) (plans : List ListPlan) (tracks : List Track) → channel < 8 → ArePlansOf channel image_len plans → RiseFrom 0 plans → length tracks ≡ 16 → take (length plans) tracks ≡ map (λ (plan : ListPlan). first_track running plan.list) plans → IsSampler channel image_len plans tracks 0 0
-first-sampler channel image_len running plans tracks below a r places is = record {
+pub first-sampler : (channel image_len running : ℕ) (plans : List ListPlan) (tracks : List Track) (soonest : ℕ) → channel < 8 → ArePlansOf channel image_len plans → RiseFrom 0 plans → length tracks ≡ 16 → take (length plans) tracks ≡ map (λ (plan : ListPlan). first_track running plan.list) plans → NoneDueBefore soonest (take (length plans) tracks) → IsSampler channel image_len plans tracks 0 soonest 0
+first-sampler channel image_len running plans tracks soonest below a r places is none = record {
   channel_below = below;
   plans_of = a;
   rising = r;
   room = omega (arith, rise-length channel image_len 0 plans r a (omega arith));
   places = places;
   tracks_fit = first-fit channel image_len running plans tracks a is;
+  soonest_due = none;
   limit = omega arith;
   accepted_limit = omega arith;
 }
 
-no_phase : (b : Bool) (p : ℕ) → 0 < p → (if b then 0 % p else 0) ≡ 0
-no_phase true p h = zero-mod p
-no_phase false p h = refl
+first_of : (o : Opening) (plan : ListPlan) → track_of o [] [] plan ≡ first_track o.running plan.list
+unfolding track_of next_after runs_after triggers_since_start counts_of overload_pending due with_past
+first_of o plan =
+    let now : 0 + until_due plan.prescaler 0 ≡ 0 = ap (λ n. 0 + n) (until_due-zero plan.prescaler) in
+    ap (λ n. record { running = has_list o.running plan.list; next = if has_list o.running plan.list then n else NEVER; pending = false; counts = record { due = 0; accepted = 0; dropped = 0 } }) now
 
-first_of : (o : Opening) (plan : ListPlan) → 0 < plan.prescaler → track_of o [] [] plan ≡ first_track o.running plan.list
-unfolding track_of phase_after runs_after triggers_since_start counts_of overload_pending due with_past
-first_of o plan h = ap (λ n. record { running = has_list o.running plan.list; phase = n; pending = false; counts = record { due = 0; accepted = 0; dropped = 0 } }) (no_phase (has_list o.running plan.list) plan.prescaler h)
-
-firsts_of : (o : Opening) (channel image_len : ℕ) (plans : List ListPlan) → ArePlansOf channel image_len plans → map (λ (plan : ListPlan). first_track o.running plan.list) plans ≡ map (track_of o [] []) plans
-firsts_of o channel image_len [] a = refl
-firsts_of o channel image_len (plan ∷ plans) a =
-    ap (λ t. t ∷ map (λ (p : ListPlan). first_track o.running p.list) plans) (sym (first_of o plan a.0.0.prescaler))
-    ∙ ap (λ ts. track_of o [] [] plan ∷ ts) (firsts_of o channel image_len plans a.1)
+firsts_of : (o : Opening) (plans : List ListPlan) → map (λ (plan : ListPlan). first_track o.running plan.list) plans ≡ map (track_of o [] []) plans
+firsts_of o [] = refl
+firsts_of o (plan ∷ plans) =
+    ap (λ t. t ∷ map (λ (p : ListPlan). first_track o.running p.list) plans) (sym (first_of o plan))
+    ∙ ap (λ ts. track_of o [] [] plan ∷ ts) (firsts_of o plans)
 
 no_event : (past rest : List Event) (e : Event) → [] ≡ past ++ e ∷ rest → ⊥
 no_event [] rest e is = cc
@@ -182,7 +182,7 @@ first-stands send ring channel image_len running plans end tracks a is none =
       plans = refl;
       decisions = ap length (sym (no_due o));
       sent = none ∙ sym (no_items o);
-      tracks = is ∙ firsts_of o channel image_len plans a;
+      tracks = is ∙ firsts_of o plans;
       triggers = refl;
       accepted = refl;
       drops = no_drops (send.capacity end) ring.cost o;

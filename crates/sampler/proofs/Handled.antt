@@ -9,9 +9,9 @@ use Rattle.channel_ring.specs.declared.ends.RingEnd.{Ghosts as EndGhosts}
 use Rattle.copy_plan.specs.Config.{ListPlan}
 use Rattle.std.proofs.lemmas.Nat.Bits.{bit_at-zero}
 use Rattle.sampler.specs.State.{ArePlansOf}
-use Rattle.sampler.specs.Inner.Fits.{TracksFit, IsSampler}
+use Rattle.sampler.specs.Inner.Fits.{TracksFit, NoneDueBefore, IsSampler}
 use Rattle.sampler.specs.Inner.Moments.{MomentParts}
-use Rattle.sampler.specs.Inner.AtTrigger.{Row, due_now, triggered, row_after, row_due, row_accepted, row_dropped, item_of, row_items, row_count, rows_items, rows_count, Adds, Stage, first_stage, HandlesLists}
+use Rattle.sampler.specs.Inner.AtTrigger.{Row, AreDue, due_now, triggered, row_after, row_due, row_accepted, row_dropped, item_of, row_items, row_of, row_count, rows_items, rows_count, Adds, Stage, first_stage, HandlesLists}
 use Rattle.sampler.specs.declared.track.Track.{Track}
 use Rattle.sampler.proofs.Histories.{append_nil, length-map_of}
 use Rattle.sampler.proofs.Drops.{split_last}
@@ -20,6 +20,10 @@ use Rattle.sampler.proofs.Places.{no_track}
 pub map-append_of : {X Y : Type 0} (f : X → Y) (xs ys : List X) → map f (xs ++ ys) ≡ map f xs ++ map f ys
 map-append_of f [] ys = refl
 map-append_of f (x ∷ xs) ys = ap (λ zs. f x ∷ zs) (map-append_of f xs ys)
+
+AreDue-one : (trigger : ℕ) (rows : List Row) (row : Row) → AreDue trigger rows → row.due ≡ due_now trigger row.track → AreDue trigger (rows ++ row ∷ [])
+AreDue-one trigger [] row are is = (is, tt)
+AreDue-one trigger (r ∷ rows) row are is = (are.0, AreDue-one trigger rows row are.1 is)
 
 pub list_any-one : {X : Type 0} (p : X → Bool) (xs : List X) (x : X) → list_any p (xs ++ x ∷ []) ≡ (list_any p xs || p x)
 list_any-one p [] x = or_false (p x)
@@ -63,21 +67,22 @@ module _ {S E : Type 0} (send : SendGhosts S E) (ring : EndGhosts E) (m : Moment
       HandlesLists send ring m plans first mid →
       length plans < length first.tracks →
       row.track ≡ get_or first.tracks (length plans) no_track →
+      row.due ≡ due_now m.trigger row.track →
       last.tracks ≡ set mid.tracks (length plans) (row_after row) →
       send.sent last.end ≡ send.sent mid.end ++ row_items m mid.next row →
       send.free mid.end ≤ send.free last.end + units ring.cost (row_items m mid.next row) →
-      (due_now row.track ≡ true → row.accepted ≡ false → send.free mid.end < ring.cost (item_of m row.plan mid.next row.track.pending)) →
+      (row.due ≡ true → row.accepted ≡ false → send.free mid.end < ring.cost (item_of m row.plan mid.next row.track.pending)) →
       Adds mid.taken last.taken row →
       last.next ≡ mid.next + row_count row →
       HandlesLists send ring m (plans ++ row.plan ∷ []) first last
-  handles-more t room track_is after_is sent free over adds count =
+  handles-more t room track_is due_is after_is sent free over adds count =
       let rows : List Row = t.rows in
-      let N : ℕ → Type 0 = λ k. due_now row.track ≡ true → row.accepted ≡ false → send.free mid.end < ring.cost (item_of m row.plan k row.track.pending) in
+      let N : ℕ → Type 0 = λ k. row.due ≡ true → row.accepted ≡ false → send.free mid.end < ring.cost (item_of m row.plan k row.track.pending) in
       let over_at : N (first.next + rows_count rows) = subst N t.count over in
       let n : length rows ≡ length plans = sym (length-map_of (λ (r : Row). r.plan) rows) ∙ ap length t.of_plans in
       let longer : length (plans ++ row.plan ∷ []) ≡ length plans + 1 = omega (arith, length-append plans (row.plan ∷ [])) in
       let one_more : suc (length plans) ≡ length (plans ++ row.plan ∷ []) = omega (arith, longer) in
-      let keep : Row → Track = λ (r : Row). triggered r.plan r.track r.accepted in
+      let keep : Row → Track = λ (r : Row). triggered r.plan r.track r.due r.accepted in
       record {
         rows = rows ++ row ∷ [];
         of_plans = map-append_of (λ (r : Row). r.plan) rows (row ∷ []) ∙ ap (λ ps. ps ++ row.plan ∷ []) t.of_plans;
@@ -87,6 +92,7 @@ module _ {S E : Type 0} (send : SendGhosts S E) (ring : EndGhosts E) (m : Moment
             ∙ ap (λ x. take (length plans) first.tracks ++ x ∷ []) track_is
             ∙ sym (take-suc first.tracks (length plans) no_track room)
             ∙ ap (λ k. take k first.tracks) one_more;
+        dues = AreDue-one m.trigger rows row t.dues due_is;
         keeps =
             after_is
             ∙ ap (λ ts. set ts (length plans) (keep row)) t.keeps
@@ -104,7 +110,7 @@ module _ {S E : Type 0} (send : SendGhosts S E) (ring : EndGhosts E) (m : Moment
         over = λ done rest r is due dropped.
             elim (split_last rows done rest row r is) [
               | inl w ↦
-                  let P : Row → Type 0 = λ r'. due_now r'.track ≡ true → r'.accepted ≡ false → send.free first.end < units ring.cost (rows_items m first.next rows) + ring.cost (item_of m r'.plan (first.next + rows_count rows) r'.track.pending) in
+                  let P : Row → Type 0 = λ r'. r'.due ≡ true → r'.accepted ≡ false → send.free first.end < units ring.cost (rows_items m first.next rows) + ring.cost (item_of m r'.plan (first.next + rows_count rows) r'.track.pending) in
                   let Q : List Row → Type 0 = λ rs. send.free first.end < units ring.cost (rows_items m first.next rs) + ring.cost (item_of m r.plan (first.next + rows_count rs) r.track.pending) in
                   let at_row : P row = λ a b. omega (arith, t.free, over_at a b) in
                   subst Q w.1 (subst P w.2 at_row due dropped)
@@ -115,7 +121,7 @@ module _ {S E : Type 0} (send : SendGhosts S E) (ring : EndGhosts E) (m : Moment
         dropped = λ l. adds.dropped l ∙ ap (λ b. b || (row_dropped row && nat_eq row.plan.list l)) (t.dropped l) ∙ sym (list_any-one (λ (r : Row). row_dropped r && nat_eq r.plan.list l) rows row);
       }
 
-nothing : {X : Type 0} (done rest : List X) (x : X) → [] ≡ done ++ x ∷ rest → ⊥
+pub nothing : {X : Type 0} (done rest : List X) (x : X) → [] ≡ done ++ x ∷ rest → ⊥
 nothing [] rest x is = cc
 nothing (y ∷ done) rest x is = cc
 
@@ -126,6 +132,7 @@ handles-none send ring m end tracks number = record {
   rows = [];
   of_plans = refl;
   kept = refl;
+  dues = tt;
   keeps = refl;
   count = omega arith;
   sends = sym (append_nil (send.sent end));
@@ -153,9 +160,9 @@ track-there {plans = plans} {first = first} t room =
     let rows : List Row = t.rows in
     let n : length rows ≡ length plans = sym (length-map_of (λ (r : Row). r.plan) rows) ∙ ap length t.of_plans in
     ap (λ ts. get_or ts (length plans) no_track) t.keeps
-    ∙ get_or-seam (map (λ (r : Row). triggered r.plan r.track r.accepted) rows) first.tracks (length plans) (length-map_of (λ (r : Row). triggered r.plan r.track r.accepted) rows ∙ n) room
+    ∙ get_or-seam (map (λ (r : Row). triggered r.plan r.track r.due r.accepted) rows) first.tracks (length plans) (length-map_of (λ (r : Row). triggered r.plan r.track r.due r.accepted) rows ∙ n) room
 
-pub fit-at : (triggers : ℕ) (plans : List ListPlan) (tracks : List Track) (i : ℕ) (d : ListPlan) → TracksFit triggers plans tracks → i < length plans → ((get_or tracks i no_track).phase < (get_or plans i d).prescaler) × ((get_or tracks i no_track).counts.due ≤ triggers) × ((get_or tracks i no_track).counts.accepted + (get_or tracks i no_track).counts.dropped ≡ (get_or tracks i no_track).counts.due)
+pub fit-at : (triggers : ℕ) (plans : List ListPlan) (tracks : List Track) (i : ℕ) (d : ListPlan) → TracksFit triggers plans tracks → i < length plans → ((get_or tracks i no_track).counts.due ≤ triggers) × ((get_or tracks i no_track).counts.accepted + (get_or tracks i no_track).counts.dropped ≡ (get_or tracks i no_track).counts.due)
 fit-at triggers [] tracks i d f h = absurd (omega arith)
 fit-at triggers (plan ∷ plans) [] i d f h = absurd f
 fit-at triggers (plan ∷ plans) (t ∷ tracks) zero d f h = f.0
@@ -172,18 +179,18 @@ track-at plans {first = first} {mid = mid} i t h fits =
     let P : ℕ → Type 0 = λ k. k < length first.tracks → get_or mid.tracks k no_track ≡ get_or first.tracks k no_track in
     subst P n (track-there t) (omega arith)
 
-pub row_count-yes : (plan : ListPlan) (track : Track) (accepted : Bool) → accepted ≡ true → due_now track ≡ true → row_count (record { plan = plan; track = track; accepted = accepted }) ≡ 1
-row_count-yes plan track accepted took due = rw (due, took) refl
+pub row_count-yes : (plan : ListPlan) (track : Track) (due accepted : Bool) → accepted ≡ true → due ≡ true → row_count (row_of plan track due accepted) ≡ 1
+row_count-yes plan track due accepted took is = rw (is, took) refl
 
-pub row_count-no : (plan : ListPlan) (track : Track) (accepted : Bool) → accepted ≡ false → row_count (record { plan = plan; track = track; accepted = accepted }) ≡ 0
-row_count-no plan track accepted refused = rw refused (by_case (due_now track))
+pub row_count-no : (plan : ListPlan) (track : Track) (due accepted : Bool) → accepted ≡ false → row_count (row_of plan track due accepted) ≡ 0
+row_count-no plan track due accepted refused = rw refused (by_case due)
   where
     by_case : (b : Bool) → ◌≡◌ {A = ℕ} (if b && false then 1 else 0) 0
     by_case true = refl
     by_case false = refl
 
 pub row_count-le : (row : Row) → row_count row ≤ 1
-row_count-le row = by_case (due_now row.track && row.accepted)
+row_count-le row = by_case (row.due && row.accepted)
   where
     by_case : (b : Bool) → (if b then 1 else 0) ≤ 1
     by_case true = omega arith
@@ -192,22 +199,21 @@ row_count-le row = by_case (due_now row.track && row.accepted)
 pub TracksFit-mono : (n m : ℕ) (plans : List ListPlan) (tracks : List Track) → n ≤ m → TracksFit n plans tracks → TracksFit m plans tracks
 TracksFit-mono n m [] tracks le f = tt
 TracksFit-mono n m (plan ∷ plans) [] le f = absurd f
-TracksFit-mono n m (plan ∷ plans) (t ∷ tracks) le f = ((f.0.0, omega (arith, f.0.1), f.0.2), TracksFit-mono n m plans tracks le f.1)
+TracksFit-mono n m (plan ∷ plans) (t ∷ tracks) le f = ((omega (arith, f.0.0), f.0.1), TracksFit-mono n m plans tracks le f.1)
 
-triggered-fits : (n : ℕ) (plan : ListPlan) (t : Track) (accepted : Bool) → 0 < plan.prescaler → (t.phase < plan.prescaler) × (t.counts.due ≤ n) × (t.counts.accepted + t.counts.dropped ≡ t.counts.due) → ((triggered plan t accepted).phase < plan.prescaler) × ((triggered plan t accepted).counts.due ≤ n + 1) × ((triggered plan t accepted).counts.accepted + (triggered plan t accepted).counts.dropped ≡ (triggered plan t accepted).counts.due)
+triggered-fits : (n : ℕ) (plan : ListPlan) (t : Track) (due accepted : Bool) → (t.counts.due ≤ n) × (t.counts.accepted + t.counts.dropped ≡ t.counts.due) → ((triggered plan t due accepted).counts.due ≤ n + 1) × ((triggered plan t due accepted).counts.accepted + (triggered plan t due accepted).counts.dropped ≡ (triggered plan t due accepted).counts.due)
 unfolding triggered
-triggered-fits n plan t accepted some f = (
-  elim (t.running) as (λ b. (if b then (t.phase + 1) % plan.prescaler else t.phase) < plan.prescaler) [ true ↦ mod-lt (t.phase + 1) some | false ↦ f.0 ],
-  elim (due_now t) as (λ b. t.counts.due + (if b then 1 else 0) ≤ n + 1) [ true ↦ omega (arith, f.1) | false ↦ omega (arith, f.1) ],
-  sums (due_now t) accepted,
+triggered-fits n plan t due accepted f = (
+  elim due as (λ b. t.counts.due + (if b then 1 else 0) ≤ n + 1) [ true ↦ omega (arith, f.0) | false ↦ omega (arith, f.0) ],
+  sums due accepted,
 )
   where
     sums : (b a : Bool) → t.counts.accepted + (if b && a then 1 else 0) + (t.counts.dropped + (if b && not a then 1 else 0)) ≡ t.counts.due + (if b then 1 else 0)
-    sums true true = omega (arith, f.2)
-    sums true false = omega (arith, f.2)
-    sums false a = omega (arith, f.2)
+    sums true true = omega (arith, f.1)
+    sums true false = omega (arith, f.1)
+    sums false a = omega (arith, f.1)
 
-rows-fit : (channel image_len n : ℕ) (rows : List Row) (plans : List ListPlan) (before rest : List Track) → map (λ (r : Row). r.plan) rows ≡ plans → map (λ (r : Row). r.track) rows ≡ take (length plans) before → ArePlansOf channel image_len plans → TracksFit n plans before → TracksFit (n + 1) plans (map (λ (r : Row). triggered r.plan r.track r.accepted) rows ++ rest)
+rows-fit : (channel image_len n : ℕ) (rows : List Row) (plans : List ListPlan) (before rest : List Track) → map (λ (r : Row). r.plan) rows ≡ plans → map (λ (r : Row). r.track) rows ≡ take (length plans) before → ArePlansOf channel image_len plans → TracksFit n plans before → TracksFit (n + 1) plans (map (λ (r : Row). triggered r.plan r.track r.due r.accepted) rows ++ rest)
 rows-fit channel image_len n rows [] before rest of_plans kept a f = tt
 rows-fit channel image_len n [] (plan ∷ plans) before rest of_plans kept a f = absurd cc
 rows-fit channel image_len n (r ∷ rows) (plan ∷ plans) [] rest of_plans kept a f = absurd f
@@ -216,16 +222,17 @@ rows-fit channel image_len n (r ∷ rows) (plan ∷ plans) (t ∷ before) rest o
     let x : r.track ≡ t = cc in
     let ps : map (λ (y : Row). y.plan) rows ≡ plans = cc in
     let ts : map (λ (y : Row). y.track) rows ≡ take (length plans) before = cc in
-    (rw (p, x) (triggered-fits n plan t r.accepted a.0.0.prescaler f.0), rows-fit channel image_len n rows plans before rest ps ts a.1 f.1)
+    (rw (p, x) (triggered-fits n plan t r.due r.accepted f.0), rows-fit channel image_len n rows plans before rest ps ts a.1 f.1)
 
-pub IsSampler-handled : {S E : Type 0} (send : SendGhosts S E) (ring : EndGhosts E) (m : MomentParts) (image_len : ℕ) (plans : List ListPlan) (first last : Stage S) (triggers : ℕ) → IsSampler m.channel image_len plans first.tracks triggers first.next → HandlesLists send ring m plans first last → last.next ≤ first.next + length plans → length last.tracks ≡ length first.tracks → triggers < 2 ^ 59 → IsSampler m.channel image_len plans last.tracks (triggers + 1) last.next
-IsSampler-handled send ring m image_len plans first last triggers s t limit same below = record {
+pub IsSampler-handled : {S E : Type 0} (send : SendGhosts S E) (ring : EndGhosts E) (m : MomentParts) (image_len : ℕ) (plans : List ListPlan) (first last : Stage S) (triggers soonest later : ℕ) → IsSampler m.channel image_len plans first.tracks triggers soonest first.next → HandlesLists send ring m plans first last → last.next ≤ first.next + length plans → length last.tracks ≡ length first.tracks → triggers < 2 ^ 59 → NoneDueBefore later (take (length plans) last.tracks) → IsSampler m.channel image_len plans last.tracks (triggers + 1) later last.next
+IsSampler-handled send ring m image_len plans first last triggers soonest later s t limit same below none = record {
   channel_below = s.channel_below;
   plans_of = s.plans_of;
   rising = s.rising;
   room = s.room;
   places = same ∙ s.places;
   tracks_fit = rw t.keeps (rows-fit m.channel image_len triggers t.rows plans first.tracks (drop (length plans) first.tracks) t.of_plans t.kept s.plans_of s.tracks_fit);
+  soonest_due = none;
   limit = omega (arith, below);
   accepted_limit = omega (arith, limit, s.accepted_limit, s.room);
 }

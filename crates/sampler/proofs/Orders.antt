@@ -1,16 +1,17 @@
 -- A sampler stands after a start and after a stop.
 use Rattle.std.proofs.Common.{◌≡◌, ℕ, Bool, true, false, List, [], ◌∷◌, ◌++◌, length, take, get_or, set, map, refl, sym, ap, ◌∙◌, arith, subst}
-use Rattle.std.specs.Prelude.{Some}
+use Rattle.std.specs.Prelude.{Some, count_by}
 use Rattle.xcp_base.specs.declared.item.Item.TheVariants.{Marker}
 use Rattle.channel_ring.specs.declared.ends.SendEnd.{Ghosts as SendGhosts}
 use Rattle.channel_ring.specs.declared.ends.RingEnd.{Ghosts as EndGhosts}
 use Rattle.copy_plan.specs.Config.{ListPlan}
-use Rattle.sampler.specs.History.{Event, Start, Stop, Opening, due_at}
+use Rattle.sampler.specs.History.{Event, Start, Stop, Opening, due_at, is_trigger}
 use Rattle.sampler.specs.Past.{Past, one_more}
 use Rattle.sampler.specs.Items.{items_at}
 use Rattle.sampler.specs.Tracks.{track_of}
 use Rattle.sampler.specs.State.{SamplerState, RiseFrom, place_of}
 use Rattle.sampler.specs.Standing.{StandsAfter}
+use Rattle.sampler.specs.declared.track.TheConstants.{NEVER}
 use Rattle.sampler.specs.declared.track.Track.{Track}
 use Rattle.sampler.proofs.Histories.{append_nil}
 use Rattle.sampler.proofs.Stands.{stands-more}
@@ -34,42 +35,41 @@ module _ {S E : Type 0} (send : SendGhosts S E) (ring : EndGhosts E) (before aft
   at_there : place_of l o.plans ≡ Some i
   at_there = ap (place_of l) (sym stands.plans) ∙ at
 
-  pub start-tracks : (get_or before.tracks i no_track).running ≡ false → map (track_of o (h ++ Start l ∷ []) d) o.plans ≡ set before.tracks i (record (get_or before.tracks i no_track) { running = true })
-  unfolding track_of
-  start-tracks stopped =
+  pub start-tracks : map (track_of o (h ++ Start l ∷ []) d) o.plans ≡ set before.tracks i (record (get_or before.tracks i no_track) { running = true; next = before.triggers })
+  start-tracks =
       let t : Track = get_or before.tracks i no_track in
-      changed_at (track_of o h d) (track_of o (h ++ Start l ∷ []) d) l t (record t { running = true })
+      changed_at (track_of o h d) (track_of o (h ++ Start l ∷ []) d) l t (record t { running = true; next = before.triggers })
       (λ plan other. track-start_other o h d l plan other)
-      (λ plan same is. track-start_same o h d l plan same (ap (λ (x : Track). x.running) is ∙ stopped) ∙ ap (λ (x : Track). record x { running = true }) is)
+      (λ plan same is. track-start_same o h d l plan same ∙ ap (λ (x : Track). record x { running = true; next = count_by is_trigger h }) is ∙ ap (λ n. record t { running = true; next = n }) (sym stands.triggers))
       o.plans i rising_there at_there (ap (λ ts. get_or ts i no_track) (sym stands.tracks))
-      ∙ ap (λ ts. set ts i (record t { running = true })) (sym stands.tracks)
+      ∙ ap (λ ts. set ts i (record t { running = true; next = before.triggers })) (sym stands.tracks)
 
-  pub start-stands : (get_or before.tracks i no_track).running ≡ false → after.channel ≡ before.channel → after.plans ≡ before.plans → after.end ≡ before.end → after.tracks ≡ set before.tracks i (record (get_or before.tracks i no_track) { running = true }) → after.triggers ≡ before.triggers → after.accepted ≡ before.accepted → StandsAfter send ring after (one_more past (Start l) [])
+  pub start-stands : after.channel ≡ before.channel → after.plans ≡ before.plans → after.end ≡ before.end → after.tracks ≡ set before.tracks i (record (get_or before.tracks i no_track) { running = true; next = before.triggers }) → after.triggers ≡ before.triggers → after.accepted ≡ before.accepted → StandsAfter send ring after (one_more past (Start l) [])
   unfolding items_at due_at
-  start-stands stopped channel plans end tracks triggers accepted =
+  start-stands channel plans end tracks triggers accepted =
       stands-more send ring before after past (Start l) [] stands (record {
         same_channel = channel;
         same_plans = plans;
         decisions = refl;
         sent = ap send.sent end ∙ sym (append_nil (send.sent before.end));
-        tracks = rw (append_nil d) (tracks ∙ sym (start-tracks stopped));
+        tracks = rw (append_nil d) (tracks ∙ sym start-tracks);
         triggers = omega (arith, triggers);
         accepted = omega (arith, accepted);
         same_capacity = ap send.capacity end;
         drops = tt;
       })
 
-  pub stop-tracks : map (track_of o (h ++ Stop l ∷ []) d) o.plans ≡ set before.tracks i (record (get_or before.tracks i no_track) { running = false; phase = 0 })
+  pub stop-tracks : map (track_of o (h ++ Stop l ∷ []) d) o.plans ≡ set before.tracks i (record (get_or before.tracks i no_track) { running = false; next = NEVER })
   unfolding track_of
   stop-tracks =
       let t : Track = get_or before.tracks i no_track in
-      changed_at (track_of o h d) (track_of o (h ++ Stop l ∷ []) d) l t (record t { running = false; phase = 0 })
+      changed_at (track_of o h d) (track_of o (h ++ Stop l ∷ []) d) l t (record t { running = false; next = NEVER })
       (λ plan other. track-stop_other o h d l plan other)
-      (λ plan same is. track-stop_same o h d l plan same ∙ ap (λ (x : Track). record x { running = false; phase = 0 }) is)
+      (λ plan same is. track-stop_same o h d l plan same ∙ ap (λ (x : Track). record x { running = false; next = NEVER }) is)
       o.plans i rising_there at_there (ap (λ ts. get_or ts i no_track) (sym stands.tracks))
-      ∙ ap (λ ts. set ts i (record t { running = false; phase = 0 })) (sym stands.tracks)
+      ∙ ap (λ ts. set ts i (record t { running = false; next = NEVER })) (sym stands.tracks)
 
-  pub stop-stands : after.channel ≡ before.channel → after.plans ≡ before.plans → send.sent after.end ≡ send.sent before.end ++ Marker (record { channel = before.channel; list = l }) ∷ [] → send.capacity after.end ≡ send.capacity before.end → after.tracks ≡ set before.tracks i (record (get_or before.tracks i no_track) { running = false; phase = 0 }) → after.triggers ≡ before.triggers → after.accepted ≡ before.accepted → StandsAfter send ring after (one_more past (Stop l) [])
+  pub stop-stands : after.channel ≡ before.channel → after.plans ≡ before.plans → send.sent after.end ≡ send.sent before.end ++ Marker (record { channel = before.channel; list = l }) ∷ [] → send.capacity after.end ≡ send.capacity before.end → after.tracks ≡ set before.tracks i (record (get_or before.tracks i no_track) { running = false; next = NEVER }) → after.triggers ≡ before.triggers → after.accepted ≡ before.accepted → StandsAfter send ring after (one_more past (Stop l) [])
   unfolding items_at due_at
   stop-stands channel plans sent capacity tracks triggers accepted =
       stands-more send ring before after past (Stop l) [] stands (record {
@@ -89,22 +89,21 @@ module _ {S E : Type 0} (send : SendGhosts S E) (ring : EndGhosts E) (channel im
   here = get_or-take (length plans) tracks i no_track (place-below l plans i at)
 
   pub start-inside :
-      (get_or tracks i no_track).running ≡ false →
-      u ≡ record (get_or tracks i no_track) { running = true } →
+      u ≡ record (get_or tracks i no_track) { running = true; next = triggers } →
       StandsAfter send ring (record { channel = channel; image_len = image_len; plans = plans; end = end; tracks = take (length plans) tracks; triggers = triggers; accepted = accepted }) past →
       StandsAfter send ring (record { channel = channel; image_len = image_len; plans = plans; end = end; tracks = take (length plans) (set tracks i u); triggers = triggers; accepted = accepted }) (one_more past (Start l) [])
-  start-inside stopped is stands =
-      start-stands send ring _ _ past l i rising at stands (ap (λ (t : Track). t.running) here ∙ stopped) refl refl refl
-      (take-set_at tracks (length plans) i u ∙ ap (set (take (length plans) tracks) i) is ∙ ap (λ (t : Track). set (take (length plans) tracks) i (record t { running = true })) (sym here))
+  start-inside is stands =
+      start-stands send ring _ _ past l i rising at stands refl refl refl
+      (take-set_at tracks (length plans) i u ∙ ap (set (take (length plans) tracks) i) is ∙ ap (λ (t : Track). set (take (length plans) tracks) i (record t { running = true; next = triggers })) (sym here))
       refl refl
 
   pub stop-inside :
-      u ≡ record (get_or tracks i no_track) { running = false; phase = 0 } →
+      u ≡ record (get_or tracks i no_track) { running = false; next = NEVER } →
       send.sent new_end ≡ send.sent end ++ Marker (record { channel = channel; list = l }) ∷ [] →
       send.capacity new_end ≡ send.capacity end →
       StandsAfter send ring (record { channel = channel; image_len = image_len; plans = plans; end = end; tracks = take (length plans) tracks; triggers = triggers; accepted = accepted }) past →
       StandsAfter send ring (record { channel = channel; image_len = image_len; plans = plans; end = new_end; tracks = take (length plans) (set tracks i u); triggers = triggers; accepted = accepted }) (one_more past (Stop l) [])
   stop-inside is sent capacity stands =
       stop-stands send ring _ _ past l i rising at stands refl refl sent capacity
-      (take-set_at tracks (length plans) i u ∙ ap (set (take (length plans) tracks) i) is ∙ ap (λ (t : Track). set (take (length plans) tracks) i (record t { running = false; phase = 0 })) (sym here))
+      (take-set_at tracks (length plans) i u ∙ ap (set (take (length plans) tracks) i) is ∙ ap (λ (t : Track). set (take (length plans) tracks) i (record t { running = false; next = NEVER })) (sym here))
       refl refl

@@ -8,7 +8,7 @@ use Rattle.std.proofs.lemmas.Bool.Decides.{nat_tests}
 use Rattle.std.proofs.lemmas.List.Quantifiers.{position-Some}
 use Rattle.copy_plan.specs.Config.{ListPlan}
 use Rattle.sampler.specs.State.{RiseFrom, ArePlansOf, place_of}
-use Rattle.sampler.specs.Inner.Fits.{TracksFit, IsSampler}
+use Rattle.sampler.specs.Inner.Fits.{TracksFit, NoneDueBefore, IsSampler}
 use Rattle.std.proofs.Math.ListN.{length-set}
 use Rattle.sampler.specs.declared.track.Track.{Track}
 
@@ -16,7 +16,7 @@ abbrev pub no_plan : ListPlan
 no_plan = record { list = 0; channel = 0; prescaler = 0; first_pid = 0; stamped = false; odts = []; image_len = 0 }
 
 abbrev pub no_track : Track
-no_track = record { running = false; phase = 0; pending = false; counts = record { due = 0; accepted = 0; dropped = 0 } }
+no_track = record { running = false; next = 0; pending = false; counts = record { due = 0; accepted = 0; dropped = 0 } }
 
 pub take-set_at : {X : Type 0} (xs : List X) (n i : ℕ) (y : X) → take n (set xs i y) ≡ set (take n xs) i y
 take-set_at [] zero i y = refl
@@ -86,20 +86,21 @@ list-below channel image_len l plans i a at =
     omega (arith, e, list_of channel image_len plans i a found.0)
 
 -- another state of one list keeps the limits
-pub TracksFit-set : (triggers : ℕ) (plans : List ListPlan) (tracks : List Track) (i : ℕ) (t : Track) → TracksFit triggers plans tracks → t.phase ≤ (get_or tracks i no_track).phase → t.counts ≡ (get_or tracks i no_track).counts → TracksFit triggers plans (set tracks i t)
-TracksFit-set triggers [] tracks i t f p c = tt
-TracksFit-set triggers (plan ∷ plans) [] i t f p c = absurd f
-TracksFit-set triggers (plan ∷ plans) (x ∷ tracks) zero t f p c = ((omega (arith, f.0.0), rw c f.0.1, rw c f.0.2), f.1)
-TracksFit-set triggers (plan ∷ plans) (x ∷ tracks) (suc i) t f p c = (f.0, TracksFit-set triggers plans tracks i t f.1 p c)
+pub TracksFit-set : (triggers : ℕ) (plans : List ListPlan) (tracks : List Track) (i : ℕ) (t : Track) → TracksFit triggers plans tracks → t.counts ≡ (get_or tracks i no_track).counts → TracksFit triggers plans (set tracks i t)
+TracksFit-set triggers [] tracks i t f c = tt
+TracksFit-set triggers (plan ∷ plans) [] i t f c = absurd f
+TracksFit-set triggers (plan ∷ plans) (x ∷ tracks) zero t f c = ((rw c f.0.0, rw c f.0.1), f.1)
+TracksFit-set triggers (plan ∷ plans) (x ∷ tracks) (suc i) t f c = (f.0, TracksFit-set triggers plans tracks i t f.1 c)
 
-pub IsSampler-set : (channel image_len : ℕ) (plans : List ListPlan) (tracks : List Track) (triggers accepted i : ℕ) (t : Track) → IsSampler channel image_len plans tracks triggers accepted → t.phase ≤ (get_or tracks i no_track).phase → t.counts ≡ (get_or tracks i no_track).counts → IsSampler channel image_len plans (set tracks i t) triggers accepted
-IsSampler-set channel image_len plans tracks triggers accepted i t s p c = record {
+pub IsSampler-set : (channel image_len : ℕ) (plans : List ListPlan) (tracks : List Track) (triggers soonest accepted i : ℕ) (t : Track) (sooner : ℕ) → IsSampler channel image_len plans tracks triggers soonest accepted → t.counts ≡ (get_or tracks i no_track).counts → NoneDueBefore sooner (take (length plans) (set tracks i t)) → IsSampler channel image_len plans (set tracks i t) triggers sooner accepted
+IsSampler-set channel image_len plans tracks triggers soonest accepted i t sooner s c none = record {
   channel_below = s.channel_below;
   plans_of = s.plans_of;
   rising = s.rising;
   room = s.room;
   places = length-set tracks i t ∙ s.places;
-  tracks_fit = TracksFit-set triggers plans tracks i t s.tracks_fit p c;
+  tracks_fit = TracksFit-set triggers plans tracks i t s.tracks_fit c;
+  soonest_due = none;
   limit = s.limit;
   accepted_limit = s.accepted_limit;
 }

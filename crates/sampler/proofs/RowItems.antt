@@ -1,6 +1,6 @@
 -- The items of a trigger are those of its rows.
 use Rattle.std.proofs.Common.{◌≡◌, ℕ, zero, suc, ◌+◌, ◌≤◌, Bool, true, false, cond, ◌&&◌, List, [], ◌∷◌, ◌++◌, length, get_or, take, map, refl, sym, ap, ◌∙◌, arith, subst, append_assoc, length-append}
-use Rattle.std.specs.Prelude.{zip, Some, None, if◌then◌else◌, slice_get}
+use Rattle.std.specs.Prelude.{zip, count_by, Some, None, if◌then◌else◌, slice_get}
 use Rattle.std.specs.Option.{option_map}
 use Rattle.std.specs.List.{last_or, cons_option}
 use Rattle.std.proofs.Math.Seq.{take-append-add, take-append_seam, get_or-append_seam}
@@ -9,13 +9,13 @@ use Rattle.std.proofs.lemmas.List.Sums.{sum_by-append, sum_by-cons}
 use Rattle.std.proofs.lemmas.Option.{slice_get-map}
 use Rattle.xcp_base.specs.declared.item.Item.{Item}
 use Rattle.copy_plan.specs.Config.{ListPlan}
-use Rattle.sampler.specs.History.{Event, Trigger, Opening, due, due_at, pairs_at}
+use Rattle.sampler.specs.History.{Event, Trigger, Opening, is_trigger, due, due_at, pairs_at}
 use Rattle.sampler.specs.Decisions.{decided, pairs_of, is_of_list, is_drop, overload_pending, pending_of, overload_bit, accepted_in}
 use Rattle.sampler.specs.Items.{sample, samples_from}
 use Rattle.sampler.specs.Tracks.{track_of}
 use Rattle.sampler.specs.State.{RiseFrom}
 use Rattle.sampler.specs.Inner.Moments.{MomentParts}
-use Rattle.sampler.specs.Inner.AtTrigger.{Row, due_now, item_of, row_items, row_count, rows_items, rows_count}
+use Rattle.sampler.specs.Inner.AtTrigger.{Row, item_of, row_items, row_count, rows_items, rows_count}
 use Rattle.sampler.specs.declared.track.Track.{Track}
 use Rattle.sampler.proofs.Histories.{append_nil, due-more, decided-more, length-zip_same, slice_get-behind}
 use Rattle.sampler.proofs.Handled.{rows_count-one}
@@ -25,25 +25,25 @@ pub decisions-append : (a b : List Row) → decisions (a ++ b) ≡ decisions a +
 decisions-append [] b = refl
 decisions-append (r ∷ a) b =
     let later : decisions (a ++ b) ≡ decisions a ++ decisions b = decisions-append a b in
-    elim (due_now r.track) as (λ v. cond v (r.accepted ∷ decisions (a ++ b)) (decisions (a ++ b)) ≡ cond v (r.accepted ∷ decisions a) (decisions a) ++ decisions b) [ true ↦ ap (λ ds. r.accepted ∷ ds) later | false ↦ later ]
+    elim (r.due) as (λ v. cond v (r.accepted ∷ decisions (a ++ b)) (decisions (a ++ b)) ≡ cond v (r.accepted ∷ decisions a) (decisions a) ++ decisions b) [ true ↦ ap (λ ds. r.accepted ∷ ds) later | false ↦ later ]
 
 due_plans-append : (a b : List Row) → due_plans (a ++ b) ≡ due_plans a ++ due_plans b
 due_plans-append [] b = refl
 due_plans-append (r ∷ a) b =
     let later : due_plans (a ++ b) ≡ due_plans a ++ due_plans b = due_plans-append a b in
-    elim (due_now r.track) as (λ v. cond v (r.plan ∷ due_plans (a ++ b)) (due_plans (a ++ b)) ≡ cond v (r.plan ∷ due_plans a) (due_plans a) ++ due_plans b) [ true ↦ ap (λ ps. r.plan ∷ ps) later | false ↦ later ]
+    elim (r.due) as (λ v. cond v (r.plan ∷ due_plans (a ++ b)) (due_plans (a ++ b)) ≡ cond v (r.plan ∷ due_plans a) (due_plans a) ++ due_plans b) [ true ↦ ap (λ ps. r.plan ∷ ps) later | false ↦ later ]
 
 new_pairs-append : (i : ℕ) (a b : List Row) → new_pairs i (a ++ b) ≡ new_pairs i a ++ new_pairs i b
 new_pairs-append i [] b = refl
 new_pairs-append i (r ∷ a) b =
     let later : new_pairs i (a ++ b) ≡ new_pairs i a ++ new_pairs i b = new_pairs-append i a b in
-    elim (due_now r.track) as (λ v. cond v (((i, r.plan.list), r.accepted) ∷ new_pairs i (a ++ b)) (new_pairs i (a ++ b)) ≡ cond v (((i, r.plan.list), r.accepted) ∷ new_pairs i a) (new_pairs i a) ++ new_pairs i b) [ true ↦ ap (λ ps. ((i, r.plan.list), r.accepted) ∷ ps) later | false ↦ later ]
+    elim (r.due) as (λ v. cond v (((i, r.plan.list), r.accepted) ∷ new_pairs i (a ++ b)) (new_pairs i (a ++ b)) ≡ cond v (((i, r.plan.list), r.accepted) ∷ new_pairs i a) (new_pairs i a) ++ new_pairs i b) [ true ↦ ap (λ ps. ((i, r.plan.list), r.accepted) ∷ ps) later | false ↦ later ]
 
 length-new_pairs : (i : ℕ) (rows : List Row) → length (new_pairs i rows) ≡ length (decisions rows)
 length-new_pairs i [] = refl
 length-new_pairs i (r ∷ rows) =
     let later : length (new_pairs i rows) ≡ length (decisions rows) = length-new_pairs i rows in
-    elim (due_now r.track) as (λ v. length (cond v (((i, r.plan.list), r.accepted) ∷ new_pairs i rows) (new_pairs i rows)) ≡ length (cond v (r.accepted ∷ decisions rows) (decisions rows))) [ true ↦ ap (λ n. suc n) later | false ↦ later ]
+    elim (r.due) as (λ v. length (cond v (((i, r.plan.list), r.accepted) ∷ new_pairs i rows) (new_pairs i rows)) ≡ length (cond v (r.accepted ∷ decisions rows) (decisions rows))) [ true ↦ ap (λ n. suc n) later | false ↦ later ]
 
 zip-nil : {X Y : Type 0} (xs : List X) → zip {X = Y} xs [] ≡ []
 zip-nil [] = refl
@@ -54,7 +54,7 @@ zip-part : (i : ℕ) (pre post : List Row) → zip (map (λ (plan : ListPlan). (
 zip-part i [] post = zip-nil (map (λ (plan : ListPlan). (i, plan.list)) (due_plans post))
 zip-part i (r ∷ pre) post =
     let later : zip (map (λ (plan : ListPlan). (i, plan.list)) (due_plans (pre ++ post))) (decisions pre) ≡ new_pairs i pre = zip-part i pre post in
-    elim (due_now r.track) as (λ v. zip (map (λ (plan : ListPlan). (i, plan.list)) (cond v (r.plan ∷ due_plans (pre ++ post)) (due_plans (pre ++ post)))) (cond v (r.accepted ∷ decisions pre) (decisions pre)) ≡ cond v (((i, r.plan.list), r.accepted) ∷ new_pairs i pre) (new_pairs i pre)) [ true ↦ ap (λ ps. ((i, r.plan.list), r.accepted) ∷ ps) later | false ↦ later ]
+    elim (r.due) as (λ v. zip (map (λ (plan : ListPlan). (i, plan.list)) (cond v (r.plan ∷ due_plans (pre ++ post)) (due_plans (pre ++ post)))) (cond v (r.accepted ∷ decisions pre) (decisions pre)) ≡ cond v (((i, r.plan.list), r.accepted) ∷ new_pairs i pre) (new_pairs i pre)) [ true ↦ ap (λ ps. ((i, r.plan.list), r.accepted) ∷ ps) later | false ↦ later ]
 
 -- the samples accepted are those that the decisions count
 pub count-decisions : (rows : List Row) → accepted_in (decisions rows) ≡ rows_count rows
@@ -62,13 +62,13 @@ unfolding rows_count
 count-decisions [] = refl
 count-decisions (r ∷ rows) =
     let later : accepted_in (decisions rows) ≡ rows_count rows = count-decisions rows in
-    elim (due_now r.track) as (λ v. accepted_in (cond v (r.accepted ∷ decisions rows) (decisions rows)) ≡ (if v && r.accepted then 1 else 0) + rows_count rows) [
+    elim (r.due) as (λ v. accepted_in (cond v (r.accepted ∷ decisions rows) (decisions rows)) ≡ (if v && r.accepted then 1 else 0) + rows_count rows) [
       | true ↦ sum_by-cons (λ b. cond b 1 0) r.accepted (decisions rows) ∙ ap (λ n. (if r.accepted then 1 else 0) + n) later
       | false ↦ later ∙ omega arith
     ]
 
-length-one : (r : Row) → length (decisions (r ∷ [])) ≡ (if due_now r.track then 1 else 0)
-length-one r = elim (due_now r.track) as (λ b. length (cond b (r.accepted ∷ []) []) ≡ (if b then 1 else 0)) [ true ↦ refl | false ↦ refl ]
+length-one : (r : Row) → length (decisions (r ∷ [])) ≡ (if r.due then 1 else 0)
+length-one r = elim (r.due) as (λ b. length (cond b (r.accepted ∷ []) []) ≡ (if b then 1 else 0)) [ true ↦ refl | false ↦ refl ]
 
 get_or-past : (ds : List Bool) (j : ℕ) → length ds ≤ j → get_or ds j false ≡ false
 get_or-past [] zero h = refl
@@ -79,7 +79,7 @@ get_or-past (b ∷ ds) (suc j) h = get_or-past ds j (omega arith)
 module _ (o : Opening) (h : List Event) (d : List Bool) (image : List ℕ) (stamp : ℕ) (whole : length d ≡ length (due o h)) (all : List Row) (of_plans : plans_of all ≡ o.plans) (are : RowsAre o h d all) (rise : RiseFrom 0 (plans_of all)) where
   -- what the samples of the trigger have in common
   abbrev here : MomentParts
-  here = record { channel = o.channel; image = image; stamp = stamp }
+  here = record { channel = o.channel; trigger = count_by is_trigger h; image = image; stamp = stamp }
 
   -- the pairs decided by the first rows
   decided-part : (pre post : List Row) → all ≡ pre ++ post → decided o (h ++ Trigger image stamp ∷ []) (d ++ decisions pre) ≡ decided o h d ++ new_pairs (length h) pre
@@ -89,7 +89,7 @@ module _ (o : Opening) (h : List Event) (d : List Bool) (image : List ℕ) (stam
       ∙ ap (λ ps. decided o h d ++ ps) (zip-part (length h) pre post)
 
   -- the pair of a row that is due
-  pair-row : (done rest post : List Row) (r : Row) → all ≡ (done ++ r ∷ rest) ++ post → due_now r.track ≡ true → slice_get (due o (h ++ Trigger image stamp ∷ [])) (length d + length (decisions done)) ≡ Some (length h, r.plan.list)
+  pair-row : (done rest post : List Row) (r : Row) → all ≡ (done ++ r ∷ rest) ++ post → r.due ≡ true → slice_get (due o (h ++ Trigger image stamp ∷ [])) (length d + length (decisions done)) ≡ Some (length h, r.plan.list)
   pair-row done rest post r is due_r =
       let of_plan : ListPlan → ℕ × ℕ = λ plan. (length h, plan.list) in
       let m : ℕ = length (decisions done) in
@@ -109,7 +109,7 @@ module _ (o : Opening) (h : List Event) (d : List Bool) (image : List ℕ) (stam
       ∙ ap (option_map of_plan) (slice_get-behind (due_plans done) (r.plan ∷ later) 0)
 
   -- the sample of a row's pair, decided by the rows up to it and some more
-  pub sample-row : (done rest post : List Row) (r : Row) → all ≡ (done ++ r ∷ rest) ++ post → due_now r.track ≡ true → r.track ≡ track_of o h d r.plan → sample o (h ++ Trigger image stamp ∷ []) (d ++ decisions (done ++ r ∷ rest)) (length d + length (decisions done)) r.plan image stamp ≡ item_of here r.plan (accepted_in d + rows_count done) r.track.pending
+  pub sample-row : (done rest post : List Row) (r : Row) → all ≡ (done ++ r ∷ rest) ++ post → r.due ≡ true → r.track ≡ track_of o h d r.plan → sample o (h ++ Trigger image stamp ∷ []) (d ++ decisions (done ++ r ∷ rest)) (length d + length (decisions done)) r.plan image stamp ≡ item_of here r.plan (accepted_in d + rows_count done) r.track.pending
   unfolding sample item_of overload_bit overload_pending track_of
   sample-row done rest post r is due_r kept =
       let j : ℕ = length d + length (decisions done) in
@@ -147,7 +147,7 @@ module _ (o : Opening) (h : List Event) (d : List Bool) (image : List ℕ) (stam
       rw (get_or-past dd j past) later
 
   -- a row's sample, before those of the rows behind it
-  one-row : (done rest post : List Row) (r : Row) (ps : List ListPlan) (xs : List Item) → all ≡ (done ++ r ∷ rest) ++ post → r.track ≡ track_of o h d r.plan → (b : Bool) → due_now r.track ≡ b →
+  one-row : (done rest post : List Row) (r : Row) (ps : List ListPlan) (xs : List Item) → all ≡ (done ++ r ∷ rest) ++ post → r.track ≡ track_of o h d r.plan → (b : Bool) → r.due ≡ b →
       samples_from o (h ++ Trigger image stamp ∷ []) (d ++ decisions (done ++ r ∷ rest)) (length d + length (decisions done) + (if b then 1 else 0)) ps image stamp ≡ xs →
       samples_from o (h ++ Trigger image stamp ∷ []) (d ++ decisions (done ++ r ∷ rest)) (length d + length (decisions done)) (cond b (r.plan ∷ ps) ps) image stamp ≡ (if b && r.accepted then item_of here r.plan (accepted_in d + rows_count done) r.track.pending ∷ [] else []) ++ xs
   unfolding samples_from
@@ -177,10 +177,10 @@ module _ (o : Opening) (h : List Event) (d : List Bool) (image : List ℕ) (stam
       let e : (done ++ r ∷ []) ++ rest ≡ done ++ r ∷ rest = append_assoc done (r ∷ []) rest in
       let ih : samples_from o (h ++ Trigger image stamp ∷ []) (d ++ decisions ((done ++ r ∷ []) ++ rest)) (length d + length (decisions (done ++ r ∷ []))) (due_plans (rest ++ post)) image stamp ≡ rows_items here (accepted_in d + rows_count (done ++ r ∷ [])) rest =
       samples-rows (done ++ r ∷ []) rest post (is ∙ ap (λ rows. rows ++ post) (sym e)) kept.1 in
-      let at : length d + length (decisions done) + (if due_now r.track then 1 else 0) ≡ length d + length (decisions (done ++ r ∷ [])) =
+      let at : length d + length (decisions done) + (if r.due then 1 else 0) ≡ length d + length (decisions (done ++ r ∷ [])) =
       omega (arith, ap length (decisions-append done (r ∷ [])), length-append (decisions done) (decisions (r ∷ [])), length-one r) in
       let number : accepted_in d + rows_count (done ++ r ∷ []) ≡ accepted_in d + rows_count done + row_count r = omega (arith, rows_count-one done r) in
-      one-row done rest post r (due_plans (rest ++ post)) (rows_items here (accepted_in d + rows_count done + row_count r) rest) is kept.0 (due_now r.track) refl
+      one-row done rest post r (due_plans (rest ++ post)) (rows_items here (accepted_in d + rows_count done + row_count r) rest) is kept.0.0 (r.due) refl
       (ap (λ j. samples_from o (h ++ Trigger image stamp ∷ []) (d ++ decisions (done ++ r ∷ rest)) j (due_plans (rest ++ post)) image stamp) at
       ∙ ap (λ rows. samples_from o (h ++ Trigger image stamp ∷ []) (d ++ decisions rows) (length d + length (decisions (done ++ r ∷ []))) (due_plans (rest ++ post)) image stamp) (sym e)
       ∙ ih

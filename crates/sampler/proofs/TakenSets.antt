@@ -7,7 +7,7 @@ use Rattle.copy_plan.specs.Config.{ListPlan}
 use Rattle.xcp_base.specs.Lists.{has_list}
 use Rattle.sampler.specs.Sets.{are_in}
 use Rattle.sampler.specs.State.{RiseFrom}
-use Rattle.sampler.specs.Inner.AtTrigger.{Row, due_now}
+use Rattle.sampler.specs.Inner.AtTrigger.{Row}
 use Rattle.sampler.proofs.Rows.{due_plans, decisions, plans_of, rise_in}
 
 and_false : (b : Bool) → (b && false) ≡ false
@@ -44,20 +44,20 @@ module _ (q : Row → Bool) where
       rw (ne_eqb x.plan.list r.plan.list (λ e. omega (arith, e, rise_in (x.plan.list + 1) done rest r rise.1)), and_false) later
 
 -- the due plans have the lists of the due rows
-pub any-due_plans : (l : ℕ) (rows : List Row) → list_any (λ (r : Row). due_now r.track && nat_eq r.plan.list l) rows ≡ list_any (λ (plan : ListPlan). nat_eq plan.list l) (due_plans rows)
+pub any-due_plans : (l : ℕ) (rows : List Row) → list_any (λ (r : Row). r.due && nat_eq r.plan.list l) rows ≡ list_any (λ (plan : ListPlan). nat_eq plan.list l) (due_plans rows)
 any-due_plans l [] = refl
 any-due_plans l (r ∷ rows) =
-    let later : list_any (λ (x : Row). due_now x.track && nat_eq x.plan.list l) rows ≡ list_any (λ (plan : ListPlan). nat_eq plan.list l) (due_plans rows) = any-due_plans l rows in
-    elim (due_now r.track) as (λ b. ((b && nat_eq r.plan.list l) || list_any (λ (x : Row). due_now x.track && nat_eq x.plan.list l) rows) ≡ list_any (λ (plan : ListPlan). nat_eq plan.list l) (cond b (r.plan ∷ due_plans rows) (due_plans rows))) [ true ↦ ap (λ b. nat_eq r.plan.list l || b) later | false ↦ later ]
+    let later : list_any (λ (x : Row). x.due && nat_eq x.plan.list l) rows ≡ list_any (λ (plan : ListPlan). nat_eq plan.list l) (due_plans rows) = any-due_plans l rows in
+    elim (r.due) as (λ b. ((b && nat_eq r.plan.list l) || list_any (λ (x : Row). x.due && nat_eq x.plan.list l) rows) ≡ list_any (λ (plan : ListPlan). nat_eq plan.list l) (cond b (r.plan ∷ due_plans rows) (due_plans rows))) [ true ↦ ap (λ b. nat_eq r.plan.list l || b) later | false ↦ later ]
 
 abbrev due_row : Row → Bool
-due_row r = due_now r.track
+due_row r = r.due
 
 abbrev accepted_row : Row → Bool
-accepted_row r = due_now r.track && r.accepted
+accepted_row r = r.due && r.accepted
 
 abbrev dropped_row : Row → Bool
-dropped_row r = due_now r.track && not r.accepted
+dropped_row r = r.due && not r.accepted
 
 -- an accepted list is due
 pub accepted-due : (l : ℕ) (rows : List Row) (least : ℕ) → RiseFrom least (plans_of rows) → any_of accepted_row l rows ≡ (any_of due_row l rows && any_of accepted_row l rows)
@@ -66,7 +66,7 @@ accepted-due l (r ∷ rows) least rise =
     elim (eqb_tells r.plan.list l) [
       | inl w ↦
           let below : l < r.plan.list + 1 = omega (arith, w.1) in
-          rw (w.0, any-none accepted_row l (r.plan.list + 1) rows rise.1 below, any-none due_row l (r.plan.list + 1) rows rise.1 below) (two (due_now r.track) r.accepted)
+          rw (w.0, any-none accepted_row l (r.plan.list + 1) rows rise.1 below, any-none due_row l (r.plan.list + 1) rows rise.1 below) (two (r.due) r.accepted)
       | inr w ↦ rw w.0 (simp and_false (accepted-due l rows (r.plan.list + 1) rise.1))
     ]
   where
@@ -82,7 +82,7 @@ dropped-due l (r ∷ rows) least rise =
     elim (eqb_tells r.plan.list l) [
       | inl w ↦
           let below : l < r.plan.list + 1 = omega (arith, w.1) in
-          rw (w.0, any-none accepted_row l (r.plan.list + 1) rows rise.1 below, any-none due_row l (r.plan.list + 1) rows rise.1 below, any-none dropped_row l (r.plan.list + 1) rows rise.1 below) (two (due_now r.track) r.accepted)
+          rw (w.0, any-none accepted_row l (r.plan.list + 1) rows rise.1 below, any-none due_row l (r.plan.list + 1) rows rise.1 below, any-none dropped_row l (r.plan.list + 1) rows rise.1 below) (two (r.due) r.accepted)
       | inr w ↦ rw w.0 (simp and_false (dropped-due l rows (r.plan.list + 1) rise.1))
     ]
   where
@@ -100,6 +100,6 @@ pub decisions-are_in : (set : ℕ) (all done rest : List Row) → ((l : ℕ) →
 decisions-are_in set all done [] are rise is = refl
 decisions-are_in set all done (r ∷ rest) are rise is =
     let later : are_in set (due_plans rest) ≡ decisions rest = decisions-are_in set all (done ++ r ∷ []) rest are rise (is ∙ sym (append_assoc done (r ∷ []) rest)) in
-    let here : has_list set r.plan.list ≡ (due_now r.track && r.accepted) =
+    let here : has_list set r.plan.list ≡ (r.due && r.accepted) =
     are r.plan.list ∙ ap (any_of accepted_row r.plan.list) is ∙ any-here accepted_row 0 done rest r (subst (λ (rows : List Row). RiseFrom 0 (plans_of rows)) is rise) in
-    one (due_now r.track) r set rest here later
+    one (r.due) r set rest here later

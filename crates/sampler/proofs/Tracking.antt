@@ -1,15 +1,16 @@
 -- What is kept of a list after one event more.
 use Rattle.std.proofs.Common.{◌≡◌, ℕ, ◌+◌, Bool, true, false, cond, not, List, [], ◌∷◌, ◌++◌, reverse, refl, ap, ◌∙◌, arith, nat_eq}
 use Rattle.std.specs.Prelude.{find, take_while, count_by, Some}
-use Rattle.std.proofs.Math.Nat.{zero-mod}
 use Rattle.std.proofs.lemmas.List.{reverse-append}
-use Rattle.std.proofs.lemmas.List.Sums.{sum_by-cons, take_while-cons}
+use Rattle.std.proofs.lemmas.List.Sums.{sum_by-cons, sum_by_push, take_while-cons}
 use Rattle.copy_plan.specs.Config.{ListPlan}
 use Rattle.xcp_base.specs.Lists.{has_list}
 use Rattle.sampler.specs.History.{Event, Trigger, Start, Stop, Opening, due, due_at, runs_after, runs_since, triggers_since_start, is_trigger, is_start, is_start_or_stop}
 use Rattle.sampler.specs.Decisions.{decided, pairs_of, overload_pending}
-use Rattle.sampler.specs.Tracks.{track_of, phase_after, counts_of}
+use Rattle.sampler.specs.Tracks.{track_of, next_after, until_due, counts_of}
+use Rattle.sampler.specs.declared.track.TheConstants.{NEVER}
 use Rattle.sampler.proofs.Histories.{due-more, append_nil}
+use Rattle.sampler.proofs.NextDue.{until_due-zero}
 
 back : (h : List Event) (e : Event) → reverse (h ++ e ∷ []) ≡ e ∷ reverse h
 back h e = reverse-append h (e ∷ [])
@@ -60,20 +61,31 @@ module _ (o : Opening) (h : List Event) where
   unfolding due_at
   due-stop k = due-more o h (Stop k) ∙ append_nil (due o h)
 
+  pub triggers-start : (k : ℕ) → count_by is_trigger (h ++ Start k ∷ []) ≡ count_by is_trigger h
+  triggers-start k = sum_by_push (λ e. cond (is_trigger e) 1 0) h (Start k) ∙ omega arith
+
+  pub triggers-stop : (k : ℕ) → count_by is_trigger (h ++ Stop k ∷ []) ≡ count_by is_trigger h
+  triggers-stop k = sum_by_push (λ e. cond (is_trigger e) 1 0) h (Stop k) ∙ omega arith
+
+  pub triggers-trigger : (image : List ℕ) (stamp : ℕ) → count_by is_trigger (h ++ Trigger image stamp ∷ []) ≡ count_by is_trigger h + 1
+  triggers-trigger image stamp = sum_by_push (λ e. cond (is_trigger e) 1 0) h (Trigger image stamp)
+
   -- another list's start leaves what is kept
   pub track-start_other : (d : List Bool) (k : ℕ) (plan : ListPlan) → nat_eq k plan.list ≡ false → track_of o (h ++ Start k ∷ []) d plan ≡ track_of o h d plan
-  unfolding track_of phase_after
-  track-start_other d k plan other = rw (due-start k, runs-start k plan.list, since-start k plan.list, other) refl
+  unfolding track_of next_after
+  track-start_other d k plan other = rw (due-start k, runs-start k plan.list, since-start k plan.list, triggers-start k, other) refl
 
-  -- a list that is started runs, from phase 0
-  pub track-start_same : (d : List Bool) (k : ℕ) (plan : ListPlan) → nat_eq k plan.list ≡ true → runs_after o h plan.list ≡ false → track_of o (h ++ Start k ∷ []) d plan ≡ record (track_of o h d plan) { running = true }
-  unfolding track_of phase_after
-  track-start_same d k plan same stopped = rw (due-start k, runs-start k plan.list, since-start k plan.list, same, stopped) (ap (λ n. record { running = true; phase = n; pending = overload_pending (decided o h d) plan.list; counts = counts_of (pairs_of plan.list (decided o h d)) }) (zero-mod plan.prescaler))
+  -- a list that is started runs, and is due at the next trigger
+  pub track-start_same : (d : List Bool) (k : ℕ) (plan : ListPlan) → nat_eq k plan.list ≡ true → track_of o (h ++ Start k ∷ []) d plan ≡ record (track_of o h d plan) { running = true; next = count_by is_trigger h }
+  unfolding track_of next_after
+  track-start_same d k plan same =
+      let now : count_by is_trigger h + until_due plan.prescaler 0 ≡ count_by is_trigger h = ap (λ n. count_by is_trigger h + n) (until_due-zero plan.prescaler) ∙ omega arith in
+      rw (due-start k, runs-start k plan.list, since-start k plan.list, triggers-start k, same) (ap (λ n. record { running = true; next = n; pending = overload_pending (decided o h d) plan.list; counts = counts_of (pairs_of plan.list (decided o h d)) }) now)
 
   pub track-stop_other : (d : List Bool) (k : ℕ) (plan : ListPlan) → nat_eq k plan.list ≡ false → track_of o (h ++ Stop k ∷ []) d plan ≡ track_of o h d plan
-  unfolding track_of phase_after
-  track-stop_other d k plan other = rw (due-stop k, runs-stop k plan.list, since-stop k plan.list, other) refl
+  unfolding track_of next_after
+  track-stop_other d k plan other = rw (due-stop k, runs-stop k plan.list, since-stop k plan.list, triggers-stop k, other) refl
 
-  pub track-stop_same : (d : List Bool) (k : ℕ) (plan : ListPlan) → nat_eq k plan.list ≡ true → track_of o (h ++ Stop k ∷ []) d plan ≡ record (track_of o h d plan) { running = false; phase = 0 }
-  unfolding track_of phase_after
+  pub track-stop_same : (d : List Bool) (k : ℕ) (plan : ListPlan) → nat_eq k plan.list ≡ true → track_of o (h ++ Stop k ∷ []) d plan ≡ record (track_of o h d plan) { running = false; next = NEVER }
+  unfolding track_of next_after
   track-stop_same d k plan same = rw (due-stop k, runs-stop k plan.list, since-stop k plan.list, same) refl

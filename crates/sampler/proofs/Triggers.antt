@@ -1,6 +1,6 @@
 -- A sampler stands after a trigger.
-use Rattle.std.proofs.Common.{◌≡◌, ℕ, zero, suc, ◌+◌, ◌≤◌, Bool, true, false, cond, not, ◌&&◌, ◌||◌, List, [], ◌∷◌, ◌++◌, length, take, drop, map, refl, sym, ap, ◌∙◌, arith, subst, append_assoc, nat_eq}
-use Rattle.std.specs.Prelude.{Option, Some, slice_get}
+use Rattle.std.proofs.Common.{◌≡◌, ℕ, zero, suc, ◌+◌, ◌<◌, ◌≤◌, Bool, true, false, cond, not, ◌&&◌, ◌||◌, List, [], ◌∷◌, ◌++◌, length, take, drop, map, refl, sym, ap, ◌∙◌, arith, subst, append_assoc, nat_eq}
+use Rattle.std.specs.Prelude.{Option, Some, count_by, slice_get}
 use Rattle.std.proofs.Math.Seq.{take-append-add, take-append_seam}
 use Rattle.std.proofs.lemmas.List.{take_at}
 use Rattle.channel_ring.specs.Room.{units, units-append}
@@ -8,14 +8,14 @@ use Rattle.channel_ring.specs.declared.ends.SendEnd.{Ghosts as SendGhosts}
 use Rattle.channel_ring.specs.declared.ends.RingEnd.{Ghosts as EndGhosts}
 use Rattle.copy_plan.specs.Config.{ListPlan}
 use Rattle.xcp_base.specs.Lists.{has_list}
-use Rattle.sampler.specs.History.{Event, Trigger, Opening, due, due_at}
+use Rattle.sampler.specs.History.{Event, Trigger, Opening, is_due, is_trigger, due, due_at}
 use Rattle.sampler.specs.Past.{Past, one_more}
 use Rattle.sampler.specs.Decisions.{accepted_in}
 use Rattle.sampler.specs.Items.{items, items_at, sample, samples_from}
 use Rattle.sampler.specs.Tracks.{track_of}
-use Rattle.sampler.specs.State.{SamplerState, RiseFrom}
+use Rattle.sampler.specs.State.{SamplerState, ArePlansOf, RiseFrom}
 use Rattle.sampler.specs.Inner.Moments.{MomentParts}
-use Rattle.sampler.specs.Inner.AtTrigger.{Row, due_now, triggered, item_of, rows_items, rows_count, first_stage, HandlesLists}
+use Rattle.sampler.specs.Inner.AtTrigger.{Row, AreDue, due_now, triggered, item_of, rows_items, rows_count, first_stage, HandlesLists}
 use Rattle.sampler.specs.Standing.{StandsAfter, TakesTrigger}
 use Rattle.sampler.specs.Sets.{are_in}
 use Rattle.sampler.proofs.TakenSets.{any-due_plans, any-here, accepted-due, dropped-due, decisions-are_in}
@@ -25,7 +25,7 @@ use Rattle.sampler.specs.declared.taken.Taken.{Taken}
 use Rattle.sampler.proofs.Histories.{append_nil, items-more, length-map_of, slice_get-behind}
 use Rattle.sampler.proofs.Drops.{NewDrops}
 use Rattle.sampler.proofs.Stands.{stands-more}
-use Rattle.sampler.proofs.Rows.{due_plans, decisions, plans_of, RowsAre, due_at-rows, track-more, length-due_plans}
+use Rattle.sampler.proofs.Rows.{due_plans, decisions, plans_of, RowsAre, due_at-rows, due_now-is, track-more, length-due_plans}
 use Rattle.sampler.proofs.RowItems.{samples-rows, sample-row, count-decisions, decisions-append}
 
 together_of : (due accepted dropped : Bool) → accepted ≡ (due && accepted) → dropped ≡ (due && not accepted) → (accepted || dropped) ≡ due
@@ -44,17 +44,19 @@ cons-equal : {X : Type 0} (x y : X) (xs ys : List X) → x ∷ xs ≡ y ∷ ys �
 cons-equal x y xs ys e = (cc, cc)
 
 -- rows whose tracks are those of the history keep what the history says
-rows-are : (o : Opening) (h : List Event) (d : List Bool) (rows : List Row) → map (λ (r : Row). r.track) rows ≡ map (track_of o h d) (plans_of rows) → RowsAre o h d rows
-rows-are o h d [] e = tt
-rows-are o h d (r ∷ rows) e =
+rows-are : (channel image_len : ℕ) (o : Opening) (h : List Event) (d : List Bool) (rows : List Row) → map (λ (r : Row). r.track) rows ≡ map (track_of o h d) (plans_of rows) → AreDue (count_by is_trigger h) rows → ArePlansOf channel image_len (plans_of rows) → RowsAre o h d rows
+rows-are channel image_len o h d [] e dues a = tt
+rows-are channel image_len o h d (r ∷ rows) e dues a =
     let both : (r.track ≡ track_of o h d r.plan) × (map (λ (x : Row). x.track) rows ≡ map (track_of o h d) (plans_of rows)) = cons-equal r.track (track_of o h d r.plan) (map (λ (x : Row). x.track) rows) (map (track_of o h d) (plans_of rows)) e in
-    (both.0, rows-are o h d rows both.1)
+    let some : 0 < r.plan.prescaler = a.0.0.prescaler in
+    let is : r.due ≡ is_due o h r.plan = dues.0 ∙ ap (due_now (count_by is_trigger h)) both.0 ∙ due_now-is o h d r.plan some in
+    ((both.0, is, some), rows-are channel image_len o h d rows both.1 dues.1 a.1)
 
 are-part : (o : Opening) (h : List Event) (d : List Bool) (pre post : List Row) → RowsAre o h d (pre ++ post) → RowsAre o h d pre
 are-part o h d [] post a = tt
 are-part o h d (r ∷ pre) post a = (a.0, are-part o h d pre post a.1)
 
-are-at : (o : Opening) (h : List Event) (d : List Bool) (done rest : List Row) (r : Row) → RowsAre o h d (done ++ r ∷ rest) → r.track ≡ track_of o h d r.plan
+are-at : (o : Opening) (h : List Event) (d : List Bool) (done rest : List Row) (r : Row) → RowsAre o h d (done ++ r ∷ rest) → (r.track ≡ track_of o h d r.plan) × (r.due ≡ is_due o h r.plan) × (0 < r.plan.prescaler)
 are-at o h d [] rest r a = a.0
 are-at o h d (x ∷ done) rest r a = are-at o h d done rest r a.1
 
@@ -67,7 +69,7 @@ record Located (rows : List Row) (k : ℕ) (plan : ListPlan) : Type 0 where
   pub rest : List Row
   pub row : Row
   pub split : rows ≡ done ++ row ∷ rest
-  pub is_due : due_now row.track ≡ true
+  pub is_due : row.due ≡ true
   pub of_plan : row.plan ≡ plan
   pub place : length (decisions done) ≡ k
   pub decision : slice_get (decisions rows) k ≡ Some row.accepted
@@ -75,7 +77,7 @@ record Located (rows : List Row) (k : ℕ) (plan : ListPlan) : Type 0 where
 Some-equal : (a b : ListPlan) → Some a ≡ Some b → a ≡ b
 Some-equal a b e = cc
 
-located-at : (r : Row) (rows : List Row) (k : ℕ) (plan : ListPlan) (b : Bool) → due_now r.track ≡ b → ((m : ℕ) → slice_get (due_plans rows) m ≡ Some plan → Located rows m plan) → slice_get (cond b (r.plan ∷ due_plans rows) (due_plans rows)) k ≡ Some plan → Located (r ∷ rows) k plan
+located-at : (r : Row) (rows : List Row) (k : ℕ) (plan : ListPlan) (b : Bool) → r.due ≡ b → ((m : ℕ) → slice_get (due_plans rows) m ≡ Some plan → Located rows m plan) → slice_get (cond b (r.plan ∷ due_plans rows) (due_plans rows)) k ≡ Some plan → Located (r ∷ rows) k plan
 located-at r rows zero plan true due_r later e = record {
   done = [];
   rest = rows;
@@ -113,12 +115,14 @@ located-at r rows k plan false due_r later e =
 
 located : (rows : List Row) (k : ℕ) (plan : ListPlan) → slice_get (due_plans rows) k ≡ Some plan → Located rows k plan
 located [] k plan e = absurd cc
-located (r ∷ rows) k plan e = located-at r rows k plan (due_now r.track) refl (λ m f. located rows m plan f) e
+located (r ∷ rows) k plan e = located-at r rows k plan (r.due) refl (λ m f. located rows m plan f) e
 
 module _ {S E : Type 0} (send : SendGhosts S E) (ring : EndGhosts E) (before after : SamplerState S) (past : Past) (image : List ℕ) (stamp : ℕ) (kept after_tracks : List Track) (taken : Taken)
+    (image_len : ℕ)
+    (plans_are : ArePlansOf before.channel image_len before.plans)
     (rise : RiseFrom 0 before.plans)
     (stands : StandsAfter send ring before past)
-    (handled : HandlesLists send ring (record { channel = before.channel; image = image; stamp = stamp }) before.plans (first_stage before.end kept before.accepted) (record { end = after.end; tracks = after_tracks; taken = taken; next = after.accepted }))
+    (handled : HandlesLists send ring (record { channel = before.channel; trigger = before.triggers; image = image; stamp = stamp }) before.plans (first_stage before.end kept before.accepted) (record { end = after.end; tracks = after_tracks; taken = taken; next = after.accepted }))
     (tracks_before : take (length before.plans) kept ≡ before.tracks)
     (free_bound : send.capacity before.end ≤ send.free before.end + units ring.cost (send.sent before.end)) where
   abbrev o : Opening
@@ -131,7 +135,7 @@ module _ {S E : Type 0} (send : SendGhosts S E) (ring : EndGhosts E) (before aft
   d = past.decisions
 
   abbrev m : MomentParts
-  m = record { channel = before.channel; image = image; stamp = stamp }
+  m = record { channel = before.channel; trigger = before.triggers; image = image; stamp = stamp }
 
   abbrev rows : List Row
   rows = handled.rows
@@ -140,7 +144,11 @@ module _ {S E : Type 0} (send : SendGhosts S E) (ring : EndGhosts E) (before aft
   of_plans = handled.of_plans ∙ stands.plans
 
   pub are : RowsAre o h d rows
-  are = rows-are o h d rows (handled.kept ∙ tracks_before ∙ stands.tracks ∙ ap (map (track_of o h d)) (sym of_plans))
+  are =
+      rows-are before.channel image_len o h d rows
+      (handled.kept ∙ tracks_before ∙ stands.tracks ∙ ap (map (track_of o h d)) (sym of_plans))
+      (subst (λ n. AreDue n rows) stands.triggers handled.dues)
+      (subst (ArePlansOf before.channel image_len) (sym handled.of_plans) plans_are)
 
   rising : RiseFrom 0 (plans_of rows)
   rising = subst (RiseFrom 0) (sym handled.of_plans) rise
@@ -152,6 +160,7 @@ module _ {S E : Type 0} (send : SendGhosts S E) (ring : EndGhosts E) (before aft
       ap (λ ps. samples_from o (h ++ Trigger image stamp ∷ []) (d ++ decisions pre) (length (due o h)) ps image stamp) (due_at-rows o h d image stamp stands.decisions rows of_plans are ∙ ap due_plans is)
       ∙ ap (λ j. samples_from o (h ++ Trigger image stamp ∷ []) (d ++ decisions pre) j (due_plans (pre ++ post)) image stamp) at
       ∙ samples-rows o h d image stamp stands.decisions rows of_plans are rising [] pre post is (are-part o h d pre post (subst (RowsAre o h d) is are))
+      ∙ ap (λ n. rows_items (record m { channel = o.channel; trigger = n }) (accepted_in d + 0) pre) (sym stands.triggers)
       ∙ ap (λ c. rows_items (record m { channel = c }) (accepted_in d + 0) pre) (sym stands.channel)
       ∙ ap (λ n. rows_items m n pre) number
     where
@@ -169,11 +178,11 @@ module _ {S E : Type 0} (send : SendGhosts S E) (ring : EndGhosts E) (before aft
       ∙ ap (λ xs. send.sent before.end ++ xs) (items_at-rows pre post is)
 
   -- each list is kept as the longer history says
-  tracks-part : (done rest : List Row) → rows ≡ done ++ rest → RowsAre o h d rest → map (track_of o (h ++ Trigger image stamp ∷ []) (d ++ decisions rows)) (plans_of rest) ≡ map (λ (r : Row). triggered r.plan r.track r.accepted) rest
+  tracks-part : (done rest : List Row) → rows ≡ done ++ rest → RowsAre o h d rest → map (track_of o (h ++ Trigger image stamp ∷ []) (d ++ decisions rows)) (plans_of rest) ≡ map (λ (r : Row). triggered r.plan r.track r.due r.accepted) rest
   tracks-part done [] is are_rest = refl
   tracks-part done (r ∷ rest) is are_rest =
       ap (λ ts. track_of o (h ++ Trigger image stamp ∷ []) (d ++ decisions rows) r.plan ∷ ts) (tracks-part (done ++ r ∷ []) rest (is ∙ sym (append_assoc done (r ∷ []) rest)) are_rest.1)
-      ∙ ap (λ t. t ∷ map (λ (x : Row). triggered x.plan x.track x.accepted) rest) (track-more o h d image stamp stands.decisions rows of_plans are done rest r is rising are_rest.0)
+      ∙ ap (λ t. t ∷ map (λ (x : Row). triggered x.plan x.track x.due x.accepted) rest) (track-more o h d image stamp stands.decisions rows of_plans are done rest r is rising are_rest.0)
 
   -- the pair of a row: the decisions before it, and its sample
   pair-cut : (k : ℕ) (plan : ListPlan) (w : Located rows k plan) → take (length d + k) (d ++ decisions rows) ≡ d ++ decisions w.done
@@ -189,7 +198,8 @@ module _ {S E : Type 0} (send : SendGhosts S E) (ring : EndGhosts E) (before aft
       ap (λ p. sample o (h ++ Trigger image stamp ∷ []) (d ++ decisions rows) (length d + k) p image stamp) (sym w.of_plan)
       ∙ ap (λ rs. sample o (h ++ Trigger image stamp ∷ []) (d ++ decisions rs) (length d + k) w.row.plan image stamp) w.split
       ∙ ap (λ n. sample o (h ++ Trigger image stamp ∷ []) (d ++ decisions (w.done ++ w.row ∷ w.rest)) (length d + n) w.row.plan image stamp) (sym w.place)
-      ∙ sample-row o h d image stamp stands.decisions rows of_plans are rising w.done w.rest [] w.row (w.split ∙ sym (append_nil (w.done ++ w.row ∷ w.rest))) w.is_due (are-at o h d w.done w.rest w.row (subst (RowsAre o h d) w.split are))
+      ∙ sample-row o h d image stamp stands.decisions rows of_plans are rising w.done w.rest [] w.row (w.split ∙ sym (append_nil (w.done ++ w.row ∷ w.rest))) w.is_due (are-at o h d w.done w.rest w.row (subst (RowsAre o h d) w.split are)).0
+      ∙ ap (λ n. item_of (record m { channel = o.channel; trigger = n }) w.row.plan (accepted_in d + rows_count w.done) w.row.track.pending) (sym stands.triggers)
       ∙ ap (λ c. item_of (record m { channel = c }) w.row.plan (accepted_in d + rows_count w.done) w.row.track.pending) (sym stands.channel)
       ∙ ap (λ n. item_of m w.row.plan (n + rows_count w.done) w.row.track.pending) (sym stands.accepted)
 
@@ -220,7 +230,7 @@ module _ {S E : Type 0} (send : SendGhosts S E) (ring : EndGhosts E) (before aft
         tracks =
             tracks
             ∙ ap (take (length before.plans)) handled.keeps
-            ∙ take_at (map (λ (r : Row). triggered r.plan r.track r.accepted) rows) (drop (length before.plans) kept) (length before.plans) (length-map_of (λ (r : Row). triggered r.plan r.track r.accepted) rows ∙ sym (length-map_of (λ (r : Row). r.plan) rows) ∙ ap length handled.of_plans)
+            ∙ take_at (map (λ (r : Row). triggered r.plan r.track r.due r.accepted) rows) (drop (length before.plans) kept) (length before.plans) (length-map_of (λ (r : Row). triggered r.plan r.track r.due r.accepted) rows ∙ sym (length-map_of (λ (r : Row). r.plan) rows) ∙ ap length handled.of_plans)
             ∙ sym (tracks-part [] rows refl are)
             ∙ ap (map (track_of o (h ++ Trigger image stamp ∷ []) (d ++ decisions rows))) of_plans;
         triggers = triggers;
@@ -247,8 +257,8 @@ module _ {S E : Type 0} (send : SendGhosts S E) (ring : EndGhosts E) (before aft
     stands = rw the_decisions (trigger-stands channel plans tracks triggers capacity);
     over_free = λ k plan at out.
         let w : Located rows k plan = find-row k plan at in
-        let taken_here : has_list taken.accepted w.row.plan.list ≡ (due_now w.row.track && w.row.accepted) =
-        handled.accepted w.row.plan.list ∙ ap (λ rs. list_any (λ (r : Row). due_now r.track && r.accepted && nat_eq r.plan.list w.row.plan.list) rs) w.split ∙ any-here (λ r. due_now r.track && r.accepted) 0 w.done w.rest w.row (subst (λ (rs : List Row). RiseFrom 0 (plans_of rs)) w.split rising) in
+        let taken_here : has_list taken.accepted w.row.plan.list ≡ (w.row.due && w.row.accepted) =
+        handled.accepted w.row.plan.list ∙ ap (λ rs. list_any (λ (r : Row). r.due && r.accepted && nat_eq r.plan.list w.row.plan.list) rs) w.split ∙ any-here (λ r. r.due && r.accepted) 0 w.done w.rest w.row (subst (λ (rs : List Row). RiseFrom 0 (plans_of rs)) w.split rising) in
         let dropped : w.row.accepted ≡ false =
         ap (λ b. b && w.row.accepted) (sym w.is_due) ∙ sym taken_here ∙ ap (λ (p : ListPlan). has_list taken.accepted p.list) w.of_plan ∙ out in
         let sent : items_at o (h ++ Trigger image stamp ∷ []) (take (length d + k) (d ++ decisions rows)) (h, Trigger image stamp) ≡ rows_items m before.accepted w.done =

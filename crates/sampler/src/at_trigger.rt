@@ -4,7 +4,7 @@ ghost use Rattle.xcp_base.specs.declared.limits.TheConstants.{MAX_TRIGGERS};
 ghost use Rattle.channel_ring.specs.Room.{units};
 ghost use Rattle.sampler.specs.State.{ArePlansOf};
 ghost use Rattle.sampler.specs.Inner.AtTrigger.{HandlesLists, first_stage};
-ghost use Rattle.sampler.specs.Inner.AtTrigger.{due_now, item_of, row_items, row_of};
+ghost use Rattle.sampler.specs.Inner.AtTrigger.{item_of, row_items, row_of};
 ghost use Rattle.sampler.specs.Inner.Fits.{TracksFit};
 
 use crate::moment::Moment;
@@ -15,8 +15,8 @@ use channel_ring::SendEnd;
 use copy_plan::CopyPlan;
 use xcp_base::Packets;
 
-/// What a trigger sends of one list, and whether a sample of it was accepted; `track` is what was
-/// kept of it before.
+/// What a trigger sends of one list, which is due or not, and whether a sample of it was accepted;
+/// `track` is what was kept of it before.
 #[tactic(auto, unfolding(crate::specs::Inner::AtTrigger::row_items))]
 fn sample_list<S: SendEnd>(
     end: &mut S,
@@ -24,20 +24,21 @@ fn sample_list<S: SendEnd>(
     plan: &CopyPlan,
     number: u64,
     track: Track,
+    due: bool,
     packets: &mut Packets,
 ) -> bool
     requires image { length moment.now.image ≡ plan.now.image_len }
-    ensures due { result ≡ true → due_now track ≡ true }
+    ensures due { result ≡ true → due ≡ true }
     ensures sent { S.sent end.new
-        ≡ S.sent end.old ++ row_items moment.now number (row_of plan.now track result) }
+        ≡ S.sent end.old ++ row_items moment.now number (row_of plan.now track due result) }
     ensures free { S.free end.old ≤ S.free end.new
-        + units S.End.cost (row_items moment.now number (row_of plan.now track result)) }
-    ensures over_free { due_now track ≡ true → result ≡ false
+        + units S.End.cost (row_items moment.now number (row_of plan.now track due result)) }
+    ensures over_free { due ≡ true → result ≡ false
         → S.free end.old < S.End.cost (item_of moment.now plan.now number track.pending) }
     ensures capacity_stays { S.capacity end.new ≡ S.capacity end.old }
     ensures ring_stays { S.ring end.new ≡ S.ring end.old }
 {
-    if !track.is_due() {
+    if !due {
         return false;
     }
     offer_sample(end, moment, plan, number, track.pending, packets)
@@ -58,6 +59,7 @@ pub fn sample_lists<S: SendEnd>(
     requires plans_of { ArePlansOf moment.now.channel (length moment.now.image) plans.now }
     requires room { length plans.now ≤ length tracks.old }
     requires fit { TracksFit MAX_TRIGGERS plans.now tracks.old }
+    requires trigger { moment.now.trigger ≤ MAX_TRIGGERS }
     requires number_below { number + length plans.now < 2 ^ 64 }
     ensures handled { HandlesLists S.SendEnd S.End.RingEnd moment.now plans.now
         (first_stage end.old tracks.old number)
@@ -70,12 +72,13 @@ pub fn sample_lists<S: SendEnd>(
     let mut next = number;
     for (place, plan) in plans.iter().enumerate() {
         let track = tracks[place];
-        let accepted = sample_list(end, moment, plan, next, track, packets);
-        taken.add(plan, track, accepted);
+        let due = track.is_due(moment.trigger);
+        let accepted = sample_list(end, moment, plan, next, track, due, packets);
+        taken.add(plan, due, accepted);
         if accepted {
             next += 1;
         }
-        tracks[place] = track.triggered(plan, accepted);
+        tracks[place] = track.triggered(plan, due, accepted);
     }
     (taken, next)
 }

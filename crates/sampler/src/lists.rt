@@ -3,12 +3,12 @@ ghost use Rattle.copy_plan.specs.Config.{ListPlan};
 ghost use Rattle.xcp_base.specs.Lists.{has_list};
 ghost use Rattle.sampler.specs.Sets.{IsSetOf};
 ghost use Rattle.sampler.specs.State.{RiseFrom, found_at, place_of};
-ghost use Rattle.sampler.specs.Inner.Fits.{first_track, list_runs};
+ghost use Rattle.sampler.specs.Inner.Fits.{NoneDueBefore, first_track, list_runs};
 ghost use Rattle.sampler.specs.declared.track.Track.{Track};
 
 use crate::counts::ListCounts;
 use crate::opening::{PLACES, first_tracks};
-use crate::track::Track;
+use crate::track::{NEVER, Track};
 use copy_plan::CopyPlan;
 use xcp_base::limits::MAX_LISTS;
 use xcp_base::{with_list, with_list_if};
@@ -61,6 +61,14 @@ impl Lists {
         running_of(self.plans.as_slice(), &self.tracks)
     }
 
+    /// A trigger before which no list is due, the last of these, as what is kept now has it.
+    pub fn soonest(&self) -> u64
+        requires room { length self.now.plans.items ≤ length self.now.tracks }
+        ensures { NoneDueBefore result (take (length self.now.plans.items) self.now.tracks) }
+    {
+        soonest_of(&self.tracks[..self.plans.len()])
+    }
+
     /// How often a list was due, and what became of its samples; `None` where it isn't there.
     pub fn counts(&self, l: u8) -> Option<ListCounts>
         requires room { length self.now.plans.items ≤ length self.now.tracks }
@@ -95,4 +103,15 @@ fn running_of(plans: &[CopyPlan], tracks: &[Track]) -> u16
         set = with_list_if(set, plans[place].list(), tracks[place].running);
     }
     set
+}
+
+/// The soonest of the triggers at which lists are due next.
+fn soonest_of(tracks: &[Track]) -> u64
+    ensures { NoneDueBefore result tracks.now }
+{
+    let mut soonest = NEVER;
+    for place in 0..tracks.len() {
+        soonest = soonest.min(tracks[place].next);
+    }
+    soonest
 }

@@ -1,10 +1,11 @@
 use std::marker::Model;
 
-/// What the samples of one trigger have in common: the event channel, the memory image, and the
-/// timestamp in ticks.
+/// What the samples of one trigger have in common: the event channel, the number of triggers that
+/// it accepted before, the memory image, and the timestamp in ticks.
 #[derive(Drop)]
 pub struct Moment<'a> {
     pub channel: u8,
+    pub trigger: u64,
     pub image: &'a [u8],
     pub stamp: u32,
 }
@@ -16,7 +17,12 @@ impl<'a> Model for Moment<'a> {
 
     ghost Value = { MomentParts };
 
-    ghost view = { λ m. record { channel = m.channel; image = m.image.now; stamp = m.stamp } };
+    ghost view = { λ m. record {
+      channel = m.channel;
+      trigger = m.trigger;
+      image = m.image.now;
+      stamp = m.stamp;
+    } };
 
     ghost invariant = { λ m. m.channel < MAX_CHANNELS };
 }

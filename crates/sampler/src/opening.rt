@@ -16,10 +16,10 @@ fn first_track(running: u16, l: u8) -> Track
     requires { l < MAX_LISTS }
     ensures { result ≡ first_track running l }
 {
-    Track {
-        running: has_list(running, l),
-        ..FIRST_TRACK
+    if !has_list(running, l) {
+        return FIRST_TRACK;
     }
+    FIRST_TRACK.started(0)
 }
 
 /// What is kept of the lists of some plans, which were never due, each at the place of its plan.

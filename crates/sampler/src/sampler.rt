@@ -25,7 +25,7 @@ use crate::faults::{StartFault, StopFault, TriggerFault};
 use crate::lists::Lists;
 use crate::moment::Moment;
 use crate::sampler_end::SamplerEnd;
-use crate::taken::Taken;
+use crate::taken::{NONE_TAKEN, Taken};
 use channel_ring::{Beside, SendEnd};
 use copy_plan::CopyPlan;
 use std::marker::Model;
@@ -45,6 +45,8 @@ pub struct Sampler<S: SendEnd> {
     lists: Lists,
     end: S,
     triggers: u64,
+    // No list is due before this trigger, so a trigger at which none is costs one comparison.
+    soonest: u64,
     accepted: u64,
     // The packets of the sample that was made last. Each is made in this place.
     packets: Packets,
@@ -68,7 +70,8 @@ impl<S: SendEnd> Model for Sampler<S> {
     } };
 
     ghost invariant = { λ s.
-        IsSampler s.channel s.image_len s.lists.plans.items s.lists.tracks s.triggers s.accepted };
+        IsSampler s.channel s.image_len s.lists.plans.items s.lists.tracks s.triggers s.soonest
+        s.accepted };
 }
 
 impl<S: SendEnd> Sampler<S> {
@@ -95,12 +98,14 @@ impl<S: SendEnd> Sampler<S> {
         ensures image_len { result.image_len ≡ image_len }
     {
         let lists = Lists::new(plans, running);
+        let soonest = lists.soonest();
         Sampler {
             channel,
             image_len,
             lists,
             end,
             triggers: 0,
+            soonest,
             accepted: 0,
             packets: Packets::new(),
         }
@@ -133,8 +138,13 @@ impl<S: SendEnd> Sampler<S> {
         if self.triggers == MAX_TRIGGERS {
             return Err(TriggerFault::Spent);
         }
+        if self.triggers < self.soonest {
+            self.triggers += 1;
+            return Ok(NONE_TAKEN);
+        }
         let moment = Moment {
             channel: self.channel,
+            trigger: self.triggers,
             image,
             stamp,
         };
@@ -148,6 +158,7 @@ impl<S: SendEnd> Sampler<S> {
         );
         self.accepted = accepted;
         self.triggers += 1;
+        self.soonest = self.lists.soonest();
         Ok(taken)
     }
 
@@ -173,7 +184,8 @@ impl<S: SendEnd> Sampler<S> {
         if self.lists.tracks[place].running {
             return Err(StartFault::Running);
         }
-        self.lists.tracks[place] = self.lists.tracks[place].started();
+        self.lists.tracks[place] = self.lists.tracks[place].started(self.triggers);
+        self.soonest = self.soonest.min(self.triggers);
         Ok(())
     }
 
@@ -209,6 +221,7 @@ impl<S: SendEnd> Sampler<S> {
             return Err(StopFault::NoRoom);
         };
         self.lists.tracks[place] = self.lists.tracks[place].stopped();
+        self.soonest = self.lists.soonest();
         Ok(())
     }
 
@@ -293,6 +306,7 @@ impl<S: SendEnd> Sampler<S> {
             lists,
             end,
             triggers: _,
+            soonest: _,
             accepted: _,
             packets: _,
         } = self;

@@ -1,7 +1,7 @@
 ghost use Rattle.std.specs.Prelude.{◌≡◌};
 ghost use Rattle.sampler.specs.Inner.AtTrigger.{Adds, row_of};
+ghost use Rattle.sampler.specs.declared.track.Track.{Track};
 
-use crate::track::Track;
 use copy_plan::CopyPlan;
 use xcp_base::with_list;
 
@@ -24,11 +24,11 @@ pub(crate) const NONE_TAKEN: Taken = Taken {
 };
 
 impl Taken {
-    /// Adds a list, if it was due; `track` is what was kept of it before.
-    pub(crate) fn add(&mut self, plan: &CopyPlan, track: Track, accepted: bool)
-        ensures { Adds self.old self.new (row_of plan.now track accepted) }
+    /// Adds a list, if it was due.
+    pub(crate) fn add(&mut self, plan: &CopyPlan, due: bool, accepted: bool)
+        ensures { (track : Track) → Adds self.old self.new (row_of plan.now track due accepted) }
     {
-        if !track.is_due() {
+        if !due {
             return;
         }
         let list = plan.list();

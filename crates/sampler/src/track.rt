@@ -5,10 +5,13 @@ ghost use Rattle.sampler.specs.Inner.AtTrigger.{due_now, triggered};
 use crate::counts::ListCounts;
 use copy_plan::CopyPlan;
 
+/// The trigger at which a list that does not run is due next: there is none.
+pub const NEVER: u64 = 0xFFFF_FFFF_FFFF_FFFF;
+
 /// What is kept of a list that was never due and does not run.
 pub const FIRST_TRACK: Track = Track {
     running: false,
-    phase: 0,
+    next: NEVER,
     pending: false,
     counts: ListCounts {
         due: 0,
@@ -22,53 +25,55 @@ pub const FIRST_TRACK: Track = Track {
 pub struct Track {
     /// The list runs.
     pub running: bool,
-    /// The triggers since its start, modulo its prescaler; 0 where it does not run.
-    pub phase: u8,
+    /// The trigger at which it is due next, counted from 0; `NEVER` where it does not run.
+    pub next: u64,
     /// Its last due sample was dropped.
     pub pending: bool,
     pub counts: ListCounts,
 }
 
 impl Track {
-    /// The same, started.
-    pub fn started(self) -> Track
-        ensures { result ≡ record self { running = true } }
+    /// The same, started when so many triggers were accepted.
+    pub fn started(self, triggers: u64) -> Track
+        ensures { result ≡ record self { running = true; next = triggers } }
     {
         Track {
             running: true,
+            next: triggers,
             ..self
         }
     }
 
     /// The same, stopped.
     pub fn stopped(self) -> Track
-        ensures { result ≡ record self { running = false; phase = 0 } }
+        ensures { result ≡ record self { running = false; next = NEVER } }
     {
         Track {
             running: false,
-            phase: 0,
+            next: NEVER,
             ..self
         }
     }
 
-    /// The list is due at a trigger.
-    pub fn is_due(self) -> bool
-        ensures { result ≡ due_now self }
+    /// The list is due at a trigger of this number.
+    pub fn is_due(self, trigger: u64) -> bool
+        ensures { result ≡ due_now trigger self }
     {
-        self.running && self.phase == 0
+        self.running && self.next == trigger
     }
 
-    /// The same after a trigger, at which a sample of it was accepted or not.
+    /// The same after a trigger, at which the list was due or not, and a sample of it was accepted
+    /// or not.
     #[tactic(auto, unfolding(crate::specs::Inner::AtTrigger::triggered))]
-    pub fn triggered(self, plan: &CopyPlan, accepted: bool) -> Track
-        requires phase { self.phase < plan.now.prescaler }
+    pub fn triggered(self, plan: &CopyPlan, due: bool, accepted: bool) -> Track
+        requires next { due ≡ true → self.next ≤ MAX_TRIGGERS }
         requires counts { self.counts.due ≤ MAX_TRIGGERS }
         requires sum { self.counts.accepted + self.counts.dropped ≡ self.counts.due }
-        ensures { result ≡ triggered plan.now self accepted }
+        ensures { result ≡ triggered plan.now self due accepted }
     {
-        let prescaler = plan.prescaler();
         let mut track = self;
-        if track.is_due() {
+        if due {
+            track.next += plan.prescaler() as u64;
             track.pending = !accepted;
             track.counts.due += 1;
             if accepted {
@@ -76,9 +81,6 @@ impl Track {
             } else {
                 track.counts.dropped += 1;
             }
-        }
-        if track.running {
-            track.phase = (track.phase + 1) % prescaler;
         }
         track
     }

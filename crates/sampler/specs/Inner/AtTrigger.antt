@@ -1,5 +1,5 @@
 -- One trigger, list by list, by what the sampler keeps.
-use Rattle.std.specs.Prelude.{◌≡◌, ℕ, ◌+◌, ◌%◌, ◌<◌, ◌≤◌, nat_eq, if◌then◌else◌}
+use Rattle.std.specs.Prelude.{◌≡◌, ℕ, ◌+◌, ◌<◌, ◌≤◌, nat_eq, if◌then◌else◌}
 use Rattle.std.specs.Prelude.{Bool, true, false, not, ◌&&◌, ◌||◌}
 use Rattle.std.specs.Prelude.{List, [], ◌∷◌, ◌++◌, length, map, take, drop}
 use Rattle.std.specs.List.{list_any}
@@ -15,32 +15,39 @@ use Rattle.sampler.specs.Inner.Moments.{MomentParts}
 use Rattle.sampler.specs.declared.track.Track.{Track}
 use Rattle.sampler.specs.declared.taken.Taken.{Taken}
 
--- a list at a trigger: its plan, what was kept of it before, and whether a sample of it was
--- accepted
+-- a list at a trigger: its plan, what was kept of it before, whether it was due, and whether a
+-- sample of it was accepted
 pub record Row : Type 0 where
   pub plan : ListPlan
   pub track : Track
+  pub due : Bool
   pub accepted : Bool
 
 -- the same of these
-abbrev pub row_of : ListPlan → Track → Bool → Row
-row_of plan track accepted = record { plan = plan; track = track; accepted = accepted }
+abbrev pub row_of : ListPlan → Track → Bool → Bool → Row
+row_of plan track due accepted =
+    record { plan = plan; track = track; due = due; accepted = accepted }
 
--- the list is due
-abbrev pub due_now : Track → Bool
-due_now track = track.running && nat_eq track.phase 0
+-- the list is due at a trigger of this number
+abbrev pub due_now : ℕ → Track → Bool
+due_now trigger track = track.running && nat_eq track.next trigger
 
 -- the list of the row was due
 abbrev pub row_due : Row → Bool
-row_due row = due_now row.track
+row_due row = row.due
+
+-- the lists of some rows were due where what was kept of them says so
+abbrev pub AreDue : ℕ → List Row → Type 0
+AreDue trigger [] = Unit {0}
+AreDue trigger (row ∷ rows) = (row.due ≡ due_now trigger row.track) × AreDue trigger rows
 
 -- and its sample was accepted
 abbrev pub row_accepted : Row → Bool
-row_accepted row = due_now row.track && row.accepted
+row_accepted row = row.due && row.accepted
 
 -- and its sample was dropped
 abbrev pub row_dropped : Row → Bool
-row_dropped row = due_now row.track && not row.accepted
+row_dropped row = row.due && not row.accepted
 
 -- some row of list l passes
 abbrev pub any_row : (Row → Bool) → ℕ → List Row → Bool
@@ -55,22 +62,22 @@ item_of m plan number marked = Sample (record {
   packets = packets plan m.image m.stamp marked;
 })
 
--- what is kept of a list after the trigger
-unfoldable pub triggered : ListPlan → Track → Bool → Track
-triggered plan track accepted = record {
+-- what is kept of a list after the trigger, at which it was due or not
+unfoldable pub triggered : ListPlan → Track → Bool → Bool → Track
+triggered plan track due accepted = record {
   running = track.running;
-  phase = if track.running then (track.phase + 1) % plan.prescaler else track.phase;
-  pending = if due_now track then not accepted else track.pending;
+  next = if due then track.next + plan.prescaler else track.next;
+  pending = if due then not accepted else track.pending;
   counts = record {
-    due = track.counts.due + (if due_now track then 1 else 0);
-    accepted = track.counts.accepted + (if due_now track && accepted then 1 else 0);
-    dropped = track.counts.dropped + (if due_now track && not accepted then 1 else 0);
+    due = track.counts.due + (if due then 1 else 0);
+    accepted = track.counts.accepted + (if due && accepted then 1 else 0);
+    dropped = track.counts.dropped + (if due && not accepted then 1 else 0);
   };
 }
 
 -- and so of the list of a row
 abbrev pub row_after : Row → Track
-row_after row = triggered row.plan row.track row.accepted
+row_after row = triggered row.plan row.track row.due row.accepted
 
 -- what one list sends
 unfoldable pub row_items : MomentParts → ℕ → Row → List Item
@@ -129,7 +136,7 @@ abbrev pub DropsOverFree :
     {S E : Type 0} → SendGhosts S E → EndGhosts E → MomentParts → Stage S → List Row → Type 0
 DropsOverFree send ring m first rows =
     (done rest : List Row) (row : Row) → rows ≡ done ++ row ∷ rest
-    → due_now row.track ≡ true → row.accepted ≡ false
+    → row.due ≡ true → row.accepted ≡ false
     → send.free first.end < units ring.cost (rows_items m first.next done)
     + ring.cost (item_of m row.plan (first.next + rows_count done) row.track.pending)
 
@@ -142,6 +149,7 @@ pub record HandlesLists
   pub rows : List Row
   pub of_plans : map (λ (row : Row). row.plan) rows ≡ plans
   pub kept : map (λ (row : Row). row.track) rows ≡ take (length plans) first.tracks
+  pub dues : AreDue m.trigger rows
   pub keeps : last.tracks ≡ map row_after rows ++ drop (length plans) first.tracks
   pub count : last.next ≡ first.next + rows_count rows
   pub sends : send.sent last.end ≡ send.sent first.end ++ rows_items m first.next rows

@@ -1,9 +1,11 @@
-use Rattle.std.proofs.Common.{◌≡◌, ◌+◌, ℕ, List, [], ◌∷◌, ◌++◌, length, get_or, set, take, arith, ap, sym, ◌∙◌, refl, subst, length-take, ◌^◌, suc}
+use Rattle.std.proofs.Common.{◌≡◌, ◌+◌, ℕ, Bool, List, [], ◌∷◌, ◌++◌, length, get_or, set, take, arith, ap, sym, ◌∙◌, refl, subst, length-take, ◌^◌, suc}
 use Rattle.std.proofs.Math.Seq.{take-suc}
 use Rattle.copy_plan.specs.Config.{ListPlan}
-use Rattle.sampler.specs.Inner.AtTrigger.{HandlesLists, Row, Stage, first_stage, row_count, triggered}
+use Rattle.sampler.specs.Inner.AtTrigger.{HandlesLists, Row, Stage, due_now, first_stage, row_count, row_of, triggered}
+use Rattle.sampler.specs.Inner.Moments.{MomentParts}
 use Rattle.sampler.specs.declared.track.Track.{Track}
 use Rattle.sampler.proofs.Handled.{handles-none, handles-more, track-at, fit-at, plan-at, row_count-yes, row_count-no, row_count-le}
+use Rattle.sampler.proofs.NextDue.{due-below}
 use Rattle.sampler.proofs.Places.{no_track}
 use Rattle.sampler.proofs.at_trigger.sample_lists.Goals as goal
 use Rattle.sampler.proofs.at_trigger.sample_lists.Goals.{then-accepted, else-accepted}
@@ -25,9 +27,9 @@ triggered-requires g c =
     let there : get_or c.loop-place.tracks c.loop-place.place no_track ≡ get_or c.args.tracks.now c.loop-place.place no_track = track-at c.args.plans.now c.loop-place.place c.loop-place.invariant.handled (omega arith) c.requires.room in
     let fit = fit-at (2 ^ 59) c.args.plans.now c.args.tracks.now c.loop-place.place c.index-plans-place.result c.requires.fit (omega arith) in
     record {
-      phase = omega (arith, fit.0, ap (λ (t : Track). t.phase) there, ap (λ (p : ListPlan). p.prescaler) c.index-plans-place.is);
-      counts = omega (arith, fit.1, ap (λ (t : Track). t.counts.due) there);
-      sum = ap (λ (t : Track). t.counts.accepted + t.counts.dropped) there ∙ fit.2 ∙ sym (ap (λ (t : Track). t.counts.due) there);
+      next = λ due. due-below c.args.moment.now.trigger (2 ^ 59) (get_or c.loop-place.tracks c.loop-place.place no_track) (sym (c.is_due-due.ensures ∙ ap (λ (m : MomentParts). due_now m.trigger (get_or c.loop-place.tracks c.loop-place.place no_track)) c.moment.view_is) ∙ due) c.requires.trigger;
+      counts = omega (arith, fit.0, ap (λ (t : Track). t.counts.due) there);
+      sum = ap (λ (t : Track). t.counts.accepted + t.counts.dropped) there ∙ fit.1 ∙ sym (ap (λ (t : Track). t.counts.due) there);
     }
 
 pub loop-place-preserved : goal.loop-place-preserved
@@ -37,7 +39,8 @@ loop-place-preserved g c =
     let i : ℕ = c.loop-place.place in
     let plan : ListPlan = c.index-plans-place.result in
     let track : Track = get_or c.loop-place.tracks i no_track in
-    let row : Row = record { plan = plan; track = track; accepted = c.sample_list-accepted.result } in
+    let due : Bool = c.is_due-due.result in
+    let row : Row = row_of plan track due c.sample_list-accepted.result in
     let first : Stage g.row.S.Denot = first_stage c.args.end.now c.args.tracks.now c.args.number in
     let mid : Stage g.row.S.Denot = record { end = c.loop-place.end; tracks = c.loop-place.tracks; taken = c.loop-place.taken; next = c.loop-place.next } in
     let last : Stage g.row.S.Denot = record { end = c.sample_list-accepted.new.end; tracks = set c.loop-place.tracks i c.triggered.result; taken = c.add.new.self; next = c.if-accepted.next } in
@@ -48,8 +51,8 @@ loop-place-preserved g c =
     ap (λ p. take i c.args.plans.now ++ p ∷ []) c.index-plans-place.is ∙ sym (take-suc c.args.plans.now i plan (omega arith)) ∙ ap (λ k. take k c.args.plans.now) one in
     let count : c.if-accepted.next ≡ c.loop-place.next + row_count row =
     elim c.if-accepted.branch [
-      | then-accepted w ↦ omega (arith, w.next-is, row_count-yes plan track c.sample_list-accepted.result w.if-accepted.true (c.sample_list-accepted.ensures.due w.if-accepted.true))
-      | else-accepted w ↦ omega (arith, w.next-is, row_count-no plan track c.sample_list-accepted.result w.if-accepted.false)
+      | then-accepted w ↦ omega (arith, w.next-is, row_count-yes plan track due c.sample_list-accepted.result w.if-accepted.true (c.sample_list-accepted.ensures.due w.if-accepted.true))
+      | else-accepted w ↦ omega (arith, w.next-is, row_count-no plan track due c.sample_list-accepted.result w.if-accepted.false)
     ] in
     let P : List ListPlan → Type 0 = λ ps. HandlesLists E R c.args.moment.now ps first last in
     record {
@@ -59,11 +62,12 @@ loop-place-preserved g c =
           c.loop-place.invariant.handled
           (omega (arith, n, c.requires.room))
           (there ∙ ap (λ k. get_or c.args.tracks.now k no_track) (sym n))
-          (ap (set c.loop-place.tracks i) c.triggered.ensures ∙ ap (λ k. set c.loop-place.tracks k (triggered plan track c.sample_list-accepted.result)) (sym n))
+          (c.is_due-due.ensures ∙ ap (λ (m : MomentParts). due_now m.trigger track) c.moment.view_is)
+          (ap (set c.loop-place.tracks i) c.triggered.ensures ∙ ap (λ k. set c.loop-place.tracks k (triggered plan track due c.sample_list-accepted.result)) (sym n))
           c.sample_list-accepted.ensures.sent
           c.sample_list-accepted.ensures.free
           c.sample_list-accepted.ensures.over_free
-          c.add.ensures
+          (c.add.ensures track)
           count);
       next_limit = omega (arith, count, c.loop-place.invariant.next_limit, row_count-le row);
       capacity = c.sample_list-accepted.ensures.capacity_stays ∙ c.loop-place.invariant.capacity;

@@ -1,4 +1,4 @@
-use Rattle.std.proofs.Common.{arith}
+use Rattle.std.proofs.Common.{arith, sym}
 use Rattle.sampler.proofs.FirstTracks.{rise-length, first-sampler, first-stands}
 use Rattle.sampler.proofs.sampler.Sampler.new.Goals as goal
 
@@ -8,7 +8,7 @@ new-lists-requires g c = omega (arith, rise-length c.args.channel c.args.image_l
 pub invariant_of-result : goal.invariant_of-result
 invariant_of-result g c =
     rw c.new-lists.ensures.plans
-    (first-sampler c.args.channel c.args.image_len c.args.running c.args.plans.items c.new-lists.result.tracks c.requires.channel_below c.requires.plans_of c.requires.rising c.new-lists.ensures.places c.new-lists.ensures.tracks)
+    (first-sampler c.args.channel c.args.image_len c.args.running c.args.plans.items c.new-lists.result.tracks c.soonest-soonest.result c.requires.channel_below c.requires.plans_of c.requires.rising c.new-lists.ensures.places c.new-lists.ensures.tracks (rw (sym c.new-lists.ensures.plans) c.soonest-soonest.ensures))
 
 pub returns-clause-stands : goal.returns-clause-stands
 returns-clause-stands g c =
