@@ -1,5 +1,6 @@
 -- What a sampler keeps of one DAQ list, as its history and decisions say it.
-use Rattle.std.specs.Prelude.{ℕ, ◌+◌, ◌-◌, ◌%◌, Bool, not, List, length, if◌then◌else◌, count_by, nat_eq}
+use Rattle.std.specs.Prelude.{ℕ, ◌+◌, ◌-◌, ◌%◌, Bool, not, List, length, if◌then◌else◌, count_by}
+use Rattle.std.specs.Prelude.{nat_eq}
 use Rattle.std.specs.Prelude.{Option, Some, None}
 use Rattle.copy_plan.specs.Config.{ListPlan}
 use Rattle.sampler.specs.History.{Event, Opening, is_list_of, is_trigger, runs_after}
@@ -31,8 +32,8 @@ abbrev pub until_due : ℕ → ℕ → ℕ
 until_due prescaler since =
     if nat_eq (since % prescaler) 0 then 0 else prescaler - since % prescaler
 
--- the trigger at which a list is due next, counted from 0, where it isn't stopped or started before;
--- NEVER where it does not run
+-- the trigger at which a list is due next, counted from 0, where it isn't stopped or started
+-- before; NEVER where it does not run
 unfoldable pub next_after : Opening → List Event → ListPlan → ℕ
 next_after opening h plan =
     if runs_after opening h plan.list then
