@@ -29,7 +29,7 @@ use Rattle.daq_steps.proofs.AskLemmas.{read_at, sampler_at}
 use Rattle.daq_steps.proofs.StepLemmas.{decided, few_taken, sent_stands}
 use Rattle.daq_run.specs.Faults.{StandsAtFault, StopsBehind}
 use Rattle.daq_run.specs.Inner.Opened.{IsOpened}
-use Rattle.daq_run.specs.Runs.{ComesTo, HasRun, setting_of}
+use Rattle.daq_run.specs.Runs.{ComesTo, HasRun, cost_in, setting_of}
 use Rattle.daq_run.specs.declared.sim_fault.SimFault.{SimFault}
 use Rattle.daq_run.specs.declared.sim_fault.SimFault.TheVariants.{EndLost, Memory}
 use Rattle.daq_run.proofs.DrainLemmas.{few_at_last}
@@ -41,7 +41,7 @@ all_at f n xs k all within =
     let one = sampler_at xs k within in
     get_or-map f xs k one.0 0 within ∙ All-get_or (λ x. f x ≡ n) xs k one.0 within all
 
-module _ {S E : Type 0} (send : SendGhosts S E) (ring : EndGhosts E) (cost : ring.cost ≡ (λ (item : Item). 1)) (run : RunData) (before : OutState)
+module _ {S E : Type 0} (send : SendGhosts S E) (ring : EndGhosts E) (run : RunData) (cost : ring.cost ≡ cost_in run.ring) (before : OutState)
     (a b : EngineState S) (opened : IsOpened send ring run before a) (stay : StayThose send a.samplers b.samplers) where
   pub as_many : length b.samplers ≡ run.channels
   as_many =

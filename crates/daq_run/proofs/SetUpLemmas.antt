@@ -1,13 +1,15 @@
 -- The set-up of a run, and where it stops.
-use Rattle.std.proofs.Common.{◌≡◌, ◌⊎◌, ℕ, inl, inr, All, true, nat_eq, List, [], ◌∷◌, ◌++◌, length, refl, sym, ap, ap₂, subst, ◌∙◌, append_assoc}
+use Rattle.std.proofs.Common.{◌≡◌, ◌⊎◌, ℕ, inl, inr, All, Bool, true, nat_eq, List, [], ◌∷◌, ◌++◌, length, refl, sym, ap, ap₂, subst, ◌∙◌, append_assoc}
 use Rattle.std.specs.Prelude.{◌&&◌}
 use Rattle.std.specs.List.{list_all}
 use Rattle.std.proofs.lemmas.Bool.{false≢true, le-leb}
 use Rattle.std.proofs.lemmas.Bool.Decides.{eqb_tells}
 use Rattle.std.proofs.lemmas.List.Elements.{All-head, All-tail}
-use Rattle.xcp_base.specs.declared.limits.TheConstants.{MAX_SAMPLE_RING}
+use Rattle.xcp_base.specs.declared.limits.TheConstants.{MAX_BYTE_RING, MAX_SAMPLE_RING, MIN_BYTE_RING}
 use Rattle.run_file.specs.Limits.{HasLimits, IsCap}
-use Rattle.daq_engine.specs.Openings.{fit_caps, is_cap}
+use Rattle.run_file.specs.declared.ring_kind.RingKind.{RingKind}
+use Rattle.run_file.specs.declared.ring_kind.RingKind.TheVariants.{Bytes, Samples}
+use Rattle.daq_engine.specs.Openings.{fit_caps_of, is_byte_cap, is_cap}
 use Rattle.daq_store.specs.declared.command.Command.{Command}
 use Rattle.daq_store.specs.Calls.{Profile}
 use Rattle.daq_store.specs.Replies.{calls_after_packet, calls_after_packets, packet_reply, replies, reply_bytes}
@@ -68,16 +70,26 @@ module _ (run : RunData) (s t : StoreState) (profile : s.profile ≡ profile_of 
   stops Memory same memory write = inl (wants_memory same (memory refl))
   stops Write same memory write = let l = write refl in loses_at l.done l.left l.packet l.split l.cause
 
--- the capacities of a run are those that rings may have
-all_caps : (caps : List ℕ) → All IsCap caps → list_all is_cap caps ≡ true
-all_caps [] all = refl
-all_caps (cap ∷ caps) all =
-    let first = All-head IsCap cap caps all in
-    let one = ap₂ (λ a b. a && b) (le-leb 1 cap first.0) (le-leb cap MAX_SAMPLE_RING first.1) in
-    ap₂ (λ a b. a && b) one (all_caps caps (All-tail IsCap cap caps all))
+-- the capacities of a run are those that rings of its kind may have
+abbrev may_have : RingKind → ℕ → Bool
+may_have Samples = is_cap
+may_have Bytes = is_byte_cap
 
-pub caps_fit : (run : RunData) (s : StoreState) → HasLimits run → s.profile ≡ profile_of run → fit_caps s run.caps ≡ true
-caps_fit run s limits profile =
+may_have_cap : (kind : RingKind) (cap : ℕ) → IsCap kind cap → may_have kind cap ≡ true
+may_have_cap Samples cap is = ap₂ (λ a b. a && b) (le-leb 1 cap is.0) (le-leb cap MAX_SAMPLE_RING is.1)
+may_have_cap Bytes cap is = ap₂ (λ a b. a && b) (le-leb MIN_BYTE_RING cap is.0) (le-leb cap MAX_BYTE_RING is.1)
+
+all_caps : (kind : RingKind) (caps : List ℕ) → All (IsCap kind) caps → list_all (may_have kind) caps ≡ true
+all_caps kind [] all = refl
+all_caps kind (cap ∷ caps) all =
+    ap₂ (λ a b. a && b) (may_have_cap kind cap (All-head (IsCap kind) cap caps all)) (all_caps kind caps (All-tail (IsCap kind) cap caps all))
+
+pub caps_of_kind : (run : RunData) (kind : RingKind) → HasLimits run → run.ring ≡ kind → list_all (may_have kind) run.caps ≡ true
+caps_of_kind run kind limits is = all_caps kind run.caps (subst (λ k. All (IsCap k) run.caps) is limits.caps)
+
+pub caps_fit : (may_have : ℕ → Bool) (run : RunData) (s : StoreState) → HasLimits run → s.profile ≡ profile_of run → list_all may_have run.caps ≡ true
+    → fit_caps_of may_have s run.caps ≡ true
+caps_fit may_have run s limits profile fit =
     let channels : length run.caps ≡ s.profile.channels = limits.one_cap_each ∙ sym (ap (λ p. p.channels) profile) in
     let same : nat_eq (length run.caps) s.profile.channels ≡ true = elim (eqb_tells (length run.caps) s.profile.channels) [ inl w ↦ w.0 | inr w ↦ absurd (w.1 channels) ] in
-    ap₂ (λ a b. a && b) same (all_caps run.caps limits.caps)
+    ap₂ (λ a b. a && b) same fit

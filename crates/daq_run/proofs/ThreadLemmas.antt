@@ -36,7 +36,7 @@ use Rattle.daq_steps.proofs.AskLemmas.{read_at, sampler_at}
 use Rattle.daq_steps.proofs.StepLemmas.{stay_still}
 use Rattle.daq_run.specs.Faults.{StandsAtFault, StopsBehind}
 use Rattle.daq_run.specs.Inner.Opened.{IsOpened}
-use Rattle.daq_run.specs.Runs.{setting_of}
+use Rattle.daq_run.specs.Runs.{cost_in, setting_of}
 use Rattle.daq_run.specs.Threads.{HasRunApart, StopsAmongThreads, ThreadsComeTo, ThreadsStandAtFault, refused_in}
 use Rattle.daq_run.specs.Inner.Workers.{HaveWorked, KeepsTaking, MayComeLate}
 use Rattle.daq_run.specs.declared.sim_fault.SimFault.{SimFault}
@@ -63,11 +63,11 @@ few_held : (c : ℕ) (hand : Option SampleParts) → length (held_of c hand) ≤
 few_held c None = omega arith
 few_held c (Some s) = elim (s.channel == c) as (λ b. length (cond b (Sample s ∷ []) []) ≤ 1) [ true ↦ omega arith | false ↦ omega arith ]
 
-module _ {S E : Type 0} (send : SendGhosts S E) (ring : EndGhosts E) (cost : ring.cost ≡ (λ (item : Item). 1)) (run : RunData) (before : OutState)
+module _ {S E : Type 0} (send : SendGhosts S E) (ring : EndGhosts E) (run : RunData) (cost : ring.cost ≡ cost_in run.ring) (before : OutState)
     (a : EngineState S) (opened : IsOpened send ring run before a) (t : TransmitterState) (takes : KeepsTaking a.transmitter t) where
   -- there is a sampler for each channel
   pub many_samplers : length a.samplers ≡ run.channels
-  many_samplers = as_many send ring cost run before a a opened (stay_still send ring a.samplers)
+  many_samplers = as_many send ring run cost before a a opened (stay_still send ring a.samplers)
 
   -- what the transmitter took
   abbrev items : List (ℕ × Item)
@@ -120,7 +120,7 @@ module _ {S E : Type 0} (send : SendGhosts S E) (ring : EndGhosts E) (cost : rin
     setting_here : (c : ℕ) (s : SamplerState S) → c < run.channels → slice_get a.samplers c ≡ Some s → setting_at send ring s ≡ setting_of run c
     setting_here c s within at =
         ap₂ (λ (i n : ℕ). record { image_len = i; capacity = n; cost = ring.cost }) (sym (read_at (λ (x : SamplerState S). x.image_len) 0 a.samplers c s at)) (sym (read_at (λ (x : SamplerState S). send.capacity x.end) 0 a.samplers c s at))
-        ∙ setting send ring cost run before a a opened (stay_still send ring a.samplers) c within
+        ∙ setting send ring run cost before a a opened (stay_still send ring a.samplers) c within
 
     answered : (c : ℕ) → c < run.channels → AreAnswered (setting_of run c) (asked_of c (map run_step run.steps)) (got.told c) (got.past c)
     answered c within =

@@ -2,10 +2,13 @@
 use Rattle.std.specs.Prelude.{◌≡◌, ℕ, ◌<◌, true, false, List, count_by, length, map, slice_get}
 use Rattle.std.specs.Prelude.{slice_index, Some}
 use Rattle.xcp_base.specs.declared.item.Item.{Item}
+use Rattle.byte_ring.specs.Records.{record_len}
 use Rattle.daq_store.specs.Standing.{StoreState}
 use Rattle.frame_writer.specs.Shown.{OutState}
 use Rattle.frame_writer.specs.Writing.{WriterState}
 use Rattle.run_file.specs.RunFile.{RunData}
+use Rattle.run_file.specs.declared.ring_kind.RingKind.{RingKind}
+use Rattle.run_file.specs.declared.ring_kind.RingKind.TheVariants.{Bytes, Samples}
 use Rattle.sampler.specs.History.{due}
 use Rattle.sampler.specs.Past.{Past}
 use Rattle.sampler.specs.Standing.{DropsOnlyWhenFull}
@@ -20,12 +23,17 @@ use Rattle.daq_steps.specs.Runs.{AreDone, Done, is_refused, sent_in, taken_in}
 use Rattle.daq_steps.specs.Steps.{run_step}
 use Rattle.daq_run.specs.SetUps.{IsSetUp}
 
--- what channel c of a run goes by: in its ring each item takes up one place
+-- what an item takes up in a ring: one place, or the bytes of its record
+abbrev pub cost_in : RingKind → Item → ℕ
+cost_in Samples = λ item. 1
+cost_in Bytes = record_len
+
+-- what channel c of a run goes by
 abbrev pub setting_of : RunData → ℕ → Setting
 setting_of run c = record {
   image_len = run.image_len;
   capacity = slice_index run.caps c;
-  cost = λ item. 1;
+  cost = cost_in run.ring;
 }
 
 -- a run was set up and opened, with the replies written by that writer. Its channels have come to

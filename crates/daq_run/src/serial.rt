@@ -1,23 +1,26 @@
-ghost use Rattle.std.specs.Prelude.{◌≡◌, ◌⊎◌, IfErr, IfOk};
+ghost use Rattle.std.specs.Prelude.{◌≡◌, ◌⊎◌, IfErr, IfOk, true};
+ghost use Rattle.std.specs.List.{list_all};
 ghost use Rattle.frame_writer.specs.Shown.{shown};
 ghost use Rattle.daq_engine.specs.Closings.{GivesBack};
 ghost use Rattle.daq_engine.specs.Engines.{EngineState};
 ghost use Rattle.daq_run.specs.Faults.{StandsAtFault};
-ghost use Rattle.daq_run.specs.Runs.{ComesTo};
+ghost use Rattle.daq_run.specs.Runs.{ComesTo, cost_in};
 ghost use Rattle.daq_run.specs.declared.sim_fault.SimFault.TheVariants.{EndLost, Memory};
 
 use crate::outcome::Outcome;
 use crate::set_up::opened;
 use crate::sim_fault::SimFault;
-use channel_ring::{Beside, RingEnd, SendEnd, SendHalf, SendLeft, TakeEnd, TakeHalf};
-use daq_engine::{Engine, Unclosed};
+use byte_ring::ByteRing;
+use channel_ring::{Beside, RingEnd, SampleRing, SendEnd, TakeEnd};
+use daq_engine::{Engine, Ring, Unclosed};
 use daq_steps::do_steps;
 use frame_writer::Out;
-use run_file::Run;
+use run_file::{RingKind, Run};
 use std::alloc::Global;
 
 /// Carries out a run in one thread: its set-up, whose replies are the first frames, then its steps
-/// in order on one engine, and at the end a drain where the run says so.
+/// in order on one engine, over rings of the run's kind, and at the end a drain where the run says
+/// so.
 ///
 /// The steps go on where the writer fails; the report says that it failed. Refused with `Memory`,
 /// `NothingRunning` where after the set-up no DAQ list runs, `SetupWrite` where a reply isn't
@@ -28,7 +31,26 @@ pub fn run_serial<O: Out>(alloc: Global, run: &Run, out: O) -> Result<Outcome<O>
     ensures fault { IfErr result (λ e.
         StandsAtFault run.now (shown O.Out out) (shown O.Out e.1) e.0) }
 {
-    let mut engine = opened(alloc, run, out)?;
+    match run.ring() {
+        RingKind::Samples => run_over::<SampleRing, O>(alloc, run, out),
+        RingKind::Bytes => run_over::<ByteRing, O>(alloc, run, out),
+    }
+}
+
+/// The same over rings of one kind.
+fn run_over<K: Ring, O: Out>(
+    alloc: Global,
+    run: &Run,
+    out: O,
+) -> Result<Outcome<O>, (SimFault, O)>
+    requires caps { list_all K.is_cap run.now.caps ≡ true }
+    requires cost { K.Send.End.cost ≡ cost_in run.now.ring }
+    ensures ok { IfOk result (λ outcome. ComesTo run.now (shown O.Out out)
+        outcome.refused outcome.report (shown O.Out outcome.out)) }
+    ensures fault { IfErr result (λ e.
+        StandsAtFault run.now (shown O.Out out) (shown O.Out e.1) e.0) }
+{
+    let mut engine = opened::<K, O>(alloc, run, out)?;
     let refused = do_steps(&mut engine, run);
     match engine.close(alloc, run.drain()) {
         Ok((report, out)) => Ok(Outcome {

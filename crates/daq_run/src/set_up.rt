@@ -1,5 +1,6 @@
 //! A run's set-up, and the opening of its engine.
-ghost use Rattle.std.specs.Prelude.{◌≡◌, ℕ, IfErr, IfOk, false, length};
+ghost use Rattle.std.specs.Prelude.{◌≡◌, ℕ, IfErr, IfOk, false, length, true};
+ghost use Rattle.std.specs.List.{list_all};
 ghost use Rattle.frame_writer.specs.Shown.{shown};
 ghost use Rattle.frame_writer.specs.Writing.{state_of};
 ghost use Rattle.daq_engine.specs.Engines.{engine_state};
@@ -8,8 +9,8 @@ ghost use Rattle.daq_run.specs.Inner.Opened.{IsOpened};
 ghost use Rattle.daq_run.specs.SetUps.{IsSetUp};
 
 use crate::sim_fault::SimFault;
-use channel_ring::{RingEnd, SendEnd, SendHalf, SendLeft, TakeEnd, TakeHalf};
-use daq_engine::{Engine, OpenFault};
+use channel_ring::{RingEnd, SendEnd, TakeEnd};
+use daq_engine::{Engine, OpenFault, Ring, engine_over};
 use daq_store::Store;
 use frame_writer::{FrameWriter, Out};
 use run_file::Run;
@@ -39,20 +40,21 @@ fn set_up<O: Out>(
     }
 }
 
-/// Sets a run up, and opens its engine on the same frame writer.
-pub fn opened<O: Out>(
+/// Sets a run up, and opens its engine on the same frame writer, over rings of one kind.
+pub fn opened<K: Ring, O: Out>(
     alloc: Global,
     run: &Run,
     out: O,
-) -> Result<Engine<O, TakeHalf>, (SimFault, O)>
+) -> Result<Engine<O, K::Take>, (SimFault, O)>
+    requires caps { list_all K.is_cap run.now.caps ≡ true }
     ensures ok { IfOk result (λ engine.
-        IsOpened ⟦<SendHalf as SendEnd>⟧ ⟦<SendLeft as RingEnd>⟧ run.now (shown O.Out out)
-        (engine_state O.Out ⟦<TakeHalf as TakeEnd>⟧ engine)) }
+        IsOpened K.Send.SendEnd K.Send.End.RingEnd run.now (shown O.Out out)
+        (engine_state O.Out K.Take.TakeEnd engine)) }
     ensures fault { IfErr result (λ e.
         StandsAtFault run.now (shown O.Out out) (shown O.Out e.1) e.0) }
 {
     let (store, writer) = set_up(alloc, run, out)?;
-    match Engine::open(alloc, &store, run.caps(), writer) {
+    match engine_over::<K, O>(alloc, &store, run.caps(), writer) {
         Ok(engine) => Ok(engine),
         Err((OpenFault::NothingRunning, writer)) => {
             Err((SimFault::NothingRunning, writer.into_out()))

@@ -2,11 +2,13 @@
 ghost use Rattle.std.specs.Prelude.{◌≡◌, ◌≤◌, All, IfErr, IfOk, map};
 ghost use Rattle.std.specs.Prelude.{true, vec_capacity, vec_len};
 ghost use Rattle.xcp_base.specs.declared.limits.TheConstants.{MAX_CHANNELS};
+ghost use Rattle.std.specs.List.{list_all};
 ghost use Rattle.frame_writer.specs.Shown.{shown};
 ghost use Rattle.run_file.specs.RunFile.{RunData};
 ghost use Rattle.transmitter.specs.Written.{transmission};
 ghost use Rattle.daq_steps.specs.Steps.{run_step};
 ghost use Rattle.daq_run.specs.Inner.Workers.{HaveWorked, KeepsTaking, MayComeLate};
+ghost use Rattle.daq_run.specs.Runs.{cost_in};
 ghost use Rattle.daq_run.specs.Threads.{ThreadsComeTo, ThreadsStandAtFault};
 
 use crate::gate::Gate;
@@ -15,10 +17,11 @@ use crate::outcome::Outcome;
 use crate::set_up::opened;
 use crate::sim_fault::SimFault;
 use crate::worker::{WillWork, Worked, work};
-use channel_ring::{RingEnd, SendEnd, TakeEnd};
-use daq_engine::{CloseFault, drain_and_close};
+use byte_ring::ByteRing;
+use channel_ring::{RingEnd, SampleRing, SendEnd, TakeEnd};
+use daq_engine::{CloseFault, Ring, drain_and_close};
 use frame_writer::Out;
-use run_file::Run;
+use run_file::{RingKind, Run};
 use sampler::{Sampler, SamplerEnd};
 use std::alloc::Global;
 use std::snapshot::Snapshot;
@@ -51,7 +54,31 @@ pub fn run_threads<R: Threads + Wait + Sync, O: Out, G: Gate + Sync>(
     ensures fault { IfErr result (λ e. ThreadsStandAtFault run.now (shown O.Out out)
         (shown O.Out e.1) e.0) }
 {
-    let engine = opened(alloc, run, out)?;
+    match run.ring() {
+        RingKind::Samples => threads_over::<R, SampleRing, O, G>(rt, alloc, run, out, gate),
+        RingKind::Bytes => threads_over::<R, ByteRing, O, G>(rt, alloc, run, out, gate),
+    }
+}
+
+/// The same over rings of one kind.
+fn threads_over<R: Threads + Wait + Sync, K: Ring, O: Out, G: Gate + Sync>(
+    rt: &R,
+    alloc: Global,
+    run: &Run,
+    out: O,
+    gate: &G,
+) -> Result<Outcome<O>, (SimFault, O)>
+where
+    K::Send: Send,
+    <K::Send as SendEnd>::End: Send,
+    requires caps { list_all K.is_cap run.now.caps ≡ true }
+    requires cost { K.Send.End.cost ≡ cost_in run.now.ring }
+    ensures ok { IfOk result (λ outcome. ThreadsComeTo run.now (shown O.Out out)
+        outcome.refused outcome.report (shown O.Out outcome.out)) }
+    ensures fault { IfErr result (λ e. ThreadsStandAtFault run.now (shown O.Out out)
+        (shown O.Out e.1) e.0) }
+{
+    let engine = opened::<K, O>(alloc, run, out)?;
     let (samplers, mut transmitter) = engine.into_parts();
     let (ends, refused) = match work_and_pump(rt, alloc, samplers, &mut transmitter, run, gate) {
         Ok(worked) => worked,

@@ -3,9 +3,10 @@ use Rattle.std.proofs.Common.{◌≡◌, ◌≤◌, ◌==◌, ◌&&◌, nat_le, 
 use Rattle.std.proofs.lemmas.Bool.{and_parts, leb-true, eqb-true}
 use Rattle.std.proofs.lemmas.List.Elements.{All-cons, All-nil, All-same}
 use Rattle.toml.specs.Data.{Data, Items, no_items, item, Members, as_array, as_integer, as_str, get_member}
-use Rattle.xcp_base.specs.declared.limits.TheConstants.{MAX_CHANNELS, MAX_IMAGE_LEN, MAX_SAMPLE_RING}
+use Rattle.xcp_base.specs.declared.limits.TheConstants.{MAX_CHANNELS, MAX_IMAGE_LEN}
 use Rattle.run_file.specs.declared.limits.TheConstants.{MAX_COMMAND_LEN, MAX_PACKETS, MAX_STEPS}
-use Rattle.run_file.specs.Keys.{all_of, at_key, bounded, caps_in, caps_of, if_length, number_in, texts_at, texts_in}
+use Rattle.run_file.specs.Keys.{all_of, at_key, bounded, cap_in, caps_in, caps_of, if_length, least_cap, most_cap, number_in, texts_at, texts_in}
+use Rattle.run_file.specs.declared.ring_kind.RingKind.{RingKind}
 use Rattle.run_file.specs.Limits.{HasLimits, IsCap, IsStepWithin}
 use Rattle.run_file.specs.RunFile.{IsPacketText, IsRunText, RunData}
 use Rattle.run_file.specs.Steps.{IsStepText, StepData, trigger, start, stop, pump}
@@ -45,15 +46,15 @@ all_of-All f P each (item d ds) xs h =
     (All-cons P parts.0 parts.1 (each d parts.0 parts.2) (all_of-All f P each ds parts.1 parts.3))
 
 -- capacities: one for each event channel, each that of a ring
-caps_within : (channels : ℕ) (caps : List ℕ) (ms : Members) → caps_of channels ms ≡ Some caps → (length caps ≡ channels) × All IsCap caps
-caps_within channels caps ms h =
-    let found = and_then-some (caps_in channels) (at_key as_array (codes "caps") ms) caps h in
-    let read = and_then-some (if_length (λ n. n == channels)) (all_of (number_in 1 MAX_SAMPLE_RING) found.0) caps found.2 in
+caps_within : (kind : RingKind) (channels : ℕ) (caps : List ℕ) (ms : Members) → caps_of kind channels ms ≡ Some caps → (length caps ≡ channels) × All (IsCap kind) caps
+caps_within kind channels caps ms h =
+    let found = and_then-some (caps_in kind channels) (at_key as_array (codes "caps") ms) caps h in
+    let read = and_then-some (if_length (λ n. n == channels)) (all_of (cap_in kind) found.0) caps found.2 in
     let long = if_some (length read.0 == channels) read.0 caps read.2 in
     let size : length read.0 ≡ channels = eqb-true (length read.0) channels long.0 in (
       ap length (sym long.1) ∙ size,
-      All-same IsCap caps read.0 (sym long.1)
-          (all_of-All (number_in 1 MAX_SAMPLE_RING) IsCap (λ d n e. number_within 1 MAX_SAMPLE_RING n d e) found.0 read.0 read.1),
+      All-same (IsCap kind) caps read.0 (sym long.1)
+          (all_of-All (cap_in kind) (IsCap kind) (λ d n e. number_within (least_cap kind) (most_cap kind) n d e) found.0 read.0 read.1),
     )
 
 -- strings: no more than so many
@@ -77,7 +78,7 @@ run_limits text run is =
     let ms = is.document.document in
     let channels = key_within 1 MAX_CHANNELS is.values.channels (codes "channels") ms keys.channels_is in
     let image_len = key_within 1 MAX_IMAGE_LEN is.values.image_len (codes "image_len") ms keys.image_len_is in
-    let caps = caps_within is.values.channels is.values.caps ms keys.caps_are in
+    let caps = caps_within is.values.ring is.values.channels is.values.caps ms keys.caps_are in
     let setup = texts_within MAX_PACKETS (codes "setup") is.values.setup ms keys.setup_is in
     let steps = texts_within MAX_STEPS (codes "steps") is.values.steps ms keys.steps_are in
     record {
@@ -86,7 +87,7 @@ run_limits text run is =
       some_byte = omega (arith, image_len.0, is.image_len_is);
       image_len = omega (arith, image_len.1, is.image_len_is);
       one_cap_each = ap length is.caps_are ∙ caps.0 ∙ sym is.channels_is;
-      caps = All-same IsCap run.caps is.values.caps is.caps_are caps.1;
+      caps = subst (λ kind. All (IsCap kind) run.caps) (sym is.ring_is) (All-same (IsCap is.values.ring) run.caps is.values.caps is.caps_are caps.1);
       packets = omega (arith, setup, length-AreTextsOf IsPacketText is.values.setup run.setup is.setup_is);
       each_packet = All-AreTextsOf IsPacketText (λ p. length p ≤ MAX_COMMAND_LEN) (λ t p e. e.fits) is.values.setup run.setup is.setup_is;
       steps = omega (arith, steps, length-AreTextsOf (IsStepText is.values.channels) is.values.steps run.steps is.steps_are);

@@ -71,6 +71,7 @@ module _ (text : List ℕ) (ms : Members) (v : KeyValues) (last : ℕ) (packets 
       → IsRunText text (record {
         channels = v.channels;
         image_len = v.image_len;
+        ring = v.ring;
         caps = v.caps;
         setup = packets;
         steps = steps;
@@ -81,6 +82,7 @@ module _ (text : List ℕ) (ms : Members) (v : KeyValues) (last : ℕ) (packets 
     document = record { document = ms; toml = toml; keys_are = keys };
     channels_is = refl;
     image_len_is = refl;
+    ring_is = refl;
     caps_are = refl;
     drain_is = refl;
     setup_is = setup;

@@ -5,7 +5,8 @@ use Rattle.toml.specs.Parse.{parse_document}
 use Rattle.toml.proofs.OnLiterals.{toml_on_literals}
 use Rattle.hex.specs.Hex.{decode_of}
 use Rattle.hex.proofs.OnLiterals.{hex_on_literals}
-use Rattle.run_file.specs.Keys.{are_keys, caps_of, channels_of, drain_of, setup_of}
+use Rattle.run_file.specs.declared.ring_kind.RingKind.TheVariants.{Bytes, Samples}
+use Rattle.run_file.specs.Keys.{are_keys, caps_of, channels_of, drain_of, ring_named, ring_of, setup_of}
 use Rattle.run_file.specs.StepOf.{step_of}
 use Rattle.run_file.specs.Steps.{trigger, start, pump}
 
@@ -55,7 +56,7 @@ are_keys-members = refl
 channels_of-members : channels_of members ≡ Some 1
 channels_of-members = refl
 
-caps_of-members : caps_of 1 members ≡ None
+caps_of-members : caps_of Samples 1 members ≡ None
 caps_of-members = refl
 
 setup_of-members : setup_of members ≡ Some (codes "d6" ∷ codes "d" ∷ [])
@@ -67,3 +68,13 @@ drain_of-members = refl
 decode_of-command : decode_of (codes "d6") ≡ Ok (214 ∷ [])
 unfolding hex_on_literals
 decode_of-command = refl
+
+-- a ring of samples where the key is absent
+ring_of-members : ring_of members ≡ Some Samples
+ring_of-members = refl
+
+ring_named-bytes : ring_named (codes "bytes") ≡ Some Bytes
+ring_named-bytes = refl
+
+ring_named-other : ring_named (codes "Bytes") ≡ None
+ring_named-other = refl

@@ -6,14 +6,17 @@ use Rattle.std.specs.Str.{bytes_eq}
 use Rattle.toml.specs.Data.{Data, Items, no_items, item, Members, no_members, member, get_member}
 use Rattle.toml.specs.Data.{as_str, as_integer, as_bool, as_array}
 use Rattle.xcp_base.specs.declared.limits.TheConstants.{MAX_CHANNELS, MAX_IMAGE_LEN}
-use Rattle.xcp_base.specs.declared.limits.TheConstants.{MAX_SAMPLE_RING}
+use Rattle.xcp_base.specs.declared.limits.TheConstants.{MAX_BYTE_RING, MAX_SAMPLE_RING}
+use Rattle.xcp_base.specs.declared.limits.TheConstants.{MIN_BYTE_RING}
 use Rattle.run_file.specs.declared.limits.TheConstants.{MAX_PACKETS, MAX_STEPS}
+use Rattle.run_file.specs.declared.ring_kind.RingKind.{RingKind}
+use Rattle.run_file.specs.declared.ring_kind.RingKind.TheVariants.{Bytes, Samples}
 
 -- the keys of a run file
 abbrev pub keys : List (List ℕ)
 keys =
     codes "channels" ∷ codes "image_len" ∷ codes "caps" ∷ codes "setup" ∷ codes "steps"
-    ∷ codes "drain" ∷ []
+    ∷ codes "drain" ∷ codes "ring" ∷ []
 
 -- a word is one of these
 abbrev pub is_among : List (List ℕ) → List ℕ → Bool
@@ -57,8 +60,34 @@ read_items f test ds = option_and_then (if_length test) (all_of f ds)
 abbrev pub texts_in : ℕ → Items → Option (List (List ℕ))
 texts_in most ds = read_items as_str (λ n. nat_le n most) ds
 
-abbrev pub caps_in : ℕ → Items → Option (List ℕ)
-caps_in channels ds = read_items (number_in 1 MAX_SAMPLE_RING) (λ n. n == channels) ds
+-- the least and the greatest capacity of a ring
+abbrev pub least_cap : RingKind → ℕ
+least_cap Samples = 1
+least_cap Bytes = MIN_BYTE_RING
+
+abbrev pub most_cap : RingKind → ℕ
+most_cap Samples = MAX_SAMPLE_RING
+most_cap Bytes = MAX_BYTE_RING
+
+abbrev pub cap_in : RingKind → Data → Option ℕ
+cap_in kind d = number_in (least_cap kind) (most_cap kind) d
+
+abbrev pub caps_in : RingKind → ℕ → Items → Option (List ℕ)
+caps_in kind channels ds = read_items (cap_in kind) (λ n. n == channels) ds
+
+-- the kind of ring that a word names
+abbrev pub ring_named : List ℕ → Option RingKind
+ring_named word =
+    if bytes_eq word (codes "samples") then Some Samples
+    else (if bytes_eq word (codes "bytes") then Some Bytes else None)
+
+abbrev pub ring_in : Data → Option RingKind
+ring_in d = option_and_then ring_named (as_str d)
+
+-- the value of `ring`: a ring of samples where the key is absent
+abbrev pub ring_value : Option Data → Option RingKind
+ring_value None = Some Samples
+ring_value (Some d) = ring_in d
 
 -- the value of `drain`: true where the key is absent
 abbrev pub drain_value : Option Data → Option Bool
@@ -71,8 +100,12 @@ channels_of ms = at_key (number_in 1 MAX_CHANNELS) (codes "channels") ms
 abbrev pub image_len_of : Members → Option ℕ
 image_len_of ms = at_key (number_in 1 MAX_IMAGE_LEN) (codes "image_len") ms
 
-abbrev pub caps_of : ℕ → Members → Option (List ℕ)
-caps_of channels ms = option_and_then (caps_in channels) (at_key as_array (codes "caps") ms)
+abbrev pub ring_of : Members → Option RingKind
+ring_of ms = ring_value (get_member (codes "ring") ms)
+
+abbrev pub caps_of : RingKind → ℕ → Members → Option (List ℕ)
+caps_of kind channels ms =
+    option_and_then (caps_in kind channels) (at_key as_array (codes "caps") ms)
 
 -- the strings of an array, if they aren't too many
 abbrev pub texts_at : ℕ → List ℕ → Members → Option (List (List ℕ))
@@ -91,6 +124,7 @@ drain_of ms = drain_value (get_member (codes "drain") ms)
 pub record KeyValues : Type 0 where
   pub channels : ℕ
   pub image_len : ℕ
+  pub ring : RingKind
   pub caps : List ℕ
   pub setup : List (List ℕ)
   pub steps : List (List ℕ)
@@ -101,7 +135,8 @@ pub record AreKeyValues (ms : Members) (v : KeyValues) : Type 0 where
   pub known : are_keys ms ≡ true
   pub channels_is : channels_of ms ≡ Some v.channels
   pub image_len_is : image_len_of ms ≡ Some v.image_len
-  pub caps_are : caps_of v.channels ms ≡ Some v.caps
+  pub ring_is : ring_of ms ≡ Some v.ring
+  pub caps_are : caps_of v.ring v.channels ms ≡ Some v.caps
   pub setup_is : setup_of ms ≡ Some v.setup
   pub steps_are : steps_of ms ≡ Some v.steps
   pub drain_is : drain_of ms ≡ Some v.drain

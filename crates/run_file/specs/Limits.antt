@@ -1,14 +1,15 @@
 -- The limits that every run keeps (own).
 use Rattle.std.specs.Prelude.{◌≡◌, ◌<◌, ◌≤◌, ◌^◌, ℕ, All, length, ⊤}
 use Rattle.xcp_base.specs.declared.limits.TheConstants.{MAX_CHANNELS, MAX_IMAGE_LEN}
-use Rattle.xcp_base.specs.declared.limits.TheConstants.{MAX_SAMPLE_RING}
 use Rattle.run_file.specs.declared.limits.TheConstants.{MAX_COMMAND_LEN, MAX_PACKETS, MAX_STEPS}
+use Rattle.run_file.specs.declared.ring_kind.RingKind.{RingKind}
+use Rattle.run_file.specs.Keys.{least_cap, most_cap}
 use Rattle.run_file.specs.RunFile.{RunData}
 use Rattle.run_file.specs.Steps.{StepData, trigger, start, stop, pump}
 
--- a capacity that a ring of samples can have
-abbrev pub IsCap : ℕ → Type 0
-IsCap cap = (1 ≤ cap) × (cap ≤ MAX_SAMPLE_RING)
+-- a capacity that such a ring can have
+abbrev pub IsCap : RingKind → ℕ → Type 0
+IsCap kind cap = (least_cap kind ≤ cap) × (cap ≤ most_cap kind)
 
 -- the step is of one of these event channels; its stamp has 32 bits, its image a byte, its list 8
 -- bits
@@ -25,7 +26,7 @@ pub record HasLimits (run : RunData) : Type 0 where
   pub some_byte : 1 ≤ run.image_len
   pub image_len : run.image_len ≤ MAX_IMAGE_LEN
   pub one_cap_each : length run.caps ≡ run.channels
-  pub caps : All IsCap run.caps
+  pub caps : All (IsCap run.ring) run.caps
   pub packets : length run.setup ≤ MAX_PACKETS
   pub each_packet : All (λ packet. length packet ≤ MAX_COMMAND_LEN) run.setup
   pub steps : length run.steps ≤ MAX_STEPS

@@ -4,6 +4,7 @@ use Rattle.hex.specs.Hex.{decode_of}
 use Rattle.toml.specs.Data.{Members}
 use Rattle.toml.specs.Parse.{parse_document}
 use Rattle.run_file.specs.declared.limits.TheConstants.{MAX_COMMAND_LEN}
+use Rattle.run_file.specs.declared.ring_kind.RingKind.{RingKind}
 use Rattle.run_file.specs.Keys.{AreKeyValues, HasBadKey, KeyValues}
 use Rattle.run_file.specs.Reading.{AreTextsOf, IsFirstBad}
 use Rattle.run_file.specs.Steps.{IsStepText, StepData}
@@ -17,15 +18,18 @@ pub record IsPacketText (text packet : List ℕ) : Type 0 where
 pub record RunData : Type 0 where
   pub channels : ℕ
   pub image_len : ℕ
+  pub ring : RingKind
   pub caps : List ℕ
   pub setup : List (List ℕ)
   pub steps : List StepData
   pub drain : Bool
 
-abbrev pub run_of : ℕ → ℕ → List ℕ → List (List ℕ) → List StepData → Bool → RunData
-run_of channels image_len caps setup steps drain = record {
+abbrev pub run_of :
+    ℕ → ℕ → RingKind → List ℕ → List (List ℕ) → List StepData → Bool → RunData
+run_of channels image_len ring caps setup steps drain = record {
   channels = channels;
   image_len = image_len;
+  ring = ring;
   caps = caps;
   setup = setup;
   steps = steps;
@@ -44,6 +48,7 @@ pub record IsRunText (text : List ℕ) (run : RunData) : Type 0 where
   pub document : IsDocumentOf text values
   pub channels_is : run.channels ≡ values.channels
   pub image_len_is : run.image_len ≡ values.image_len
+  pub ring_is : run.ring ≡ values.ring
   pub caps_are : run.caps ≡ values.caps
   pub drain_is : run.drain ≡ values.drain
   pub setup_is : AreTextsOf IsPacketText values.setup run.setup

@@ -3,13 +3,14 @@ ghost use Rattle.std.specs.Prelude.{◌≡◌, ◌≤◌, IfOk, IfSome, MatchBoo
 ghost use Rattle.std.specs.Prelude.{vec_items};
 ghost use Rattle.toml.specs.Data.{as_array, as_str};
 ghost use Rattle.toml.specs.View.{items_view, table_view, view};
-ghost use Rattle.run_file.specs.Keys.{all_of, are_keys, at_key, caps_in, drain_of, is_among, keys};
-ghost use Rattle.run_file.specs.Keys.{number_in, texts_at, texts_in};
+ghost use Rattle.run_file.specs.Keys.{all_of, are_keys, at_key, cap_in, caps_in, drain_of, is_among};
+ghost use Rattle.run_file.specs.Keys.{keys, number_in, ring_in, ring_named, ring_of, texts_at};
+ghost use Rattle.run_file.specs.Keys.{texts_in};
 ghost use Rattle.run_file.specs.Inner.{text_in};
 
+use crate::ring_kind::RingKind;
 use std::alloc::{AllocError, Global};
 use toml::{Table, Value};
-use xcp_base::limits::MAX_SAMPLE_RING;
 
 /// Whether each key of a table is one of a run file.
 pub fn are_keys(table: &Table) -> bool
@@ -28,6 +29,7 @@ fn is_key(word: &str) -> bool
         || word == "setup"
         || word == "steps"
         || word == "drain"
+        || word == "ring"
 }
 
 /// The integer of a key, if it is within bounds.
@@ -119,13 +121,14 @@ fn are_strings(values: &[Value]) -> bool
 /// The capacities, if there is one for each event channel and each is within bounds.
 pub fn caps_in(
     alloc: Global,
+    kind: RingKind,
     channels: usize,
     values: &[Value],
 ) -> Result<Option<Vec<usize>>, AllocError>
     ensures { IfOk result (λ caps.
-        option_map vec_items caps ≡ caps_in channels (items_view values.now)) }
+        option_map vec_items caps ≡ caps_in kind channels (items_view values.now)) }
 {
-    let Some(caps) = numbers_in(alloc, values)? else {
+    let Some(caps) = numbers_in(alloc, kind, values)? else {
         return Ok(None);
     };
     if caps.len() == channels {
@@ -136,13 +139,17 @@ pub fn caps_in(
 }
 
 /// The capacities, if each is within bounds.
-fn numbers_in(alloc: Global, values: &[Value]) -> Result<Option<Vec<usize>>, AllocError>
+fn numbers_in(
+    alloc: Global,
+    kind: RingKind,
+    values: &[Value],
+) -> Result<Option<Vec<usize>>, AllocError>
     ensures { IfOk result (λ caps. option_map vec_items caps
-        ≡ all_of (number_in 1 MAX_SAMPLE_RING) (items_view values.now)) }
+        ≡ all_of (cap_in kind) (items_view values.now)) }
 {
     let mut caps = Vec::with_capacity(alloc, values.len())?;
     for value in values {
-        let Some(cap) = number_in(value, 1, MAX_SAMPLE_RING) else {
+        let Some(cap) = number_in(value, kind.least_cap(), kind.most_cap()) else {
             return Ok(None);
         };
         let Ok(()) = caps.push(cap) else {
@@ -160,4 +167,37 @@ pub fn drain_of(table: &Table) -> Option<bool>
         Some(value) => value.as_bool(),
         None => Some(true),
     }
+}
+
+/// The kind of ring that `ring` names; that of samples where the key is absent.
+pub fn ring_of(table: &Table) -> Option<RingKind>
+    ensures { result ≡ ring_of (table_view table.now) }
+{
+    match table.get("ring") {
+        Some(value) => ring_in(value),
+        None => Some(RingKind::Samples),
+    }
+}
+
+/// The kind of ring that a value names.
+fn ring_in(value: &Value) -> Option<RingKind>
+    ensures { result ≡ ring_in (view value.now) }
+{
+    match value.as_str() {
+        Some(word) => ring_named(word),
+        None => None,
+    }
+}
+
+/// The kind of ring that a word names.
+fn ring_named(word: &str) -> Option<RingKind>
+    ensures { result ≡ ring_named word.now }
+{
+    if word == "samples" {
+        return Some(RingKind::Samples);
+    }
+    if word == "bytes" {
+        return Some(RingKind::Bytes);
+    }
+    None
 }

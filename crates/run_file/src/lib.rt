@@ -5,6 +5,7 @@ mod kept;
 mod keys;
 pub mod laws;
 pub mod limits;
+mod ring_kind;
 mod run;
 mod run_fault;
 mod step;
@@ -14,6 +15,7 @@ mod texts;
 mod values;
 mod wording;
 
+pub use ring_kind::RingKind;
 pub use run::Run;
 pub use run_fault::RunFault;
 pub use step::Step;

@@ -7,6 +7,7 @@ ghost use Rattle.run_file.specs.Lent.{step_data};
 ghost use Rattle.run_file.specs.Limits.{HasLimits};
 ghost use Rattle.run_file.specs.RunFile.{HasBadKeyText, HasBadSetup, HasBadStep, IsRunText};
 
+use crate::ring_kind::RingKind;
 use crate::run_fault::RunFault;
 use crate::step::Step;
 use crate::step_list::StepList;
@@ -16,13 +17,14 @@ use std::alloc::Global;
 use std::marker::Model;
 use toml::Table;
 
-/// A run, as a file tells it: the event channels, the length of the images and the capacities of
-/// the rings, the command packets of the set-up, the steps, and whether the rings are drained at
+/// A run, as a file tells it: the event channels, the length of the images, the kind and the
+/// capacities of the rings, the command packets of the set-up, the steps, and whether the rings are drained at
 /// the end. It comes from a text alone, and so keeps all limits of a run file.
 #[derive(Drop)]
 pub struct Run {
     channels: u16,
     image_len: usize,
+    ring: RingKind,
     caps: Vec<usize>,
     setup: Vec<Vec<u8>>,
     steps: StepList,
@@ -36,11 +38,11 @@ impl Model for Run {
 
     ghost Value = { RunData };
 
-    ghost view = { λ r.
-        run_of r.channels r.image_len r.caps.items (map vec_items r.setup.items) r.steps r.drain };
+    ghost view = { λ r. run_of
+        r.channels r.image_len r.ring r.caps.items (map vec_items r.setup.items) r.steps r.drain };
 
     ghost invariant = { λ r. HasLimits (run_of
-        r.channels r.image_len r.caps.items (map vec_items r.setup.items) r.steps r.drain) };
+        r.channels r.image_len r.ring r.caps.items (map vec_items r.setup.items) r.steps r.drain) };
 }
 
 impl Run {
@@ -65,6 +67,7 @@ impl Run {
         Ok(Run {
             channels: values.channels,
             image_len: values.image_len,
+            ring: values.ring,
             caps: values.caps,
             setup,
             steps,
@@ -88,7 +91,15 @@ impl Run {
         self.image_len
     }
 
-    /// The capacity of the ring of each event channel, in items.
+    /// The kind of the rings.
+    pub fn ring(&self) -> RingKind
+        ensures value { result ≡ self.now.ring }
+        ensures limits { HasLimits self.now }
+    {
+        self.ring
+    }
+
+    /// The capacity of the ring of each event channel, in its units.
     pub fn caps(&self) -> &[usize]
         ensures value { result.now ≡ self.now.caps }
         ensures limits { HasLimits self.now }

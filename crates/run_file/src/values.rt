@@ -5,8 +5,9 @@ ghost use Rattle.run_file.specs.Keys.{AreKeyValues, HasBadKey};
 ghost use Rattle.xcp_base.specs.declared.limits.TheConstants.{MAX_CHANNELS};
 ghost use Rattle.run_file.specs.Inner.{values_data};
 
-use crate::keys::{are_keys, array_at, caps_in, drain_of, number_at, texts_at};
+use crate::keys::{are_keys, array_at, caps_in, drain_of, number_at, ring_of, texts_at};
 use crate::limits::{MAX_PACKETS, MAX_STEPS};
+use crate::ring_kind::RingKind;
 use crate::run_fault::RunFault;
 use std::alloc::Global;
 use toml::{Table, Value};
@@ -18,6 +19,7 @@ use xcp_base::limits::{MAX_CHANNELS, MAX_IMAGE_LEN};
 pub struct Values<'a> {
     pub(crate) channels: u16,
     pub(crate) image_len: usize,
+    pub(crate) ring: RingKind,
     pub(crate) caps: Vec<usize>,
     pub(crate) setup: &'a [Value],
     pub(crate) steps: &'a [Value],
@@ -50,10 +52,13 @@ pub fn values_of<'a>(alloc: Global, table: &'a Table) -> Result<Values<'a>, RunF
     let Some(steps) = texts_at(table, "steps", MAX_STEPS) else {
         return Err(RunFault::BadKey);
     };
+    let Some(ring) = ring_of(table) else {
+        return Err(RunFault::BadKey);
+    };
     let Some(numbers) = array_at(table, "caps") else {
         return Err(RunFault::BadKey);
     };
-    let Ok(read) = caps_in(alloc, channels, numbers) else {
+    let Ok(read) = caps_in(alloc, ring, channels, numbers) else {
         return Err(RunFault::Memory);
     };
     let Some(caps) = read else {
@@ -62,6 +67,7 @@ pub fn values_of<'a>(alloc: Global, table: &'a Table) -> Result<Values<'a>, RunF
     Ok(Values {
         channels: channels as u16,
         image_len,
+        ring,
         caps,
         setup,
         steps,

@@ -12,7 +12,7 @@ struct Refused<'a> {
     fault: RunFault,
 }
 
-const REFUSED: [Refused; 54] = [
+const REFUSED: [Refused; 62] = [
     Refused {
         name: "a key without a value",
         parts: &[
@@ -67,7 +67,67 @@ const REFUSED: [Refused; 54] = [
     },
     Refused {
         name: "a key that isn't one of a run file",
-        parts: &[ONE_CHANNEL, NO_SETUP, NO_STEPS, "ring = \"samples\"\n"],
+        parts: &[ONE_CHANNEL, NO_SETUP, NO_STEPS, "rings = \"samples\"\n"],
+        fault: RunFault::BadKey,
+    },
+    Refused {
+        name: "a ring of a kind that there isn't",
+        parts: &[ONE_CHANNEL, NO_SETUP, NO_STEPS, "ring = \"Bytes\"\n"],
+        fault: RunFault::BadKey,
+    },
+    Refused {
+        name: "a ring that is no string",
+        parts: &[ONE_CHANNEL, NO_SETUP, NO_STEPS, "ring = 1\n"],
+        fault: RunFault::BadKey,
+    },
+    Refused {
+        name: "a ring of bytes of four bytes",
+        parts: &[ONE_CHANNEL, NO_SETUP, NO_STEPS, "ring = \"bytes\"\n"],
+        fault: RunFault::BadKey,
+    },
+    Refused {
+        name: "a ring of bytes of 531",
+        parts: &[
+            "channels = 1\nimage_len = 2\ncaps = [531]\nring = \"bytes\"\n",
+            NO_SETUP,
+            NO_STEPS,
+        ],
+        fault: RunFault::BadKey,
+    },
+    Refused {
+        name: "a ring of bytes of 65537",
+        parts: &[
+            "channels = 1\nimage_len = 2\ncaps = [65537]\nring = \"bytes\"\n",
+            NO_SETUP,
+            NO_STEPS,
+        ],
+        fault: RunFault::BadKey,
+    },
+    Refused {
+        name: "a ring of samples of 1025",
+        parts: &[
+            "channels = 1\nimage_len = 2\ncaps = [1025]\nring = \"samples\"\n",
+            NO_SETUP,
+            NO_STEPS,
+        ],
+        fault: RunFault::BadKey,
+    },
+    Refused {
+        name: "a ring of samples of 532 and 65536 bytes",
+        parts: &[
+            "channels = 2\nimage_len = 2\ncaps = [532, 65536]\n",
+            NO_SETUP,
+            NO_STEPS,
+        ],
+        fault: RunFault::BadKey,
+    },
+    Refused {
+        name: "one ring of bytes that is too small",
+        parts: &[
+            "channels = 2\nimage_len = 2\ncaps = [532, 8]\nring = \"bytes\"\n",
+            NO_SETUP,
+            NO_STEPS,
+        ],
         fault: RunFault::BadKey,
     },
     Refused {

@@ -1,7 +1,7 @@
 //! Texts that are run files, and what a run shows of them.
 use crate::same::same;
 use crate::text::{BYTES_31, BYTES_32, NO_STEPS, ONE_CHANNEL, ONE_LIST, TWO_TRIGGERS, joined};
-use run_file::{Run, Step};
+use run_file::{RingKind, Run, Step};
 use std::process::Abort;
 use std::test::Fail;
 
@@ -12,6 +12,7 @@ struct Accepted<'a> {
     parts: &'a [&'a str],
     channels: u16,
     image_len: usize,
+    ring: RingKind,
     caps: &'a [usize],
     setup: &'a [&'a [u8]],
     steps: &'a [Step<'a>],
@@ -30,12 +31,13 @@ const SETUP: &[&[u8]] = &[
     &[0xDE, 1, 0, 0],
 ];
 
-const ACCEPTED: [Accepted; 5] = [
+const ACCEPTED: [Accepted; 7] = [
     Accepted {
         name: "two triggers of one list",
         parts: &[ONE_CHANNEL, ONE_LIST, TWO_TRIGGERS],
         channels: 1,
         image_len: 2,
+        ring: RingKind::Samples,
         caps: &[4],
         setup: SETUP,
         steps: &[
@@ -57,6 +59,7 @@ const ACCEPTED: [Accepted; 5] = [
         parts: &[ONE_CHANNEL, ONE_LIST, NO_STEPS],
         channels: 1,
         image_len: 2,
+        ring: RingKind::Samples,
         caps: &[4],
         setup: SETUP,
         steps: &[],
@@ -71,6 +74,7 @@ const ACCEPTED: [Accepted; 5] = [
         ],
         channels: 8,
         image_len: 4096,
+        ring: RingKind::Samples,
         caps: &[1, 2, 3, 4, 5, 6, 7, 1024],
         setup: &[],
         steps: &[
@@ -104,10 +108,36 @@ const ACCEPTED: [Accepted; 5] = [
         ],
         channels: 1,
         image_len: 1,
+        ring: RingKind::Samples,
         caps: &[16],
         setup: &[&[], &[0xDD]],
         steps: &[Step::Pump],
         drain: false,
+    },
+    Accepted {
+        name: "rings of bytes, the smallest and the greatest",
+        parts: &[
+            "channels = 2\nimage_len = 1\nring = 'bytes'\ncaps = [532, 65536]\n",
+            "setup = []\nsteps = []\n",
+        ],
+        channels: 2,
+        image_len: 1,
+        ring: RingKind::Bytes,
+        caps: &[532, 65536],
+        setup: &[],
+        steps: &[],
+        drain: true,
+    },
+    Accepted {
+        name: "a ring of samples, said so",
+        parts: &[ONE_CHANNEL, "ring = \"samples\"\nsetup = []\n", NO_STEPS],
+        channels: 1,
+        image_len: 2,
+        ring: RingKind::Samples,
+        caps: &[4],
+        setup: &[],
+        steps: &[],
+        drain: true,
     },
     Accepted {
         name: "a packet of 255 bytes",
@@ -126,6 +156,7 @@ const ACCEPTED: [Accepted; 5] = [
         ],
         channels: 1,
         image_len: 1,
+        ring: RingKind::Samples,
         caps: &[1],
         setup: &[&[0xD6; 255]],
         steps: &[],
@@ -137,6 +168,7 @@ const ACCEPTED: [Accepted; 5] = [
 fn shows(rt: &impl Abort, run: &Run, row: &Accepted) {
     same(rt, run.channels(), row.channels, row.name, "the channels");
     same(rt, run.image_len(), row.image_len, row.name, "the images");
+    same(rt, run.ring(), row.ring, row.name, "the kind of the rings");
     same(rt, run.caps(), row.caps, row.name, "the capacities");
     same(rt, run.drain(), row.drain, row.name, "the drain");
     same(rt, run.setup().len(), row.setup.len(), row.name, "packets");

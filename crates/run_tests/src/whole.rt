@@ -1,7 +1,8 @@
 //! Whole runs, from the text of a run file to the frames and the account.
 use crate::same::same;
 use crate::text::{
-    NO_STEPS, ONE_CHANNEL, ONE_LIST, ONE_LIST_STOPPED, THREE_LISTS, TWO_TRIGGERS, joined,
+    NO_STEPS, ONE_CHANNEL, ONE_CHANNEL_BYTES, ONE_LIST, ONE_LIST_STOPPED, THREE_LISTS,
+    TWO_TRIGGERS, joined,
 };
 use daq_engine::{ListReport, Report};
 use daq_run::{NoGate, Outcome, SimFault, run_serial, run_threads};
@@ -52,7 +53,21 @@ const WHOLE: [u8; 55] = [
     0xCC, 0xDD,
 ];
 
-const DONE: [Done; 6] = [
+/// The frames of four triggers of each of three lists, with a pump behind those of each.
+const THREE_FRAMES: [u8; 84] = [
+    3, 0, 20, 0, 0, 0x00, 0x5A, 3, 0, 21, 0, 0, 0x01, 0x5A, 3, 0, 22, 0, 1, 0x10, 0x5A, 3, 0, 23,
+    0, 0, 0x02, 0x5A, 3, 0, 24, 0, 1, 0x11, 0x5A, 3, 0, 25, 0, 2, 0x20, 0x5A, 3, 0, 26, 0, 0, 0x03,
+    0x5A, 3, 0, 27, 0, 1, 0x12, 0x5A, 3, 0, 28, 0, 2, 0x21, 0x5A, 3, 0, 29, 0, 1, 0x13, 0x5A, 3, 0,
+    30, 0, 2, 0x22, 0x5A, 3, 0, 31, 0, 2, 0x23, 0x5A,
+];
+
+/// The steps of that.
+const THREE_STEPS: &str = "steps = ['trigger 0 0 005a', 'trigger 0 0 015a', 'trigger 0 0 025a',
+  'trigger 0 0 035a', 'pump', 'trigger 1 0 105a', 'trigger 1 0 115a',
+  'trigger 1 0 125a', 'trigger 1 0 135a', 'pump', 'trigger 2 0 205a',
+  'trigger 2 0 215a', 'trigger 2 0 225a', 'trigger 2 0 235a', 'pump']\n";
+
+const DONE: [Done; 10] = [
     Done {
         name: "two triggers of one list",
         parts: &[ONE_CHANNEL, ONE_LIST, TWO_TRIGGERS],
@@ -110,20 +125,48 @@ const DONE: [Done; 6] = [
         parts: &[
             "channels = 3\nimage_len = 2\ncaps = [8, 8, 8]\n",
             THREE_LISTS,
-            "steps = ['trigger 0 0 005a', 'trigger 0 0 015a', 'trigger 0 0 025a',\n",
-            "  'trigger 0 0 035a', 'pump', 'trigger 1 0 105a', 'trigger 1 0 115a',\n",
-            "  'trigger 1 0 125a', 'trigger 1 0 135a', 'pump', 'trigger 2 0 205a',\n",
-            "  'trigger 2 0 215a', 'trigger 2 0 225a', 'trigger 2 0 235a', 'pump']\n",
+            THREE_STEPS,
         ],
         refused: 0,
         lists: &[[0, 4, 4, 0, 0], [1, 4, 4, 0, 0], [2, 4, 4, 0, 0]],
         replies: &THREE_REPLIES,
-        frames: &[
-            3, 0, 20, 0, 0, 0x00, 0x5A, 3, 0, 21, 0, 0, 0x01, 0x5A, 3, 0, 22, 0, 1, 0x10, 0x5A, 3,
-            0, 23, 0, 0, 0x02, 0x5A, 3, 0, 24, 0, 1, 0x11, 0x5A, 3, 0, 25, 0, 2, 0x20, 0x5A, 3, 0,
-            26, 0, 0, 0x03, 0x5A, 3, 0, 27, 0, 1, 0x12, 0x5A, 3, 0, 28, 0, 2, 0x21, 0x5A, 3, 0, 29,
-            0, 1, 0x13, 0x5A, 3, 0, 30, 0, 2, 0x22, 0x5A, 3, 0, 31, 0, 2, 0x23, 0x5A,
+        frames: &THREE_FRAMES,
+    },
+    Done {
+        name: "two triggers of one list, in bytes",
+        parts: &[ONE_CHANNEL_BYTES, ONE_LIST, TWO_TRIGGERS],
+        refused: 0,
+        lists: &[[0, 2, 2, 0, 0]],
+        replies: &REPLIES,
+        frames: &TWO_FRAMES,
+    },
+    Done {
+        name: "no steps, in bytes",
+        parts: &[ONE_CHANNEL_BYTES, ONE_LIST, NO_STEPS],
+        refused: 0,
+        lists: &[[0, 0, 0, 0, 0]],
+        replies: &REPLIES,
+        frames: &[],
+    },
+    Done {
+        name: "no drain, in bytes",
+        parts: &[ONE_CHANNEL_BYTES, ONE_LIST, TWO_TRIGGERS, "drain = false\n"],
+        refused: 0,
+        lists: &[[0, 2, 0, 0, 2]],
+        replies: &REPLIES,
+        frames: &[],
+    },
+    Done {
+        name: "three event channels, in bytes",
+        parts: &[
+            "channels = 3\nimage_len = 2\nring = 'bytes'\ncaps = [532, 532, 532]\n",
+            THREE_LISTS,
+            THREE_STEPS,
         ],
+        refused: 0,
+        lists: &[[0, 4, 4, 0, 0], [1, 4, 4, 0, 0], [2, 4, 4, 0, 0]],
+        replies: &THREE_REPLIES,
+        frames: &THREE_FRAMES,
     },
 ];
 
@@ -185,8 +228,13 @@ fn carried_out<R: Threads + Wait + Sync, O: Out>(
     }
 }
 
-/// Both ways to carry out a run: what each is called, and whether it has threads.
-const WAYS: [(&str, bool); 2] = [("in one thread", false), ("in threads", true)];
+/// The ways to carry out a run: what each is called, the rings, and whether it has threads.
+const WAYS: [(&str, &str, bool); 4] = [
+    ("in one thread", ONE_CHANNEL, false),
+    ("in threads", ONE_CHANNEL, true),
+    ("in one thread, in bytes", ONE_CHANNEL_BYTES, false),
+    ("in threads, in bytes", ONE_CHANNEL_BYTES, true),
+];
 
 /// How many samples a run of two triggers writes whose writer takes so many bytes and then fails;
 /// or its fault.
@@ -221,12 +269,12 @@ fn left_by(outcome: &Result<Outcome<FuseOut>, (SimFault, FuseOut)>) -> (&[u8], b
 fn fails_at_each_byte<R: Threads + Wait + Sync + Abort>(
     rt: &R,
     alloc: Global,
-    run: &Run,
-    way: (&str, bool),
+    way: (&str, &str, bool),
 ) -> Result<(), Fail> {
-    let (name, threads) = way;
+    let (name, rings, threads) = way;
+    let run = Run::read(alloc, &joined(alloc, &[rings, ONE_LIST, TWO_TRIGGERS])?)?;
     for good in 0..=55 {
-        let outcome = carried_out(rt, alloc, run, FuseOut::new(alloc, 64, good), threads);
+        let outcome = carried_out(rt, alloc, &run, FuseOut::new(alloc, 64, good), threads);
         let shown = (came_to(&outcome), left_by(&outcome));
         let Some(bytes) = WHOLE.get(..good) else {
             return Err(Fail::from("more bytes than there are"));
@@ -239,19 +287,17 @@ fn fails_at_each_byte<R: Threads + Wait + Sync + Abort>(
 
 #[test]
 fn a_run_stops_at_whichever_byte_the_writer_fails(rt: HostRuntime) -> Result<(), Fail> {
-    let text = joined(rt.alloc(), &[ONE_CHANNEL, ONE_LIST, TWO_TRIGGERS])?;
-    let run = Run::read(rt.alloc(), &text)?;
     for way in WAYS {
-        fails_at_each_byte(&rt, rt.alloc(), &run, way)?;
+        fails_at_each_byte(&rt, rt.alloc(), way)?;
     }
     Ok(())
 }
 
 #[test]
 fn nothing_runs_after_a_set_up_without_a_start(rt: HostRuntime) -> Result<(), Fail> {
-    let text = joined(rt.alloc(), &[ONE_CHANNEL, ONE_LIST_STOPPED, TWO_TRIGGERS])?;
-    let run = Run::read(rt.alloc(), &text)?;
-    for (name, threads) in WAYS {
+    for (name, rings, threads) in WAYS {
+        let text = joined(rt.alloc(), &[rings, ONE_LIST_STOPPED, TWO_TRIGGERS])?;
+        let run = Run::read(rt.alloc(), &text)?;
         let out = VecOut::new(rt.alloc());
         let Err((fault, out)) = carried_out(&rt, rt.alloc(), &run, out, threads) else {
             return Err(Fail::from("it ran"));

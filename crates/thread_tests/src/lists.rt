@@ -1,10 +1,14 @@
 //! What threads leave as it is: the account, and the packets of each DAQ list.
 use crate::same::same;
-use crate::text::{THREE_CHANNELS, THREE_LISTS, run_of};
+use crate::text::{THREE_CHANNELS, THREE_LISTS, THREE_RINGS_OF_BYTES, run_of};
 use daq_engine::ListReport;
-use daq_run::{NoGate, run_serial, run_threads};
+use daq_run::{NoGate, Outcome, run_serial, run_threads};
 use frame_writer::{VecOut, next_frame};
+use std::alloc::Global;
+use std::process::Abort;
+use std::sync::Wait;
 use std::test::Fail;
+use std::thread::Threads;
 
 /// Four triggers of each of three event channels, whose images tell the channel and the trigger.
 const FOUR_EACH: &str = "steps = ['trigger 0 0 005a', 'trigger 1 0 105a', 'trigger 2 0 205a',
@@ -54,57 +58,55 @@ fn packet_of(bytes: &[u8], pid: u8, n: usize) -> Option<&[u8]> {
     None
 }
 
-#[test]
-fn each_list_has_its_packets_in_order_as_in_one_thread(rt: HostRuntime) -> Result<(), Fail> {
-    let run = run_of(rt.alloc(), &[THREE_CHANNELS, THREE_LISTS, FOUR_EACH])?;
-    let outcome = match run_threads(&rt, rt.alloc(), &run, VecOut::new(rt.alloc()), &NoGate) {
+/// The account and the packets of three lists, in threads and in one thread.
+fn has_its_packets<R: Threads + Wait + Sync + Abort>(
+    rt: &R,
+    alloc: Global,
+    channels: &str,
+    row: &str,
+) -> Result<(), Fail> {
+    let run = run_of(alloc, &[channels, THREE_LISTS, FOUR_EACH])?;
+    let outcome = match run_threads(rt, alloc, &run, VecOut::new(alloc), &NoGate) {
         Ok(outcome) => outcome,
         Err((fault, _)) => return Err(Fail::from(fault)),
     };
-    let serial = match run_serial(rt.alloc(), &run, VecOut::new(rt.alloc())) {
+    let serial = match run_serial(alloc, &run, VecOut::new(alloc)) {
         Ok(outcome) => outcome,
         Err((fault, _)) => return Err(Fail::from(fault)),
     };
-    let lines: [ListReport; 3] = [line_of(0), line_of(1), line_of(2)];
-    same(&rt, outcome.refused, 0, "threads", "the refused");
-    same(&rt, outcome.report.failed, false, "threads", "the writer");
-    same(
-        &rt,
-        outcome.report.lists.as_slice(),
-        &lines,
-        "threads",
-        "the account",
-    );
+    has_written_all(rt, &outcome, row);
     let apart = outcome.out.bytes();
     let together = serial.out.bytes();
+    same(rt, apart.len(), together.len(), row, "how much is written");
+    let replies = (apart.get(..REPLIES), together.get(..REPLIES));
+    same(rt, replies.0, replies.1, row, "the replies");
+    has_packets(rt, apart, row);
+    has_packets(rt, together, row);
+    Ok(())
+}
+
+/// Compares the account with that of four samples written of each list.
+fn has_written_all(rt: &impl Abort, outcome: &Outcome<VecOut>, row: &str) {
+    let lines: [ListReport; 3] = [line_of(0), line_of(1), line_of(2)];
+    same(rt, outcome.refused, 0, row, "the refused");
+    same(rt, outcome.report.failed, false, row, "the writer");
     same(
-        &rt,
-        apart.len(),
-        together.len(),
-        "threads",
-        "how much is written",
+        rt,
+        outcome.report.lists.as_slice(),
+        &lines,
+        row,
+        "the account",
     );
-    same(
-        &rt,
-        apart.get(..REPLIES),
-        together.get(..REPLIES),
-        "threads",
-        "the replies",
-    );
+}
+
+/// Compares the packets of each list with those that are wanted.
+fn has_packets(rt: &impl Abort, bytes: &[u8], row: &str) {
     for (pid, packets) in (0u8..3).zip(PACKETS) {
         for (n, wanted) in packets.iter().enumerate() {
             let wanted = Some(wanted.as_slice());
-            same(&rt, packet_of(apart, pid, n), wanted, "threads", "a packet");
-            same(
-                &rt,
-                packet_of(together, pid, n),
-                wanted,
-                "one thread",
-                "a packet",
-            );
+            same(rt, packet_of(bytes, pid, n), wanted, row, "a packet");
         }
     }
-    Ok(())
 }
 
 /// The line of a list of which all four samples were written.
@@ -116,4 +118,10 @@ fn line_of(list: u8) -> ListReport {
         dropped: 0,
         left: 0,
     }
+}
+
+#[test]
+fn each_list_has_its_packets_in_order_as_in_one_thread(rt: HostRuntime) -> Result<(), Fail> {
+    has_its_packets(&rt, rt.alloc(), THREE_CHANNELS, "rings of samples")?;
+    has_its_packets(&rt, rt.alloc(), THREE_RINGS_OF_BYTES, "rings of bytes")
 }

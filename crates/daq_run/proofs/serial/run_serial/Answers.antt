@@ -1,46 +1,12 @@
-use Rattle.std.proofs.Common.{ℕ, List, refl, subst}
-use Rattle.channel_ring.specs.contracts.sample_ring.SendHalfSendEnd.TheImpl.{ghosts as send}
-use Rattle.channel_ring.specs.contracts.sample_ring.SendLeftRingEnd.TheImpl.{ghosts as ring}
-use Rattle.frame_writer.specs.Shown.{shown}
-use Rattle.frame_writer.specs.Writing.{WriterState}
-use Rattle.sampler.specs.Past.{Past}
-use Rattle.daq_engine.specs.Closings.{ClosesEngine}
-use Rattle.daq_engine.specs.Engines.{Standing, engine_state}
-use Rattle.daq_steps.specs.Runs.{Done, taken_in}
-use Rattle.daq_steps.proofs.StepLemmas.{stay_still}
-use Rattle.daq_run.proofs.RunLemmas.{as_many, comes_to, stops_at, stops_behind}
+use Rattle.std.proofs.Common.{sym, ◌∙◌}
+use Rattle.run_file.specs.declared.ring_kind.RingKind.TheVariants.{Bytes, Samples}
+use Rattle.daq_run.proofs.SetUpLemmas.{caps_of_kind}
 use Rattle.daq_run.proofs.serial.run_serial.Goals as goal
 
--- what it stands after
-abbrev standing_of : WriterState → (ℕ → Past) → List Done → Standing
-standing_of start past done = record { start = start; past = past; taken = taken_in done }
+-- each capacity is one of a ring of samples
+pub run_over-requires-clause-caps : goal.run_over-requires-clause-caps
+run_over-requires-clause-caps g c = caps_of_kind c.args.run.now Samples c.ring.ensures.limits (sym c.ring.ensures.value ∙ c.in-Samples.is)
 
--- the engine has a sampler for each event channel of the run
-pub do_steps-refused-requires : goal.do_steps-refused-requires
-do_steps-refused-requires g c =
-    let a = engine_state g.O.Out _ c.in_ok-engine.engine in
-    record { channels = as_many send ring refl c.args.run.now (shown g.O.Out c.args.out) a a c.in_ok-engine.ensures.ok (stay_still send ring a.samplers) }
-
--- what `close` says of the engine after its steps
-pub returns-in-Ok-clause-ok : goal.returns-in-Ok-clause-ok
-returns-in-Ok-clause-ok g c =
-    let a = engine_state g.O.Out _ c.in_ok-engine.engine in
-    let b = engine_state g.O.Out _ c.do_steps-refused.new.engine in
-    let opened = c.in_ok-engine.ensures.ok in
-    let done = c.do_steps-refused.ensures.does opened.writer opened.openings opened.stands in
-    comes_to send ring refl c.args.run.now (shown g.O.Out c.args.out) a b opened c.do_steps-refused.ensures.samplers_stay
-    c.do_steps-refused.result done c.in-Ok.report (shown g.O.Out c.in-Ok.out)
-    (subst (λ d. ClosesEngine send d b (standing_of opened.writer done.past done.done) c.in-Ok.report (shown g.O.Out c.in-Ok.out)) c.drain.ensures.value
-    (c.in-Ok.ensures.closed (standing_of opened.writer done.past done.done) done.stands))
-
--- what comes back is the engine after its steps, or its frame writer
-pub returns-in-Err-clause-fault : goal.returns-in-Err-clause-fault
-returns-in-Err-clause-fault g c =
-    let a = engine_state g.O.Out _ c.in_ok-engine.engine in
-    let b = engine_state g.O.Out _ c.do_steps-refused.new.engine in
-    let opened = c.in_ok-engine.ensures.ok in
-    let done = c.do_steps-refused.ensures.does opened.writer opened.openings opened.stands in
-    let after = shown g.O.Out c.given_back.result.1 in
-    stops_at c.args.run.now (shown g.O.Out c.args.out) after c.given_back.result.0 c.given_back.ensures.fault
-    (stops_behind send ring refl c.args.run.now (shown g.O.Out c.args.out) a b opened c.do_steps-refused.ensures.samplers_stay
-    c.do_steps-refused.result done after (c.given_back.ensures.written b c.in-Err.ensures.back))
+-- or of bytes
+pub run_over-requires-in-Bytes-clause-caps : goal.run_over-requires-in-Bytes-clause-caps
+run_over-requires-in-Bytes-clause-caps g c = caps_of_kind c.args.run.now Bytes c.ring.ensures.limits (sym c.ring.ensures.value ∙ c.in-Bytes.is)
