@@ -3,6 +3,8 @@
 #![tactic(auto)]
 
 #[cfg(test)]
+mod byte_rings;
+#[cfg(test)]
 mod first_path;
 #[cfg(test)]
 mod frames;
