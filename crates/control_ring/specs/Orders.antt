@@ -21,4 +21,3 @@ pub record TakeState : Type 0 where
 pub record EndedState : Type 0 where
   pub sent : List Order
   pub ring : RingName
-

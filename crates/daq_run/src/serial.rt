@@ -38,11 +38,7 @@ pub fn run_serial<O: Out>(alloc: Global, run: &Run, out: O) -> Result<Outcome<O>
 }
 
 /// The same over rings of one kind.
-fn run_over<K: Ring, O: Out>(
-    alloc: Global,
-    run: &Run,
-    out: O,
-) -> Result<Outcome<O>, (SimFault, O)>
+fn run_over<K: Ring, O: Out>(alloc: Global, run: &Run, out: O) -> Result<Outcome<O>, (SimFault, O)>
     requires caps { list_all K.is_cap run.now.caps ≡ true }
     requires cost { K.Send.End.cost ≡ cost_in run.now.ring }
     ensures ok { IfOk result (λ outcome. ComesTo run.now (shown O.Out out)
