@@ -1,18 +1,25 @@
 //! What no clause says: that an engine opens, and comes to each refusal.
 use crate::same::same;
 use crate::stores::{WHOLE, WHOLE_OF_1, ready_of};
-use daq_engine::{OpenFault, open};
+use byte_ring::ByteRing;
+use channel_ring::SampleRing;
+use daq_engine::{OpenFault, Ring, open, open_over};
 use daq_store::{Refusal, Store};
 use frame_writer::{FrameWriter, VecOut};
 use std::alloc::Global;
+use std::process::Abort;
 use std::test::Fail;
 
 /// Why an engine isn't opened over the store, and CTR of the next frame of the writer that comes
 /// back, which wrote one.
-fn refusal(rt: &HostRuntime, store: &Store, caps: &[usize]) -> Result<(OpenFault, u16), Fail> {
-    let mut writer = FrameWriter::new(VecOut::new(rt.alloc()));
+fn refusal<R: Ring>(
+    alloc: Global,
+    store: &Store,
+    caps: &[usize],
+) -> Result<(OpenFault, u16), Fail> {
+    let mut writer = FrameWriter::new(VecOut::new(alloc));
     writer.send(&[0xFF])?;
-    match open(rt.alloc(), store, caps, writer) {
+    match open_over::<R, VecOut<Global>>(alloc, store, caps, writer) {
         Ok(_) => Err(Fail::from("opened")),
         Err((fault, writer)) => Ok((fault, writer.next_counter())),
     }
@@ -42,20 +49,39 @@ const REFUSED: [(&str, u8, &[usize], OpenFault); 9] = [
     ("two capacities", 1, &[4, 4], OpenFault::BadCaps),
 ];
 
-#[test]
-fn an_engine_that_is_refused_gives_the_writer_back(rt: HostRuntime) -> Result<(), Fail> {
-    let mut store = ready_of(rt.alloc(), 1, 2, &[WHOLE])?;
-    for (name, mode, caps, fault) in REFUSED {
+/// The same over a ring of bytes.
+const REFUSED_IN_BYTES: [(&str, u8, &[usize], OpenFault); 5] = [
+    ("no capacity", 1, &[], OpenFault::BadCaps),
+    ("531 bytes", 1, &[531], OpenFault::BadCaps),
+    ("65537 bytes", 1, &[65537], OpenFault::BadCaps),
+    ("531 bytes, nothing runs", 0, &[531], OpenFault::BadCaps),
+    (
+        "532 bytes, nothing runs",
+        0,
+        &[532],
+        OpenFault::NothingRunning,
+    ),
+];
+
+/// Compares why engines with rings of one kind aren't opened.
+fn are_refused<R: Ring>(
+    rt: &impl Abort,
+    alloc: Global,
+    rows: &[(&str, u8, &[usize], OpenFault)],
+) -> Result<(), Fail> {
+    let mut store = ready_of(alloc, 1, 2, &[WHOLE])?;
+    for &(name, mode, caps, fault) in rows {
         store.start_stop(mode, 0)?;
-        same(
-            &rt,
-            refusal(&rt, &store, caps)?,
-            (fault, 1),
-            name,
-            "fault, CTR",
-        );
+        let shown = refusal::<R>(alloc, &store, caps)?;
+        same(rt, shown, (fault, 1), name, "fault, CTR");
     }
     Ok(())
+}
+
+#[test]
+fn an_engine_that_is_refused_gives_the_writer_back(rt: HostRuntime) -> Result<(), Fail> {
+    are_refused::<SampleRing>(&rt, rt.alloc(), &REFUSED)?;
+    are_refused::<ByteRing>(&rt, rt.alloc(), &REFUSED_IN_BYTES)
 }
 
 /// A store in which lists 1 and 3 are of event channel 0, and lists 0, 2 and 4 of channel 1; lists

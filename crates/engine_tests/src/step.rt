@@ -1,6 +1,6 @@
 //! The calls of an engine, each with what it answers.
 use crate::same::same;
-use channel_ring::TakeHalf;
+use channel_ring::{Beside, SendEnd};
 use daq_engine::{ChannelFault, Engine};
 use frame_writer::Out;
 use sampler::{StartFault, StopFault, Taken, TriggerFault};
@@ -13,6 +13,8 @@ pub enum Step<'a> {
     /// A trigger of an event channel with an image and a timestamp, and the lists due, accepted and
     /// dropped.
     Trigger(usize, &'a [u8], u32, [u16; 3]),
+    /// So many triggers of event channel 0 at which list 0 is due, and accepted.
+    Accepted(u8, &'a [u8]),
     /// A trigger of event channel 0 that is refused.
     Refused(&'a [u8], TriggerFault),
     /// The start of a list of event channel 0.
@@ -28,14 +30,17 @@ pub enum Step<'a> {
 }
 
 /// A trigger that is taken, whose answer is compared.
-fn trigger<O: Out + Drop>(
+fn trigger<O: Out + Drop, T: Beside>(
     rt: &impl Abort,
-    engine: &mut Engine<O, TakeHalf>,
+    engine: &mut Engine<O, T>,
     (c, image, stamp): (usize, &[u8], u32),
     sets: [u16; 3],
     row: &str,
     at: usize,
-) {
+)
+where
+    T::Send: SendEnd<End = T::End>,
+{
     let taken = Taken {
         due: sets[0],
         accepted: sets[1],
@@ -51,18 +56,24 @@ fn trigger<O: Out + Drop>(
 }
 
 /// Whether a sample is in hand.
-fn has_hand<O: Out + Drop>(engine: &Engine<O, TakeHalf>) -> bool {
+fn has_hand<O: Out + Drop, T: Beside>(engine: &Engine<O, T>) -> bool
+where
+    T::Send: SendEnd<End = T::End>,
+{
     engine.transmitter().hand().is_some()
 }
 
 /// Makes a call, whose answer is compared.
-fn make<O: Out + Drop>(
+fn make<O: Out + Drop, T: Beside>(
     rt: &impl Abort,
-    engine: &mut Engine<O, TakeHalf>,
+    engine: &mut Engine<O, T>,
     step: Step,
     row: &str,
     at: usize,
-) {
+)
+where
+    T::Send: SendEnd<End = T::End>,
+{
     match step {
         Step::Trigger(c, image, stamp, sets) => trigger(
             rt,
@@ -72,6 +83,11 @@ fn make<O: Out + Drop>(
             row,
             at,
         ),
+        Step::Accepted(times, image) => {
+            for _ in 0..times {
+                trigger(rt, engine, (0, image, 0), [1, 1, 0], row, at);
+            }
+        }
         Step::Refused(image, fault) => {
             let shown = engine.trigger(0, image, 0);
             same(
@@ -128,12 +144,15 @@ fn make<O: Out + Drop>(
 }
 
 /// Makes calls, one after another.
-pub fn make_all<O: Out + Drop>(
+pub fn make_all<O: Out + Drop, T: Beside>(
     rt: &impl Abort,
-    engine: &mut Engine<O, TakeHalf>,
+    engine: &mut Engine<O, T>,
     steps: &[Step],
     row: &str,
-) {
+)
+where
+    T::Send: SendEnd<End = T::End>,
+{
     for (at, step) in steps.iter().enumerate() {
         make(rt, engine, *step, row, at);
     }

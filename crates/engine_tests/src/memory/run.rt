@@ -7,7 +7,7 @@ use crate::opened::opened;
 use crate::same::same;
 use crate::step::{Step, make_all};
 use crate::stores::two_lists;
-use channel_ring::{SendLeft, TakeHalf};
+use channel_ring::{SampleRing, SendLeft, TakeHalf};
 use daq_engine::{Engine, finish_all};
 use frame_writer::VecOut;
 use linked_list_allocator::LocalHeap;
@@ -21,7 +21,7 @@ fn engine_over(
     alloc: Global,
     heap: &LocalHeap,
 ) -> Result<Engine<VecOut<&LocalHeap>, TakeHalf>, Fail> {
-    opened(alloc, &two_lists(alloc)?, &[2, 2], VecOut::new(heap))
+    opened::<SampleRing, _>(alloc, &two_lists(alloc)?, &[2, 2], VecOut::new(heap))
 }
 
 /// Room for what is left of two samplers.
