@@ -2,7 +2,7 @@
 use crate::opened::{closed, opened};
 use crate::same::same;
 use crate::step::{Step, make_all};
-use crate::stores::{List, WHOLE, count_of, store_of};
+use crate::stores::{IN_TWO, List, WHOLE, count_of, store_of};
 use byte_ring::ByteRing;
 use channel_ring::SampleRing;
 use daq_engine::{ListReport, Report, Ring};
@@ -35,14 +35,6 @@ type Line = (u8, u64, u64, u64, u64);
 
 /// A writer that takes all.
 const ALL: (usize, usize) = (68, 1_000_000);
-
-/// A list of event channel 0 that has the two bytes of the image in two ODTs.
-const IN_TWO: List = List {
-    channel: 0,
-    mode: 0,
-    prescaler: 1,
-    entries: &[(0, 1), (1, 1)],
-};
 
 /// The same with a timestamp.
 const STAMPED: List = List {

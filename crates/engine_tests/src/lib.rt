@@ -1,11 +1,11 @@
-//! The tests of whole engines, in one thread and in three, and of what refused memory leaves. As a
-//! library this crate is empty.
+//! The tests of whole engines, in one thread and in three, and over writers that fail. As a library
+//! this crate is empty.
 #![tactic(auto)]
 
 #[cfg(test)]
-mod examples;
+mod broken_writers;
 #[cfg(test)]
-mod memory;
+mod examples;
 #[cfg(test)]
 mod opened;
 #[cfg(test)]

@@ -1,10 +1,10 @@
 //! What no clause says: that an engine opens, and comes to each refusal.
 use crate::same::same;
-use crate::stores::{WHOLE, WHOLE_OF_1, ready_of};
+use crate::stores::{WHOLE, ready_of};
 use byte_ring::ByteRing;
 use channel_ring::SampleRing;
-use daq_engine::{OpenFault, Ring, open, open_over};
-use daq_store::{Refusal, Store};
+use daq_engine::{OpenFault, Ring, open_over};
+use daq_store::Store;
 use frame_writer::{FrameWriter, VecOut};
 use std::alloc::Global;
 use std::process::Abort;
@@ -82,46 +82,4 @@ fn are_refused<R: Ring>(
 fn an_engine_that_is_refused_gives_the_writer_back(rt: HostRuntime) -> Result<(), Fail> {
     are_refused::<SampleRing>(&rt, rt.alloc(), &REFUSED)?;
     are_refused::<ByteRing>(&rt, rt.alloc(), &REFUSED_IN_BYTES)
-}
-
-/// A store in which lists 1 and 3 are of event channel 0, and lists 0, 2 and 4 of channel 1; lists
-/// 1 and 2 run, and list 4 isn't ready, since its entry isn't written.
-fn two_channels(alloc: Global) -> Result<Store, Fail> {
-    let lists = [WHOLE_OF_1, WHOLE, WHOLE_OF_1, WHOLE, WHOLE_OF_1];
-    let mut store = ready_of(alloc, 2, 2, &lists)?;
-    start_two(&mut store)?;
-    Ok(store)
-}
-
-/// Takes list 4's entry back, and starts lists 1 and 2.
-fn start_two(store: &mut Store) -> Result<(), Refusal> {
-    store.alloc_odt_entry(4, 0, 1)?;
-    store.start_stop(1, 1)?;
-    store.start_stop(1, 2)?;
-    Ok(())
-}
-
-/// In a run of `rt try --test --fail-alloc N` the Nth allocation fails; the first twelve are those
-/// of the store, and where a later one fails, the store and the writer still serve.
-#[test]
-fn after_a_refused_growth_an_engine_can_be_opened(rt: HostRuntime) -> Result<(), Fail> {
-    let store = two_channels(rt.alloc())?;
-    let writer = FrameWriter::new(VecOut::new(rt.alloc()));
-    let engine = match open(rt.alloc(), &store, &[4, 4], writer) {
-        Err((OpenFault::Memory, writer)) => open(rt.alloc(), &store, &[4, 4], writer),
-        answer => answer,
-    };
-    let (samplers, transmitter) = match engine {
-        Ok(engine) => engine,
-        Err((fault, _)) => return Err(Fail::from(fault)),
-    };
-    let counter = transmitter.into_writer().next_counter();
-    same(
-        &rt,
-        (samplers.len(), counter),
-        (2, 0),
-        "after want of memory",
-        "samplers, and CTR",
-    );
-    Ok(())
 }

@@ -89,7 +89,15 @@ pub const WHOLE: List = List {
     entries: &[(0, 2)],
 };
 
-/// The same of event channel 1.
+/// A list of event channel 0 that has the two bytes of the image in two ODTs.
+pub const IN_TWO: List = List {
+    channel: 0,
+    mode: 0,
+    prescaler: 1,
+    entries: &[(0, 1), (1, 1)],
+};
+
+/// A list of event channel 1 that has the two bytes of the image.
 pub const WHOLE_OF_1: List = List {
     channel: 1,
     mode: 0,

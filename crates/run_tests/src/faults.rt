@@ -12,7 +12,7 @@ struct Refused<'a> {
     fault: RunFault,
 }
 
-const REFUSED: [Refused; 62] = [
+const REFUSED: [Refused; 65] = [
     Refused {
         name: "a key without a value",
         parts: &[
@@ -434,6 +434,21 @@ const REFUSED: [Refused; 62] = [
     Refused {
         name: "a verb that is none",
         parts: &[ONE_CHANNEL, NO_SETUP, "steps = [\"halt 0 0\"]\n"],
+        fault: RunFault::BadStep(0),
+    },
+    Refused {
+        name: "a timestamp of two zeros",
+        parts: &[ONE_CHANNEL, NO_SETUP, "steps = [\"trigger 0 00 aabb\"]\n"],
+        fault: RunFault::BadStep(0),
+    },
+    Refused {
+        name: "a stop of list 256",
+        parts: &[ONE_CHANNEL, NO_SETUP, "steps = [\"stop 0 256\"]\n"],
+        fault: RunFault::BadStep(0),
+    },
+    Refused {
+        name: "two spaces behind a verb",
+        parts: &[ONE_CHANNEL, NO_SETUP, "steps = [\"start  0 0\"]\n"],
         fault: RunFault::BadStep(0),
     },
 ];

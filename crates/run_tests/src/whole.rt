@@ -47,7 +47,7 @@ const THREE_REPLIES: [u8; 103] = [
 const TWO_FRAMES: [u8; 14] = [3, 0, 8, 0, 0, 0xAA, 0xBB, 3, 0, 9, 0, 0, 0xCC, 0xDD];
 
 /// All frames of that run.
-const WHOLE: [u8; 55] = [
+pub const WHOLE: [u8; 55] = [
     1, 0, 0, 0, 0xFF, 1, 0, 1, 0, 0xFF, 1, 0, 2, 0, 0xFF, 1, 0, 3, 0, 0xFF, 1, 0, 4, 0, 0xFF, 1, 0,
     5, 0, 0xFF, 1, 0, 6, 0, 0xFF, 2, 0, 7, 0, 0xFF, 0, 3, 0, 8, 0, 0, 0xAA, 0xBB, 3, 0, 9, 0, 0,
     0xCC, 0xDD,
@@ -238,7 +238,7 @@ const WAYS: [(&str, &str, bool); 4] = [
 
 /// How many samples a run of two triggers writes whose writer takes so many bytes and then fails;
 /// or its fault.
-fn wanted_after(good: usize) -> Result<Option<u64>, SimFault> {
+pub fn wanted_after(good: usize) -> Result<Option<u64>, SimFault> {
     match good {
         0..=40 => Err(SimFault::SetupWrite),
         41..=47 => Ok(Some(0)),
@@ -248,9 +248,7 @@ fn wanted_after(good: usize) -> Result<Option<u64>, SimFault> {
 }
 
 /// How many samples of its first list a run wrote; or its fault.
-fn came_to(
-    outcome: &Result<Outcome<FuseOut>, (SimFault, FuseOut)>,
-) -> Result<Option<u64>, SimFault> {
+pub fn came_to<O>(outcome: &Result<Outcome<O>, (SimFault, O)>) -> Result<Option<u64>, SimFault> {
     match outcome {
         Ok(outcome) => Ok(outcome.report.lists.get(0).map(|line| line.written)),
         Err((fault, _)) => Err(*fault),
