@@ -4,9 +4,10 @@ ghost use Rattle.transmitter.specs.Written.{transmission};
 
 use crate::same::same;
 use crate::stores::one_list;
-use channel_ring::{RingEnd, SendEnd, SendHalf, TakeEnd, TakeHalf};
+use byte_ring::ByteRing;
+use channel_ring::{RingEnd, SampleRing, SendEnd, TakeEnd};
 use control_ring::{ControlEnded, ControlRing, ControlSend, ControlTake, Order};
-use daq_engine::{Report, close, open};
+use daq_engine::{Report, Ring, close, open_over};
 use frame_writer::{FrameWriter, Out, VecOut};
 use sampler::{Polled, Sampler, SamplerEnd};
 use std::alloc::Global;
@@ -199,14 +200,19 @@ fn settle<T: TakeEnd>(
 
 /// Runs a sampler in a thread of its own, and a master's orders beside it, through a control ring of
 /// four places.
-fn orders_come_through(
-    rt: &(impl Threads + Abort),
+fn orders_come_through<R, S, T>(
+    rt: &R,
     alloc: Global,
-    sampler: Sampler<SendHalf>,
-    transmitter: Transmitter<VecOut<Global>, TakeHalf>,
+    sampler: Sampler<S>,
+    transmitter: Transmitter<VecOut<Global>, T>,
 ) -> Result<(), Fail>
-    requires rings { (transmission ⟦<VecOut<Global> as Out>⟧ ⟦<TakeHalf as TakeEnd>⟧ transmitter).rings
-        ≡ ⟦<SendHalf as SendEnd>⟧.ring sampler.end ∷ [] }
+where
+    R: Threads + Abort,
+    S: SendEnd + Send,
+    T: TakeEnd<End = S::End> + Send,
+    S::End: Send,
+    requires rings { (transmission ⟦<VecOut<Global> as Out>⟧ T.TakeEnd transmitter).rings
+        ≡ S.ring sampler.end ∷ [] }
 {
     let (send, take) = ControlRing::new(alloc, 4)?;
     let answered = Vec::with_capacity(alloc, TRIES)?;
@@ -223,15 +229,20 @@ fn orders_come_through(
     settle(rt, alloc, (end, take, answered), (ended, transmitter, sent))
 }
 
-/// The sampler of a store of one event channel, and the transmitter of its ring of four places.
-fn one_of(alloc: Global) -> Result<(Sampler<SendHalf>, Transmitter<VecOut<Global>, TakeHalf>), Fail>
+/// The sampler of a store of one event channel, and the transmitter of its ring, which has `cap`
+/// units.
+fn one_of<K: Ring>(
+    alloc: Global,
+    cap: usize,
+) -> Result<(Sampler<K::Send>, Transmitter<VecOut<Global>, K::Take>), Fail>
     ensures rings { IfOk result (λ r.
-        (transmission ⟦<VecOut<Global> as Out>⟧ ⟦<TakeHalf as TakeEnd>⟧ r.1).rings
-        ≡ ⟦<SendHalf as SendEnd>⟧.ring r.0.end ∷ []) }
+        (transmission ⟦<VecOut<Global> as Out>⟧ K.Take.TakeEnd r.1).rings
+        ≡ K.Send.ring r.0.end ∷ []) }
 {
     let store = one_list(alloc)?;
     let writer = FrameWriter::new(VecOut::new(alloc));
-    let Ok((mut samplers, transmitter)) = open(alloc, &store, &[4], writer) else {
+    let opened = open_over::<K, VecOut<Global>>(alloc, &store, &[cap], writer);
+    let Ok((mut samplers, transmitter)) = opened else {
         return Err(Fail::from("not opened"));
     };
     if samplers.len() != 1 {
@@ -243,6 +254,8 @@ fn one_of(alloc: Global) -> Result<(Sampler<SendHalf>, Transmitter<VecOut<Global
 
 #[test]
 fn the_orders_of_a_master_come_through(rt: HostRuntime) -> Result<(), Fail> {
-    let (sampler, transmitter) = one_of(rt.alloc())?;
+    let (sampler, transmitter) = one_of::<SampleRing>(rt.alloc(), 4)?;
+    orders_come_through(&rt, rt.alloc(), sampler, transmitter)?;
+    let (sampler, transmitter) = one_of::<ByteRing>(rt.alloc(), 532)?;
     orders_come_through(&rt, rt.alloc(), sampler, transmitter)
 }
