@@ -9,8 +9,6 @@ mod first_path;
 #[cfg(test)]
 mod frames;
 #[cfg(test)]
-mod no_end;
-#[cfg(test)]
 mod plans;
 #[cfg(test)]
 mod rings;

@@ -15,12 +15,7 @@ use xcp_base::with_list;
 
 /// The plan of a list of channel 0 for images of two bytes, which stands behind lists of so many
 /// ODTs.
-pub fn plan_of(
-    alloc: Global,
-    before: &[u8],
-    prescaler: u8,
-    entry: (u32, u8),
-) -> Result<CopyPlan, Fail>
+fn plan_of(alloc: Global, before: &[u8], prescaler: u8, entry: (u32, u8)) -> Result<CopyPlan, Fail>
     requires { length before.now < MAX_LISTS }
     ensures plan { IfOk result IsPlan }
     ensures list { IfOk result (λ plan. plan.list ≡ length before.now) }
