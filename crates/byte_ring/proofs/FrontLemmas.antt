@@ -8,9 +8,9 @@ use Rattle.rtrb.specs.Ring.{known_items, received}
 use Rattle.rtrb.specs.declared.consumer.Consumer.{Consumer}
 use Rattle.xcp_base.specs.declared.item.Item.{Item}
 use Rattle.byte_ring.specs.declared.front.Front.{Front}
-use Rattle.byte_ring.specs.Fronts.{IsReady, let_go, part, place_of}
+use Rattle.byte_ring.specs.Fronts.{IsFirst, IsReady, let_go, part, place_of}
 use Rattle.byte_ring.specs.Held.{AreRecords, IsHeld, Place, Pulls, gone}
-use Rattle.byte_ring.specs.Reading.{is_item, items_in}
+use Rattle.byte_ring.specs.Reading.{items_in}
 use Rattle.byte_ring.specs.Records.{IsItem, record_len, record_of, records_of}
 use Rattle.byte_ring.specs.Enough.{units-records}
 use Rattle.channel_ring.specs.Room.{units}
@@ -20,9 +20,6 @@ use Rattle.byte_ring.proofs.RecordLemmas.{few_items, items_in-more, items_in-nil
 
 pub gone-append : (xs ys : List ℕ) → gone (xs ++ ys) ys ≡ xs
 gone-append xs ys = take_at xs ys (length (xs ++ ys) - length ys) (omega (arith, length-append xs ys))
-
-pub gone-all : (xs : List ℕ) → gone xs [] ≡ xs
-gone-all xs = ap (λ (l : List ℕ). gone l []) (sym (append-nil xs)) ∙ gone-append xs []
 
 -- some bytes more were popped, and none was let go
 pub record StillHeld (a b : Place) : Type 0 where
@@ -45,46 +42,42 @@ pulls_keep a b p = ap (λ l. a.held ++ l) p.ahead ∙ sym (append_assoc a.held p
 
 -- ---- an item was let go
 
+-- what is held is the record that stands first, and what is behind it
+first_then : (x : Item) (n : ℕ) (held : List ℕ) → record_of x ≡ take n held → held ≡ record_of x ++ drop n held
+first_then x n held is = sym (take-append-drop n held) ∙ ap (λ l. l ++ drop n held) (sym is)
+
 pub record LetGo (a b : Place) (x : Item) : Type 0 where
   pub received : items_in (gone b.popped b.held) ≡ items_in (gone a.popped a.held) ++ x ∷ []
   pub known : items_in (a.held ++ a.ahead) ≡ x ∷ items_in (b.held ++ b.ahead)
   pub held : IsHeld b.popped b.held
 
--- the record held stands whole among the bytes let go
-all_gone : (a : Place) (x : Item) → IsHeld a.popped a.held → IsItem x → record_of x ≡ a.held → (items_in a.popped ≡ items_in (gone a.popped a.held) ++ x ∷ []) × IsHeld a.popped []
-all_gone a x h item is =
+-- the record that stood first is whole among the bytes let go
+first_gone : (a : Place) (x : Item) (n : ℕ) → IsHeld a.popped a.held → IsItem x → record_of x ≡ take n a.held → (items_in (gone a.popped (drop n a.held)) ≡ items_in (gone a.popped a.held) ++ x ∷ []) × IsHeld a.popped (drop n a.held)
+first_gone a x n h item is =
     let g : List ℕ = gone a.popped a.held in
-    let popped : a.popped ≡ g ++ record_of x = h.last ∙ ap (λ l. g ++ l) (sym is) in
-    let whole : AreRecords a.popped = subst AreRecords (sym popped) (records_of-push g x item h.whole) in (
-      ap items_in popped ∙ items_in-push g x item h.whole,
-      record { last = sym (append-nil a.popped) ∙ ap (λ l. l ++ []) (sym (gone-all a.popped)); whole = subst AreRecords (sym (gone-all a.popped)) whole },
+    let left : List ℕ = drop n a.held in
+    let popped : a.popped ≡ (g ++ record_of x) ++ left = h.last ∙ ap (λ l. g ++ l) (first_then x n a.held is) ∙ sym (append_assoc g (record_of x) left) in
+    let more : gone a.popped left ≡ g ++ record_of x = ap (λ (l : List ℕ). gone l left) popped ∙ gone-append (g ++ record_of x) left in (
+      ap items_in more ∙ items_in-push g x item h.whole,
+      record { last = popped ∙ ap (λ (l : List ℕ). l ++ left) (sym more); whole = subst AreRecords (sym more) (records_of-push g x item h.whole) },
     )
-
-pub an_item_is_let_go : (a b : Place) (x : Item) → IsHeld a.popped a.held → IsItem x → record_of x ≡ a.held → Pulls (let_go a) b → LetGo a b x
-an_item_is_let_go a b x h item is p =
-    let all = all_gone a x h item is in
-    let still = still_held (let_go a) b all.1 p in
-    record {
-      received = ap items_in (still.same ∙ gone-all a.popped) ∙ all.0;
-      known = ap (λ l. items_in (l ++ a.ahead)) (sym is) ∙ items_in-record x a.ahead item ∙ ap (λ l. x ∷ items_in l) (pulls_keep (let_go a) b p);
-      held = still.held;
-    }
 
 -- ---- what is known
 
--- the first item that is known is the one whose record is held
-pub the_first : (x : Item) (held ahead : List ℕ) → IsItem x → record_of x ≡ held → items_in (held ++ ahead) ≡ x ∷ items_in ahead
-the_first x held ahead item is = ap (λ l. items_in (l ++ ahead)) (sym is) ∙ items_in-record x ahead item
+-- the first item that is known is the one whose record stands first among the bytes held
+pub the_first : (x : Item) (n : ℕ) (held ahead : List ℕ) → IsItem x → record_of x ≡ take n held → items_in (held ++ ahead) ≡ x ∷ items_in (drop n held ++ ahead)
+the_first x n held ahead item is =
+    ap (λ l. items_in (l ++ ahead)) (first_then x n held is) ∙ ap items_in (append_assoc (record_of x) (drop n held) ahead) ∙ items_in-record x (drop n held ++ ahead) item
 
--- where no item is known, what is held has none
-pub none_held : (held ahead : List ℕ) → items_in (held ++ ahead) ≡ [] → items_in held ≡ []
-none_held held ahead none =
-    let more = items_in-prefix held ahead in
-    no_items (items_in held) more.0 (sym more.1 ∙ none)
-  where
-    no_items : (xs ys : List Item) → xs ++ ys ≡ [] → xs ≡ []
-    no_items [] ys e = refl
-    no_items (x ∷ xs) ys e = cc
+pub an_item_is_let_go : (a b : Place) (x : Item) (n : ℕ) → IsHeld a.popped a.held → IsItem x → record_of x ≡ take n a.held → Pulls (let_go n a) b → LetGo a b x
+an_item_is_let_go a b x n h item is p =
+    let all = first_gone a x n h item is in
+    let still = still_held (let_go n a) b all.1 p in
+    record {
+      received = ap items_in still.same ∙ all.0;
+      known = the_first x n a.held a.ahead item is ∙ ap (λ l. x ∷ items_in l) (pulls_keep (let_go n a) b p);
+      held = still.held;
+    }
 
 -- ---- how many items are left
 
@@ -128,28 +121,29 @@ holds_nothing popped held e f =
 
 -- ---- whether an item is there
 
-value_by : (b : Bool) (x : Item) (held ahead : List ℕ) → (b ≡ true → is_item x ≡ true) → (b ≡ true → record_of x ≡ held) → (b ≡ false → items_in (held ++ ahead) ≡ []) → IsTrue b ↔ (0 < length (items_in (held ++ ahead)))
-value_by true x held ahead item whole none =
-    let first = the_first x held ahead (test_item x (item refl)) (whole refl) in
-    (λ t. omega (arith, ap length first), λ some. refl)
-value_by false x held ahead item whole none =
+value_by : (b : Bool) (x : Item) (n : ℕ) (held ahead : List ℕ) → (b ≡ true → IsFirst x n held) → (b ≡ false → items_in (held ++ ahead) ≡ []) → IsTrue b ↔ (0 < length (items_in (held ++ ahead)))
+value_by true x n held ahead first none =
+    let f = first refl in
+    let known = the_first x n held ahead (test_item x f.item) f.whole in
+    (λ t. omega (arith, ap length known), λ some. refl)
+value_by false x n held ahead first none =
     (λ t. absurd (false≢true t), λ some. absurd (omega (arith, some, ap length (none refl))))
 
 -- the item is ready exactly where one is known
 pub tells_whether : {A P : Type 0} (c : Consumer ℕ A P) (f : Front) → IsReady c f → IsTrue f.is_whole ↔ (0 < length (items_in (part f ++ take f.ahead (known_items c))))
-tells_whether c f r = value_by f.is_whole f.item (part f) (take f.ahead (known_items c)) r.item r.whole r.none
+tells_whether c f r = value_by f.is_whole f.item f.len (part f) (take f.ahead (known_items c)) r.first r.none
 
 -- where an item is known, it is the one that is ready
 pub record FirstReady {A P : Type 0} (c : Consumer ℕ A P) (f : Front) : Type 0 where
   pub item : IsItem f.item
-  pub whole : record_of f.item ≡ part f
-  pub known : items_in (part f ++ take f.ahead (known_items c)) ≡ f.item ∷ items_in (take f.ahead (known_items c))
+  pub whole : record_of f.item ≡ take f.len (part f)
+  pub known : items_in (part f ++ take f.ahead (known_items c)) ≡ f.item ∷ items_in (drop f.len (part f) ++ take f.ahead (known_items c))
 
 pub first_ready : {A P : Type 0} (c : Consumer ℕ A P) (f : Front) → IsReady c f → 0 < length (items_in (part f ++ take f.ahead (known_items c))) → FirstReady c f
 first_ready c f r some =
-    let is : f.is_whole ≡ true = (tells_whether c f r).1 some in
-    let item = test_item f.item (r.item is) in
-    record { item = item; whole = r.whole is; known = the_first f.item (part f) (take f.ahead (known_items c)) item (r.whole is) }
+    let first = r.first ((tells_whether c f r).1 some) in
+    let item = test_item f.item first.item in
+    record { item = item; whole = first.whole; known = the_first f.item f.len (part f) (take f.ahead (known_items c)) item first.whole }
 
 -- where more bytes are there, no item is lost
 pub known_grows : (n r : ℕ) (held known zs now : List ℕ) → known ++ zs ≡ now → r ≡ length now → IsPrefix (items_in (held ++ take n known)) (items_in (held ++ take r now))
@@ -201,8 +195,7 @@ still_ready c d f r more =
     let same : take f.ahead (known_items d) ≡ take f.ahead (known_items c) = looked_again f.ahead (known_items c) more.0 (known_items d) r.there more.1 in
     record {
       there = omega (arith, r.there, ap length more.1, length-append (known_items c) more.0);
-      item = r.item;
-      whole = r.whole;
+      first = r.first;
       none = λ no_item. ap (λ l. items_in (part f ++ l)) same ∙ r.none no_item;
     }
 

@@ -1,96 +1,47 @@
--- The part of a record that the take end holds.
-use Rattle.std.proofs.Common.{◌≡◌, ℕ, zero, suc, ◌+◌, ◌-◌, ◌*◌, ◌<◌, ◌≤◌, List, [], ◌∷◌, ◌++◌, length, take, drop, get_or, ◌⊎◌, inl, inr, refl, sym, ap, ◌∙◌, subst, append_assoc, append-nil, add-one, arith, length-append, length-drop}
-use Rattle.std.proofs.lemmas.List.{drop-drop, drop_more, length-take-le, take-append-le, drop-append-le, drop_all, get_or_append_left, get_or_at, drop_at}
-use Rattle.std.proofs.lemmas.Bool.{cases_lt, le-ltb}
-use Rattle.std.proofs.lemmas.List.Elements.{All-head, All-tail}
+-- What the take end holds, and the record that stands first in it.
+use Rattle.std.proofs.Common.{◌≡◌, ℕ, suc, ◌+◌, ◌-◌, ◌<◌, ◌≤◌, List, [], ◌∷◌, ◌++◌, length, take, drop, get_or, refl, sym, ap, ◌∙◌, append_assoc, append-nil, add-one, arith, length-append, length-drop}
+use Rattle.std.proofs.lemmas.List.{drop-drop, drop-take, drop_more, length-take-le, take-append-le, drop-append-le, drop_all, get_or_at, drop_at, take_at}
+use Rattle.std.proofs.lemmas.List.Edits.{take-paste}
+use lib.Seq.{paste}
+use Rattle.std.proofs.lemmas.Bool.{le-ltb}
+use Rattle.std.proofs.lemmas.List.Elements.{All-head}
 use Rattle.std.specs.Prelude.{nat_lt, min, slice_index, if◌then◌else◌}
 use Rattle.std.proofs.Math.Seq.{drop-append_seam}
-use mathlib.Core.List.{IsPrefix}
 use borrow.Rule.Slice.PartMut.{put_mid, post_of}
 use Rattle.std.specs.Int.{to_le_bytes, w64}
-use Rattle.xcp_base.specs.Packets.{ArePackets, IsPacket}
 use Rattle.xcp_base.specs.Bodies.{body_of}
 use Rattle.xcp_base.proofs.PacketsLemmas.{length-body_of}
-use Rattle.xcp_base.specs.Samples.{IsSample, MarkParts, SampleParts}
+use Rattle.xcp_base.specs.Samples.{MarkParts, SampleParts}
 use Rattle.xcp_base.specs.declared.item.Item.{Item}
 use Rattle.xcp_base.specs.declared.item.Item.TheVariants.{Sample, Marker}
 use Rattle.byte_ring.specs.Records.{IsItem, record_of, records_of}
 use Rattle.byte_ring.specs.Reading.{items_in}
-use Rattle.byte_ring.specs.Held.{NoneBefore, Place, Pulls, PullsAll, least, least_body, least_record}
-use Rattle.byte_ring.proofs.RecordLemmas.{Reads, eq_test_false, items_in-nil, items_in-record, length-number, lt_test, reads, record_has_three}
+use Rattle.byte_ring.specs.Held.{Place, Pulls, least, least_body, least_record}
+use Rattle.byte_ring.proofs.RecordLemmas.{Reads, eq_test_false, items_in-record, length-number, lt_test, reads}
 
--- ---- the least body
+-- ---- the length of a record
 
--- n packets have two bytes each at least
-two_each : (n : ℕ) → least_body n [] ≡ 2 * n
-unfolding least_body
-two_each zero = refl
-two_each (suc n) = omega (arith, two_each n)
-
--- bytes that begin a list are its front, and what is behind them is its rest
-record Cut (bytes more q tail : List ℕ) : Type 0 where
-  pub rest : List ℕ
-  pub is : drop (length q) bytes ++ rest ≡ tail
-
-cut : (bytes more q tail : List ℕ) → bytes ++ more ≡ q ++ tail → Cut bytes more q tail
-cut bytes more [] tail e = record { rest = more; is = e }
-cut [] more (b ∷ q) tail e = record { rest = tail; is = refl }
-cut (a ∷ bytes) more (b ∷ q) tail e =
-    let tails : bytes ++ more ≡ q ++ tail = cc in
-    let c = cut bytes more q tail tails in
-    record { rest = c.rest; is = c.is }
-
--- a body that begins with these bytes has at least so many
-least_body_below : (qs : List (List ℕ)) (bytes more : List ℕ) → ArePackets qs → bytes ++ more ≡ body_of qs → least_body (length qs) bytes ≤ length (body_of qs)
+-- of a whole body, whatever stands behind it
+least_body_of : (qs : List (List ℕ)) (more : List ℕ) → least_body (length qs) (body_of qs ++ more) ≡ length (body_of qs)
 unfolding least_body body_of
-least_body_below [] bytes more each e = omega arith
-least_body_below (q ∷ qs) [] more each e =
-    let some : 0 < length q = (All-head IsPacket q qs each).some in
-    omega (arith, some, least_body_below qs [] (body_of qs) (All-tail IsPacket q qs each) refl, length-append q (body_of qs))
-least_body_below (q ∷ qs) (len ∷ bytes) more each e =
-    let head : len ≡ length q = cc in
-    let tails : bytes ++ more ≡ q ++ body_of qs = cc in
-    let c = cut bytes more q (body_of qs) tails in
-    let rest : least_body (length qs) (drop (length q) bytes) ≤ length (body_of qs) = least_body_below qs (drop (length q) bytes) c.rest (All-tail IsPacket q qs each) c.is in
-    rw head (omega (arith, rest, length-append q (body_of qs)))
-
-one_more_by : (q n m k : ℕ) → k ≡ n - q → (q ≤ n → k < m) → (n < q) ⊎ (q ≤ n) → suc n < 1 + q + m
-one_more_by q n m k e f (inl less) = omega arith
-one_more_by q n m k e f (inr more) = let g : k < m = f more in omega arith
-
-one_more : (q n m k : ℕ) → k ≡ n - q → (q ≤ n → k < m) → suc n < 1 + q + m
-one_more q n m k e f = one_more_by q n m k e f (cases_lt n q)
-
--- bytes that begin it and are not all of it are fewer
-least_body_above : (qs : List (List ℕ)) (bytes : List ℕ) (b : ℕ) (more : List ℕ) → ArePackets qs → bytes ++ b ∷ more ≡ body_of qs → length bytes < least_body (length qs) bytes
-unfolding least_body body_of
-least_body_above [] [] b more each e = cc
-least_body_above [] (a ∷ bytes) b more each e = cc
-least_body_above (q ∷ qs) [] b more each e = omega arith
-least_body_above (q ∷ qs) (len ∷ bytes) b more each e =
-    let head : len ≡ length q = cc in
-    let tails : bytes ++ b ∷ more ≡ q ++ body_of qs = cc in
-    let short : length q ≤ length bytes → length (drop (length q) bytes) < least_body (length qs) (drop (length q) bytes) = λ long.
-    least_body_above qs (drop (length q) bytes) b more (All-tail IsPacket q qs each)
-    (sym (drop-append-le (length q) bytes (b ∷ more) long) ∙ ap (drop (length q)) tails ∙ drop-append_seam q (body_of qs)) in
-    rw head (one_more (length q) (length bytes) (least_body (length qs) (drop (length q) bytes)) (length (drop (length q) bytes)) (length-drop (length q) bytes) short)
-
--- ---- the least record
+least_body_of [] more = refl
+least_body_of (q ∷ qs) more =
+    let behind : drop (length q) ((q ++ body_of qs) ++ more) ≡ body_of qs ++ more = ap (drop (length q)) (append_assoc q (body_of qs) more) ∙ drop-append_seam q (body_of qs ++ more) in
+    rw behind (omega (arith, least_body_of qs more, length-append q (body_of qs)))
 
 -- the body of a sample's record, behind the number of its packets
-record Behind (bytes more : List ℕ) (k : ℕ) (rest : List ℕ) : Type 0 where
+record Behind (bytes : List ℕ) (k : ℕ) (rest : List ℕ) : Type 0 where
   pub count : slice_index bytes 10 ≡ k
-  pub body : drop 11 bytes ++ more ≡ rest
+  pub body : drop 11 bytes ≡ rest
+  pub long : 11 ≤ length bytes
 
-behind_tag : (c l k : ℕ) (bs body bytes more : List ℕ) → length bs ≡ 8 → bytes ++ more ≡ c ∷ l ∷ (bs ++ k ∷ body) → 11 ≤ length bytes → Behind bytes more k body
-behind_tag c l k bs body bytes more eight is long =
-    let there : 10 < length bytes = omega (arith, long) in
+behind_tag : (c l k : ℕ) (bs rest bytes : List ℕ) → length bs ≡ 8 → bytes ≡ c ∷ l ∷ (bs ++ k ∷ rest) → Behind bytes k rest
+behind_tag c l k bs rest bytes eight is =
     let nine : length (bs ++ k ∷ []) ≡ 9 = omega (arith, eight, length-append bs (k ∷ [])) in
     record {
-      count = sym (get_or_append_left bytes more 0 10 there) ∙ ap (λ (b : List ℕ). get_or b 10 0) is ∙ get_or_at bs k body 0 8 eight;
-      body =
-          sym (drop-append-le 11 bytes more long) ∙ ap (drop 11) is
-          ∙ ap (drop 9) (sym (append_assoc bs (k ∷ []) body)) ∙ drop_at (bs ++ k ∷ []) body 9 nine;
+      count = ap (λ (b : List ℕ). get_or b 10 0) is ∙ get_or_at bs k rest 0 8 eight;
+      body = ap (drop 11) is ∙ ap (drop 9) (sym (append_assoc bs (k ∷ []) rest)) ∙ drop_at (bs ++ k ∷ []) rest 9 nine;
+      long = omega (arith, eight, ap length is, length-append bs (k ∷ rest));
     }
 
 choice_short : (n m k : ℕ) → n < 11 → (if nat_lt n 11 then m else k) ≡ m
@@ -103,13 +54,6 @@ length-sample : (s : SampleParts) → length (record_of (Sample s)) ≡ 12 + len
 unfolding record_of
 length-sample s = omega (arith, length-append (to_le_bytes w64 s.number) (length s.packets ∷ body_of s.packets), length-number s.number)
 
-body_has_two : (qs : List (List ℕ)) → ArePackets qs → 0 < length qs → 2 ≤ length (body_of qs)
-unfolding body_of
-body_has_two [] each some = absurd (omega (arith, some))
-body_has_two (q ∷ qs) each some =
-    let one : 0 < length q = (All-head IsPacket q qs each).some in
-    omega (arith, one, length-append q (body_of qs))
-
 marker_within : (m : MarkParts) → length (record_of (Marker m)) ≤ 532
 unfolding record_of
 marker_within m = omega arith
@@ -119,70 +63,47 @@ pub record_within : (x : Item) → IsItem x → length (record_of x) ≤ 532
 record_within (Sample s) h = omega (arith, length-sample s, length-body_of s.packets h.each, h.limit)
 record_within (Marker m) h = marker_within m
 
-sample_below : (s : SampleParts) (bytes more : List ℕ) → IsSample s → bytes ++ more ≡ s.channel ∷ s.list ∷ (to_le_bytes w64 s.number ++ length s.packets ∷ body_of s.packets) → (length bytes < 11) ⊎ (11 ≤ length bytes) → least_record (1 ∷ bytes) ≤ 12 + length (body_of s.packets)
+sample_least : (s : SampleParts) (bytes more : List ℕ) → bytes ≡ s.channel ∷ s.list ∷ (to_le_bytes w64 s.number ++ length s.packets ∷ (body_of s.packets ++ more)) → least_record (1 ∷ bytes) ≡ 12 + length (body_of s.packets)
 unfolding least_record
-sample_below s bytes more h is (inl few) =
-    rw (choice_short (length bytes) 14 (12 + least_body (slice_index bytes 10) (drop 11 bytes)) few)
-    (omega (arith, body_has_two s.packets h.each h.some))
-sample_below s bytes more h is (inr long) =
-    let b = behind_tag s.channel s.list (length s.packets) (to_le_bytes w64 s.number) (body_of s.packets) bytes more (length-number s.number) is long in
-    rw (choice_long (length bytes) 14 (12 + least_body (slice_index bytes 10) (drop 11 bytes)) long, b.count)
-    (omega (arith, least_body_below s.packets (drop 11 bytes) more h.each b.body))
+sample_least s bytes more is =
+    let b = behind_tag s.channel s.list (length s.packets) (to_le_bytes w64 s.number) (body_of s.packets ++ more) bytes (length-number s.number) is in
+    rw (choice_long (length bytes) 14 (12 + least_body (slice_index bytes 10) (drop 11 bytes)) b.long, b.count, b.body)
+    (ap (λ n. 12 + n) (least_body_of s.packets more))
 
-sample_above : (s : SampleParts) (bytes : List ℕ) (b : ℕ) (more : List ℕ) → IsSample s → bytes ++ b ∷ more ≡ s.channel ∷ s.list ∷ (to_le_bytes w64 s.number ++ length s.packets ∷ body_of s.packets) → (length bytes < 11) ⊎ (11 ≤ length bytes) → 1 + length bytes < least_record (1 ∷ bytes)
-unfolding least_record
-sample_above s bytes b more h is (inl few) =
-    rw (choice_short (length bytes) 14 (12 + least_body (slice_index bytes 10) (drop 11 bytes)) few) (omega (arith, few))
-sample_above s bytes b more h is (inr long) =
-    let at = behind_tag s.channel s.list (length s.packets) (to_le_bytes w64 s.number) (body_of s.packets) bytes (b ∷ more) (length-number s.number) is long in
-    rw (choice_long (length bytes) 14 (12 + least_body (slice_index bytes 10) (drop 11 bytes)) long, at.count)
-    (omega (arith, least_body_above s.packets (drop 11 bytes) b more h.each at.body, length-drop 11 bytes, long))
-
--- a record that begins with these bytes has at least so many
-pub least_below : (x : Item) (held more : List ℕ) → IsItem x → record_of x ≡ held ++ more → least held ≤ length (record_of x)
+-- of a whole record, whatever stands behind it
+least_of_record : (x : Item) (more : List ℕ) → IsItem x → least (record_of x ++ more) ≡ length (record_of x)
 unfolding record_of least_record
-least_below x [] more h e = omega (arith, record_has_three x)
-least_below (Sample s) (t ∷ bytes) more h e =
-    let head : t ≡ 1 = cc in
-    let tails : bytes ++ more ≡ s.channel ∷ s.list ∷ (to_le_bytes w64 s.number ++ length s.packets ∷ body_of s.packets) = cc in
-    rw head (omega (arith, sample_below s bytes more h tails (cases_lt (length bytes) 11), length-sample s))
-least_below (Marker m) (t ∷ bytes) more h e =
-    let head : t ≡ 2 = cc in
-    rw head (omega arith)
+least_of_record (Sample s) more h =
+    let bytes : List ℕ = s.channel ∷ s.list ∷ ((to_le_bytes w64 s.number ++ length s.packets ∷ body_of s.packets) ++ more) in
+    let is : bytes ≡ s.channel ∷ s.list ∷ (to_le_bytes w64 s.number ++ length s.packets ∷ (body_of s.packets ++ more)) = ap (λ (l : List ℕ). s.channel ∷ s.list ∷ l) (append_assoc (to_le_bytes w64 s.number) (length s.packets ∷ body_of s.packets) more) in
+    omega (arith, sample_least s bytes more is, length-sample s, record_within (Sample s) h)
+least_of_record (Marker m) more h = refl
 
--- bytes that begin a record and are not all of it are fewer
-pub least_above : (x : Item) (held : List ℕ) (b : ℕ) (more : List ℕ) → IsItem x → record_of x ≡ held ++ b ∷ more → length held < least held
-unfolding record_of least_record
-least_above x [] b more h e = omega arith
-least_above (Sample s) (t ∷ bytes) b more h e =
-    let head : t ≡ 1 = cc in
-    let tails : bytes ++ b ∷ more ≡ s.channel ∷ s.list ∷ (to_le_bytes w64 s.number ++ length s.packets ∷ body_of s.packets) = cc in
-    let whole : length (record_of (Sample s)) ≡ length (t ∷ bytes) + length (b ∷ more) = ap length e ∙ length-append (t ∷ bytes) (b ∷ more) in
-    rw head (omega (arith, sample_above s bytes b more h tails (cases_lt (length bytes) 11), record_within (Sample s) h, whole))
-least_above (Marker m) (t ∷ bytes) b more h e =
-    let head : t ≡ 2 = cc in
-    let whole : 3 ≡ length (t ∷ bytes) + length (b ∷ more) = ap length e ∙ length-append (t ∷ bytes) (b ∷ more) in
-    rw head (omega (arith, whole))
+-- ---- where no item is read off
 
--- ---- pulls
-
-pub pulls_none : (a : Place) → Pulls a a
-pulls_none a = record { got = []; popped = sym (append-nil a.popped); held = sym (append-nil a.held); ahead = refl }
-
-pub pulls_twice : (a b c : Place) → Pulls a b → Pulls b c → Pulls a c
-pulls_twice a b c p q =
-    record {
-      got = p.got ++ q.got;
-      popped = q.popped ∙ ap (λ l. l ++ q.got) p.popped ∙ append_assoc a.popped p.got q.got;
-      held = q.held ∙ ap (λ l. l ++ q.got) p.held ∙ append_assoc a.held p.got q.got;
-      ahead = p.ahead ∙ ap (λ l. p.got ++ l) q.ahead ∙ sym (append_assoc p.got q.got c.ahead);
-    }
-
--- where nothing is read off the bytes, no record ends before they do
-pub none_before_at_rest : (held : List ℕ) → items_in held ≡ [] → NoneBefore held
-none_before_at_rest held none x b more h is =
-    let found : x ∷ items_in (b ∷ more) ≡ [] = sym (items_in-record x (b ∷ more) h) ∙ ap items_in (sym is) ∙ none in
+has_item : (x : Item) (bytes more : List ℕ) → IsItem x → bytes ≡ record_of x ++ more → items_in bytes ≡ [] → ⊥
+has_item x bytes more h is none =
+    let found : x ∷ items_in more ≡ [] = sym (items_in-record x more h) ∙ ap items_in (sym is) ∙ none in
     cc
+
+none_from : (bytes : List ℕ) (xs : List Item) → Reads bytes xs → ((x : Item) (more : List ℕ) → IsItem x → bytes ≡ record_of x ++ more → ⊥) → xs ≡ []
+none_from bytes [] r other = refl
+none_from bytes (x ∷ xs) r other =
+    absurd (other x (records_of xs ++ r.rest) (All-head IsItem x xs r.each) (r.is ∙ append_assoc (record_of x) (records_of xs) r.rest))
+
+no_item : (bytes : List ℕ) → ((x : Item) (more : List ℕ) → IsItem x → bytes ≡ record_of x ++ more → ⊥) → items_in bytes ≡ []
+no_item bytes other = none_from bytes (items_in bytes) (reads bytes) other
+
+-- fewer bytes than the least record that they begin hold no record
+pub too_few : (bytes : List ℕ) → length bytes < least bytes → items_in bytes ≡ []
+too_few bytes few = no_item bytes (λ x more h is.
+    omega (arith, few, ap least is ∙ least_of_record x more h, ap length is, length-append (record_of x) more))
+
+-- where the bytes up to that length are no record, none stands in front
+pub no_record : (bytes : List ℕ) → ((x : Item) → IsItem x → record_of x ≡ take (least bytes) bytes → ⊥) → items_in bytes ≡ []
+no_record bytes other = no_item bytes (λ x more h is.
+    let long : least bytes ≡ length (record_of x) = ap least is ∙ least_of_record x more h in
+    other x h (sym (ap (λ n. take n bytes) long ∙ ap (take (length (record_of x))) is ∙ take_at (record_of x) more (length (record_of x)) refl)))
 
 -- one list begins another, or goes on behind it
 data Order (xs ys : List ℕ) : Type 0 where
@@ -202,41 +123,44 @@ order (a ∷ xs) (b ∷ ys) x y e =
     let tails : xs ++ x ≡ ys ++ y = cc in
     order_then a b xs ys head (order xs ys x y tails)
 
-no_record_within : (x : Item) (held got : List ℕ) (b : ℕ) (more : List ℕ) → IsItem x → NoneBefore held → length held + length got ≤ least held → held ++ got ≡ record_of x ++ b ∷ more → Order held (record_of x) → ⊥
-no_record_within x held got b more h none most is (Front r e) =
-    let below : least held ≤ length (record_of x) = least_below x held r h e in
-    let whole : length (held ++ got) ≡ length (record_of x) + length (b ∷ more) = ap length is ∙ length-append (record_of x) (b ∷ more) in
-    absurd (omega (arith, below, whole, most, length-append held got))
-no_record_within x held got b more h none most is (Over c r e) = none x c r h e
-
--- up to the least record that they begin, bytes hold no record but all of them
-pub none_before_more : (held got : List ℕ) → NoneBefore held → length held + length got ≤ least held → NoneBefore (held ++ got)
-none_before_more held got none most x b more h is =
-    no_record_within x held got b more h none most is (order held (record_of x) got (b ∷ more) is)
-
--- ---- what is found
-
--- where bytes hold no record, and more are known only behind the least that they begin, none is known
-no_front : (x : Item) (held known behind : List ℕ) → IsItem x → NoneBefore held → (length held < least held → known ≡ []) → (record_of x ≡ held → ⊥) → held ++ known ≡ record_of x ++ behind → Order held (record_of x) → ⊥
-no_front x held known behind h none most other is (Front [] e) = other (e ∙ append-nil held)
-no_front x held known behind h none most other is (Front (b ∷ r) e) =
-    let nothing : known ≡ [] = most (least_above x held b r h e) in
-    let whole : length (held ++ known) ≡ length (record_of x) + length behind = ap length is ∙ length-append (record_of x) behind in
+no_front : (x : Item) (held ahead more : List ℕ) → IsItem x → items_in held ≡ [] → (length held < 532 → ahead ≡ []) → held ++ ahead ≡ record_of x ++ more → Order held (record_of x) → ⊥
+no_front x held ahead more h none all is (Front [] e) =
+    has_item x held [] h (sym (append-nil held) ∙ sym e ∙ sym (append-nil (record_of x))) none
+no_front x held ahead more h none all is (Front (b ∷ r) e) =
     let longer : length (record_of x) ≡ length held + length (b ∷ r) = ap length e ∙ length-append held (b ∷ r) in
-    absurd (omega (arith, whole, longer, length-append held known, ap length nothing))
-no_front x held known behind h none most other is (Over b r e) = none x b r h e
+    let nothing : ahead ≡ [] = all (omega (arith, longer, record_within x h)) in
+    absurd (omega (arith, longer, ap length is, length-append held ahead, length-append (record_of x) more, ap length nothing))
+no_front x held ahead more h none all is (Over b r e) = has_item x held (b ∷ r) h e none
 
-none_known : (xs : List Item) (held known : List ℕ) → NoneBefore held → (length held < least held → known ≡ []) → ((x : Item) → IsItem x → record_of x ≡ held → ⊥) → Reads (held ++ known) xs → xs ≡ []
-none_known [] held known none most other r = refl
-none_known (x ∷ xs) held known none most other r =
-    let h : IsItem x = All-head IsItem x xs r.each in
-    let is : held ++ known ≡ record_of x ++ (records_of xs ++ r.rest) = r.is ∙ append_assoc (record_of x) (records_of xs) r.rest in
-    absurd (no_front x held known (records_of xs ++ r.rest) h none most (other x h) is (order held (record_of x) known (records_of xs ++ r.rest) is))
+-- where a longest record has room in what is held, or nothing more is there, no item is known that
+-- isn't held
+pub none_known : (held ahead : List ℕ) → items_in held ≡ [] → (length held < 532 → ahead ≡ []) → items_in (held ++ ahead) ≡ []
+none_known held ahead none all = no_item (held ++ ahead) (λ x more h is.
+    no_front x held ahead more h none all is (order held (record_of x) ahead more is))
 
--- where all was pulled and what is held is no record, no item is known
-pub none_is_known : (a b : Place) → PullsAll a b → ((x : Item) → IsItem x → record_of x ≡ b.held → ⊥) → items_in (b.held ++ b.ahead) ≡ []
-none_is_known a b p other =
-    none_known (items_in (b.held ++ b.ahead)) b.held b.ahead p.none_before p.most other (reads (b.held ++ b.ahead))
+-- ---- pulls
+
+pub pulls_none : (a : Place) → Pulls a a
+pulls_none a = record { got = []; popped = sym (append-nil a.popped); held = sym (append-nil a.held); ahead = refl }
+
+pub pulls_twice : (a b c : Place) → Pulls a b → Pulls b c → Pulls a c
+pulls_twice a b c p q =
+    record {
+      got = p.got ++ q.got;
+      popped = q.popped ∙ ap (λ l. l ++ q.got) p.popped ∙ append_assoc a.popped p.got q.got;
+      held = q.held ∙ ap (λ l. l ++ q.got) p.held ∙ append_assoc a.held p.got q.got;
+      ahead = p.ahead ∙ ap (λ l. p.got ++ l) q.ahead ∙ sym (append_assoc p.got q.got c.ahead);
+    }
+
+-- from an equal place
+pub pulls_same : (a b d : Place) → b.popped ≡ a.popped → b.held ≡ a.held → b.ahead ≡ a.ahead → Pulls b d → Pulls a d
+pulls_same a b d popped held ahead p =
+    record {
+      got = p.got;
+      popped = p.popped ∙ ap (λ l. l ++ p.got) popped;
+      held = p.held ∙ ap (λ l. l ++ p.got) held;
+      ahead = sym ahead ∙ p.ahead;
+    }
 
 -- ---- what the code computes
 
@@ -284,12 +208,7 @@ unfolding least_record
 least-long [] kind long = absurd (omega (arith, long))
 least-long (b ∷ bytes) kind long = rw (kind, choice_long (length bytes) 14 (12 + least_body (get_or bytes 10 0) (drop 11 bytes)) (omega (arith, long))) refl
 
--- some bytes more, up to the least record
-pub pulls_on : (a b c : Place) → Pulls a b → Pulls b c → NoneBefore b.held → length c.held ≤ least b.held → Pulls a c × NoneBefore c.held
-pulls_on a b c p q none most = (
-  pulls_twice a b c p q,
-  subst NoneBefore (sym q.held) (none_before_more b.held q.got none (omega (arith, most, ap length q.held, length-append b.held q.got))),
-)
+-- ---- what is held
 
 take_over : (p r : List ℕ) (n : ℕ) → take (length p + n) (p ++ r) ≡ p ++ take n r
 take_over [] r n = let e : 0 + n ≡ n = omega arith in rw e refl
@@ -305,63 +224,36 @@ take-part a k n xs ys inside few =
     ∙ take_over (take a xs) (ys ++ post_of a k xs) n
     ∙ ap (λ (l : List ℕ). take a xs ++ l) (take-append-le n ys (post_of a k xs) few)
 
--- ---- the first part of a record
+-- some bytes more behind those held, which stand from one place to another
+pub part-longer : (from to k : ℕ) (xs got : List ℕ) → from ≤ to → to ≤ length xs → length got ≡ k → take (to + k - from) (drop from (put_mid to k xs got)) ≡ take (to - from) (drop from xs) ++ got
+part-longer from to k xs got inside there long =
+    let split : from + (to - from) ≡ to = omega (arith, inside) in
+    let front : length (take to xs) ≡ to = length-take-le to xs there in
+    let held : List ℕ = take (to - from) (drop from xs) in
+    let left : drop from (take to xs) ≡ held = ap (λ (m : ℕ). drop from (take m xs)) (sym split) ∙ drop-take from (to - from) xs in
+    let size : length held ≡ to - from = length-take-le (to - from) (drop from xs) (omega (arith, length-drop from xs, there)) in
+    let many : to + k - from ≡ length held + k = omega (arith, size, inside) in
+    ap (take (to + k - from)) (drop-append-le from (take to xs) (got ++ post_of to k xs) (omega (arith, front, inside)) ∙ ap (λ (l : List ℕ). l ++ (got ++ post_of to k xs)) left)
+    ∙ ap (λ (m : ℕ). take m (held ++ (got ++ post_of to k xs))) many
+    ∙ take_over held (got ++ post_of to k xs) k
+    ∙ ap (λ (l : List ℕ). held ++ l) (take_at got (post_of to k xs) k long)
 
-pub least-sample_kind : (kind : ℕ) → kind ≡ 1 → least (kind ∷ []) ≡ 14
-unfolding least_record
-least-sample_kind kind e = rw e refl
+-- moved to the first places
+pub part-moved : (from to : ℕ) (xs : List ℕ) → from ≤ to → to ≤ length xs → take (to - from - 0) (paste xs 0 (drop from xs) (to - from)) ≡ take (to - from) (drop from xs)
+part-moved from to xs inside there =
+    let n : ℕ = to - from in
+    let same : n - 0 ≡ 0 + n = omega arith in
+    ap (λ (k : ℕ). take k (paste xs 0 (drop from xs) n)) same
+    ∙ take-paste xs 0 (drop from xs) n (omega arith) (omega (arith, length-drop from xs, there))
 
-pub least-other_kind : (kind : ℕ) → (kind ≡ 1 → ⊥) → least (kind ∷ []) ≡ 3
-unfolding least_record
-least-other_kind kind other = rw (eq_test_false kind 1 other) refl
-
-none_before_one_byte : (kind : ℕ) → NoneBefore (kind ∷ [])
-none_before_one_byte kind x b more h is =
-    absurd (omega (arith, record_has_three x, ap length is, length-append (record_of x) (b ∷ more)))
-
-pub nothing_there : (a b : Place) → Pulls a b → b.held ≡ [] → b.ahead ≡ [] → PullsAll a b
-nothing_there a b p held none =
-    record { pulls = p; none_before = subst NoneBefore (sym held) (none_before_at_rest [] items_in-nil); most = λ _. none }
-
-pub pulls_all_then : (a b c : Place) → Pulls a b → PullsAll b c → PullsAll a c
-pulls_all_then a b c p q = record { pulls = pulls_twice a b c p q.pulls; none_before = q.none_before; most = q.most }
-
--- bytes up to the least record that begins with the first of them hold no record but all of them
-none_before_one : (kind : ℕ) (got : List ℕ) → length (kind ∷ got) ≤ least (kind ∷ []) → NoneBefore (kind ∷ got)
-none_before_one kind got most = none_before_more (kind ∷ []) got (none_before_one_byte kind) (omega (arith, most))
-
-pub none_before_first : (kind : ℕ) (got ahead rest : List ℕ) → IsPrefix (kind ∷ []) ahead → ahead ≡ got ++ rest → length got ≤ least (kind ∷ []) → NoneBefore got
-none_before_first kind [] ahead rest first is most = none_before_at_rest [] items_in-nil
-none_before_first kind (k ∷ got) ahead rest first is most =
-    let e : kind ∷ first.0 ≡ k ∷ (got ++ rest) = first.1 ∙ is in
-    let same : k ≡ kind = cc in
-    none_before_one k got (subst (λ (m : ℕ). length (k ∷ got) ≤ least (m ∷ [])) (sym same) most)
+-- without the first n of them
+pub part-later : (from to n : ℕ) (xs : List ℕ) → from + n ≤ to → take (to - (from + n)) (drop (from + n) xs) ≡ drop n (take (to - from) (drop from xs))
+part-later from to n xs inside =
+    let split : to - from ≡ n + (to - (from + n)) = omega (arith, inside) in
+    sym (ap (λ (k : ℕ). drop n (take k (drop from xs))) split ∙ drop-take n (to - (from + n)) (drop from xs) ∙ ap (take (to - (from + n))) (drop-drop n from xs))
 
 -- of what is known, as much as is there for sure
 pub pulls_sure : (n m : ℕ) (known zs got behind : List ℕ) → known ++ zs ≡ got ++ behind → length got ≡ m → m ≤ n → n ≤ length known → take n known ≡ got ++ take (n - m) behind
 pulls_sure n m known zs got behind is long few inside =
     let split : n ≡ length got + (n - m) = omega (arith, long, few) in
     sym (take-append-le n known zs inside) ∙ ap (take n) is ∙ ap (λ (k : ℕ). take k (got ++ behind)) split ∙ take_over got behind (n - m)
-
--- where so many bytes are known, so many are popped
-pub record Popped (r k : ℕ) (known behind : List ℕ) : Type 0 where
-  pub all : r ≡ k
-  pub rest : length known ≤ k + length behind
-
-popped_by : (r k : ℕ) (known zs slice behind : List ℕ) → length slice ≡ k → k ≤ length known → r ≤ length slice → known ++ zs ≡ take r slice ++ behind → (r < length slice → length behind ≡ 0) → (r < length slice) ⊎ (length slice ≤ r) → Popped r k known behind
-popped_by r k known zs slice behind long there few is most (inl less) =
-    let none = most less in
-    absurd (omega (arith, less, none, there, long, ap length is, length-append known zs, length-append (take r slice) behind, length-take-le r slice few))
-popped_by r k known zs slice behind long there few is most (inr all) =
-    record {
-      all = omega (arith, all, few, long);
-      rest = omega (arith, few, long, ap length is, length-append known zs, length-append (take r slice) behind, length-take-le r slice few);
-    }
-
-pub popped : (r k : ℕ) (known zs slice behind : List ℕ) → length slice ≡ k → k ≤ length known → r ≤ length slice → known ++ zs ≡ take r slice ++ behind → (r < length slice → length behind ≡ 0) → Popped r k known behind
-popped r k known zs slice behind long there few is most =
-    popped_by r k known zs slice behind long there few is most (cases_lt r (length slice))
-
-pub first_there : (n kind : ℕ) (known : List ℕ) → 0 < n → IsPrefix (kind ∷ []) known → IsPrefix (kind ∷ []) (take n known)
-first_there zero kind known some first = absurd (omega (arith, some))
-first_there (suc n) kind known some first = (take n first.0, ap (take (suc n)) first.1)

@@ -1,8 +1,7 @@
--- What the take end of a ring of bytes holds (own), and what it asks for next.
-use Rattle.std.specs.Prelude.{◌≡◌, ℕ, zero, suc, ◌+◌, ◌-◌, ◌<◌, ◌==◌, List, [], ◌∷◌, ◌++◌}
+-- What the take end of a ring of bytes holds (own), and how long a record is.
+use Rattle.std.specs.Prelude.{◌≡◌, ℕ, zero, suc, ◌+◌, ◌-◌, ◌==◌, List, [], ◌∷◌, ◌++◌}
 use Rattle.std.specs.Prelude.{length, take, drop, min, nat_lt, slice_index, if◌then◌else◌}
-use Rattle.xcp_base.specs.declared.item.Item.{Item}
-use Rattle.byte_ring.specs.Records.{IsItem, record_of, records_of}
+use Rattle.byte_ring.specs.Records.{records_of}
 use Rattle.byte_ring.specs.Reading.{items_in}
 
 -- the bytes are the records of the items that are read off them, and nothing more
@@ -24,7 +23,8 @@ least_body zero bytes = 0
 least_body (suc n) [] = 2 + least_body n []
 least_body (suc n) (len ∷ bytes) = 1 + len + least_body n (drop len bytes)
 
--- the least number of bytes of a record that begins with these
+-- the least number of bytes of a record that begins with these; where a whole record stands in front,
+-- its length
 unfoldable pub least_record : List ℕ → ℕ
 least_record [] = 3
 least_record (kind ∷ bytes) =
@@ -38,10 +38,6 @@ least_record (kind ∷ bytes) =
 abbrev pub least : List ℕ → ℕ
 least bytes = min 532 (least_record bytes)
 
--- no record ends before these bytes do
-abbrev pub NoneBefore : List ℕ → Type 0
-NoneBefore held = (x : Item) (b : ℕ) (more : List ℕ) → IsItem x → held ≡ record_of x ++ b ∷ more → ⊥
-
 -- what was popped so far, what is held of it, and the bytes that are there for sure
 pub record Place : Type 0 where
   pub popped : List ℕ
@@ -54,9 +50,3 @@ pub record Pulls (a b : Place) : Type 0 where
   pub popped : b.popped ≡ a.popped ++ got
   pub held : b.held ≡ a.held ++ got
   pub ahead : a.ahead ≡ got ++ b.ahead
-
--- as many as make a record whole, or all that are there
-pub record PullsAll (a b : Place) : Type 0 where
-  pub pulls : Pulls a b
-  pub none_before : NoneBefore b.held
-  pub most : length b.held < least b.held → b.ahead ≡ []

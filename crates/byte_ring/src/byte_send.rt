@@ -6,7 +6,6 @@ ghost use Rattle.byte_ring.specs.Reading.{items_in};
 
 use crate::byte_left::ByteLeft;
 use crate::record::{MAX_RECORD, record_len, write_record, write_sample};
-use arrayvec::ArrayVec;
 use channel_ring::SendEnd;
 use rtrb::Producer;
 use xcp_base::{Item, Packets};
@@ -15,8 +14,8 @@ use xcp_base::{Item, Packets};
 #[derive(Drop)]
 pub struct ByteSend {
     pub(crate) producer: Producer<u8>,
-    // The record of the item that is sent.
-    spelled: ArrayVec<u8, MAX_RECORD>,
+    // The record of the item that is sent stands first.
+    spelled: [u8; MAX_RECORD],
     // The items sent, modulo 2^64.
     pub(crate) count: u64,
     // The bytes sent are the records of the items sent, each whole or not at all.
@@ -32,7 +31,7 @@ impl ByteSend {
     {
         ByteSend {
             producer,
-            spelled: ArrayVec::new(),
+            spelled: [0; MAX_RECORD],
             count: 0,
         }
     }
@@ -53,8 +52,8 @@ impl SendEnd for ByteSend {
     ghost ring = { λ s. name_of s.producer.end };
 
     fn offer(&mut self, item: Item) -> Result<(), Item> {
-        write_record(&mut self.spelled, &item);
-        if push_whole(&mut self.producer, &mut self.count, self.spelled.as_slice()) {
+        let len = write_record(&mut self.spelled, &item);
+        if push_whole(&mut self.producer, &mut self.count, &self.spelled[..len]) {
             Ok(())
         } else {
             Err(item)
@@ -62,8 +61,8 @@ impl SendEnd for ByteSend {
     }
 
     fn offer_sample(&mut self, channel: u8, list: u8, number: u64, packets: &Packets) -> bool {
-        write_sample(&mut self.spelled, channel, list, number, packets);
-        push_whole(&mut self.producer, &mut self.count, self.spelled.as_slice())
+        let len = write_sample(&mut self.spelled, channel, list, number, packets);
+        push_whole(&mut self.producer, &mut self.count, &self.spelled[..len])
     }
 
     fn room(&mut self) -> usize {

@@ -17,7 +17,7 @@ use xcp_base::Item;
 #[derive(Drop)]
 pub struct ByteTake {
     consumer: Consumer<u8>,
-    // The next item, or the part of its record that was popped.
+    // The bytes popped ahead, and the next item.
     front: Front,
     // The items received, modulo 2^64.
     count: u64,

@@ -2,6 +2,7 @@
 //! its record and no more.
 #![tactic(auto)]
 
+mod ahead;
 mod byte_left;
 mod byte_send;
 mod byte_take;

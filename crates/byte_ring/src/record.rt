@@ -1,11 +1,9 @@
 //! Items as records: how they are written.
-ghost use Rattle.std.specs.Prelude.{◌≡◌, ◌+◌, ◌<◌, ◌≤◌, [], ◌∷◌, ◌++◌, length};
+ghost use Rattle.std.specs.Prelude.{◌≡◌, ◌+◌, ◌<◌, ◌≤◌, [], ◌∷◌, ◌++◌, length, take};
 ghost use Rattle.std.specs.Int.{to_le_bytes, w64};
-ghost use Rattle.arrayvec.specs.ArrayVec.{array_vec_len};
 ghost use Rattle.channel_ring.specs.Ends.{sample_item};
 ghost use Rattle.byte_ring.specs.Records.{IsItem, record_of};
 
-use arrayvec::ArrayVec;
 use xcp_base::limits::{MAX_CHANNELS, MAX_LISTS, MIN_BYTE_RING};
 use xcp_base::{Item, Packets};
 
@@ -43,51 +41,45 @@ fn head_of(channel: u8, list: u8, number: u64, count: u8) -> [u8; HEAD]
     [SAMPLE, channel, list, a, b, c, d, e, f, g, h, count]
 }
 
-/// Appends bytes for which there is room.
-fn append(out: &mut ArrayVec<u8, MAX_RECORD>, bytes: &[u8])
-    requires { array_vec_len out.old + length bytes.now ≤ MAX_RECORD }
-    ensures bytes { out.new.items ≡ out.old.items ++ bytes.now }
-    ensures len { array_vec_len out.new ≡ array_vec_len out.old + length bytes.now }
-{
-    let Ok(()) = out.try_extend_from_slice(bytes) else {
-        unreachable!();
-    };
-}
-
-/// Writes the record of a sample in the place of what was there.
+/// Writes the record of a sample over the first places, and answers its length.
 #[tactic(auto, unfolding(crate::specs::Records::record_of))]
 pub(crate) fn write_sample(
-    out: &mut ArrayVec<u8, MAX_RECORD>,
+    out: &mut [u8; MAX_RECORD],
     channel: u8,
     list: u8,
     number: u64,
     packets: &Packets,
-)
+) -> usize
     requires channel_below { channel < MAX_CHANNELS }
     requires list_below { list < MAX_LISTS }
     requires some { 0 < length packets.now }
-    ensures bytes { out.new.items ≡ record_of (sample_item channel list number packets.now) }
+    ensures bytes { take result out.new ≡ record_of (sample_item channel list number packets.now) }
     ensures item { IsItem (sample_item channel list number packets.now) }
+    ensures limit { result ≤ MAX_RECORD }
 {
-    out.clear();
-    append(out, &head_of(channel, list, number, packets.len() as u8));
-    append(out, packets.body());
+    let body = packets.body();
+    let end = HEAD + body.len();
+    out[..HEAD].copy_from_slice(&head_of(channel, list, number, packets.len() as u8));
+    out[HEAD..end].copy_from_slice(body);
+    end
 }
 
-/// Writes the record of an item in the place of what was there.
+/// Writes the record of an item over the first places, and answers its length.
 #[tactic(auto, unfolding(crate::specs::Records::record_of))]
-pub(crate) fn write_record(out: &mut ArrayVec<u8, MAX_RECORD>, item: &Item)
-    ensures bytes { out.new.items ≡ record_of item.now }
+pub(crate) fn write_record(out: &mut [u8; MAX_RECORD], item: &Item) -> usize
+    ensures bytes { take result out.new ≡ record_of item.now }
     ensures item { IsItem item.now }
+    ensures limit { result ≤ MAX_RECORD }
 {
     match item {
         Item::Sample(sample) => {
             let (channel, list) = (sample.channel(), sample.list());
-            write_sample(out, channel, list, sample.number(), sample.packets());
+            write_sample(out, channel, list, sample.number(), sample.packets())
         }
         Item::Marker(marker) => {
-            out.clear();
-            append(out, &[MARKER, marker.channel(), marker.list()]);
+            let bytes = [MARKER, marker.channel(), marker.list()];
+            out[..MARKER_LEN].copy_from_slice(&bytes);
+            MARKER_LEN
         }
     }
 }

@@ -1,6 +1,14 @@
-use Rattle.byte_ring.proofs.RecordLemmas.{items_in-nil}
+use Rattle.std.proofs.Common.{◌∙◌, ap, refl, take}
+use Rattle.rtrb.specs.Ring.{known_items}
+use Rattle.byte_ring.specs.Fronts.{let_go, place_of}
+use Rattle.byte_ring.proofs.HeldLemmas.{part-later, pulls_same}
 use Rattle.byte_ring.proofs.finding.next.Goals as goal
 
--- nothing is held any more
-pub find-requires-clause-none : goal.find-requires-clause-none
-find-requires-clause-none c = items_in-nil
+-- the first record was let go, and more was popped behind what is held
+pub returns-clause-pulls : goal.returns-clause-pulls
+returns-clause-pulls c =
+    let k = c.args.consumer.now in
+    let f = c.args.front.now in
+    let e = c.read_front.ensures in
+    pulls_same (let_go f.len (place_of k f)) (place_of k c.read_front.new.front) (place_of c.settle.new.consumer c.settle.new.front) refl
+    (e.part ∙ part-later f.from f.to f.len f.bytes f.inside) (ap (λ n. take n (known_items k)) e.ahead) c.settle.ensures.pulls

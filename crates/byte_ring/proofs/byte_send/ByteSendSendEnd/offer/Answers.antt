@@ -1,4 +1,4 @@
-use Rattle.std.proofs.Common.{ap, ◌∙◌, ◌++◌}
+use Rattle.std.proofs.Common.{ap, ◌∙◌, ◌++◌, take}
 use Rattle.rtrb.specs.Ring.{sent}
 use Rattle.byte_ring.specs.Reading.{items_in}
 use Rattle.byte_ring.proofs.FrontLemmas.{pushed}
@@ -11,11 +11,11 @@ invariant_of-self c =
     let s = c.args.self.now in
     let e = c.push_whole.ensures in
     let item = c.args.item in
-    let p = pushed c.push_whole.result (sent s.producer) (sent c.push_whole.new.producer) c.as_slice.result.now item s.count c.push_whole.new.count c.write_record.ensures.item (c.as_slice.ensures.value ∙ c.write_record.ensures.bytes) s.whole s.counted e.sends e.sent_stays e.counts e.count_stays in
+    let p = pushed c.push_whole.result (sent s.producer) (sent c.push_whole.new.producer) (take c.write_record-len.result c.write_record-len.new.out) item s.count c.push_whole.new.count c.write_record-len.ensures.item (c.write_record-len.ensures.bytes) s.whole s.counted e.sends e.sent_stays e.counts e.count_stays in
     record { whole = p.whole; counted = p.counted }
 
 pub returns-then-push_whole-clause-ok : goal.returns-then-push_whole-clause-ok
 returns-then-push_whole-clause-ok c =
     let s = c.args.self.now in
     let item = c.args.item in
-    ap items_in (c.push_whole.ensures.sends c.if-push_whole.true ∙ ap (λ l. sent s.producer ++ l) (c.as_slice.ensures.value ∙ c.write_record.ensures.bytes)) ∙ items_in-push (sent s.producer) item c.write_record.ensures.item s.whole
+    ap items_in (c.push_whole.ensures.sends c.if-push_whole.true ∙ ap (λ l. sent s.producer ++ l) (c.write_record-len.ensures.bytes)) ∙ items_in-push (sent s.producer) item c.write_record-len.ensures.item s.whole

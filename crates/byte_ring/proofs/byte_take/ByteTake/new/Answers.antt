@@ -16,8 +16,7 @@ invariant_of-result c =
       held = holds_nothing (received k) (part f) c.requires.popped n.part;
       ready = record {
         there = omega (arith, n.ahead);
-        item = λ yes_item. absurd (false≢true (sym n.is_whole ∙ yes_item));
-        whole = λ yes_item. absurd (false≢true (sym n.is_whole ∙ yes_item));
+        first = λ yes_item. absurd (false≢true (sym n.is_whole ∙ yes_item));
         none = λ _. nothing_known (part f) (known_items k) f.ahead n.part n.ahead;
       };
       counted = counts_none (gone (received k) (part f)) (gone_nothing (received k) (part f) c.requires.popped);

@@ -1,9 +1,9 @@
-use Rattle.std.proofs.Common.{ap, sym, ◌∙◌, take}
+use Rattle.std.proofs.Common.{ap, sym, ◌∙◌}
 use Rattle.rtrb.specs.Ring.{known_items}
 use Rattle.byte_ring.specs.Fronts.{part, place_of}
 use Rattle.byte_ring.specs.Places.{place}
 use Rattle.byte_ring.specs.Reading.{items_in}
-use Rattle.byte_ring.proofs.FrontLemmas.{known_grows, none_held, pulls_keep, tells_whether}
+use Rattle.byte_ring.proofs.FrontLemmas.{known_grows, pulls_keep, tells_whether}
 use Rattle.byte_ring.proofs.byte_take.ByteTakeTakeEnd.look.Goals as goal
 
 pub returns-then-self-clause-value : goal.returns-then-self-clause-value
@@ -12,11 +12,9 @@ returns-then-self-clause-value c =
     let v = tells_whether s.consumer s.front s.ready in
     (λ t. v.0 c.if-self.true, λ some. sym c.if-self.true ∙ v.1 some)
 
--- no item is known, so none is held
-pub settle-requires-clause-none : goal.settle-requires-clause-none
-settle-requires-clause-none c = λ none.
-    let s = c.args.self.now in
-    none_held (part s.front) (take s.front.ahead (known_items s.consumer)) (s.ready.none none)
+-- an item that is ready stays so
+pub settle-requires-clause-first : goal.settle-requires-clause-first
+settle-requires-clause-first c = c.args.self.now.ready.first
 
 pub returns-clause-value : goal.returns-clause-value
 returns-clause-value c = tells_whether c.settle.new.consumer c.settle.new.front c.settle.ensures.ready

@@ -9,7 +9,7 @@ pub invariant_of-self : goal.invariant_of-self
 invariant_of-self c =
     let s = c.args.self.now in
     let f = first_ready s.consumer s.front s.ready c.requires.some in
-    let g = an_item_is_let_go (place_of s.consumer s.front) (place_of c.next.new.consumer c.next.new.front) s.front.item s.held f.item f.whole c.next.ensures.pulls in
+    let g = an_item_is_let_go (place_of s.consumer s.front) (place_of c.next.new.consumer c.next.new.front) s.front.item s.front.len s.held f.item f.whole c.next.ensures.pulls in
     record {
       held = g.held;
       ready = c.next.ensures.ready;
@@ -20,5 +20,5 @@ pub returns-clause-passes : goal.returns-clause-passes
 returns-clause-passes c =
     let s = c.args.self.now in
     let f = first_ready s.consumer s.front s.ready c.requires.some in
-    let g = an_item_is_let_go (place_of s.consumer s.front) (place_of c.next.new.consumer c.next.new.front) s.front.item s.held f.item f.whole c.next.ensures.pulls in
+    let g = an_item_is_let_go (place_of s.consumer s.front) (place_of c.next.new.consumer c.next.new.front) s.front.item s.front.len s.held f.item f.whole c.next.ensures.pulls in
     record { item = s.front.item; was_first = g.known; taken = g.received }
