@@ -1,17 +1,18 @@
 -- The runs of an ODT copy the bytes of its entries, and there are as many as the ODT needs.
-use Rattle.std.proofs.Common.{inl, inr, Option, map, Bool, true, false, ◌==◌, not, cond, ◌≡◌, ◌≢◌, true≢false, ℕ, zero, suc, ◌+◌, ◌-◌, ◌<◌, ◌≤◌, List, [], ◌∷◌, ◌++◌, length, take, drop, get_or, zip, refl, sym, ap, ◌∙◌, append_assoc, append-nil, add-one, arith}
+use Rattle.std.proofs.Common.{inl, inr, Option, map, Bool, true, false, ◌==◌, not, cond, ◌≡◌, ◌≢◌, true≢false, ℕ, ◌+◌, ◌-◌, ◌<◌, ◌≤◌, List, [], ◌∷◌, ◌++◌, length, take, drop, zip, refl, sym, ap, ◌∙◌, append_assoc, arith}
 use Rattle.std.specs.Prelude.{All, slice_range, count_by}
 use Rattle.std.proofs.Math.Seq.{take-add}
 use Rattle.std.proofs.lemmas.List.{drop-drop}
 use Rattle.std.proofs.lemmas.List.Sums.{sum_by-cons}
 use Rattle.std.proofs.lemmas.List.Elements.{All-nil, All-cons, All-head, All-tail}
 use Rattle.std.proofs.lemmas.Bool.Decides.{eqb_tells}
-use Rattle.copy_plan.specs.declared.runs.Run.{Run}
+use Rattle.xcp_base.specs.declared.run.Run.{Run}
 use Rattle.daq_store.specs.declared.entry.Entry.{Entry}
 use Rattle.copy_plan.specs.Config.{OdtEntry, IsInside, written_entries}
 use Rattle.copy_plan.specs.Packet.{elements}
 use Rattle.copy_plan.specs.Runs.{continues, runs_needed}
-use Rattle.copy_plan.specs.Inner.Joined.{with_bytes, joined_runs, copied, IsRunInside}
+use Rattle.xcp_base.specs.Copied.{copied, IsRunInside}
+use Rattle.copy_plan.specs.Inner.Joined.{with_bytes, joined_runs}
 
 -- bytes that end where the first run begins are joined with it, other bytes are a run of their own
 joins : (start end : ℕ) (r : Run) (rs : List Run) → r.start ≡ end → with_bytes start end (r ∷ rs) ≡ record { start = start; end = r.end } ∷ rs
@@ -160,15 +161,6 @@ one_joined runs all start end e es is h =
     ap (λ rs. runs ++ rs) (sym (with_bytes-joined start e.0 (e.0 + e.1) (joined_runs es)))
     ∙ ap (λ n. runs ++ with_bytes start n (joined_runs (e ∷ es))) h
     ∙ is
-
--- what one run more copies
-pub copied-more : (image : List ℕ) (runs : List Run) (i : ℕ) (d : Run) → i < length runs → copied image (take (i + 1) runs) ≡ copied image (take i runs) ++ slice_range image (get_or runs i d).start (get_or runs i d).end
-copied-more image [] i d h = absurd (omega (arith, h))
-copied-more image (r ∷ rs) zero d h = append-nil (slice_range image r.start r.end)
-copied-more image (r ∷ rs) (suc i) d h =
-    rw add-one (
-    ap (λ bytes. slice_range image r.start r.end ++ bytes) (rw add-one at (copied-more image rs i d (omega (arith, h))))
-    ∙ sym (append_assoc (slice_range image r.start r.end) (copied image (take i rs)) (slice_range image (get_or rs i d).start (get_or rs i d).end)))
 
 -- the runs of each of some ODTs
 pub map-joined_runs-written_entries : (odts : List (List (Option Entry))) → map (λ es. joined_runs (written_entries es)) odts ≡ map joined_runs (map written_entries odts)

@@ -1,13 +1,17 @@
 -- The PIDs of the lists of a store.
-use Rattle.std.proofs.Common.{inl, inr, if◌then◌else◌, ◌==◌, ◌&&◌, true, false, ◌≡◌, ℕ, zero, suc, ◌+◌, ◌%◌, ◌<◌, ◌≤◌, sym, ap, ◌∙◌, arith}
+use Rattle.std.proofs.Common.{inl, inr, if◌then◌else◌, ◌==◌, ◌&&◌, true, false, ◌≡◌, ◌≢◌, ℕ, zero, suc, ◌+◌, ◌%◌, ◌<◌, ◌≤◌, length, refl, sym, ap, ◌∙◌, arith}
 use Rattle.std.specs.Prelude.{sum_by}
 use Rattle.std.specs.List.{range_with_len}
 use Rattle.std.proofs.lemmas.Bool.{cases_lt}
 use Rattle.std.proofs.lemmas.Grind.{common_steps}
 use Rattle.std.proofs.lemmas.List.Sums.{sum_by-cons}
+use Rattle.xcp_base.specs.declared.id_kind.IdKind.{IdKind}
+use Rattle.xcp_base.specs.declared.id_kind.IdKind.TheVariants.{Absolute, RelativeByte, RelativeWord}
+use Rattle.xcp_base.specs.Forms.{FitsFirstPid}
+use Rattle.xcp_base.proofs.FormLemmas.{list_field-apart}
 use Rattle.daq_store.specs.Shape.{odt_count}
 use Rattle.copy_plan.specs.Config.{ListPlan}
-use Rattle.copy_plan.specs.Pids.{pid, PidRanges, MarkedPid, PidsApart}
+use Rattle.copy_plan.specs.Pids.{pid, ListFieldsApart, MarkedPid, PidRanges, PidsApart, RelativePid}
 
 -- each number of a range counts in the sum over it
 in_range : (f : ℕ → ℕ) (n a l : ℕ) → l < n → sum_by f (range_with_len a l) + f (a + l) ≤ sum_by f (range_with_len a n)
@@ -31,6 +35,21 @@ pid_ranges calls l m k h here =
 -- without the overload indication a PID is FIRST_PID and the number of the ODT
 unmarked : (plan : ListPlan) (k : ℕ) → pid plan k false ≡ plan.first_pid + k
 unmarked plan k = elim (k == 0) as (λ v. plan.first_pid + k + (if v && false then 128 else 0) ≡ plan.first_pid + k) [ true ↦ omega arith | false ↦ omega arith ]
+
+-- FIRST_PID is 0 with a relative ODT number
+first_is_0 : (id : IdKind) (n f : ℕ) → id ≢ Absolute → FitsFirstPid id n f → f ≡ 0
+first_is_0 Absolute n f relative h = absurd (relative refl)
+first_is_0 RelativeByte n f relative h = h
+first_is_0 RelativeWord n f relative h = h
+
+pub relative_pid : RelativePid
+relative_pid plan k is relative here =
+    let first : plan.first_pid ≡ 0 = first_is_0 plan.form.id (length plan.odts) plan.first_pid relative is.first in
+    let same : pid plan k false ≡ k = omega (arith, unmarked plan k, first) in
+    (same, omega (arith, same, is.limit, here))
+
+pub list_fields_apart : ListFieldsApart
+list_fields_apart id l m relative differ = list_field-apart id l m relative differ
 
 pub pids_apart : PidsApart
 pids_apart calls l m p q of_p of_q at_l at_m differ k j here there a b same =

@@ -1,5 +1,10 @@
 -- Worked examples, on literals: a wrong rule in specs/ does not check here.
 use Rattle.std.specs.Prelude.{◌≡◌, true, false, List, [], ◌∷◌, Some, map, refl}
+use Rattle.xcp_base.specs.declared.id_kind.IdKind.{IdKind}
+use Rattle.xcp_base.specs.declared.id_kind.IdKind.TheVariants.{Absolute, RelativeByte, RelativeWord}
+use Rattle.xcp_base.specs.declared.stamp_size.StampSize.{StampSize}
+use Rattle.xcp_base.specs.declared.stamp_size.StampSize.TheVariants.{One, Two, Four}
+use Rattle.xcp_base.specs.Forms.{usual_form}
 use Rattle.daq_store.specs.Configuration.{Configuration, is_ready}
 use Rattle.copy_plan.specs.Config.{ListPlan, OdtEntry, plan_of}
 use Rattle.copy_plan.specs.Packet.{packet, packets}
@@ -10,6 +15,7 @@ use Rattle.copy_plan.specs.Inner.Joined.{joined_runs}
 -- a list of two ODTs with a timestamp, as it is set in the store
 two_odts : Configuration
 two_odts = record {
+  form = usual_form;
   mode = Some (record { channel = 0; prescaler = 1; stamped = true; priority = 0 });
   odts = (Some (record { address = 0; size = 1 }) ∷ []) ∷ (Some (record { address = 1; size = 1 }) ∷ []) ∷ [];
 }
@@ -28,6 +34,18 @@ packets-two_odts_marked : packets (plan_of 0 two_odts 0 2) (0xAA ∷ 0xBB ∷ []
 unfolding packets packet two_odts
 packets-two_odts_marked = refl
 
+-- the same as list 3 with the other identification fields and sizes, marked
+in_form : IdKind → StampSize → ListPlan
+in_form id size = plan_of 3 (record two_odts { form = record { id = id; stamp = size } }) 0 2
+
+packets-byte_two : packets (in_form RelativeByte Two) (0xAA ∷ 0xBB ∷ []) 0x01020304 true ≡ (0x80 ∷ 0x03 ∷ 0x04 ∷ 0x03 ∷ 0xAA ∷ []) ∷ (0x01 ∷ 0x03 ∷ 0xBB ∷ []) ∷ []
+unfolding packets packet two_odts in_form
+packets-byte_two = refl
+
+packets-word_one : packets (in_form RelativeWord One) (0xAA ∷ 0xBB ∷ []) 0x01020304 true ≡ (0x80 ∷ 0x03 ∷ 0x00 ∷ 0x04 ∷ 0xAA ∷ []) ∷ (0x01 ∷ 0x03 ∷ 0x00 ∷ 0xBB ∷ []) ∷ []
+unfolding packets packet two_odts in_form
+packets-word_one = refl
+
 -- two neighbours and one entry apart from them
 neighbours : List OdtEntry
 neighbours = (0, 2) ∷ (2, 2) ∷ (8, 1) ∷ []
@@ -38,6 +56,7 @@ neighbours_plan = record {
   channel = 0;
   prescaler = 1;
   first_pid = 0;
+  form = usual_form;
   stamped = false;
   odts = neighbours ∷ [];
   image_len = 9;
@@ -67,6 +86,7 @@ last_plan = record {
   channel = 0;
   prescaler = 1;
   first_pid = 0x78;
+  form = usual_form;
   stamped = false;
   odts = ((0, 1) ∷ []) ∷ ((0, 1) ∷ []) ∷ ((0, 1) ∷ []) ∷ ((0, 1) ∷ []) ∷ [];
   image_len = 4;

@@ -4,14 +4,13 @@ ghost use Rattle.std.specs.Prelude.{slice_get, option_map};
 ghost use Rattle.xcp_base.specs.Packets.{last_packet, with_longer_last};
 ghost use Rattle.copy_plan.specs.Config.{IsPlan, odt};
 ghost use Rattle.copy_plan.specs.Packet.{packet, packets, timestamp};
-ghost use Rattle.copy_plan.specs.Pids.{pid};
+ghost use Rattle.copy_plan.specs.Pids.{field, pid};
 ghost use Rattle.copy_plan.specs.Runs.{runs_needed};
-ghost use Rattle.copy_plan.specs.Inner.Joined.{IsRunInside, copied, joined_runs};
+ghost use Rattle.copy_plan.specs.Inner.Joined.{joined_runs};
 
 use crate::plan::CopyPlan;
-use crate::runs::Run;
-use xcp_base::Packets;
-use xcp_base::limits::{MAX_DTO, MAX_ODTS};
+use xcp_base::limits::{MAX_DTO, MAX_ODTS, MAX_STAMP};
+use xcp_base::{Packets, Run};
 
 impl CopyPlan {
     /// The packets of a sample, one for each ODT in their order, all from one image and one
@@ -55,7 +54,7 @@ impl CopyPlan {
         self.odts[k].as_slice()
     }
 
-    /// The identification field of an ODT: its PID, in ODT 0 with the overload indication.
+    /// The PID of an ODT, in ODT 0 with the overload indication.
     fn pid(&self, k: usize, overload: bool) -> u8
         requires { k < length self.now.odts }
         ensures { result ≡ pid self.now k overload }
@@ -78,21 +77,31 @@ impl CopyPlan {
         requires room { length sample.old < MAX_ODTS }
         ensures { sample.new ≡ sample.old ++ packet self.now image.now stamp overload k ∷ [] }
     {
-        let Ok(()) = sample.push(&[self.pid(k, overload)]) else {
+        self.push_field(sample, overload, k);
+        self.append_timestamp(sample, stamp, k);
+        sample.append_runs(image, self.copies_of(k));
+    }
+
+    /// Appends the packet of an ODT as far as its identification field.
+    fn push_field(&self, sample: &mut Packets, overload: bool, k: usize)
+        requires odt { k < length self.now.odts }
+        requires room { length sample.old < MAX_ODTS }
+        ensures { sample.new ≡ sample.old ++ field self.now k overload ∷ [] }
+    {
+        let field = self.form.id.field(self.pid(k, overload), self.list);
+        let Ok(()) = sample.push(&field[..self.form.id.field_len()]) else {
             unreachable!();
         };
-        self.append_timestamp(sample, stamp, k);
-        append_runs(sample, image, self.copies_of(k));
     }
 
     /// Appends the timestamp to the last packet, where the ODT's packet has one.
     fn append_timestamp(&self, sample: &mut Packets, stamp: u32, k: usize)
         requires some { 0 < length sample.old }
-        requires room { length (last_packet sample.old) + 4 ≤ MAX_DTO }
+        requires room { length (last_packet sample.old) + MAX_STAMP ≤ MAX_DTO }
         ensures { sample.new ≡ with_longer_last sample.old (timestamp self.now k stamp) }
     {
         if self.has_timestamp(k) {
-            sample.append(&stamp.to_le_bytes());
+            sample.append(&stamp.to_le_bytes()[..self.form.stamp.bytes() as usize]);
         }
     }
 
@@ -101,18 +110,5 @@ impl CopyPlan {
         ensures { result ≡ (k == 0 && self.now.stamped) }
     {
         k == 0 && self.stamped
-    }
-}
-
-/// Appends parts of an image to the last packet.
-fn append_runs(sample: &mut Packets, image: &[u8], runs: &[Run])
-    requires some { 0 < length sample.old }
-    requires inside { All (IsRunInside (length image.now)) runs.now }
-    requires room { length (last_packet sample.old) + length (copied image.now runs.now)
-        ≤ MAX_DTO }
-    ensures { sample.new ≡ with_longer_last sample.old (copied image.now runs.now) }
-{
-    for run in runs {
-        sample.append(&image[run.start..run.end]);
     }
 }

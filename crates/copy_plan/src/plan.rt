@@ -1,4 +1,5 @@
-ghost use Rattle.std.specs.Prelude.{◌≡◌, ◌+◌, ◌<◌, ◌≤◌, IfOk, true, length, map};
+ghost use Rattle.std.specs.Prelude.{◌≡◌, ◌<◌, ◌≤◌, IfOk, true, length, map};
+ghost use Rattle.xcp_base.specs.Forms.{FitsFirstPid, stamp_bytes};
 ghost use Rattle.daq_store.specs.Configuration.{is_ready};
 ghost use Rattle.copy_plan.specs.declared.plan.PlanFault.TheVariants.{Memory};
 ghost use Rattle.copy_plan.specs.Config.{IsPlan, plan_of, written_entries};
@@ -13,7 +14,8 @@ use std::fmt;
 use std::marker::Model;
 use std::snapshot::Snapshot;
 use thiserror::Error;
-use xcp_base::limits::{MAX_LISTS, MAX_ODTS, MAX_ODTS_IN_ALL};
+use xcp_base::limits::{MAX_LISTS, MAX_ODTS};
+use xcp_base::{IdKind, PacketForm};
 
 /// Why no plan was made.
 #[derive(Clone, Copy, Debug, PartialEq, Eq, Error)]
@@ -42,6 +44,7 @@ pub struct CopyPlan {
     pub(crate) channel: u8,
     pub(crate) prescaler: u8,
     pub(crate) first_pid: u8,
+    pub(crate) form: PacketForm,
     pub(crate) stamped: bool,
     pub(crate) image_len: usize,
     pub(crate) odts: Vec<Runs>,
@@ -60,8 +63,8 @@ impl Model for CopyPlan {
 }
 
 impl CopyPlan {
-    /// The plan of a ready DAQ list, whose PIDs begin with FIRST_PID; images have `image_len`
-    /// bytes.
+    /// The plan of a ready DAQ list, whose PIDs begin with FIRST_PID, which is 0 with a relative ODT
+    /// number; images have `image_len` bytes.
     ///
     /// An entry that begins where the one before it in the same ODT ends is copied with it, in one
     /// go.
@@ -74,7 +77,7 @@ impl CopyPlan {
     ) -> Result<CopyPlan, PlanFault>
         requires list { list < MAX_LISTS }
         requires ready { is_ready image_len conf.now ≡ true }
-        requires pids { first_pid + length conf.now.odts ≤ MAX_ODTS_IN_ALL }
+        requires pids { FitsFirstPid conf.now.form.id (length conf.now.odts) first_pid }
         ensures value { IfOk result (λ plan. plan ≡ plan_of list conf.now first_pid image_len) }
         ensures plan { IfOk result IsPlan }
     {
@@ -84,6 +87,7 @@ impl CopyPlan {
             channel: conf.channel(),
             prescaler: conf.prescaler(),
             first_pid,
+            form: conf.form(),
             stamped: conf.stamped(),
             image_len,
             odts,
@@ -121,6 +125,20 @@ impl CopyPlan {
         ensures plan { IsPlan self.now }
     {
         self.first_pid
+    }
+
+    /// The identification field of the packets.
+    pub fn id(&self) -> IdKind
+        ensures { result ≡ self.now.form.id }
+    {
+        self.form.id
+    }
+
+    /// The bytes of the timestamp: 1, 2 or 4.
+    pub fn stamp_size(&self) -> u8
+        ensures { result ≡ stamp_bytes self.now.form.stamp }
+    {
+        self.form.stamp.bytes()
     }
 
     /// The number of ODTs, and so of the packets of a sample.

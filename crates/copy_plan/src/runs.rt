@@ -6,13 +6,7 @@ ghost use Rattle.copy_plan.specs.Inner.Joined.{joined_runs};
 use daq_store::ListConf;
 use std::alloc::{AllocError, Global};
 use std::marker::Model;
-
-/// A part of the image that is copied in one go: from `start` up to `end`.
-#[derive(Clone, Copy, Debug, PartialEq, Eq)]
-pub struct Run {
-    pub start: usize,
-    pub end: usize,
-}
+use xcp_base::Run;
 
 /// The runs of one ODT: its entries in their order, neighbours joined.
 #[derive(Drop)]
@@ -22,7 +16,7 @@ pub struct Runs {
 
 impl Model for Runs {
     ghost use Rattle.std.specs.Prelude.{List};
-    ghost use Rattle.copy_plan.specs.declared.runs.Run.{Run};
+    ghost use Rattle.xcp_base.specs.declared.run.Run.{Run};
 
     ghost Value = { List Run };
 

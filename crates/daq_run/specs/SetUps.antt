@@ -11,7 +11,8 @@ use Rattle.run_setup.specs.Setup.{NeedsMemory}
 
 -- what the store of a run is made for
 abbrev pub profile_of : RunData → Profile
-profile_of run = record { channels = run.channels; image_len = run.image_len }
+profile_of run =
+    record { channels = run.channels; image_len = run.image_len; form = run.form }
 
 -- the replies to these command packets, to a store that was fresh
 abbrev pub first_replies : RunData → List (List ℕ) → List (List ℕ)

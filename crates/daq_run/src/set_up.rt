@@ -1,21 +1,38 @@
 //! A run's set-up, and the opening of its engine.
-ghost use Rattle.std.specs.Prelude.{◌≡◌, ℕ, IfErr, IfOk, false, length, true};
+ghost use Rattle.std.specs.Prelude.{◌≡◌, ℕ, IfErr, IfOk, IsOk, [], false, length, true};
 ghost use Rattle.std.specs.List.{list_all};
+ghost use Rattle.daq_store.specs.Standing.{StoreStandsAfter};
 ghost use Rattle.frame_writer.specs.Shown.{shown};
 ghost use Rattle.frame_writer.specs.Writing.{state_of};
 ghost use Rattle.daq_engine.specs.Engines.{engine_state};
 ghost use Rattle.daq_run.specs.Faults.{StandsAtFault};
 ghost use Rattle.daq_run.specs.Inner.Opened.{IsOpened};
-ghost use Rattle.daq_run.specs.SetUps.{IsSetUp};
+ghost use Rattle.daq_run.specs.SetUps.{IsSetUp, profile_of};
 
 use crate::sim_fault::SimFault;
 use channel_ring::{RingEnd, SendEnd, TakeEnd};
 use daq_engine::{Engine, OpenFault, Ring, engine_over};
-use daq_store::Store;
+use daq_store::{BadLimits, Store};
 use frame_writer::{FrameWriter, Out};
 use run_file::Run;
 use run_setup::carry_all;
 use std::alloc::Global;
+
+/// The fresh store of a run.
+fn store_of(alloc: Global, run: &Run) -> Result<Store, BadLimits>
+    ensures succeeds { IsOk result }
+    ensures profile { IfOk result (λ s. s.profile ≡ profile_of run.now) }
+    ensures fresh { IfOk result (λ s. StoreStandsAfter s []) }
+{
+    let form = run.form();
+    Store::with_form(
+        alloc,
+        run.channels(),
+        run.image_len(),
+        form.id,
+        form.stamp.bytes(),
+    )
+}
 
 /// Carries the command packets of a run out on a fresh store, and writes the replies as the first
 /// frames.
@@ -30,7 +47,7 @@ fn set_up<O: Out>(
     ensures fault { IfErr result (λ e.
         StandsAtFault run.now (shown O.Out out) (shown O.Out e.1) e.0) }
 {
-    let Ok(mut store) = Store::new(alloc, run.channels(), run.image_len()) else {
+    let Ok(mut store) = store_of(alloc, run) else {
         unreachable!()
     };
     let mut writer = FrameWriter::new(out);

@@ -3,6 +3,7 @@ use Rattle.std.proofs.Common.{not, if◌then◌else◌, Some, None, nat_lt, repl
 use Rattle.std.proofs.lemmas.Simd.{map-map}
 use Rattle.std.proofs.lemmas.Bool.{eq-eqb, ne_eqb}
 use Rattle.std.proofs.lemmas.List.FromFn.{length-map-range_with_len}
+use Rattle.xcp_base.specs.declared.packet_form.PacketForm.{PacketForm}
 use Rattle.daq_store.specs.declared.command.Command.{Command}
 use Rattle.daq_store.specs.declared.command.Command.TheVariants.{AllocDaq, AllocOdt, AllocOdtEntry, SetDaqPtr, WriteDaq, SetDaqListMode, StartStopDaqList, StartStopSynch}
 use Rattle.daq_store.specs.declared.mode.Mode.{Mode}
@@ -43,28 +44,28 @@ record SameOf (a b : List Command) (l : ℕ) : Type 0 where
   running : is_running a l ≡ is_running b l
   selected : is_selected a l ≡ is_selected b l
 
-list_same : (a b : List Command) (l : ℕ) → SameOf a b l → list_after a l ≡ list_after b l
-list_same a b l h =
+list_same : (f : PacketForm) (a b : List Command) (l : ℕ) → SameOf a b l → list_after f a l ≡ list_after f b l
+list_same f a b l h =
     let odts : map (odt_of a l) (numbers_below (odt_count a l)) ≡ map (odt_of b l) (numbers_below (odt_count b l))
     = odts_same a b l h.odts in
     cc
 
 -- the table after a call that changes list l alone
 one_list : (s : StoreState) (calls : List Command) (call : Command) (l : ℕ) (x : ListState) → StoreStandsAfter s calls → l < length s.lists
-    → (l < list_count calls → x ≡ list_after (call ∷ calls) l)
+    → (l < list_count calls → x ≡ list_after s.profile.form (call ∷ calls) l)
     → ((i : ℕ) → (l == i) ≡ false → SameOf calls (call ∷ calls) i)
-    → set s.lists l x ≡ map (list_after (call ∷ calls)) (numbers_below (list_count calls))
+    → set s.lists l x ≡ map (list_after s.profile.form (call ∷ calls)) (numbers_below (list_count calls))
 one_list s calls call l x h inside is others =
     let here : l < list_count calls = rw (count_stands s calls h) at inside in
     ap (λ xs. set xs l x) h.lists
-    ∙ ap (set (map (list_after calls) (numbers_below (list_count calls))) l) (is here)
-    ∙ set-map_below (list_after calls) (list_after (call ∷ calls)) (list_count calls) l here
-    (λ i _ other. list_same calls (call ∷ calls) i (others i (ne_eqb l i (λ e. other (sym e)))))
+    ∙ ap (set (map (list_after s.profile.form calls) (numbers_below (list_count calls))) l) (is here)
+    ∙ set-map_below (list_after s.profile.form calls) (list_after s.profile.form (call ∷ calls)) (list_count calls) l here
+    (λ i _ other. list_same s.profile.form calls (call ∷ calls) i (others i (ne_eqb l i (λ e. other (sym e)))))
 
 -- ALLOC_DAQ
 pub lists_put_stands : (s : StoreState) (calls : List Command) (n : ℕ) → StoreStandsAfter (lists_put s n) (AllocDaq n ∷ calls)
 lists_put_stands s calls n = record {
-  lists = sym (map-one (list_after (AllocDaq n ∷ calls)) fresh_state n 0 (λ k. refl));
+  lists = sym (map-one (list_after s.profile.form (AllocDaq n ∷ calls)) (fresh_state s.profile.form) n 0 (λ k. refl));
   pointer = refl;
   phase = refl;
 }
@@ -81,9 +82,9 @@ alloc_odt_other calls l n i e = record {
 alloc_odt_empty : (calls : List Command) (l n k : ℕ) → (l == l) ≡ true → odt_of (AllocOdt l n ∷ calls) l k ≡ []
 alloc_odt_empty calls l n k e = rw e refl
 
-alloc_odt_here : (calls : List Command) (l n : ℕ) → (l == l) ≡ true → (x : ListState) → x ≡ list_after calls l
-    → with_odts x n ≡ list_after (AllocOdt l n ∷ calls) l
-alloc_odt_here calls l n e x is =
+alloc_odt_here : (f : PacketForm) (calls : List Command) (l n : ℕ) → (l == l) ≡ true → (x : ListState) → x ≡ list_after f calls l
+    → with_odts x n ≡ list_after f (AllocOdt l n ∷ calls) l
+alloc_odt_here f calls l n e x is =
     let odts : map (odt_of (AllocOdt l n ∷ calls) l) (numbers_below n) ≡ replicate n []
     = map-one _ _ n 0 (λ k. alloc_odt_empty calls l n k e) in
     rw (is, e, odts) refl
@@ -92,7 +93,7 @@ pub odts_put_stands : (s : StoreState) (calls : List Command) (l n : ℕ) → St
     → StoreStandsAfter (odts_put s l n) (AllocOdt l n ∷ calls)
 odts_put_stands s calls l n h inside = record {
   lists = one_list s calls (AllocOdt l n) l _ h inside
-      (λ here. alloc_odt_here calls l n (eq-eqb l l refl) (list_at s l) (get_stands s calls l fresh_state h here))
+      (λ here. alloc_odt_here s.profile.form calls l n (eq-eqb l l refl) (list_at s l) (get_stands s calls l (fresh_state s.profile.form) h here))
       (λ i other. alloc_odt_other calls l n i other);
   pointer = refl;
   phase = refl;
@@ -133,9 +134,9 @@ odts_unwritten calls l k n inside =
     ∙ set-map_below (odt_of calls l) (odt_of new l) (odt_count calls l) k inside
     (λ j _ other. odt_kept calls l k n j (eq-eqb l l refl) (ne_eqb k j (λ e. other (sym e))))
 
-alloc_odt_entry_here : (calls : List Command) (l k n : ℕ) → k < odt_count calls l → (x : ListState) → x ≡ list_after calls l
-    → with_entries x k n ≡ list_after (AllocOdtEntry l k n ∷ calls) l
-alloc_odt_entry_here calls l k n inside x is =
+alloc_odt_entry_here : (f : PacketForm) (calls : List Command) (l k n : ℕ) → k < odt_count calls l → (x : ListState) → x ≡ list_after f calls l
+    → with_entries x k n ≡ list_after f (AllocOdtEntry l k n ∷ calls) l
+alloc_odt_entry_here f calls l k n inside x is =
     let odts : set (map (odt_of calls l) (numbers_below (odt_count calls l))) k (replicate n None)
     ≡ map (odt_of (AllocOdtEntry l k n ∷ calls) l) (numbers_below (odt_count calls l)) = odts_unwritten calls l k n inside in
     rw (is, odts) refl
@@ -148,7 +149,7 @@ entries_put_stands s calls l k n h shown =
     let odt : k < odt_count calls l = below_from _ _ (and_right _ _ there) in
     record {
       lists = one_list s calls (AllocOdtEntry l k n) l _ h (rw (count_stands s calls h) list)
-          (λ here. alloc_odt_entry_here calls l k n odt (list_at s l) (get_stands s calls l fresh_state h here))
+          (λ here. alloc_odt_entry_here s.profile.form calls l k n odt (list_at s l) (get_stands s calls l (fresh_state s.profile.form) h here))
           (λ i other. alloc_odt_entry_other calls l k n i other);
       pointer = refl;
       phase = refl;
@@ -166,8 +167,8 @@ set_ptr_same calls l k e i = record {
 pub pointer_put_stands : (s : StoreState) (calls : List Command) (l k e : ℕ) → StoreStandsAfter s calls → shows_entry s l k e ≡ true
     → StoreStandsAfter (record s { pointer = Some (l, k, e) }) (SetDaqPtr l k e ∷ calls)
 pointer_put_stands s calls l k e h shown = record {
-  lists = h.lists ∙ map-same (list_after calls) (list_after (SetDaqPtr l k e ∷ calls)) (numbers_below (list_count calls))
-      (λ i. list_same calls (SetDaqPtr l k e ∷ calls) i (set_ptr_same calls l k e i));
+  lists = h.lists ∙ map-same (list_after s.profile.form calls) (list_after s.profile.form (SetDaqPtr l k e ∷ calls)) (numbers_below (list_count calls))
+      (λ i. list_same s.profile.form calls (SetDaqPtr l k e ∷ calls) i (set_ptr_same calls l k e i));
   pointer =
       let there : has_entry calls l k e ≡ true = has_entry_stands s calls l k e h ∙ shown in
       let inside : nat_lt e (entry_count calls l k) ≡ true = and_right _ _ there in
@@ -224,14 +225,14 @@ odts_written calls bit size ext addr l k e at here inside =
     (λ i. written_other_odt calls bit size ext addr l k e j i at (eq-eqb l l refl) (ne_eqb k j (λ h. other (sym h)))))
 
 -- the list after the write
-write_here : (calls : List Command) (bit size ext addr l k e : ℕ) → pointer calls ≡ Some (l, k, e) → e < entry_count calls l k
-    → k < odt_count calls l → (x : ListState) → x ≡ list_after calls l
-    → with_entry x k e (record { address = addr; size = size }) ≡ list_after (WriteDaq bit size ext addr ∷ calls) l
-write_here calls bit size ext addr l k e at here inside x is =
+write_here : (f : PacketForm) (calls : List Command) (bit size ext addr l k e : ℕ) → pointer calls ≡ Some (l, k, e) → e < entry_count calls l k
+    → k < odt_count calls l → (x : ListState) → x ≡ list_after f calls l
+    → with_entry x k e (record { address = addr; size = size }) ≡ list_after f (WriteDaq bit size ext addr ∷ calls) l
+write_here f calls bit size ext addr l k e at here inside x is =
     let odts : set (map (odt_of calls l) (numbers_below (odt_count calls l))) k (set (odt_of calls l k) e (Some (record { address = addr; size = size })))
     ≡ map (odt_of (WriteDaq bit size ext addr ∷ calls) l) (numbers_below (odt_count calls l))
     = odts_written calls bit size ext addr l k e at here inside in
-    let odt : odt_entries (configuration calls l) k ≡ odt_of calls l k = odt_within calls l k inside in
+    let odt : odt_entries (configuration f calls l) k ≡ odt_of calls l k = odt_within f calls l k inside in
     rw (is, odt, odts) refl
 
 -- the pointer after the write
@@ -266,12 +267,12 @@ entry_put_stands s calls bit size ext addr l k e h pointed shown =
     let list : l < list_count calls = below_from _ _ (and_left _ _ (and_left _ _ there)) in
     let odt : k < odt_count calls l = below_from _ _ (and_right _ _ (and_left _ _ there)) in
     let entry : e < entry_count calls l k = below_from _ _ (and_right _ _ there) in
-    let is : list_at s l ≡ list_after calls l = get_stands s calls l fresh_state h list in
+    let is : list_at s l ≡ list_after s.profile.form calls l = get_stands s calls l (fresh_state s.profile.form) h list in
     let len : length (odt_entries (list_at s l).conf k) ≡ entry_count calls l k
-    = ap (λ (x : ListState). length (odt_entries x.conf k)) is ∙ ap length (odt_within calls l k odt) ∙ length-map-range_with_len (last_write calls l k) 0 (entry_count calls l k) in
+    = ap (λ (x : ListState). length (odt_entries x.conf k)) is ∙ ap length (odt_within s.profile.form calls l k odt) ∙ length-map-range_with_len (last_write calls l k) 0 (entry_count calls l k) in
     record {
       lists = one_list s calls (WriteDaq bit size ext addr) l _ h (rw (count_stands s calls h) list)
-          (λ here. write_here calls bit size ext addr l k e at entry odt (list_at s l) is)
+          (λ here. write_here s.profile.form calls bit size ext addr l k e at entry odt (list_at s l) is)
           (λ i other. written_other_list calls bit size ext addr l k e i at other);
       pointer = sym (moved (WriteDaq bit size ext addr ∷ calls) calls l k e (writes_since calls) (set_place calls) (λ i j. refl) at ∙ rw len refl);
       phase = h.phase;
@@ -296,9 +297,9 @@ set_mode_other calls mode l channel prescaler priority i e = record {
   selected = refl;
 }
 
-set_mode_here : (calls : List Command) (mode l channel prescaler priority : ℕ) → (l == l) ≡ true → (x : ListState) → x ≡ list_after calls l
-    → with_mode x (mode_byte mode channel prescaler priority) ≡ list_after (SetDaqListMode mode l channel prescaler priority ∷ calls) l
-set_mode_here calls mode l channel prescaler priority e x is =
+set_mode_here : (f : PacketForm) (calls : List Command) (mode l channel prescaler priority : ℕ) → (l == l) ≡ true → (x : ListState) → x ≡ list_after f calls l
+    → with_mode x (mode_byte mode channel prescaler priority) ≡ list_after f (SetDaqListMode mode l channel prescaler priority ∷ calls) l
+set_mode_here f calls mode l channel prescaler priority e x is =
     let new : List Command = SetDaqListMode mode l channel prescaler priority ∷ calls in
     let odts : map (odt_of calls l) (numbers_below (odt_count calls l)) ≡ map (odt_of new l) (numbers_below (odt_count calls l))
     = odts_same calls new l (set_mode_odts calls mode l channel prescaler priority l) in
@@ -308,7 +309,7 @@ pub mode_put_stands : (s : StoreState) (calls : List Command) (mode l channel pr
     → StoreStandsAfter (mode_put s l (mode_byte mode channel prescaler priority)) (SetDaqListMode mode l channel prescaler priority ∷ calls)
 mode_put_stands s calls mode l channel prescaler priority h inside = record {
   lists = one_list s calls (SetDaqListMode mode l channel prescaler priority) l _ h inside
-      (λ here. set_mode_here calls mode l channel prescaler priority (eq-eqb l l refl) (list_at s l) (get_stands s calls l fresh_state h here))
+      (λ here. set_mode_here s.profile.form calls mode l channel prescaler priority (eq-eqb l l refl) (list_at s l) (get_stands s calls l (fresh_state s.profile.form) h here))
       (λ i other. set_mode_other calls mode l channel prescaler priority i other);
   pointer = h.pointer;
   phase = h.phase;
@@ -331,9 +332,9 @@ stopped_or_started : (b c d : Bool) → (if b then c else d) ≡ (if not b then 
 stopped_or_started true c d = refl
 stopped_or_started false c d = refl
 
-start_stop_here : (calls : List Command) (mode l : ℕ) → (l == l) ≡ true → (x : ListState) → x ≡ list_after calls l
-    → start_stopped mode x ≡ list_after (StartStopDaqList mode l ∷ calls) l
-start_stop_here calls mode l e x is =
+start_stop_here : (f : PacketForm) (calls : List Command) (mode l : ℕ) → (l == l) ≡ true → (x : ListState) → x ≡ list_after f calls l
+    → start_stopped mode x ≡ list_after f (StartStopDaqList mode l ∷ calls) l
+start_stop_here f calls mode l e x is =
     let new : List Command = StartStopDaqList mode l ∷ calls in
     let odts : map (odt_of calls l) (numbers_below (odt_count calls l)) ≡ map (odt_of new l) (numbers_below (odt_count calls l))
     = odts_same calls new l (start_stop_odts calls mode l l) in
@@ -345,7 +346,7 @@ pub start_stop_put_stands : (s : StoreState) (calls : List Command) (mode l : �
     → StoreStandsAfter (start_stop_put s mode l) (StartStopDaqList mode l ∷ calls)
 start_stop_put_stands s calls mode l h inside = record {
   lists = one_list s calls (StartStopDaqList mode l) l _ h inside
-      (λ here. start_stop_here calls mode l (eq-eqb l l refl) (list_at s l) (get_stands s calls l fresh_state h here))
+      (λ here. start_stop_here s.profile.form calls mode l (eq-eqb l l refl) (list_at s l) (get_stands s calls l (fresh_state s.profile.form) h here))
       (λ i other. start_stop_other calls mode l i other);
   pointer = h.pointer;
   phase = h.phase;
@@ -355,8 +356,8 @@ start_stop_put_stands s calls mode l h inside = record {
 synch_odts : (calls : List Command) (mode i : ℕ) → SameOdts calls (StartStopSynch mode ∷ calls) i
 synch_odts calls mode i = record { odts = refl; entries = λ _. refl; last_write = λ _ _. refl }
 
-synch_here : (calls : List Command) (mode i : ℕ) → synched mode (list_after calls i) ≡ list_after (StartStopSynch mode ∷ calls) i
-synch_here calls mode i =
+synch_here : (f : PacketForm) (calls : List Command) (mode i : ℕ) → synched mode (list_after f calls i) ≡ list_after f (StartStopSynch mode ∷ calls) i
+synch_here f calls mode i =
     let odts : map (odt_of calls i) (numbers_below (odt_count calls i)) ≡ map (odt_of (StartStopSynch mode ∷ calls) i) (numbers_below (odt_count calls i))
     = odts_same calls (StartStopSynch mode ∷ calls) i (synch_odts calls mode i) in
     rw odts refl
@@ -366,8 +367,8 @@ pub synch_put_stands : (s : StoreState) (calls : List Command) (mode : ℕ) → 
 synch_put_stands s calls mode h = record {
   lists =
       ap (map (synched mode)) h.lists
-      ∙ map-map (synched mode) (list_after calls) (numbers_below (list_count calls))
-      ∙ map-same (λ i. synched mode (list_after calls i)) (list_after (StartStopSynch mode ∷ calls)) (numbers_below (list_count calls)) (synch_here calls mode);
+      ∙ map-map (synched mode) (list_after s.profile.form calls) (numbers_below (list_count calls))
+      ∙ map-same (λ i. synched mode (list_after s.profile.form calls i)) (list_after s.profile.form (StartStopSynch mode ∷ calls)) (numbers_below (list_count calls)) (synch_here s.profile.form calls mode);
   pointer = h.pointer;
   phase = h.phase;
 }

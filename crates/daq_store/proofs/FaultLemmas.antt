@@ -19,7 +19,7 @@ use Rattle.daq_store.specs.Running.{is_running, any_list}
 use Rattle.daq_store.specs.Answer.{fault_of, answer, accepted_reply, reply_by, is_active_at}
 use Rattle.daq_store.specs.Standing.{StoreState, StoreStandsAfter, Refuses, odts_of}
 use Rattle.daq_store.specs.Inner.Effects.{some_runs, other_odts, is_unready, runs_at_pointer, or_else, shown_fault, list_at, fresh_state, with_odts, odts_put}
-use Rattle.daq_store.proofs.StandingLemmas.{count_stands, any_stands, first_pid_stands, is_list_stands, has_odt_stands, has_entry_stands, active_stands, ready_stands}
+use Rattle.daq_store.proofs.StandingLemmas.{count_stands, any_stands, odts_stand, is_list_stands, has_odt_stands, has_entry_stands, active_stands, ready_stands}
 use Rattle.daq_store.proofs.EffectLemmas.{odts_put_stands}
 
 -- the two checks of an allocation, and then the others
@@ -46,13 +46,13 @@ odts_total s calls l n h inside =
     let x : ListState = with_odts (list_at s l) n in
     let xs : List ListState = set s.lists l x in
     let total : sum_by odts_of (take (list_count calls) xs) ≡ odts_before (AllocOdt l n ∷ calls) (list_count calls)
-    = first_pid_stands (odts_put s l n) (AllocOdt l n ∷ calls) (list_count calls) (odts_put_stands s calls l n h inside) (omega arith) in
+    = odts_stand (odts_put s l n) (AllocOdt l n ∷ calls) (list_count calls) (odts_put_stands s calls l n h inside) (omega arith) in
     let long : length xs ≡ list_count calls = length-set s.lists l x ∙ count_stands s calls h in
     let all : take (list_count calls) xs ≡ xs = ap (λ k. take k xs) (sym long) ∙ take-length xs in
     let whole : sum_by odts_of xs ≡ odts_before (AllocOdt l n ∷ calls) (list_count calls) = ap (sum_by odts_of) (sym all) ∙ total in
     let new : odts_of x ≡ n = length-replicate n [] in
-    let changed : sum_by odts_of xs + odts_of (list_at s l) ≡ sum_by odts_of s.lists + odts_of x = sum_by-set odts_of s.lists l x fresh_state inside in
-    let own : odts_of (list_at s l) ≤ sum_by odts_of s.lists = get_or-le-sum_by odts_of s.lists l fresh_state inside in
+    let changed : sum_by odts_of xs + odts_of (list_at s l) ≡ sum_by odts_of s.lists + odts_of x = sum_by-set odts_of s.lists l x (fresh_state s.profile.form) inside in
+    let own : odts_of (list_at s l) ≤ sum_by odts_of s.lists = get_or-le-sum_by odts_of s.lists l (fresh_state s.profile.form) inside in
     omega arith
 
 alloc_odt_fault : (s : StoreState) (calls : List Command) (l n : ℕ) → StoreStandsAfter s calls
@@ -123,11 +123,11 @@ fault_stands s calls (StartStopSynch mode) h = synch_fault s calls mode h
 -- what is answered where a check fails, and where none does
 pub answer_fails : (s : StoreState) (calls : List Command) (call : Command) (code : ErrCode) → StoreStandsAfter s calls
     → shown_fault s call ≡ Some code → answer s.profile calls call ≡ Error code
-answer_fails s calls call code h fault = ap (reply_by (accepted_reply calls call)) (fault_stands s calls call h ∙ fault)
+answer_fails s calls call code h fault = ap (reply_by (accepted_reply s.profile calls call)) (fault_stands s calls call h ∙ fault)
 
 pub answer_passes : (s : StoreState) (calls : List Command) (call : Command) → StoreStandsAfter s calls
-    → shown_fault s call ≡ None → answer s.profile calls call ≡ accepted_reply calls call
-answer_passes s calls call h fault = ap (reply_by (accepted_reply calls call)) (fault_stands s calls call h ∙ fault)
+    → shown_fault s call ≡ None → answer s.profile calls call ≡ accepted_reply s.profile calls call
+answer_passes s calls call h fault = ap (reply_by (accepted_reply s.profile calls call)) (fault_stands s calls call h ∙ fault)
 
 -- a refusal that carries the error of that check, or want of memory where none fails
 pub refuses_code : {T : Type 0} (s : StoreState) (call : Command) (code : ErrCode) (r : Result T Refusal)

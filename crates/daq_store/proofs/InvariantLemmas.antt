@@ -9,11 +9,12 @@ use Rattle.std.proofs.lemmas.List.Sums.{sum_by-set}
 use Rattle.std.proofs.lemmas.Option.{slice_get_past, unwrap_or-slice_get}
 use Rattle.std.proofs.lemmas.Bool.Decides.{leb_tells, eqb_tells}
 use Rattle.std.proofs.lemmas.List.Elements.{All-set, All-map, All-get_or}
+use Rattle.xcp_base.specs.declared.packet_form.PacketForm.{PacketForm}
 use Rattle.daq_store.specs.declared.entry.Entry.{Entry}
 use Rattle.daq_store.specs.declared.mode.Mode.{Mode}
 use Rattle.daq_store.specs.declared.list_state.ListState.{ListState}
 use Rattle.daq_store.specs.Configuration.{fresh_conf, odt_entries, is_ready}
-use Rattle.daq_store.specs.Standing.{StoreState, IsStore, IsAtEntry, RunsReady, conf_of, odts_of}
+use Rattle.daq_store.specs.Standing.{StoreState, IsStore, IsAtEntry, HasForm, RunsReady, conf_of, odts_of}
 use Rattle.daq_store.specs.Inner.Effects.{with_mode, with_entry, start_stopped, synched, is_unready}
 use Rattle.daq_store.proofs.TableLemmas.{sum_by-map, below_from}
 use Rattle.daq_store.proofs.StandingLemmas.{conf_at}
@@ -22,18 +23,18 @@ use Rattle.daq_store.proofs.StandingLemmas.{conf_at}
 abbrev all_odts : ListState → List (List (Option Entry))
 all_odts x = x.conf.odts
 
-odts_at : (xs : List ListState) (l : ℕ)
-    → (unwrap_or (option_map (λ x. x.conf) (slice_get xs l)) fresh_conf).odts ≡ get_or (map all_odts xs) l []
-odts_at [] zero = refl
-odts_at [] (suc l) = refl
-odts_at (x ∷ xs) zero = refl
-odts_at (x ∷ xs) (suc l) = odts_at xs l
+odts_at : (f : PacketForm) (xs : List ListState) (l : ℕ)
+    → (unwrap_or (option_map (λ x. x.conf) (slice_get xs l)) (fresh_conf f)).odts ≡ get_or (map all_odts xs) l []
+odts_at f [] zero = refl
+odts_at f [] (suc l) = refl
+odts_at f (x ∷ xs) zero = refl
+odts_at f (x ∷ xs) (suc l) = odts_at f xs l
 
 -- the entry at a place stays, where the ODTs do
 at_kept : (s t : StoreState) (p : ℕ × ℕ × ℕ) → map all_odts t.lists ≡ map all_odts s.lists → IsAtEntry s p → IsAtEntry t p
 at_kept s t p same h =
     let odts : (conf_of t p.0).odts ≡ (conf_of s p.0).odts
-    = odts_at t.lists p.0 ∙ ap (λ xs. get_or xs p.0 []) same ∙ sym (odts_at s.lists p.0) in
+    = odts_at t.profile.form t.lists p.0 ∙ ap (λ xs. get_or xs p.0 []) same ∙ sym (odts_at s.profile.form s.lists p.0) in
     rw (ap (λ (xs : List (List (Option Entry))). length (unwrap_or (slice_get xs p.1) [])) odts) h
 
 pointer_kept : (s t : StoreState) (o : Option (ℕ × ℕ × ℕ)) → map all_odts t.lists ≡ map all_odts s.lists
@@ -43,8 +44,8 @@ pointer_kept s t (Some p) same h = at_kept s t p same h
 
 -- the lists are others with the same ODTs, and those that run are ready
 pub same_odts_keep : (s : StoreState) (ys : List ListState) → IsStore s → map all_odts ys ≡ map all_odts s.lists
-    → All (RunsReady s.profile.image_len) ys → IsStore (record s { lists = ys })
-same_odts_keep s ys h same runs =
+    → All (HasForm s.profile.form) ys → All (RunsReady s.profile.image_len) ys → IsStore (record s { lists = ys })
+same_odts_keep s ys h same forms runs =
     let len : length ys ≡ length s.lists = sym (length-map ys all_odts) ∙ ap length same ∙ length-map s.lists all_odts in
     let total : sum_by odts_of ys ≡ sum_by odts_of s.lists
     = sym (sum_by-map length all_odts ys) ∙ ap (sum_by length) same ∙ sum_by-map length all_odts s.lists in
@@ -53,15 +54,25 @@ same_odts_keep s ys h same runs =
       image_len = h.image_len;
       lists = rw len h.lists;
       odts = rw total h.odts;
+      forms = forms;
       running = runs;
       pointer = pointer_kept s (record s { lists = ys }) s.pointer same h.pointer;
     }
 
--- one list is another with the same ODTs
-one_kept : (s : StoreState) (l : ℕ) (x y : ListState) → IsStore s → x ≡ get_or s.lists l x
-    → RunsReady s.profile.image_len y → all_odts y ≡ all_odts x → IsStore (record s { lists = set s.lists l y })
-one_kept s l x y h is runs odts =
+-- all lists have the store's form after a change of one that keeps its form
+pub forms_set : (s : StoreState) (l : ℕ) (x y : ListState) → IsStore s → l < length s.lists → x ≡ get_or s.lists l x
+    → y.conf.form ≡ x.conf.form → All (HasForm s.profile.form) (set s.lists l y)
+forms_set s l x y h inside is same =
+    let was : HasForm s.profile.form (get_or s.lists l x) = All-get_or (HasForm s.profile.form) s.lists l x inside h.forms in
+    let own : HasForm s.profile.form y = same ∙ ap (λ (z : ListState). z.conf.form) is ∙ was in
+    All-set (HasForm s.profile.form) s.lists l y own h.forms
+
+-- one list is another with the same ODTs and the same form
+one_kept : (s : StoreState) (l : ℕ) (x y : ListState) → IsStore s → l < length s.lists → x ≡ get_or s.lists l x
+    → RunsReady s.profile.image_len y → all_odts y ≡ all_odts x → y.conf.form ≡ x.conf.form → IsStore (record s { lists = set s.lists l y })
+one_kept s l x y h inside is runs odts form =
     same_odts_keep s (set s.lists l y) h (map-set_same all_odts s.lists l y x (odts ∙ ap all_odts is))
+    (forms_set s l x y h inside is form)
     (All-set (RunsReady s.profile.image_len) s.lists l y runs h.running)
 
 -- a list that doesn't run is as good as ready
@@ -69,10 +80,10 @@ stopped_is_ready : (image_len : ℕ) (x : ListState) → x.running ≡ false →
 stopped_is_ready image_len x stopped = λ runs. let bad : true ≡ false = sym runs ∙ stopped in cc
 
 -- SET_DAQ_LIST_MODE
-pub mode_keeps : (s : StoreState) (l : ℕ) (x : ListState) (mode : Mode) → IsStore s → x ≡ get_or s.lists l x → x.running ≡ false
+pub mode_keeps : (s : StoreState) (l : ℕ) (x : ListState) (mode : Mode) → IsStore s → l < length s.lists → x ≡ get_or s.lists l x → x.running ≡ false
     → IsStore (record s { lists = set s.lists l (with_mode x mode) })
-mode_keeps s l x mode h is stopped =
-    one_kept s l x (with_mode x mode) h is (stopped_is_ready s.profile.image_len (with_mode x mode) stopped) refl
+mode_keeps s l x mode h inside is stopped =
+    one_kept s l x (with_mode x mode) h inside is (stopped_is_ready s.profile.image_len (with_mode x mode) stopped) refl refl
 
 -- START_STOP_DAQ_LIST
 started_ready : (select start run ready : Bool) → (run ≡ true → ready ≡ true) → (start && not ready) ≡ false
@@ -89,7 +100,7 @@ start_stop_keeps s l mode x h inside is starts =
     let ready : Bool = is_ready s.profile.image_len x.conf in
     let was : RunsReady s.profile.image_len (get_or s.lists l x) = All-get_or (RunsReady s.profile.image_len) s.lists l x inside h.running in
     let was_ready : RunsReady s.profile.image_len x = subst (RunsReady s.profile.image_len) (sym is) was in
-    one_kept s l x (start_stopped mode x) h is (started_ready (mode == 2) (mode == 1) x.running ready was_ready starts) refl
+    one_kept s l x (start_stopped mode x) h inside is (started_ready (mode == 2) (mode == 1) x.running ready was_ready starts) refl refl
 
 -- START_STOP_SYNCH
 synched_ready : (all start chosen run ready : Bool) → (all && start) ≡ false → (run ≡ true → ready ≡ true)
@@ -121,6 +132,7 @@ pub synch_keeps : (s : StoreState) (mode : ℕ) → IsStore s
 synch_keeps s mode h starts =
     let none = none_of (mode == 1) (is_unready s.profile.image_len) s.lists starts in
     same_odts_keep s (map (synched mode) s.lists) h (map-map all_odts (synched mode) s.lists)
+    (All-map (HasForm s.profile.form) (synched mode) s.lists h.forms)
     (All-map (RunsReady s.profile.image_len) (synched mode) s.lists
     (λ k d inside.
     let x : ListState = get_or s.lists k d in
@@ -156,8 +168,9 @@ entry_keeps s l k e x entry h inside is stopped there =
     let y : ListState = with_entry x k e entry in
     let xs : List ListState = set s.lists l y in
     let t : StoreState = record s { lists = xs } in
+    let forms : All (HasForm s.profile.form) xs = forms_set s l x y h inside is refl in
     let long : l < length xs = rw (length-set s.lists l y) inside in
-    let conf : y.conf ≡ conf_of t l = conf_at t l y long (sym (get_or-set_same s.lists l y y inside)) in
+    let conf : y.conf ≡ conf_of t l = conf_at t l y forms long (sym (get_or-set_same s.lists l y y inside)) in
     let entries : odt_entries y.conf k ≡ set (odt_entries x.conf k) e (Some entry)
     = set_here x.conf.odts k (set (odt_entries x.conf k) e (Some entry)) (odt_inside x.conf.odts k e there) in
     let len : length (odt_entries (conf_of t l) k) ≡ length (odt_entries x.conf k)
@@ -169,6 +182,7 @@ entry_keeps s l k e x entry h inside is stopped there =
       image_len = h.image_len;
       lists = rw (length-set s.lists l y) h.lists;
       odts = omega (arith, sum_by-set odts_of s.lists l y x inside, own, got, h.odts);
+      forms = forms;
       running = All-set (RunsReady s.profile.image_len) s.lists l y (stopped_is_ready s.profile.image_len y stopped) h.running;
       pointer = next_is_there t l k e (nat_lt (e + 1) (length (odt_entries x.conf k))) (λ more. rw len (below_from _ _ more));
     }

@@ -1,6 +1,7 @@
 -- Worked examples of command packets, on literals: a wrong rule in specs/ does not check here.
 use Rattle.std.proofs.Common.{◌≡◌, ℕ, List, [], ◌∷◌, Some, None, Ok, lit<, refl}
 use Rattle.xcp_base.specs.declared.err_code.ErrCode.TheVariants.{CmdSyntax, CmdUnknown}
+use Rattle.xcp_base.specs.Forms.{usual_form}
 use Rattle.daq_store.specs.declared.command.Command.TheVariants.{AllocDaq, SetDaqListMode, WriteDaq}
 use Rattle.daq_store.specs.Calls.{Profile}
 use Rattle.daq_store.specs.Commands.{IsPacketOf, command, command_bytes, packet_fault}
@@ -31,7 +32,7 @@ fault-none : packet_fault (0xDD ∷ 0x00 ∷ []) ≡ None
 fault-none = refl
 
 profile : Profile
-profile = record { channels = 1; image_len = 4 }
+profile = record { channels = 1; image_len = 4; form = usual_form }
 
 RES : List ℕ
 RES = 0xFF ∷ []

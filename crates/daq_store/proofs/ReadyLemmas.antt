@@ -46,11 +46,11 @@ and_false : (b : Bool) → (b && false) ≡ false
 and_false true = refl
 and_false false = refl
 
-pub long_packet : (image_len : ℕ) (c : Configuration) (k : ℕ) → k < length c.odts → MAX_DTO < packet_len (is_stamped c.mode) k (entries_len c k) → false ≡ is_ready image_len c
+pub long_packet : (image_len : ℕ) (c : Configuration) (k : ℕ) → k < length c.odts → MAX_DTO < packet_len c.form (is_stamped c.mode) k (entries_len c k) → false ≡ is_ready image_len c
 long_packet image_len c k inside long =
     let test : ℕ → Bool = is_short c in
     let fails : test k ≡ false
-    = elim (leb_tells (packet_len (is_stamped c.mode) k (entries_len c k)) MAX_DTO) as (λ v. test k ≡ false) [ inl short ↦ absurd (omega (arith, long, short.1)) | inr t ↦ t.0 ] in
+    = elim (leb_tells (packet_len c.form (is_stamped c.mode) k (entries_len c k)) MAX_DTO) as (λ v. test k ≡ false) [ inl short ↦ absurd (omega (arith, long, short.1)) | inr t ↦ t.0 ] in
     let at : get_or (numbers_below (length c.odts)) k 0 ≡ k = get_or-range_with_len 0 (length c.odts) k 0 inside ∙ zero-add k in
     let within : k < length (numbers_below (length c.odts)) = rw (length-range_with_len 0 (length c.odts)) inside in
     let short : are_short c ≡ false = list_all_at test (numbers_below (length c.odts)) k 0 within (ap test at ∙ fails) in

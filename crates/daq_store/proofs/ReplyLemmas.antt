@@ -23,23 +23,23 @@ some_fault : (accepted : Reply) (code : ErrCode) (fault : Option ErrCode) → Is
 some_fault accepted code None positive is = absurd (subst IsPositive is positive)
 some_fault accepted code (Some other) positive is = refl
 
-accepted_is_positive : (calls : List Command) (call : Command) → IsPositive (accepted_reply calls call)
-accepted_is_positive calls FreeDaq = tt
-accepted_is_positive calls (AllocDaq count) = tt
-accepted_is_positive calls (AllocOdt list count) = tt
-accepted_is_positive calls (AllocOdtEntry list odt count) = tt
-accepted_is_positive calls (SetDaqPtr list odt entry) = tt
-accepted_is_positive calls (WriteDaq bit size ext addr) = tt
-accepted_is_positive calls (SetDaqListMode mode list channel prescaler priority) = tt
-accepted_is_positive calls (StartStopDaqList mode list) = tt
-accepted_is_positive calls (StartStopSynch mode) = tt
+accepted_is_positive : (p : Profile) (calls : List Command) (call : Command) → IsPositive (accepted_reply p calls call)
+accepted_is_positive p calls FreeDaq = tt
+accepted_is_positive p calls (AllocDaq count) = tt
+accepted_is_positive p calls (AllocOdt list count) = tt
+accepted_is_positive p calls (AllocOdtEntry list odt count) = tt
+accepted_is_positive p calls (SetDaqPtr list odt entry) = tt
+accepted_is_positive p calls (WriteDaq bit size ext addr) = tt
+accepted_is_positive p calls (SetDaqListMode mode list channel prescaler priority) = tt
+accepted_is_positive p calls (StartStopDaqList mode list) = tt
+accepted_is_positive p calls (StartStopSynch mode) = tt
 
 -- an accepted call is carried out
 pub accepted_is_carried : (old new : StoreState) (call : Command) (reply : Reply) → IsAccepted old new call reply → CarriesOut old new call reply
 accepted_is_carried old new call reply accepted = λ calls stands.
     let both = accepted.1 calls stands in
     let none : is_some (fault_of old.profile calls call) ≡ false =
-    no_fault (accepted_reply calls call) reply (fault_of old.profile calls call) both.0 accepted.0 in
+    no_fault (accepted_reply old.profile calls call) reply (fault_of old.profile calls call) both.0 accepted.0 in
     let P : Bool → Type 0 = λ b. StoreStandsAfter new (if b then calls else and_then calls call) in
     (sym both.0, subst P (sym none) both.1)
 
@@ -48,7 +48,7 @@ pub refused_is_carried : (old new : StoreState) (call : Command) (code : ErrCode
 refused_is_carried old new call code refused same = λ calls stands.
     let answered : answer old.profile calls call ≡ Error code = refused calls stands in
     let some : is_some (fault_of old.profile calls call) ≡ true =
-    some_fault (accepted_reply calls call) code (fault_of old.profile calls call) (accepted_is_positive calls call) answered in
+    some_fault (accepted_reply old.profile calls call) code (fault_of old.profile calls call) (accepted_is_positive old.profile calls call) answered in
     let P : Bool → Type 0 = λ b. StoreStandsAfter new (if b then calls else and_then calls call) in
     let Q : StoreState → Type 0 = λ s. StoreStandsAfter s calls in
     (sym answered, subst P (sym some) (subst Q (sym same) stands))

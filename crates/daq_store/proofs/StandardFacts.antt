@@ -1,8 +1,14 @@
 -- Worked examples: what the definitions say of some lists of calls, each as it computes.
-use Rattle.std.proofs.Common.{◌≡◌, ℕ, List, [], ◌∷◌, refl, true, false, Some, None}
+use Rattle.std.proofs.Common.{◌≡◌, ℕ, List, [], ◌∷◌, drop, refl, true, false, Some, None}
 use Rattle.xcp_base.specs.declared.err_code.ErrCode.TheVariants.{DaqActive, OutOfRange, ModeNotValid, Sequence, DaqConfig, MemoryOverflow}
+use Rattle.xcp_base.specs.declared.id_kind.IdKind.{IdKind}
+use Rattle.xcp_base.specs.declared.id_kind.IdKind.TheVariants.{Absolute, RelativeByte, RelativeWord}
+use Rattle.xcp_base.specs.declared.stamp_size.StampSize.TheVariants.{One, Two, Four}
+use Rattle.xcp_base.specs.declared.packet_form.PacketForm.{PacketForm}
+use Rattle.xcp_base.specs.Forms.{usual_form}
 use Rattle.daq_store.specs.declared.command.Command.{Command}
 use Rattle.daq_store.specs.declared.command.Command.TheVariants.{FreeDaq, AllocDaq, AllocOdt, AllocOdtEntry, SetDaqPtr, WriteDaq, SetDaqListMode, StartStopDaqList, StartStopSynch}
+use Rattle.daq_store.specs.declared.reply.Reply.{Reply}
 use Rattle.daq_store.specs.declared.reply.Reply.TheVariants.{Positive, Started, Error}
 use Rattle.daq_store.specs.Calls.{Profile}
 use Rattle.daq_store.specs.Shape.{odts_before}
@@ -14,7 +20,7 @@ use Rattle.daq_store.specs.Answer.{answers, calls_after}
 
 -- one event channel, and images of so many bytes
 abbrev images_of : ℕ → Profile
-images_of n = record { channels = 1; image_len = n }
+images_of n = record { channels = 1; image_len = n; form = usual_form }
 
 -- the calls that stand after a list of calls that were asked for, the first of which stands first here
 abbrev stand_after : Profile → List Command → List Command → List Command
@@ -39,6 +45,23 @@ at_most_124_odts = refl
 
 first_pid_of_the_last : odts_before (stand_after (images_of 4) [] many_odts) 15 ≡ 0x78
 first_pid_of_the_last = refl
+
+-- with a relative ODT number all 128 that the lists may have, and FIRST_PID 0 for each list
+abbrev relative_images_of : IdKind → ℕ → Profile
+relative_images_of id n = record (images_of n) { form = record usual_form { id = id } }
+
+abbrev all_odts : List Command
+all_odts =
+    AllocDaq 16 ∷ AllocOdt 0 9 ∷ AllocOdt 0 8 ∷ AllocOdt 1 8 ∷ AllocOdt 2 8 ∷ AllocOdt 3 8 ∷ AllocOdt 4 8 ∷ AllocOdt 5 8
+    ∷ AllocOdt 6 8 ∷ AllocOdt 7 8 ∷ AllocOdt 8 8 ∷ AllocOdt 9 8 ∷ AllocOdt 10 8 ∷ AllocOdt 11 8 ∷ AllocOdt 12 8
+    ∷ AllocOdt 13 8 ∷ AllocOdt 14 8 ∷ AllocOdt 15 8 ∷ StartStopDaqList 2 15 ∷ []
+
+all_128_odts :
+    answers (relative_images_of RelativeByte 4) [] all_odts
+    ≡ Positive ∷ Error MemoryOverflow ∷ Positive ∷ Positive ∷ Positive ∷ Positive ∷ Positive ∷ Positive
+    ∷ Positive ∷ Positive ∷ Positive ∷ Positive ∷ Positive ∷ Positive ∷ Positive
+    ∷ Positive ∷ Positive ∷ Positive ∷ Started 0 ∷ []
+all_128_odts = refl
 
 -- allocations in their order
 allocations_in_order :
@@ -90,6 +113,24 @@ unstamped_61_bytes :
     answers (images_of 64) [] (one_packet 0x00 60)
     ≡ Positive ∷ Positive ∷ Positive ∷ Positive ∷ Positive ∷ Positive ∷ Started 0 ∷ []
 unstamped_61_bytes = refl
+
+-- the longer identification field counts, and the shorter timestamp
+abbrev last_answer : PacketForm → ℕ → ℕ → List Reply
+last_answer form mode size = drop 6 (answers (record (images_of 64) { form = form }) [] (one_packet mode size))
+
+list_numbers_count :
+    (last_answer (record { id = RelativeByte; stamp = Four }) 0x10 58 ≡ Started 0 ∷ [])
+    × (last_answer (record { id = RelativeByte; stamp = Four }) 0x10 59 ≡ Error DaqConfig ∷ [])
+    × (last_answer (record { id = RelativeWord; stamp = Four }) 0x10 57 ≡ Started 0 ∷ [])
+    × (last_answer (record { id = RelativeWord; stamp = Four }) 0x10 58 ≡ Error DaqConfig ∷ [])
+list_numbers_count = (refl, refl, refl, refl)
+
+short_timestamps_count :
+    (last_answer (record { id = Absolute; stamp = One }) 0x10 62 ≡ Started 0 ∷ [])
+    × (last_answer (record { id = Absolute; stamp = One }) 0x10 63 ≡ Error DaqConfig ∷ [])
+    × (last_answer (record { id = Absolute; stamp = Two }) 0x10 61 ≡ Started 0 ∷ [])
+    × (last_answer (record { id = Absolute; stamp = Two }) 0x10 62 ≡ Error DaqConfig ∷ [])
+short_timestamps_count = (refl, refl, refl, refl)
 
 unwritten_entry :
     answers (images_of 64) [] (one_entry (SetDaqListMode 0 0 0 1 0 ∷ StartStopDaqList 1 0 ∷ []))

@@ -4,7 +4,8 @@ use Rattle.std.specs.Prelude.{ℕ, ◌+◌, ◌==◌, ◌&&◌, ◌||◌, not, n
 use Rattle.std.specs.Prelude.{List, [], ◌∷◌, Option, Some, None, is_some, is_none}
 use Rattle.xcp_base.specs.declared.limits.TheConstants.{ADDRESS_EXTENSION, MAX_ENTRIES}
 use Rattle.xcp_base.specs.declared.limits.TheConstants.{MAX_ENTRY_SIZE}
-use Rattle.xcp_base.specs.declared.limits.TheConstants.{MAX_LISTS, MAX_ODTS, MAX_ODTS_IN_ALL}
+use Rattle.xcp_base.specs.declared.limits.TheConstants.{MAX_LISTS, MAX_ODTS}
+use Rattle.xcp_base.specs.Forms.{first_pid_behind, most_odts}
 use Rattle.xcp_base.specs.declared.err_code.ErrCode.{ErrCode}
 use Rattle.xcp_base.specs.declared.err_code.ErrCode.TheVariants.{DaqActive, OutOfRange}
 use Rattle.xcp_base.specs.declared.err_code.ErrCode.TheVariants.{ModeNotValid, Sequence, DaqConfig}
@@ -25,10 +26,10 @@ use Rattle.daq_store.specs.Configuration.{list_is_ready}
 
 -- with n ODTs in list l, in place of those that it has, the list would have too many, or all lists
 -- together
-abbrev pub are_too_many : List Command → ℕ → ℕ → Bool
-are_too_many calls l n =
+abbrev pub are_too_many : Profile → List Command → ℕ → ℕ → Bool
+are_too_many profile calls l n =
     nat_lt MAX_ODTS n
-    || nat_lt MAX_ODTS_IN_ALL (odts_before (AllocOdt l n ∷ calls) (list_count calls))
+    || nat_lt (most_odts profile.form.id) (odts_before (AllocOdt l n ∷ calls) (list_count calls))
 
 -- the pointer is defined, and its list exists and runs
 abbrev pub is_active_at : List Command → Option (ℕ × ℕ × ℕ) → Bool
@@ -57,7 +58,7 @@ checks profile calls (AllocOdt list count) =
     (any_list calls (is_running calls), DaqActive)
     ∷ (forbids_odts (phase_of calls), Sequence)
     ∷ (not (is_list calls list), OutOfRange)
-    ∷ (are_too_many calls list count, MemoryOverflow) ∷ []
+    ∷ (are_too_many profile calls list count, MemoryOverflow) ∷ []
 checks profile calls (AllocOdtEntry list odt count) =
     (any_list calls (is_running calls), DaqActive)
     ∷ (forbids_entries (phase_of calls), Sequence)
@@ -95,9 +96,10 @@ abbrev pub fault_of : Profile → List Command → Command → Option ErrCode
 fault_of profile calls call = first_failing (checks profile calls call)
 
 -- the positive reply to a call: to START_STOP_DAQ_LIST with FIRST_PID of its list
-abbrev pub accepted_reply : List Command → Command → Reply
-accepted_reply calls (StartStopDaqList mode list) = Started (odts_before calls list)
-accepted_reply calls _ = Positive
+abbrev pub accepted_reply : Profile → List Command → Command → Reply
+accepted_reply profile calls (StartStopDaqList mode list) =
+    Started (first_pid_behind profile.form.id (odts_before calls list))
+accepted_reply profile calls _ = Positive
 
 -- the error, or else the positive reply
 abbrev pub reply_by : Reply → Option ErrCode → Reply
@@ -106,7 +108,7 @@ reply_by accepted (Some code) = Error code
 
 -- the answer to a call
 abbrev pub answer : Profile → List Command → Command → Reply
-answer profile calls call = reply_by (accepted_reply calls call) (fault_of profile calls call)
+answer profile calls call = reply_by (accepted_reply profile calls call) (fault_of profile calls call)
 
 -- the calls that stand after one that was asked for: those before it, if it was refused
 abbrev pub calls_after : Profile → List Command → Command → List Command

@@ -3,13 +3,16 @@
 -- that matters (own).
 use Rattle.std.specs.Prelude.{ℕ, List, [], ◌∷◌}
 use Rattle.std.specs.List.{range_with_len}
+use Rattle.xcp_base.specs.declared.packet_form.PacketForm.{PacketForm}
 use Rattle.daq_store.specs.declared.command.Command.{Command}
 use Rattle.daq_store.specs.declared.command.Command.TheVariants.{FreeDaq}
 
--- what a store is made for: its number of event channels, and the length of its images in bytes
+-- what a store is made for: its number of event channels, the length of its images in bytes, and the
+-- form of its packets
 pub record Profile : Type 0 where
   pub channels : ℕ
   pub image_len : ℕ
+  pub form : PacketForm
 
 -- the calls that stand after one more: FREE_DAQ leaves none
 abbrev pub and_then : List Command → Command → List Command

@@ -6,6 +6,7 @@ use Rattle.std.specs.Prelude.{Option, Some, None, is_some, option_and_then, unwr
 use Rattle.std.specs.List.{list_all}
 use Rattle.xcp_base.specs.declared.limits.TheConstants.{MAX_CHANNELS, MAX_DTO, MAX_ENTRIES}
 use Rattle.xcp_base.specs.declared.limits.TheConstants.{MAX_ENTRY_SIZE, MAX_ODTS}
+use Rattle.xcp_base.specs.declared.packet_form.PacketForm.{PacketForm}
 use Rattle.xcp_base.specs.Packets.{packet_len}
 use Rattle.daq_store.specs.declared.command.Command.{Command}
 use Rattle.daq_store.specs.declared.mode.Mode.{Mode}
@@ -15,23 +16,25 @@ use Rattle.daq_store.specs.Shape.{odt_count}
 use Rattle.daq_store.specs.Entries.{odt_of}
 use Rattle.daq_store.specs.Modes.{mode_of}
 
--- a list as it is set: its mode, if one was set, and for each ODT its entries, of which some may be
--- unwritten
+-- a list as it is set: the form of its packets, its mode, if one was set, and for each ODT its
+-- entries, of which some may be unwritten
 pub record Configuration : Type 0 where
+  pub form : PacketForm
   pub mode : Option Mode
   pub odts : List (List (Option Entry))
 
--- what is set of list l
-abbrev pub configuration : List Command → ℕ → Configuration
-configuration calls l =
+-- what is set of list l, in a store whose packets have this form
+abbrev pub configuration : PacketForm → List Command → ℕ → Configuration
+configuration form calls l =
     record {
+      form = form;
       mode = mode_of calls l;
       odts = map (odt_of calls l) (numbers_below (odt_count calls l));
     }
 
 -- a list as it is when it is allocated
-abbrev pub fresh_conf : Configuration
-fresh_conf = record { mode = None; odts = [] }
+abbrev pub fresh_conf : PacketForm → Configuration
+fresh_conf form = record { form = form; mode = None; odts = [] }
 
 -- the entries of ODT k; none where there is no such ODT
 abbrev pub odt_entries : Configuration → ℕ → List (Option Entry)
@@ -78,7 +81,7 @@ is_filled image_len entries = nat_lt 0 (length entries) && list_all (is_within i
 
 -- the packet of ODT k has at most MAX_DTO bytes
 abbrev pub is_short : Configuration → ℕ → Bool
-is_short c k = nat_le (packet_len (is_stamped c.mode) k (entries_len c k)) MAX_DTO
+is_short c k = nat_le (packet_len c.form (is_stamped c.mode) k (entries_len c k)) MAX_DTO
 
 -- the packet of each ODT is short enough
 abbrev pub are_short : Configuration → Bool
@@ -92,7 +95,7 @@ is_ready image_len c =
 
 -- list l is ready
 abbrev pub list_is_ready : Profile → List Command → ℕ → Bool
-list_is_ready profile calls l = is_ready profile.image_len (configuration calls l)
+list_is_ready profile calls l = is_ready profile.image_len (configuration profile.form calls l)
 
 -- a mode names one of the channels that there may be, and a prescaler of at least 1
 abbrev pub IsMode : Mode → Type 0

@@ -50,7 +50,7 @@ has_odt calls l k = is_list calls l && nat_lt k (odt_count calls l)
 abbrev pub has_entry : List Command → ℕ → ℕ → ℕ → Bool
 has_entry calls l k e = has_odt calls l k && nat_lt e (entry_count calls l k)
 
--- the ODTs of the lists before l: FIRST_PID of l (own)
+-- the ODTs of the lists before l: FIRST_PID of l with an absolute ODT number (own)
 abbrev pub odts_before : List Command → ℕ → ℕ
 odts_before calls l = sum_by (odt_count calls) (numbers_below l)
 

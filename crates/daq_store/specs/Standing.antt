@@ -3,7 +3,8 @@ use Rattle.std.specs.Prelude.{◌≡◌, ℕ, ◌<◌, ◌≤◌, Bool, true, fa
 use Rattle.std.specs.Prelude.{sum_by, take, slice_get, unwrap_or, option_map, IfSome, All, Option}
 use Rattle.std.specs.Prelude.{Some, None}
 use Rattle.xcp_base.specs.declared.limits.TheConstants.{MAX_CHANNELS, MAX_IMAGE_LEN, MAX_LISTS}
-use Rattle.xcp_base.specs.declared.limits.TheConstants.{MAX_ODTS_IN_ALL}
+use Rattle.xcp_base.specs.declared.packet_form.PacketForm.{PacketForm}
+use Rattle.xcp_base.specs.Forms.{first_pid_behind, most_odts}
 use Rattle.daq_store.specs.declared.command.Command.{Command}
 use Rattle.daq_store.specs.declared.phase.Phase.{Phase}
 use Rattle.daq_store.specs.declared.refusal.Refusal.{Refusal}
@@ -26,18 +27,18 @@ pub record StoreState : Type 0 where
   pub pointer : Option (ℕ × ℕ × ℕ)
   pub phase : Phase
 
--- list l after some calls
-abbrev pub list_after : List Command → ℕ → ListState
-list_after calls l =
+-- list l after some calls, in a store whose packets have this form
+abbrev pub list_after : PacketForm → List Command → ℕ → ListState
+list_after form calls l =
     record {
-      conf = configuration calls l;
+      conf = configuration form calls l;
       running = is_running calls l;
       selected = is_selected calls l;
     }
 
 -- the store shows what is read off the calls
 pub record StoreStandsAfter (s : StoreState) (calls : List Command) : Type 0 where
-  pub lists : s.lists ≡ map (list_after calls) (numbers_below (list_count calls))
+  pub lists : s.lists ≡ map (list_after s.profile.form calls) (numbers_below (list_count calls))
   pub pointer : s.pointer ≡ pointer calls
   pub phase : s.phase ≡ phase_of calls
 
@@ -60,8 +61,13 @@ Refuses s call (Code code) =
 Refuses s call Memory = PassesAll s call
 
 -- what is set of list l; what a fresh list has where there is no list l
+abbrev pub conf_shown : StoreState → ℕ → Configuration
+conf_shown s l =
+    unwrap_or (option_map (λ x. x.conf) (slice_get s.lists l)) (fresh_conf s.profile.form)
+
+-- the same, in the form of the store's packets: so it is in every store
 abbrev pub conf_of : StoreState → ℕ → Configuration
-conf_of s l = unwrap_or (option_map (λ x. x.conf) (slice_get s.lists l)) fresh_conf
+conf_of s l = record (conf_shown s l) { form = s.profile.form }
 
 -- list l exists and runs, exists and is selected
 abbrev pub shows_running : StoreState → ℕ → Bool
@@ -75,16 +81,25 @@ abbrev pub odts_of : ListState → ℕ
 odts_of x = length x.conf.odts
 
 -- the ODTs of the lists before l
-abbrev pub first_pid_of : StoreState → ℕ → ℕ
-first_pid_of s l = sum_by odts_of (take l s.lists)
+abbrev pub odts_shown : StoreState → ℕ → ℕ
+odts_shown s l = sum_by odts_of (take l s.lists)
 
--- FIRST_PID of list l, if there is one
-abbrev pub first_pid_after : List Command → ℕ → Option ℕ
-first_pid_after calls l = if is_list calls l then Some (odts_before calls l) else None
+-- FIRST_PID of list l
+abbrev pub first_pid_of : StoreState → ℕ → ℕ
+first_pid_of s l = first_pid_behind s.profile.form.id (odts_shown s l)
+
+-- FIRST_PID of list l after some calls, if there is one, in a store whose packets have this form
+abbrev pub first_pid_after : PacketForm → List Command → ℕ → Option ℕ
+first_pid_after form calls l =
+    if is_list calls l then Some (first_pid_behind form.id (odts_before calls l)) else None
 
 -- a list that runs is ready
 abbrev pub RunsReady : ℕ → ListState → Type 0
 RunsReady image_len x = x.running ≡ true → is_ready image_len x.conf ≡ true
+
+-- the packets of a list have this form
+abbrev pub HasForm : PacketForm → ListState → Type 0
+HasForm form x = x.conf.form ≡ form
 
 -- the place is that of an entry
 abbrev pub IsAtEntry : StoreState → ℕ × ℕ × ℕ → Type 0
@@ -95,6 +110,7 @@ pub record IsStore (s : StoreState) : Type 0 where
   pub channels : (1 ≤ s.profile.channels) × (s.profile.channels ≤ MAX_CHANNELS)
   pub image_len : (1 ≤ s.profile.image_len) × (s.profile.image_len ≤ MAX_IMAGE_LEN)
   pub lists : length s.lists ≤ MAX_LISTS
-  pub odts : sum_by odts_of s.lists ≤ MAX_ODTS_IN_ALL
+  pub odts : sum_by odts_of s.lists ≤ most_odts s.profile.form.id
+  pub forms : All (HasForm s.profile.form) s.lists
   pub running : All (RunsReady s.profile.image_len) s.lists
   pub pointer : IfSome s.pointer (IsAtEntry s)

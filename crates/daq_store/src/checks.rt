@@ -1,9 +1,10 @@
 //! The checks of each call, in their order: active list, sequence, numbers and ranges, mode,
 //! configuration, limits of allocation (own).
 
-ghost use Rattle.std.specs.Prelude.{◌≡◌, ◌+◌, ◌<◌, ◌≤◌, ◌&&◌, ◌==◌, true, false, IfErr, IfOk, OnOk};
+ghost use Rattle.std.specs.Prelude.{◌≡◌, ◌+◌, ◌*◌, ◌<◌, ◌≤◌, ◌&&◌, ◌==◌, true, false, IfErr, IfOk, OnOk};
 ghost use Rattle.std.specs.Prelude.{length, Some};
 ghost use Rattle.std.specs.List.{list_any};
+ghost use Rattle.xcp_base.specs.Forms.{most_odts};
 ghost use Rattle.daq_store.specs.Answer.{is_bad_entry};
 ghost use Rattle.daq_store.specs.Inner.Effects.{some_runs, shows_list, shows_odt, shows_entry};
 ghost use Rattle.daq_store.specs.Inner.Effects.{other_odts, shows_too_many, shows_unready};
@@ -19,11 +20,10 @@ use crate::store::Store;
 use xcp_base::ErrCode;
 use xcp_base::limits::{
     ADDRESS_EXTENSION, MAX_CHANNELS, MAX_ENTRIES, MAX_ENTRY_SIZE, MAX_LISTS, MAX_ODTS,
-    MAX_ODTS_IN_ALL,
 };
 
 impl Store {
-    ghost use Rattle.daq_store.specs.Standing.{first_pid_of, shows_running};
+    ghost use Rattle.daq_store.specs.Standing.{first_pid_of, odts_shown, shows_running};
 
     /// The checks of ALLOC_DAQ.
     pub(crate) fn check_alloc_daq(&self, count: u16) -> Result<(), ErrCode>
@@ -45,7 +45,8 @@ impl Store {
         ensures stopped { OnOk result (some_runs self.now ≡ false) }
         ensures there { OnOk result (list < length self.now.lists) }
         ensures limit { OnOk result (count ≤ MAX_ODTS) }
-        ensures total { OnOk result (other_odts self.now list + count ≤ MAX_ODTS_IN_ALL) }
+        ensures total { OnOk result
+            (other_odts self.now list + count ≤ most_odts self.now.profile.form.id) }
     {
         self.check_allocation(self.phase.forbids_odts())?;
         if !self.is_list(list) {
@@ -241,8 +242,8 @@ impl Store {
     /// The number of the ODTs of the lists before a list.
     pub(crate) fn odts_before(&self, list: usize) -> usize
         requires { list ≤ length self.now.lists }
-        ensures value { result ≡ first_pid_of self.now list }
-        ensures limit { result ≤ MAX_ODTS_IN_ALL }
+        ensures value { result ≡ odts_shown self.now list }
+        ensures limit { result ≤ MAX_LISTS * MAX_ODTS }
     {
         let mut odts = 0;
         for state in &self.lists[..list] {
@@ -251,10 +252,18 @@ impl Store {
         odts
     }
 
+    /// FIRST_PID of a list that is there.
+    pub(crate) fn first_pid_at(&self, list: usize) -> u8
+        requires { list ≤ length self.now.lists }
+        ensures { result ≡ first_pid_of self.now list }
+    {
+        self.form.id.first_pid(self.odts_before(list)) as u8
+    }
+
     /// The number of the ODTs of all lists but one.
     fn other_odts(&self, list: u16) -> usize
         ensures value { result ≡ other_odts self.now list }
-        ensures limit { result ≤ MAX_ODTS_IN_ALL }
+        ensures limit { result ≤ MAX_LISTS * MAX_ODTS }
     {
         let odts = self.odts_before(self.lists.len());
         match self.lists.get(list as usize) {
@@ -268,7 +277,7 @@ impl Store {
         ensures { result ≡ shows_too_many self.now list count }
     {
         let count = count as usize;
-        count > MAX_ODTS || self.other_odts(list) + count > MAX_ODTS_IN_ALL
+        count > MAX_ODTS || self.other_odts(list) + count > self.form.id.most_odts()
     }
 
     /// Whether there is no such list or event channel, or the prescaler is 0.

@@ -3,6 +3,7 @@
 ghost use Rattle.std.specs.Prelude.{◌≡◌, ◌+◌, ◌<◌, ◌≤◌, ◌&&◌, ◌==◌, true, false, OnOk, OnErr};
 ghost use Rattle.std.specs.Prelude.{length, map, nat_lt, if◌then◌else◌};
 ghost use Rattle.std.specs.List.{list_any};
+ghost use Rattle.xcp_base.specs.Forms.{most_odts};
 ghost use Rattle.daq_store.specs.Configuration.{IsMode};
 ghost use Rattle.daq_store.specs.Inner.Effects.{some_runs, shows_odt, shows_entry, shows_unready};
 ghost use Rattle.daq_store.specs.Inner.Effects.{is_unready, other_odts, lists_put, odts_put};
@@ -16,7 +17,7 @@ use crate::mode::Mode;
 use crate::phase::Phase;
 use crate::store::Store;
 use std::alloc::AllocError;
-use xcp_base::limits::{MAX_ENTRIES, MAX_ENTRY_SIZE, MAX_LISTS, MAX_ODTS, MAX_ODTS_IN_ALL};
+use xcp_base::limits::{MAX_ENTRIES, MAX_ENTRY_SIZE, MAX_LISTS, MAX_ODTS};
 
 impl Store {
     ghost use Rattle.daq_store.specs.Standing.{shows_running};
@@ -27,7 +28,7 @@ impl Store {
         ensures ok { OnOk result (self.new ≡ lists_put self.old count) }
         ensures err { OnErr result (self.new ≡ self.old) }
     {
-        let lists = fresh_lists(self.alloc, count as usize)?;
+        let lists = fresh_lists(self.alloc, self.form, count as usize)?;
         self.lists = lists;
         self.pointer = None;
         self.phase = Phase::Daq;
@@ -38,7 +39,7 @@ impl Store {
     pub(crate) fn put_odts(&mut self, list: u16, count: u8) -> Result<(), AllocError>
         requires there { list < length self.old.lists }
         requires limit { count ≤ MAX_ODTS }
-        requires total { other_odts self.old list + count ≤ MAX_ODTS_IN_ALL }
+        requires total { other_odts self.old list + count ≤ most_odts self.old.profile.form.id }
         requires stopped { some_runs self.old ≡ false }
         ensures ok { OnOk result (self.new ≡ odts_put self.old list count) }
         ensures err { OnErr result (self.new ≡ self.old) }

@@ -1,5 +1,6 @@
 ghost use Rattle.std.specs.Prelude.{◌≡◌, ◌<◌, ◌≤◌, IfOk, IfSome, OnOk, OnErr, IsSome, [], None};
 ghost use Rattle.std.specs.Prelude.{Some, length, option_map, replicate, slice_set};
+ghost use Rattle.xcp_base.specs.Forms.{stamp_bytes};
 ghost use Rattle.xcp_base.specs.Packets.{stamp_len};
 ghost use Rattle.daq_store.specs.Configuration.{channel_of, prescaler_of, priority_of, is_stamped};
 ghost use Rattle.daq_store.specs.Configuration.{odt_entries, entry_of, is_ready};
@@ -10,11 +11,14 @@ use crate::mode::Mode;
 use crate::odt::Odt;
 use std::alloc::{AllocError, Global};
 use std::marker::Model;
-use xcp_base::limits::{MAX_CHANNELS, MAX_DTO, MAX_ENTRIES, MAX_ENTRY_SIZE, MAX_ODTS};
+use xcp_base::limits::{MAX_CHANNELS, MAX_DTO, MAX_ENTRIES, MAX_ENTRY_SIZE, MAX_ODTS, MAX_STAMP};
+use xcp_base::{IdKind, PacketForm};
 
-/// What is set of a DAQ list: its mode, and the entries of its ODTs.
+/// What is set of a DAQ list: its mode, and the entries of its ODTs; and the form of its packets,
+/// which is that of the store.
 #[derive(Drop)]
 pub struct ListConf {
+    form: PacketForm,
     mode: Option<Mode>,
     odts: Vec<Odt>,
 }
@@ -24,12 +28,37 @@ impl Model for ListConf {
 
     ghost Value = { Configuration };
 
-    ghost view = { λ a. record { mode = a.mode; odts = a.odts.items } };
+    ghost view = { λ a. record { form = a.form; mode = a.mode; odts = a.odts.items } };
 
-    ghost invariant = { λ a. IsWithinLimits (record { mode = a.mode; odts = a.odts.items }) };
+    ghost invariant = { λ a. IsWithinLimits (record {
+      form = a.form;
+      mode = a.mode;
+      odts = a.odts.items;
+    }) };
 }
 
 impl ListConf {
+    /// The identification field of its packets.
+    pub fn id(&self) -> IdKind
+        ensures { result ≡ self.now.form.id }
+    {
+        self.form.id
+    }
+
+    /// The bytes of a timestamp: 1, 2 or 4.
+    pub fn stamp_size(&self) -> u8
+        ensures { result ≡ stamp_bytes self.now.form.stamp }
+    {
+        self.form.stamp.bytes()
+    }
+
+    /// The identification field and the timestamp's size, in one.
+    pub fn form(&self) -> PacketForm
+        ensures { result ≡ self.now.form }
+    {
+        self.form
+    }
+
     /// The event channel; 0 without a mode.
     pub fn channel(&self) -> u8
         ensures value { result ≡ channel_of self.now.mode }
@@ -102,7 +131,7 @@ impl ListConf {
     }
 
     /// Whether a mode was set, there is an ODT, each ODT has an entry, each entry is written and
-    /// ends within the image, and each packet has at most MAX_DTO bytes.
+    /// ends within the image, and each packet in its form has at most MAX_DTO bytes.
     pub fn ready(&self, image_len: usize) -> bool
         ensures { result ≡ is_ready image_len self.now }
     {
@@ -113,26 +142,31 @@ impl ListConf {
             if !odt.is_filled(image_len) {
                 return false;
             }
-            if 1 + self.stamp_len(k) + odt.bytes() > MAX_DTO {
+            if self.form.id.field_len() + self.stamp_len(k) + odt.bytes() > MAX_DTO {
                 return false;
             }
         }
         !self.odts.is_empty()
     }
 
-    /// The bytes of the timestamp in the packet of an ODT: 4 in ODT 0 of a stamped list.
+    /// The bytes of the timestamp in the packet of an ODT: there is one in ODT 0 of a stamped list.
     fn stamp_len(&self, odt: usize) -> usize
-        ensures value { result ≡ stamp_len (is_stamped self.now.mode) odt }
-        ensures limit { result ≤ 4 }
+        ensures value { result ≡ stamp_len self.now.form.stamp (is_stamped self.now.mode) odt }
+        ensures limit { result ≤ MAX_STAMP }
     {
-        if odt == 0 && self.stamped() { 4 } else { 0 }
+        if odt == 0 && self.stamped() {
+            self.form.stamp.bytes() as usize
+        } else {
+            0
+        }
     }
 
     /// A list as it is when it is allocated.
-    pub(crate) fn new(alloc: Global) -> ListConf
-        ensures { result ≡ fresh_conf }
+    pub(crate) fn new(alloc: Global, form: PacketForm) -> ListConf
+        ensures { result ≡ fresh_conf form }
     {
         ListConf {
+            form,
             mode: None,
             odts: Vec::new(alloc),
         }

@@ -3,6 +3,7 @@ ghost use Rattle.daq_store.specs.Inner.Effects.{fresh_state, start_stopped, sync
 
 use crate::list_conf::ListConf;
 use std::alloc::{AllocError, Global};
+use xcp_base::PacketForm;
 
 /// The mode of START_STOP_DAQ_LIST that starts a DAQ list, and of START_STOP_SYNCH that starts the
 /// selected ones.
@@ -45,13 +46,17 @@ impl ListState {
 }
 
 /// So many lists as they are when they are allocated.
-pub fn fresh_lists(alloc: Global, count: usize) -> Result<Vec<ListState>, AllocError>
-    ensures { IfOk result (λ lists. lists.items ≡ replicate count fresh_state) }
+pub fn fresh_lists(
+    alloc: Global,
+    form: PacketForm,
+    count: usize,
+) -> Result<Vec<ListState>, AllocError>
+    ensures { IfOk result (λ lists. lists.items ≡ replicate count (fresh_state form)) }
 {
     let mut lists = Vec::with_capacity(alloc, count)?;
     for _ in 0..count {
         lists.push_reserved(ListState {
-            conf: ListConf::new(alloc),
+            conf: ListConf::new(alloc, form),
             running: false,
             selected: false,
         });

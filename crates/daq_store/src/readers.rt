@@ -2,6 +2,7 @@
 
 ghost use Rattle.std.specs.Prelude.{◌≡◌, ◌+◌, ◌<◌, ◌≤◌, ◌↔◌, ◌&&◌, List, true, IsTrue, IsSome};
 ghost use Rattle.std.specs.Prelude.{IfSome, length};
+ghost use Rattle.xcp_base.specs.Forms.{FitsFirstPid, stamp_bytes};
 ghost use Rattle.daq_store.specs.Shape.{list_count, is_list};
 ghost use Rattle.daq_store.specs.Pointer.{pointer};
 ghost use Rattle.daq_store.specs.Running.{is_active, is_chosen};
@@ -10,7 +11,8 @@ ghost use Rattle.daq_store.specs.Configuration.{is_ready, list_is_ready, configu
 use crate::command::Command;
 use crate::list_conf::ListConf;
 use crate::store::Store;
-use xcp_base::limits::{MAX_CHANNELS, MAX_IMAGE_LEN, MAX_LISTS, MAX_ODTS_IN_ALL};
+use xcp_base::IdKind;
+use xcp_base::limits::{MAX_CHANNELS, MAX_IMAGE_LEN, MAX_LISTS};
 
 impl Store {
     ghost use Rattle.daq_store.specs.Standing.{StoreStandsAfter, conf_of, first_pid_of};
@@ -33,6 +35,20 @@ impl Store {
         self.image_len
     }
 
+    /// The identification field of all packets.
+    pub fn id(&self) -> IdKind
+        ensures { result ≡ self.now.profile.form.id }
+    {
+        self.form.id
+    }
+
+    /// The bytes of each timestamp: 1, 2 or 4.
+    pub fn stamp_size(&self) -> u8
+        ensures { result ≡ stamp_bytes self.now.profile.form.stamp }
+    {
+        self.form.stamp.bytes()
+    }
+
     /// The number of DAQ lists.
     pub fn lists(&self) -> u16
         ensures value { result ≡ length self.now.lists }
@@ -43,21 +59,21 @@ impl Store {
         self.lists.len() as u16
     }
 
-    /// FIRST_PID of a DAQ list, if there is one: the number of the ODTs of the lists before it
-    /// (own).
+    /// FIRST_PID of a DAQ list, if there is one: with an absolute ODT number the number of the ODTs
+    /// of the lists before it, with a relative one 0 (own).
     pub fn first_pid(&self, list: u16) -> Option<u8>
         ensures there { IsSome result ↔ (list < length self.now.lists) }
         ensures value { IfSome result (λ pid. pid ≡ first_pid_of self.now list) }
         ensures room { IfSome result
-            (λ pid. pid + length (conf_of self.now list).odts ≤ MAX_ODTS_IN_ALL) }
+            (FitsFirstPid self.now.profile.form.id (length (conf_of self.now list).odts)) }
         ensures after { (calls : List Command) → StoreStandsAfter self.now calls
-            → result ≡ first_pid_after calls list }
+            → result ≡ first_pid_after self.now.profile.form calls list }
     {
         let list = list as usize;
         if list >= self.lists.len() {
             return None;
         }
-        Some(self.odts_before(list) as u8)
+        Some(self.first_pid_at(list))
     }
 
     /// Whether a DAQ list runs; not where there is no such list.
@@ -104,7 +120,8 @@ impl Store {
             → IsSome result
             ↔ ((is_list calls list && list_is_ready self.now.profile calls list) ≡ true) }
         ensures value_after { (calls : List Command) → StoreStandsAfter self.now calls
-            → IfSome result (λ conf. conf.now ≡ configuration calls list) }
+            → IfSome result
+            (λ conf. conf.now ≡ configuration self.now.profile.form calls list) }
     {
         let list = self.lists.get(list as usize)?;
         if list.conf.ready(self.image_len) {

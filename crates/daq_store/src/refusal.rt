@@ -39,7 +39,8 @@ impl From<AllocError> for Refusal {
 #[error("want of memory")]
 pub struct NoMemory;
 
-/// The number of event channels or the length of the images is out of its limits.
+/// The number of event channels or the length of the images is out of its limits, or there is no
+/// timestamp of this size.
 #[derive(Clone, Copy, Debug, PartialEq, Eq, Error)]
-#[error("event channels or image length out of their limits")]
+#[error("event channels, image length or timestamp size out of their limits")]
 pub struct BadLimits;

@@ -1,4 +1,6 @@
 ghost use Rattle.std.specs.Prelude.{◌≡◌, ◌≢◌, ◌≤◌, ◌↔◌, [], IsOk, IfOk, IfErr, OnOk, OnErr};
+ghost use Rattle.std.specs.Prelude.{IsSome, Some};
+ghost use Rattle.xcp_base.specs.Forms.{form_of, usual_form};
 
 use crate::command::Command;
 use crate::entry::Entry;
@@ -9,7 +11,8 @@ use crate::refusal::{BadLimits, Refusal};
 use crate::reply::Reply;
 use std::alloc::Global;
 use std::marker::Model;
-use xcp_base::limits::{MAX_CHANNELS, MAX_IMAGE_LEN};
+use xcp_base::limits::{MAX_CHANNELS, MAX_IMAGE_LEN, MAX_STAMP};
+use xcp_base::{IdKind, PacketForm};
 
 /// The DAQ lists of a slave, the DAQ pointer and the phase of the allocation.
 ///
@@ -20,6 +23,7 @@ pub struct Store {
     pub(crate) alloc: Global,
     pub(crate) channels: u16,
     pub(crate) image_len: usize,
+    pub(crate) form: PacketForm,
     pub(crate) lists: Vec<ListState>,
     pub(crate) pointer: Option<(u16, u8, u8)>,
     pub(crate) phase: Phase,
@@ -33,14 +37,14 @@ impl Model for Store {
     ghost use Rattle.daq_store.specs.Standing.{IsStore};
 
     ghost view = { λ a. record {
-      profile = record { channels = a.channels; image_len = a.image_len };
+      profile = record { channels = a.channels; image_len = a.image_len; form = a.form };
       lists = a.lists.items;
       pointer = a.pointer;
       phase = a.phase;
     } };
 
     ghost invariant = { λ a. IsStore (record {
-      profile = record { channels = a.channels; image_len = a.image_len };
+      profile = record { channels = a.channels; image_len = a.image_len; form = a.form };
       lists = a.lists.items;
       pointer = a.pointer;
       phase = a.phase;
@@ -51,12 +55,50 @@ impl Store {
     ghost use Rattle.daq_store.specs.Standing.{StoreStandsAfter, Accepts, Refuses};
 
     /// A store without lists, as after FREE_DAQ, for 1 to 8 event channels and images of 1 to 4096
-    /// bytes. It takes no memory; the allocator is kept for the three allocations.
+    /// bytes; its packets have an absolute ODT number, and timestamps of 4 bytes. It takes no memory;
+    /// the allocator is kept for the three allocations.
     pub fn new(alloc: Global, channels: u16, image_len: usize) -> Result<Store, BadLimits>
         ensures limits { IsOk result ↔ ((1 ≤ channels) × (channels ≤ MAX_CHANNELS)
             × (1 ≤ image_len) × (image_len ≤ MAX_IMAGE_LEN)) }
+        ensures profile { IfOk result (λ s. s.profile
+            ≡ record { channels = channels; image_len = image_len; form = usual_form }) }
+        ensures fresh { IfOk result (λ s. StoreStandsAfter s []) }
+    {
+        Store::with_id(alloc, channels, image_len, IdKind::Absolute)
+    }
+
+    /// The same with this identification field, for a whole run.
+    pub fn with_id(
+        alloc: Global,
+        channels: u16,
+        image_len: usize,
+        id: IdKind,
+    ) -> Result<Store, BadLimits>
+        ensures limits { IsOk result ↔ ((1 ≤ channels) × (channels ≤ MAX_CHANNELS)
+            × (1 ≤ image_len) × (image_len ≤ MAX_IMAGE_LEN)) }
+        ensures profile { IfOk result (λ s. s.profile ≡ record {
+          channels = channels;
+          image_len = image_len;
+          form = record usual_form { id = id };
+        }) }
+        ensures fresh { IfOk result (λ s. StoreStandsAfter s []) }
+    {
+        Store::with_form(alloc, channels, image_len, id, MAX_STAMP)
+    }
+
+    /// The same with this identification field, and timestamps of so many bytes: 1, 2 or 4.
+    pub fn with_form(
+        alloc: Global,
+        channels: u16,
+        image_len: usize,
+        id: IdKind,
+        stamp_size: u8,
+    ) -> Result<Store, BadLimits>
+        ensures limits { IsOk result ↔ ((1 ≤ channels) × (channels ≤ MAX_CHANNELS)
+            × (1 ≤ image_len) × (image_len ≤ MAX_IMAGE_LEN) × IsSome (form_of id stamp_size)) }
         ensures profile { IfOk result
-            (λ s. s.profile ≡ record { channels = channels; image_len = image_len }) }
+            (λ s. (s.profile.channels ≡ channels) × (s.profile.image_len ≡ image_len)) }
+        ensures form { IfOk result (λ s. form_of id stamp_size ≡ Some s.profile.form) }
         ensures fresh { IfOk result (λ s. StoreStandsAfter s []) }
     {
         if channels == 0 || channels > MAX_CHANNELS {
@@ -65,10 +107,14 @@ impl Store {
         if image_len == 0 || image_len > MAX_IMAGE_LEN {
             return Err(BadLimits);
         }
+        let Some(form) = PacketForm::of(id, stamp_size) else {
+            return Err(BadLimits);
+        };
         Ok(Store {
             alloc,
             channels,
             image_len,
+            form,
             lists: Vec::new(alloc),
             pointer: None,
             phase: Phase::Free,
@@ -106,7 +152,7 @@ impl Store {
     ///
     /// Refused in this order: ERR_DAQ_ACTIVE while a list runs, ERR_SEQUENCE before ALLOC_DAQ or
     /// after ALLOC_ODT_ENTRY, ERR_OUT_OF_RANGE without such a list, ERR_MEMORY_OVERFLOW over 8 ODTs
-    /// or over 124 of all lists, want of memory.
+    /// or, with an absolute ODT number, over 124 of all lists, want of memory.
     pub fn alloc_odt(&mut self, list: u16, count: u8) -> Result<(), Refusal>
         ensures accepted { OnOk result
             (Accepts self.old self.new (Command.AllocOdt list count) Reply.Positive) }
@@ -230,7 +276,7 @@ impl Store {
         ensures profile_stays { self.new.profile ≡ self.old.profile }
     {
         self.check_start_stop(mode, list)?;
-        let first_pid = self.odts_before(list as usize) as u8;
+        let first_pid = self.first_pid_at(list as usize);
         self.put_start_stop(mode, list);
         Ok(first_pid)
     }

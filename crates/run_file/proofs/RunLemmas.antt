@@ -1,12 +1,15 @@
 -- What is read of a text: one step, and the whole run.
-use Rattle.std.proofs.Common.{◌≡◌, ◌≤◌, ◌+◌, ◌*◌, ℕ, nat_le, true, List, length, Option, Some, None, Result, Ok, Err, OnOk, refl, sym, ap, ◌∙◌, subst, arith}
+use Rattle.std.proofs.Common.{◌≡◌, ◌≤◌, ◌+◌, ◌*◌, ℕ, nat_le, true, List, length, Option, Some, None, Result, Ok, Err, OnOk, ◌⊎◌, inl, inr, refl, sym, ap, ◌∙◌, subst, arith}
 use Rattle.std.specs.Prelude.{option_and_then}
+use Rattle.std.specs.Result.{IsErrAnd}
 use Rattle.hex.specs.Hex.{decode_of}
 use Rattle.std.proofs.lemmas.Bool.{le-leb, leb-true}
 use Rattle.hex.proofs.HexLemmas.{decode_of-ok}
 use Rattle.toml.specs.Data.{Members}
 use Rattle.toml.specs.Parse.{parse_document}
 use Rattle.run_file.specs.declared.limits.TheConstants.{MAX_COMMAND_LEN}
+use Rattle.run_file.specs.declared.run_fault.RunFault.{RunFault}
+use Rattle.run_file.specs.declared.run_fault.RunFault.TheVariants.{BadSetup, BadStep, Memory}
 use Rattle.run_file.specs.Keys.{AreKeyValues, KeyValues}
 use Rattle.run_file.specs.Inner.{Gains}
 use Rattle.run_file.specs.Reading.{AreTextsOf, HasNone, IsFirstBad}
@@ -71,6 +74,7 @@ module _ (text : List ℕ) (ms : Members) (v : KeyValues) (last : ℕ) (packets 
       → IsRunText text (record {
         channels = v.channels;
         image_len = v.image_len;
+        form = v.form;
         ring = v.ring;
         caps = v.caps;
         setup = packets;
@@ -82,6 +86,7 @@ module _ (text : List ℕ) (ms : Members) (v : KeyValues) (last : ℕ) (packets 
     document = record { document = ms; toml = toml; keys_are = keys };
     channels_is = refl;
     image_len_is = refl;
+    form_is = refl;
     ring_is = refl;
     caps_are = refl;
     drain_is = refl;
@@ -98,3 +103,24 @@ module _ (text : List ℕ) (ms : Members) (v : KeyValues) (last : ℕ) (packets 
     packets_are = setup;
     first = subst (λ n. IsFirstBad (IsStepText n) v.steps place) one_more first;
   }
+
+-- a fault that is want of memory, or the first bad text at some place, is at the place that it names
+abbrev pub IsFault : (ℕ → RunFault) → (ℕ → Type 0) → RunFault → Type 0
+IsFault fault P e = (e ≡ Memory) ⊎ ((i : ℕ) × (e ≡ fault i) × P i)
+
+pub setup_at : (P : ℕ → Type 0) (i : ℕ) (e : RunFault) → IsFault BadSetup P e → e ≡ BadSetup i → P i
+setup_at P i e (inl memory) is = cc
+setup_at P i e (inr found) is =
+    let same : found.0 ≡ i = let both : BadSetup found.0 ≡ BadSetup i = sym found.1 ∙ is in cc in
+    subst P same found.2
+
+pub step_at : (P : ℕ → Type 0) (i : ℕ) (e : RunFault) → IsFault BadStep P e → e ≡ BadStep i → P i
+step_at P i e (inl memory) is = cc
+step_at P i e (inr found) is =
+    let same : found.0 ≡ i = let both : BadStep found.0 ≡ BadStep i = sym found.1 ∙ is in cc in
+    subst P same found.2
+
+-- a fault that was handed on is the one that is answered
+pub fault_is : {T : Type 0} (r : Result T RunFault) (e f : RunFault) → IsErrAnd r (λ x. x ≡ e) → r ≡ Err f → e ≡ f
+fault_is (Ok t) e f handed is = cc
+fault_is (Err x) e f handed is = let same : x ≡ f = cc in sym handed ∙ same

@@ -6,7 +6,10 @@ use Rattle.toml.proofs.OnLiterals.{toml_on_literals}
 use Rattle.hex.specs.Hex.{decode_of}
 use Rattle.hex.proofs.OnLiterals.{hex_on_literals}
 use Rattle.run_file.specs.declared.ring_kind.RingKind.TheVariants.{Bytes, Samples}
-use Rattle.run_file.specs.Keys.{are_keys, caps_of, channels_of, drain_of, ring_named, ring_of, setup_of}
+use Rattle.xcp_base.specs.declared.id_kind.IdKind.TheVariants.{RelativeWord}
+use Rattle.xcp_base.specs.declared.stamp_size.StampSize.TheVariants.{Two}
+use Rattle.xcp_base.specs.Forms.{usual_form}
+use Rattle.run_file.specs.Keys.{are_keys, caps_of, channels_of, drain_of, id_named, packet_form, ring_named, ring_of, setup_of, stamp_in}
 use Rattle.run_file.specs.StepOf.{step_of}
 use Rattle.run_file.specs.Steps.{trigger, start, pump}
 
@@ -78,3 +81,19 @@ ring_named-bytes = refl
 
 ring_named-other : ring_named (codes "Bytes") ≡ None
 ring_named-other = refl
+
+-- an absolute ODT number and 4 bytes where the keys are absent
+packet_form-members : packet_form members ≡ Some usual_form
+packet_form-members = refl
+
+id_named-word : id_named (codes "word") ≡ Some RelativeWord
+id_named-word = refl
+
+id_named-other : id_named (codes "Word") ≡ None
+id_named-other = refl
+
+stamp_in-two : stamp_in (integer (pos 2)) ≡ Some Two
+stamp_in-two = refl
+
+stamp_in-three : stamp_in (integer (pos 3)) ≡ None
+stamp_in-three = refl

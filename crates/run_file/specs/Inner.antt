@@ -27,6 +27,7 @@ abbrev pub values_data : Values → KeyValues
 values_data v = record {
   channels = v.channels;
   image_len = v.image_len;
+  form = v.form;
   ring = v.ring;
   caps = vec_items v.caps;
   setup = map text_in v.setup.now;

@@ -5,7 +5,13 @@ use Rattle.std.specs.Prelude.{option_and_then}
 use Rattle.std.specs.Str.{bytes_eq}
 use Rattle.toml.specs.Data.{Data, Items, no_items, item, Members, no_members, member, get_member}
 use Rattle.toml.specs.Data.{as_str, as_integer, as_bool, as_array}
-use Rattle.xcp_base.specs.declared.limits.TheConstants.{MAX_CHANNELS, MAX_IMAGE_LEN}
+use Rattle.xcp_base.specs.declared.id_kind.IdKind.{IdKind}
+use Rattle.xcp_base.specs.declared.id_kind.IdKind.TheVariants.{Absolute, RelativeByte, RelativeWord}
+use Rattle.xcp_base.specs.declared.stamp_size.StampSize.{StampSize}
+use Rattle.xcp_base.specs.declared.stamp_size.StampSize.TheVariants.{Four}
+use Rattle.xcp_base.specs.declared.packet_form.PacketForm.{PacketForm}
+use Rattle.xcp_base.specs.Forms.{size_of}
+use Rattle.xcp_base.specs.declared.limits.TheConstants.{MAX_CHANNELS, MAX_IMAGE_LEN, MAX_STAMP}
 use Rattle.xcp_base.specs.declared.limits.TheConstants.{MAX_BYTE_RING, MAX_SAMPLE_RING}
 use Rattle.xcp_base.specs.declared.limits.TheConstants.{MIN_BYTE_RING}
 use Rattle.run_file.specs.declared.limits.TheConstants.{MAX_PACKETS, MAX_STEPS}
@@ -16,7 +22,7 @@ use Rattle.run_file.specs.declared.ring_kind.RingKind.TheVariants.{Bytes, Sample
 abbrev pub keys : List (List ℕ)
 keys =
     codes "channels" ∷ codes "image_len" ∷ codes "caps" ∷ codes "setup" ∷ codes "steps"
-    ∷ codes "drain" ∷ codes "ring" ∷ []
+    ∷ codes "drain" ∷ codes "ring" ∷ codes "id" ∷ codes "stamp_size" ∷ []
 
 -- a word is one of these
 abbrev pub is_among : List (List ℕ) → List ℕ → Bool
@@ -89,6 +95,35 @@ abbrev pub ring_value : Option Data → Option RingKind
 ring_value None = Some Samples
 ring_value (Some d) = ring_in d
 
+-- the identification field that a word names
+abbrev pub id_named : List ℕ → Option IdKind
+id_named word =
+    if bytes_eq word (codes "absolute") then Some Absolute
+    else (if bytes_eq word (codes "byte") then Some RelativeByte
+    else (if bytes_eq word (codes "word") then Some RelativeWord else None))
+
+abbrev pub id_in : Data → Option IdKind
+id_in d = option_and_then id_named (as_str d)
+
+-- the value of `id`: an absolute ODT number where the key is absent
+abbrev pub id_value : Option Data → Option IdKind
+id_value None = Some Absolute
+id_value (Some d) = id_in d
+
+-- the size of a timestamp, if there is one of so many bytes
+abbrev pub stamp_in : Data → Option StampSize
+stamp_in d = option_and_then size_of (number_in 1 MAX_STAMP d)
+
+-- the value of `stamp_size`: 4 bytes where the key is absent
+abbrev pub stamp_value : Option Data → Option StampSize
+stamp_value None = Some Four
+stamp_value (Some d) = stamp_in d
+
+-- the form of the packets by both
+abbrev pub form_with : Option IdKind → Option StampSize → Option PacketForm
+form_with (Some id) (Some stamp) = Some (record { id = id; stamp = stamp })
+form_with _ _ = None
+
 -- the value of `drain`: true where the key is absent
 abbrev pub drain_value : Option Data → Option Bool
 drain_value None = Some true
@@ -102,6 +137,16 @@ image_len_of ms = at_key (number_in 1 MAX_IMAGE_LEN) (codes "image_len") ms
 
 abbrev pub ring_of : Members → Option RingKind
 ring_of ms = ring_value (get_member (codes "ring") ms)
+
+abbrev pub id_of : Members → Option IdKind
+id_of ms = id_value (get_member (codes "id") ms)
+
+abbrev pub stamp_of : Members → Option StampSize
+stamp_of ms = stamp_value (get_member (codes "stamp_size") ms)
+
+-- the form of the packets
+abbrev pub packet_form : Members → Option PacketForm
+packet_form ms = form_with (id_of ms) (stamp_of ms)
 
 abbrev pub caps_of : RingKind → ℕ → Members → Option (List ℕ)
 caps_of kind channels ms =
@@ -124,6 +169,7 @@ drain_of ms = drain_value (get_member (codes "drain") ms)
 pub record KeyValues : Type 0 where
   pub channels : ℕ
   pub image_len : ℕ
+  pub form : PacketForm
   pub ring : RingKind
   pub caps : List ℕ
   pub setup : List (List ℕ)
@@ -135,6 +181,7 @@ pub record AreKeyValues (ms : Members) (v : KeyValues) : Type 0 where
   pub known : are_keys ms ≡ true
   pub channels_is : channels_of ms ≡ Some v.channels
   pub image_len_is : image_len_of ms ≡ Some v.image_len
+  pub form_is : packet_form ms ≡ Some v.form
   pub ring_is : ring_of ms ≡ Some v.ring
   pub caps_are : caps_of v.ring v.channels ms ≡ Some v.caps
   pub setup_is : setup_of ms ≡ Some v.setup

@@ -3,6 +3,7 @@ use Rattle.std.specs.Prelude.{◌≡◌, ◌≤◌, ℕ, Bool, List, length, Som
 use Rattle.hex.specs.Hex.{decode_of}
 use Rattle.toml.specs.Data.{Members}
 use Rattle.toml.specs.Parse.{parse_document}
+use Rattle.xcp_base.specs.declared.packet_form.PacketForm.{PacketForm}
 use Rattle.run_file.specs.declared.limits.TheConstants.{MAX_COMMAND_LEN}
 use Rattle.run_file.specs.declared.ring_kind.RingKind.{RingKind}
 use Rattle.run_file.specs.Keys.{AreKeyValues, HasBadKey, KeyValues}
@@ -18,6 +19,7 @@ pub record IsPacketText (text packet : List ℕ) : Type 0 where
 pub record RunData : Type 0 where
   pub channels : ℕ
   pub image_len : ℕ
+  pub form : PacketForm
   pub ring : RingKind
   pub caps : List ℕ
   pub setup : List (List ℕ)
@@ -25,10 +27,11 @@ pub record RunData : Type 0 where
   pub drain : Bool
 
 abbrev pub run_of :
-    ℕ → ℕ → RingKind → List ℕ → List (List ℕ) → List StepData → Bool → RunData
-run_of channels image_len ring caps setup steps drain = record {
+    ℕ → ℕ → PacketForm → RingKind → List ℕ → List (List ℕ) → List StepData → Bool → RunData
+run_of channels image_len form ring caps setup steps drain = record {
   channels = channels;
   image_len = image_len;
+  form = form;
   ring = ring;
   caps = caps;
   setup = setup;
@@ -48,6 +51,7 @@ pub record IsRunText (text : List ℕ) (run : RunData) : Type 0 where
   pub document : IsDocumentOf text values
   pub channels_is : run.channels ≡ values.channels
   pub image_len_is : run.image_len ≡ values.image_len
+  pub form_is : run.form ≡ values.form
   pub ring_is : run.ring ≡ values.ring
   pub caps_are : run.caps ≡ values.caps
   pub drain_is : run.drain ≡ values.drain

@@ -4,13 +4,16 @@ ghost use Rattle.std.specs.Prelude.{vec_items};
 ghost use Rattle.toml.specs.Data.{as_array, as_str};
 ghost use Rattle.toml.specs.View.{items_view, table_view, view};
 ghost use Rattle.run_file.specs.Keys.{all_of, are_keys, at_key, cap_in, caps_in, drain_of, is_among};
-ghost use Rattle.run_file.specs.Keys.{keys, number_in, ring_in, ring_named, ring_of, texts_at};
-ghost use Rattle.run_file.specs.Keys.{texts_in};
+ghost use Rattle.run_file.specs.Keys.{id_in, id_named, id_of, keys, number_in, packet_form};
+ghost use Rattle.run_file.specs.Keys.{ring_in, ring_named, ring_of, stamp_in, stamp_of};
+ghost use Rattle.run_file.specs.Keys.{texts_at, texts_in};
 ghost use Rattle.run_file.specs.Inner.{text_in};
 
 use crate::ring_kind::RingKind;
 use std::alloc::{AllocError, Global};
 use toml::{Table, Value};
+use xcp_base::limits::MAX_STAMP;
+use xcp_base::{IdKind, PacketForm, StampSize};
 
 /// Whether each key of a table is one of a run file.
 pub fn are_keys(table: &Table) -> bool
@@ -30,6 +33,8 @@ fn is_key(word: &str) -> bool
         || word == "steps"
         || word == "drain"
         || word == "ring"
+        || word == "id"
+        || word == "stamp_size"
 }
 
 /// The integer of a key, if it is within bounds.
@@ -200,4 +205,73 @@ fn ring_named(word: &str) -> Option<RingKind>
         return Some(RingKind::Bytes);
     }
     None
+}
+
+/// The form of the packets, by `id` and `stamp_size`.
+pub fn form_of(table: &Table) -> Option<PacketForm>
+    ensures { result ≡ packet_form (table_view table.now) }
+{
+    let Some(id) = id_of(table) else {
+        return None;
+    };
+    let Some(stamp) = stamp_of(table) else {
+        return None;
+    };
+    Some(PacketForm { id, stamp })
+}
+
+/// The identification field that `id` names; an absolute ODT number where the key is absent.
+fn id_of(table: &Table) -> Option<IdKind>
+    ensures { result ≡ id_of (table_view table.now) }
+{
+    match table.get("id") {
+        Some(value) => id_in(value),
+        None => Some(IdKind::Absolute),
+    }
+}
+
+/// The identification field that a value names.
+fn id_in(value: &Value) -> Option<IdKind>
+    ensures { result ≡ id_in (view value.now) }
+{
+    match value.as_str() {
+        Some(word) => id_named(word),
+        None => None,
+    }
+}
+
+/// The identification field that a word names.
+fn id_named(word: &str) -> Option<IdKind>
+    ensures { result ≡ id_named word.now }
+{
+    if word == "absolute" {
+        return Some(IdKind::Absolute);
+    }
+    if word == "byte" {
+        return Some(IdKind::RelativeByte);
+    }
+    if word == "word" {
+        return Some(IdKind::RelativeWord);
+    }
+    None
+}
+
+/// The size of timestamps by `stamp_size`; 4 bytes where the key is absent.
+fn stamp_of(table: &Table) -> Option<StampSize>
+    ensures { result ≡ stamp_of (table_view table.now) }
+{
+    match table.get("stamp_size") {
+        Some(value) => stamp_in(value),
+        None => Some(StampSize::Four),
+    }
+}
+
+/// The size of timestamps of a value.
+fn stamp_in(value: &Value) -> Option<StampSize>
+    ensures { result ≡ stamp_in (view value.now) }
+{
+    let Some(bytes) = number_in(value, 1, MAX_STAMP as usize) else {
+        return None;
+    };
+    StampSize::of(bytes as u8)
 }

@@ -16,14 +16,17 @@ use crate::values::values_of;
 use std::alloc::Global;
 use std::marker::Model;
 use toml::Table;
+use xcp_base::PacketForm;
 
-/// A run, as a file tells it: the event channels, the length of the images, the kind and the
-/// capacities of the rings, the command packets of the set-up, the steps, and whether the rings are drained at
-/// the end. It comes from a text alone, and so keeps all limits of a run file.
+/// A run, as a file tells it: the event channels, the length of the images, the form of the packets,
+/// the kind and the capacities of the rings, the command packets of the set-up, the steps, and
+/// whether the rings are drained at the end. It comes from a text alone, and so keeps all limits of a
+/// run file.
 #[derive(Drop)]
 pub struct Run {
     channels: u16,
     image_len: usize,
+    form: PacketForm,
     ring: RingKind,
     caps: Vec<usize>,
     setup: Vec<Vec<u8>>,
@@ -39,10 +42,12 @@ impl Model for Run {
     ghost Value = { RunData };
 
     ghost view = { λ r. run_of
-        r.channels r.image_len r.ring r.caps.items (map vec_items r.setup.items) r.steps r.drain };
+        r.channels r.image_len r.form r.ring r.caps.items (map vec_items r.setup.items) r.steps
+        r.drain };
 
     ghost invariant = { λ r. HasLimits (run_of
-        r.channels r.image_len r.ring r.caps.items (map vec_items r.setup.items) r.steps r.drain) };
+        r.channels r.image_len r.form r.ring r.caps.items (map vec_items r.setup.items) r.steps
+        r.drain) };
 }
 
 impl Run {
@@ -67,6 +72,7 @@ impl Run {
         Ok(Run {
             channels: values.channels,
             image_len: values.image_len,
+            form: values.form,
             ring: values.ring,
             caps: values.caps,
             setup,
@@ -89,6 +95,14 @@ impl Run {
         ensures limits { HasLimits self.now }
     {
         self.image_len
+    }
+
+    /// The form of the packets: their identification field, and the size of timestamps.
+    pub fn form(&self) -> PacketForm
+        ensures value { result ≡ self.now.form }
+        ensures limits { HasLimits self.now }
+    {
+        self.form
     }
 
     /// The kind of the rings.

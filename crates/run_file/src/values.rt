@@ -5,12 +5,13 @@ ghost use Rattle.run_file.specs.Keys.{AreKeyValues, HasBadKey};
 ghost use Rattle.xcp_base.specs.declared.limits.TheConstants.{MAX_CHANNELS};
 ghost use Rattle.run_file.specs.Inner.{values_data};
 
-use crate::keys::{are_keys, array_at, caps_in, drain_of, number_at, ring_of, texts_at};
+use crate::keys::{are_keys, array_at, caps_in, drain_of, form_of, number_at, ring_of, texts_at};
 use crate::limits::{MAX_PACKETS, MAX_STEPS};
 use crate::ring_kind::RingKind;
 use crate::run_fault::RunFault;
 use std::alloc::Global;
 use toml::{Table, Value};
+use xcp_base::PacketForm;
 use xcp_base::limits::{MAX_CHANNELS, MAX_IMAGE_LEN};
 
 /// The values of the keys, each of its type and within its limits. Packets and steps are still
@@ -19,6 +20,7 @@ use xcp_base::limits::{MAX_CHANNELS, MAX_IMAGE_LEN};
 pub struct Values<'a> {
     pub(crate) channels: u16,
     pub(crate) image_len: usize,
+    pub(crate) form: PacketForm,
     pub(crate) ring: RingKind,
     pub(crate) caps: Vec<usize>,
     pub(crate) setup: &'a [Value],
@@ -52,6 +54,9 @@ pub fn values_of<'a>(alloc: Global, table: &'a Table) -> Result<Values<'a>, RunF
     let Some(steps) = texts_at(table, "steps", MAX_STEPS) else {
         return Err(RunFault::BadKey);
     };
+    let Some(form) = form_of(table) else {
+        return Err(RunFault::BadKey);
+    };
     let Some(ring) = ring_of(table) else {
         return Err(RunFault::BadKey);
     };
@@ -67,6 +72,7 @@ pub fn values_of<'a>(alloc: Global, table: &'a Table) -> Result<Values<'a>, RunF
     Ok(Values {
         channels: channels as u16,
         image_len,
+        form,
         ring,
         caps,
         setup,

@@ -6,6 +6,7 @@ use Rattle.std.proofs.lemmas.List.{get_or-take}
 use Rattle.std.proofs.lemmas.Bool.{ne_eqb}
 use Rattle.std.proofs.lemmas.Bool.Decides.{nat_tests}
 use Rattle.std.proofs.lemmas.List.Quantifiers.{position-Some}
+use Rattle.xcp_base.specs.Forms.{usual_form}
 use Rattle.copy_plan.specs.Config.{ListPlan}
 use Rattle.sampler.specs.State.{RiseFrom, ArePlansOf, place_of}
 use Rattle.sampler.specs.Inner.Fits.{TracksFit, NoneDueBefore, IsSampler}
@@ -13,7 +14,7 @@ use Rattle.std.proofs.Math.ListN.{length-set}
 use Rattle.sampler.specs.declared.track.Track.{Track}
 
 abbrev pub no_plan : ListPlan
-no_plan = record { list = 0; channel = 0; prescaler = 0; first_pid = 0; stamped = false; odts = []; image_len = 0 }
+no_plan = record { list = 0; channel = 0; prescaler = 0; first_pid = 0; form = usual_form; stamped = false; odts = []; image_len = 0 }
 
 abbrev pub no_track : Track
 no_track = record { running = false; next = 0; pending = false; counts = record { due = 0; accepted = 0; dropped = 0 } }

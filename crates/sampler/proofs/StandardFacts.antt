@@ -5,6 +5,7 @@ use Rattle.std.proofs.Common.{refl, zero, suc, arith}
 use Rattle.xcp_base.specs.declared.item.Item.{Item}
 use Rattle.xcp_base.specs.declared.item.Item.TheVariants.{Sample, Marker}
 use Rattle.copy_plan.specs.Config.{ListPlan}
+use Rattle.xcp_base.specs.Forms.{usual_form}
 use Rattle.copy_plan.specs.Packet.{packets, packet}
 use Rattle.sampler.specs.History.{Event, Trigger, Start, Stop, Opening, due, due_at, is_due, with_past, runs_after, triggers_since_start}
 use Rattle.sampler.specs.Past.{Past, first_past, one_more}
@@ -17,7 +18,7 @@ use Rattle.sampler.proofs.Drops.{drops-more}
 use Rattle.sampler.proofs.FirstTracks.{no_drops}
 
 abbrev plain : ℕ → ℕ → ℕ → List (List (ℕ × ℕ)) → ListPlan
-plain l p f odts = record { list = l; channel = 0; prescaler = p; first_pid = f; stamped = false; odts = odts; image_len = 2 }
+plain l p f odts = record { list = l; channel = 0; prescaler = p; first_pid = f; form = usual_form; stamped = false; odts = odts; image_len = 2 }
 
 -- a trigger with an image of two bytes
 abbrev T : ℕ → ℕ → Event

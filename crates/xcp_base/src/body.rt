@@ -1,7 +1,9 @@
-ghost use Rattle.std.specs.Prelude.{◌≡◌, ◌+◌, ◌<◌, ◌≤◌, [], ◌++◌, length, slice_index};
+ghost use Rattle.std.specs.Prelude.{◌≡◌, ◌+◌, ◌<◌, ◌≤◌, [], ◌++◌, All, length, slice_index};
 ghost use Rattle.std.specs.Prelude.{slice_set, take};
+ghost use Rattle.xcp_base.specs.Copied.{IsRunInside, copied};
 
 use crate::limits::MAX_BODY;
+use crate::run::Run;
 use std::marker::Model;
 
 /// At most `MAX_BODY` bytes, in a value of fixed size that is copied in one go.
@@ -75,32 +77,65 @@ impl Body {
         self.cells[at] += by;
     }
 
-    /// Appends bytes, for which there is room. Those of the sizes that most entries have are copied
-    /// by their size.
+    /// Appends bytes, for which there is room.
     pub(crate) fn extend(&mut self, bytes: &[u8])
         requires room { length self.old + length bytes.now ≤ MAX_BODY }
         ensures { self.new ≡ self.old ++ bytes.now }
     {
         let start = self.len;
         self.len = start + bytes.len();
-        if bytes.len() == 4 {
-            put(&mut self.cells, start, &bytes[..4]);
-            return;
-        }
-        if bytes.len() == 2 {
-            put(&mut self.cells, start, &bytes[..2]);
-            return;
-        }
-        if bytes.len() == 1 {
-            put(&mut self.cells, start, &bytes[..1]);
-            return;
-        }
-        if bytes.len() == 8 {
-            put(&mut self.cells, start, &bytes[..8]);
-            return;
-        }
-        put(&mut self.cells, start, bytes);
+        put_by_size(&mut self.cells, start, bytes);
     }
+
+    /// Appends what runs copy of an image, for which there is room.
+    pub(crate) fn extend_by_runs(&mut self, image: &[u8], runs: &[Run])
+        requires inside { All (IsRunInside (length image.now)) runs.now }
+        requires room { length self.old + length (copied image.now runs.now) ≤ MAX_BODY }
+        ensures { self.new ≡ self.old ++ copied image.now runs.now }
+    {
+        self.len = put_runs(&mut self.cells, self.len, image, runs);
+    }
+}
+
+/// Writes what runs copy of an image from a place on, and answers where it ends.
+fn put_runs(cells: &mut [u8; MAX_BODY], start: usize, image: &[u8], runs: &[Run]) -> usize
+    requires inside { All (IsRunInside (length image.now)) runs.now }
+    requires room { start + length (copied image.now runs.now) ≤ MAX_BODY }
+    ensures end { result ≡ start + length (copied image.now runs.now) }
+    ensures front { take result cells.new ≡ take start cells.old ++ copied image.now runs.now }
+{
+    let mut at = start;
+    for run in runs {
+        let bytes = &image[run.start..run.end];
+        put_by_size(cells, at, bytes);
+        at += bytes.len();
+    }
+    at
+}
+
+/// Writes bytes from a place on: those of the sizes that most entries have by their size.
+#[inline]
+fn put_by_size(cells: &mut [u8; MAX_BODY], start: usize, bytes: &[u8])
+    requires room { start + length bytes.now ≤ MAX_BODY }
+    ensures front { take (start + length bytes.now) cells.new ≡ take start cells.old ++ bytes.now }
+{
+    if bytes.len() == 4 {
+        put(cells, start, &bytes[..4]);
+        return;
+    }
+    if bytes.len() == 2 {
+        put(cells, start, &bytes[..2]);
+        return;
+    }
+    if bytes.len() == 1 {
+        put(cells, start, &bytes[..1]);
+        return;
+    }
+    if bytes.len() == 8 {
+        put(cells, start, &bytes[..8]);
+        return;
+    }
+    put(cells, start, bytes);
 }
 
 /// Writes bytes from a place on.

@@ -1,21 +1,29 @@
-//! What every layer speaks of: the limits of the profile, its error codes, packets, samples, items,
-//! and sets of DAQ lists.
+//! What every layer speaks of: the limits of the profile, its error codes, the form of packets,
+//! packets, samples, items, and sets of DAQ lists.
 #![tactic(auto)]
 
 mod body;
 mod err_code;
+mod id_kind;
 mod item;
 pub mod limits;
 mod list_set;
+mod packet_form;
 mod packet_iter;
 mod packets;
+mod run;
 mod sample;
+mod stamp_size;
 mod stop_mark;
 
 pub use err_code::ErrCode;
+pub use id_kind::IdKind;
 pub use item::Item;
 pub use list_set::{has_list, with_list, with_list_if};
+pub use packet_form::PacketForm;
 pub use packet_iter::PacketIter;
 pub use packets::{Full, Packets};
+pub use run::Run;
 pub use sample::Sample;
+pub use stamp_size::StampSize;
 pub use stop_mark::StopMark;

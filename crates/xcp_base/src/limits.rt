@@ -9,7 +9,8 @@ pub const MAX_LISTS: u16 = 16;
 /// The most ODTs of one DAQ list, and so the most packets of one sample.
 pub const MAX_ODTS: usize = 8;
 
-/// The most ODTs of all DAQ lists, so that each PID stays at or below 0x7B before the overload bit.
+/// The most ODTs of all DAQ lists with an absolute ODT number, so that each PID stays at or below
+/// 0x7B before the overload bit.
 pub const MAX_ODTS_IN_ALL: usize = 124;
 
 /// The most entries of one ODT.
@@ -17,6 +18,12 @@ pub const MAX_ENTRIES: usize = 32;
 
 /// MAX_DTO: the longest packet, in bytes.
 pub const MAX_DTO: usize = 64;
+
+/// The longest identification field, in bytes.
+pub const MAX_FIELD: usize = 3;
+
+/// The longest timestamp, in bytes.
+pub const MAX_STAMP: u8 = 4;
 
 /// The longest ODT entry, in bytes; the shortest has one.
 pub const MAX_ENTRY_SIZE: u8 = 63;

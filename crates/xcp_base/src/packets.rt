@@ -1,13 +1,16 @@
 ghost use Rattle.std.specs.Prelude.{◌≡◌, ℕ, ◌<◌, ◌≤◌, ◌+◌, List, [], ◌∷◌, ◌++◌, ◌↔◌, IfSome};
-ghost use Rattle.std.specs.Prelude.{true, false, IsNone, IsOk, OnErr, OnOk, drop, length, slice_get, slice_index, slice_set, take};
+ghost use Rattle.std.specs.Prelude.{true, false, All, IsNone, IsOk, OnErr, OnOk, drop, length};
+ghost use Rattle.std.specs.Prelude.{slice_get, slice_index, slice_set, take};
 ghost use Rattle.std.specs.Option.{option_copied};
 ghost use Rattle.xcp_base.specs.Bodies.{IsBodyOf, body_of};
+ghost use Rattle.xcp_base.specs.Copied.{IsRunInside, copied};
 ghost use Rattle.xcp_base.specs.Inner.{BeginsWithPacket, EndsAt, HasLast};
 ghost use Rattle.xcp_base.specs.Packets.{ArePackets, IsPacket, last_packet, with_longer_last};
 
 use crate::body::Body;
 use crate::limits::{MAX_BODY, MAX_DTO, MAX_ODTS};
 use crate::packet_iter::PacketIter;
+use crate::run::Run;
 use std::marker::Model;
 use thiserror::Error;
 
@@ -105,7 +108,25 @@ impl Packets {
         requires fits { length (last_packet self.old) + length bytes.now ≤ MAX_DTO }
         ensures { self.new ≡ with_longer_last self.old bytes.now }
     {
-        lengthen(&mut self.body, self.last, bytes);
+        self.append_runs(
+            bytes,
+            &[Run {
+                start: 0,
+                end: bytes.len(),
+            }],
+        );
+    }
+
+    /// Appends what runs copy of an image to the last packet, which is there and stays within
+    /// `MAX_DTO` bytes.
+    pub fn append_runs(&mut self, image: &[u8], runs: &[Run])
+        requires some { 0 < length self.old }
+        requires inside { All (IsRunInside (length image.now)) runs.now }
+        requires fits { length (last_packet self.old) + length (copied image.now runs.now)
+            ≤ MAX_DTO }
+        ensures { self.new ≡ with_longer_last self.old (copied image.now runs.now) }
+    {
+        lengthen(&mut self.body, self.last, image, runs);
     }
 
     /// The packets, one behind another, each behind a byte that has its length.
@@ -176,17 +197,22 @@ fn append(body: &mut Body, packet: &[u8])
     body.extend(packet);
 }
 
-/// Appends bytes to the packet that stands last in a body, whose length stands at `last`.
-fn lengthen(body: &mut Body, last: usize, bytes: &[u8])
+/// Appends what runs copy of an image to the packet that stands last in a body, whose length stands
+/// at `last`.
+fn lengthen(body: &mut Body, last: usize, image: &[u8], runs: &[Run])
     requires at { last < length body.old }
-    requires room { length body.old + length bytes.now ≤ MAX_BODY }
-    requires fits { slice_index body.old last + length bytes.now ≤ MAX_DTO }
+    requires inside { All (IsRunInside (length image.now)) runs.now }
+    requires room { length body.old + length (copied image.now runs.now) ≤ MAX_BODY }
+    requires fits { slice_index body.old last + length (copied image.now runs.now) ≤ MAX_DTO }
     ensures { body.new
-        ≡ slice_set body.old last (slice_index body.old last + length bytes.now)
-        ++ bytes.now }
+        ≡ slice_set body.old last
+        (slice_index body.old last + length (copied image.now runs.now))
+        ++ copied image.now runs.now }
 {
-    body.raise(last, bytes.len() as u8);
-    body.extend(bytes);
+    let before = body.len();
+    body.extend_by_runs(image, runs);
+    let more = body.len() - before;
+    body.raise(last, more as u8);
 }
 
 /// Where the packet ends that begins at `start`, behind its length; `None` where there is none.

@@ -1,7 +1,6 @@
--- The runs of an ODT, which are its entries with neighbours joined, and what they copy.
-use Rattle.std.specs.Prelude.{ℕ, ◌+◌, ◌≤◌, ◌==◌, if◌then◌else◌, List, [], ◌∷◌, slice_range}
-use Rattle.std.specs.Prelude.{flat_map}
-use Rattle.copy_plan.specs.declared.runs.Run.{Run}
+-- The runs of an ODT, which are its entries with neighbours joined.
+use Rattle.std.specs.Prelude.{ℕ, ◌+◌, ◌==◌, if◌then◌else◌, List, [], ◌∷◌}
+use Rattle.xcp_base.specs.declared.run.Run.{Run}
 use Rattle.copy_plan.specs.Config.{OdtEntry}
 
 -- some bytes and the runs behind them: one run with the first of these where it begins at their end
@@ -15,12 +14,3 @@ with_bytes start end (r ∷ rs) =
 abbrev pub joined_runs : List OdtEntry → List Run
 joined_runs [] = []
 joined_runs (e ∷ es) = with_bytes e.0 (e.0 + e.1) (joined_runs es)
-
--- what runs copy of an image
-abbrev pub copied : List ℕ → List Run → List ℕ
-copied image runs = flat_map (λ (r : Run). slice_range image r.start r.end) runs
-
--- the run lies within the image
-pub record IsRunInside (image_len : ℕ) (r : Run) : Type 0 where
-  pub ordered : r.start ≤ r.end
-  pub inside : r.end ≤ image_len

@@ -11,6 +11,7 @@ plan_view a = record {
   channel = a.channel;
   prescaler = a.prescaler;
   first_pid = a.first_pid;
+  form = a.form;
   stamped = a.stamped;
   odts = map written_entries a.conf.value.odts;
   image_len = a.image_len;

@@ -4,7 +4,8 @@ use Rattle.std.specs.Prelude.{if◌then◌else◌, [], length, map, sum_by, slic
 use Rattle.std.specs.Prelude.{replicate, Option, Some, None, is_none}
 use Rattle.std.specs.List.{list_any}
 use Rattle.xcp_base.specs.declared.limits.TheConstants.{MAX_ENTRIES, MAX_LISTS, MAX_ODTS}
-use Rattle.xcp_base.specs.declared.limits.TheConstants.{MAX_ODTS_IN_ALL}
+use Rattle.xcp_base.specs.declared.packet_form.PacketForm.{PacketForm}
+use Rattle.xcp_base.specs.Forms.{most_odts}
 use Rattle.xcp_base.specs.declared.err_code.ErrCode.{ErrCode}
 use Rattle.xcp_base.specs.declared.err_code.ErrCode.TheVariants.{DaqActive, OutOfRange}
 use Rattle.xcp_base.specs.declared.err_code.ErrCode.TheVariants.{ModeNotValid, Sequence, DaqConfig}
@@ -24,12 +25,12 @@ use Rattle.daq_store.specs.Answer.{is_bad_entry}
 use Rattle.daq_store.specs.Standing.{StoreState, conf_of, odts_of, shows_running}
 
 -- a list as it is when it is allocated
-abbrev pub fresh_state : ListState
-fresh_state = record { conf = fresh_conf; running = false; selected = false }
+abbrev pub fresh_state : PacketForm → ListState
+fresh_state form = record { conf = fresh_conf form; running = false; selected = false }
 
 -- the list at a place
 abbrev pub list_at : StoreState → ℕ → ListState
-list_at s l = slice_index_or s.lists l fresh_state
+list_at s l = slice_index_or s.lists l (fresh_state s.profile.form)
 
 -- some list runs
 abbrev pub some_runs : StoreState → Bool
@@ -51,7 +52,8 @@ other_odts s l = sum_by odts_of s.lists - odts_of (list_at s l)
 
 -- with n ODTs in list l, in place of those that it has, there would be too many
 abbrev pub shows_too_many : StoreState → ℕ → ℕ → Bool
-shows_too_many s l n = nat_lt MAX_ODTS n || nat_lt MAX_ODTS_IN_ALL (other_odts s l + n)
+shows_too_many s l n =
+    nat_lt MAX_ODTS n || nat_lt (most_odts s.profile.form.id) (other_odts s l + n)
 
 -- list l isn't ready
 abbrev pub shows_unready : StoreState → ℕ → Bool
@@ -128,7 +130,12 @@ Fails s call code = shown_fault s call ≡ Some code
 
 -- the store with n fresh lists in place of all
 abbrev pub lists_put : StoreState → ℕ → StoreState
-lists_put s n = record s { lists = replicate n fresh_state; pointer = None; phase = phase.Daq }
+lists_put s n =
+    record s {
+      lists = replicate n (fresh_state s.profile.form);
+      pointer = None;
+      phase = phase.Daq;
+    }
 
 -- a list with n ODTs without entries, with n unwritten entries in ODT k, with a mode, with a
 -- written entry

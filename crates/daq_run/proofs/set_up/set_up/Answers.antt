@@ -1,4 +1,4 @@
-use Rattle.std.proofs.Common.{◌≡◌, ℕ, Err, List, map, vec_items, ap, ap₂, subst, ◌∙◌}
+use Rattle.std.proofs.Common.{◌≡◌, ℕ, Err, List, map, vec_items, ap, subst, ◌∙◌}
 use Rattle.frame_writer.specs.Shown.{shown}
 use Rattle.frame_writer.specs.Writing.{WriterState, fresh_writer, state_of}
 use Rattle.run_setup.specs.Setup.{LosesReply, WantsMemory}
@@ -18,7 +18,7 @@ returns-in-Err-clause-fault g c =
     let t = c.carry_all.new.store in
     let first = state_of g.O.Out c.new-writer.result in
     let on : (P : WriterState → List (List ℕ) → Type 0) → P first (map vec_items c.setup.result.now) → P (fresh_writer before) run.setup = λ P told. subst (λ w. P w run.setup) c.new-writer.ensures.fresh (subst (P first) c.setup.ensures.value told) in
-    let profile : s.profile ≡ profile_of run = c.in-Ok.ensures.profile ∙ ap₂ (λ m n. record { channels = m; image_len = n }) c.channels.ensures.value c.image_len.ensures.value in
+    let profile : s.profile ≡ profile_of run = c.in-Ok.ensures.profile in
     let all : StandsAtFault run before b.out (run_fault c.in-Err.fault) = stops run s c.carry_all.new.store profile c.in-Ok.ensures.fresh before b c.in-Err.fault told.profile_stays
     (λ is. on (λ w ps. WantsMemory s t w b ps) (told.memory (ap Err is)))
     (λ is. on (λ w ps. LosesReply s t w b ps) (told.write (ap Err is))) in

@@ -5,7 +5,7 @@ use Rattle.daq_store.proofs.list_state.fresh_lists.Given as goal
 
 abbrev pub invariant-loop : goal.invariant-loop
 invariant-loop l = record {
-  items : l.lists.items ≡ replicate l.counter fresh_state;
+  items : l.lists.items ≡ replicate l.counter (fresh_state l.form);
   len : vec_len l.lists ≡ l.counter;
   room : vec_capacity l.lists ≡ l.count;
 }

@@ -15,9 +15,9 @@ planned c =
 
 pub invariant_of-result : goal.invariant_of-result
 invariant_of-result c = record {
-  plan = rw (c.channel.ensures.value, c.prescaler.ensures.value, c.stamped.ensures, c.of.ensures) (planned c);
+  plan = rw (c.channel.ensures.value, c.prescaler.ensures.value, c.form.ensures, c.stamped.ensures, c.of.ensures) (planned c);
   odts = rw c.of.ensures (c.in_ok-odts.ensures.value ∙ map-joined_runs-written_entries c.args.conf.now.odts);
 }
 
 pub returns-clause-plan : goal.returns-clause-plan
-returns-clause-plan c = rw (c.channel.ensures.value, c.prescaler.ensures.value, c.stamped.ensures, c.of.ensures) (planned c)
+returns-clause-plan c = rw (c.channel.ensures.value, c.prescaler.ensures.value, c.form.ensures, c.stamped.ensures, c.of.ensures) (planned c)

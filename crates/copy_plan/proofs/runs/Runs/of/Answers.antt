@@ -1,7 +1,7 @@
 use Rattle.std.proofs.Common.{◌<◌, length, arith, ◌≡◌, ◌+◌, List, ◌∷◌, Option, drop, sym, ◌∙◌}
 use Rattle.daq_store.specs.declared.entry.Entry.{Entry}
 use Rattle.daq_store.specs.Configuration.{odt_entries}
-use Rattle.copy_plan.specs.declared.runs.Run.{Run}
+use Rattle.xcp_base.specs.declared.run.Run.{Run}
 use Rattle.copy_plan.specs.Config.{OdtEntry, written_entries}
 use Rattle.copy_plan.specs.Inner.Joined.{joined_runs}
 use Rattle.copy_plan.proofs.WrittenLemmas.{shown-Some, written_entries-drop}

@@ -1,4 +1,4 @@
--- FIRST_PID is the number of the ODTs before, and those of the list still find room
+-- FIRST_PID is that of the ODTs before, and those of the list still find room
 use Rattle.std.proofs.Common.{◌∙◌, ◌<◌, ◌≤◌, Some, length, sym, ap, arith, subst}
 use Rattle.std.proofs.lemmas.Grind.{common_steps}
 use Rattle.daq_store.specs.Standing.{IsStore}
@@ -14,9 +14,9 @@ pub returns-clause-room : goal.returns-clause-room
 returns-clause-room c =
     let inside : c.args.list < length c.args.self.now.lists = grind (arith, common_steps) in
     let store : IsStore c.args.self.now = subst IsStore c.self.view_is c.self.invariant in
-    rw c.odts_before.ensures.value (room c.args.self.now c.args.list store inside)
+    rw c.first_pid_at.ensures (room c.args.self.now c.args.list store inside)
 
 pub returns-clause-after : goal.returns-clause-after
 returns-clause-after c = λ calls h.
     let inside : c.args.list < length c.args.self.now.lists = grind (arith, common_steps) in
-    ap Some c.odts_before.ensures.value ∙ sym (first_pid_here c.args.self.now calls c.args.list h inside)
+    ap Some c.first_pid_at.ensures ∙ sym (first_pid_here c.args.self.now calls c.args.list h inside)
