@@ -1,0 +1,3 @@
+pub mod HandleValues
+pub mod OnLemmas
+pub mod PartsValues

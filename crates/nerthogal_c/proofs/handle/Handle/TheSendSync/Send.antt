@@ -1,0 +1,30 @@
+-- A handle may go to another thread: what it may hold may, and so may the right to free its box.
+use Rattle.std.specs.Prelude.{Bool, true, false}
+use Rattle.std.specs.declared.option.Option.{Option}
+use mir.Raw.{raw}
+use base.Shift.{Keyless}
+use denote.Memory.{lone}
+use denote.RawPtr.{Ptr}
+use denote.Struct.Struct.{exits_of}
+use denote.Struct.Owning.{shape, fields, to}
+use denote.Param.Send.{IsSend, AllSend, owning_send, struct_send, sendable}
+use Rattle.std.proofs.Crossing.{crosses, frees}
+use Rattle.std_alloc.proofs.SendSync.{quiet, lies}
+use Rattle.channel_ring.proofs.SendLemmas.{item, ring_end, send_half}
+use Rattle.daq_engine.proofs.SendLemmas.{copy_plan}
+use Rattle.nerthogal_c.specs.Owned.{owns_held, the_heap}
+use Rattle.nerthogal_c.specs.contracts.content.Content as content
+use Rattle.nerthogal_c.specs.contracts.handle.Handle.{the_row, the_type}
+
+content_send : IsSend content.the_row
+content_send = search (sendable, crosses, ring_end, item, copy_plan, send_half) depth 60 fits 20000
+
+owned_keyless : (full : Bool) (at : Ptr) (held : Option content.the_row.Denot) → Keyless (owns_held full at held)
+owned_keyless true at held = λ x. (tt, (lies content.the_row content_send at x, frees.frees the_heap (raw (lone content.the_row.mir)) at))
+owned_keyless false at held = tt
+
+pub send : IsSend the_row
+send =
+    let all : AllSend (fields the_type) = (search sendable, (search sendable, tt)) in
+    owning_send the_type all (λ d. owned_keyless d.full d.at d.held)
+    (λ k. quiet (to the_type) (exits_of k (fields the_type)) ((struct_send (shape the_type) all).leaving k))

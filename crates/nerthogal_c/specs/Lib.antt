@@ -1,0 +1,5 @@
+pub mod Answers
+pub mod Engines
+pub mod Owned
+pub mod Samplers
+pub mod Statuses

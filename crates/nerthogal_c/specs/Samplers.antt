@@ -1,0 +1,108 @@
+-- What the calls of a sampler's handle answer and what they leave, by their status.
+use Rattle.std.specs.Prelude.{◌≡◌, ◌≢◌, ℕ, List, length, true, Option, Some, None}
+use Rattle.xcp_base.specs.declared.limits.TheConstants.{MAX_TRIGGERS}
+use Rattle.channel_ring.specs.declared.ends.SendEnd.{Ghosts as SendGhosts}
+use Rattle.channel_ring.specs.declared.ends.RingEnd.{Ghosts as EndGhosts}
+use Rattle.channel_ring.specs.declared.sample_ring.SendHalf.{SendHalf}
+use Rattle.sampler.specs.History.{Start, Stop}
+use Rattle.sampler.specs.Items.{marker_of}
+use Rattle.sampler.specs.Past.{Past}
+use Rattle.sampler.specs.Standing.{GoesOn, StandsAfter, TakesTrigger}
+use Rattle.sampler.specs.State.{SamplerState, runs_in, stopped_in, track_at}
+use Rattle.sampler.specs.Stays.{HasNoRoomFor, KeepsSetUp, OnlyLooked}
+use Rattle.sampler.specs.Tracks.{counts_after}
+use Rattle.sampler.specs.declared.counts.ListCounts.{ListCounts}
+use Rattle.sampler.specs.declared.taken.Taken.{Taken}
+use Rattle.nerthogal_c.specs.declared.content.Content.{Content}
+use Rattle.nerthogal_c.specs.declared.content.Content.TheVariants.{Sampler}
+use Rattle.nerthogal_c.specs.declared.sets.CountsOut.{CountsOut}
+use Rattle.nerthogal_c.specs.declared.sets.TakenOut.{TakenOut}
+use Rattle.nerthogal_c.specs.declared.status.Status.{Status}
+use Rattle.nerthogal_c.specs.declared.status.Status.TheVariants as status
+
+-- what goes out of what a trigger did, and of a list's counts
+abbrev pub taken_out : Taken → TakenOut
+taken_out taken =
+    record { due = taken.due; accepted = taken.accepted; dropped = taken.dropped }
+
+abbrev pub counts_out : ListCounts → CountsOut
+counts_out counts =
+    record { due = counts.due; accepted = counts.accepted; dropped = counts.dropped }
+
+-- what a call does to the handle of a sampler: a sampler stays in it, of which this holds. Where
+-- there is none it answers so, and leaves it, as what is said there
+abbrev pub OnSampler
+    : Option Content → Option Content → Status → Type 0
+    → (SamplerState SendHalf → SamplerState SendHalf → Type 0) → Type 0
+OnSampler (Some (Sampler s)) new result stays holds =
+    (t : SamplerState SendHalf) × (new ≡ Some (Sampler t)) × holds s t
+OnSampler old new result stays holds = (result ≡ status.Empty) × (new ≡ old) × stays
+
+module _ {E : Type 0} (send : SendGhosts SendHalf E) (ring : EndGhosts E) where
+  -- what a sampler does at a trigger
+  abbrev pub TriggersSampler
+      : SamplerState SendHalf → SamplerState SendHalf → List ℕ → ℕ → TakenOut → TakenOut → Status
+      → Type 0
+  TriggersSampler s t image stamp before after status.Ok =
+      (length image ≡ s.image_len) × KeepsSetUp send s t
+      × ((taken : Taken) × (after ≡ taken_out taken)
+      × ((past : Past) → StandsAfter send ring s past
+      → TakesTrigger send ring s t taken past image stamp))
+  TriggersSampler s t image stamp before after status.WrongImage =
+      (length image ≢ s.image_len) × (t ≡ s) × (after ≡ before)
+  TriggersSampler s t image stamp before after status.Spent =
+      (length image ≡ s.image_len) × (s.triggers ≡ MAX_TRIGGERS) × (t ≡ s) × (after ≡ before)
+  TriggersSampler s t image stamp before after _ = ⊥
+
+  -- what ng_trigger does to a handle
+  abbrev pub Triggers
+      : Option Content → Option Content → List ℕ → ℕ → TakenOut → TakenOut → Status → Type 0
+  Triggers old new image stamp before after result =
+      OnSampler old new result (after ≡ before)
+      (λ s t. TriggersSampler s t image stamp before after result)
+
+  -- what a sampler does where a list is to be started
+  abbrev pub StartsList : SamplerState SendHalf → SamplerState SendHalf → ℕ → Status → Type 0
+  StartsList s t l status.Ok = GoesOn send ring s t (Start l) × KeepsSetUp send s t
+  StartsList s t l status.NotOfChannel = (track_at s l ≡ None) × (t ≡ s)
+  StartsList s t l status.Running = (runs_in s l ≡ true) × (t ≡ s)
+  StartsList s t l _ = ⊥
+
+  -- what ng_start does to a handle
+  abbrev pub Starts : Option Content → Option Content → ℕ → Status → Type 0
+  Starts old new l result =
+      OnSampler old new result (Unit {0}) (λ s t. StartsList s t l result)
+
+  -- what a sampler does where a list is to be stopped
+  abbrev pub StopsList : SamplerState SendHalf → SamplerState SendHalf → ℕ → Status → Type 0
+  StopsList s t l status.Ok = GoesOn send ring s t (Stop l) × KeepsSetUp send s t
+  StopsList s t l status.NotOfChannel = (track_at s l ≡ None) × (t ≡ s)
+  StopsList s t l status.NotRunning = (stopped_in s l ≡ true) × (t ≡ s)
+  StopsList s t l status.NoRoom =
+      HasNoRoomFor send ring s.end (marker_of s.channel l) × OnlyLooked send ring s t
+  StopsList s t l _ = ⊥
+
+  -- what ng_stop does to a handle
+  abbrev pub Stops : Option Content → Option Content → ℕ → Status → Type 0
+  Stops old new l result =
+      OnSampler old new result (Unit {0}) (λ s t. StopsList s t l result)
+
+  -- a list's counts: those of the past
+  pub record AreCounts (s : SamplerState SendHalf) (l : ℕ) (out : CountsOut) : Type 0 where
+    pub counts : ListCounts
+    pub value : out ≡ counts_out counts
+    pub after :
+        (past : Past) → StandsAfter send ring s past → Some counts ≡ counts_after past l
+
+  -- what a sampler tells of a list
+  abbrev pub CountsList : SamplerState SendHalf → ℕ → CountsOut → CountsOut → Status → Type 0
+  CountsList s l before after status.Ok = AreCounts s l after
+  CountsList s l before after status.NotOfChannel = (track_at s l ≡ None) × (after ≡ before)
+  CountsList s l before after _ = ⊥
+
+  -- what ng_counts_of does to a handle
+  abbrev pub Counts
+      : Option Content → Option Content → ℕ → CountsOut → CountsOut → Status → Type 0
+  Counts old new l before after result =
+      OnSampler old new result (after ≡ before)
+      (λ s t. (t ≡ s) × CountsList s l before after result)

@@ -1,0 +1,112 @@
+//! The opening of an engine, and its samplers.
+
+ghost use Rattle.std.specs.Prelude.{◌≡◌, IfErr, IfOk, None, Some};
+ghost use Rattle.nerthogal_c.specs.Engines.{IsOpened, OpensEngine, OpensOn, OpensOver};
+
+use crate::content::Content;
+use crate::engine::Engine;
+use crate::handle::Handle;
+use crate::pumping::PUMP_BYTES;
+use crate::ring_out::RingOut;
+use crate::status::Status;
+use channel_ring::{RingEnd, SendEnd, SendHalf, SendLeft, TakeEnd, TakeHalf};
+use daq_engine::{OpenFault, open};
+use daq_store::Store;
+use frame_writer::{FrameWriter, Out};
+use rtrb::RingBuffer;
+use std::alloc::Global;
+
+/// Opens an engine over a store.
+pub fn opened(alloc: Global, store: &Store, caps: &[usize]) -> Result<Engine, Status>
+    ensures ok { IfOk result (λ engine. IsOpened ⟦<RingOut as Out>⟧ ⟦<TakeHalf as TakeEnd>⟧
+        ⟦<SendHalf as SendEnd>⟧ ⟦<SendLeft as RingEnd>⟧ store.now caps.now engine) }
+    ensures err { IfErr result (λ status. OpensOver ⟦<RingOut as Out>⟧ ⟦<TakeHalf as TakeEnd>⟧
+        ⟦<SendHalf as SendEnd>⟧ ⟦<SendLeft as RingEnd>⟧ store.now caps.now None status) }
+{
+    let Ok((bytes, frames)) = RingBuffer::new(alloc, PUMP_BYTES) else {
+        return Err(Status::Memory);
+    };
+    let writer = FrameWriter::new(RingOut { bytes, failures: 0 });
+    match open(alloc, store, caps, writer) {
+        Ok((samplers, transmitter)) => {
+            let mut samplers = samplers;
+            samplers.as_mut_slice().reverse();
+            Ok(Engine {
+                transmitter,
+                frames,
+                samplers,
+            })
+        }
+        Err((OpenFault::BadCaps, _)) => Err(Status::BadCaps),
+        Err((OpenFault::NothingRunning, _)) => Err(Status::NothingRunning),
+        Err((OpenFault::Memory, _)) => Err(Status::Memory),
+    }
+}
+
+/// Opens an engine over a store, on the heap.
+fn opened_on_heap(alloc: Global, store: &Store, caps: &[usize]) -> Result<Box<Content>, Status>
+    ensures ok { IfOk result (λ it. OpensOver ⟦<RingOut as Out>⟧ ⟦<TakeHalf as TakeEnd>⟧
+        ⟦<SendHalf as SendEnd>⟧ ⟦<SendLeft as RingEnd>⟧ store.now caps.now
+        (Some it.value) Status.Ok) }
+    ensures err { IfErr result (λ status. OpensOver ⟦<RingOut as Out>⟧ ⟦<TakeHalf as TakeEnd>⟧
+        ⟦<SendHalf as SendEnd>⟧ ⟦<SendLeft as RingEnd>⟧ store.now caps.now None status) }
+{
+    match opened(alloc, store, caps) {
+        Ok(engine) => match Box::new(alloc, Content::Engine(engine)) {
+            Ok(content) => Ok(content),
+            Err(_) => Err(Status::Memory),
+        },
+        Err(status) => Err(status),
+    }
+}
+
+/// Opens an engine over what is held, if it is a store.
+fn opened_on(alloc: Global, content: &Content, caps: &[usize]) -> Result<Box<Content>, Status>
+    ensures ok { IfOk result (λ it. OpensOn ⟦<RingOut as Out>⟧ ⟦<TakeHalf as TakeEnd>⟧
+        ⟦<SendHalf as SendEnd>⟧ ⟦<SendLeft as RingEnd>⟧ (Some content.now) caps.now
+        (Some it.value) Status.Ok) }
+    ensures err { IfErr result (λ status. OpensOn ⟦<RingOut as Out>⟧ ⟦<TakeHalf as TakeEnd>⟧
+        ⟦<SendHalf as SendEnd>⟧ ⟦<SendLeft as RingEnd>⟧ (Some content.now) caps.now None status) }
+{
+    match content {
+        Content::Store(store) => opened_on_heap(alloc, store, caps),
+        _ => Err(Status::Empty),
+    }
+}
+
+/// Opens an engine over the store of a handle.
+fn opened_over(alloc: Global, store: &mut Handle, caps: &[usize]) -> Result<Box<Content>, Status>
+    ensures ok { IfOk result (λ it. OpensOn ⟦<RingOut as Out>⟧ ⟦<TakeHalf as TakeEnd>⟧
+        ⟦<SendHalf as SendEnd>⟧ ⟦<SendLeft as RingEnd>⟧ store.old.held caps.now
+        (Some it.value) Status.Ok) }
+    ensures err { IfErr result (λ status. OpensOn ⟦<RingOut as Out>⟧ ⟦<TakeHalf as TakeEnd>⟧
+        ⟦<SendHalf as SendEnd>⟧ ⟦<SendLeft as RingEnd>⟧ store.old.held caps.now None status) }
+    ensures store_stays { store.new.held ≡ store.old.held }
+{
+    let Some(held) = store.take(alloc) else {
+        return Err(Status::Empty);
+    };
+    let result = opened_on(alloc, held.as_ref(), caps);
+    store.put(alloc, held);
+    result
+}
+
+/// Opens an engine over the store of a handle, into an empty one.
+pub fn open_into(alloc: Global, store: &mut Handle, caps: &[usize], engine: &mut Handle) -> Status
+    ensures opens { OpensEngine ⟦<RingOut as Out>⟧ ⟦<TakeHalf as TakeEnd>⟧
+        ⟦<SendHalf as SendEnd>⟧ ⟦<SendLeft as RingEnd>⟧
+        store.old.held engine.old.held engine.new.held caps.now result }
+    ensures store_stays { store.new.held ≡ store.old.held }
+{
+    if let Some(held) = engine.take(alloc) {
+        engine.put(alloc, held);
+        return Status::InUse;
+    }
+    match opened_over(alloc, store, caps) {
+        Ok(content) => {
+            engine.put(alloc, content);
+            Status::Ok
+        }
+        Err(status) => status,
+    }
+}

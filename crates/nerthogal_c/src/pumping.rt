@@ -1,0 +1,43 @@
+//! A pump, and its frames into a buffer.
+
+ghost use Rattle.std.specs.Prelude.{◌≡◌};
+ghost use Rattle.nerthogal_c.specs.Engines.{PumpsEngine};
+
+use crate::engine::Engine;
+use crate::ring_out::RingOut;
+use crate::sets::PumpedOut;
+use crate::status::Status;
+use channel_ring::{TakeEnd, TakeHalf};
+use frame_writer::Out;
+use transmitter::PumpFault;
+
+/// The bytes that one pump writes at most: of 8 event channels a sample of 8 packets each, of 64
+/// bytes behind a header of 4.
+pub const PUMP_BYTES: usize = 4352;
+
+/// Pumps, and puts the frames into the front of the buffer.
+pub fn pump(
+    engine: &mut Engine,
+    buffer: &mut [u8],
+    len: &mut usize,
+    pumped: &mut PumpedOut,
+) -> Status
+    ensures { PumpsEngine ⟦<RingOut as Out>⟧ ⟦<TakeHalf as TakeEnd>⟧ engine.old engine.new
+        (record { buffer = buffer.old; len = len.old; pumped = pumped.old })
+        (record { buffer = buffer.new; len = len.new; pumped = pumped.new }) result }
+{
+    if buffer.len() < PUMP_BYTES {
+        return Status::SmallBuffer;
+    }
+    let answer = engine.transmitter.pump();
+    *len = engine.frames.pop_partial_slice(buffer);
+    match answer {
+        Ok(done) => {
+            *pumped = PumpedOut::of(done);
+            Status::Ok
+        }
+        Err(PumpFault::Failed) => Status::Failed,
+        Err(PumpFault::Closed) => Status::Closed,
+        Err(PumpFault::Spent) => Status::Spent,
+    }
+}

@@ -1,0 +1,101 @@
+//! The calls of a store.
+
+ghost use Rattle.std.specs.Prelude.{◌≡◌};
+ghost use Rattle.nerthogal_c.specs.Statuses.{number_of};
+ghost use Rattle.nerthogal_c.specs.Answers.{CarriesCommand, Frees, MakesStore};
+ghost use Rattle.nerthogal_c.specs.declared.status.Status.{Status as StatusOf};
+
+use crate::carrying::answer_command;
+use crate::content::Content;
+use crate::handle::Handle;
+use crate::status::Status;
+use daq_store::Store;
+use std::alloc::Global;
+
+/// Makes a store without DAQ lists, for 1 to 8 event channels and images of 1 to 4096 bytes, and
+/// puts it into an empty handle.
+///
+/// Refused in this order (own): a handle that isn't empty, limits, want of memory.
+#[unsafe(no_mangle)]
+pub extern "C" fn ng_store_new(
+    alloc: Global,
+    channels: u16,
+    image_len: usize,
+    store: &mut Handle,
+) -> u32
+    ensures { (status : StatusOf) × (result ≡ number_of status)
+        × MakesStore store.old.held store.new.held channels image_len status }
+{
+    make(alloc, channels, image_len, store).number()
+}
+
+/// Carries one command packet of any bytes out. The packet that answers it goes into the front of
+/// the buffer, and its length in bytes into `reply_len`.
+///
+/// Refused in this order (own): an empty handle, a buffer of less than 8 bytes, want of memory. Then
+/// no command is carried out, and nothing is written.
+#[unsafe(no_mangle)]
+pub extern "C" fn ng_store_command(
+    alloc: Global,
+    store: &mut Handle,
+    packet: &[u8],
+    reply: &mut [u8],
+    reply_len: &mut usize,
+) -> u32
+    ensures { (status : StatusOf) × (result ≡ number_of status)
+        × CarriesCommand store.old.held store.new.held packet.now
+        (record { buffer = reply.old; len = reply_len.old })
+        (record { buffer = reply.new; len = reply_len.new }) status }
+{
+    carry(alloc, store, packet, reply, reply_len).number()
+}
+
+/// Gives a store up. The handle is empty then; one that is empty already stays so.
+#[unsafe(no_mangle)]
+pub extern "C" fn ng_store_free(alloc: Global, store: &mut Handle) -> u32
+    ensures { (status : StatusOf) × (result ≡ number_of status)
+        × Frees store.old.held store.new.held status }
+{
+    store.free(alloc).number()
+}
+
+/// Makes a store in a handle.
+fn make(alloc: Global, channels: u16, image_len: usize, handle: &mut Handle) -> Status
+    ensures { MakesStore handle.old.held handle.new.held channels image_len result }
+{
+    if let Some(store) = handle.take(alloc) {
+        handle.put(alloc, store);
+        return Status::InUse;
+    }
+    let Ok(store) = Store::new(alloc, channels, image_len) else {
+        return Status::BadLimits;
+    };
+    let Ok(made) = Box::new(alloc, Content::Store(store)) else {
+        return Status::Memory;
+    };
+    handle.put(alloc, made);
+    Status::Ok
+}
+
+/// Carries a command packet out by the store of a handle.
+fn carry(
+    alloc: Global,
+    handle: &mut Handle,
+    packet: &[u8],
+    buffer: &mut [u8],
+    len: &mut usize,
+) -> Status
+    ensures { CarriesCommand handle.old.held handle.new.held packet.now
+        (record { buffer = buffer.old; len = len.old })
+        (record { buffer = buffer.new; len = len.new }) result }
+{
+    let Some(mut held) = handle.take(alloc) else {
+        return Status::Empty;
+    };
+    let status = match held.as_mut() {
+        Content::Store(store) => answer_command(store, packet, buffer, len),
+        _ => Status::Empty,
+    };
+    handle.put(alloc, held);
+    status
+}

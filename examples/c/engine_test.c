@@ -1,0 +1,333 @@
+/* Goes through each call of an engine and of its samplers, and each status that can be met. Prints
+ * a line for each part; ends with status 1 at the first answer that isn't the one wanted. */
+#include "memory.h"
+#include "nerthogal.h"
+#include <stdio.h>
+#include <stdlib.h>
+#include <string.h>
+
+#define UNWRITTEN 0xA5u
+
+static const char *part = "";
+
+static void want(bool holds, const char *what) {
+    if (holds) return;
+    printf("%s: FAILED: %s\n", part, what);
+    exit(1);
+}
+
+static void begin(const char *name) { part = name; }
+
+static void end(void) { printf("%s: ok\n", part); }
+
+/* The bytes of a text in hexadecimal. */
+static size_t unhex(const char *text, uint8_t *bytes) {
+    size_t len = strlen(text) / 2;
+    for (size_t i = 0; i < len; i++) {
+        unsigned byte = 0;
+        sscanf(text + 2 * i, "%2x", &byte);
+        bytes[i] = (uint8_t)byte;
+    }
+    return len;
+}
+
+static void send(ng_store *store, const char *packet) {
+    uint8_t bytes[16] = {0}, reply[NG_REPLY_BYTES];
+    size_t len = 0, bytes_len = unhex(packet, bytes);
+    want(ng_store_command(store, bytes, bytes_len, reply, sizeof reply, &len) == NG_OK, packet);
+    want(reply[0] == 0xFF, packet);
+}
+
+/* One event channel, images of two bytes, and one DAQ list whose one entry is the image. */
+static ng_store one_list(void) {
+    static const char *const packets[] = {"d5000100",     "d400000001",       "d30000000001",
+                                          "e20000000000", "e1ff020000000000", "e000000000000100",
+                                          "de010000"};
+    ng_store store = NG_STORE_INIT;
+    want(ng_store_new(1, 2, &store) == NG_OK, "new");
+    for (size_t k = 0; k < sizeof packets / sizeof packets[0]; k++) send(&store, packets[k]);
+    return store;
+}
+
+/* Two event channels, images of one byte, and a DAQ list for each channel. */
+static ng_store two_lists(void) {
+    static const char *const packets[] = {
+        "d5000200",         "d400000001",   "d400010001",       "d30000000001",
+        "d30001000001",     "e20000000000", "e1ff010000000000", "e000000000000100",
+        "e20001000000",     "e1ff010000000000", "e000010001000100", "de010000", "de010100"};
+    ng_store store = NG_STORE_INIT;
+    want(ng_store_new(2, 1, &store) == NG_OK, "new");
+    for (size_t k = 0; k < sizeof packets / sizeof packets[0]; k++) send(&store, packets[k]);
+    return store;
+}
+
+static uint8_t frames[NG_PUMP_BYTES];
+
+/* Pumps, and wants these frames, of which so many items were taken, and behind them nothing
+ * written. */
+static void pump(ng_engine *engine, const char *wanted, unsigned taken, unsigned stopped) {
+    static uint8_t bytes[NG_PUMP_BYTES];
+    size_t len = 77, wanted_len;
+    ng_pumped pumped = {0x5555, 0x55, 0x55};
+    memset(frames, UNWRITTEN, sizeof frames);
+    memset(bytes, UNWRITTEN, sizeof bytes);
+    wanted_len = unhex(wanted, bytes);
+    want(ng_pump(engine, frames, sizeof frames, &len, &pumped) == NG_OK, "pump");
+    want(len == wanted_len && memcmp(frames, bytes, sizeof frames) == 0, wanted);
+    want(pumped.taken == taken && pumped.stopped == stopped, "what the pump took");
+}
+
+static void trigger(ng_sampler *sampler, const char *image, unsigned due, unsigned accepted) {
+    uint8_t bytes[2] = {0};
+    ng_taken taken = {0x5555, 0x5555, 0x5555};
+    size_t len = unhex(image, bytes);
+    want(ng_trigger(sampler, bytes, len, 0, &taken) == NG_OK, image);
+    want(taken.due == due && taken.accepted == accepted && taken.dropped == (due & ~accepted),
+         "what the trigger did");
+}
+
+static void counts(ng_sampler *sampler, uint8_t list, uint64_t due, uint64_t dropped) {
+    ng_counts told = {0, 0, 0};
+    want(ng_counts_of(sampler, list, &told) == NG_OK, "counts");
+    want(told.due == due && told.dropped == dropped && told.accepted == due - dropped, "counts");
+}
+
+static void free_all(ng_store *store, ng_engine *engine, ng_sampler *sampler) {
+    want(ng_sampler_free(sampler) == NG_OK && ng_sampler_free(sampler) == NG_EMPTY, "free");
+    want(ng_engine_free(engine) == NG_OK && ng_engine_free(engine) == NG_EMPTY, "free");
+    want(ng_store_free(store) == NG_OK, "free");
+}
+
+static void openings(void) {
+    ng_store store = one_list(), none = NG_STORE_INIT, idle = NG_STORE_INIT;
+    ng_engine engine = NG_ENGINE_INIT;
+    ng_sampler sampler = NG_SAMPLER_INIT, more = NG_SAMPLER_INIT;
+    static const struct {
+        size_t caps[2], count;
+    } bad[] = {{{4, 4}, 0}, {{4, 4}, 2}, {{0, 0}, 1}, {{1025, 0}, 1}, {{SIZE_MAX, 0}, 1}};
+    size_t cap = 1;
+    begin("openings");
+    want(ng_next_sampler(&engine, &sampler) == NG_EMPTY, "no engine");
+    want(ng_open(&none, &cap, 1, &engine) == NG_EMPTY, "no store");
+    for (size_t k = 0; k < sizeof bad / sizeof bad[0]; k++)
+        want(ng_open(&store, bad[k].caps, bad[k].count, &engine) == NG_BAD_CAPS, "capacities");
+    want(ng_store_new(1, 2, &idle) == NG_OK, "new");
+    want(ng_open(&idle, &cap, 1, &engine) == NG_NOTHING_RUNNING, "no list runs");
+    want(ng_open(&idle, &cap, 0, &engine) == NG_BAD_CAPS, "capacities are looked at first");
+    want(ng_engine_free(&engine) == NG_EMPTY, "nothing was opened");
+    want(ng_open(&store, &cap, 1, &engine) == NG_OK, "open");
+    want(ng_open(&store, &cap, 1, &engine) == NG_IN_USE, "open again");
+    want(ng_open(&none, &cap, 0, &engine) == NG_IN_USE, "it is looked at first");
+    want(ng_next_sampler(&engine, &sampler) == NG_OK, "the one sampler");
+    want(ng_next_sampler(&engine, &sampler) == NG_IN_USE, "it is there");
+    want(ng_next_sampler(&engine, &more) == NG_NO_SAMPLER, "there is no other");
+    want(ng_store_free(&idle) == NG_OK, "free");
+    free_all(&store, &engine, &sampler);
+    end();
+}
+
+static void empty_handles(void) {
+    ng_engine engine = NG_ENGINE_INIT;
+    ng_sampler sampler = NG_SAMPLER_INIT;
+    uint8_t image[2] = {0};
+    size_t len = 77;
+    ng_taken taken = {1, 2, 3};
+    ng_counts told = {1, 2, 3};
+    ng_pumped pumped = {1, 2, 3};
+    begin("empty handles");
+    want(ng_trigger(&sampler, image, 2, 0, &taken) == NG_EMPTY, "trigger");
+    want(ng_start(&sampler, 0) == NG_EMPTY && ng_stop(&sampler, 0) == NG_EMPTY, "start, stop");
+    want(ng_counts_of(&sampler, 0, &told) == NG_EMPTY, "counts");
+    want(ng_pump(&engine, frames, 0, &len, &pumped) == NG_EMPTY, "pump");
+    want(ng_sampler_free(&sampler) == NG_EMPTY && ng_engine_free(&engine) == NG_EMPTY, "free");
+    want(len == 77 && taken.due == 1 && told.due == 1 && pumped.stopped == 1, "nothing is written");
+    end();
+}
+
+static void samples(void) {
+    ng_store store = one_list();
+    ng_engine engine = NG_ENGINE_INIT;
+    ng_sampler sampler = NG_SAMPLER_INIT;
+    size_t cap = 1;
+    begin("samples, an overload, starts and stops");
+    want(ng_open(&store, &cap, 1, &engine) == NG_OK, "open");
+    want(ng_next_sampler(&engine, &sampler) == NG_OK, "sampler");
+    trigger(&sampler, "aabb", 1, 1);
+    trigger(&sampler, "ccdd", 1, 0);
+    want(ng_stop(&sampler, 0) == NG_NO_ROOM, "no room for the stop marker");
+    pump(&engine, "0300000000aabb", 1, 0);
+    trigger(&sampler, "eeff", 1, 1);
+    pump(&engine, "0300010080eeff", 1, 0);
+    pump(&engine, "", 0, 0);
+    want(ng_stop(&sampler, 1) == NG_NOT_OF_CHANNEL, "stop of no list");
+    want(ng_stop(&sampler, 0) == NG_OK && ng_stop(&sampler, 0) == NG_NOT_RUNNING, "stop");
+    trigger(&sampler, "0102", 0, 0);
+    pump(&engine, "", 1, 1);
+    want(ng_start(&sampler, 255) == NG_NOT_OF_CHANNEL, "start of no list");
+    want(ng_start(&sampler, 0) == NG_OK && ng_start(&sampler, 0) == NG_RUNNING, "start");
+    trigger(&sampler, "0304", 1, 1);
+    pump(&engine, "03000200000304", 1, 0);
+    counts(&sampler, 0, 4, 1);
+    ng_counts told = {7, 7, 7};
+    want(ng_counts_of(&sampler, 1, &told) == NG_NOT_OF_CHANNEL, "counts of no list");
+    want(told.due == 7, "nothing is written");
+    free_all(&store, &engine, &sampler);
+    end();
+}
+
+static void wrong_images(void) {
+    ng_store store = one_list();
+    ng_engine engine = NG_ENGINE_INIT;
+    ng_sampler sampler = NG_SAMPLER_INIT;
+    size_t cap = 1;
+    uint8_t image[4] = {0};
+    ng_taken taken = {7, 7, 7};
+    begin("images of another length");
+    want(ng_open(&store, &cap, 1, &engine) == NG_OK, "open");
+    want(ng_next_sampler(&engine, &sampler) == NG_OK, "sampler");
+    for (size_t len = 0; len < 5; len++)
+        if (len != 2) want(ng_trigger(&sampler, image, len, 0, &taken) == NG_WRONG_IMAGE, "image");
+    want(taken.due == 7, "nothing is written");
+    counts(&sampler, 0, 0, 0);
+    pump(&engine, "", 0, 0);
+    free_all(&store, &engine, &sampler);
+    end();
+}
+
+static void small_buffers(void) {
+    ng_store store = one_list();
+    ng_engine engine = NG_ENGINE_INIT;
+    ng_sampler sampler = NG_SAMPLER_INIT;
+    size_t cap = 1, len = 77;
+    ng_pumped pumped = {7, 7, 7};
+    begin("a buffer that is too short: nothing is taken, nothing lost");
+    want(ng_open(&store, &cap, 1, &engine) == NG_OK, "open");
+    want(ng_next_sampler(&engine, &sampler) == NG_OK, "sampler");
+    trigger(&sampler, "aabb", 1, 1);
+    memset(frames, UNWRITTEN, sizeof frames);
+    want(ng_pump(&engine, frames, 0, &len, &pumped) == NG_SMALL_BUFFER, "no byte");
+    want(ng_pump(&engine, frames, NG_PUMP_BYTES - 1, &len, &pumped) == NG_SMALL_BUFFER, "one less");
+    want(len == 77 && pumped.taken == 7 && frames[0] == UNWRITTEN, "nothing is written");
+    pump(&engine, "0300000000aabb", 1, 0);
+    free_all(&store, &engine, &sampler);
+    end();
+}
+
+static void two_channels(void) {
+    ng_store store = two_lists();
+    ng_engine engine = NG_ENGINE_INIT;
+    ng_sampler first = NG_SAMPLER_INIT, second = NG_SAMPLER_INIT, third = NG_SAMPLER_INIT;
+    size_t caps[2] = {4, 4};
+    begin("two event channels, and their samplers in rising order");
+    want(ng_open(&store, caps, 2, &engine) == NG_OK, "open");
+    want(ng_store_free(&store) == NG_OK, "the store is freed first");
+    want(ng_next_sampler(&engine, &first) == NG_OK, "channel 0");
+    want(ng_next_sampler(&engine, &second) == NG_OK, "channel 1");
+    want(ng_next_sampler(&engine, &third) == NG_NO_SAMPLER, "there is no other");
+    trigger(&second, "b1", 2, 2);
+    trigger(&first, "a1", 1, 1);
+    trigger(&first, "a2", 1, 1);
+    pump(&engine, "0200000000a10200010001b1", 2, 0);
+    pump(&engine, "0200020000a2", 1, 0);
+    want(ng_engine_free(&engine) == NG_OK, "the engine is freed before its samplers");
+    trigger(&first, "a3", 1, 1);
+    counts(&first, 0, 3, 0);
+    want(ng_sampler_free(&first) == NG_OK && ng_sampler_free(&second) == NG_OK, "free");
+    end();
+}
+
+/* Each allocation of an opening and of its samplers is refused in turn. */
+static void no_memory(void) {
+    ng_store store = two_lists();
+    size_t caps[2] = {4, 4};
+    unsigned long refusals = 0;
+    begin("want of memory");
+    for (unsigned long k = 0;; k++) {
+        ng_engine engine = NG_ENGINE_INIT;
+        ng_sampler first = NG_SAMPLER_INIT, second = NG_SAMPLER_INIT;
+        unsigned long held = memory_held;
+        memory_refuse_behind(k);
+        ng_status opened = ng_open(&store, caps, 2, &engine);
+        ng_status one = opened == NG_OK ? ng_next_sampler(&engine, &first) : NG_OK;
+        ng_status two = opened == NG_OK ? ng_next_sampler(&engine, &second) : NG_OK;
+        bool refused = memory_refused();
+        unsigned long lacking = (opened == NG_MEMORY) + (one == NG_MEMORY) + (two == NG_MEMORY);
+        want(lacking == (refused ? 1u : 0u), "want of memory is answered once, where it was met");
+        if (opened == NG_MEMORY) want(held == memory_held, "what was had is given back");
+        if (opened == NG_MEMORY) want(ng_open(&store, caps, 2, &engine) == NG_OK, "open again");
+        if (opened == NG_MEMORY || one == NG_MEMORY || two == NG_MEMORY) {
+            refusals++;
+            /* the sampler that wasn't handed out comes next, and is that of its channel */
+            bool first_is_out = opened == NG_OK && one == NG_OK;
+            if (!first_is_out && two != NG_OK)
+                want(ng_next_sampler(&engine, &first) == NG_OK, "sampler 0");
+            if (!first_is_out && two == NG_OK && opened == NG_OK) {
+                /* the second handle has the sampler of channel 0 then */
+                want(ng_start(&second, 1) == NG_NOT_OF_CHANNEL, "it is that of channel 0");
+                want(ng_next_sampler(&engine, &first) == NG_OK, "sampler 1");
+                want(ng_start(&first, 0) == NG_NOT_OF_CHANNEL, "it is that of channel 1");
+            } else if (opened == NG_MEMORY) {
+                want(ng_next_sampler(&engine, &first) == NG_OK, "sampler 0");
+                want(ng_next_sampler(&engine, &second) == NG_OK, "sampler 1");
+                want(ng_start(&first, 1) == NG_NOT_OF_CHANNEL, "it is that of channel 0");
+            } else {
+                want(ng_next_sampler(&engine, &second) == NG_OK, "sampler 1");
+                want(ng_start(&second, 0) == NG_NOT_OF_CHANNEL, "it is that of channel 1");
+            }
+        }
+        want(ng_engine_free(&engine) == NG_OK, "free");
+        want(ng_sampler_free(&first) == NG_OK && ng_sampler_free(&second) == NG_OK, "free");
+        want(held == memory_held, "all is given back");
+        if (!refused) break;
+    }
+    want(refusals > 4, "some were refused");
+    want(ng_store_free(&store) == NG_OK, "free");
+    end();
+}
+
+static void long_run(void) {
+    ng_store store = one_list();
+    ng_engine engine = NG_ENGINE_INIT;
+    ng_sampler sampler = NG_SAMPLER_INIT;
+    size_t cap = 64, len = 0;
+    ng_taken taken;
+    ng_pumped pumped;
+    unsigned long whole = 0;
+    begin("a hundred thousand triggers and pumps ask for no memory");
+    want(ng_open(&store, &cap, 1, &engine) == NG_OK, "open");
+    want(ng_next_sampler(&engine, &sampler) == NG_OK, "sampler");
+    unsigned long asked = memory_asked, held = memory_held;
+    for (uint32_t k = 0; k < 100000; k++) {
+        uint8_t image[2] = {(uint8_t)k, (uint8_t)(k >> 8)};
+        want(ng_trigger(&sampler, image, 2, k, &taken) == NG_OK && taken.accepted == 1, "trigger");
+        want(ng_pump(&engine, frames, sizeof frames, &len, &pumped) == NG_OK, "pump");
+        want(len == 7 && frames[0] == 3 && frames[1] == 0 && frames[4] == 0, "a whole frame");
+        want(frames[2] == (k & 0xFF) && frames[3] == ((k >> 8) & 0xFF), "its counter");
+        want(frames[5] == image[0] && frames[6] == image[1], "its bytes");
+        whole += pumped.frames;
+    }
+    want(ng_stop(&sampler, 0) == NG_OK && ng_start(&sampler, 0) == NG_OK, "stop, start");
+    want(asked == memory_asked && held == memory_held, "none was asked for, none given back");
+    want(whole == 100000, "a frame for each trigger");
+    counts(&sampler, 0, 100000, 0);
+    free_all(&store, &engine, &sampler);
+    end();
+}
+
+int main(void) {
+    static char text[4096];
+    setvbuf(stdout, text, _IOFBF, sizeof text);
+    unsigned long held = memory_held;
+    openings();
+    empty_handles();
+    samples();
+    wrong_images();
+    small_buffers();
+    two_channels();
+    no_memory();
+    long_run();
+    begin("all memory was given back");
+    want(memory_held == held, "a block is left");
+    end();
+    return 0;
+}

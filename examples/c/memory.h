@@ -1,0 +1,17 @@
+/* The program's malloc, realloc and free, counted and refused. Link with
+ * -Wl,--wrap=malloc,--wrap=realloc,--wrap=free. */
+#ifndef MEMORY_H
+#define MEMORY_H
+
+#include <stdbool.h>
+
+extern unsigned long memory_asked; /* calls of malloc and realloc */
+extern unsigned long memory_held;  /* blocks that were given and not freed */
+
+/* Gives as many more blocks as are said, refuses the one behind them, and gives all others. */
+void memory_refuse_behind(unsigned long blocks);
+
+/* Whether that one was asked for, and refused; refuses none from now on. */
+bool memory_refused(void);
+
+#endif

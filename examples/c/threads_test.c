@@ -1,0 +1,123 @@
+/* Two samplers in threads of their own, beside a transmitter in the first thread, many times over.
+ * The images are numbered, so that each frame tells what was dropped before it. Prints one line;
+ * ends with status 1 at the first thing that isn't as wanted. */
+#include "nerthogal.h"
+#include <pthread.h>
+#include <stdio.h>
+#include <stdlib.h>
+#include <string.h>
+
+#define CHANNELS 2
+#define TRIGGERS 2000u
+#define TIMES 100
+
+static void want(bool holds, const char *what) {
+    if (holds) return;
+    printf("FAILED: %s\n", what);
+    exit(1);
+}
+
+/* A DAQ list for each event channel, whose one entry is the whole image of four bytes. */
+static void set_up(ng_store *store) {
+    static const struct {
+        uint8_t bytes[8];
+        size_t len;
+    } packets[] = {
+        {{0xD5, 0, 2, 0}, 4},
+        {{0xD4, 0, 0, 0, 1}, 5},
+        {{0xD4, 0, 1, 0, 1}, 5},
+        {{0xD3, 0, 0, 0, 0, 1}, 6},
+        {{0xD3, 0, 1, 0, 0, 1}, 6},
+        {{0xE2, 0, 0, 0, 0, 0}, 6},
+        {{0xE1, 0xFF, 4, 0, 0, 0, 0, 0}, 8},
+        {{0xE0, 0, 0, 0, 0, 0, 1, 0}, 8},
+        {{0xE2, 0, 1, 0, 0, 0}, 6},
+        {{0xE1, 0xFF, 4, 0, 0, 0, 0, 0}, 8},
+        {{0xE0, 0, 1, 0, 1, 0, 1, 0}, 8},
+        {{0xDE, 1, 0, 0}, 4},
+        {{0xDE, 1, 1, 0}, 4},
+    };
+    uint8_t reply[NG_REPLY_BYTES];
+    size_t len;
+    want(ng_store_new(CHANNELS, 4, store) == NG_OK, "new");
+    for (size_t k = 0; k < sizeof packets / sizeof packets[0]; k++) {
+        want(ng_store_command(store, packets[k].bytes, packets[k].len, reply, sizeof reply, &len)
+                 == NG_OK, "command");
+        want(reply[0] == 0xFF, "reply");
+    }
+}
+
+/* Takes triggers by the sampler that it is handed. */
+static void *sample(void *argument) {
+    ng_sampler *sampler = argument;
+    for (uint32_t k = 0; k < TRIGGERS; k++) {
+        uint8_t image[4] = {(uint8_t)k, (uint8_t)(k >> 8), 0, 0};
+        ng_taken taken;
+        if (ng_trigger(sampler, image, 4, 0, &taken) != NG_OK) return argument;
+        if ((taken.accepted | taken.dropped) != taken.due) return argument;
+    }
+    return NULL;
+}
+
+/* What the frames so far told. */
+static uint32_t counter, received[CHANNELS], next[CHANNELS];
+
+static void look_at(const uint8_t *frame) {
+    uint32_t list = frame[4] & 0x7Fu, number = frame[5] | (uint32_t)frame[6] << 8;
+    want(frame[0] == 5 && frame[1] == 0, "LEN");
+    want((frame[2] | (uint32_t)frame[3] << 8) == (counter & 0xFFFF), "CTR rises by one");
+    want(list < CHANNELS && number >= next[list], "a list's samples come in order");
+    want(((frame[4] & 0x80) != 0) == (number > next[list]), "an overload marks each gap, no other");
+    counter++;
+    received[list]++;
+    next[list] = number + 1;
+}
+
+/* One pump. Answers how many items it took. */
+static unsigned pump(ng_engine *engine) {
+    static uint8_t frames[NG_PUMP_BYTES];
+    size_t len = 0;
+    ng_pumped pumped;
+    want(ng_pump(engine, frames, sizeof frames, &len, &pumped) == NG_OK, "pump");
+    want(len == 9u * pumped.frames, "whole frames");
+    for (size_t at = 0; at < len; at += 9) look_at(frames + at);
+    return pumped.taken;
+}
+
+static void run(size_t cap) {
+    const size_t caps[CHANNELS] = {cap, cap};
+    ng_store store = NG_STORE_INIT;
+    ng_engine engine = NG_ENGINE_INIT;
+    ng_sampler samplers[CHANNELS] = {NG_SAMPLER_INIT, NG_SAMPLER_INIT};
+    pthread_t threads[CHANNELS];
+    set_up(&store);
+    want(ng_open(&store, caps, CHANNELS, &engine) == NG_OK, "open");
+    counter = 0;
+    for (int c = 0; c < CHANNELS; c++) {
+        received[c] = next[c] = 0;
+        want(ng_next_sampler(&engine, &samplers[c]) == NG_OK, "sampler");
+    }
+    for (int c = 0; c < CHANNELS; c++)
+        want(pthread_create(&threads[c], NULL, sample, &samplers[c]) == 0, "thread");
+    for (int k = 0; k < 1000; k++) pump(&engine);
+    for (int c = 0; c < CHANNELS; c++) {
+        void *fault = NULL;
+        want(pthread_join(threads[c], &fault) == 0 && fault == NULL, "a sampler's thread");
+    }
+    while (pump(&engine) > 0) {}
+    for (int c = 0; c < CHANNELS; c++) {
+        ng_counts counts;
+        want(ng_counts_of(&samplers[c], (uint8_t)c, &counts) == NG_OK, "counts");
+        want(counts.due == TRIGGERS, "due");
+        want(counts.due == counts.accepted + counts.dropped, "due is accepted and dropped");
+        want(counts.accepted == received[c], "what was accepted was received");
+        want(ng_sampler_free(&samplers[c]) == NG_OK, "free");
+    }
+    want(ng_engine_free(&engine) == NG_OK && ng_store_free(&store) == NG_OK, "free");
+}
+
+int main(void) {
+    for (int k = 0; k < TIMES; k++) run(k % 2 == 0 ? 4 : 1024);
+    printf("two samplers in threads beside a transmitter: ok\n");
+    return 0;
+}
