@@ -7,6 +7,8 @@ mod broken_writers;
 #[cfg(test)]
 mod examples;
 #[cfg(test)]
+mod forms;
+#[cfg(test)]
 mod opened;
 #[cfg(test)]
 mod opening;

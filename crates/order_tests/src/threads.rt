@@ -198,8 +198,8 @@ fn settle<T: TakeEnd>(
     Ok(())
 }
 
-/// Runs a sampler in a thread of its own, and a master's orders beside it, through a control ring of
-/// four places.
+/// Runs a sampler in a thread of its own, and a master's orders beside it, through a control ring
+/// of four places.
 fn orders_come_through<R, S, T>(
     rt: &R,
     alloc: Global,

@@ -12,7 +12,7 @@ struct Refused<'a> {
     fault: RunFault,
 }
 
-const REFUSED: [Refused; 65] = [
+const REFUSED: [Refused; 71] = [
     Refused {
         name: "a key without a value",
         parts: &[
@@ -78,6 +78,36 @@ const REFUSED: [Refused; 65] = [
     Refused {
         name: "a ring that is no string",
         parts: &[ONE_CHANNEL, NO_SETUP, NO_STEPS, "ring = 1\n"],
+        fault: RunFault::BadKey,
+    },
+    Refused {
+        name: "an identification field that there isn't",
+        parts: &[ONE_CHANNEL, NO_SETUP, NO_STEPS, "id = \"Byte\"\n"],
+        fault: RunFault::BadKey,
+    },
+    Refused {
+        name: "an identification field that is no string",
+        parts: &[ONE_CHANNEL, NO_SETUP, NO_STEPS, "id = 1\n"],
+        fault: RunFault::BadKey,
+    },
+    Refused {
+        name: "timestamps of 3 bytes",
+        parts: &[ONE_CHANNEL, NO_SETUP, NO_STEPS, "stamp_size = 3\n"],
+        fault: RunFault::BadKey,
+    },
+    Refused {
+        name: "timestamps of no byte",
+        parts: &[ONE_CHANNEL, NO_SETUP, NO_STEPS, "stamp_size = 0\n"],
+        fault: RunFault::BadKey,
+    },
+    Refused {
+        name: "timestamps of 8 bytes",
+        parts: &[ONE_CHANNEL, NO_SETUP, NO_STEPS, "stamp_size = 8\n"],
+        fault: RunFault::BadKey,
+    },
+    Refused {
+        name: "timestamps of 4 bytes, as a string",
+        parts: &[ONE_CHANNEL, NO_SETUP, NO_STEPS, "stamp_size = \"4\"\n"],
         fault: RunFault::BadKey,
     },
     Refused {

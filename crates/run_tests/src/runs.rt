@@ -1,9 +1,12 @@
 //! Texts that are run files, and what a run shows of them.
 use crate::same::same;
-use crate::text::{BYTES_31, BYTES_32, NO_STEPS, ONE_CHANNEL, ONE_LIST, TWO_TRIGGERS, joined};
+use crate::text::{
+    BYTES_31, BYTES_32, NO_SETUP, NO_STEPS, ONE_CHANNEL, ONE_LIST, TWO_TRIGGERS, joined,
+};
 use run_file::{RingKind, Run, Step};
 use std::process::Abort;
 use std::test::Fail;
+use xcp_base::{IdKind, PacketForm, StampSize};
 
 /// The parts of a text, and what its run has.
 #[derive(Clone, Copy)]
@@ -12,6 +15,7 @@ struct Accepted<'a> {
     parts: &'a [&'a str],
     channels: u16,
     image_len: usize,
+    form: PacketForm,
     ring: RingKind,
     caps: &'a [usize],
     setup: &'a [&'a [u8]],
@@ -31,12 +35,19 @@ const SETUP: &[&[u8]] = &[
     &[0xDE, 1, 0, 0],
 ];
 
-const ACCEPTED: [Accepted; 7] = [
+/// The form of packets where no key says another one.
+const USUAL: PacketForm = PacketForm {
+    id: IdKind::Absolute,
+    stamp: StampSize::Four,
+};
+
+const ACCEPTED: [Accepted; 10] = [
     Accepted {
         name: "two triggers of one list",
         parts: &[ONE_CHANNEL, ONE_LIST, TWO_TRIGGERS],
         channels: 1,
         image_len: 2,
+        form: USUAL,
         ring: RingKind::Samples,
         caps: &[4],
         setup: SETUP,
@@ -59,6 +70,7 @@ const ACCEPTED: [Accepted; 7] = [
         parts: &[ONE_CHANNEL, ONE_LIST, NO_STEPS],
         channels: 1,
         image_len: 2,
+        form: USUAL,
         ring: RingKind::Samples,
         caps: &[4],
         setup: SETUP,
@@ -74,6 +86,7 @@ const ACCEPTED: [Accepted; 7] = [
         ],
         channels: 8,
         image_len: 4096,
+        form: USUAL,
         ring: RingKind::Samples,
         caps: &[1, 2, 3, 4, 5, 6, 7, 1024],
         setup: &[],
@@ -108,6 +121,7 @@ const ACCEPTED: [Accepted; 7] = [
         ],
         channels: 1,
         image_len: 1,
+        form: USUAL,
         ring: RingKind::Samples,
         caps: &[16],
         setup: &[&[], &[0xDD]],
@@ -122,6 +136,7 @@ const ACCEPTED: [Accepted; 7] = [
         ],
         channels: 2,
         image_len: 1,
+        form: USUAL,
         ring: RingKind::Bytes,
         caps: &[532, 65536],
         setup: &[],
@@ -133,6 +148,64 @@ const ACCEPTED: [Accepted; 7] = [
         parts: &[ONE_CHANNEL, "ring = \"samples\"\nsetup = []\n", NO_STEPS],
         channels: 1,
         image_len: 2,
+        form: USUAL,
+        ring: RingKind::Samples,
+        caps: &[4],
+        setup: &[],
+        steps: &[],
+        drain: true,
+    },
+    Accepted {
+        name: "a list number as BYTE, timestamps of 2 bytes",
+        parts: &[
+            ONE_CHANNEL,
+            NO_SETUP,
+            NO_STEPS,
+            "id = 'byte'\nstamp_size = 2\n",
+        ],
+        channels: 1,
+        image_len: 2,
+        form: PacketForm {
+            id: IdKind::RelativeByte,
+            stamp: StampSize::Two,
+        },
+        ring: RingKind::Samples,
+        caps: &[4],
+        setup: &[],
+        steps: &[],
+        drain: true,
+    },
+    Accepted {
+        name: "a list number as WORD, timestamps of 1 byte",
+        parts: &[
+            ONE_CHANNEL,
+            NO_SETUP,
+            NO_STEPS,
+            "stamp_size = 0x1\nid = \"word\"\n",
+        ],
+        channels: 1,
+        image_len: 2,
+        form: PacketForm {
+            id: IdKind::RelativeWord,
+            stamp: StampSize::One,
+        },
+        ring: RingKind::Samples,
+        caps: &[4],
+        setup: &[],
+        steps: &[],
+        drain: true,
+    },
+    Accepted {
+        name: "the usual form, said so",
+        parts: &[
+            ONE_CHANNEL,
+            NO_SETUP,
+            NO_STEPS,
+            "id = \"absolute\"\nstamp_size = 4\n",
+        ],
+        channels: 1,
+        image_len: 2,
+        form: USUAL,
         ring: RingKind::Samples,
         caps: &[4],
         setup: &[],
@@ -156,6 +229,7 @@ const ACCEPTED: [Accepted; 7] = [
         ],
         channels: 1,
         image_len: 1,
+        form: USUAL,
         ring: RingKind::Samples,
         caps: &[1],
         setup: &[&[0xD6; 255]],
@@ -168,6 +242,7 @@ const ACCEPTED: [Accepted; 7] = [
 fn shows(rt: &impl Abort, run: &Run, row: &Accepted) {
     same(rt, run.channels(), row.channels, row.name, "the channels");
     same(rt, run.image_len(), row.image_len, row.name, "the images");
+    same(rt, run.form(), row.form, row.name, "the form");
     same(rt, run.ring(), row.ring, row.name, "the kind of the rings");
     same(rt, run.caps(), row.caps, row.name, "the capacities");
     same(rt, run.drain(), row.drain, row.name, "the drain");

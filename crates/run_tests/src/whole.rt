@@ -61,13 +61,20 @@ const THREE_FRAMES: [u8; 84] = [
     30, 0, 2, 0x22, 0x5A, 3, 0, 31, 0, 2, 0x23, 0x5A,
 ];
 
-/// The steps of that.
+/// The set-up of one list with a timestamp, which then runs.
+const ONE_LIST_STAMPED: &str = "setup = ['d6', 'd5000100', 'd400000001', 'd30000000001',
+  'e20000000000', 'e1ff020000000000', 'e010000000000100', 'de010000']\n";
+
+/// A trigger at the timestamp 258.
+const TRIGGER_258: &str = "steps = [\"trigger 0 258 aabb\"]\n";
+
+/// The steps of those three event channels.
 const THREE_STEPS: &str = "steps = ['trigger 0 0 005a', 'trigger 0 0 015a', 'trigger 0 0 025a',
   'trigger 0 0 035a', 'pump', 'trigger 1 0 105a', 'trigger 1 0 115a',
   'trigger 1 0 125a', 'trigger 1 0 135a', 'pump', 'trigger 2 0 205a',
   'trigger 2 0 215a', 'trigger 2 0 225a', 'trigger 2 0 235a', 'pump']\n";
 
-const DONE: [Done; 10] = [
+const DONE: [Done; 22] = [
     Done {
         name: "two triggers of one list",
         parts: &[ONE_CHANNEL, ONE_LIST, TWO_TRIGGERS],
@@ -167,6 +174,149 @@ const DONE: [Done; 10] = [
         lists: &[[0, 4, 4, 0, 0], [1, 4, 4, 0, 0], [2, 4, 4, 0, 0]],
         replies: &THREE_REPLIES,
         frames: &THREE_FRAMES,
+    },
+    Done {
+        name: "two triggers of one list, its number as BYTE",
+        parts: &[ONE_CHANNEL, ONE_LIST, TWO_TRIGGERS, "id = \"byte\"\n"],
+        refused: 0,
+        lists: &[[0, 2, 2, 0, 0]],
+        replies: &REPLIES,
+        frames: &[4, 0, 8, 0, 0, 0, 0xAA, 0xBB, 4, 0, 9, 0, 0, 0, 0xCC, 0xDD],
+    },
+    Done {
+        name: "two triggers of one list, its number as WORD",
+        parts: &[ONE_CHANNEL, ONE_LIST, TWO_TRIGGERS, "id = \"word\"\n"],
+        refused: 0,
+        lists: &[[0, 2, 2, 0, 0]],
+        replies: &REPLIES,
+        frames: &[
+            5, 0, 8, 0, 0, 0, 0, 0xAA, 0xBB, 5, 0, 9, 0, 0, 0, 0, 0xCC, 0xDD,
+        ],
+    },
+    Done {
+        name: "a timestamp: absolute, 1",
+        parts: &[
+            ONE_CHANNEL,
+            ONE_LIST_STAMPED,
+            TRIGGER_258,
+            "id = \"absolute\"\nstamp_size = 1\n",
+        ],
+        refused: 0,
+        lists: &[[0, 1, 1, 0, 0]],
+        replies: &REPLIES,
+        frames: &[4, 0, 8, 0, 0, 2, 0xAA, 0xBB],
+    },
+    Done {
+        name: "a timestamp: absolute, 2",
+        parts: &[
+            ONE_CHANNEL,
+            ONE_LIST_STAMPED,
+            TRIGGER_258,
+            "id = \"absolute\"\nstamp_size = 2\n",
+        ],
+        refused: 0,
+        lists: &[[0, 1, 1, 0, 0]],
+        replies: &REPLIES,
+        frames: &[5, 0, 8, 0, 0, 2, 1, 0xAA, 0xBB],
+    },
+    Done {
+        name: "a timestamp: absolute, 4",
+        parts: &[
+            ONE_CHANNEL,
+            ONE_LIST_STAMPED,
+            TRIGGER_258,
+            "id = \"absolute\"\nstamp_size = 4\n",
+        ],
+        refused: 0,
+        lists: &[[0, 1, 1, 0, 0]],
+        replies: &REPLIES,
+        frames: &[7, 0, 8, 0, 0, 2, 1, 0, 0, 0xAA, 0xBB],
+    },
+    Done {
+        name: "a timestamp: byte, 1",
+        parts: &[
+            ONE_CHANNEL,
+            ONE_LIST_STAMPED,
+            TRIGGER_258,
+            "id = \"byte\"\nstamp_size = 1\n",
+        ],
+        refused: 0,
+        lists: &[[0, 1, 1, 0, 0]],
+        replies: &REPLIES,
+        frames: &[5, 0, 8, 0, 0, 0, 2, 0xAA, 0xBB],
+    },
+    Done {
+        name: "a timestamp: byte, 2",
+        parts: &[
+            ONE_CHANNEL,
+            ONE_LIST_STAMPED,
+            TRIGGER_258,
+            "id = \"byte\"\nstamp_size = 2\n",
+        ],
+        refused: 0,
+        lists: &[[0, 1, 1, 0, 0]],
+        replies: &REPLIES,
+        frames: &[6, 0, 8, 0, 0, 0, 2, 1, 0xAA, 0xBB],
+    },
+    Done {
+        name: "a timestamp: byte, 4",
+        parts: &[
+            ONE_CHANNEL,
+            ONE_LIST_STAMPED,
+            TRIGGER_258,
+            "id = \"byte\"\nstamp_size = 4\n",
+        ],
+        refused: 0,
+        lists: &[[0, 1, 1, 0, 0]],
+        replies: &REPLIES,
+        frames: &[8, 0, 8, 0, 0, 0, 2, 1, 0, 0, 0xAA, 0xBB],
+    },
+    Done {
+        name: "a timestamp: word, 1",
+        parts: &[
+            ONE_CHANNEL,
+            ONE_LIST_STAMPED,
+            TRIGGER_258,
+            "id = \"word\"\nstamp_size = 1\n",
+        ],
+        refused: 0,
+        lists: &[[0, 1, 1, 0, 0]],
+        replies: &REPLIES,
+        frames: &[6, 0, 8, 0, 0, 0, 0, 2, 0xAA, 0xBB],
+    },
+    Done {
+        name: "a timestamp: word, 2",
+        parts: &[
+            ONE_CHANNEL,
+            ONE_LIST_STAMPED,
+            TRIGGER_258,
+            "id = \"word\"\nstamp_size = 2\n",
+        ],
+        refused: 0,
+        lists: &[[0, 1, 1, 0, 0]],
+        replies: &REPLIES,
+        frames: &[7, 0, 8, 0, 0, 0, 0, 2, 1, 0xAA, 0xBB],
+    },
+    Done {
+        name: "a timestamp: word, 4",
+        parts: &[
+            ONE_CHANNEL,
+            ONE_LIST_STAMPED,
+            TRIGGER_258,
+            "id = \"word\"\nstamp_size = 4\n",
+        ],
+        refused: 0,
+        lists: &[[0, 1, 1, 0, 0]],
+        replies: &REPLIES,
+        frames: &[9, 0, 8, 0, 0, 0, 0, 2, 1, 0, 0, 0xAA, 0xBB],
+    },
+    Done {
+        name: "a timestamp without a size",
+        parts: &[ONE_CHANNEL, ONE_LIST_STAMPED, TRIGGER_258],
+        refused: 0,
+        lists: &[[0, 1, 1, 0, 0]],
+        replies: &REPLIES,
+        frames: &[7, 0, 8, 0, 0, 2, 1, 0, 0, 0xAA, 0xBB],
     },
 ];
 

@@ -187,8 +187,8 @@ const THREE_FRAMES: &[u8] = &[
 ];
 
 /// Three packets that are sent together to a writer which takes `chunk` bytes a call and `good` in
-/// all: the answer, CTR after it, how many bytes each call handed over, and how many of the bytes of
-/// the three frames were taken.
+/// all: the answer, CTR after it, how many bytes each call handed over, and how many of the bytes
+/// of the three frames were taken.
 #[derive(Clone, Copy)]
 struct SendingTogether<'a> {
     name: &'a str,

@@ -7,7 +7,11 @@ mod byte_rings;
 #[cfg(test)]
 mod first_path;
 #[cfg(test)]
+mod forms;
+#[cfg(test)]
 mod frames;
+#[cfg(test)]
+mod no_end;
 #[cfg(test)]
 mod plans;
 #[cfg(test)]

@@ -4,7 +4,10 @@ ghost use Rattle.copy_plan.specs.Config.{IsPlan};
 
 use crate::same::same;
 use copy_plan::CopyPlan;
-use copy_plan::laws::{marked_pid, pid_ranges_share_nothing, pids_of_lists_are_apart};
+use copy_plan::laws::{
+    list_fields_are_apart, marked_pid, pid_ranges_share_nothing, pids_of_lists_are_apart,
+    relative_pid,
+};
 use daq_store::{Refusal, Store};
 use std::alloc::Global;
 use std::process::Abort;
@@ -348,4 +351,6 @@ fn the_laws_can_be_called(_rt: HostRuntime) {
     pid_ranges_share_nothing();
     marked_pid();
     pids_of_lists_are_apart();
+    relative_pid();
+    list_fields_are_apart();
 }

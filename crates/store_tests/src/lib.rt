@@ -17,6 +17,8 @@ mod example;
 #[cfg(test)]
 mod fields;
 #[cfg(test)]
+mod forms;
+#[cfg(test)]
 mod packets;
 #[cfg(test)]
 mod same;

@@ -58,6 +58,6 @@ fn a_refusal_says_why(rt: HostRuntime) -> Result<(), Fail> {
     says(
         &rt,
         &BadLimits,
-        "event channels or image length out of their limits",
+        "event channels, image length or timestamp size out of their limits",
     )
 }
