@@ -7,7 +7,8 @@ use Rattle.byte_ring.specs.Held.{AreRecords}
 use Rattle.byte_ring.specs.Reading.{items_in}
 use Rattle.byte_ring.specs.Records.{record_len, record_of, records_of}
 
--- where each item costs the length of its record, they are as many units as their records have bytes
+-- where each item costs the length of its record, they are as many units as their records have
+-- bytes
 pub units-records : (xs : List Item) → units record_len xs ≡ length (records_of xs)
 units-records [] = refl
 units-records (x ∷ xs) =

@@ -83,8 +83,8 @@ fn are_within(channel: u8, list: u8) -> bool
     (channel as u16) < MAX_CHANNELS && (list as u16) < MAX_LISTS
 }
 
-/// Reads the item whose record these bytes are, in the place of another one; false where they are no
-/// record.
+/// Reads the item whose record these bytes are, in the place of another one; false where they are
+/// no record.
 pub(crate) fn read_item(item: &mut Item, bytes: &[u8]) -> bool
     ensures yes { result ≡ true → record_of item.new ≡ bytes.now }
     ensures item { result ≡ true → IsItem item.new }

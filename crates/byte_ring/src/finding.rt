@@ -31,8 +31,8 @@ pub(crate) fn nothing() -> Front
     }
 }
 
-/// Reads the item whose record stands first in these bytes, in the place of another one, and answers
-/// the length of the record; `None` where none stands there.
+/// Reads the item whose record stands first in these bytes, in the place of another one, and
+/// answers the length of the record; `None` where none stands there.
 fn read_first(item: &mut Item, bytes: &[u8]) -> Option<usize>
     ensures some { IfSome result (λ len. IsFirst item.new len bytes.now) }
     ensures none { IsNone result → items_in bytes.now ≡ [] }
@@ -103,8 +103,8 @@ pub(crate) fn settle(consumer: &mut Consumer<u8>, front: &mut Front)
     find(consumer, front);
 }
 
-/// Lets the record go that stood first, and finds the next item. Bytes are popped only where no whole
-/// record is held any more.
+/// Lets the record go that stood first, and finds the next item. Bytes are popped only where no
+/// whole record is held any more.
 pub(crate) fn next(consumer: &mut Consumer<u8>, front: &mut Front)
     requires there { front.old.ahead ≤ length (known_items consumer.old) }
     ensures ring { SameConsumer consumer.old consumer.new }

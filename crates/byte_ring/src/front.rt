@@ -7,7 +7,8 @@ use xcp_base::Item;
 /// The most bytes that are held: two longest records.
 pub(crate) const AHEAD: usize = 2 * MAX_RECORD;
 
-/// The bytes that were popped and not let go yet, and the item whose record stands first among them.
+/// The bytes that were popped and not let go yet, and the item whose record stands first among
+/// them.
 #[derive(Drop)]
 pub(crate) struct Front {
     // The bytes held stand from the place `from` to the place `to`.

@@ -2,8 +2,8 @@
 ghost use Rattle.copy_plan.specs.Pids.{ListFieldsApart, MarkedPid, PidRanges, PidsApart};
 ghost use Rattle.copy_plan.specs.Pids.{RelativePid};
 
-/// With an absolute ODT number FIRST_PID and the ODTs of two DAQ lists of one store make ranges that
-/// share nothing: each PID of the lower list is below each PID of the higher one.
+/// With an absolute ODT number FIRST_PID and the ODTs of two DAQ lists of one store make ranges
+/// that share nothing: each PID of the lower list is below each PID of the higher one.
 pub fn pid_ranges_share_nothing()
     ensures { PidRanges }
 {}
@@ -14,8 +14,8 @@ pub fn marked_pid()
     ensures { MarkedPid }
 {}
 
-/// With an absolute ODT number plans of two lists of one store have no PID in common, whether it has
-/// the overload indication or not.
+/// With an absolute ODT number plans of two lists of one store have no PID in common, whether it
+/// has the overload indication or not.
 pub fn pids_of_lists_are_apart()
     ensures { PidsApart }
 {}

@@ -63,8 +63,8 @@ impl Model for CopyPlan {
 }
 
 impl CopyPlan {
-    /// The plan of a ready DAQ list, whose PIDs begin with FIRST_PID, which is 0 with a relative ODT
-    /// number; images have `image_len` bytes.
+    /// The plan of a ready DAQ list, whose PIDs begin with FIRST_PID, which is 0 with a relative
+    /// ODT number; images have `image_len` bytes.
     ///
     /// An entry that begins where the one before it in the same ODT ends is copied with it, in one
     /// go.

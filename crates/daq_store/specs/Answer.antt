@@ -108,7 +108,8 @@ reply_by accepted (Some code) = Error code
 
 -- the answer to a call
 abbrev pub answer : Profile → List Command → Command → Reply
-answer profile calls call = reply_by (accepted_reply profile calls call) (fault_of profile calls call)
+answer profile calls call =
+    reply_by (accepted_reply profile calls call) (fault_of profile calls call)
 
 -- the calls that stand after one that was asked for: those before it, if it was refused
 abbrev pub calls_after : Profile → List Command → Command → List Command

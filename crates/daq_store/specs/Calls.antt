@@ -7,8 +7,8 @@ use Rattle.xcp_base.specs.declared.packet_form.PacketForm.{PacketForm}
 use Rattle.daq_store.specs.declared.command.Command.{Command}
 use Rattle.daq_store.specs.declared.command.Command.TheVariants.{FreeDaq}
 
--- what a store is made for: its number of event channels, the length of its images in bytes, and the
--- form of its packets
+-- what a store is made for: its number of event channels, the length of its images in bytes, and
+-- the form of its packets
 pub record Profile : Type 0 where
   pub channels : ℕ
   pub image_len : ℕ

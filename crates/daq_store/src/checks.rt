@@ -1,8 +1,8 @@
 //! The checks of each call, in their order: active list, sequence, numbers and ranges, mode,
 //! configuration, limits of allocation (own).
 
-ghost use Rattle.std.specs.Prelude.{◌≡◌, ◌+◌, ◌*◌, ◌<◌, ◌≤◌, ◌&&◌, ◌==◌, true, false, IfErr, IfOk, OnOk};
-ghost use Rattle.std.specs.Prelude.{length, Some};
+ghost use Rattle.std.specs.Prelude.{◌≡◌, ◌+◌, ◌*◌, ◌<◌, ◌≤◌, ◌&&◌, ◌==◌, true, false};
+ghost use Rattle.std.specs.Prelude.{IfErr, IfOk, OnOk, Some, length};
 ghost use Rattle.std.specs.List.{list_any};
 ghost use Rattle.xcp_base.specs.Forms.{most_odts};
 ghost use Rattle.daq_store.specs.Answer.{is_bad_entry};

@@ -1,6 +1,6 @@
 ghost use Rattle.std.specs.Prelude.{◌≡◌, ◌<◌, ◌≤◌, IfOk, IfSome, OnOk, OnErr, IsSome, [], None};
 ghost use Rattle.std.specs.Prelude.{Some, length, option_map, replicate, slice_set};
-ghost use Rattle.xcp_base.specs.Forms.{stamp_bytes};
+ghost use Rattle.xcp_base.specs.Forms.{field_len, stamp_bytes};
 ghost use Rattle.xcp_base.specs.Packets.{stamp_len};
 ghost use Rattle.daq_store.specs.Configuration.{channel_of, prescaler_of, priority_of, is_stamped};
 ghost use Rattle.daq_store.specs.Configuration.{odt_entries, entry_of, is_ready};
@@ -11,7 +11,9 @@ use crate::mode::Mode;
 use crate::odt::Odt;
 use std::alloc::{AllocError, Global};
 use std::marker::Model;
-use xcp_base::limits::{MAX_CHANNELS, MAX_DTO, MAX_ENTRIES, MAX_ENTRY_SIZE, MAX_ODTS, MAX_STAMP};
+use xcp_base::limits::{
+    MAX_CHANNELS, MAX_DTO, MAX_ENTRIES, MAX_ENTRY_SIZE, MAX_FIELD, MAX_ODTS, MAX_STAMP,
+};
 use xcp_base::{IdKind, PacketForm};
 
 /// What is set of a DAQ list: its mode, and the entries of its ODTs; and the form of its packets,
@@ -142,11 +144,19 @@ impl ListConf {
             if !odt.is_filled(image_len) {
                 return false;
             }
-            if self.form.id.field_len() + self.stamp_len(k) + odt.bytes() > MAX_DTO {
+            if self.field_len() + self.stamp_len(k) + odt.bytes() > MAX_DTO {
                 return false;
             }
         }
         !self.odts.is_empty()
+    }
+
+    /// The bytes of the identification field.
+    fn field_len(&self) -> usize
+        ensures value { result ≡ field_len self.now.form.id }
+        ensures limit { result ≤ MAX_FIELD }
+    {
+        self.form.id.field_len()
     }
 
     /// The bytes of the timestamp in the packet of an ODT: there is one in ODT 0 of a stamped list.

@@ -55,8 +55,8 @@ impl Store {
     ghost use Rattle.daq_store.specs.Standing.{StoreStandsAfter, Accepts, Refuses};
 
     /// A store without lists, as after FREE_DAQ, for 1 to 8 event channels and images of 1 to 4096
-    /// bytes; its packets have an absolute ODT number, and timestamps of 4 bytes. It takes no memory;
-    /// the allocator is kept for the three allocations.
+    /// bytes; its packets have an absolute ODT number, and timestamps of 4 bytes. It takes no
+    /// memory; the allocator is kept for the three allocations.
     pub fn new(alloc: Global, channels: u16, image_len: usize) -> Result<Store, BadLimits>
         ensures limits { IsOk result ↔ ((1 ≤ channels) × (channels ≤ MAX_CHANNELS)
             × (1 ≤ image_len) × (image_len ≤ MAX_IMAGE_LEN)) }

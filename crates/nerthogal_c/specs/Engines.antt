@@ -1,6 +1,6 @@
 -- What the calls of an engine's handle answer and what they leave, by their status.
-use Rattle.std.specs.Prelude.{◌≡◌, ℕ, ◌<◌, ◌≤◌, false, true, List, [], ◌∷◌, ◌++◌, length, take, drop}
-use Rattle.std.specs.Prelude.{reverse, Option, Some, None, Result, Ok, Err}
+use Rattle.std.specs.Prelude.{◌≡◌, ℕ, ◌<◌, ◌≤◌, false, true, List, [], ◌∷◌, ◌++◌, length, take}
+use Rattle.std.specs.Prelude.{drop, reverse, Option, Some, None, Result, Ok, Err}
 use Rattle.rtrb.specs.Ring.{received}
 use Rattle.channel_ring.specs.declared.ends.SendEnd.{Ghosts as SendGhosts}
 use Rattle.channel_ring.specs.declared.ends.RingEnd.{Ghosts as EndGhosts}
@@ -61,7 +61,8 @@ module _ {E : Type 0} (out : OutGhosts RingOut) (give : TakeGhosts TakeHalf E) w
   pub record PumpsOut
       (s t : Parts) (before after : FrameRoom) (answer : Result Pumped PumpFault) : Type 0 where
     pub room : PUMP_BYTES ≤ length before.buffer
-    pub pump : IsPump (transmission out give s.transmitter) (transmission out give t.transmitter) answer
+    pub pump :
+        IsPump (transmission out give s.transmitter) (transmission out give t.transmitter) answer
     pub frames : GivesFrames s t before after
     pub samplers : t.samplers ≡ s.samplers
 

@@ -26,5 +26,6 @@ token = ghosts.dealloc_token the_heap
 abbrev pub owns_held : Bool → Ptr → Option content.the_row.Denot → Fml
 owns_held true at it =
     fex content.the_row.Denot
-    (λ x. fsep (feq (Option content.the_row.Denot) it (Some x)) (box_owns token content.the_row at x))
+    (λ x. fsep (feq (Option content.the_row.Denot) it (Some x))
+    (box_owns token content.the_row at x))
 owns_held false at it = feq (Option content.the_row.Denot) it None

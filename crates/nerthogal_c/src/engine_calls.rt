@@ -54,8 +54,8 @@ pub extern "C" fn ng_next_sampler(alloc: Global, engine: &mut Handle, sampler: &
 /// Takes at most one item of each ring, and puts the frames of the samples into the front of the
 /// buffer, and their length in bytes into `len`.
 ///
-/// Refused in this order: no engine, a buffer of less than 4352 bytes, a writer that failed earlier,
-/// `MAX_TAKEN` items taken; then nothing is taken.
+/// Refused in this order: no engine, a buffer of less than 4352 bytes, a writer that failed
+/// earlier, `MAX_TAKEN` items taken; then nothing is taken.
 #[unsafe(no_mangle)]
 pub extern "C" fn ng_pump(
     alloc: Global,

@@ -73,7 +73,8 @@ fn hand_out_of(alloc: Global, content: &mut Content, sampler: &mut Handle) -> St
 
 /// Hands the next sampler of the engine of a handle out, into an empty handle.
 pub fn give_sampler(alloc: Global, engine: &mut Handle, sampler: &mut Handle) -> Status
-    ensures { GivesSampler engine.old.held engine.new.held sampler.old.held sampler.new.held result }
+    ensures { GivesSampler engine.old.held engine.new.held
+        sampler.old.held sampler.new.held result }
 {
     if let Some(held) = sampler.take(alloc) {
         sampler.put(alloc, held);

@@ -75,7 +75,8 @@ impl Handle {
 
     /// What is held.
     fn into_box(self, alloc: Global) -> Option<Box<Content>>
-        ensures { MatchOption result (self.held ≡ None) (λ content. self.held ≡ Some content.value) }
+        ensures { MatchOption result (self.held ≡ None)
+            (λ content. self.held ≡ Some content.value) }
     {
         match self.into_parts(alloc) {
             Some(parts) => Some(parts.into_box()),

@@ -32,8 +32,8 @@ pub extern "C" fn ng_store_new(
 /// Carries one command packet of any bytes out. The packet that answers it goes into the front of
 /// the buffer, and its length in bytes into `reply_len`.
 ///
-/// Refused in this order (own): an empty handle, a buffer of less than 8 bytes, want of memory. Then
-/// no command is carried out, and nothing is written.
+/// Refused in this order (own): an empty handle, a buffer of less than 8 bytes, want of memory.
+/// Then no command is carried out, and nothing is written.
 #[unsafe(no_mangle)]
 pub extern "C" fn ng_store_command(
     alloc: Global,

@@ -3,9 +3,9 @@ ghost use Rattle.std.specs.Prelude.{◌≡◌, ◌≤◌, IfOk, IfSome, MatchBoo
 ghost use Rattle.std.specs.Prelude.{vec_items};
 ghost use Rattle.toml.specs.Data.{as_array, as_str};
 ghost use Rattle.toml.specs.View.{items_view, table_view, view};
-ghost use Rattle.run_file.specs.Keys.{all_of, are_keys, at_key, cap_in, caps_in, drain_of, is_among};
+ghost use Rattle.run_file.specs.Keys.{all_of, are_keys, at_key, cap_in, caps_in, drain_of};
 ghost use Rattle.run_file.specs.Keys.{id_in, id_named, id_of, keys, number_in, packet_form};
-ghost use Rattle.run_file.specs.Keys.{ring_in, ring_named, ring_of, stamp_in, stamp_of};
+ghost use Rattle.run_file.specs.Keys.{is_among, ring_in, ring_named, ring_of, stamp_in, stamp_of};
 ghost use Rattle.run_file.specs.Keys.{texts_at, texts_in};
 ghost use Rattle.run_file.specs.Inner.{text_in};
 

@@ -18,10 +18,10 @@ use std::marker::Model;
 use toml::Table;
 use xcp_base::PacketForm;
 
-/// A run, as a file tells it: the event channels, the length of the images, the form of the packets,
-/// the kind and the capacities of the rings, the command packets of the set-up, the steps, and
-/// whether the rings are drained at the end. It comes from a text alone, and so keeps all limits of a
-/// run file.
+/// A run, as a file tells it: the event channels, the length of the images, the form of the
+/// packets, the kind and the capacities of the rings, the command packets of the set-up, the steps,
+/// and whether the rings are drained at the end. It comes from a text alone, and so keeps all
+/// limits of a run file.
 #[derive(Drop)]
 pub struct Run {
     channels: u16,

@@ -12,7 +12,7 @@ struct Refused<'a> {
     fault: RunFault,
 }
 
-const REFUSED: [Refused; 71] = [
+const REFUSED: [Refused; 65] = [
     Refused {
         name: "a key without a value",
         parts: &[
@@ -78,36 +78,6 @@ const REFUSED: [Refused; 71] = [
     Refused {
         name: "a ring that is no string",
         parts: &[ONE_CHANNEL, NO_SETUP, NO_STEPS, "ring = 1\n"],
-        fault: RunFault::BadKey,
-    },
-    Refused {
-        name: "an identification field that there isn't",
-        parts: &[ONE_CHANNEL, NO_SETUP, NO_STEPS, "id = \"Byte\"\n"],
-        fault: RunFault::BadKey,
-    },
-    Refused {
-        name: "an identification field that is no string",
-        parts: &[ONE_CHANNEL, NO_SETUP, NO_STEPS, "id = 1\n"],
-        fault: RunFault::BadKey,
-    },
-    Refused {
-        name: "timestamps of 3 bytes",
-        parts: &[ONE_CHANNEL, NO_SETUP, NO_STEPS, "stamp_size = 3\n"],
-        fault: RunFault::BadKey,
-    },
-    Refused {
-        name: "timestamps of no byte",
-        parts: &[ONE_CHANNEL, NO_SETUP, NO_STEPS, "stamp_size = 0\n"],
-        fault: RunFault::BadKey,
-    },
-    Refused {
-        name: "timestamps of 8 bytes",
-        parts: &[ONE_CHANNEL, NO_SETUP, NO_STEPS, "stamp_size = 8\n"],
-        fault: RunFault::BadKey,
-    },
-    Refused {
-        name: "timestamps of 4 bytes, as a string",
-        parts: &[ONE_CHANNEL, NO_SETUP, NO_STEPS, "stamp_size = \"4\"\n"],
         fault: RunFault::BadKey,
     },
     Refused {
@@ -483,9 +453,55 @@ const REFUSED: [Refused; 71] = [
     },
 ];
 
+const BAD_FORMS: [Refused; 6] = [
+    Refused {
+        name: "an identification field that there isn't",
+        parts: &[ONE_CHANNEL, NO_SETUP, NO_STEPS, "id = \"Byte\"\n"],
+        fault: RunFault::BadKey,
+    },
+    Refused {
+        name: "an identification field that is no string",
+        parts: &[ONE_CHANNEL, NO_SETUP, NO_STEPS, "id = 1\n"],
+        fault: RunFault::BadKey,
+    },
+    Refused {
+        name: "timestamps of 3 bytes",
+        parts: &[ONE_CHANNEL, NO_SETUP, NO_STEPS, "stamp_size = 3\n"],
+        fault: RunFault::BadKey,
+    },
+    Refused {
+        name: "timestamps of no byte",
+        parts: &[ONE_CHANNEL, NO_SETUP, NO_STEPS, "stamp_size = 0\n"],
+        fault: RunFault::BadKey,
+    },
+    Refused {
+        name: "timestamps of 8 bytes",
+        parts: &[ONE_CHANNEL, NO_SETUP, NO_STEPS, "stamp_size = 8\n"],
+        fault: RunFault::BadKey,
+    },
+    Refused {
+        name: "timestamps of 4 bytes, as a string",
+        parts: &[ONE_CHANNEL, NO_SETUP, NO_STEPS, "stamp_size = \"4\"\n"],
+        fault: RunFault::BadKey,
+    },
+];
+
 #[test]
 fn a_text_is_refused_with_its_first_fault(rt: HostRuntime) -> Result<(), Fail> {
     for row in REFUSED {
+        let text = joined(rt.alloc(), row.parts)?;
+        let fault = match Run::read(rt.alloc(), &text) {
+            Ok(_) => None,
+            Err(fault) => Some(fault),
+        };
+        same(&rt, fault, Some(row.fault), row.name, "the fault");
+    }
+    Ok(())
+}
+
+#[test]
+fn a_form_that_there_is_not_is_refused(rt: HostRuntime) -> Result<(), Fail> {
+    for row in BAD_FORMS {
         let text = joined(rt.alloc(), row.parts)?;
         let fault = match Run::read(rt.alloc(), &text) {
             Ok(_) => None,

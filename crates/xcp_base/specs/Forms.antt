@@ -60,7 +60,8 @@ pid_of q = slice_index q 0 % 128
 -- the identification field names list l, which has so many ODTs from FIRST_PID on: its PID is one
 -- of theirs, or the list number behind it is l
 abbrev pub names : IdKind → ℕ → ℕ → ℕ → List ℕ → Bool
-names Absolute first_pid odts l q = nat_le first_pid (pid_of q) && nat_lt (pid_of q) (first_pid + odts)
+names Absolute first_pid odts l q =
+    nat_le first_pid (pid_of q) && nat_lt (pid_of q) (first_pid + odts)
 names RelativeByte first_pid odts l q = slice_index q 1 == l
 names RelativeWord first_pid odts l q = slice_index q 1 + 256 * slice_index q 2 == l
 
@@ -70,8 +71,8 @@ stamp_bytes One = 1
 stamp_bytes Two = 2
 stamp_bytes Four = 4
 
--- a timestamp: the lowest bytes of its ticks, least significant first; so these modulo 256, 65536 or
--- 2 ^ 32
+-- a timestamp: the lowest bytes of its ticks, least significant first; so these modulo 256, 65536
+-- or 2 ^ 32
 abbrev pub stamp_field : StampSize → ℕ → List ℕ
 stamp_field size ticks = bytes_low_first 0 (stamp_bytes size) ticks
 

@@ -3,7 +3,8 @@ ghost use Rattle.xcp_base.specs.Forms.{field_len, first_pid_behind, list_field, 
 
 use crate::limits::{MAX_FIELD, MAX_LISTS, MAX_ODTS, MAX_ODTS_IN_ALL};
 
-/// What the packets of a DAQ list begin with (ASAM MCD-1 XCP, protocol layer, identification field).
+/// What the packets of a DAQ list begin with (ASAM MCD-1 XCP, protocol layer, identification
+/// field).
 #[derive(Clone, Copy, Debug, PartialEq, Eq)]
 pub enum IdKind {
     /// The absolute ODT number alone: a PID that no other ODT of any DAQ list has.
@@ -40,8 +41,8 @@ impl IdKind {
         }
     }
 
-    /// The most ODTs of all DAQ lists: with an absolute ODT number so many that each PID stays at or
-    /// below 0x7B, with a relative one as many as the lists may have.
+    /// The most ODTs of all DAQ lists: with an absolute ODT number so many that each PID stays at
+    /// or below 0x7B, with a relative one as many as the lists may have.
     pub fn most_odts(self) -> usize
         ensures value { result ≡ most_odts self }
         ensures limit { result ≤ MAX_LISTS * MAX_ODTS }

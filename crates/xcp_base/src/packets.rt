@@ -139,8 +139,8 @@ impl Packets {
         self.body.as_slice()
     }
 
-    /// Reads packets off their body, in the place of those that were there. Bytes that are no body of
-    /// so many packets are refused, and nothing changes then.
+    /// Reads packets off their body, in the place of those that were there. Bytes that are no body
+    /// of so many packets are refused, and nothing changes then.
     pub fn read_body(&mut self, count: u8, body: &[u8]) -> bool
         ensures yes { result ≡ true → IsBodyOf count body.now self.new }
         ensures no { result ≡ false → (qs : List (List ℕ)) → ¬ IsBodyOf count body.now qs }

@@ -1,9 +1,8 @@
 -- one packet is too long; one ODT more is filled and short
-use Rattle.std.proofs.Common.{◌≡◌, ◌∙◌, ◌+◌, ◌<◌, slice_index_or, length, refl, sym, ap, arith}
+use Rattle.std.proofs.Common.{◌≡◌, ◌∙◌, ◌+◌, ◌<◌, slice_index_or, length, refl, sym, arith}
 use Rattle.std.proofs.lemmas.Grind.{common_steps}
-use Rattle.xcp_base.specs.Forms.{field_len}
 use Rattle.xcp_base.specs.Packets.{packet_len}
-use Rattle.daq_store.specs.Configuration.{Configuration, odt_entries, entries_len, is_filled, is_short, is_stamped}
+use Rattle.daq_store.specs.Configuration.{odt_entries, entries_len, is_filled, is_short, is_stamped}
 use Rattle.daq_store.proofs.ReadyLemmas.{all_more, all_taken, short_is, long_packet, odt_at}
 use Rattle.daq_store.proofs.list_conf.ListConf.ready.Goals as goal
 
@@ -12,10 +11,8 @@ returns-then-field_len-stamp_len-gt-MAX_DTO c =
     let inside : c.loop-k.k < length c.args.self.now.odts = grind (arith, common_steps) in
     let is : c.odt-item.result ≡ slice_index_or c.args.self.now.odts c.loop-k.k c.odt-item.result = grind (arith, common_steps) in
     let entries : odt_entries c.args.self.now c.loop-k.k ≡ c.odt-item.result = odt_at c.args.self.now c.loop-k.k c.odt-item.result inside is in
-    let field : c.field_len.result ≡ field_len c.args.self.now.form.id
-    = c.field_len.ensures.value ∙ ap (λ (x : Configuration). field_len x.form.id) c.self.view_is in
     let len : packet_len c.args.self.now.form (is_stamped c.args.self.now.mode) c.loop-k.k (entries_len c.args.self.now c.loop-k.k) ≡ c.field_len.result + c.stamp_len.result + c.bytes.result
-    = rw (entries, ← field, ← c.stamp_len.ensures.value, ← c.bytes.ensures.value) refl in
+    = rw (entries, ← c.field_len.ensures.value, ← c.stamp_len.ensures.value, ← c.bytes.ensures.value) refl in
     long_packet c.args.image_len c.args.self.now c.loop-k.k inside (omega (arith, len))
 
 pub loop-k-preserved : goal.loop-k-preserved
@@ -23,10 +20,8 @@ loop-k-preserved c =
     let inside : c.loop-k.k < length c.args.self.now.odts = grind (arith, common_steps) in
     let is : c.odt-item.result ≡ slice_index_or c.args.self.now.odts c.loop-k.k c.odt-item.result = grind (arith, common_steps) in
     let entries : odt_entries c.args.self.now c.loop-k.k ≡ c.odt-item.result = odt_at c.args.self.now c.loop-k.k c.odt-item.result inside is in
-    let field : c.field_len.result ≡ field_len c.args.self.now.form.id
-    = c.field_len.ensures.value ∙ ap (λ (x : Configuration). field_len x.form.id) c.self.view_is in
     let len : packet_len c.args.self.now.form (is_stamped c.args.self.now.mode) c.loop-k.k (entries_len c.args.self.now c.loop-k.k) ≡ c.field_len.result + c.stamp_len.result + c.bytes.result
-    = rw (entries, ← field, ← c.stamp_len.ensures.value, ← c.bytes.ensures.value) refl in
+    = rw (entries, ← c.field_len.ensures.value, ← c.stamp_len.ensures.value, ← c.bytes.ensures.value) refl in
     record {
       filled = all_taken (is_filled c.args.image_len) c.args.self.now.odts c.loop-k.k c.odt-item.result inside is
           c.loop-k.invariant.filled (sym c.is_filled.ensures ∙ c.if-not-is_filled.false);
