@@ -18,7 +18,7 @@ mod ring;
 mod unclosed;
 
 pub use channel_fault::ChannelFault;
-pub use closing::close;
+pub use closing::{account, close};
 pub use engine::Engine;
 pub use engine_opening::engine_over;
 pub use faults::CloseFault;

@@ -1,6 +1,6 @@
 -- What the calls of an engine's handle answer and what they leave, by their status.
 use Rattle.std.specs.Prelude.{◌≡◌, ℕ, ◌<◌, ◌≤◌, false, true, List, [], ◌∷◌, ◌++◌, length, take}
-use Rattle.std.specs.Prelude.{drop, reverse, Option, Some, None, Result, Ok, Err}
+use Rattle.std.specs.Prelude.{drop, Option, Some, None, Result, Ok, Err}
 use Rattle.rtrb.specs.Ring.{received}
 use Rattle.channel_ring.specs.declared.ends.SendEnd.{Ghosts as SendGhosts}
 use Rattle.channel_ring.specs.declared.ends.RingEnd.{Ghosts as EndGhosts}
@@ -42,7 +42,7 @@ OnEngine old new result stays holds = (result ≡ status.Empty) × (new ≡ old)
 
 -- the samplers that weren't handed out, in rising order of their event channels
 abbrev pub samplers_in : Parts → List (SamplerState SendHalf)
-samplers_in e = reverse e.samplers.items
+samplers_in e = e.lending.samplers
 
 -- the buffer of frames, how many bytes of it they take up, and what a pump did
 pub record FrameRoom : Type 0 where
@@ -64,7 +64,7 @@ module _ {E : Type 0} (out : OutGhosts RingOut) (give : TakeGhosts TakeHalf E) w
     pub pump :
         IsPump (transmission out give s.transmitter) (transmission out give t.transmitter) answer
     pub frames : GivesFrames s t before after
-    pub samplers : t.samplers ≡ s.samplers
+    pub lending : t.lending ≡ s.lending
 
   -- what an engine does at a pump
   abbrev pub PumpsEngine : Parts → Parts → FrameRoom → FrameRoom → Status → Type 0
@@ -124,12 +124,14 @@ pub record HandsOut (s t : Parts) (sampler : SamplerState SendHalf) : Type 0 whe
   pub first : samplers_in s ≡ sampler ∷ samplers_in t
   pub transmitter : t.transmitter ≡ s.transmitter
   pub frames : t.frames ≡ s.frames
+  pub places : t.lending.places ≡ s.lending.places
 
 -- it keeps all that it has
 pub record KeepsAll (s t : Parts) : Type 0 where
   pub samplers : samplers_in t ≡ samplers_in s
   pub transmitter : t.transmitter ≡ s.transmitter
   pub frames : t.frames ≡ s.frames
+  pub places : t.lending.places ≡ s.lending.places
 
 -- what an engine hands out into an empty handle
 abbrev pub HandsSampler : Parts → Parts → Option Content → Status → Type 0

@@ -1,5 +1,5 @@
 -- What the calls of a sampler's handle answer and what they leave, by their status.
-use Rattle.std.specs.Prelude.{◌≡◌, ◌≢◌, ℕ, List, length, true, Option, Some, None}
+use Rattle.std.specs.Prelude.{◌≡◌, ◌≢◌, ℕ, List, length, map, true, Option, Some, None}
 use Rattle.xcp_base.specs.declared.limits.TheConstants.{MAX_TRIGGERS}
 use Rattle.channel_ring.specs.declared.ends.SendEnd.{Ghosts as SendGhosts}
 use Rattle.channel_ring.specs.declared.ends.RingEnd.{Ghosts as EndGhosts}
@@ -7,12 +7,14 @@ use Rattle.channel_ring.specs.declared.sample_ring.SendHalf.{SendHalf}
 use Rattle.sampler.specs.History.{Start, Stop}
 use Rattle.sampler.specs.Items.{marker_of}
 use Rattle.sampler.specs.Past.{Past}
-use Rattle.sampler.specs.Standing.{GoesOn, StandsAfter, TakesTrigger}
-use Rattle.sampler.specs.State.{SamplerState, runs_in, stopped_in, track_at}
+use Rattle.sampler.specs.Standing.{EndStandsAfter, GoesOn, StandsAfter, TakesTrigger}
+use Rattle.sampler.specs.State.{SamplerEndState, SamplerState, joined, runs_in, stopped_in}
+use Rattle.sampler.specs.State.{track_at}
 use Rattle.sampler.specs.Stays.{HasNoRoomFor, KeepsSetUp, OnlyLooked}
 use Rattle.sampler.specs.Tracks.{counts_after}
 use Rattle.sampler.specs.declared.counts.ListCounts.{ListCounts}
 use Rattle.sampler.specs.declared.taken.Taken.{Taken}
+use Rattle.sampler.specs.declared.track.Track.{Track}
 use Rattle.nerthogal_c.specs.declared.content.Content.{Content}
 use Rattle.nerthogal_c.specs.declared.content.Content.TheVariants.{Sampler}
 use Rattle.nerthogal_c.specs.declared.sets.CountsOut.{CountsOut}
@@ -106,3 +108,25 @@ module _ {E : Type 0} (send : SendGhosts SendHalf E) (ring : EndGhosts E) where
   Counts old new l before after result =
       OnSampler old new result (after ≡ before)
       (λ s t. (t ≡ s) × CountsList s l before after result)
+
+  -- what is left of a sampler: its lists with their counts, and all that it sent
+  pub record IsLeftOf (s : SamplerState SendHalf) (e : SamplerEndState E) : Type 0 where
+    pub channel : e.channel ≡ s.channel
+    pub plans : e.plans ≡ s.plans
+    pub counts : e.counts ≡ map (λ (track : Track). track.counts) s.tracks
+    pub capacity : e.capacity ≡ send.capacity s.end
+    pub sent : ring.all_sent e.end ≡ send.sent s.end
+    pub same_ring : ring.ring e.end ≡ send.ring s.end
+    pub stands :
+        (past : Past) → StandsAfter send ring s past → EndStandsAfter (joined ring e) past
+
+  -- a sampler is finished, and what is left of it goes back; or its engine is gone
+  abbrev pub FinishesSampler : SamplerState SendHalf → Status → Type 0
+  FinishesSampler s status.Ok = (e : SamplerEndState E) × IsLeftOf s e
+  FinishesSampler s status.NoEngine = Unit {0}
+  FinishesSampler s _ = ⊥
+
+  -- what ng_finish does to a handle: it is empty then
+  abbrev pub Finishes : Option Content → Option Content → Status → Type 0
+  Finishes (Some (Sampler s)) new result = (new ≡ None) × FinishesSampler s result
+  Finishes old new result = (result ≡ status.Empty) × (new ≡ old)

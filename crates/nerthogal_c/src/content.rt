@@ -1,7 +1,6 @@
 use crate::engine::Engine;
-use channel_ring::SendHalf;
+use crate::lent::Lent;
 use daq_store::Store;
-use sampler::Sampler;
 
 /// What a handle may hold.
 #[derive(Drop)]
@@ -9,7 +8,7 @@ pub enum Content {
     /// A store.
     Store(Store),
     /// The sampler of an event channel.
-    Sampler(Sampler<SendHalf>),
+    Sampler(Lent),
     /// An engine.
     Engine(Engine),
 }

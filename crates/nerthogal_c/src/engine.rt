@@ -1,14 +1,28 @@
+ghost use Rattle.std.specs.Prelude.{◌≡◌, length, map, vec_capacity, vec_len, ◌≤◌};
+ghost use Rattle.xcp_base.specs.declared.limits.TheConstants.{MAX_LISTS};
+ghost use Rattle.transmitter.specs.Written.{transmission};
+ghost use Rattle.daq_engine.specs.Configuration.{upto};
+
+use crate::lending::Lending;
 use crate::ring_out::RingOut;
-use channel_ring::{SendHalf, TakeHalf};
+use channel_ring::{TakeEnd, TakeHalf};
+use daq_engine::ListReport;
+use frame_writer::Out;
 use rtrb::Consumer;
-use sampler::Sampler;
 use transmitter::Transmitter;
 
 /// An engine that was opened over rings of items: its transmitter, the other end of the ring of
-/// bytes that it writes to, and the samplers that weren't handed out yet.
+/// bytes that it writes to, its samplers, and the room for the lines of its report.
 #[derive(Drop)]
 pub struct Engine {
     pub(crate) transmitter: Transmitter<RingOut, TakeHalf>,
     pub(crate) frames: Consumer<u8>,
-    pub(crate) samplers: Vec<Sampler<SendHalf>>,
+    pub(crate) lending: Lending,
+    pub(crate) lines: Vec<ListReport>,
+    ghost rings: { map (λ place. place.ring) lending.places
+        ≡ (transmission ⟦<RingOut as Out>⟧ ⟦<TakeHalf as TakeEnd>⟧ transmitter).rings },
+    ghost in_order: { map (λ place. place.channel) lending.places
+        ≡ upto 0 (length lending.places) },
+    ghost no_line: { vec_len lines ≡ 0 },
+    ghost enough: { MAX_LISTS ≤ vec_capacity lines },
 }

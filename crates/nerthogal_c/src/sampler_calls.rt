@@ -7,7 +7,6 @@ ghost use Rattle.nerthogal_c.specs.declared.status.Status.{Status as StatusOf};
 
 use crate::content::Content;
 use crate::handle::Handle;
-use crate::sampling::{counts_of, start, stop, trigger};
 use crate::sets::{CountsOut, TakenOut};
 use crate::status::Status;
 use channel_ring::{RingEnd, SendEnd, SendHalf, SendLeft};
@@ -98,7 +97,7 @@ fn trigger_in(content: &mut Content, image: &[u8], stamp: u32, taken: &mut Taken
         (Some content.old) (Some content.new) image.now stamp taken.old taken.new result }
 {
     match content {
-        Content::Sampler(sampler) => trigger(sampler, image, stamp, taken),
+        Content::Sampler(lent) => lent.trigger(image, stamp, taken),
         _ => Status::Empty,
     }
 }
@@ -122,7 +121,7 @@ fn start_in(content: &mut Content, list: u8) -> Status
         (Some content.old) (Some content.new) list result }
 {
     match content {
-        Content::Sampler(sampler) => start(sampler, list),
+        Content::Sampler(lent) => lent.start(list),
         _ => Status::Empty,
     }
 }
@@ -146,7 +145,7 @@ fn stop_in(content: &mut Content, list: u8) -> Status
         (Some content.old) (Some content.new) list result }
 {
     match content {
-        Content::Sampler(sampler) => stop(sampler, list),
+        Content::Sampler(lent) => lent.stop(list),
         _ => Status::Empty,
     }
 }
@@ -170,7 +169,7 @@ fn counts_in(content: &mut Content, list: u8, counts: &mut CountsOut) -> Status
         (Some content.old) (Some content.new) list counts.old counts.new result }
 {
     match content {
-        Content::Sampler(sampler) => counts_of(sampler, list, counts),
+        Content::Sampler(lent) => lent.counts_of(list, counts),
         _ => Status::Empty,
     }
 }

@@ -38,6 +38,10 @@ pub enum Status {
     Failed,
     /// A frame was not written whole earlier.
     Closed,
+    /// A sampler was not finished yet.
+    Unfinished,
+    /// The sampler's engine was freed.
+    NoEngine,
 }
 
 impl Status {
@@ -63,6 +67,8 @@ impl Status {
             Status::NoRoom => 14,
             Status::Failed => 15,
             Status::Closed => 16,
+            Status::Unfinished => 17,
+            Status::NoEngine => 18,
         }
     }
 }

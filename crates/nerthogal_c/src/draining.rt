@@ -1,0 +1,47 @@
+//! The rings of an engine whose samplers were all finished, emptied in rounds.
+
+ghost use Rattle.std.specs.Prelude.{◌≡◌};
+ghost use Rattle.nerthogal_c.specs.Ends.{DrainsEngine};
+
+use crate::engine::Engine;
+use crate::pumping::{PUMP_BYTES, pump};
+use crate::ring_out::RingOut;
+use crate::sets::PumpedOut;
+use crate::status::Status;
+use channel_ring::{RingEnd, SendLeft, TakeEnd, TakeHalf};
+use frame_writer::Out;
+
+/// Looks at all that was sent, and pumps where something is left.
+pub fn drain(
+    engine: &mut Engine,
+    buffer: &mut [u8],
+    len: &mut usize,
+    pumped: &mut PumpedOut,
+    left: &mut bool,
+) -> Status
+    ensures { DrainsEngine ⟦<RingOut as Out>⟧ ⟦<TakeHalf as TakeEnd>⟧ ⟦<SendLeft as RingEnd>⟧
+        engine.old engine.new
+        (record {
+            frames = record { buffer = buffer.old; len = len.old; pumped = pumped.old };
+            left = left.old;
+        })
+        (record {
+            frames = record { buffer = buffer.new; len = len.new; pumped = pumped.new };
+            left = left.new;
+        })
+        result }
+{
+    if buffer.len() < PUMP_BYTES {
+        return Status::SmallBuffer;
+    }
+    if !engine.lending.collect() {
+        return Status::Unfinished;
+    }
+    *left = look(engine);
+    if *left {
+        return pump(engine, buffer, len, pumped);
+    }
+    *len = 0;
+    *pumped = PumpedOut::nothing();
+    Status::Ok
+}
