@@ -1,5 +1,6 @@
 pub mod Answers
 pub mod Engines
+pub mod Kinds
 pub mod Owned
 pub mod Samplers
 pub mod Statuses

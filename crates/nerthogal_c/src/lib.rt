@@ -1,6 +1,7 @@
 //! The engine for C: what `include/nerthogal.h` declares.
 #![tactic(auto)]
 
+mod asked;
 mod carrying;
 mod content;
 mod engine;
@@ -8,6 +9,7 @@ mod engine_calls;
 mod handing;
 mod handle;
 mod hidden;
+mod kinds;
 mod opening;
 mod parts;
 mod pumping;
