@@ -84,6 +84,14 @@ enum {
     NG_CLOSED = 16          /* a frame was not written whole earlier */
 };
 
+/* Which identification field the DAQ packets of a store begin with: one of the numbers below. */
+typedef uint32_t ng_id_kind;
+enum {
+    NG_ABSOLUTE = 0,      /* the absolute ODT number, 1 byte */
+    NG_RELATIVE_BYTE = 1, /* the relative ODT number and the number of the DAQ list, 1 byte each */
+    NG_RELATIVE_WORD = 2  /* the same with 2 bytes for the list, least significant first: 3 bytes */
+};
+
 /* A store, or none. */
 typedef struct {
     void *at;
@@ -125,18 +133,30 @@ typedef struct {
 
 /* ---- the store */
 
-/* Makes a store without DAQ lists, as after FREE_DAQ, for 1 to NG_MAX_CHANNELS event channels and
- * memory images of 1 to NG_MAX_IMAGE bytes.
+/* Makes a store without DAQ lists, as after FREE_DAQ. Its numbers and their limits are:
+ *
+ *   channels    event channels: 1 to NG_MAX_CHANNELS
+ *   image_len   bytes of a memory image: 1 to NG_MAX_IMAGE
+ *   id          the identification field of each DAQ packet: NG_ABSOLUTE, NG_RELATIVE_BYTE or
+ *               NG_RELATIVE_WORD
+ *   stamp_size  bytes of a timestamp: 1, 2 or 4. A timestamp of 1 or 2 bytes is that of the trigger
+ *               modulo 256 or 65536. It stands in the first packet of a sample of each DAQ list
+ *               that was set up with timestamps, and nowhere else
+ *
+ * The last two hold for all that is sent of the store's lists. With NG_ABSOLUTE FIRST_PID of a list
+ * is the number of the ODTs of the lists before it, and all lists have at most 124 ODTs; with the
+ * other two FIRST_PID is 0, and there may be 128.
  *
  *   NG_IN_USE      *store isn't empty
- *   NG_BAD_LIMITS  channels or image_len is out of its limits
+ *   NG_BAD_LIMITS  one of the four numbers is out of its limits
  *   NG_MEMORY      malloc gave none; everything was within its limits
  *   NG_OK          *store holds the new store
  *
  * They are looked for in this order, and *store is as it was on each but NG_OK. Proved: all of
  * this, but that malloc gave none where NG_MEMORY is answered. Calls malloc once, and on NG_IN_USE
  * and NG_BAD_LIMITS not at all. */
-ng_status ng_store_new(uint16_t channels, size_t image_len, ng_store *store);
+ng_status ng_store_new(uint16_t channels, size_t image_len, ng_id_kind id, uint8_t stamp_size,
+                       ng_store *store);
 
 /* Carries out one command packet of any bytes, also of none, and writes the packet that answers
  * it: FF (RES), to START_STOP_DAQ_LIST with FIRST_PID behind it; or FE (ERR) and the byte of the

@@ -44,7 +44,7 @@ static ng_store one_list(void) {
                                           "e20000000000", "e1ff020000000000", "e000000000000100",
                                           "de010000"};
     ng_store store = NG_STORE_INIT;
-    want(ng_store_new(1, 2, &store) == NG_OK, "new");
+    want(ng_store_new(1, 2, NG_ABSOLUTE, 4, &store) == NG_OK, "new");
     for (size_t k = 0; k < sizeof packets / sizeof packets[0]; k++) send(&store, packets[k]);
     return store;
 }
@@ -56,7 +56,7 @@ static ng_store two_lists(void) {
         "d30001000001",     "e20000000000", "e1ff010000000000", "e000000000000100",
         "e20001000000",     "e1ff010000000000", "e000010001000100", "de010000", "de010100"};
     ng_store store = NG_STORE_INIT;
-    want(ng_store_new(2, 1, &store) == NG_OK, "new");
+    want(ng_store_new(2, 1, NG_ABSOLUTE, 4, &store) == NG_OK, "new");
     for (size_t k = 0; k < sizeof packets / sizeof packets[0]; k++) send(&store, packets[k]);
     return store;
 }
@@ -111,7 +111,7 @@ static void openings(void) {
     want(ng_open(&none, &cap, 1, &engine) == NG_EMPTY, "no store");
     for (size_t k = 0; k < sizeof bad / sizeof bad[0]; k++)
         want(ng_open(&store, bad[k].caps, bad[k].count, &engine) == NG_BAD_CAPS, "capacities");
-    want(ng_store_new(1, 2, &idle) == NG_OK, "new");
+    want(ng_store_new(1, 2, NG_ABSOLUTE, 4, &idle) == NG_OK, "new");
     want(ng_open(&idle, &cap, 1, &engine) == NG_NOTHING_RUNNING, "no list runs");
     want(ng_open(&idle, &cap, 0, &engine) == NG_BAD_CAPS, "capacities are looked at first");
     want(ng_engine_free(&engine) == NG_EMPTY, "nothing was opened");
@@ -236,6 +236,60 @@ static void two_channels(void) {
     end();
 }
 
+/* A DAQ list of two ODTs of one byte each, with timestamps, behind a list of one ODT. A sample is
+ * dropped, and the packets of the next one are those of docs/PROFILE.md, in each form. */
+static void forms(void) {
+    static const char *const packets[] = {
+        "d5000200",         "d400000001",   "d400010002",       "d30001000001",     "d30001000101",
+        "e20001000000",     "e1ff010000000000", "e20001000100", "e1ff010001000000",
+        "e010010000000100", "de010100"};
+    static const struct {
+        ng_id_kind id;
+        uint8_t stamp_size;
+        const char *first, *marked;
+    } rows[] = {
+        {NG_ABSOLUTE, 1, "030000000104c1" "0200010002d1",
+         "030002008104aa" "0200030002bb"},
+        {NG_ABSOLUTE, 2, "04000000010403c1" "0200010002d1",
+         "04000200810403aa" "0200030002bb"},
+        {NG_ABSOLUTE, 4, "060000000104030201c1" "0200010002d1",
+         "060002008104030201aa" "0200030002bb"},
+        {NG_RELATIVE_BYTE, 1, "04000000000104c1" "030001000101d1",
+         "04000200800104aa" "030003000101bb"},
+        {NG_RELATIVE_BYTE, 2, "0500000000010403c1" "030001000101d1",
+         "0500020080010403aa" "030003000101bb"},
+        {NG_RELATIVE_BYTE, 4, "07000000000104030201c1" "030001000101d1",
+         "07000200800104030201aa" "030003000101bb"},
+        {NG_RELATIVE_WORD, 1, "0500000000010004c1" "04000100010100d1",
+         "0500020080010004aa" "04000300010100bb"},
+        {NG_RELATIVE_WORD, 2, "060000000001000403c1" "04000100010100d1",
+         "060002008001000403aa" "04000300010100bb"},
+        {NG_RELATIVE_WORD, 4, "0800000000010004030201c1" "04000100010100d1",
+         "0800020080010004030201aa" "04000300010100bb"},
+    };
+    static const uint8_t images[3][2] = {{0xC1, 0xD1}, {0xC2, 0xD2}, {0xAA, 0xBB}};
+    begin("frames in each form of packets");
+    for (size_t k = 0; k < sizeof rows / sizeof rows[0]; k++) {
+        ng_store store = NG_STORE_INIT;
+        ng_engine engine = NG_ENGINE_INIT;
+        ng_sampler sampler = NG_SAMPLER_INIT;
+        size_t cap = 1;
+        ng_taken taken;
+        want(ng_store_new(1, 2, rows[k].id, rows[k].stamp_size, &store) == NG_OK, "new");
+        for (size_t i = 0; i < sizeof packets / sizeof packets[0]; i++) send(&store, packets[i]);
+        want(ng_open(&store, &cap, 1, &engine) == NG_OK, "open");
+        want(ng_next_sampler(&engine, &sampler) == NG_OK, "sampler");
+        for (size_t i = 0; i < 3; i++) {
+            want(ng_trigger(&sampler, images[i], 2, 0x01020304, &taken) == NG_OK, "trigger");
+            want(taken.dropped == (i == 1 ? 2 : 0), "the second one finds no room");
+            if (i == 0) continue;
+            pump(&engine, i == 1 ? rows[k].first : rows[k].marked, 1, 0);
+        }
+        free_all(&store, &engine, &sampler);
+    }
+    end();
+}
+
 /* Each allocation of an opening and of its samplers is refused in turn. */
 static void no_memory(void) {
     ng_store store = two_lists();
@@ -324,6 +378,7 @@ int main(void) {
     wrong_images();
     small_buffers();
     two_channels();
+    forms();
     no_memory();
     long_run();
     begin("all memory was given back");

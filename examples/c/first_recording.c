@@ -22,7 +22,7 @@ static ng_status set_up(ng_store *store) {
     };
     uint8_t reply[NG_REPLY_BYTES];
     size_t len;
-    ng_status status = ng_store_new(1, 2, store);
+    ng_status status = ng_store_new(1, 2, NG_ABSOLUTE, 4, store);
     for (size_t k = 0; status == NG_OK && k < sizeof packets / sizeof packets[0]; k++)
         status = ng_store_command(store, packets[k].bytes, packets[k].len, reply, sizeof reply,
                                   &len);

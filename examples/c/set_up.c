@@ -21,7 +21,7 @@ static const struct {
 
 int main(void) {
     ng_store store = NG_STORE_INIT;
-    if (ng_store_new(1, 2, &store) != NG_OK) return 1;
+    if (ng_store_new(1, 2, NG_ABSOLUTE, 4, &store) != NG_OK) return 1;
     for (size_t k = 0; k < sizeof packets / sizeof packets[0]; k++) {
         uint8_t reply[NG_REPLY_BYTES];
         size_t len = 0;

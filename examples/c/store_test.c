@@ -53,20 +53,83 @@ static void limits(void) {
     static const struct {
         uint16_t channels;
         size_t image_len;
+        ng_id_kind id;
+        uint8_t stamp_size;
         ng_status status;
     } rows[] = {
-        {0, 2, NG_BAD_LIMITS},    {9, 2, NG_BAD_LIMITS},       {65535, 2, NG_BAD_LIMITS},
-        {1, 0, NG_BAD_LIMITS},    {1, 4097, NG_BAD_LIMITS},    {1, SIZE_MAX, NG_BAD_LIMITS},
-        {0, 0, NG_BAD_LIMITS},    {9, 4097, NG_BAD_LIMITS},    {1, 1, NG_OK},
-        {1, NG_MAX_IMAGE, NG_OK}, {NG_MAX_CHANNELS, 1, NG_OK}, {8, 4096, NG_OK},
+        {0, 2, NG_ABSOLUTE, 4, NG_BAD_LIMITS},
+        {9, 2, NG_ABSOLUTE, 4, NG_BAD_LIMITS},
+        {65535, 2, NG_ABSOLUTE, 4, NG_BAD_LIMITS},
+        {1, 0, NG_ABSOLUTE, 4, NG_BAD_LIMITS},
+        {1, 4097, NG_ABSOLUTE, 4, NG_BAD_LIMITS},
+        {1, SIZE_MAX, NG_ABSOLUTE, 4, NG_BAD_LIMITS},
+        {0, 0, NG_ABSOLUTE, 4, NG_BAD_LIMITS},
+        {9, 4097, NG_ABSOLUTE, 4, NG_BAD_LIMITS},
+        {1, 2, 3, 4, NG_BAD_LIMITS},
+        {1, 2, 255, 4, NG_BAD_LIMITS},
+        {1, 2, 256, 4, NG_BAD_LIMITS},   /* its lowest byte is NG_ABSOLUTE */
+        {1, 2, 65537, 4, NG_BAD_LIMITS}, /* its lowest two bytes are NG_RELATIVE_BYTE */
+        {1, 2, UINT32_MAX, 4, NG_BAD_LIMITS},
+        {1, 2, NG_ABSOLUTE, 0, NG_BAD_LIMITS},
+        {1, 2, NG_ABSOLUTE, 3, NG_BAD_LIMITS},
+        {1, 2, NG_ABSOLUTE, 5, NG_BAD_LIMITS},
+        {1, 2, NG_ABSOLUTE, 8, NG_BAD_LIMITS},
+        {1, 2, NG_ABSOLUTE, 255, NG_BAD_LIMITS},
+        {1, 2, NG_RELATIVE_BYTE, 0, NG_BAD_LIMITS},
+        {1, 2, NG_RELATIVE_WORD, 3, NG_BAD_LIMITS},
+        {9, 0, 3, 0, NG_BAD_LIMITS},
+        {1, 1, NG_ABSOLUTE, 4, NG_OK},
+        {1, NG_MAX_IMAGE, NG_ABSOLUTE, 4, NG_OK},
+        {NG_MAX_CHANNELS, 1, NG_ABSOLUTE, 4, NG_OK},
+        {8, 4096, NG_RELATIVE_WORD, 1, NG_OK},
     };
     begin("stores within and out of their limits");
     for (size_t k = 0; k < sizeof rows / sizeof rows[0]; k++) {
         ng_store store = NG_STORE_INIT;
         unsigned long asked = memory_asked;
-        want(ng_store_new(rows[k].channels, rows[k].image_len, &store) == rows[k].status, "new");
+        want(ng_store_new(rows[k].channels, rows[k].image_len, rows[k].id, rows[k].stamp_size,
+                          &store) == rows[k].status, "new");
         want(rows[k].status == NG_OK || asked == memory_asked, "no memory is asked for");
         want(ng_store_free(&store) == (rows[k].status == NG_OK ? NG_OK : NG_EMPTY), "free");
+    }
+    end();
+}
+
+/* One stamped DAQ list behind another one, its entry of `size` bytes: starts it. */
+static void start_stamped(ng_store *store, unsigned size, const char *wanted) {
+    static const char *const packets[] = {"d6",         "d5000200",     "d400000001",
+                                          "d400010001", "d30001000001", "e20001000000"};
+    char write[32];
+    for (size_t k = 0; k < sizeof packets / sizeof packets[0]; k++)
+        send(store, packets[k], NG_OK, "ff");
+    snprintf(write, sizeof write, "e1ff%02x0000000000", size);
+    send(store, write, NG_OK, "ff");
+    send(store, "e010010000000100", NG_OK, "ff"); /* TIMESTAMP */
+    send(store, "de010100", NG_OK, wanted);
+}
+
+/* A packet has at most 64 bytes: what its identification field and its timestamp leave is room for
+ * entries. */
+static void forms(void) {
+    static const struct {
+        ng_id_kind id;
+        uint8_t stamp_size;
+        unsigned room;
+        const char *started;
+    } rows[] = {
+        {NG_ABSOLUTE, 1, 62, "ff01"},      {NG_ABSOLUTE, 2, 61, "ff01"},
+        {NG_ABSOLUTE, 4, 59, "ff01"},      {NG_RELATIVE_BYTE, 1, 61, "ff00"},
+        {NG_RELATIVE_BYTE, 2, 60, "ff00"}, {NG_RELATIVE_BYTE, 4, 58, "ff00"},
+        {NG_RELATIVE_WORD, 1, 60, "ff00"}, {NG_RELATIVE_WORD, 2, 59, "ff00"},
+        {NG_RELATIVE_WORD, 4, 57, "ff00"},
+    };
+    begin("each identification field with each size of timestamps");
+    for (size_t k = 0; k < sizeof rows / sizeof rows[0]; k++) {
+        ng_store store = NG_STORE_INIT;
+        want(ng_store_new(1, 64, rows[k].id, rows[k].stamp_size, &store) == NG_OK, "new");
+        start_stamped(&store, rows[k].room + 1, "fe2a"); /* ERR_DAQ_CONFIG */
+        start_stamped(&store, rows[k].room, rows[k].started);
+        want(ng_store_free(&store) == NG_OK, "free");
     }
     end();
 }
@@ -76,14 +139,14 @@ static void empty_handles(void) {
     begin("an empty handle");
     send(&store, "d6", NG_EMPTY, "");
     want(ng_store_free(&store) == NG_EMPTY, "free");
-    want(ng_store_new(1, 2, &store) == NG_OK, "new");
+    want(ng_store_new(1, 2, NG_ABSOLUTE, 4, &store) == NG_OK, "new");
     want(ng_store_free(&store) == NG_OK, "free");
     want(ng_store_free(&store) == NG_EMPTY, "free again");
     send(&store, "d6", NG_EMPTY, "");
     uint8_t packet = 0xD6, reply[1];
     size_t len = 77;
     want(ng_store_command(&store, &packet, 1, reply, 1, &len) == NG_EMPTY, "it is looked at first");
-    want(ng_store_new(1, 2, &store) == NG_OK, "filled again");
+    want(ng_store_new(1, 2, NG_ABSOLUTE, 4, &store) == NG_OK, "filled again");
     send(&store, "d6", NG_OK, "ff");
     want(ng_store_free(&store) == NG_OK, "free");
     end();
@@ -92,10 +155,10 @@ static void empty_handles(void) {
 static void full_handles(void) {
     ng_store store = NG_STORE_INIT;
     begin("a handle that is full stays as it was");
-    want(ng_store_new(1, 2, &store) == NG_OK, "new");
+    want(ng_store_new(1, 2, NG_ABSOLUTE, 4, &store) == NG_OK, "new");
     send(&store, "d5000100", NG_OK, "ff");
-    want(ng_store_new(1, 2, &store) == NG_IN_USE, "new");
-    want(ng_store_new(9, 0, &store) == NG_IN_USE, "it is looked at first");
+    want(ng_store_new(1, 2, NG_ABSOLUTE, 4, &store) == NG_IN_USE, "new");
+    want(ng_store_new(9, 0, 3, 0, &store) == NG_IN_USE, "it is looked at first");
     send(&store, "d400000001", NG_OK, "ff");
     want(ng_store_free(&store) == NG_OK, "free");
     end();
@@ -105,7 +168,7 @@ static void small_buffers(void) {
     ng_store store = NG_STORE_INIT;
     uint8_t packet[4] = {0xD5, 0, 1, 0}, reply[NG_REPLY_BYTES], odt[5] = {0xD4, 0, 0, 0, 1};
     begin("a buffer that is too short");
-    want(ng_store_new(1, 2, &store) == NG_OK, "new");
+    want(ng_store_new(1, 2, NG_ABSOLUTE, 4, &store) == NG_OK, "new");
     for (size_t cap = 0; cap < NG_REPLY_BYTES; cap++) {
         size_t len = 77;
         memset(reply, UNWRITTEN, sizeof reply);
@@ -152,7 +215,7 @@ static void replies(void) {
     };
     ng_store store = NG_STORE_INIT;
     begin("each command, and each error");
-    want(ng_store_new(1, 2, &store) == NG_OK, "new");
+    want(ng_store_new(1, 2, NG_ABSOLUTE, 4, &store) == NG_OK, "new");
     SEND_ALL(&store, set_up);
     SEND_ALL(&store, refused);
     want(ng_store_free(&store) == NG_OK, "free");
@@ -162,7 +225,8 @@ static void replies(void) {
 static void two_stores(void) {
     ng_store one = NG_STORE_INIT, two = NG_STORE_INIT;
     begin("two stores are apart");
-    want(ng_store_new(1, 2, &one) == NG_OK && ng_store_new(8, 4096, &two) == NG_OK, "new");
+    want(ng_store_new(1, 2, NG_ABSOLUTE, 4, &one) == NG_OK, "new");
+    want(ng_store_new(8, 4096, NG_ABSOLUTE, 4, &two) == NG_OK, "new");
     send(&one, "d5000100", NG_OK, "ff");
     send(&two, "d400000001", NG_OK, "fe29");
     send(&one, "d400000001", NG_OK, "ff");
@@ -181,10 +245,10 @@ static void no_memory(void) {
     begin("want of memory");
     ng_store store = NG_STORE_INIT;
     memory_refuse_behind(0);
-    want(ng_store_new(1, 2, &store) == NG_MEMORY, "new");
+    want(ng_store_new(1, 2, NG_ABSOLUTE, 4, &store) == NG_MEMORY, "new");
     want(memory_refused(), "a block was refused");
     send(&store, "d6", NG_EMPTY, "");
-    want(ng_store_new(1, 2, &store) == NG_OK, "new again");
+    want(ng_store_new(1, 2, NG_ABSOLUTE, 4, &store) == NG_OK, "new again");
     for (size_t k = 0; k < sizeof set_up / sizeof set_up[0]; k++) {
         for (size_t i = 0; i < 3; i++) {
             if (allocations[i] != k) continue;
@@ -208,6 +272,7 @@ int main(void) {
     setvbuf(stdout, text, _IOFBF, sizeof text);
     unsigned long held = memory_held;
     limits();
+    forms();
     empty_handles();
     full_handles();
     small_buffers();

@@ -39,7 +39,7 @@ static void set_up(ng_store *store) {
     };
     uint8_t reply[NG_REPLY_BYTES];
     size_t len;
-    want(ng_store_new(CHANNELS, 4, store) == NG_OK, "new");
+    want(ng_store_new(CHANNELS, 4, NG_ABSOLUTE, 4, store) == NG_OK, "new");
     for (size_t k = 0; k < sizeof packets / sizeof packets[0]; k++) {
         want(ng_store_command(store, packets[k].bytes, packets[k].len, reply, sizeof reply, &len)
                  == NG_OK, "command");

@@ -3,30 +3,41 @@
 use Rattle.std.specs.Prelude.{◌≡◌, ℕ, ◌<◌, ◌≤◌, List, [], ◌++◌, length, drop, IsSome}
 use Rattle.std.specs.Prelude.{Option, Some, None, Ok}
 use Rattle.xcp_base.specs.declared.limits.TheConstants.{MAX_CHANNELS, MAX_IMAGE_LEN}
-use Rattle.xcp_base.specs.Forms.{usual_form}
+use Rattle.xcp_base.specs.Forms.{size_of}
 use Rattle.daq_store.specs.declared.command.Command.{Command}
 use Rattle.daq_store.specs.declared.reply.Reply.{Reply}
 use Rattle.daq_store.specs.Commands.{command}
 use Rattle.daq_store.specs.Replies.{Allocates, KeepsOnError, calls_after_packet, packet_reply}
 use Rattle.daq_store.specs.Replies.{reply_bytes}
 use Rattle.daq_store.specs.Standing.{PassesAll, StoreStandsAfter, StoreState}
+use Rattle.nerthogal_c.specs.declared.asked.Asked.{Asked}
 use Rattle.nerthogal_c.specs.declared.carrying.TheConstants.{REPLY_BYTES}
 use Rattle.nerthogal_c.specs.declared.content.Content.{Content}
 use Rattle.nerthogal_c.specs.declared.content.Content.TheVariants.{Store}
 use Rattle.nerthogal_c.specs.declared.status.Status.{Status}
 use Rattle.nerthogal_c.specs.declared.status.Status.TheVariants as status
+use Rattle.nerthogal_c.specs.Kinds.{kind_of}
 
--- a number of event channels and a length of images in bytes are within their limits
-abbrev pub AreLimits : ℕ → ℕ → Type 0
-AreLimits channels image_len =
-    (1 ≤ channels) × (channels ≤ MAX_CHANNELS) × (1 ≤ image_len) × (image_len ≤ MAX_IMAGE_LEN)
+-- the numbers that a store is asked for by are within their limits: there are three identification
+-- fields, and timestamps of three sizes
+abbrev pub AreLimits : Asked → Type 0
+AreLimits asked =
+    (1 ≤ asked.channels) × (asked.channels ≤ MAX_CHANNELS)
+    × (1 ≤ asked.image_len) × (asked.image_len ≤ MAX_IMAGE_LEN)
+    × IsSome (kind_of asked.id) × IsSome (size_of asked.stamp_size)
 
--- a store of this profile and of the usual form of packets was made, and stands after no call
-pub record HoldsFresh (held : Option Content) (channels image_len : ℕ) : Type 0 where
+-- a store has the profile that it was asked for
+pub record HasAsked (s : StoreState) (asked : Asked) : Type 0 where
+  pub channels : s.profile.channels ≡ asked.channels
+  pub image_len : s.profile.image_len ≡ asked.image_len
+  pub id : kind_of asked.id ≡ Some s.profile.form.id
+  pub stamp : size_of asked.stamp_size ≡ Some s.profile.form.stamp
+
+-- a store was made as it was asked for, and stands after no call
+pub record HoldsFresh (held : Option Content) (asked : Asked) : Type 0 where
   pub made : StoreState
   pub there : held ≡ Some (Store made)
-  pub profile :
-      made.profile ≡ record { channels = channels; image_len = image_len; form = usual_form }
+  pub profile : HasAsked made asked
   pub fresh : StoreStandsAfter made []
 
 -- a handle is empty or holds something else
@@ -35,15 +46,12 @@ HoldsNoStore (Some (Store s)) = ⊥
 HoldsNoStore _ = Unit {0}
 
 -- what ng_store_new does to a handle that holds a store or none
-abbrev pub MakesStore : Option Content → Option Content → ℕ → ℕ → Status → Type 0
-MakesStore old new channels image_len status.Ok =
-    (old ≡ None) × AreLimits channels image_len × HoldsFresh new channels image_len
-MakesStore old new channels image_len status.InUse = IsSome old × (new ≡ old)
-MakesStore old new channels image_len status.BadLimits =
-    (old ≡ None) × (AreLimits channels image_len → ⊥) × (new ≡ old)
-MakesStore old new channels image_len status.Memory =
-    (old ≡ None) × AreLimits channels image_len × (new ≡ old)
-MakesStore old new channels image_len _ = ⊥
+abbrev pub MakesStore : Option Content → Option Content → Asked → Status → Type 0
+MakesStore old new asked status.Ok = (old ≡ None) × AreLimits asked × HoldsFresh new asked
+MakesStore old new asked status.InUse = IsSome old × (new ≡ old)
+MakesStore old new asked status.BadLimits = (old ≡ None) × (AreLimits asked → ⊥) × (new ≡ old)
+MakesStore old new asked status.Memory = (old ≡ None) × AreLimits asked × (new ≡ old)
+MakesStore old new asked _ = ⊥
 
 -- what the calls that free do to a handle
 abbrev pub Frees : Option Content → Option Content → Status → Type 0

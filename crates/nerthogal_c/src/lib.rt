@@ -1,14 +1,19 @@
 //! The engine for C: what `include/nerthogal.h` declares.
 #![tactic(auto)]
 
+mod account_out;
+mod asked;
 mod carrying;
+mod closing;
 mod coming_back;
 mod content;
+mod draining;
 mod engine;
 mod engine_calls;
 mod handing;
 mod handle;
 mod hidden;
+mod kinds;
 mod lending;
 mod lent;
 mod opening;

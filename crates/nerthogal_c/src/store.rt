@@ -5,15 +5,16 @@ ghost use Rattle.nerthogal_c.specs.Statuses.{number_of};
 ghost use Rattle.nerthogal_c.specs.Answers.{CarriesCommand, Frees, MakesStore};
 ghost use Rattle.nerthogal_c.specs.declared.status.Status.{Status as StatusOf};
 
+use crate::asked::Asked;
 use crate::carrying::answer_command;
 use crate::content::Content;
 use crate::handle::Handle;
 use crate::status::Status;
-use daq_store::Store;
 use std::alloc::Global;
 
 /// Makes a store without DAQ lists, for 1 to 8 event channels and images of 1 to 4096 bytes, and
-/// puts it into an empty handle.
+/// puts it into an empty handle. Its packets have the identification field with this number of
+/// `ng_id_kind`, and timestamps of 1, 2 or 4 bytes.
 ///
 /// Refused in this order (own): a handle that isn't empty, limits, want of memory.
 #[unsafe(no_mangle)]
@@ -21,12 +22,25 @@ pub extern "C" fn ng_store_new(
     alloc: Global,
     channels: u16,
     image_len: usize,
+    id: u32,
+    stamp_size: u8,
     store: &mut Handle,
 ) -> u32
     ensures { (status : StatusOf) × (result ≡ number_of status)
-        × MakesStore store.old.held store.new.held channels image_len status }
+        × MakesStore store.old.held store.new.held (record {
+          channels = channels;
+          image_len = image_len;
+          id = id;
+          stamp_size = stamp_size;
+        }) status }
 {
-    make(alloc, channels, image_len, store).number()
+    let asked = Asked {
+        channels,
+        image_len,
+        id,
+        stamp_size,
+    };
+    make(alloc, asked, store).number()
 }
 
 /// Carries one command packet of any bytes out. The packet that answers it goes into the front of
@@ -60,14 +74,14 @@ pub extern "C" fn ng_store_free(alloc: Global, store: &mut Handle) -> u32
 }
 
 /// Makes a store in a handle.
-fn make(alloc: Global, channels: u16, image_len: usize, handle: &mut Handle) -> Status
-    ensures { MakesStore handle.old.held handle.new.held channels image_len result }
+fn make(alloc: Global, asked: Asked, handle: &mut Handle) -> Status
+    ensures { MakesStore handle.old.held handle.new.held asked result }
 {
     if let Some(store) = handle.take(alloc) {
         handle.put(alloc, store);
         return Status::InUse;
     }
-    let Ok(store) = Store::new(alloc, channels, image_len) else {
+    let Some(store) = asked.store(alloc) else {
         return Status::BadLimits;
     };
     let Ok(made) = Box::new(alloc, Content::Store(store)) else {

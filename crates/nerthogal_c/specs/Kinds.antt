@@ -1,0 +1,11 @@
+-- The numbers of `ng_id_kind` in `nerthogal.h` (own).
+use Rattle.std.specs.Prelude.{ℕ, ◌==◌, if◌then◌else◌, Option, Some, None}
+use Rattle.xcp_base.specs.declared.id_kind.IdKind.{IdKind}
+use Rattle.xcp_base.specs.declared.id_kind.IdKind.TheVariants.{Absolute, RelativeByte, RelativeWord}
+
+-- the identification field with this number, if there is one
+abbrev pub kind_of : ℕ → Option IdKind
+kind_of number =
+    if number == 0 then Some Absolute
+    else if number == 1 then Some RelativeByte
+    else if number == 2 then Some RelativeWord else None
