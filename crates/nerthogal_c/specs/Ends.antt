@@ -97,6 +97,20 @@ module _ (out : OutGhosts RingOut) (give : TakeGhosts TakeHalf Left) (ring : End
         after.lines
         ≡ map line_out report.lists.items ++ drop (length report.lists.items) before.lines
 
+  -- whether an engine may be closed with so much room for lines
+  abbrev pub MayCloseEngine : Parts → Content → ℕ → Status → Type 0
+  MayCloseEngine s new room status.Ok =
+      (t : Parts) × (new ≡ Engine t) × KeepsAll s t × AreBack ring t.lending
+      × (MAX_LISTS ≤ room)
+  MayCloseEngine s new room status.SmallBuffer = (room < MAX_LISTS) × (new ≡ Engine s)
+  MayCloseEngine s new room status.Unfinished =
+      (t : Parts) × (new ≡ Engine t) × KeepsAll s t
+  MayCloseEngine s new room _ = ⊥
+
+  abbrev pub MayClose : Content → Content → ℕ → Status → Type 0
+  MayClose (Engine s) new room result = MayCloseEngine s new room result
+  MayClose old new room result = (result ≡ status.Empty) × (new ≡ old)
+
   -- an engine is closed with its account, or stays
   abbrev pub ClosesContent
       : Parts → Option Content → AccountRoom → AccountRoom → Status → Type 0

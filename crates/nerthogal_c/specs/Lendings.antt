@@ -1,12 +1,10 @@
 -- The samplers of an engine: those that it has still, and those that came back (own).
-use Rattle.std.specs.Prelude.{◌≡◌, List, [], ◌∷◌, ◌++◌, map, Option, Some, None}
+use Rattle.std.specs.Prelude.{◌≡◌, List, ◌++◌, map}
 use Rattle.channel_ring.specs.declared.ends.SendEnd.{Ghosts as SendGhosts}
 use Rattle.channel_ring.specs.declared.ends.RingEnd.{Ghosts as EndGhosts}
 use Rattle.channel_ring.specs.declared.sample_ring.SendHalf.{SendHalf}
 use Rattle.sampler.specs.State.{SamplerEndState, SamplerState}
 use Rattle.nerthogal_c.specs.Ways.{Left, Place, place_of, place_of_end}
-use Rattle.nerthogal_c.specs.declared.content.Content.{Content}
-use Rattle.nerthogal_c.specs.declared.content.Content.TheVariants.{Sampler}
 
 -- the places of all samplers that there are; those that weren't handed out, and what is left of
 -- those that came back. All are in rising order of their event channels
@@ -21,19 +19,6 @@ abbrev pub places_of
     → List (SamplerState SendHalf) → List Place
 places_of send ring ends out samplers =
     map (place_of_end ring) ends ++ (out ++ map (place_of send) samplers)
-
--- the first sampler that there is goes out
-pub record Lends (old new : LendingState) (content : Content) : Type 0 where
-  pub sampler : SamplerState SendHalf
-  pub first : old.samplers ≡ sampler ∷ new.samplers
-  pub content_is : content ≡ Sampler sampler
-  pub places : new.places ≡ old.places
-  pub ends : new.ends ≡ old.ends
-
--- the first one goes out, where there is one
-abbrev pub LendsNext : LendingState → LendingState → Option Content → Type 0
-LendsNext old new (Some content) = Lends old new content
-LendsNext old new None = (old.samplers ≡ []) × (new ≡ old)
 
 -- all of them came back
 abbrev pub AreBack : EndGhosts Left → LendingState → Type 0

@@ -3,6 +3,7 @@ pub mod Ends
 pub mod Engines
 pub mod Kinds
 pub mod Lendings
+pub mod Lends
 pub mod Owned
 pub mod Samplers
 pub mod Statuses

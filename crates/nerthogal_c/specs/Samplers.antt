@@ -40,6 +40,11 @@ OnSampler (Some (Sampler s)) new result stays holds =
     (t : SamplerState SendHalf) × (new ≡ Some (Sampler t)) × holds s t
 OnSampler old new result stays holds = (result ≡ status.Empty) × (new ≡ old) × stays
 
+-- a sampler is held
+abbrev pub IsSampler : Content → Type 0
+IsSampler (Sampler s) = Unit {0}
+IsSampler _ = ⊥
+
 module _ {E : Type 0} (send : SendGhosts SendHalf E) (ring : EndGhosts E) where
   -- what a sampler does at a trigger
   abbrev pub TriggersSampler

@@ -1,7 +1,9 @@
 //! The rings of an engine whose samplers were all finished, emptied in rounds.
 
-ghost use Rattle.std.specs.Prelude.{◌≡◌};
-ghost use Rattle.nerthogal_c.specs.Ends.{DrainsEngine};
+ghost use Rattle.std.specs.Prelude.{◌≡◌, false, true};
+ghost use Rattle.transmitter.specs.Looks.{KnowsNone, KnowsSome};
+ghost use Rattle.nerthogal_c.specs.Ends.{DrainsEngine, LooksAtAll, state_in};
+ghost use Rattle.nerthogal_c.specs.Lendings.{AreBack};
 
 use crate::engine::Engine;
 use crate::pumping::{PUMP_BYTES, pump};
@@ -22,12 +24,12 @@ pub fn drain(
     ensures { DrainsEngine ⟦<RingOut as Out>⟧ ⟦<TakeHalf as TakeEnd>⟧ ⟦<SendLeft as RingEnd>⟧
         engine.old engine.new
         (record {
-            frames = record { buffer = buffer.old; len = len.old; pumped = pumped.old };
-            left = left.old;
+          frames = record { buffer = buffer.old; len = len.old; pumped = pumped.old };
+          left = left.old;
         })
         (record {
-            frames = record { buffer = buffer.new; len = len.new; pumped = pumped.new };
-            left = left.new;
+          frames = record { buffer = buffer.new; len = len.new; pumped = pumped.new };
+          left = left.new;
         })
         result }
 {
@@ -44,4 +46,19 @@ pub fn drain(
     *len = 0;
     *pumped = PumpedOut::nothing();
     Status::Ok
+}
+
+/// Looks at all that was sent, and tells whether something is left.
+fn look(engine: &mut Engine) -> bool
+    requires back { AreBack ⟦<SendLeft as RingEnd>⟧ engine.old.lending }
+    ensures looks { LooksAtAll ⟦<RingOut as Out>⟧ ⟦<TakeHalf as TakeEnd>⟧
+        ⟦<SendLeft as RingEnd>⟧ engine.old engine.new }
+    ensures some { result ≡ true
+        → KnowsSome (state_in ⟦<RingOut as Out>⟧ ⟦<TakeHalf as TakeEnd>⟧
+        ⟦<SendLeft as RingEnd>⟧ engine.new) }
+    ensures none { result ≡ false
+        → KnowsNone (state_in ⟦<RingOut as Out>⟧ ⟦<TakeHalf as TakeEnd>⟧
+        ⟦<SendLeft as RingEnd>⟧ engine.new) }
+{
+    engine.transmitter.after(engine.lending.ends.as_mut_slice())
 }

@@ -40,18 +40,16 @@ impl Model for Lending {
 
 impl Lending {
     ghost use Rattle.std.specs.Prelude.{◌≡◌, [], IfOk, OnErr, map, option_map, true};
-    ghost use Rattle.nerthogal_c.specs.Lendings.{AreBack, LendsNext};
+    ghost use Rattle.nerthogal_c.specs.Lendings.{AreBack};
+    ghost use Rattle.nerthogal_c.specs.Lends.{LendsNext};
     ghost use Rattle.nerthogal_c.specs.Ways.{place_of};
 
     /// Of samplers that weren't handed out.
-    pub fn new(
-        alloc: Global,
-        samplers: Vec<Sampler<SendHalf>>,
-    ) -> Result<Lending, AllocError>
+    pub fn new(alloc: Global, samplers: Vec<Sampler<SendHalf>>) -> Result<Lending, AllocError>
         ensures { IfOk result (λ lending. lending ≡ record {
-            places = map (place_of ⟦<SendHalf as SendEnd>⟧) samplers.items;
-            samplers = samplers.items;
-            ends = [];
+          places = map (place_of ⟦<SendHalf as SendEnd>⟧) samplers.items;
+          samplers = samplers.items;
+          ends = [];
         }) }
     {
         let ways = Vec::with_capacity(alloc, samplers.len())?;

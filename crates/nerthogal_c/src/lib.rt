@@ -8,6 +8,7 @@ mod closing;
 mod coming_back;
 mod content;
 mod draining;
+mod ending_calls;
 mod engine;
 mod engine_calls;
 mod handing;

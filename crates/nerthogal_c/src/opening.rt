@@ -1,11 +1,15 @@
 //! The opening of an engine, and its samplers.
 
-ghost use Rattle.std.specs.Prelude.{◌≡◌, IfErr, IfOk, None, Some};
+ghost use Rattle.std.specs.Prelude.{◌≡◌, ℕ, IfErr, IfOk, None, Some, map};
+ghost use Rattle.transmitter.specs.Written.{transmission};
+ghost use Rattle.daq_engine.specs.Configuration.{upto};
 ghost use Rattle.nerthogal_c.specs.Engines.{IsOpened, OpensEngine, OpensOn, OpensOver};
+ghost use Rattle.nerthogal_c.specs.Engines.{samplers_in};
 
 use crate::content::Content;
 use crate::engine::Engine;
 use crate::handle::Handle;
+use crate::lending::Lending;
 use crate::pumping::PUMP_BYTES;
 use crate::ring_out::RingOut;
 use crate::status::Status;
@@ -13,8 +17,34 @@ use channel_ring::{RingEnd, SendEnd, SendHalf, SendLeft, TakeEnd, TakeHalf};
 use daq_engine::{OpenFault, open};
 use daq_store::Store;
 use frame_writer::{FrameWriter, Out};
-use rtrb::RingBuffer;
-use std::alloc::Global;
+use rtrb::{Consumer, RingBuffer};
+use sampler::Sampler;
+use std::alloc::{AllocError, Global};
+use transmitter::Transmitter;
+use xcp_base::limits::MAX_LISTS;
+
+/// An engine of what was opened.
+fn engine_of(
+    alloc: Global,
+    frames: Consumer<u8>,
+    samplers: Vec<Sampler<SendHalf>>,
+    transmitter: Transmitter<RingOut, TakeHalf>,
+) -> Result<Engine, AllocError>
+    requires rings { (transmission ⟦<RingOut as Out>⟧ ⟦<TakeHalf as TakeEnd>⟧ transmitter).rings
+        ≡ map (λ s. ⟦<SendHalf as SendEnd>⟧.ring s.end) samplers.items }
+    requires in_order { (n : ℕ) × (map (λ s. s.channel) samplers.items ≡ upto 0 n) }
+    ensures { IfOk result (λ engine. (engine.transmitter ≡ transmitter)
+        × (engine.frames ≡ frames) × (samplers_in engine ≡ samplers.items)) }
+{
+    let lines = Vec::with_capacity(alloc, MAX_LISTS as usize)?;
+    let lending = Lending::new(alloc, samplers)?;
+    Ok(Engine {
+        transmitter,
+        frames,
+        lending,
+        lines,
+    })
+}
 
 /// Opens an engine over a store.
 pub fn opened(alloc: Global, store: &Store, caps: &[usize]) -> Result<Engine, Status>
@@ -28,15 +58,10 @@ pub fn opened(alloc: Global, store: &Store, caps: &[usize]) -> Result<Engine, St
     };
     let writer = FrameWriter::new(RingOut { bytes, failures: 0 });
     match open(alloc, store, caps, writer) {
-        Ok((samplers, transmitter)) => {
-            let mut samplers = samplers;
-            samplers.as_mut_slice().reverse();
-            Ok(Engine {
-                transmitter,
-                frames,
-                samplers,
-            })
-        }
+        Ok((samplers, transmitter)) => match engine_of(alloc, frames, samplers, transmitter) {
+            Ok(engine) => Ok(engine),
+            Err(_) => Err(Status::Memory),
+        },
         Err((OpenFault::BadCaps, _)) => Err(Status::BadCaps),
         Err((OpenFault::NothingRunning, _)) => Err(Status::NothingRunning),
         Err((OpenFault::Memory, _)) => Err(Status::Memory),

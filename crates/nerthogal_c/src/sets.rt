@@ -71,6 +71,17 @@ impl CountsOut {
 }
 
 impl PumpedOut {
+    /// What is told where nothing was pumped.
+    pub fn nothing() -> PumpedOut
+        ensures { result ≡ record { stopped = 0; taken = 0; frames = 0 } }
+    {
+        PumpedOut {
+            stopped: 0,
+            taken: 0,
+            frames: 0,
+        }
+    }
+
     /// What a pump did, for C.
     pub fn of(pumped: Pumped) -> PumpedOut
         ensures { result ≡ pumped_out pumped }
