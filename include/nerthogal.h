@@ -1,8 +1,9 @@
 /* nerthogal.h: the data acquisition half of an XCP slave (ASAM MCD-1 XCP), for C99.
  *
  * A master's command packets set a store up. An engine is opened over it: it has a sampler for each
- * event channel, which takes the triggers, and a pump, which gives the frames of the samples. Not
- * here yet: the end of an engine with its account, rings of bytes.
+ * event channel, which takes the triggers, and a pump, which gives the frames of the samples. At
+ * the end the samplers are finished, the rings drained, and the engine is closed with its account.
+ * Not here yet: rings of bytes.
  *
  * Link with libnerthogal_c.a, and with the object that joins it to the C library's malloc, realloc
  * and free (liblibc_c.a of the Rattle toolchain).
@@ -21,10 +22,12 @@
  *   - A handle is a struct that the caller owns and starts as NG_STORE_INIT, NG_ENGINE_INIT or
  *     NG_SAMPLER_INIT. Its fields belong to the library: don't read, write or copy them. The struct
  *     may be moved while no call uses it; what stood where it was is then no handle any more.
- *   - A full handle that is given up without ng_store_free, ng_engine_free or ng_sampler_free is a
- *     leak. A handle that was freed is empty, so it may be freed twice and filled again.
+ *   - A full handle that is given up without ng_store_free, ng_engine_free, ng_sampler_free,
+ *     ng_finish or ng_close is a leak. A handle that was freed is empty, so it may be freed twice
+ *     and filled again.
  *   - A store may be used on, or freed, once an engine was opened over it; an engine and its
- *     samplers may be freed in any order.
+ *     samplers may be freed in any order. An engine one of whose samplers was freed and not
+ *     finished can't be drained or closed any more, only freed.
  *
  * Pointers
  *   - A pointer is never null, also where its length is 0. It is aligned, and as many elements as
@@ -59,6 +62,7 @@ extern "C" {
 #define NG_MAX_CHANNELS 8u  /* event channels: 1 to 8 */
 #define NG_MAX_IMAGE 4096u  /* bytes of a memory image: 1 to 4096 */
 #define NG_MAX_RING 1024u   /* places of an event channel's ring: 1 to 1024 */
+#define NG_MAX_LISTS 16u    /* DAQ lists, and so the lines of an account */
 #define NG_REPLY_BYTES 8u   /* room that the answer to a command needs */
 #define NG_PUMP_BYTES 4352u /* room that a pump needs: 8 samples of 8 frames of 4 + 64 bytes */
 
@@ -81,7 +85,9 @@ enum {
     NG_NOT_RUNNING = 13,    /* the DAQ list doesn't run */
     NG_NO_ROOM = 14,        /* the ring has no room for the stop marker; the list runs on */
     NG_FAILED = 15,         /* a frame was not written whole */
-    NG_CLOSED = 16          /* a frame was not written whole earlier */
+    NG_CLOSED = 16,         /* a frame was not written whole earlier */
+    NG_UNFINISHED = 17,     /* a sampler of the engine wasn't finished */
+    NG_NO_ENGINE = 18       /* the sampler's engine was freed */
 };
 
 /* Which identification field the DAQ packets of a store begin with: one of the numbers below. */
@@ -130,6 +136,20 @@ typedef struct {
     uint16_t stopped;
     uint8_t taken, frames;
 } ng_pumped;
+
+/* What became of the samples of a DAQ list since the opening: of so many due, those of which all
+ * frames were written, those that were dropped, and those that were left: in the ring, or not
+ * written whole. The last three make up the first. */
+typedef struct {
+    uint8_t list;
+    uint64_t due, written, dropped, left;
+} ng_line;
+
+/* The rest of an account: how many lines it has, and whether a frame was not written whole. */
+typedef struct {
+    size_t lines;
+    bool failed;
+} ng_report;
 
 /* ---- the store */
 
@@ -269,6 +289,50 @@ ng_status ng_pump(ng_engine *engine, uint8_t *buffer, size_t buffer_cap, size_t 
                   ng_pumped *pumped);
 
 /* ---- the end */
+
+/* Finishes a sampler: what it sent stays in its ring, and what is left of it (its counts, and the
+ * end of its ring) goes back to its engine. *sampler is empty then.
+ *
+ *   NG_EMPTY      *sampler is empty
+ *   NG_NO_ENGINE  the engine was freed, and with it what was in the ring
+ *   NG_OK         what is left of it went back
+ *
+ * Proved: all of this, and that what is left of it has its event channel, its DAQ lists with their
+ * counts, and all that it sent; but not that NG_NO_ENGINE is answered only where it is due. Calls
+ * free. */
+ng_status ng_finish(ng_sampler *sampler);
+
+/* Looks at all that the finished samplers of an engine sent, and pumps where something is left, as
+ * ng_pump does. Call it until *left is false: each call pumps once.
+ *
+ *   NG_EMPTY                       *engine is empty
+ *   NG_SMALL_BUFFER                buffer_cap is below NG_PUMP_BYTES
+ *   NG_UNFINISHED                  a sampler wasn't handed out yet, or is not finished
+ *   NG_CLOSED, NG_SPENT, NG_FAILED as ng_pump says them, where something was left
+ *   NG_OK                          where something was left, *left is true and *pumped says what
+ *                                  was taken; else *left is false, and *len and *pumped are 0
+ *
+ * They are looked for in this order. On the first three nothing is taken, and buffer, *len, *pumped
+ * and *left are as they were. On the others *left says whether something was left before the pump.
+ * Proved: all of this, and that nothing is left of all that was sent where *left is false. The
+ * tests find no memory asked for. */
+ng_status ng_drain(ng_engine *engine, uint8_t *buffer, size_t buffer_cap, size_t *len,
+                   ng_pumped *pumped, bool *left);
+
+/* Closes an engine all of whose samplers were finished, and tells its account: a line for each DAQ
+ * list that the samplers had, in rising number. It writes no frame; what is left in the rings is
+ * counted as left, and lost. *engine is empty then.
+ *
+ *   NG_EMPTY         *engine is empty
+ *   NG_SMALL_BUFFER  lines_cap is below NG_MAX_LISTS
+ *   NG_UNFINISHED    a sampler wasn't handed out yet, or is not finished
+ *   NG_OK            the lines stand in lines[0] to lines[report->lines - 1]
+ *
+ * They are looked for in this order. On each but NG_OK the engine keeps all that it has, and lines
+ * and *report are as they were; on NG_OK the elements of lines behind the account are as they were.
+ * Proved: all of this, and each number of the account, by what the samplers and the transmitter
+ * did: due = written + dropped + left. Calls free. */
+ng_status ng_close(ng_engine *engine, ng_line *lines, size_t lines_cap, ng_report *report);
 
 /* Give an engine up, with the samplers that it has still; and a sampler. What is left in the rings
  * is lost, and there is no account. NG_EMPTY where the handle was empty. Proved: all of this. Call

@@ -1,4 +1,4 @@
-ghost use Rattle.std.specs.Prelude.{◌≡◌, ℕ, ◌≤◌, map, vec_capacity, vec_len};
+ghost use Rattle.std.specs.Prelude.{◌≡◌, ◌≤◌, length, map, vec_capacity, vec_len};
 ghost use Rattle.xcp_base.specs.declared.limits.TheConstants.{MAX_LISTS};
 ghost use Rattle.transmitter.specs.Written.{transmission};
 ghost use Rattle.daq_engine.specs.Configuration.{upto};
@@ -21,7 +21,8 @@ pub struct Engine {
     pub(crate) lines: Vec<ListReport>,
     ghost rings: { map (λ place. place.ring) lending.places
         ≡ (transmission ⟦<RingOut as Out>⟧ ⟦<TakeHalf as TakeEnd>⟧ transmitter).rings },
-    ghost in_order: { (n : ℕ) × (map (λ place. place.channel) lending.places ≡ upto 0 n) },
+    ghost in_order: { map (λ place. place.channel) lending.places
+        ≡ upto 0 (length lending.places) },
     ghost no_line: { vec_len lines ≡ 0 },
     ghost enough: { MAX_LISTS ≤ vec_capacity lines },
 }

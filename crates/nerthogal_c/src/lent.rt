@@ -20,6 +20,7 @@ pub struct Lent {
 }
 
 impl Model for Lent {
+    ghost use Rattle.std.specs.Prelude.{◌≡◌};
     ghost use Rattle.channel_ring.specs.declared.sample_ring.SendHalf.{SendHalf as HalfOf};
     ghost use Rattle.sampler.specs.State.{SamplerState};
     ghost use Rattle.nerthogal_c.specs.Ways.{place_of};

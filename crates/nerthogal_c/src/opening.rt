@@ -1,6 +1,6 @@
 //! The opening of an engine, and its samplers.
 
-ghost use Rattle.std.specs.Prelude.{◌≡◌, ℕ, IfErr, IfOk, None, Some, map};
+ghost use Rattle.std.specs.Prelude.{◌≡◌, IfErr, IfOk, None, Some, length, map};
 ghost use Rattle.transmitter.specs.Written.{transmission};
 ghost use Rattle.daq_engine.specs.Configuration.{upto};
 ghost use Rattle.nerthogal_c.specs.Engines.{IsOpened, OpensEngine, OpensOn, OpensOver};
@@ -32,7 +32,7 @@ fn engine_of(
 ) -> Result<Engine, AllocError>
     requires rings { (transmission ⟦<RingOut as Out>⟧ ⟦<TakeHalf as TakeEnd>⟧ transmitter).rings
         ≡ map (λ s. ⟦<SendHalf as SendEnd>⟧.ring s.end) samplers.items }
-    requires in_order { (n : ℕ) × (map (λ s. s.channel) samplers.items ≡ upto 0 n) }
+    requires in_order { map (λ s. s.channel) samplers.items ≡ upto 0 (length samplers.items) }
     ensures { IfOk result (λ engine. (engine.transmitter ≡ transmitter)
         × (engine.frames ≡ frames) × (samplers_in engine ≡ samplers.items)) }
 {
