@@ -1,9 +1,12 @@
 -- The samplers of an engine: those that it has still, and those that came back (own).
-use Rattle.std.specs.Prelude.{◌≡◌, List, ◌++◌, map}
+use Rattle.std.specs.Prelude.{◌≡◌, ℕ, List, ◌++◌, map}
+use Rattle.channel_ring.specs.Ends.{RingName}
 use Rattle.channel_ring.specs.declared.ends.SendEnd.{Ghosts as SendGhosts}
 use Rattle.channel_ring.specs.declared.ends.RingEnd.{Ghosts as EndGhosts}
 use Rattle.channel_ring.specs.declared.sample_ring.SendHalf.{SendHalf}
-use Rattle.sampler.specs.State.{SamplerEndState, SamplerState}
+use Rattle.sampler.specs.State.{SamplerEndState, SamplerState, joined, sent_by}
+use Rattle.transmitter.specs.Looks.{KnowsAll, Looked}
+use Rattle.transmitter.specs.Written.{TransmitterState}
 use Rattle.nerthogal_c.specs.Ways.{Left, Place, place_of, place_of_end}
 
 -- the places of all samplers that there are; those that weren't handed out, and what is left of
@@ -23,3 +26,19 @@ places_of send ring ends out samplers =
 -- all of them came back
 abbrev pub AreBack : EndGhosts Left → LendingState → Type 0
 AreBack ring l = map (place_of_end ring) l.ends ≡ l.places
+
+-- the rings and the event channels of places
+abbrev pub rings_in : List Place → List RingName
+rings_in places = map (λ (place : Place). place.ring) places
+
+abbrev pub channels_in : List Place → List ℕ
+channels_in places = map (λ (place : Place). place.channel) places
+
+-- all that the samplers sent, which all came back, was looked at
+pub record LooksAtEnds (ring : EndGhosts Left) (a b : TransmitterState) (old new : LendingState)
+    : Type 0 where
+  pub back : AreBack ring new
+  pub looked : Looked a b
+  pub all : KnowsAll (sent_by (map (joined ring) new.ends)) b
+  pub places : new.places ≡ old.places
+  pub samplers : new.samplers ≡ old.samplers

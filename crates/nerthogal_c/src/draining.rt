@@ -1,9 +1,7 @@
 //! The rings of an engine whose samplers were all finished, emptied in rounds.
 
-ghost use Rattle.std.specs.Prelude.{◌≡◌, false, true};
-ghost use Rattle.transmitter.specs.Looks.{KnowsNone, KnowsSome};
-ghost use Rattle.nerthogal_c.specs.Ends.{DrainsEngine, LooksAtAll, state_in};
-ghost use Rattle.nerthogal_c.specs.Lendings.{AreBack};
+ghost use Rattle.std.specs.Prelude.{◌≡◌};
+ghost use Rattle.nerthogal_c.specs.Ends.{DrainsEngine};
 
 use crate::engine::Engine;
 use crate::pumping::{PUMP_BYTES, pump};
@@ -39,26 +37,11 @@ pub fn drain(
     if !engine.lending.collect() {
         return Status::Unfinished;
     }
-    *left = look(engine);
+    *left = engine.lending.look(&mut engine.transmitter);
     if *left {
         return pump(engine, buffer, len, pumped);
     }
     *len = 0;
     *pumped = PumpedOut::nothing();
     Status::Ok
-}
-
-/// Looks at all that was sent, and tells whether something is left.
-fn look(engine: &mut Engine) -> bool
-    requires back { AreBack ⟦<SendLeft as RingEnd>⟧ engine.old.lending }
-    ensures looks { LooksAtAll ⟦<RingOut as Out>⟧ ⟦<TakeHalf as TakeEnd>⟧
-        ⟦<SendLeft as RingEnd>⟧ engine.old engine.new }
-    ensures some { result ≡ true
-        → KnowsSome (state_in ⟦<RingOut as Out>⟧ ⟦<TakeHalf as TakeEnd>⟧
-        ⟦<SendLeft as RingEnd>⟧ engine.new) }
-    ensures none { result ≡ false
-        → KnowsNone (state_in ⟦<RingOut as Out>⟧ ⟦<TakeHalf as TakeEnd>⟧
-        ⟦<SendLeft as RingEnd>⟧ engine.new) }
-{
-    engine.transmitter.after(engine.lending.ends.as_mut_slice())
 }

@@ -6,15 +6,16 @@ ghost use Rattle.nerthogal_c.specs.Samplers.{Finishes, IsSampler};
 ghost use Rattle.nerthogal_c.specs.Statuses.{number_of};
 ghost use Rattle.nerthogal_c.specs.declared.status.Status.{Status as StatusOf};
 
-use crate::account_out::{LineOut, ReportOut};
 use crate::closing::close_by;
 use crate::content::Content;
 use crate::draining::drain;
 use crate::handle::Handle;
+use crate::report_out::ReportOut;
 use crate::ring_out::RingOut;
 use crate::sets::PumpedOut;
 use crate::status::Status;
 use channel_ring::{RingEnd, SendEnd, SendHalf, SendLeft, TakeEnd, TakeHalf};
+use daq_engine::ListReport;
 use frame_writer::Out;
 use std::alloc::Global;
 
@@ -69,7 +70,7 @@ pub extern "C" fn ng_drain(
 pub extern "C" fn ng_close(
     alloc: Global,
     engine: &mut Handle,
-    lines: &mut [LineOut],
+    lines: &mut [ListReport],
     report: &mut ReportOut,
 ) -> u32
     ensures { (status : StatusOf) × (result ≡ number_of status)

@@ -1,7 +1,8 @@
-ghost use Rattle.std.specs.Prelude.{◌≡◌, ◌≤◌, length, map, vec_capacity, vec_len};
+ghost use Rattle.std.specs.Prelude.{◌≡◌, ◌≤◌, length, vec_capacity, vec_len};
 ghost use Rattle.xcp_base.specs.declared.limits.TheConstants.{MAX_LISTS};
 ghost use Rattle.transmitter.specs.Written.{transmission};
 ghost use Rattle.daq_engine.specs.Configuration.{upto};
+ghost use Rattle.nerthogal_c.specs.Lendings.{channels_in, rings_in};
 
 use crate::lending::Lending;
 use crate::ring_out::RingOut;
@@ -19,9 +20,9 @@ pub struct Engine {
     pub(crate) frames: Consumer<u8>,
     pub(crate) lending: Lending,
     pub(crate) lines: Vec<ListReport>,
-    ghost rings: { map (λ place. place.ring) lending.places
+    ghost rings: { rings_in lending.places
         ≡ (transmission ⟦<RingOut as Out>⟧ ⟦<TakeHalf as TakeEnd>⟧ transmitter).rings },
-    ghost in_order: { map (λ place. place.channel) lending.places
+    ghost in_order: { channels_in lending.places
         ≡ upto 0 (length lending.places) },
     ghost no_line: { vec_len lines ≡ 0 },
     ghost enough: { MAX_LISTS ≤ vec_capacity lines },

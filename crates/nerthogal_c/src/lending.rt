@@ -4,11 +4,14 @@ use crate::coming_back::ComingBack;
 use crate::content::Content;
 use crate::lent::Lent;
 use crate::returns::Returns;
-use channel_ring::{RingEnd, SendEnd, SendHalf, SendLeft};
+use crate::ring_out::RingOut;
+use channel_ring::{RingEnd, SendEnd, SendHalf, SendLeft, TakeEnd, TakeHalf};
+use frame_writer::Out;
 use rtrb::RingBuffer;
 use sampler::{Sampler, SamplerEnd};
 use std::alloc::{AllocError, Global};
 use std::marker::Model;
+use transmitter::Transmitter;
 
 /// The samplers of an engine: those that weren't handed out yet, the ways back of those that were,
 /// and what came back.
@@ -39,8 +42,10 @@ impl Model for Lending {
 }
 
 impl Lending {
-    ghost use Rattle.std.specs.Prelude.{◌≡◌, [], IfOk, OnErr, map, option_map, true};
-    ghost use Rattle.nerthogal_c.specs.Lendings.{AreBack};
+    ghost use Rattle.std.specs.Prelude.{◌≡◌, [], IfOk, OnErr, false, map, option_map, true};
+    ghost use Rattle.transmitter.specs.Looks.{KnowsNone, KnowsSome};
+    ghost use Rattle.transmitter.specs.Written.{transmission};
+    ghost use Rattle.nerthogal_c.specs.Lendings.{AreBack, LooksAtEnds, rings_in};
     ghost use Rattle.nerthogal_c.specs.Lends.{LendsNext};
     ghost use Rattle.nerthogal_c.specs.Ways.{place_of};
 
@@ -103,5 +108,23 @@ impl Lending {
             self.ends.push_reserved(end);
         }
         self.samplers.is_empty()
+    }
+
+    /// Looks at all that was sent, once nothing is out any more, and tells whether something is
+    /// left.
+    pub fn look(&mut self, transmitter: &mut Transmitter<RingOut, TakeHalf>) -> bool
+        requires back { AreBack ⟦<SendLeft as RingEnd>⟧ self.old }
+        requires rings { rings_in self.old.places
+            ≡ (transmission ⟦<RingOut as Out>⟧ ⟦<TakeHalf as TakeEnd>⟧ transmitter.old).rings }
+        ensures looks { LooksAtEnds ⟦<SendLeft as RingEnd>⟧
+            (transmission ⟦<RingOut as Out>⟧ ⟦<TakeHalf as TakeEnd>⟧ transmitter.old)
+            (transmission ⟦<RingOut as Out>⟧ ⟦<TakeHalf as TakeEnd>⟧ transmitter.new)
+            self.old self.new }
+        ensures some { result ≡ true → KnowsSome
+            (transmission ⟦<RingOut as Out>⟧ ⟦<TakeHalf as TakeEnd>⟧ transmitter.new) }
+        ensures none { result ≡ false → KnowsNone
+            (transmission ⟦<RingOut as Out>⟧ ⟦<TakeHalf as TakeEnd>⟧ transmitter.new) }
+    {
+        transmitter.after(self.ends.as_mut_slice())
     }
 }

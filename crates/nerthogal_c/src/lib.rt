@@ -1,7 +1,6 @@
 //! The engine for C: what `include/nerthogal.h` declares.
 #![tactic(auto)]
 
-mod account_out;
 mod asked;
 mod carrying;
 mod closing;
@@ -20,6 +19,7 @@ mod lent;
 mod opening;
 mod parts;
 mod pumping;
+mod report_out;
 mod returns;
 mod ring_out;
 mod sampler_calls;
