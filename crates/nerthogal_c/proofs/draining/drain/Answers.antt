@@ -1,4 +1,4 @@
-use Rattle.std.proofs.Common.{◌≡◌, ◌∙◌, ◌≤◌, ap, arith, length, refl}
+use Rattle.std.proofs.Common.{◌∙◌, ◌≤◌, ap, arith, length, refl}
 use Rattle.std.proofs.lemmas.Grind.{common_steps}
 use Rattle.nerthogal_c.specs.declared.pumping.TheConstants.{PUMP_BYTES}
 use Rattle.nerthogal_c.proofs.EndLemmas.{drains-none, drains-some}
