@@ -233,7 +233,7 @@ ng_status ng_open(ng_store *store, const size_t *caps, size_t caps_len, ng_engin
  *   NG_OK          *sampler holds the sampler
  *
  * They are looked for in this order. Proved: all of this, but that malloc gave none. Calls malloc
- * once, and on the first three not at all. */
+ * three times, and on the first three not at all; and free on NG_MEMORY. */
 ng_status ng_next_sampler(ng_engine *engine, ng_sampler *sampler);
 
 /* ---- sampling */

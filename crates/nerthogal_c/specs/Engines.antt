@@ -138,7 +138,8 @@ abbrev pub HandsSampler : Parts → Parts → Option Content → Status → Type
 HandsSampler s t given status.Ok =
     (sampler : SamplerState SendHalf) × (given ≡ Some (Sampler sampler)) × HandsOut s t sampler
 HandsSampler s t given status.NoSampler = (samplers_in s ≡ []) × KeepsAll s t × (given ≡ None)
-HandsSampler s t given status.Memory = KeepsAll s t × (given ≡ None)
+HandsSampler s t given status.Memory =
+    (0 < length (samplers_in s)) × KeepsAll s t × (given ≡ None)
 HandsSampler s t given _ = ⊥
 
 -- what ng_sampler does to the handles of an engine and of a sampler

@@ -42,7 +42,7 @@ impl Model for Lending {
 }
 
 impl Lending {
-    ghost use Rattle.std.specs.Prelude.{◌≡◌, [], IfOk, OnErr, false, map, option_map, true};
+    ghost use Rattle.std.specs.Prelude.{◌≡◌, ◌<◌, [], IfOk, OnErr, false, length, map, option_map, true};
     ghost use Rattle.transmitter.specs.Looks.{KnowsNone, KnowsSome};
     ghost use Rattle.transmitter.specs.Written.{transmission};
     ghost use Rattle.nerthogal_c.specs.Lendings.{AreBack, LooksAtEnds, rings_in};
@@ -73,10 +73,14 @@ impl Lending {
         ensures ok { IfOk result (λ given.
             LendsNext self.old self.new (option_map (λ it. it.value) given)) }
         ensures err { OnErr result (self.new ≡ self.old) }
+        ensures wanted { OnErr result (0 < length self.old.samplers) }
     {
-        let (producer, consumer) = RingBuffer::with_protocol::<Global, Returns>(alloc, 1)?;
         let Some(sampler) = self.samplers.pop() else {
             return Ok(None);
+        };
+        let Ok((producer, consumer)) = RingBuffer::with_protocol::<Global, Returns>(alloc, 1) else {
+            self.samplers.push_reserved(sampler);
+            return Err(AllocError);
         };
         let (lent, way) = Lent::over(producer, consumer, sampler);
         match Box::new(alloc, Content::Sampler(lent)) {
