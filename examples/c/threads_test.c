@@ -1,6 +1,7 @@
 /* Two samplers in threads of their own, beside a transmitter in the first thread, many times over.
- * The images are numbered, so that each frame tells what was dropped before it. Prints one line;
- * ends with status 1 at the first thing that isn't as wanted. */
+ * Each thread finishes its sampler itself; then the first one drains the rings and closes the
+ * engine. The images are numbered, so that each frame tells what was dropped before it. Prints one
+ * line; ends with status 1 at the first thing that isn't as wanted. */
 #include "nerthogal.h"
 #include <pthread.h>
 #include <stdio.h>
@@ -8,8 +9,9 @@
 #include <string.h>
 
 #define CHANNELS 2
-#define TRIGGERS 2000u
-#define TIMES 100
+#define TRIGGERS 400u
+#define PUMPS 200
+#define TIMES 1000
 
 static void want(bool holds, const char *what) {
     if (holds) return;
@@ -47,7 +49,7 @@ static void set_up(ng_store *store) {
     }
 }
 
-/* Takes triggers by the sampler that it is handed. */
+/* Takes triggers by the sampler that it is handed, and finishes it. */
 static void *sample(void *argument) {
     ng_sampler *sampler = argument;
     for (uint32_t k = 0; k < TRIGGERS; k++) {
@@ -56,7 +58,7 @@ static void *sample(void *argument) {
         if (ng_trigger(sampler, image, 4, 0, &taken) != NG_OK) return argument;
         if ((taken.accepted | taken.dropped) != taken.due) return argument;
     }
-    return NULL;
+    return ng_finish(sampler) == NG_OK ? NULL : argument;
 }
 
 /* What the frames so far told. */
@@ -73,15 +75,43 @@ static void look_at(const uint8_t *frame) {
     next[list] = number + 1;
 }
 
-/* One pump. Answers how many items it took. */
-static unsigned pump(ng_engine *engine) {
-    static uint8_t frames[NG_PUMP_BYTES];
+static uint8_t frames[NG_PUMP_BYTES];
+
+static void look_at_all(size_t len, unsigned count) {
+    want(len == 9u * count, "whole frames");
+    for (size_t at = 0; at < len; at += 9) look_at(frames + at);
+}
+
+static void pump(ng_engine *engine) {
     size_t len = 0;
     ng_pumped pumped;
     want(ng_pump(engine, frames, sizeof frames, &len, &pumped) == NG_OK, "pump");
-    want(len == 9u * pumped.frames, "whole frames");
-    for (size_t at = 0; at < len; at += 9) look_at(frames + at);
-    return pumped.taken;
+    look_at_all(len, pumped.frames);
+}
+
+/* One round of a drain. Answers whether something was left before it. */
+static bool drain(ng_engine *engine) {
+    size_t len = 0;
+    ng_pumped pumped;
+    bool left = true;
+    want(ng_drain(engine, frames, sizeof frames, &len, &pumped, &left) == NG_OK, "drain");
+    want(left == (pumped.taken > 0), "a round takes what was left before it");
+    look_at_all(len, pumped.frames);
+    return left;
+}
+
+/* Closes the engine, whose account says what the frames told. */
+static void account(ng_engine *engine) {
+    ng_line lines[NG_MAX_LISTS];
+    ng_report report;
+    want(ng_close(engine, lines, NG_MAX_LISTS, &report) == NG_OK, "close");
+    want(report.lines == CHANNELS && !report.failed, "the rest of the account");
+    for (size_t l = 0; l < CHANNELS; l++) {
+        want(lines[l].list == l && lines[l].due == TRIGGERS, "due");
+        want(lines[l].due == lines[l].written + lines[l].dropped + lines[l].left, "it adds up");
+        want(lines[l].left == 0, "nothing is left behind a drain");
+        want(lines[l].written == received[l], "what was written was received");
+    }
 }
 
 static void run(size_t cap) {
@@ -92,6 +122,7 @@ static void run(size_t cap) {
     pthread_t threads[CHANNELS];
     set_up(&store);
     want(ng_open(&store, caps, CHANNELS, &engine) == NG_OK, "open");
+    want(ng_store_free(&store) == NG_OK, "free");
     counter = 0;
     for (int c = 0; c < CHANNELS; c++) {
         received[c] = next[c] = 0;
@@ -99,21 +130,13 @@ static void run(size_t cap) {
     }
     for (int c = 0; c < CHANNELS; c++)
         want(pthread_create(&threads[c], NULL, sample, &samplers[c]) == 0, "thread");
-    for (int k = 0; k < 1000; k++) pump(&engine);
+    for (int k = 0; k < PUMPS; k++) pump(&engine);
     for (int c = 0; c < CHANNELS; c++) {
         void *fault = NULL;
         want(pthread_join(threads[c], &fault) == 0 && fault == NULL, "a sampler's thread");
     }
-    while (pump(&engine) > 0) {}
-    for (int c = 0; c < CHANNELS; c++) {
-        ng_counts counts;
-        want(ng_counts_of(&samplers[c], (uint8_t)c, &counts) == NG_OK, "counts");
-        want(counts.due == TRIGGERS, "due");
-        want(counts.due == counts.accepted + counts.dropped, "due is accepted and dropped");
-        want(counts.accepted == received[c], "what was accepted was received");
-        want(ng_sampler_free(&samplers[c]) == NG_OK, "free");
-    }
-    want(ng_engine_free(&engine) == NG_OK && ng_store_free(&store) == NG_OK, "free");
+    while (drain(&engine)) {}
+    account(&engine);
 }
 
 int main(void) {
