@@ -1,7 +1,8 @@
 /* Two samplers in threads of their own, beside a transmitter in the first thread, many times over.
- * Each thread finishes its sampler itself; then the first one drains the rings and closes the
- * engine. The images are numbered, so that each frame tells what was dropped before it. Prints one
- * line; ends with status 1 at the first thing that isn't as wanted. */
+ * Each thread finishes its sampler itself; the first one drains the rings and closes the engine, in
+ * every other pair of runs before it joins the threads. The images are numbered, so that each frame
+ * tells what was dropped before it. Prints one line; ends with status 1 at the first thing that
+ * isn't as wanted. */
 #include "nerthogal.h"
 #include <pthread.h>
 #include <stdio.h>
@@ -10,7 +11,7 @@
 
 #define CHANNELS 2
 #define TRIGGERS 400u
-#define PUMPS 200
+#define PUMPS 100
 #define TIMES 1000
 
 static void want(bool holds, const char *what) {
@@ -89,15 +90,27 @@ static void pump(ng_engine *engine) {
     look_at_all(len, pumped.frames);
 }
 
-/* One round of a drain. Answers whether something was left before it. */
+/* A round of a drain, or a pump while a sampler isn't finished. Answers whether there is more. */
 static bool drain(ng_engine *engine) {
     size_t len = 0;
     ng_pumped pumped;
     bool left = true;
-    want(ng_drain(engine, frames, sizeof frames, &len, &pumped, &left) == NG_OK, "drain");
+    ng_status status = ng_drain(engine, frames, sizeof frames, &len, &pumped, &left);
+    if (status == NG_UNFINISHED) {
+        pump(engine);
+        return true;
+    }
+    want(status == NG_OK, "drain");
     want(left == (pumped.taken > 0), "a round takes what was left before it");
     look_at_all(len, pumped.frames);
     return left;
+}
+
+static void join(pthread_t *threads) {
+    for (int c = 0; c < CHANNELS; c++) {
+        void *fault = NULL;
+        want(pthread_join(threads[c], &fault) == 0 && fault == NULL, "a sampler's thread");
+    }
 }
 
 /* Closes the engine, whose account says what the frames told. */
@@ -114,7 +127,7 @@ static void account(ng_engine *engine) {
     }
 }
 
-static void run(size_t cap) {
+static void run(size_t cap, bool joins) {
     const size_t caps[CHANNELS] = {cap, cap};
     ng_store store = NG_STORE_INIT;
     ng_engine engine = NG_ENGINE_INIT;
@@ -131,16 +144,14 @@ static void run(size_t cap) {
     for (int c = 0; c < CHANNELS; c++)
         want(pthread_create(&threads[c], NULL, sample, &samplers[c]) == 0, "thread");
     for (int k = 0; k < PUMPS; k++) pump(&engine);
-    for (int c = 0; c < CHANNELS; c++) {
-        void *fault = NULL;
-        want(pthread_join(threads[c], &fault) == 0 && fault == NULL, "a sampler's thread");
-    }
+    if (joins) join(threads);
     while (drain(&engine)) {}
     account(&engine);
+    if (!joins) join(threads);
 }
 
 int main(void) {
-    for (int k = 0; k < TIMES; k++) run(k % 2 == 0 ? 4 : 1024);
+    for (int k = 0; k < TIMES; k++) run(k % 2 == 0 ? 4 : 1024, k % 4 < 2);
     printf("two samplers in threads beside a transmitter: ok\n");
     return 0;
 }
