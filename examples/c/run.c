@@ -90,9 +90,8 @@ static uint64_t integer(void) {
 
 /* A string, which is ended in its place in the text. */
 static char *string(void) {
-    char *start = at + 1;
     if (!skip('"')) stop(2, "bad run: not toml");
-    start = at;
+    char *start = at;
     at += strcspn(at, "\"\n");
     if (*at != '"') stop(2, "bad run: not toml");
     *at++ = '\0';
@@ -117,6 +116,13 @@ static void read_caps(void) {
     }
 }
 
+static bool boolean(void) {
+    char room[8];
+    bool yes = strcmp(word(room, sizeof room), "true") == 0;
+    if (!yes && strcmp(room, "false") != 0) stop(2, "bad run: key");
+    return yes;
+}
+
 static void read_id(void) {
     const char *kind = string();
     if (strcmp(kind, "byte") == 0) id = NG_RELATIVE_BYTE;
@@ -125,7 +131,6 @@ static void read_id(void) {
 }
 
 static void read_value(const char *key) {
-    char room[8];
     if (strcmp(key, "channels") == 0) channels = integer();
     else if (strcmp(key, "image_len") == 0) image_len = integer();
     else if (strcmp(key, "stamp_size") == 0) stamp_size = integer();
@@ -133,9 +138,17 @@ static void read_value(const char *key) {
     else if (strcmp(key, "id") == 0) read_id();
     else if (strcmp(key, "setup") == 0) read_strings(&setup);
     else if (strcmp(key, "steps") == 0) read_strings(&steps);
-    else if (strcmp(key, "drain") == 0) drains = strcmp(word(room, sizeof room), "false") != 0;
+    else if (strcmp(key, "drain") == 0) drains = boolean();
     else if (strcmp(key, "ring") != 0) stop(2, "bad run: key");
     else if (strcmp(string(), "samples") != 0) stop(2, "the C library has no rings of bytes yet");
+}
+
+static void look_at_numbers(void) {
+    bool good = channels >= 1 && channels <= NG_MAX_CHANNELS && caps_len == channels;
+    good = good && image_len >= 1 && image_len <= NG_MAX_IMAGE;
+    good = good && (stamp_size == 1 || stamp_size == 2 || stamp_size == 4);
+    for (size_t c = 0; c < caps_len; c++) good = good && caps[c] >= 1 && caps[c] <= NG_MAX_RING;
+    if (!good) stop(2, "bad run: key");
 }
 
 static void read_run(const char *name) {
@@ -146,6 +159,7 @@ static void read_run(const char *name) {
         if (!skip('=')) stop(2, "bad run: not toml");
         read_value(key);
     }
+    look_at_numbers();
 }
 
 /* ---- strings of hexadecimal, and steps */
@@ -220,8 +234,8 @@ static void look_at_strings(void) {
 
 static uint8_t sent[16u << 20];
 static size_t sent_len;
-static uint16_t counter;  /* frames that were sent */
-static uint16_t replies;  /* of these, before the engine was opened */
+static uint16_t counter; /* of the next frame */
+static uint16_t replies; /* the frames before those of the engine */
 
 static void put(const uint8_t *from, size_t len) {
     want(sent_len + len <= sizeof sent, "no room for the frames");
