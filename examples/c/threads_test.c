@@ -3,6 +3,7 @@
  * every other pair of runs before it joins the threads. The images are numbered, so that each frame
  * tells what was dropped before it. Prints one line; ends with status 1 at the first thing that
  * isn't as wanted. */
+#include "memory.h"
 #include "nerthogal.h"
 #include <pthread.h>
 #include <stdio.h>
@@ -133,6 +134,7 @@ static void run(size_t cap, bool joins) {
     ng_engine engine = NG_ENGINE_INIT;
     ng_sampler samplers[CHANNELS] = {NG_SAMPLER_INIT, NG_SAMPLER_INIT};
     pthread_t threads[CHANNELS];
+    unsigned long held = memory_held;
     set_up(&store);
     want(ng_open(&store, caps, CHANNELS, &engine) == NG_OK, "open");
     want(ng_store_free(&store) == NG_OK, "free");
@@ -148,6 +150,7 @@ static void run(size_t cap, bool joins) {
     while (drain(&engine)) {}
     account(&engine);
     if (!joins) join(threads);
+    want(memory_held == held, "all memory was given back");
 }
 
 int main(void) {
