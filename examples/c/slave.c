@@ -63,7 +63,7 @@ typedef struct {
 static pthread_mutex_t lock = PTHREAD_MUTEX_INITIALIZER;
 static int running;
 
-/* Waits for the next period. A real task waits for its timer. */
+/* Waits for so many ticks of 20 microseconds. A real task waits for its timer. */
 static void wait_for(uint32_t ticks) {
     struct timespec span = {0, 20000L * (long)ticks};
     nanosleep(&span, NULL);
@@ -98,7 +98,7 @@ static void *run_task(void *argument) {
 
 /* ---- the transmitter */
 
-static FILE *file;             /* where the frames go, or NULL */
+static FILE *file;              /* where the frames go, or NULL */
 static unsigned long handed_on; /* frames */
 static uint8_t frames[NG_PUMP_BYTES];
 
@@ -185,8 +185,12 @@ static bool slave(void) {
 }
 
 int main(int count, char **words) {
-    if (count > 1 && (file = fopen(words[1], "wb")) == NULL) return 2;
+    if (count > 1 && (file = fopen(words[1], "wb")) == NULL) {
+        perror(words[1]);
+        return 2;
+    }
     bool good = slave();
     if (file != NULL && fclose(file) != 0) good = false;
+    if (!good) fprintf(stderr, "slave: failed\n");
     return good ? 0 : 1;
 }
