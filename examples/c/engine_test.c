@@ -613,9 +613,25 @@ static unsigned long refusals(ng_store *store, bool closes) {
     }
 }
 
+/* Once all samplers were handed out no memory is asked for. */
+static void no_sampler(ng_store *store) {
+    size_t caps[2] = {4, 4};
+    ng_engine engine = NG_ENGINE_INIT;
+    ng_sampler first = NG_SAMPLER_INIT, second = NG_SAMPLER_INIT, third = NG_SAMPLER_INIT;
+    want(ng_open(store, caps, 2, &engine) == NG_OK, "open");
+    want(ng_next_sampler(&engine, &first) == NG_OK, "sampler 0");
+    want(ng_next_sampler(&engine, &second) == NG_OK, "sampler 1");
+    memory_refuse_behind(0);
+    want(ng_next_sampler(&engine, &third) == NG_NO_SAMPLER, "this is looked at before memory");
+    want(ng_next_sampler(&engine, &first) == NG_IN_USE, "this too");
+    want(!memory_refused(), "no memory is asked for");
+    give_up(&engine, &first, &second, true);
+}
+
 static void no_memory(void) {
     ng_store store = two_lists();
     begin("want of memory");
+    no_sampler(&store);
     unsigned long count = refusals(&store, false);
     want(count > 8, "some were refused");
     want(refusals(&store, true) == count, "as many where the engines are closed");
