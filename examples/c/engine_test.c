@@ -63,18 +63,36 @@ static ng_store two_lists(void) {
 
 static uint8_t frames[NG_PUMP_BYTES];
 
-/* Pumps, and wants these frames, of which so many items were taken, and behind them nothing
- * written. */
-static void pump(ng_engine *engine, const char *wanted, unsigned taken, unsigned stopped) {
+/* Wants these frames, and behind them nothing written. Answers how many they are. */
+static unsigned want_frames(const char *wanted, size_t len) {
     static uint8_t bytes[NG_PUMP_BYTES];
-    size_t len = 77, wanted_len;
+    unsigned count = 0;
+    memset(bytes, UNWRITTEN, sizeof bytes);
+    want(len == unhex(wanted, bytes) && memcmp(frames, bytes, sizeof frames) == 0, wanted);
+    for (size_t at = 0; at < len; at += 4u + bytes[at]) count++;
+    return count;
+}
+
+/* Pumps, and wants these frames, of which so many items were taken. */
+static void pump(ng_engine *engine, const char *wanted, unsigned taken, unsigned stopped) {
+    size_t len = 77;
     ng_pumped pumped = {0x5555, 0x55, 0x55};
     memset(frames, UNWRITTEN, sizeof frames);
-    memset(bytes, UNWRITTEN, sizeof bytes);
-    wanted_len = unhex(wanted, bytes);
     want(ng_pump(engine, frames, sizeof frames, &len, &pumped) == NG_OK, "pump");
-    want(len == wanted_len && memcmp(frames, bytes, sizeof frames) == 0, wanted);
+    want(pumped.frames == want_frames(wanted, len), "how many frames the pump wrote");
     want(pumped.taken == taken && pumped.stopped == stopped, "what the pump took");
+}
+
+/* Drains a round, and wants these frames; where nothing is to be taken, nothing was left. */
+static void drain(ng_engine *engine, const char *wanted, unsigned taken, unsigned stopped) {
+    size_t len = 77;
+    ng_pumped pumped = {0x5555, 0x55, 0x55};
+    bool left = taken == 0;
+    memset(frames, UNWRITTEN, sizeof frames);
+    want(ng_drain(engine, frames, sizeof frames, &len, &pumped, &left) == NG_OK, "drain");
+    want(pumped.frames == want_frames(wanted, len), "how many frames the drain wrote");
+    want(pumped.taken == taken && pumped.stopped == stopped, "what the drain took");
+    want(left == (taken > 0), "whether something was left before it");
 }
 
 static void trigger(ng_sampler *sampler, const char *image, unsigned due, unsigned accepted) {
@@ -290,64 +308,349 @@ static void forms(void) {
     end();
 }
 
-/* Each allocation of an opening and of its samplers is refused in turn. */
-static void no_memory(void) {
+/* A drain that is refused with this status: all is as it was. */
+static void no_drain(ng_engine *engine, size_t cap, ng_status status) {
+    for (unsigned k = 0; k < 2; k++) {
+        size_t len = 77;
+        ng_pumped pumped = {7, 7, 7};
+        bool left = k == 1;
+        memset(frames, UNWRITTEN, sizeof frames);
+        want(ng_drain(engine, frames, cap, &len, &pumped, &left) == status, "drain");
+        want(len == 77 && left == (k == 1), "nothing is written");
+        want(pumped.stopped == 7 && pumped.taken == 7 && pumped.frames == 7, "nothing is written");
+        for (size_t i = 0; i < sizeof frames; i++) want(frames[i] == UNWRITTEN, "the buffer stays");
+    }
+}
+
+/* Room for an account with one line more than it needs, and what stands in it before. */
+#define ROOM (NG_MAX_LISTS + 1)
+static const ng_line unwritten = {0xA5, 11, 22, 33, 44};
+static ng_line lines[ROOM];
+
+static bool same_line(const ng_line *one, const ng_line *other) {
+    return one->list == other->list && one->due == other->due && one->written == other->written
+           && one->dropped == other->dropped && one->left == other->left;
+}
+
+/* Wants these lines, in whose number they rise and add up, and behind them nothing written. */
+static void want_lines(const ng_line *wanted, size_t count) {
+    for (size_t k = 0; k < ROOM; k++)
+        want(same_line(&lines[k], k < count ? &wanted[k] : &unwritten), "a line of the account");
+    for (size_t k = 0; k < count; k++) {
+        want(k == 0 || lines[k - 1].list < lines[k].list, "the lines rise");
+        want(lines[k].due == lines[k].written + lines[k].dropped + lines[k].left, "they add up");
+    }
+}
+
+static void unwrite_lines(void) {
+    for (size_t k = 0; k < ROOM; k++) lines[k] = unwritten;
+}
+
+/* A closing that is refused with this status: all is as it was. */
+static void no_close(ng_engine *engine, size_t cap, ng_status status) {
+    for (unsigned k = 0; k < 2; k++) {
+        ng_report report = {77, k == 1};
+        unwrite_lines();
+        want(ng_close(engine, lines, cap, &report) == status, "close");
+        want(report.lines == 77 && report.failed == (k == 1), "nothing is written");
+        want_lines(NULL, 0);
+    }
+}
+
+/* Closes an engine, and wants this account; with room for the most lines, or for one more. */
+static void close_with(ng_engine *engine, size_t cap, const ng_line *wanted, size_t count) {
+    ng_report report = {77, true};
+    size_t len = 77;
+    ng_pumped pumped = {7, 7, 7};
+    unwrite_lines();
+    want(ng_close(engine, lines, cap, &report) == NG_OK, "close");
+    want(report.lines == count && !report.failed, "the rest of the account");
+    want_lines(wanted, count);
+    no_close(engine, ROOM, NG_EMPTY);
+    no_drain(engine, sizeof frames, NG_EMPTY);
+    want(ng_pump(engine, frames, sizeof frames, &len, &pumped) == NG_EMPTY, "pump once closed");
+    want(len == 77 && pumped.taken == 7, "nothing is written");
+    want(ng_engine_free(engine) == NG_EMPTY, "free once closed");
+}
+
+/* The calls of a sampler that was finished find an empty handle. */
+static void is_empty(ng_sampler *sampler) {
+    uint8_t image[2] = {0};
+    ng_taken taken = {7, 7, 7};
+    ng_counts told = {7, 7, 7};
+    want(ng_trigger(sampler, image, 2, 0, &taken) == NG_EMPTY && taken.due == 7, "trigger");
+    want(ng_start(sampler, 0) == NG_EMPTY && ng_stop(sampler, 0) == NG_EMPTY, "start, stop");
+    want(ng_counts_of(sampler, 0, &told) == NG_EMPTY && told.due == 7, "counts");
+    want(ng_finish(sampler) == NG_EMPTY, "finish again");
+    want(ng_sampler_free(sampler) == NG_EMPTY, "free");
+}
+
+static void finish(ng_sampler *sampler) {
+    want(ng_finish(sampler) == NG_OK, "finish");
+    is_empty(sampler);
+}
+
+static void finishing(void) {
+    static const ng_line account[] = {{0, 2, 1, 0, 1}};
+    ng_store store = one_list();
+    ng_engine engine = NG_ENGINE_INIT;
+    ng_sampler sampler = NG_SAMPLER_INIT;
+    size_t cap = 2;
+    begin("the end: samplers are finished");
+    want(ng_finish(&sampler) == NG_EMPTY, "no sampler");
+    want(ng_open(&store, &cap, 1, &engine) == NG_OK, "open");
+    want(ng_next_sampler(&engine, &sampler) == NG_OK, "sampler");
+    trigger(&sampler, "aabb", 1, 1);
+    trigger(&sampler, "ccdd", 1, 1);
+    finish(&sampler);
+    want(ng_next_sampler(&engine, &sampler) == NG_NO_SAMPLER, "it isn't handed out again");
+    pump(&engine, "0300000000aabb", 1, 0);
+    close_with(&engine, NG_MAX_LISTS, account, 1);
+    want(ng_next_sampler(&engine, &sampler) == NG_EMPTY, "no engine");
+
+    want(ng_open(&store, &cap, 1, &engine) == NG_OK, "the handle is filled again");
+    want(ng_next_sampler(&engine, &sampler) == NG_OK, "and that of the sampler");
+    trigger(&sampler, "aabb", 1, 1);
+    want(ng_engine_free(&engine) == NG_OK, "the engine is freed first");
+    want(ng_finish(&sampler) == NG_NO_ENGINE, "no engine to go back to");
+    is_empty(&sampler);
+
+    want(ng_open(&store, &cap, 1, &engine) == NG_OK, "open");
+    want(ng_next_sampler(&engine, &sampler) == NG_OK, "sampler");
+    trigger(&sampler, "aabb", 1, 1);
+    finish(&sampler);
+    want(ng_engine_free(&engine) == NG_OK, "an engine may be freed in the place of closing it");
+    want(ng_store_free(&store) == NG_OK, "free");
+    end();
+}
+
+/* What is answered while one of two samplers is there still. */
+static void is_unfinished(ng_engine *engine) {
+    no_drain(engine, NG_PUMP_BYTES - 1, NG_SMALL_BUFFER);
+    no_drain(engine, 0, NG_SMALL_BUFFER);
+    no_drain(engine, sizeof frames, NG_UNFINISHED);
+    no_close(engine, NG_MAX_LISTS - 1, NG_SMALL_BUFFER);
+    no_close(engine, 0, NG_SMALL_BUFFER);
+    no_close(engine, NG_MAX_LISTS, NG_UNFINISHED);
+}
+
+static void unfinished(void) {
+    static const ng_line account[] = {{0, 1, 0, 0, 1}, {1, 1, 0, 0, 1}};
     ng_store store = two_lists();
+    ng_engine engine = NG_ENGINE_INIT;
+    ng_sampler first = NG_SAMPLER_INIT, second = NG_SAMPLER_INIT;
     size_t caps[2] = {4, 4};
-    unsigned long refusals = 0;
-    begin("want of memory");
+    begin("the end: an engine one of whose samplers isn't finished");
+    no_drain(&engine, 0, NG_EMPTY);
+    no_close(&engine, 0, NG_EMPTY);
+    for (unsigned k = 0; k < 2; k++) {
+        want(ng_open(&store, caps, 2, &engine) == NG_OK, "open");
+        is_unfinished(&engine); /* both are in the engine */
+        want(ng_next_sampler(&engine, &first) == NG_OK, "channel 0");
+        is_unfinished(&engine);
+        trigger(&first, "a1", 1, 1);
+        if (k == 0) finish(&first);
+        is_unfinished(&engine); /* one is in the engine */
+        want(ng_next_sampler(&engine, &second) == NG_OK, "channel 1");
+        trigger(&second, "b1", 2, 2);
+        is_unfinished(&engine);
+        finish(k == 0 ? &second : &first);
+        if (k == 1) is_unfinished(&engine); /* one is handed out */
+        if (k == 1) finish(&second);
+        no_drain(&engine, NG_PUMP_BYTES - 1, NG_SMALL_BUFFER);
+        no_close(&engine, NG_MAX_LISTS - 1, NG_SMALL_BUFFER);
+        close_with(&engine, NG_MAX_LISTS, account, 2);
+    }
+    want(ng_open(&store, caps, 2, &engine) == NG_OK, "open");
+    want(ng_next_sampler(&engine, &first) == NG_OK, "channel 0");
+    want(ng_next_sampler(&engine, &second) == NG_OK, "channel 1");
+    trigger(&second, "b1", 2, 2);
+    want(ng_sampler_free(&first) == NG_OK, "one is freed, and not finished");
+    finish(&second);
+    is_unfinished(&engine);
+    pump(&engine, "0200000001b1", 1, 0);
+    want(ng_engine_free(&engine) == NG_OK && ng_store_free(&store) == NG_OK, "free");
+    end();
+}
+
+/* The rounds of a drain are those of pumps, whichever sampler was finished first. */
+static void rounds(void) {
+    static const ng_line account[] = {{0, 3, 3, 0, 0}, {1, 3, 2, 1, 0}};
+    ng_store store = two_lists();
+    size_t caps[2] = {3, 2};
+    begin("the end: rings are drained in rounds");
+    for (unsigned k = 0; k < 4; k++) {
+        ng_engine engine = NG_ENGINE_INIT;
+        ng_sampler first = NG_SAMPLER_INIT, second = NG_SAMPLER_INIT;
+        want(ng_open(&store, caps, 2, &engine) == NG_OK, "open");
+        want(ng_next_sampler(&engine, &first) == NG_OK, "channel 0");
+        want(ng_next_sampler(&engine, &second) == NG_OK, "channel 1");
+        trigger(&first, "a1", 1, 1);
+        trigger(&first, "a2", 1, 1);
+        trigger(&second, "b1", 2, 2);
+        if (k < 2) pump(&engine, "0200000000a1" "0200010001b1", 2, 0);
+        trigger(&second, "b2", 2, 2);
+        if (k < 2) want(ng_stop(&second, 1) == NG_OK, "stop");
+        if (k < 2) want(ng_start(&second, 1) == NG_OK, "start");
+        trigger(&second, "b3", 2, 0);
+        trigger(&first, "a3", 1, 1);
+        finish(k % 2 == 0 ? &second : &first);
+        finish(k % 2 == 0 ? &first : &second);
+        if (k >= 2) pump(&engine, "0200000000a1" "0200010001b1", 2, 0); /* pumps go on */
+        drain(&engine, "0200020000a2" "0200030001b2", 2, 0);
+        if (k < 2) drain(&engine, "0200040000a3", 2, 2); /* and the stop of list 1 */
+        else drain(&engine, "0200040000a3", 1, 0);
+        drain(&engine, "", 0, 0);
+        drain(&engine, "", 0, 0);
+        pump(&engine, "", 0, 0);
+        close_with(&engine, ROOM, account, 2);
+    }
+    want(ng_store_free(&store) == NG_OK, "free");
+    end();
+}
+
+/* Images of one byte, and four DAQ lists: list 0 of event channel 1; list 1 of event channel 0 with
+ * a prescaler of 2; list 2 of event channel 0, which is ready and doesn't run; and list 3, which
+ * isn't ready. */
+static ng_store crossed_lists(void) {
+    static const char *const packets[] = {
+        "d5000400",         "d400000001",       "d400010001",       "d400020001",
+        "d30000000001",     "d30001000001",     "d30002000001",     "e20000000000",
+        "e1ff010000000000", "e000000001000100", "e20001000000",     "e1ff010000000000",
+        "e000010000000200", "e20002000000",     "e1ff010000000000", "e000020000000100",
+        "de010000",         "de010100"};
+    ng_store store = NG_STORE_INIT;
+    want(ng_store_new(2, 1, NG_ABSOLUTE, 4, &store) == NG_OK, "new");
+    for (size_t k = 0; k < sizeof packets / sizeof packets[0]; k++) send(&store, packets[k]);
+    return store;
+}
+
+/* The account of the same triggers behind 0 to 3 rounds of a drain. */
+static void accounts(void) {
+    static const ng_line account[][3] = {
+        {{0, 3, 1, 1, 1}, {1, 4, 1, 1, 2}, {2, 0, 0, 0, 0}},
+        {{0, 3, 2, 1, 0}, {1, 4, 2, 1, 1}, {2, 0, 0, 0, 0}},
+        {{0, 3, 2, 1, 0}, {1, 4, 3, 1, 0}, {2, 0, 0, 0, 0}},
+        {{0, 3, 2, 1, 0}, {1, 4, 3, 1, 0}, {2, 0, 0, 0, 0}},
+    };
+    ng_store store = crossed_lists();
+    size_t caps[2] = {2, 1};
+    begin("the end: accounts, a line for each list in rising number");
+    for (unsigned k = 0; k < 4; k++) {
+        ng_engine engine = NG_ENGINE_INIT;
+        ng_sampler first = NG_SAMPLER_INIT, second = NG_SAMPLER_INIT;
+        want(ng_open(&store, caps, 2, &engine) == NG_OK, "open");
+        want(ng_next_sampler(&engine, &first) == NG_OK, "channel 0");
+        want(ng_next_sampler(&engine, &second) == NG_OK, "channel 1");
+        trigger(&first, "a1", 2, 2);
+        trigger(&first, "a2", 0, 0);
+        trigger(&first, "a3", 2, 2);
+        trigger(&first, "a4", 0, 0);
+        trigger(&first, "a5", 2, 0);
+        trigger(&second, "b1", 1, 1);
+        trigger(&second, "b2", 1, 0);
+        pump(&engine, "0200000001a1" "0200010000b1", 2, 0);
+        trigger(&second, "b3", 1, 1);
+        trigger(&first, "a6", 0, 0);
+        trigger(&first, "a7", 2, 2);
+        finish(&second);
+        finish(&first);
+        if (k > 0) drain(&engine, "0200020001a3" "0200030080b3", 2, 0);
+        if (k > 1) drain(&engine, "0200040081a7", 1, 0);
+        if (k > 2) drain(&engine, "", 0, 0);
+        close_with(&engine, k % 2 == 0 ? NG_MAX_LISTS : ROOM, account[k], 3);
+    }
+    want(ng_store_free(&store) == NG_OK, "free");
+    end();
+}
+
+/* Frees an engine with its two samplers; or finishes these, and closes it. */
+static void give_up(ng_engine *engine, ng_sampler *first, ng_sampler *second, bool closes) {
+    static const ng_line account[] = {{0, 0, 0, 0, 0}, {1, 0, 0, 0, 0}};
+    if (!closes) {
+        want(ng_engine_free(engine) == NG_OK, "free");
+        want(ng_sampler_free(first) == NG_OK && ng_sampler_free(second) == NG_OK, "free");
+        return;
+    }
+    finish(first);
+    finish(second);
+    drain(engine, "", 0, 0);
+    close_with(engine, NG_MAX_LISTS, account, 2);
+}
+
+/* Each allocation of an opening and of its samplers is refused in turn. Answers how many. */
+static unsigned long refusals(ng_store *store, bool closes) {
+    size_t caps[2] = {4, 4};
     for (unsigned long k = 0;; k++) {
         ng_engine engine = NG_ENGINE_INIT;
         ng_sampler first = NG_SAMPLER_INIT, second = NG_SAMPLER_INIT;
         unsigned long held = memory_held;
         memory_refuse_behind(k);
-        ng_status opened = ng_open(&store, caps, 2, &engine);
+        ng_status opened = ng_open(store, caps, 2, &engine);
+        unsigned long before = memory_held;
         ng_status one = opened == NG_OK ? ng_next_sampler(&engine, &first) : NG_OK;
+        if (one == NG_MEMORY) want(before == memory_held, "what was had is given back");
+        before = memory_held;
         ng_status two = opened == NG_OK ? ng_next_sampler(&engine, &second) : NG_OK;
+        if (two == NG_MEMORY) want(before == memory_held, "what was had is given back");
         bool refused = memory_refused();
         unsigned long lacking = (opened == NG_MEMORY) + (one == NG_MEMORY) + (two == NG_MEMORY);
         want(lacking == (refused ? 1u : 0u), "want of memory is answered once, where it was met");
-        if (opened == NG_MEMORY) want(held == memory_held, "what was had is given back");
-        if (opened == NG_MEMORY) want(ng_open(&store, caps, 2, &engine) == NG_OK, "open again");
-        if (opened == NG_MEMORY || one == NG_MEMORY || two == NG_MEMORY) {
-            refusals++;
-            /* the sampler that wasn't handed out comes next, and is that of its channel */
-            bool first_is_out = opened == NG_OK && one == NG_OK;
-            if (!first_is_out && two != NG_OK)
-                want(ng_next_sampler(&engine, &first) == NG_OK, "sampler 0");
-            if (!first_is_out && two == NG_OK && opened == NG_OK) {
-                /* the second handle has the sampler of channel 0 then */
-                want(ng_start(&second, 1) == NG_NOT_OF_CHANNEL, "it is that of channel 0");
-                want(ng_next_sampler(&engine, &first) == NG_OK, "sampler 1");
-                want(ng_start(&first, 0) == NG_NOT_OF_CHANNEL, "it is that of channel 1");
-            } else if (opened == NG_MEMORY) {
-                want(ng_next_sampler(&engine, &first) == NG_OK, "sampler 0");
-                want(ng_next_sampler(&engine, &second) == NG_OK, "sampler 1");
-                want(ng_start(&first, 1) == NG_NOT_OF_CHANNEL, "it is that of channel 0");
-            } else {
-                want(ng_next_sampler(&engine, &second) == NG_OK, "sampler 1");
-                want(ng_start(&second, 0) == NG_NOT_OF_CHANNEL, "it is that of channel 1");
-            }
+        if (opened == NG_MEMORY) {
+            want(held == memory_held, "what was had is given back");
+            want(ng_open(store, caps, 2, &engine) == NG_OK, "open again");
+            want(ng_next_sampler(&engine, &first) == NG_OK, "sampler 0");
+            want(ng_next_sampler(&engine, &second) == NG_OK, "sampler 1");
         }
-        want(ng_engine_free(&engine) == NG_OK, "free");
-        want(ng_sampler_free(&first) == NG_OK && ng_sampler_free(&second) == NG_OK, "free");
+        /* the sampler that wasn't handed out comes next, and is that of its channel */
+        if (one == NG_MEMORY) want(ng_next_sampler(&engine, &first) == NG_OK, "sampler 1");
+        if (two == NG_MEMORY) want(ng_next_sampler(&engine, &second) == NG_OK, "sampler 1");
+        want(ng_start(one == NG_MEMORY ? &second : &first, 1) == NG_NOT_OF_CHANNEL, "channel 0");
+        want(ng_start(one == NG_MEMORY ? &first : &second, 0) == NG_NOT_OF_CHANNEL, "channel 1");
+        give_up(&engine, &first, &second, closes);
         want(held == memory_held, "all is given back");
-        if (!refused) break;
+        if (!refused) return k;
     }
-    want(refusals > 4, "some were refused");
+}
+
+/* Once all samplers were handed out no memory is asked for. */
+static void no_sampler(ng_store *store) {
+    size_t caps[2] = {4, 4};
+    ng_engine engine = NG_ENGINE_INIT;
+    ng_sampler first = NG_SAMPLER_INIT, second = NG_SAMPLER_INIT, third = NG_SAMPLER_INIT;
+    want(ng_open(store, caps, 2, &engine) == NG_OK, "open");
+    want(ng_next_sampler(&engine, &first) == NG_OK, "sampler 0");
+    want(ng_next_sampler(&engine, &second) == NG_OK, "sampler 1");
+    memory_refuse_behind(0);
+    want(ng_next_sampler(&engine, &third) == NG_NO_SAMPLER, "this is looked at before memory");
+    want(ng_next_sampler(&engine, &first) == NG_IN_USE, "this too");
+    want(!memory_refused(), "no memory is asked for");
+    give_up(&engine, &first, &second, true);
+}
+
+static void no_memory(void) {
+    ng_store store = two_lists();
+    begin("want of memory");
+    no_sampler(&store);
+    unsigned long count = refusals(&store, false);
+    want(count > 8, "some were refused");
+    want(refusals(&store, true) == count, "as many where the engines are closed");
     want(ng_store_free(&store) == NG_OK, "free");
     end();
 }
 
 static void long_run(void) {
+    static const ng_line account[] = {{0, 100100, 100063, 37, 0}};
+    unsigned long before = memory_held;
     ng_store store = one_list();
     ng_engine engine = NG_ENGINE_INIT;
     ng_sampler sampler = NG_SAMPLER_INIT;
     size_t cap = 64, len = 0;
     ng_taken taken;
     ng_pumped pumped;
+    ng_report report = {77, true};
     unsigned long whole = 0;
-    begin("a hundred thousand triggers and pumps ask for no memory");
+    begin("a hundred thousand triggers and pumps, and the end, ask for no memory");
     want(ng_open(&store, &cap, 1, &engine) == NG_OK, "open");
     want(ng_next_sampler(&engine, &sampler) == NG_OK, "sampler");
     unsigned long asked = memory_asked, held = memory_held;
@@ -364,7 +667,21 @@ static void long_run(void) {
     want(asked == memory_asked && held == memory_held, "none was asked for, none given back");
     want(whole == 100000, "a frame for each trigger");
     counts(&sampler, 0, 100000, 0);
-    free_all(&store, &engine, &sampler);
+    for (uint32_t k = 0; k < 100; k++) {
+        uint8_t image[2] = {0xEE, (uint8_t)k};
+        want(ng_trigger(&sampler, image, 2, k, &taken) == NG_OK, "trigger");
+    }
+    want(ng_finish(&sampler) == NG_OK, "finish");
+    for (bool left = true; left; whole += pumped.frames)
+        want(ng_drain(&engine, frames, sizeof frames, &len, &pumped, &left) == NG_OK, "drain");
+    want(whole == 100063, "what had room behind the stop was drained");
+    unwrite_lines();
+    want(ng_close(&engine, lines, NG_MAX_LISTS, &report) == NG_OK, "close");
+    want(asked == memory_asked, "none was asked for at the end");
+    want(report.lines == 1 && !report.failed, "the rest of the account");
+    want_lines(account, 1);
+    want(ng_store_free(&store) == NG_OK, "free");
+    want(before == memory_held, "all is given back");
     end();
 }
 
@@ -379,6 +696,10 @@ int main(void) {
     small_buffers();
     two_channels();
     forms();
+    finishing();
+    unfinished();
+    rounds();
+    accounts();
     no_memory();
     long_run();
     begin("all memory was given back");

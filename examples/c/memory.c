@@ -12,6 +12,11 @@ static bool refuses;
 static bool refused;
 static unsigned long left;
 
+/* Threads may give blocks back at the same time: ng_finish does. */
+static void add(unsigned long *count, long more) {
+    __atomic_fetch_add(count, (unsigned long)more, __ATOMIC_SEQ_CST);
+}
+
 void memory_refuse_behind(unsigned long blocks) {
     refuses = true;
     refused = false;
@@ -25,7 +30,7 @@ bool memory_refused(void) {
 
 /* Whether this call is refused. */
 static bool refuse(void) {
-    memory_asked++;
+    add(&memory_asked, 1);
     if (!refuses || refused) return false;
     if (left == 0) {
         refused = true;
@@ -38,18 +43,18 @@ static bool refuse(void) {
 void *__wrap_malloc(size_t bytes) {
     if (refuse()) return NULL;
     void *block = __real_malloc(bytes);
-    if (block != NULL) memory_held++;
+    if (block != NULL) add(&memory_held, 1);
     return block;
 }
 
 void *__wrap_realloc(void *block, size_t bytes) {
     if (refuse()) return NULL;
     void *moved = __real_realloc(block, bytes);
-    if (moved != NULL && block == NULL) memory_held++;
+    if (moved != NULL && block == NULL) add(&memory_held, 1);
     return moved;
 }
 
 void __wrap_free(void *block) {
-    if (block != NULL) memory_held--;
+    if (block != NULL) add(&memory_held, -1);
     __real_free(block);
 }

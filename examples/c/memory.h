@@ -1,5 +1,6 @@
 /* The program's malloc, realloc and free, counted and refused. Link with
- * -Wl,--wrap=malloc,--wrap=realloc,--wrap=free. */
+ * -Wl,--wrap=malloc,--wrap=realloc,--wrap=free. Blocks may be had and given back in any thread;
+ * read the counts, and refuse, while one thread runs alone. */
 #ifndef MEMORY_H
 #define MEMORY_H
 

@@ -1,6 +1,9 @@
 /* Two samplers in threads of their own, beside a transmitter in the first thread, many times over.
- * The images are numbered, so that each frame tells what was dropped before it. Prints one line;
- * ends with status 1 at the first thing that isn't as wanted. */
+ * Each thread finishes its sampler itself; the first one drains the rings and closes the engine, in
+ * every other pair of runs before it joins the threads. The images are numbered, so that each frame
+ * tells what was dropped before it. Prints one line; ends with status 1 at the first thing that
+ * isn't as wanted. */
+#include "memory.h"
 #include "nerthogal.h"
 #include <pthread.h>
 #include <stdio.h>
@@ -8,8 +11,9 @@
 #include <string.h>
 
 #define CHANNELS 2
-#define TRIGGERS 2000u
-#define TIMES 100
+#define TRIGGERS 400u
+#define PUMPS 100
+#define TIMES 1000
 
 static void want(bool holds, const char *what) {
     if (holds) return;
@@ -47,7 +51,7 @@ static void set_up(ng_store *store) {
     }
 }
 
-/* Takes triggers by the sampler that it is handed. */
+/* Takes triggers by the sampler that it is handed, and finishes it. */
 static void *sample(void *argument) {
     ng_sampler *sampler = argument;
     for (uint32_t k = 0; k < TRIGGERS; k++) {
@@ -56,7 +60,7 @@ static void *sample(void *argument) {
         if (ng_trigger(sampler, image, 4, 0, &taken) != NG_OK) return argument;
         if ((taken.accepted | taken.dropped) != taken.due) return argument;
     }
-    return NULL;
+    return ng_finish(sampler) == NG_OK ? NULL : argument;
 }
 
 /* What the frames so far told. */
@@ -73,25 +77,67 @@ static void look_at(const uint8_t *frame) {
     next[list] = number + 1;
 }
 
-/* One pump. Answers how many items it took. */
-static unsigned pump(ng_engine *engine) {
-    static uint8_t frames[NG_PUMP_BYTES];
+static uint8_t frames[NG_PUMP_BYTES];
+
+static void look_at_all(size_t len, unsigned count) {
+    want(len == 9u * count, "whole frames");
+    for (size_t at = 0; at < len; at += 9) look_at(frames + at);
+}
+
+static void pump(ng_engine *engine) {
     size_t len = 0;
     ng_pumped pumped;
     want(ng_pump(engine, frames, sizeof frames, &len, &pumped) == NG_OK, "pump");
-    want(len == 9u * pumped.frames, "whole frames");
-    for (size_t at = 0; at < len; at += 9) look_at(frames + at);
-    return pumped.taken;
+    look_at_all(len, pumped.frames);
 }
 
-static void run(size_t cap) {
+/* A round of a drain, or a pump while a sampler isn't finished. Answers whether there is more. */
+static bool drain(ng_engine *engine) {
+    size_t len = 0;
+    ng_pumped pumped;
+    bool left = true;
+    ng_status status = ng_drain(engine, frames, sizeof frames, &len, &pumped, &left);
+    if (status == NG_UNFINISHED) {
+        pump(engine);
+        return true;
+    }
+    want(status == NG_OK, "drain");
+    want(left == (pumped.taken > 0), "a round takes what was left before it");
+    look_at_all(len, pumped.frames);
+    return left;
+}
+
+static void join(pthread_t *threads) {
+    for (int c = 0; c < CHANNELS; c++) {
+        void *fault = NULL;
+        want(pthread_join(threads[c], &fault) == 0 && fault == NULL, "a sampler's thread");
+    }
+}
+
+/* Closes the engine, whose account says what the frames told. */
+static void account(ng_engine *engine) {
+    ng_line lines[NG_MAX_LISTS];
+    ng_report report;
+    want(ng_close(engine, lines, NG_MAX_LISTS, &report) == NG_OK, "close");
+    want(report.lines == CHANNELS && !report.failed, "the rest of the account");
+    for (size_t l = 0; l < CHANNELS; l++) {
+        want(lines[l].list == l && lines[l].due == TRIGGERS, "due");
+        want(lines[l].due == lines[l].written + lines[l].dropped + lines[l].left, "it adds up");
+        want(lines[l].left == 0, "nothing is left behind a drain");
+        want(lines[l].written == received[l], "what was written was received");
+    }
+}
+
+static void run(size_t cap, bool joins) {
     const size_t caps[CHANNELS] = {cap, cap};
     ng_store store = NG_STORE_INIT;
     ng_engine engine = NG_ENGINE_INIT;
     ng_sampler samplers[CHANNELS] = {NG_SAMPLER_INIT, NG_SAMPLER_INIT};
     pthread_t threads[CHANNELS];
+    unsigned long held = memory_held;
     set_up(&store);
     want(ng_open(&store, caps, CHANNELS, &engine) == NG_OK, "open");
+    want(ng_store_free(&store) == NG_OK, "free");
     counter = 0;
     for (int c = 0; c < CHANNELS; c++) {
         received[c] = next[c] = 0;
@@ -99,25 +145,16 @@ static void run(size_t cap) {
     }
     for (int c = 0; c < CHANNELS; c++)
         want(pthread_create(&threads[c], NULL, sample, &samplers[c]) == 0, "thread");
-    for (int k = 0; k < 1000; k++) pump(&engine);
-    for (int c = 0; c < CHANNELS; c++) {
-        void *fault = NULL;
-        want(pthread_join(threads[c], &fault) == 0 && fault == NULL, "a sampler's thread");
-    }
-    while (pump(&engine) > 0) {}
-    for (int c = 0; c < CHANNELS; c++) {
-        ng_counts counts;
-        want(ng_counts_of(&samplers[c], (uint8_t)c, &counts) == NG_OK, "counts");
-        want(counts.due == TRIGGERS, "due");
-        want(counts.due == counts.accepted + counts.dropped, "due is accepted and dropped");
-        want(counts.accepted == received[c], "what was accepted was received");
-        want(ng_sampler_free(&samplers[c]) == NG_OK, "free");
-    }
-    want(ng_engine_free(&engine) == NG_OK && ng_store_free(&store) == NG_OK, "free");
+    for (int k = 0; k < PUMPS; k++) pump(&engine);
+    if (joins) join(threads);
+    while (drain(&engine)) {}
+    account(&engine);
+    if (!joins) join(threads);
+    want(memory_held == held, "all memory was given back");
 }
 
 int main(void) {
-    for (int k = 0; k < TIMES; k++) run(k % 2 == 0 ? 4 : 1024);
+    for (int k = 0; k < TIMES; k++) run(k % 2 == 0 ? 4 : 1024, k % 4 < 2);
     printf("two samplers in threads beside a transmitter: ok\n");
     return 0;
 }
