@@ -307,7 +307,8 @@ ng_status ng_finish(ng_sampler *sampler);
  *
  *   NG_EMPTY                       *engine is empty
  *   NG_SMALL_BUFFER                buffer_cap is below NG_PUMP_BYTES
- *   NG_UNFINISHED                  a sampler wasn't handed out yet, or is not finished
+ *   NG_UNFINISHED                  a sampler wasn't handed out yet, or is not finished; it may
+ *                                  be in another thread, and be asked for again later
  *   NG_CLOSED, NG_SPENT, NG_FAILED as ng_pump says them, where something was left
  *   NG_OK                          where something was left, *left is true and *pumped says what
  *                                  was taken; else *left is false, and *len and *pumped are 0
@@ -315,7 +316,7 @@ ng_status ng_finish(ng_sampler *sampler);
  * They are looked for in this order. On the first three nothing is taken, and buffer, *len, *pumped
  * and *left are as they were. On the others *left says whether something was left before the pump.
  * Proved: all of this, and that nothing is left of all that was sent where *left is false. The
- * tests find no memory asked for. */
+ * tests find no memory asked for. Calls free. */
 ng_status ng_drain(ng_engine *engine, uint8_t *buffer, size_t buffer_cap, size_t *len,
                    ng_pumped *pumped, bool *left);
 
