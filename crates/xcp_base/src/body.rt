@@ -113,7 +113,8 @@ fn put_runs(cells: &mut [u8; MAX_BODY], start: usize, image: &[u8], runs: &[Run]
     at
 }
 
-/// Writes bytes from a place on: those of the sizes that most entries have by their size.
+/// Writes bytes from a place on: those of the sizes that most entries, and identification fields,
+/// have by their size.
 #[inline]
 fn put_by_size(cells: &mut [u8; MAX_BODY], start: usize, bytes: &[u8])
     requires room { start + length bytes.now ≤ MAX_BODY }
@@ -129,6 +130,10 @@ fn put_by_size(cells: &mut [u8; MAX_BODY], start: usize, bytes: &[u8])
     }
     if bytes.len() == 1 {
         put(cells, start, &bytes[..1]);
+        return;
+    }
+    if bytes.len() == 3 {
+        put(cells, start, &bytes[..3]);
         return;
     }
     if bytes.len() == 8 {

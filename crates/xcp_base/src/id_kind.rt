@@ -53,11 +53,12 @@ impl IdKind {
         }
     }
 
-    /// The field with this PID, in a packet of this DAQ list: its first `field_len` bytes.
+    /// The field with this PID, in a packet of this DAQ list: its first `field_len` bytes. They are
+    /// stored as one number: where each is stored alone, a read of several at once has to wait.
     #[inline]
-    pub fn field(self, pid: u8, list: u8) -> [u8; MAX_FIELD]
+    pub fn field(self, pid: u8, list: u8) -> [u8; 4]
         ensures { take (field_len self) result ≡ pid ∷ list_field self list }
     {
-        [pid, list, 0]
+        u32::from_le_bytes([pid, list, 0, 0]).to_le_bytes()
     }
 }
