@@ -42,7 +42,8 @@ impl Model for Lending {
 }
 
 impl Lending {
-    ghost use Rattle.std.specs.Prelude.{◌≡◌, ◌<◌, [], IfOk, OnErr, false, length, map, option_map, true};
+    ghost use Rattle.std.specs.Prelude.{◌≡◌, ◌<◌, [], IfOk, OnErr, false, length, map, true};
+    ghost use Rattle.std.specs.Prelude.{option_map};
     ghost use Rattle.transmitter.specs.Looks.{KnowsNone, KnowsSome};
     ghost use Rattle.transmitter.specs.Written.{transmission};
     ghost use Rattle.nerthogal_c.specs.Lendings.{AreBack, LooksAtEnds, rings_in};
