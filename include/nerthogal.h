@@ -315,8 +315,9 @@ ng_status ng_finish(ng_sampler *sampler);
  *
  * They are looked for in this order. On the first three nothing is taken, and buffer, *len, *pumped
  * and *left are as they were. On the others *left says whether something was left before the pump.
- * Proved: all of this, and that nothing is left of all that was sent where *left is false. The
- * tests find no memory asked for. Calls free. */
+ * Proved: all of this, and that nothing is left of all that was sent where *left is false; but not
+ * that NG_UNFINISHED is answered only where it is due. The tests find this, and no memory asked
+ * for. Calls free. */
 ng_status ng_drain(ng_engine *engine, uint8_t *buffer, size_t buffer_cap, size_t *len,
                    ng_pumped *pumped, bool *left);
 
