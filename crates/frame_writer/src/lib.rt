@@ -7,6 +7,7 @@ pub mod laws;
 mod layout;
 mod out;
 mod reader;
+mod sink_out;
 mod std_out;
 mod together;
 mod vec_out;
@@ -14,8 +15,10 @@ mod writer;
 
 pub use byte_log::ByteLog;
 pub use fuse_out::FuseOut;
+pub use layout::MAX_TEXT;
 pub use out::{Out, OutFault};
 pub use reader::next_frame;
+pub use sink_out::SinkOut;
 pub use std_out::StdOut;
 pub use vec_out::VecOut;
 pub use writer::{FrameWriter, WriteFault};

@@ -1,8 +1,10 @@
 -- A pump that has had one more turn.
-use Rattle.std.proofs.Common.{◌≡◌, ℕ, zero, suc, ◌+◌, ◌*◌, ◌<◌, ◌≤◌, false, ◌||◌, cond, eqb, nat_eq, List, [], ◌∷◌, ◌++◌, length, Some, None, Ok, Err, refl, ap, ◌∙◌, subst, arith, append-nil, length-append, below_more, true, inl, inr, sym}
+use Rattle.std.proofs.Common.{◌≡◌, ℕ, zero, suc, ◌+◌, ◌*◌, ◌<◌, ◌≤◌, false, ◌||◌, cond, eqb, nat_eq, List, [], ◌∷◌, ◌++◌, length, Some, None, Ok, Err, refl, ap, ◌∙◌, subst, arith, append-nil, append_assoc, length-append, below_more, true, inl, inr, sym, Bool, Option, drop, take}
 use Rattle.std.specs.List.{AllByRecursion, list_any}
+use Rattle.std.specs.Option.{is_some}
 use Rattle.std.proofs.lemmas.List.Folds.{list_any-append}
 use Rattle.std.proofs.lemmas.Bool.{false≢true}
+use Rattle.std.proofs.lemmas.List.{drop-drop}
 use Rattle.std.proofs.lemmas.Bool.Decides.{eqb_tells, nat_tests}
 use Rattle.std.proofs.lemmas.Nat.Bits.{bit_at-zero}
 use Rattle.xcp_base.specs.Samples.{MarkParts, SampleParts}
@@ -10,6 +12,8 @@ use Rattle.xcp_base.specs.declared.item.Item.{Item}
 use Rattle.xcp_base.specs.declared.item.Item.TheVariants.{Marker, Sample}
 use Rattle.xcp_base.specs.Lists.{has_list}
 use Rattle.xcp_base.specs.declared.limits.TheConstants.{MAX_ODTS}
+use Rattle.frame_writer.specs.Shown.{OutState}
+use Rattle.frame_writer.specs.declared.layout.TheConstants.{MAX_TEXT}
 use Rattle.transmitter.specs.Items.{packets_of, samples}
 use Rattle.transmitter.specs.Merge.{AreRising, items_taken, of_ring, taken_from}
 use Rattle.transmitter.specs.Written.{TransmitterState}
@@ -185,3 +189,49 @@ last_turn a b c p s all can = record {
 -- a pump that is refused takes nothing
 pub refused : (a : TransmitterState) → Leads a [] a
 refused a = leads-none a a refl (takes-none a.received a.known) refl refl refl refl
+
+pub none_of : {X : Type 0} → (o : Option X) → is_some o ≡ false → o ≡ None
+none_of None e = refl
+none_of (Some x) e = absurd (false≢true (sym e))
+
+pub or_false : (b : Bool) → b ≡ (b || false)
+or_false true = refl
+or_false false = refl
+
+-- a set with one list more, which is the marker's
+pub one_stop : (old new list l k : ℕ) → l ≡ list → has_list new k ≡ (has_list old k || nat_eq l k) → has_list new k ≡ (has_list old k || (nat_eq list k || false))
+one_stop old new list l k is added = added ∙ (ap (λ n. has_list old k || nat_eq n k) is ∙ ap (λ b. has_list old k || b) (or_false (nat_eq list k)))
+
+-- behind the turns at the rings below c, what was written since then stands in the front of a buffer, and nothing else changed
+pub record Placed (before now : OutState) (start buffer : List ℕ) (end c : ℕ) : Type 0 where
+  pub within : end ≤ MAX_TEXT * c
+  pub frames : before.contents ++ take end buffer ≡ now.contents
+  pub behind : drop end buffer ≡ drop end start
+  pub len : length buffer ≡ length start
+
+-- before the first turn
+pub nothing_placed : (a : OutState) (start : List ℕ) → Placed a a start start 0 0
+nothing_placed a start = record { within = omega arith; frames = append-nil a.contents; behind = refl; len = refl }
+
+-- a turn that wrote nothing
+pub placed_none : (a b d : OutState) (start buffer : List ℕ) (end c : ℕ) → Placed a b start buffer end c → d ≡ b → Placed a d start buffer end (c + 1)
+placed_none a b d start buffer end c p same = record {
+  within = omega (arith, p.within);
+  frames = p.frames ∙ ap (λ (o : OutState). o.contents) (sym same);
+  behind = p.behind;
+  len = p.len;
+}
+
+-- a turn that wrote some text
+pub placed_text : (a b d : OutState) (start buffer new text : List ℕ) (end last c : ℕ) → Placed a b start buffer end c
+    → d.contents ≡ b.contents ++ text → length text ≤ MAX_TEXT → take last new ≡ take end buffer ++ text → last ≡ end + length text
+    → drop last new ≡ drop last buffer → length new ≡ length buffer → Placed a d start new last (c + 1)
+placed_text a b d start buffer new text end last c p wrote few front is behind len =
+    let same : drop (end + length text) buffer ≡ drop (end + length text) start =
+    sym (drop-drop (length text) end buffer) ∙ ap (drop (length text)) p.behind ∙ drop-drop (length text) end start in
+    record {
+      within = omega (arith, p.within, is, few);
+      frames = ap (λ t. a.contents ++ t) front ∙ sym (append_assoc a.contents (take end buffer) text) ∙ ap (λ t. t ++ text) p.frames ∙ sym wrote;
+      behind = behind ∙ ap (λ n. drop n buffer) is ∙ same ∙ ap (λ n. drop n start) (sym is);
+      len = len ∙ p.len;
+    }

@@ -5,9 +5,11 @@
 mod drain;
 mod faults;
 mod pumped;
+mod pumping;
 mod transmitter;
 mod turn;
 
 pub use faults::PumpFault;
 pub use pumped::Pumped;
+pub use pumping::MAX_PUMP;
 pub use transmitter::Transmitter;

@@ -1,7 +1,7 @@
 //! A turn of a pump at one ring.
-ghost use Rattle.std.specs.Prelude.{◌≡◌, ◌<◌, ◌↔◌, [], ◌∷◌, false, IsTrue, length, map, vec_len};
+ghost use Rattle.std.specs.Prelude.{◌≡◌, ◌<◌, ◌↔◌, [], ◌∷◌, ◌++◌, false, IsTrue, length, map, vec_len};
 ghost use mathlib.Core.List.{IsPrefix};
-ghost use Rattle.frame_writer.specs.Writing.{AfterText, state_of};
+ghost use Rattle.frame_writer.specs.Writing.{AfterText, last_text_of, state_of};
 ghost use Rattle.transmitter.specs.Merge.{Takes, of_ring};
 ghost use Rattle.transmitter.specs.Inner.Turns.{BeginsWithSample, HoldsFirst, TakesFirst};
 ghost use Rattle.transmitter.specs.Written.{BreaksWithin};
@@ -26,8 +26,9 @@ pub enum Turn {
 
 impl<O: Out, T: TakeEnd> Transmitter<O, T> {
     ghost use Rattle.std.specs.Prelude.{◌≡◌, ◌+◌, ◌^◌, ◌<◌, ◌≤◌, None, length, vec_len};
+    ghost use Rattle.frame_writer.specs.Writing.{last_text_of, state_of};
     ghost use Rattle.transmitter.specs.Written.{transmission};
-    ghost use Rattle.transmitter.specs.Inner.Turns.{TurnMeans};
+    ghost use Rattle.transmitter.specs.Inner.Turns.{TurnMeans, TurnWrites};
 
     /// Takes the next item of ring `c`, where one is there, and writes it where it is a sample.
     pub(crate) fn turn(&mut self, c: usize) -> Turn
@@ -37,6 +38,8 @@ impl<O: Out, T: TakeEnd> Transmitter<O, T> {
         ensures turn { TurnMeans c (transmission O.Out T.TakeEnd self.old)
             (transmission O.Out T.TakeEnd self.new) result }
         ensures as_many { vec_len self.new.ends ≡ vec_len self.old.ends }
+        ensures writes { TurnWrites (state_of O.Out self.old.writer).out
+            (state_of O.Out self.new.writer).out (last_text_of self.new.writer) result }
     {
         if !look_for(&mut self.ends, c) {
             return Turn::Nothing;
@@ -135,6 +138,8 @@ fn write_all<O: Out>(writer: &mut FrameWriter<O>, packets: &Packets) -> bool
         → AfterText (state_of O.Out writer.old) (state_of O.Out writer.new) packets.now }
     ensures part { result ≡ false
         → BreaksWithin (state_of O.Out writer.old) (state_of O.Out writer.new) packets.now }
+    ensures text { IsTrue result → (state_of O.Out writer.new).out.contents
+        ≡ (state_of O.Out writer.old).out.contents ++ last_text_of writer.new }
 {
     match writer.send_all(packets) {
         Ok(()) => true,

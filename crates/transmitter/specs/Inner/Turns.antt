@@ -1,5 +1,5 @@
 -- A pump's turn at one ring, and a look at the rings one by one.
-use Rattle.std.specs.Prelude.{ℕ, ◌<◌, ◌≤◌, ◌≡◌, List, [], ◌∷◌, length, map}
+use Rattle.std.specs.Prelude.{ℕ, ◌<◌, ◌≤◌, ◌≡◌, List, [], ◌∷◌, ◌++◌, length, map}
 use Rattle.std.specs.Prelude.{Option, None, Some}
 use mathlib.Core.List.{IsPrefix}
 use Rattle.xcp_base.specs.Samples.{SampleParts, MarkParts}
@@ -8,6 +8,7 @@ use Rattle.xcp_base.specs.declared.item.Item.TheVariants.{Sample, Marker}
 use Rattle.xcp_base.specs.declared.limits.TheConstants.{MAX_LISTS, MAX_ODTS}
 use Rattle.channel_ring.specs.declared.ends.RingEnd.{Ghosts as EndGhosts}
 use Rattle.channel_ring.specs.declared.ends.TakeEnd.{Ghosts as TakeGhosts}
+use Rattle.frame_writer.specs.Shown.{OutState, Rose}
 use Rattle.sampler.specs.State.{SamplerEndState}
 use Rattle.transmitter.specs.Looks.{EndsStay}
 use Rattle.transmitter.specs.Merge.{Takes, of_ring}
@@ -27,6 +28,13 @@ TurnMeans c a b (Stopped l) =
     (m : MarkParts) × (b.hand ≡ None) × Leads a ((c, Marker m) ∷ []) b × (l ≡ m.list)
     × (l < MAX_LISTS)
 TurnMeans c a b Broke = (s : SampleParts) × (b.hand ≡ Some s) × Leads a ((c, Sample s) ∷ []) b
+
+-- what a turn did to the writer: it wrote this text, or nothing; or the writer failed or stalled
+abbrev pub TurnWrites : OutState → OutState → List ℕ → Turn → Type 0
+TurnWrites a b text Nothing = b ≡ a
+TurnWrites a b text (Wrote n) = b.contents ≡ a.contents ++ text
+TurnWrites a b text (Stopped l) = b ≡ a
+TurnWrites a b text Broke = Rose a b
 
 -- the first item known of ring c was taken, whatever it is
 abbrev pub TakesFirst :

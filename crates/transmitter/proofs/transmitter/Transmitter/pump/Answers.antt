@@ -1,25 +1,11 @@
-use Rattle.std.proofs.Common.{◌≡◌, ℕ, Bool, true, false, ◌||◌, nat_eq, Option, Some, None, refl, sym, ap, ◌∙◌, arith, append-nil, length, map, ◌≤◌}
-use Rattle.std.specs.Option.{is_some}
+use Rattle.std.proofs.Common.{refl, sym, ◌∙◌, arith, append-nil, length, map, ◌≤◌}
 use Rattle.std.proofs.lemmas.List.{length-map}
-use Rattle.std.proofs.lemmas.Bool.{false≢true}
 use Rattle.xcp_base.specs.declared.item.Item.TheVariants.{Sample, Marker}
 use Rattle.xcp_base.specs.Lists.{has_list}
 use Rattle.transmitter.specs.Written.{transmission}
-use Rattle.transmitter.proofs.PumpLemmas.{failed_turn, first_turn, idle_turn, item_turn, last_turn}
+use Rattle.transmitter.proofs.PumpLemmas.{failed_turn, first_turn, idle_turn, item_turn, last_turn, none_of, one_stop, or_false}
 use Rattle.transmitter.proofs.transmitter.Transmitter.pump.Goals as goal
 use Rattle.transmitter.proofs.transmitter.Transmitter.pump.Goals.{in-Nothing, in-Wrote, in-Stopped}
-
-none_of : {X : Type 0} → (o : Option X) → is_some o ≡ false → o ≡ None
-none_of None e = refl
-none_of (Some x) e = absurd (false≢true (sym e))
-
-or_false : (b : Bool) → b ≡ (b || false)
-or_false true = refl
-or_false false = refl
-
--- a set with one list more, which is the marker's
-one_stop : (old new list l k : ℕ) → l ≡ list → has_list new k ≡ (has_list old k || nat_eq l k) → has_list new k ≡ (has_list old k || (nat_eq list k || false))
-one_stop old new list l k is added = added ∙ (ap (λ n. has_list old k || nat_eq n k) is ∙ ap (λ b. has_list old k || b) (or_false (nat_eq list k)))
 
 -- nothing is in hand while the writer is open
 pub loop-c-init : goal.loop-c-init

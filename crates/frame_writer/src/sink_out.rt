@@ -1,0 +1,37 @@
+ghost use Rattle.std.specs.Prelude.{◌≡◌, []};
+ghost use Rattle.frame_writer.specs.Streams.{sunk};
+
+use crate::byte_log::ByteLog;
+use crate::out::{Out, OutFault};
+
+/// A writer that takes all that it is handed and keeps none of it: for whoever reads the frames off
+/// the frame writer (`FrameWriter::last_text`). It never fails.
+#[derive(Drop)]
+pub struct SinkOut {
+    pub(crate) log: ByteLog,
+}
+
+impl SinkOut {
+    /// A writer that took nothing yet.
+    pub fn new() -> SinkOut
+        ensures { sunk result ≡ [] }
+    {
+        SinkOut {
+            log: ByteLog::new(),
+        }
+    }
+}
+
+impl Out for SinkOut {
+    ghost contents = { λ a. sunk a };
+
+    ghost failures = { λ _. 0 };
+
+    ghost stalls = { λ _. 0 };
+
+    /// Takes all of the bytes.
+    fn put(&mut self, bytes: &[u8]) -> Result<usize, OutFault> {
+        self.log.note(bytes);
+        Ok(bytes.len())
+    }
+}

@@ -1,0 +1,88 @@
+//! A pump whose frames go straight to a buffer.
+ghost use Rattle.std.specs.Prelude.{◌≡◌, ◌+◌, ◌≤◌, ◌++◌, drop, length, take};
+
+use crate::faults::PumpFault;
+use crate::pumped::Pumped;
+use crate::transmitter::Transmitter;
+use crate::turn::Turn;
+use channel_ring::TakeEnd;
+use frame_writer::{MAX_TEXT, Out, SinkOut};
+use xcp_base::limits::{MAX_CHANNELS, MAX_TAKEN};
+use xcp_base::with_list;
+
+/// The bytes that a pump writes at most: the frames of a sample at their longest, for each event
+/// channel.
+pub const MAX_PUMP: usize = MAX_CHANNELS as usize * MAX_TEXT;
+
+impl<T: TakeEnd> Transmitter<SinkOut, T> {
+    ghost use Rattle.std.specs.Prelude.{◌≡◌, ◌≢◌, ◌≤◌, ◌++◌, drop, length, take};
+    ghost use Rattle.std.specs.Prelude.{Err, Ok, IfErr, IfOk, OnErr};
+    ghost use Rattle.transmitter.specs.Pumps.{IsPump};
+    ghost use Rattle.transmitter.specs.Written.{transmission};
+
+    /// `pump`, and places the frames into the front of a buffer; answers what it did, and how many
+    /// bytes these are.
+    ///
+    /// The writer can't fail, so `Failed` is never the answer. Refused as `pump` is; then nothing
+    /// is taken, and the buffer is as it was.
+    pub fn pump_into(&mut self, buffer: &mut [u8]) -> Result<(Pumped, usize), PumpFault>
+        requires room { MAX_PUMP ≤ length buffer.old }
+        ensures ok { IfOk result (λ done. IsPump
+            (transmission ⟦<SinkOut as Out>⟧ T.TakeEnd self.old)
+            (transmission ⟦<SinkOut as Out>⟧ T.TakeEnd self.new) (Ok done.0)) }
+        ensures within { IfOk result (λ done. done.1 ≤ MAX_PUMP) }
+        ensures frames { IfOk result (λ done.
+            (transmission ⟦<SinkOut as Out>⟧ T.TakeEnd self.old).writer.out.contents
+            ++ take done.1 buffer.new
+            ≡ (transmission ⟦<SinkOut as Out>⟧ T.TakeEnd self.new).writer.out.contents) }
+        ensures behind { IfOk result (λ done. drop done.1 buffer.new ≡ drop done.1 buffer.old) }
+
+        ensures err { IfErr result (λ fault. IsPump
+            (transmission ⟦<SinkOut as Out>⟧ T.TakeEnd self.old)
+            (transmission ⟦<SinkOut as Out>⟧ T.TakeEnd self.new) (Err fault)) }
+        ensures never_fails { IfErr result (λ fault. fault ≢ PumpFault.Failed) }
+        ensures buffer_stays { OnErr result (buffer.new ≡ buffer.old) }
+    {
+        if self.writer.closed() {
+            return Err(PumpFault::Closed);
+        }
+        if self.taken >= MAX_TAKEN {
+            return Err(PumpFault::Spent);
+        }
+        let mut pumped = Pumped {
+            taken: 0,
+            frames: 0,
+            stopped: 0,
+        };
+        let mut end = 0;
+        for c in 0..self.ends.len() {
+            match self.turn(c) {
+                Turn::Nothing => {}
+                Turn::Wrote(frames) => {
+                    end = place(buffer, end, self.writer.last_text());
+                    pumped.taken += 1;
+                    pumped.frames += frames;
+                }
+                Turn::Stopped(list) => {
+                    pumped.taken += 1;
+                    pumped.stopped = with_list(pumped.stopped, list);
+                }
+                Turn::Broke => unreachable!(),
+            }
+        }
+        Ok((pumped, end))
+    }
+}
+
+/// Places bytes from `at` on, and answers where they end.
+fn place(buffer: &mut [u8], at: usize, bytes: &[u8]) -> usize
+    requires room { at + length bytes.now ≤ length buffer.old }
+    ensures bytes { take result buffer.new ≡ take at buffer.old ++ bytes.now }
+    ensures end { result ≡ at + length bytes.now }
+    ensures behind { drop result buffer.new ≡ drop result buffer.old }
+    ensures len { length buffer.new ≡ length buffer.old }
+{
+    let end = at + bytes.len();
+    buffer[at..end].copy_from_slice(bytes);
+    end
+}
