@@ -84,10 +84,8 @@ enum {
     NG_RUNNING = 12,        /* the DAQ list runs already */
     NG_NOT_RUNNING = 13,    /* the DAQ list doesn't run */
     NG_NO_ROOM = 14,        /* the ring has no room for the stop marker; the list runs on */
-    NG_FAILED = 15,         /* a frame was not written whole */
-    NG_CLOSED = 16,         /* a frame was not written whole earlier */
-    NG_UNFINISHED = 17,     /* a sampler of the engine wasn't finished */
-    NG_NO_ENGINE = 18       /* the sampler's engine was freed */
+    NG_UNFINISHED = 15,     /* a sampler of the engine wasn't finished */
+    NG_NO_ENGINE = 16       /* the sampler's engine was freed */
 };
 
 /* Which identification field the DAQ packets of a store begin with: one of the numbers below. */
@@ -275,16 +273,13 @@ ng_status ng_counts_of(ng_sampler *sampler, uint8_t list, ng_counts *counts);
  *
  *   NG_EMPTY         *engine is empty
  *   NG_SMALL_BUFFER  buffer_cap is below NG_PUMP_BYTES; nothing is taken, and nothing lost
- *   NG_CLOSED        a frame was not written whole earlier; nothing is taken
  *   NG_SPENT         2^62 items were taken; nothing is taken
- *   NG_FAILED        a frame was not written whole
  *   NG_OK            *pumped says what it did
  *
- * They are looked for in this order. On the first two all is as it was. On the others the next *len
- * bytes that come out of the engine stand in the buffer, and the bytes behind them are as they
- * were; *pumped is written on NG_OK alone. Proved: all of this, and what was taken and written; but
- * not that the bytes that a pump wrote are those that it gives, and so whole frames, nor that
- * NG_FAILED and NG_CLOSED don't occur. The tests find this, and no memory asked for. */
+ * They are looked for in this order. On all but NG_OK all is as it was. On NG_OK *len bytes in the
+ * front of the buffer are the frames that were written, each whole, and the bytes behind them are
+ * as they were: so what all pumps gave, one behind another, is all that the engine wrote. Proved:
+ * all of this, and what was taken and written. The tests find that no memory is asked for. */
 ng_status ng_pump(ng_engine *engine, uint8_t *buffer, size_t buffer_cap, size_t *len,
                   ng_pumped *pumped);
 
@@ -309,7 +304,7 @@ ng_status ng_finish(ng_sampler *sampler);
  *   NG_SMALL_BUFFER                buffer_cap is below NG_PUMP_BYTES
  *   NG_UNFINISHED                  a sampler wasn't handed out yet, or is not finished; it may
  *                                  be in another thread, and be asked for again later
- *   NG_CLOSED, NG_SPENT, NG_FAILED as ng_pump says them, where something was left
+ *   NG_SPENT                       as ng_pump says it, where something was left
  *   NG_OK                          where something was left, *left is true and *pumped says what
  *                                  was taken; else *left is false, and *len and *pumped are 0
  *

@@ -14,18 +14,18 @@ use Rattle.nerthogal_c.specs.declared.status.Status.TheVariants as status
 use Rattle.nerthogal_c.proofs.LendingLemmas.{give, out, ring}
 
 -- something is left, and is pumped
-pub drains-some : {s m t : Parts} {before after : DrainRoom} (result : Status)
+pub drains-some : (s m t : Parts) {before after : DrainRoom} (result : Status)
     → PUMP_BYTES ≤ length before.frames.buffer → LooksAtAll out give ring s m → KnowsSome (state_in out give ring m)
     → after.left ≡ true → PumpsEngine out give m t before.frames after.frames result
     → DrainsEngine out give ring s t before after result
-drains-some {s} {m} {t} {before} {after} result room looks knows left pump =
+drains-some s m t {before} {after} result room looks knows left pump =
     inr (inr (m, room, looks, subst (λ b. DrainsOn out give ring m t before.frames after.frames b result) (sym left) (knows, pump)))
 
 -- nothing is left
-pub drains-none : {s t : Parts} {before after : DrainRoom}
+pub drains-none : (s t : Parts) {before after : DrainRoom}
     → PUMP_BYTES ≤ length before.frames.buffer → LooksAtAll out give ring s t → KnowsNone (state_in out give ring t)
     → after.left ≡ false → after.frames ≡ nothing_in before.frames → DrainsEngine out give ring s t before after status.Ok
-drains-none {s} {t} {before} {after} room looks knows left nothing =
+drains-none s t {before} {after} room looks knows left nothing =
     inr (inr (t, room, looks, subst (λ b. DrainsOn out give ring t t before.frames after.frames b status.Ok) (sym left) (refl, knows, refl, nothing)))
 
 -- the engine that is held, if one is

@@ -9,12 +9,13 @@ use Rattle.channel_ring.specs.declared.sample_ring.SendHalf.{SendHalf}
 use Rattle.sampler.specs.State.{JoinedEnd, SamplerEndState, SamplerState, joined}
 use Rattle.transmitter.specs.Looks.{EndsStay}
 use Rattle.daq_engine.specs.Configuration.{upto}
-use Rattle.nerthogal_c.specs.Lendings.{channels_in, rings_in}
+use Rattle.transmitter.specs.Written.{TransmitterState}
+use Rattle.nerthogal_c.specs.Lendings.{LendingState, LooksAtEnds, channels_in, rings_in}
 use Rattle.nerthogal_c.specs.Ways.{Left, Place, place_of, place_of_end}
 pub use Rattle.channel_ring.specs.contracts.sample_ring.SendHalfSendEnd.TheImpl.{ghosts as send}
 pub use Rattle.channel_ring.specs.contracts.sample_ring.SendLeftRingEnd.TheImpl.{ghosts as ring}
 pub use Rattle.channel_ring.specs.contracts.sample_ring.TakeHalfTakeEnd.TheImpl.{ghosts as give}
-pub use Rattle.nerthogal_c.specs.contracts.ring_out.RingOutOut.TheImpl.{ghosts as out}
+pub use Rattle.frame_writer.specs.contracts.sink_out.SinkOutOut.TheImpl.{ghosts as out}
 
 -- the places of so many channels and rings
 abbrev places_from : List ℕ → List RingName → List Place
@@ -81,6 +82,17 @@ module _ (ring : EndGhosts Left) where
   came [] e (x ∷ xs) w rest some is first = ap (λ y. y ∷ (xs ++ rest)) (is ∙ first)
   came (a ∷ more) e (x ∷ xs) w rest some is first =
       ap (λ ys. place_of_end ring a ∷ ys) (came more e (x ∷ xs) w rest some is first)
+
+-- what was looked at behind something that left the places and the samplers
+pub looks-on : {a b : TransmitterState} {l m n : LendingState} → LooksAtEnds ring a b m n
+    → m.places ≡ l.places → m.samplers ≡ l.samplers → LooksAtEnds ring a b l n
+looks-on looks places samplers = record {
+  back = looks.back;
+  looked = looks.looked;
+  all = looks.all;
+  places = looks.places ∙ places;
+  samplers = looks.samplers ∙ samplers;
+}
 
 -- a place that is put where it stands
 pub set-same : (out : List Place) (w : Place) → w ≡ slice_index_or out 0 w → slice_set out 0 w ≡ out

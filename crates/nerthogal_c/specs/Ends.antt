@@ -6,6 +6,7 @@ use Rattle.channel_ring.specs.declared.ends.RingEnd.{Ghosts as EndGhosts}
 use Rattle.channel_ring.specs.declared.ends.TakeEnd.{Ghosts as TakeGhosts}
 use Rattle.channel_ring.specs.declared.sample_ring.TakeHalf.{TakeHalf}
 use Rattle.frame_writer.specs.declared.out.Out.{Ghosts as OutGhosts}
+use Rattle.frame_writer.specs.declared.sink_out.SinkOut.{SinkOut}
 use Rattle.sampler.specs.State.{JoinedEnd, joined}
 use Rattle.transmitter.specs.Looks.{KnowsNone, KnowsSome}
 use Rattle.transmitter.specs.Written.{TransmitterState, transmission}
@@ -20,7 +21,6 @@ use Rattle.nerthogal_c.specs.declared.content.Content.{Content}
 use Rattle.nerthogal_c.specs.declared.content.Content.TheVariants.{Engine}
 use Rattle.nerthogal_c.specs.declared.engine.Engine.{Engine as Parts}
 use Rattle.nerthogal_c.specs.declared.pumping.TheConstants.{PUMP_BYTES}
-use Rattle.nerthogal_c.specs.declared.ring_out.RingOut.{RingOut}
 use Rattle.nerthogal_c.specs.declared.status.Status.{Status}
 use Rattle.nerthogal_c.specs.declared.status.Status.TheVariants as status
 
@@ -48,7 +48,7 @@ StaysOpen (Some (Engine s)) new room status.Unfinished =
 StaysOpen (Some (Engine s)) new room _ = ⊥
 StaysOpen old new room result = (result ≡ status.Empty) × (new ≡ old)
 
-module _ (out : OutGhosts RingOut) (give : TakeGhosts TakeHalf Left) (ring : EndGhosts Left) where
+module _ (out : OutGhosts SinkOut) (give : TakeGhosts TakeHalf Left) (ring : EndGhosts Left) where
   abbrev pub state_in : Parts → TransmitterState
   state_in e = transmission out give e.transmitter
 
@@ -56,9 +56,8 @@ module _ (out : OutGhosts RingOut) (give : TakeGhosts TakeHalf Left) (ring : End
   ends_in e = map (joined ring) e.lending.ends
 
   -- all samplers came back, and all that they sent was looked at
-  pub record LooksAtAll (s t : Parts) : Type 0 where
-    pub ends : LooksAtEnds ring (state_in s) (state_in t) s.lending t.lending
-    pub frames : t.frames ≡ s.frames
+  abbrev pub LooksAtAll : Parts → Parts → Type 0
+  LooksAtAll s t = LooksAtEnds ring (state_in s) (state_in t) s.lending t.lending
 
   -- then it pumps, where something is left
   abbrev pub DrainsOn : Parts → Parts → FrameRoom → FrameRoom → Bool → Status → Type 0

@@ -1,28 +1,26 @@
 -- What the calls of an engine's handle answer and what they leave, by their status.
 use Rattle.std.specs.Prelude.{◌≡◌, ℕ, ◌<◌, ◌≤◌, false, true, List, [], ◌∷◌, ◌++◌, length, take}
-use Rattle.std.specs.Prelude.{drop, Option, Some, None, Result, Ok, Err}
-use Rattle.rtrb.specs.Ring.{received}
+use Rattle.std.specs.Prelude.{drop, Option, Some, None, Ok, Err}
 use Rattle.channel_ring.specs.declared.ends.SendEnd.{Ghosts as SendGhosts}
 use Rattle.channel_ring.specs.declared.ends.RingEnd.{Ghosts as EndGhosts}
 use Rattle.channel_ring.specs.declared.ends.TakeEnd.{Ghosts as TakeGhosts}
 use Rattle.channel_ring.specs.declared.sample_ring.SendHalf.{SendHalf}
 use Rattle.channel_ring.specs.declared.sample_ring.TakeHalf.{TakeHalf}
 use Rattle.frame_writer.specs.declared.out.Out.{Ghosts as OutGhosts}
+use Rattle.frame_writer.specs.declared.sink_out.SinkOut.{SinkOut}
 use Rattle.frame_writer.specs.Writing.{WriterState, fresh_writer}
 use Rattle.daq_store.specs.Standing.{StoreState}
 use Rattle.sampler.specs.History.{Opening}
 use Rattle.sampler.specs.State.{SamplerState}
-use Rattle.transmitter.specs.declared.faults.PumpFault.{PumpFault}
 use Rattle.transmitter.specs.declared.faults.PumpFault.TheVariants as fault
 use Rattle.transmitter.specs.declared.pumped.Pumped.{Pumped}
 use Rattle.transmitter.specs.Pumps.{IsPump}
-use Rattle.transmitter.specs.Written.{transmission}
+use Rattle.transmitter.specs.Written.{TransmitterState, transmission}
 use Rattle.daq_engine.specs.Openings.{AreOpened, CanOpen, IsPaired, fit_caps, some_list_runs}
 use Rattle.nerthogal_c.specs.declared.content.Content.{Content}
 use Rattle.nerthogal_c.specs.declared.content.Content.TheVariants.{Engine, Sampler, Store}
 use Rattle.nerthogal_c.specs.declared.engine.Engine.{Engine as Parts}
 use Rattle.nerthogal_c.specs.declared.pumping.TheConstants.{PUMP_BYTES}
-use Rattle.nerthogal_c.specs.declared.ring_out.RingOut.{RingOut}
 use Rattle.nerthogal_c.specs.declared.sets.PumpedOut.{PumpedOut}
 use Rattle.nerthogal_c.specs.declared.status.Status.{Status}
 use Rattle.nerthogal_c.specs.declared.status.Status.TheVariants as status
@@ -50,32 +48,39 @@ pub record FrameRoom : Type 0 where
   pub len : ℕ
   pub pumped : PumpedOut
 
--- bytes came out of the engine into the front of the buffer, and their number is told
-pub record GivesFrames (s t : Parts) (before after : FrameRoom) : Type 0 where
+-- what was written stands in the front of the buffer, all of it and nothing else, and its length
+-- is told
+pub record GivesFrames (s t : TransmitterState) (before after : FrameRoom) : Type 0 where
   pub fits : after.len ≤ length before.buffer
-  pub front : received t.frames ≡ received s.frames ++ take after.len after.buffer
+  pub front : t.writer.out.contents ≡ s.writer.out.contents ++ take after.len after.buffer
   pub behind : drop after.len after.buffer ≡ drop after.len before.buffer
 
-module _ {E : Type 0} (out : OutGhosts RingOut) (give : TakeGhosts TakeHalf E) where
+module _ {E : Type 0} (out : OutGhosts SinkOut) (give : TakeGhosts TakeHalf E) where
   -- an engine pumps, and its frames come out. The next has the samplers of the one before
-  pub record PumpsOut
-      (s t : Parts) (before after : FrameRoom) (answer : Result Pumped PumpFault) : Type 0 where
+  pub record PumpsOut (s t : Parts) (before after : FrameRoom) (pumped : Pumped) : Type 0 where
     pub room : PUMP_BYTES ≤ length before.buffer
     pub pump :
-        IsPump (transmission out give s.transmitter) (transmission out give t.transmitter) answer
-    pub frames : GivesFrames s t before after
+        IsPump (transmission out give s.transmitter) (transmission out give t.transmitter)
+        (Ok pumped)
+    pub frames :
+        GivesFrames (transmission out give s.transmitter) (transmission out give t.transmitter)
+        before after
+    pub told : after.pumped ≡ pumped_out pumped
     pub lending : t.lending ≡ s.lending
 
-  -- what an engine does at a pump
+  -- an engine took so many items that it takes no more
+  pub record IsSpent (s t : Parts) (before after : FrameRoom) : Type 0 where
+    pub room : PUMP_BYTES ≤ length before.buffer
+    pub pump :
+        IsPump (transmission out give s.transmitter) (transmission out give t.transmitter)
+        (Err fault.Spent)
+    pub stays : after ≡ before
+    pub lending : t.lending ≡ s.lending
+
+  -- what an engine does at a pump; its frames are always written whole
   abbrev pub PumpsEngine : Parts → Parts → FrameRoom → FrameRoom → Status → Type 0
-  PumpsEngine s t before after status.Ok =
-      (pumped : Pumped) × (after.pumped ≡ pumped_out pumped) × PumpsOut s t before after (Ok pumped)
-  PumpsEngine s t before after status.Failed =
-      (after.pumped ≡ before.pumped) × PumpsOut s t before after (Err fault.Failed)
-  PumpsEngine s t before after status.Closed =
-      (after.pumped ≡ before.pumped) × PumpsOut s t before after (Err fault.Closed)
-  PumpsEngine s t before after status.Spent =
-      (after.pumped ≡ before.pumped) × PumpsOut s t before after (Err fault.Spent)
+  PumpsEngine s t before after status.Ok = (pumped : Pumped) × PumpsOut s t before after pumped
+  PumpsEngine s t before after status.Spent = IsSpent s t before after
   PumpsEngine s t before after status.SmallBuffer =
       (length before.buffer < PUMP_BYTES) × (t ≡ s) × (after ≡ before)
   PumpsEngine s t before after _ = ⊥
@@ -86,9 +91,9 @@ module _ {E : Type 0} (out : OutGhosts RingOut) (give : TakeGhosts TakeHalf E) w
   PumpsHandle old new before after result =
       OnEngine old new result (after ≡ before) (λ s t. PumpsEngine s t before after result)
 
-module _ {E : Type 0} (out : OutGhosts RingOut) (give : TakeGhosts TakeHalf E)
+module _ {E : Type 0} (out : OutGhosts SinkOut) (give : TakeGhosts TakeHalf E)
     (send : SendGhosts SendHalf E) (ring : EndGhosts E) where
-  -- an engine was opened over a store, with all its samplers; nothing came out of it
+  -- an engine was opened over a store, with all its samplers; nothing was written
   pub record IsOpened (s : StoreState) (caps : List ℕ) (e : Parts) : Type 0 where
     pub could : CanOpen s caps
     pub openings : ℕ → Opening
@@ -96,7 +101,6 @@ module _ {E : Type 0} (out : OutGhosts RingOut) (give : TakeGhosts TakeHalf E)
     pub start : WriterState
     pub fresh : start ≡ fresh_writer (record { contents = []; failures = 0; stalls = 0 })
     pub paired : IsPaired send (samplers_in e) start (transmission out give e.transmitter)
-    pub nothing_out : received e.frames ≡ []
 
   -- what an engine is opened to, or why not
   abbrev pub OpensOver : StoreState → List ℕ → Option Content → Status → Type 0
@@ -123,14 +127,12 @@ module _ {E : Type 0} (out : OutGhosts RingOut) (give : TakeGhosts TakeHalf E)
 pub record HandsOut (s t : Parts) (sampler : SamplerState SendHalf) : Type 0 where
   pub first : samplers_in s ≡ sampler ∷ samplers_in t
   pub transmitter : t.transmitter ≡ s.transmitter
-  pub frames : t.frames ≡ s.frames
   pub places : t.lending.places ≡ s.lending.places
 
 -- it keeps all that it has
 pub record KeepsAll (s t : Parts) : Type 0 where
   pub samplers : samplers_in t ≡ samplers_in s
   pub transmitter : t.transmitter ≡ s.transmitter
-  pub frames : t.frames ≡ s.frames
   pub places : t.lending.places ≡ s.lending.places
 
 -- what an engine hands out into an empty handle

@@ -11,11 +11,10 @@ use crate::engine::Engine;
 use crate::handle::Handle;
 use crate::lending::Lending;
 use crate::report_out::ReportOut;
-use crate::ring_out::RingOut;
 use crate::status::Status;
 use channel_ring::{RingEnd, SendLeft, TakeEnd, TakeHalf};
 use daq_engine::{ListReport, account};
-use frame_writer::Out;
+use frame_writer::{Out, SinkOut};
 use std::alloc::Global;
 use xcp_base::limits::MAX_LISTS;
 
@@ -23,14 +22,13 @@ use xcp_base::limits::MAX_LISTS;
 fn close(engine: Engine, lines: &mut [ListReport], report: &mut ReportOut)
     requires back { AreBack ⟦<SendLeft as RingEnd>⟧ engine.lending }
     requires room { MOST_LISTS ≤ length lines.old }
-    ensures { (told : ReportOf) × IsAccountOf ⟦<RingOut as Out>⟧ ⟦<TakeHalf as TakeEnd>⟧
+    ensures { (told : ReportOf) × IsAccountOf ⟦<SinkOut as Out>⟧ ⟦<TakeHalf as TakeEnd>⟧
         ⟦<SendLeft as RingEnd>⟧ engine
         (record { lines = lines.old; report = report.old })
         (record { lines = lines.new; report = report.new }) told }
 {
     let Engine {
         transmitter,
-        frames: _,
         lending,
         lines: room,
     } = engine;
@@ -51,7 +49,7 @@ fn close(engine: Engine, lines: &mut [ListReport], report: &mut ReportOut)
 /// Whether what is held is an engine all of whose samplers came back, and there is room for its
 /// account; or why not.
 fn may_close(content: &mut Content, room: usize) -> Result<(), Status>
-    ensures ok { OnOk result (MayClose ⟦<RingOut as Out>⟧ ⟦<TakeHalf as TakeEnd>⟧
+    ensures ok { OnOk result (MayClose ⟦<SinkOut as Out>⟧ ⟦<TakeHalf as TakeEnd>⟧
         ⟦<SendLeft as RingEnd>⟧ content.old content.new room) }
     ensures err { IfErr result (StaysOpen (Some content.old) (Some content.new) room) }
 {
@@ -74,7 +72,7 @@ pub fn close_by(
     lines: &mut [ListReport],
     report: &mut ReportOut,
 ) -> Status
-    ensures { Closes ⟦<RingOut as Out>⟧ ⟦<TakeHalf as TakeEnd>⟧ ⟦<SendLeft as RingEnd>⟧
+    ensures { Closes ⟦<SinkOut as Out>⟧ ⟦<TakeHalf as TakeEnd>⟧ ⟦<SendLeft as RingEnd>⟧
         handle.old.held handle.new.held
         (record { lines = lines.old; report = report.old })
         (record { lines = lines.new; report = report.new }) result }

@@ -5,11 +5,10 @@ ghost use Rattle.nerthogal_c.specs.Ends.{DrainsEngine};
 
 use crate::engine::Engine;
 use crate::pumping::{PUMP_BYTES, pump};
-use crate::ring_out::RingOut;
 use crate::sets::PumpedOut;
 use crate::status::Status;
 use channel_ring::{RingEnd, SendLeft, TakeEnd, TakeHalf};
-use frame_writer::Out;
+use frame_writer::{Out, SinkOut};
 
 /// Looks at all that was sent, and pumps where something is left.
 pub fn drain(
@@ -19,7 +18,7 @@ pub fn drain(
     pumped: &mut PumpedOut,
     left: &mut bool,
 ) -> Status
-    ensures { DrainsEngine ⟦<RingOut as Out>⟧ ⟦<TakeHalf as TakeEnd>⟧ ⟦<SendLeft as RingEnd>⟧
+    ensures { DrainsEngine ⟦<SinkOut as Out>⟧ ⟦<TakeHalf as TakeEnd>⟧ ⟦<SendLeft as RingEnd>⟧
         engine.old engine.new
         (record {
           frames = record { buffer = buffer.old; len = len.old; pumped = pumped.old };

@@ -11,12 +11,11 @@ use crate::content::Content;
 use crate::draining::drain;
 use crate::handle::Handle;
 use crate::report_out::ReportOut;
-use crate::ring_out::RingOut;
 use crate::sets::PumpedOut;
 use crate::status::Status;
 use channel_ring::{RingEnd, SendEnd, SendHalf, SendLeft, TakeEnd, TakeHalf};
 use daq_engine::ListReport;
-use frame_writer::Out;
+use frame_writer::{Out, SinkOut};
 use std::alloc::Global;
 
 /// Finishes a sampler, and gives what is left of it back to its engine. The handle is empty then.
@@ -46,7 +45,7 @@ pub extern "C" fn ng_drain(
     left: &mut bool,
 ) -> u32
     ensures { (status : StatusOf) × (result ≡ number_of status)
-        × Drains ⟦<RingOut as Out>⟧ ⟦<TakeHalf as TakeEnd>⟧ ⟦<SendLeft as RingEnd>⟧
+        × Drains ⟦<SinkOut as Out>⟧ ⟦<TakeHalf as TakeEnd>⟧ ⟦<SendLeft as RingEnd>⟧
         engine.old.held engine.new.held
         (record {
           frames = record { buffer = buffer.old; len = len.old; pumped = pumped.old };
@@ -74,7 +73,7 @@ pub extern "C" fn ng_close(
     report: &mut ReportOut,
 ) -> u32
     ensures { (status : StatusOf) × (result ≡ number_of status)
-        × Closes ⟦<RingOut as Out>⟧ ⟦<TakeHalf as TakeEnd>⟧ ⟦<SendLeft as RingEnd>⟧
+        × Closes ⟦<SinkOut as Out>⟧ ⟦<TakeHalf as TakeEnd>⟧ ⟦<SendLeft as RingEnd>⟧
         engine.old.held engine.new.held
         (record { lines = lines.old; report = report.old })
         (record { lines = lines.new; report = report.new }) status }
@@ -116,7 +115,7 @@ fn drain_by(
     pumped: &mut PumpedOut,
     left: &mut bool,
 ) -> Status
-    ensures { Drains ⟦<RingOut as Out>⟧ ⟦<TakeHalf as TakeEnd>⟧ ⟦<SendLeft as RingEnd>⟧
+    ensures { Drains ⟦<SinkOut as Out>⟧ ⟦<TakeHalf as TakeEnd>⟧ ⟦<SendLeft as RingEnd>⟧
         handle.old.held handle.new.held
         (record {
           frames = record { buffer = buffer.old; len = len.old; pumped = pumped.old };
@@ -144,7 +143,7 @@ fn drain_in(
     pumped: &mut PumpedOut,
     left: &mut bool,
 ) -> Status
-    ensures { Drains ⟦<RingOut as Out>⟧ ⟦<TakeHalf as TakeEnd>⟧ ⟦<SendLeft as RingEnd>⟧
+    ensures { Drains ⟦<SinkOut as Out>⟧ ⟦<TakeHalf as TakeEnd>⟧ ⟦<SendLeft as RingEnd>⟧
         (Some content.old) (Some content.new)
         (record {
           frames = record { buffer = buffer.old; len = len.old; pumped = pumped.old };

@@ -11,11 +11,10 @@ use crate::handing::give_sampler;
 use crate::handle::Handle;
 use crate::opening::open_into;
 use crate::pumping::pump;
-use crate::ring_out::RingOut;
 use crate::sets::PumpedOut;
 use crate::status::Status;
 use channel_ring::{RingEnd, SendEnd, SendHalf, SendLeft, TakeEnd, TakeHalf};
-use frame_writer::Out;
+use frame_writer::{Out, SinkOut};
 use std::alloc::Global;
 
 /// Opens an engine over a store, which stays as it is. The ring of event channel `c` has `caps[c]`
@@ -31,7 +30,7 @@ pub extern "C" fn ng_open(
     engine: &mut Handle,
 ) -> u32
     ensures opens { (status : StatusOf) × (result ≡ number_of status)
-        × OpensEngine ⟦<RingOut as Out>⟧ ⟦<TakeHalf as TakeEnd>⟧
+        × OpensEngine ⟦<SinkOut as Out>⟧ ⟦<TakeHalf as TakeEnd>⟧
         ⟦<SendHalf as SendEnd>⟧ ⟦<SendLeft as RingEnd>⟧
         store.old.held engine.old.held engine.new.held caps.now status }
     ensures store_stays { store.new.held ≡ store.old.held }
@@ -65,7 +64,7 @@ pub extern "C" fn ng_pump(
     pumped: &mut PumpedOut,
 ) -> u32
     ensures { (status : StatusOf) × (result ≡ number_of status)
-        × PumpsHandle ⟦<RingOut as Out>⟧ ⟦<TakeHalf as TakeEnd>⟧ engine.old.held engine.new.held
+        × PumpsHandle ⟦<SinkOut as Out>⟧ ⟦<TakeHalf as TakeEnd>⟧ engine.old.held engine.new.held
         (record { buffer = buffer.old; len = len.old; pumped = pumped.old })
         (record { buffer = buffer.new; len = len.new; pumped = pumped.new }) status }
 {
@@ -98,7 +97,7 @@ fn pump_by(
     len: &mut usize,
     pumped: &mut PumpedOut,
 ) -> Status
-    ensures { PumpsHandle ⟦<RingOut as Out>⟧ ⟦<TakeHalf as TakeEnd>⟧ handle.old.held handle.new.held
+    ensures { PumpsHandle ⟦<SinkOut as Out>⟧ ⟦<TakeHalf as TakeEnd>⟧ handle.old.held handle.new.held
         (record { buffer = buffer.old; len = len.old; pumped = pumped.old })
         (record { buffer = buffer.new; len = len.new; pumped = pumped.new }) result }
 {
@@ -117,7 +116,7 @@ fn pump_in(
     len: &mut usize,
     pumped: &mut PumpedOut,
 ) -> Status
-    ensures { PumpsHandle ⟦<RingOut as Out>⟧ ⟦<TakeHalf as TakeEnd>⟧
+    ensures { PumpsHandle ⟦<SinkOut as Out>⟧ ⟦<TakeHalf as TakeEnd>⟧
         (Some content.old) (Some content.new)
         (record { buffer = buffer.old; len = len.old; pumped = pumped.old })
         (record { buffer = buffer.new; len = len.new; pumped = pumped.new }) result }

@@ -4,9 +4,8 @@ use crate::coming_back::ComingBack;
 use crate::content::Content;
 use crate::lent::Lent;
 use crate::returns::Returns;
-use crate::ring_out::RingOut;
 use channel_ring::{RingEnd, SendEnd, SendHalf, SendLeft, TakeEnd, TakeHalf};
-use frame_writer::Out;
+use frame_writer::{Out, SinkOut};
 use rtrb::RingBuffer;
 use sampler::{Sampler, SamplerEnd};
 use std::alloc::{AllocError, Global};
@@ -45,7 +44,7 @@ impl Lending {
     ghost use Rattle.std.specs.Prelude.{◌≡◌, ◌<◌, [], IfOk, OnErr, false, length, map, true};
     ghost use Rattle.std.specs.Prelude.{option_map};
     ghost use Rattle.transmitter.specs.Looks.{KnowsNone, KnowsSome};
-    ghost use Rattle.transmitter.specs.Written.{transmission};
+    ghost use Rattle.transmitter.specs.Written.{transmission, writer_of};
     ghost use Rattle.nerthogal_c.specs.Lendings.{AreBack, LooksAtEnds, rings_in};
     ghost use Rattle.nerthogal_c.specs.Lends.{LendsNext};
     ghost use Rattle.nerthogal_c.specs.Ways.{place_of};
@@ -117,18 +116,19 @@ impl Lending {
 
     /// Looks at all that was sent, once nothing is out any more, and tells whether something is
     /// left.
-    pub fn look(&mut self, transmitter: &mut Transmitter<RingOut, TakeHalf>) -> bool
+    pub fn look(&mut self, transmitter: &mut Transmitter<SinkOut, TakeHalf>) -> bool
         requires back { AreBack ⟦<SendLeft as RingEnd>⟧ self.old }
         requires rings { rings_in self.old.places
-            ≡ (transmission ⟦<RingOut as Out>⟧ ⟦<TakeHalf as TakeEnd>⟧ transmitter.old).rings }
+            ≡ (transmission ⟦<SinkOut as Out>⟧ ⟦<TakeHalf as TakeEnd>⟧ transmitter.old).rings }
         ensures looks { LooksAtEnds ⟦<SendLeft as RingEnd>⟧
-            (transmission ⟦<RingOut as Out>⟧ ⟦<TakeHalf as TakeEnd>⟧ transmitter.old)
-            (transmission ⟦<RingOut as Out>⟧ ⟦<TakeHalf as TakeEnd>⟧ transmitter.new)
+            (transmission ⟦<SinkOut as Out>⟧ ⟦<TakeHalf as TakeEnd>⟧ transmitter.old)
+            (transmission ⟦<SinkOut as Out>⟧ ⟦<TakeHalf as TakeEnd>⟧ transmitter.new)
             self.old self.new }
+        ensures writer_stays { writer_of transmitter.new ≡ writer_of transmitter.old }
         ensures some { result ≡ true → KnowsSome
-            (transmission ⟦<RingOut as Out>⟧ ⟦<TakeHalf as TakeEnd>⟧ transmitter.new) }
+            (transmission ⟦<SinkOut as Out>⟧ ⟦<TakeHalf as TakeEnd>⟧ transmitter.new) }
         ensures none { result ≡ false → KnowsNone
-            (transmission ⟦<RingOut as Out>⟧ ⟦<TakeHalf as TakeEnd>⟧ transmitter.new) }
+            (transmission ⟦<SinkOut as Out>⟧ ⟦<TakeHalf as TakeEnd>⟧ transmitter.new) }
     {
         transmitter.after(self.ends.as_mut_slice())
     }

@@ -21,7 +21,6 @@ mod parts;
 mod pumping;
 mod report_out;
 mod returns;
-mod ring_out;
 mod sampler_calls;
 mod sampling;
 mod sets;

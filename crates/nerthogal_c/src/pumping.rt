@@ -4,12 +4,10 @@ ghost use Rattle.std.specs.Prelude.{◌≡◌};
 ghost use Rattle.nerthogal_c.specs.Engines.{PumpsEngine};
 
 use crate::engine::Engine;
-use crate::ring_out::RingOut;
 use crate::sets::PumpedOut;
 use crate::status::Status;
 use channel_ring::{TakeEnd, TakeHalf};
-use frame_writer::Out;
-use transmitter::PumpFault;
+use frame_writer::{Out, SinkOut};
 
 /// The bytes that one pump writes at most: of 8 event channels a sample of 8 packets each, of 64
 /// bytes behind a header of 4.
@@ -22,22 +20,19 @@ pub fn pump(
     len: &mut usize,
     pumped: &mut PumpedOut,
 ) -> Status
-    ensures { PumpsEngine ⟦<RingOut as Out>⟧ ⟦<TakeHalf as TakeEnd>⟧ engine.old engine.new
+    ensures { PumpsEngine ⟦<SinkOut as Out>⟧ ⟦<TakeHalf as TakeEnd>⟧ engine.old engine.new
         (record { buffer = buffer.old; len = len.old; pumped = pumped.old })
         (record { buffer = buffer.new; len = len.new; pumped = pumped.new }) result }
 {
     if buffer.len() < PUMP_BYTES {
         return Status::SmallBuffer;
     }
-    let answer = engine.transmitter.pump();
-    *len = engine.frames.pop_partial_slice(buffer);
-    match answer {
-        Ok(done) => {
+    match engine.transmitter.pump_into(buffer) {
+        Ok((done, count)) => {
+            *len = count;
             *pumped = PumpedOut::of(done);
             Status::Ok
         }
-        Err(PumpFault::Failed) => Status::Failed,
-        Err(PumpFault::Closed) => Status::Closed,
-        Err(PumpFault::Spent) => Status::Spent,
+        Err(_) => Status::Spent,
     }
 }

@@ -34,10 +34,6 @@ pub enum Status {
     NotRunning,
     /// The ring has no room for the stop marker.
     NoRoom,
-    /// A frame was not written whole.
-    Failed,
-    /// A frame was not written whole earlier.
-    Closed,
     /// A sampler was not finished yet.
     Unfinished,
     /// The sampler's engine was freed.
@@ -65,10 +61,8 @@ impl Status {
             Status::Running => 12,
             Status::NotRunning => 13,
             Status::NoRoom => 14,
-            Status::Failed => 15,
-            Status::Closed => 16,
-            Status::Unfinished => 17,
-            Status::NoEngine => 18,
+            Status::Unfinished => 15,
+            Status::NoEngine => 16,
         }
     }
 }

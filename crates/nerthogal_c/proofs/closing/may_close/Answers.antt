@@ -11,7 +11,6 @@ returns-then-not-collect-clause-err c =
     stays-unfinished c.in-Engine.is room (record {
       samplers = c.collect.ensures.samplers;
       transmitter = refl;
-      frames = refl;
       places = c.collect.ensures.places;
     })
 
@@ -25,7 +24,6 @@ returns-clause-ok c =
       record {
         samplers = c.collect.ensures.samplers;
         transmitter = refl;
-        frames = refl;
         places = c.collect.ensures.places;
       },
       c.collect.ensures.all c.if-not-collect.false,

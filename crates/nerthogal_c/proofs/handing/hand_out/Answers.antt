@@ -10,5 +10,5 @@ returns-in-Ok-Some c =
     c.in-Ok-Some.ensures.ok in (
       lends.sampler,
       c.put.ensures ∙ ap Some lends.content_is,
-      record { first = lends.first; transmitter = refl; frames = refl; places = lends.places },
+      record { first = lends.first; transmitter = refl; places = lends.places },
     )

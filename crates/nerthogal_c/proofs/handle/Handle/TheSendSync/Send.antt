@@ -15,6 +15,7 @@ use Rattle.channel_ring.proofs.SendLemmas.{item, ring_end, send_half}
 use Rattle.daq_engine.proofs.SendLemmas.{copy_plan}
 use Rattle.nerthogal_c.specs.Owned.{owns_held, the_heap}
 use Rattle.daq_store.specs.contracts.store.Store as Store
+use Rattle.frame_writer.specs.contracts.byte_log.ByteLog as Log
 use Rattle.nerthogal_c.specs.contracts.coming_back.ComingBack as ComingBack
 use Rattle.nerthogal_c.specs.contracts.content.Content as content
 use Rattle.nerthogal_c.specs.contracts.engine.Engine as Engine
@@ -39,8 +40,15 @@ lent_send = search (sendable, crosses, copy_plan, send_half, way_send) depth 60 
 lending_send : IsSend Lending.the_row
 lending_send = search (sendable, crosses, ring_end, item, copy_plan, send_half, coming_send) depth 60 fits 20000
 
+-- a list of bytes of which none is kept owns nothing
+log_send : IsSend Log.the_row
+log_send =
+    let all : AllSend (fields Log.the_type) = (search sendable, tt) in
+    owning_send Log.the_type all (λ d. tt)
+    (λ k. quiet (to Log.the_type) (exits_of k (fields Log.the_type)) ((struct_send (shape Log.the_type) all).leaving k))
+
 engine_send : IsSend (Engine.the_field).row
-engine_send = search (sendable, crosses, ring_end, item, lending_send) depth 60 fits 20000
+engine_send = search (sendable, crosses, ring_end, item, lending_send, log_send) depth 60 fits 20000
 
 store_send : IsSend (Store.the_field).row
 store_send = search (sendable, crosses) depth 60 fits 20000
