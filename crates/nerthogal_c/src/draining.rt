@@ -8,18 +8,18 @@ use crate::pumping::{PUMP_BYTES, pump};
 use crate::ring_out::RingOut;
 use crate::sets::PumpedOut;
 use crate::status::Status;
-use channel_ring::{RingEnd, SendLeft, TakeEnd, TakeHalf};
+use daq_engine::Ring;
 use frame_writer::Out;
 
 /// Looks at all that was sent, and pumps where something is left.
-pub fn drain(
-    engine: &mut Engine,
+pub fn drain<R: Ring>(
+    engine: &mut Engine<R>,
     buffer: &mut [u8],
     len: &mut usize,
     pumped: &mut PumpedOut,
     left: &mut bool,
 ) -> Status
-    ensures { DrainsEngine ⟦<RingOut as Out>⟧ ⟦<TakeHalf as TakeEnd>⟧ ⟦<SendLeft as RingEnd>⟧
+    ensures { DrainsEngine ⟦<RingOut as Out>⟧ R.Take.TakeEnd R.Send.End.RingEnd
         engine.old engine.new
         (record {
           frames = record { buffer = buffer.old; len = len.old; pumped = pumped.old };

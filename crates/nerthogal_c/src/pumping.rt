@@ -7,7 +7,8 @@ use crate::engine::Engine;
 use crate::ring_out::RingOut;
 use crate::sets::PumpedOut;
 use crate::status::Status;
-use channel_ring::{TakeEnd, TakeHalf};
+use channel_ring::TakeEnd;
+use daq_engine::Ring;
 use frame_writer::Out;
 use transmitter::PumpFault;
 
@@ -16,13 +17,13 @@ use transmitter::PumpFault;
 pub const PUMP_BYTES: usize = 4352;
 
 /// Pumps, and puts the frames into the front of the buffer.
-pub fn pump(
-    engine: &mut Engine,
+pub fn pump<R: Ring>(
+    engine: &mut Engine<R>,
     buffer: &mut [u8],
     len: &mut usize,
     pumped: &mut PumpedOut,
 ) -> Status
-    ensures { PumpsEngine ⟦<RingOut as Out>⟧ ⟦<TakeHalf as TakeEnd>⟧ engine.old engine.new
+    ensures { PumpsEngine ⟦<RingOut as Out>⟧ R.Take.TakeEnd engine.old engine.new
         (record { buffer = buffer.old; len = len.old; pumped = pumped.old })
         (record { buffer = buffer.new; len = len.new; pumped = pumped.new }) result }
 {
