@@ -19,8 +19,8 @@ use channel_ring::SampleRing;
 use std::alloc::Global;
 
 /// Opens an engine over a store, which stays as it is, with rings of the kind that has this number
-/// in `ng_ring`. That of event channel `c` has `caps[c]` places, 1 to 1024, or bytes, 544 to
-/// 1048576.
+/// in `ng_ring`. That of event channel `c` has `caps[c]` places, 1 to 1024, or bytes, 532 to
+/// 65536.
 ///
 /// Refused in this order (own): an engine's handle that isn't empty, no store, no such kind of
 /// ring, want of memory for the frames; capacities that don't fit, no list runs, want of memory.
