@@ -109,7 +109,7 @@ int main(void) {
         ng_engine engine = NG_ENGINE_INIT;
         ng_sampler sampler = NG_SAMPLER_INIT;
         set_up(&store, &lists[k]);
-        want(ng_open(&store, caps, 1, &engine) == NG_OK, "open");
+        want(ng_open(&store, NG_RING_ITEMS, caps, 1, &engine) == NG_OK, "open");
         want(ng_next_sampler(&engine, &sampler) == NG_OK, "sampler");
         size_t bytes = round_of(&sampler, &engine, image) / PLACES;
         printf("%s, %u places, %zu bytes, through C: one thread %.0f\n", lists[k].name, PLACES, bytes,

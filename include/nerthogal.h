@@ -3,7 +3,6 @@
  * A master's command packets set a store up. An engine is opened over it: it has a sampler for each
  * event channel, which takes the triggers, and a pump, which gives the frames of the samples. At
  * the end the samplers are finished, the rings drained, and the engine is closed with its account.
- * Not here yet: rings of bytes.
  *
  * Link with libnerthogal_c.a, and with the object that joins it to the C library's malloc, realloc
  * and free (liblibc_c.a of the Rattle toolchain).
@@ -61,7 +60,9 @@ extern "C" {
 
 #define NG_MAX_CHANNELS 8u  /* event channels: 1 to 8 */
 #define NG_MAX_IMAGE 4096u  /* bytes of a memory image: 1 to 4096 */
-#define NG_MAX_RING 1024u   /* places of an event channel's ring: 1 to 1024 */
+#define NG_MAX_RING 1024u   /* places of an event channel's ring of items: 1 to 1024 */
+#define NG_MIN_BYTE_RING 532u   /* bytes of an event channel's ring of bytes: 532 .. */
+#define NG_MAX_BYTE_RING 65536u /* .. to 65536 */
 #define NG_MAX_LISTS 16u    /* DAQ lists, and so the lines of an account */
 #define NG_REPLY_BYTES 8u   /* room that the answer to a command needs */
 #define NG_PUMP_BYTES 4352u /* room that a pump needs: 8 samples of 8 frames of 4 + 64 bytes */
@@ -75,7 +76,7 @@ enum {
     NG_BAD_LIMITS = 3,      /* a number is out of its limits */
     NG_SMALL_BUFFER = 4,    /* the buffer is too short */
     NG_MEMORY = 5,          /* want of memory */
-    NG_BAD_CAPS = 6,        /* not one capacity a channel, or one outside 1 to NG_MAX_RING */
+    NG_BAD_CAPS = 6,        /* not one capacity a channel, or one out of its limits */
     NG_NOTHING_RUNNING = 7, /* no DAQ list of the store runs */
     NG_NO_SAMPLER = 8,      /* all samplers of the engine were handed out */
     NG_WRONG_IMAGE = 9,     /* the image has another length than the store's images */
@@ -94,6 +95,15 @@ enum {
     NG_ABSOLUTE = 0,      /* the absolute ODT number, 1 byte */
     NG_RELATIVE_BYTE = 1, /* the relative ODT number and the number of the DAQ list, 1 byte each */
     NG_RELATIVE_WORD = 2  /* the same with 2 bytes for the list, least significant first: 3 bytes */
+};
+
+/* Which kind of ring each event channel of an engine has: one of the numbers below. A ring of items
+ * takes up the same memory for each sample, as long as the longest; a ring of bytes as much as the
+ * sample is long: 12 bytes, and the packets with 1 byte more for each. A stop takes up 3. */
+typedef uint32_t ng_ring;
+enum {
+    NG_RING_ITEMS = 0, /* capacities are in samples and stops: 1 to NG_MAX_RING */
+    NG_RING_BYTES = 1  /* capacities are in bytes: NG_MIN_BYTE_RING to NG_MAX_BYTE_RING */
 };
 
 /* A store, or none. */
@@ -206,13 +216,14 @@ ng_status ng_store_free(ng_store *store);
 /* ---- opening an engine */
 
 /* Opens an engine over a store, which is only read. Each DAQ list that is ready is in the sampler
- * of its event channel, and runs there where it runs in the store. The ring of event channel c has
- * caps[c] places, one for each sample or stop.
+ * of its event channel, and runs there where it runs in the store. The rings are of this kind, and
+ * that of event channel c has the capacity caps[c].
  *
  *   NG_IN_USE           *engine isn't empty
  *   NG_EMPTY            *store is empty
+ *   NG_BAD_LIMITS       ring is neither NG_RING_ITEMS nor NG_RING_BYTES
  *   NG_BAD_CAPS         caps_len isn't the store's number of event channels, or a capacity is
- *                       outside 1 to NG_MAX_RING
+ *                       out of the limits of this kind
  *   NG_NOTHING_RUNNING  no DAQ list of the store runs
  *   NG_MEMORY           malloc gave none. It is asked for the buffer of frames before NG_BAD_CAPS
  *                       is looked for, and for all else behind NG_NOTHING_RUNNING
@@ -220,7 +231,8 @@ ng_status ng_store_free(ng_store *store);
  *
  * They are looked for in this order, but as said of NG_MEMORY; *engine is as it was on each but
  * NG_OK. Proved: all of this, but that malloc gave none. Calls malloc and free. */
-ng_status ng_open(ng_store *store, const size_t *caps, size_t caps_len, ng_engine *engine);
+ng_status ng_open(ng_store *store, ng_ring ring, const size_t *caps, size_t caps_len,
+                  ng_engine *engine);
 
 /* Hands out a sampler: that of event channel 0 at the first call, of 1 at the next, and so on.
  *

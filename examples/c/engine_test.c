@@ -10,15 +10,20 @@
 
 static const char *part = "";
 
+/* The kind of rings that the parts are gone through with. */
+static ng_ring ring = NG_RING_ITEMS;
+
+static const char *over(void) { return ring == NG_RING_BYTES ? "over rings of bytes: " : ""; }
+
 static void want(bool holds, const char *what) {
     if (holds) return;
-    printf("%s: FAILED: %s\n", part, what);
+    printf("%s%s: FAILED: %s\n", over(), part, what);
     exit(1);
 }
 
 static void begin(const char *name) { part = name; }
 
-static void end(void) { printf("%s: ok\n", part); }
+static void end(void) { printf("%s%s: ok\n", over(), part); }
 
 /* The bytes of a text in hexadecimal. */
 static size_t unhex(const char *text, uint8_t *bytes) {
@@ -59,6 +64,17 @@ static ng_store two_lists(void) {
     want(ng_store_new(2, 1, NG_ABSOLUTE, 4, &store) == NG_OK, "new");
     for (size_t k = 0; k < sizeof packets / sizeof packets[0]; k++) send(&store, packets[k]);
     return store;
+}
+
+/* Opens an engine whose rings have room for so many samples of a packet of 3 bytes, or for more. */
+static ng_status open_with(ng_store *store, const size_t *samples, size_t count,
+                           ng_engine *engine) {
+    size_t caps[NG_MAX_CHANNELS];
+    for (size_t c = 0; c < count; c++) {
+        caps[c] = ring == NG_RING_BYTES ? 16 * samples[c] : samples[c];
+        if (ring == NG_RING_BYTES && caps[c] < NG_MIN_BYTE_RING) caps[c] = NG_MIN_BYTE_RING;
+    }
+    return ng_open(store, ring, caps, count, engine);
 }
 
 static uint8_t frames[NG_PUMP_BYTES];
@@ -121,25 +137,44 @@ static void openings(void) {
     ng_engine engine = NG_ENGINE_INIT;
     ng_sampler sampler = NG_SAMPLER_INIT, more = NG_SAMPLER_INIT;
     static const struct {
+        ng_ring ring;
         size_t caps[2], count;
-    } bad[] = {{{4, 4}, 0}, {{4, 4}, 2}, {{0, 0}, 1}, {{1025, 0}, 1}, {{SIZE_MAX, 0}, 1}};
-    size_t cap = 1;
+    } bad[] = {
+        {NG_RING_ITEMS, {4, 4}, 0},     {NG_RING_ITEMS, {4, 4}, 2},
+        {NG_RING_ITEMS, {0, 0}, 1},     {NG_RING_ITEMS, {1025, 0}, 1},
+        {NG_RING_ITEMS, {SIZE_MAX, 0}, 1},
+        {NG_RING_BYTES, {532, 532}, 0}, {NG_RING_BYTES, {532, 532}, 2},
+        {NG_RING_BYTES, {0, 0}, 1},     {NG_RING_BYTES, {531, 0}, 1},
+        {NG_RING_BYTES, {65537, 0}, 1}, {NG_RING_BYTES, {SIZE_MAX, 0}, 1},
+    };
+    static const ng_ring no_kinds[] = {2, 256, UINT32_MAX};
+    size_t cap = ring == NG_RING_BYTES ? NG_MIN_BYTE_RING : 1;
+    size_t most = ring == NG_RING_BYTES ? NG_MAX_BYTE_RING : NG_MAX_RING;
     begin("openings");
     want(ng_next_sampler(&engine, &sampler) == NG_EMPTY, "no engine");
-    want(ng_open(&none, &cap, 1, &engine) == NG_EMPTY, "no store");
+    want(ng_open(&none, ring, &cap, 1, &engine) == NG_EMPTY, "no store");
     for (size_t k = 0; k < sizeof bad / sizeof bad[0]; k++)
-        want(ng_open(&store, bad[k].caps, bad[k].count, &engine) == NG_BAD_CAPS, "capacities");
+        want(ng_open(&store, bad[k].ring, bad[k].caps, bad[k].count, &engine) == NG_BAD_CAPS,
+             "capacities");
+    for (size_t k = 0; k < sizeof no_kinds / sizeof no_kinds[0]; k++) {
+        want(ng_open(&store, no_kinds[k], &cap, 1, &engine) == NG_BAD_LIMITS, "no such kind");
+        want(ng_open(&store, no_kinds[k], &cap, 0, &engine) == NG_BAD_LIMITS, "before the caps");
+        want(ng_open(&none, no_kinds[k], &cap, 1, &engine) == NG_EMPTY, "behind the store");
+    }
     want(ng_store_new(1, 2, NG_ABSOLUTE, 4, &idle) == NG_OK, "new");
-    want(ng_open(&idle, &cap, 1, &engine) == NG_NOTHING_RUNNING, "no list runs");
-    want(ng_open(&idle, &cap, 0, &engine) == NG_BAD_CAPS, "capacities are looked at first");
+    want(ng_open(&idle, ring, &cap, 1, &engine) == NG_NOTHING_RUNNING, "no list runs");
+    want(ng_open(&idle, ring, &cap, 0, &engine) == NG_BAD_CAPS, "capacities are looked at first");
     want(ng_engine_free(&engine) == NG_EMPTY, "nothing was opened");
-    want(ng_open(&store, &cap, 1, &engine) == NG_OK, "open");
-    want(ng_open(&store, &cap, 1, &engine) == NG_IN_USE, "open again");
-    want(ng_open(&none, &cap, 0, &engine) == NG_IN_USE, "it is looked at first");
+    want(ng_open(&store, ring, &cap, 1, &engine) == NG_OK, "open");
+    want(ng_open(&store, ring, &cap, 1, &engine) == NG_IN_USE, "open again");
+    want(ng_open(&none, 2, &cap, 0, &engine) == NG_IN_USE, "it is looked at first");
     want(ng_next_sampler(&engine, &sampler) == NG_OK, "the one sampler");
     want(ng_next_sampler(&engine, &sampler) == NG_IN_USE, "it is there");
     want(ng_next_sampler(&engine, &more) == NG_NO_SAMPLER, "there is no other");
     want(ng_store_free(&idle) == NG_OK, "free");
+    want(ng_sampler_free(&sampler) == NG_OK && ng_engine_free(&engine) == NG_OK, "free");
+    want(ng_open(&store, ring, &most, 1, &engine) == NG_OK, "the greatest rings");
+    want(ng_next_sampler(&engine, &sampler) == NG_OK, "the one sampler");
     free_all(&store, &engine, &sampler);
     end();
 }
@@ -168,7 +203,7 @@ static void samples(void) {
     ng_sampler sampler = NG_SAMPLER_INIT;
     size_t cap = 1;
     begin("samples, an overload, starts and stops");
-    want(ng_open(&store, &cap, 1, &engine) == NG_OK, "open");
+    want(open_with(&store, &cap, 1, &engine) == NG_OK, "open");
     want(ng_next_sampler(&engine, &sampler) == NG_OK, "sampler");
     trigger(&sampler, "aabb", 1, 1);
     trigger(&sampler, "ccdd", 1, 0);
@@ -201,7 +236,7 @@ static void wrong_images(void) {
     uint8_t image[4] = {0};
     ng_taken taken = {7, 7, 7};
     begin("images of another length");
-    want(ng_open(&store, &cap, 1, &engine) == NG_OK, "open");
+    want(open_with(&store, &cap, 1, &engine) == NG_OK, "open");
     want(ng_next_sampler(&engine, &sampler) == NG_OK, "sampler");
     for (size_t len = 0; len < 5; len++)
         if (len != 2) want(ng_trigger(&sampler, image, len, 0, &taken) == NG_WRONG_IMAGE, "image");
@@ -219,7 +254,7 @@ static void small_buffers(void) {
     size_t cap = 1, len = 77;
     ng_pumped pumped = {7, 7, 7};
     begin("a buffer that is too short: nothing is taken, nothing lost");
-    want(ng_open(&store, &cap, 1, &engine) == NG_OK, "open");
+    want(open_with(&store, &cap, 1, &engine) == NG_OK, "open");
     want(ng_next_sampler(&engine, &sampler) == NG_OK, "sampler");
     trigger(&sampler, "aabb", 1, 1);
     memset(frames, UNWRITTEN, sizeof frames);
@@ -237,7 +272,7 @@ static void two_channels(void) {
     ng_sampler first = NG_SAMPLER_INIT, second = NG_SAMPLER_INIT, third = NG_SAMPLER_INIT;
     size_t caps[2] = {4, 4};
     begin("two event channels, and their samplers in rising order");
-    want(ng_open(&store, caps, 2, &engine) == NG_OK, "open");
+    want(open_with(&store, caps, 2, &engine) == NG_OK, "open");
     want(ng_store_free(&store) == NG_OK, "the store is freed first");
     want(ng_next_sampler(&engine, &first) == NG_OK, "channel 0");
     want(ng_next_sampler(&engine, &second) == NG_OK, "channel 1");
@@ -295,7 +330,7 @@ static void forms(void) {
         ng_taken taken;
         want(ng_store_new(1, 2, rows[k].id, rows[k].stamp_size, &store) == NG_OK, "new");
         for (size_t i = 0; i < sizeof packets / sizeof packets[0]; i++) send(&store, packets[i]);
-        want(ng_open(&store, &cap, 1, &engine) == NG_OK, "open");
+        want(open_with(&store, &cap, 1, &engine) == NG_OK, "open");
         want(ng_next_sampler(&engine, &sampler) == NG_OK, "sampler");
         for (size_t i = 0; i < 3; i++) {
             want(ng_trigger(&sampler, images[i], 2, 0x01020304, &taken) == NG_OK, "trigger");
@@ -398,7 +433,7 @@ static void finishing(void) {
     size_t cap = 2;
     begin("the end: samplers are finished");
     want(ng_finish(&sampler) == NG_EMPTY, "no sampler");
-    want(ng_open(&store, &cap, 1, &engine) == NG_OK, "open");
+    want(open_with(&store, &cap, 1, &engine) == NG_OK, "open");
     want(ng_next_sampler(&engine, &sampler) == NG_OK, "sampler");
     trigger(&sampler, "aabb", 1, 1);
     trigger(&sampler, "ccdd", 1, 1);
@@ -408,14 +443,14 @@ static void finishing(void) {
     close_with(&engine, NG_MAX_LISTS, account, 1);
     want(ng_next_sampler(&engine, &sampler) == NG_EMPTY, "no engine");
 
-    want(ng_open(&store, &cap, 1, &engine) == NG_OK, "the handle is filled again");
+    want(open_with(&store, &cap, 1, &engine) == NG_OK, "the handle is filled again");
     want(ng_next_sampler(&engine, &sampler) == NG_OK, "and that of the sampler");
     trigger(&sampler, "aabb", 1, 1);
     want(ng_engine_free(&engine) == NG_OK, "the engine is freed first");
     want(ng_finish(&sampler) == NG_NO_ENGINE, "no engine to go back to");
     is_empty(&sampler);
 
-    want(ng_open(&store, &cap, 1, &engine) == NG_OK, "open");
+    want(open_with(&store, &cap, 1, &engine) == NG_OK, "open");
     want(ng_next_sampler(&engine, &sampler) == NG_OK, "sampler");
     trigger(&sampler, "aabb", 1, 1);
     finish(&sampler);
@@ -444,7 +479,7 @@ static void unfinished(void) {
     no_drain(&engine, 0, NG_EMPTY);
     no_close(&engine, 0, NG_EMPTY);
     for (unsigned k = 0; k < 2; k++) {
-        want(ng_open(&store, caps, 2, &engine) == NG_OK, "open");
+        want(open_with(&store, caps, 2, &engine) == NG_OK, "open");
         is_unfinished(&engine); /* both are in the engine */
         want(ng_next_sampler(&engine, &first) == NG_OK, "channel 0");
         is_unfinished(&engine);
@@ -461,7 +496,7 @@ static void unfinished(void) {
         no_close(&engine, NG_MAX_LISTS - 1, NG_SMALL_BUFFER);
         close_with(&engine, NG_MAX_LISTS, account, 2);
     }
-    want(ng_open(&store, caps, 2, &engine) == NG_OK, "open");
+    want(open_with(&store, caps, 2, &engine) == NG_OK, "open");
     want(ng_next_sampler(&engine, &first) == NG_OK, "channel 0");
     want(ng_next_sampler(&engine, &second) == NG_OK, "channel 1");
     trigger(&second, "b1", 2, 2);
@@ -482,7 +517,7 @@ static void rounds(void) {
     for (unsigned k = 0; k < 4; k++) {
         ng_engine engine = NG_ENGINE_INIT;
         ng_sampler first = NG_SAMPLER_INIT, second = NG_SAMPLER_INIT;
-        want(ng_open(&store, caps, 2, &engine) == NG_OK, "open");
+        want(open_with(&store, caps, 2, &engine) == NG_OK, "open");
         want(ng_next_sampler(&engine, &first) == NG_OK, "channel 0");
         want(ng_next_sampler(&engine, &second) == NG_OK, "channel 1");
         trigger(&first, "a1", 1, 1);
@@ -505,6 +540,71 @@ static void rounds(void) {
         pump(&engine, "", 0, 0);
         close_with(&engine, ROOM, account, 2);
     }
+    want(ng_store_free(&store) == NG_OK, "free");
+    end();
+}
+
+/* The frame of an image whose first byte this is, with its counter. */
+static const char *frame(unsigned counter, unsigned pid, unsigned image) {
+    static char text[16];
+    sprintf(text, "0300%02x00%02x%02xbb", counter, pid, image);
+    return text;
+}
+
+/* A ring of 544 bytes has room for 34 samples of a packet of 3 bytes, which take up 16 bytes each;
+ * then a stop, which takes up 3, has none. */
+static void full_rings(void) {
+    static const ng_line account[] = {{0, 36, 34, 1, 1}};
+    static const size_t caps[1] = {544};
+    ng_store store = one_list();
+    ng_engine engine = NG_ENGINE_INIT;
+    ng_sampler sampler = NG_SAMPLER_INIT;
+    uint8_t image[2] = {0, 0xBB};
+    ng_taken taken;
+    begin("a full ring: an overload, a stop without room, and the end");
+    want(ng_open(&store, NG_RING_BYTES, caps, 1, &engine) == NG_OK, "open");
+    want(ng_next_sampler(&engine, &sampler) == NG_OK, "sampler");
+    for (; image[0] < 35; image[0]++) {
+        want(ng_trigger(&sampler, image, 2, 0, &taken) == NG_OK, "trigger");
+        want(taken.accepted == (image[0] < 34 ? 1 : 0), "34 samples have room");
+    }
+    want(ng_stop(&sampler, 0) == NG_NO_ROOM, "no room for the stop marker");
+    pump(&engine, frame(0, 0, 0), 1, 0);
+    want(ng_trigger(&sampler, image, 2, 0, &taken) == NG_OK && taken.accepted == 1, "room again");
+    pump(&engine, frame(1, 0, 1), 1, 0);
+    want(ng_stop(&sampler, 0) == NG_OK, "stop");
+    counts(&sampler, 0, 36, 1);
+    finish(&sampler);
+    for (unsigned k = 2; k < 34; k++) drain(&engine, frame(k, 0, k), 1, 0);
+    close_with(&engine, ROOM, account, 1);
+    want(ng_store_free(&store) == NG_OK, "free");
+    end();
+}
+
+/* Behind a drop the first sample that finds room is marked, and all that was sent is drained. */
+static void drained_rings(void) {
+    static const ng_line account[] = {{0, 36, 35, 1, 0}};
+    static const size_t caps[1] = {544};
+    ng_store store = one_list();
+    ng_engine engine = NG_ENGINE_INIT;
+    ng_sampler sampler = NG_SAMPLER_INIT;
+    uint8_t image[2] = {0, 0xBB};
+    ng_taken taken;
+    begin("a full ring is drained: the sample behind the drop is marked");
+    want(ng_open(&store, NG_RING_BYTES, caps, 1, &engine) == NG_OK, "open");
+    want(ng_next_sampler(&engine, &sampler) == NG_OK, "sampler");
+    for (; image[0] < 35; image[0]++)
+        want(ng_trigger(&sampler, image, 2, 0, &taken) == NG_OK, "trigger");
+    pump(&engine, frame(0, 0, 0), 1, 0);
+    want(ng_trigger(&sampler, image, 2, 0, &taken) == NG_OK && taken.accepted == 1, "room again");
+    pump(&engine, frame(1, 0, 1), 1, 0);
+    want(ng_stop(&sampler, 0) == NG_OK, "stop");
+    finish(&sampler);
+    for (unsigned k = 2; k < 34; k++) drain(&engine, frame(k, 0, k), 1, 0);
+    drain(&engine, frame(34, 0x80, 35), 1, 0);
+    drain(&engine, "", 1, 1);
+    drain(&engine, "", 0, 0);
+    close_with(&engine, ROOM, account, 1);
     want(ng_store_free(&store) == NG_OK, "free");
     end();
 }
@@ -539,7 +639,7 @@ static void accounts(void) {
     for (unsigned k = 0; k < 4; k++) {
         ng_engine engine = NG_ENGINE_INIT;
         ng_sampler first = NG_SAMPLER_INIT, second = NG_SAMPLER_INIT;
-        want(ng_open(&store, caps, 2, &engine) == NG_OK, "open");
+        want(open_with(&store, caps, 2, &engine) == NG_OK, "open");
         want(ng_next_sampler(&engine, &first) == NG_OK, "channel 0");
         want(ng_next_sampler(&engine, &second) == NG_OK, "channel 1");
         trigger(&first, "a1", 2, 2);
@@ -586,7 +686,7 @@ static unsigned long refusals(ng_store *store, bool closes) {
         ng_sampler first = NG_SAMPLER_INIT, second = NG_SAMPLER_INIT;
         unsigned long held = memory_held;
         memory_refuse_behind(k);
-        ng_status opened = ng_open(store, caps, 2, &engine);
+        ng_status opened = open_with(store, caps, 2, &engine);
         unsigned long before = memory_held;
         ng_status one = opened == NG_OK ? ng_next_sampler(&engine, &first) : NG_OK;
         if (one == NG_MEMORY) want(before == memory_held, "what was had is given back");
@@ -598,7 +698,7 @@ static unsigned long refusals(ng_store *store, bool closes) {
         want(lacking == (refused ? 1u : 0u), "want of memory is answered once, where it was met");
         if (opened == NG_MEMORY) {
             want(held == memory_held, "what was had is given back");
-            want(ng_open(store, caps, 2, &engine) == NG_OK, "open again");
+            want(open_with(store, caps, 2, &engine) == NG_OK, "open again");
             want(ng_next_sampler(&engine, &first) == NG_OK, "sampler 0");
             want(ng_next_sampler(&engine, &second) == NG_OK, "sampler 1");
         }
@@ -618,7 +718,7 @@ static void no_sampler(ng_store *store) {
     size_t caps[2] = {4, 4};
     ng_engine engine = NG_ENGINE_INIT;
     ng_sampler first = NG_SAMPLER_INIT, second = NG_SAMPLER_INIT, third = NG_SAMPLER_INIT;
-    want(ng_open(store, caps, 2, &engine) == NG_OK, "open");
+    want(open_with(store, caps, 2, &engine) == NG_OK, "open");
     want(ng_next_sampler(&engine, &first) == NG_OK, "sampler 0");
     want(ng_next_sampler(&engine, &second) == NG_OK, "sampler 1");
     memory_refuse_behind(0);
@@ -651,7 +751,7 @@ static void long_run(void) {
     ng_report report = {77, true};
     unsigned long whole = 0;
     begin("a hundred thousand triggers and pumps, and the end, ask for no memory");
-    want(ng_open(&store, &cap, 1, &engine) == NG_OK, "open");
+    want(open_with(&store, &cap, 1, &engine) == NG_OK, "open");
     want(ng_next_sampler(&engine, &sampler) == NG_OK, "sampler");
     unsigned long asked = memory_asked, held = memory_held;
     for (uint32_t k = 0; k < 100000; k++) {
@@ -702,6 +802,18 @@ int main(void) {
     accounts();
     no_memory();
     long_run();
+    ring = NG_RING_BYTES;
+    openings();
+    wrong_images();
+    small_buffers();
+    two_channels();
+    finishing();
+    unfinished();
+    full_rings();
+    drained_rings();
+    no_memory();
+    long_run();
+    ring = NG_RING_ITEMS;
     begin("all memory was given back");
     want(memory_held == held, "a block is left");
     end();

@@ -46,7 +46,8 @@ int main(void) {
     ng_taken taken;
     ng_counts counts = {0, 0, 0};
 
-    if (set_up(&store) != NG_OK || ng_open(&store, caps, 1, &engine) != NG_OK) return 1;
+    if (set_up(&store) != NG_OK) return 1;
+    if (ng_open(&store, NG_RING_ITEMS, caps, 1, &engine) != NG_OK) return 1;
     if (ng_next_sampler(&engine, &sampler) != NG_OK) return 1;
 
     /* the second sample finds no room: it is dropped, and the third one says so */

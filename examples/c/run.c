@@ -4,7 +4,7 @@
  *   run FILE
  *
  * The run file is read as those of examples/ stand: keys in front of their values, and no escape in
- * a string. Runs over rings of bytes are refused: the C library has none.
+ * a string.
  *
  * Look at number(): an engine numbers its frames from 0. Here they go over one connection with the
  * replies to the commands, so their counters go on behind those. */
@@ -41,6 +41,7 @@ typedef struct {
 
 static uint64_t channels, image_len, stamp_size = 4, caps[NG_MAX_CHANNELS], caps_len;
 static ng_id_kind id = NG_ABSOLUTE;
+static ng_ring ring = NG_RING_ITEMS;
 static bool drains = true;
 static strings setup, steps;
 
@@ -130,6 +131,12 @@ static void read_id(void) {
     else if (strcmp(kind, "absolute") != 0) stop(2, "bad run: key");
 }
 
+static void read_ring(void) {
+    const char *kind = string();
+    if (strcmp(kind, "bytes") == 0) ring = NG_RING_BYTES;
+    else if (strcmp(kind, "samples") != 0) stop(2, "bad run: key");
+}
+
 static void read_value(const char *key) {
     if (strcmp(key, "channels") == 0) channels = integer();
     else if (strcmp(key, "image_len") == 0) image_len = integer();
@@ -139,15 +146,17 @@ static void read_value(const char *key) {
     else if (strcmp(key, "setup") == 0) read_strings(&setup);
     else if (strcmp(key, "steps") == 0) read_strings(&steps);
     else if (strcmp(key, "drain") == 0) drains = boolean();
-    else if (strcmp(key, "ring") != 0) stop(2, "bad run: key");
-    else if (strcmp(string(), "samples") != 0) stop(2, "the C library has no rings of bytes yet");
+    else if (strcmp(key, "ring") == 0) read_ring();
+    else stop(2, "bad run: key");
 }
 
 static void look_at_numbers(void) {
     bool good = channels >= 1 && channels <= NG_MAX_CHANNELS && caps_len == channels;
     good = good && image_len >= 1 && image_len <= NG_MAX_IMAGE;
     good = good && (stamp_size == 1 || stamp_size == 2 || stamp_size == 4);
-    for (size_t c = 0; c < caps_len; c++) good = good && caps[c] >= 1 && caps[c] <= NG_MAX_RING;
+    uint64_t least = ring == NG_RING_BYTES ? NG_MIN_BYTE_RING : 1;
+    uint64_t most = ring == NG_RING_BYTES ? NG_MAX_BYTE_RING : NG_MAX_RING;
+    for (size_t c = 0; c < caps_len; c++) good = good && caps[c] >= least && caps[c] <= most;
     if (!good) stop(2, "bad run: key");
 }
 
@@ -294,7 +303,7 @@ static void open_engine(void) {
     size_t places[NG_MAX_CHANNELS];
     const ng_sampler none = NG_SAMPLER_INIT;
     for (size_t c = 0; c < caps_len; c++) places[c] = caps[c];
-    ng_status status = ng_open(&store, places, caps_len, &engine);
+    ng_status status = ng_open(&store, ring, places, caps_len, &engine);
     if (status == NG_NOTHING_RUNNING) stop(1, "nothing running");
     want(status == NG_OK, "no engine");
     for (size_t c = 0; c < channels; c++) {

@@ -177,7 +177,8 @@ static bool slave(void) {
     pthread_t threads[TASKS];
     ng_store store = NG_STORE_INIT;
     ng_engine engine = NG_ENGINE_INIT;
-    if (!set_up(&store) || ng_open(&store, caps, TASKS, &engine) != NG_OK) return false;
+    if (!set_up(&store)) return false;
+    if (ng_open(&store, NG_RING_ITEMS, caps, TASKS, &engine) != NG_OK) return false;
     if (!start_tasks(&engine, tasks, threads) || !transmit(&engine)) return false;
     for (int c = 0; c < TASKS; c++)
         if (pthread_join(threads[c], NULL) != 0 || !tasks[c].good) return false;

@@ -128,7 +128,7 @@ static void account(ng_engine *engine) {
     }
 }
 
-static void run(size_t cap, bool joins) {
+static void run(ng_ring ring, size_t cap, bool joins) {
     const size_t caps[CHANNELS] = {cap, cap};
     ng_store store = NG_STORE_INIT;
     ng_engine engine = NG_ENGINE_INIT;
@@ -136,7 +136,7 @@ static void run(size_t cap, bool joins) {
     pthread_t threads[CHANNELS];
     unsigned long held = memory_held;
     set_up(&store);
-    want(ng_open(&store, caps, CHANNELS, &engine) == NG_OK, "open");
+    want(ng_open(&store, ring, caps, CHANNELS, &engine) == NG_OK, "open");
     want(ng_store_free(&store) == NG_OK, "free");
     counter = 0;
     for (int c = 0; c < CHANNELS; c++) {
@@ -154,7 +154,10 @@ static void run(size_t cap, bool joins) {
 }
 
 int main(void) {
-    for (int k = 0; k < TIMES; k++) run(k % 2 == 0 ? 4 : 1024, k % 4 < 2);
+    for (int k = 0; k < TIMES; k++) {
+        run(NG_RING_ITEMS, k % 2 == 0 ? 4 : NG_MAX_RING, k % 4 < 2);
+        run(NG_RING_BYTES, k % 2 == 0 ? NG_MIN_BYTE_RING : NG_MAX_BYTE_RING, k % 4 < 2);
+    }
     printf("two samplers in threads beside a transmitter: ok\n");
     return 0;
 }

@@ -5,16 +5,11 @@ use Rattle.std.specs.Prelude.{remove}
 use Rattle.channel_ring.specs.Ends.{RingName}
 use Rattle.channel_ring.specs.declared.ends.SendEnd.{Ghosts as SendGhosts}
 use Rattle.channel_ring.specs.declared.ends.RingEnd.{Ghosts as EndGhosts}
-use Rattle.channel_ring.specs.declared.sample_ring.SendHalf.{SendHalf}
 use Rattle.sampler.specs.State.{JoinedEnd, SamplerEndState, SamplerState, joined}
 use Rattle.transmitter.specs.Looks.{EndsStay}
 use Rattle.daq_engine.specs.Configuration.{upto}
-use Rattle.transmitter.specs.Written.{TransmitterState}
-use Rattle.nerthogal_c.specs.Lendings.{LendingState, LooksAtEnds, channels_in, rings_in}
-use Rattle.nerthogal_c.specs.Ways.{Left, Place, place_of, place_of_end}
-pub use Rattle.channel_ring.specs.contracts.sample_ring.SendHalfSendEnd.TheImpl.{ghosts as send}
-pub use Rattle.channel_ring.specs.contracts.sample_ring.SendLeftRingEnd.TheImpl.{ghosts as ring}
-pub use Rattle.channel_ring.specs.contracts.sample_ring.TakeHalfTakeEnd.TheImpl.{ghosts as give}
+use Rattle.nerthogal_c.specs.Lendings.{channels_in, rings_in}
+use Rattle.nerthogal_c.specs.Ways.{Place, place_of, place_of_end}
 pub use Rattle.frame_writer.specs.contracts.sink_out.SinkOutOut.TheImpl.{ghosts as out}
 
 -- the places of so many channels and rings
@@ -27,20 +22,20 @@ pub length-upto : (a k : ℕ) → length (upto a k) ≡ k
 length-upto a zero = refl
 length-upto a (suc k) = ap (λ n. suc n) (length-upto (a + 1) k)
 
-module _ (send : SendGhosts SendHalf Left) where
-  pub channels-of : (xs : List (SamplerState SendHalf))
-      → channels_in (map (place_of send) xs) ≡ map (λ (s : SamplerState SendHalf). s.channel) xs
+module _ {S E : Type 0} (send : SendGhosts S E) where
+  pub channels-of : (xs : List (SamplerState S))
+      → channels_in (map (place_of send) xs) ≡ map (λ (s : SamplerState S). s.channel) xs
   channels-of [] = refl
   channels-of (x ∷ xs) = ap (λ cs. x.channel ∷ cs) (channels-of xs)
 
-  pub rings-of : (xs : List (SamplerState SendHalf))
-      → rings_in (map (place_of send) xs) ≡ map (λ (s : SamplerState SendHalf). send.ring s.end) xs
+  pub rings-of : (xs : List (SamplerState S))
+      → rings_in (map (place_of send) xs) ≡ map (λ (s : SamplerState S). send.ring s.end) xs
   rings-of [] = refl
   rings-of (x ∷ xs) = ap (λ rs. send.ring x.end ∷ rs) (rings-of xs)
 
-module _ (ring : EndGhosts Left) where
+module _ {E : Type 0} (ring : EndGhosts E) where
   abbrev Ended : Type 0
-  Ended = SamplerEndState Left
+  Ended = SamplerEndState E
 
   pub channels-of-ends : (xs : List Ended)
       → channels_in (map (place_of_end ring) xs) ≡ map (λ (e : Ended). e.channel) xs
@@ -82,17 +77,6 @@ module _ (ring : EndGhosts Left) where
   came [] e (x ∷ xs) w rest some is first = ap (λ y. y ∷ (xs ++ rest)) (is ∙ first)
   came (a ∷ more) e (x ∷ xs) w rest some is first =
       ap (λ ys. place_of_end ring a ∷ ys) (came more e (x ∷ xs) w rest some is first)
-
--- what was looked at behind something that left the places and the samplers
-pub looks-on : {a b : TransmitterState} {l m n : LendingState} → LooksAtEnds ring a b m n
-    → m.places ≡ l.places → m.samplers ≡ l.samplers → LooksAtEnds ring a b l n
-looks-on looks places samplers = record {
-  back = looks.back;
-  looked = looks.looked;
-  all = looks.all;
-  places = looks.places ∙ places;
-  samplers = looks.samplers ∙ samplers;
-}
 
 -- a place that is put where it stands
 pub set-same : (out : List Place) (w : Place) → w ≡ slice_index_or out 0 w → slice_set out 0 w ≡ out

@@ -4,7 +4,6 @@ use Rattle.std.specs.Prelude.{drop, map, Option, Some, None}
 use Rattle.xcp_base.specs.declared.limits.TheConstants.{MAX_LISTS}
 use Rattle.channel_ring.specs.declared.ends.RingEnd.{Ghosts as EndGhosts}
 use Rattle.channel_ring.specs.declared.ends.TakeEnd.{Ghosts as TakeGhosts}
-use Rattle.channel_ring.specs.declared.sample_ring.TakeHalf.{TakeHalf}
 use Rattle.frame_writer.specs.declared.out.Out.{Ghosts as OutGhosts}
 use Rattle.frame_writer.specs.declared.sink_out.SinkOut.{SinkOut}
 use Rattle.sampler.specs.State.{JoinedEnd, joined}
@@ -15,11 +14,11 @@ use Rattle.daq_engine.specs.declared.report.ListReport.{ListReport}
 use Rattle.daq_engine.specs.declared.report.Report.{Report}
 use Rattle.nerthogal_c.specs.Engines.{FrameRoom, KeepsAll, OnEngine, PumpsEngine}
 use Rattle.nerthogal_c.specs.Lendings.{AreBack, LooksAtEnds}
-use Rattle.nerthogal_c.specs.Ways.{Left}
+use Rattle.nerthogal_c.specs.States.{ByteEngine, Bytes, EngineState, ItemEngine, Items}
 use Rattle.nerthogal_c.specs.declared.report_out.ReportOut.{ReportOut}
 use Rattle.nerthogal_c.specs.declared.content.Content.{Content}
-use Rattle.nerthogal_c.specs.declared.content.Content.TheVariants.{Engine}
-use Rattle.nerthogal_c.specs.declared.engine.Engine.{Engine as Parts}
+use Rattle.nerthogal_c.specs.declared.content.Content.TheVariants.{Engine as OverItems}
+use Rattle.nerthogal_c.specs.declared.content.Content.TheVariants.{ByteEngine as OverBytes}
 use Rattle.nerthogal_c.specs.declared.pumping.TheConstants.{PUMP_BYTES}
 use Rattle.nerthogal_c.specs.declared.status.Status.{Status}
 use Rattle.nerthogal_c.specs.declared.status.Status.TheVariants as status
@@ -39,63 +38,65 @@ pub record AccountRoom : Type 0 where
   pub lines : List ListReport
   pub report : ReportOut
 
--- why a handle is not closed, where there is so much room for lines
-abbrev pub StaysOpen : Option Content → Option Content → ℕ → Status → Type 0
-StaysOpen (Some (Engine s)) new room status.SmallBuffer =
-    (room < MAX_LISTS) × (new ≡ Some (Engine s))
-StaysOpen (Some (Engine s)) new room status.Unfinished =
-    (MAX_LISTS ≤ room) × ((t : Parts) × (new ≡ Some (Engine t)) × KeepsAll s t)
-StaysOpen (Some (Engine s)) new room _ = ⊥
-StaysOpen old new room result = (result ≡ status.Empty) × (new ≡ old)
+module _ {S T E : Type 0} where
+  -- an engine may be closed with so much room for lines: all its samplers came back
+  abbrev pub MayClose : EndGhosts E → EngineState S T E → EngineState S T E → ℕ → Type 0
+  MayClose ring s t room = KeepsAll s t × AreBack ring t.lending × (MAX_LISTS ≤ room)
 
-module _ (out : OutGhosts SinkOut) (give : TakeGhosts TakeHalf Left) (ring : EndGhosts Left) where
-  abbrev pub state_in : Parts → TransmitterState
+  -- why it stays open
+  abbrev pub StaysOpen : EngineState S T E → EngineState S T E → ℕ → Status → Type 0
+  StaysOpen s t room status.SmallBuffer = (room < MAX_LISTS) × (t ≡ s)
+  StaysOpen s t room status.Unfinished = (MAX_LISTS ≤ room) × KeepsAll s t
+  StaysOpen s t room _ = ⊥
+
+module _ {S T E : Type 0} (out : OutGhosts SinkOut) (give : TakeGhosts T E)
+    (ring : EndGhosts E) where
+  abbrev pub state_in : EngineState S T E → TransmitterState
   state_in e = transmission out give e.transmitter
 
-  abbrev pub ends_in : Parts → List JoinedEnd
+  abbrev pub ends_in : EngineState S T E → List JoinedEnd
   ends_in e = map (joined ring) e.lending.ends
 
   -- all samplers came back, and all that they sent was looked at
-  abbrev pub LooksAtAll : Parts → Parts → Type 0
+  abbrev pub LooksAtAll : EngineState S T E → EngineState S T E → Type 0
   LooksAtAll s t = LooksAtEnds ring (state_in s) (state_in t) s.lending t.lending
 
   -- then it pumps, where something is left
-  abbrev pub DrainsOn : Parts → Parts → FrameRoom → FrameRoom → Bool → Status → Type 0
+  abbrev pub DrainsOn
+      : EngineState S T E → EngineState S T E → FrameRoom → FrameRoom → Bool → Status → Type 0
   DrainsOn s t before after true result =
       KnowsSome (state_in s) × PumpsEngine out give s t before after result
   DrainsOn s t before after false result =
       (result ≡ status.Ok) × KnowsNone (state_in s) × (t ≡ s) × (after ≡ nothing_in before)
 
   -- the buffer is too short
-  abbrev pub IsShort : Parts → Parts → DrainRoom → DrainRoom → Type 0
+  abbrev pub IsShort : EngineState S T E → EngineState S T E → DrainRoom → DrainRoom → Type 0
   IsShort s t before after =
       (length before.frames.buffer < PUMP_BYTES) × (t ≡ s) × (after ≡ before)
 
   -- a sampler didn't come back yet
-  abbrev pub AwaitsSome : Parts → Parts → DrainRoom → DrainRoom → Type 0
+  abbrev pub AwaitsSome : EngineState S T E → EngineState S T E → DrainRoom → DrainRoom → Type 0
   AwaitsSome s t before after =
       (PUMP_BYTES ≤ length before.frames.buffer) × KeepsAll s t × (after ≡ before)
 
   -- all came back
-  abbrev pub DrainsAll : Parts → Parts → DrainRoom → DrainRoom → Status → Type 0
+  abbrev pub DrainsAll
+      : EngineState S T E → EngineState S T E → DrainRoom → DrainRoom → Status → Type 0
   DrainsAll s t before after result =
-      (m : Parts) × (PUMP_BYTES ≤ length before.frames.buffer) × LooksAtAll s m
+      (m : EngineState S T E) × (PUMP_BYTES ≤ length before.frames.buffer) × LooksAtAll s m
       × DrainsOn m t before.frames after.frames after.left result
 
   -- what an engine does where its rings are drained
-  abbrev pub DrainsEngine : Parts → Parts → DrainRoom → DrainRoom → Status → Type 0
+  abbrev pub DrainsEngine
+      : EngineState S T E → EngineState S T E → DrainRoom → DrainRoom → Status → Type 0
   DrainsEngine s t before after result =
       ((result ≡ status.SmallBuffer) × IsShort s t before after)
       ⊎ (((result ≡ status.Unfinished) × AwaitsSome s t before after)
       ⊎ DrainsAll s t before after result)
 
-  -- what ng_drain does to a handle
-  abbrev pub Drains : Option Content → Option Content → DrainRoom → DrainRoom → Status → Type 0
-  Drains old new before after result =
-      OnEngine old new result (after ≡ before) (λ s t. DrainsEngine s t before after result)
-
   -- an account is that of the engine, by what came back
-  pub record IsAccountOf (e : Parts) (before after : AccountRoom) (report : Report) : Type 0 where
+  pub record IsAccountOf (e : EngineState S T E) (before after : AccountRoom) (report : Report)
+      : Type 0 where
     pub back : AreBack ring e.lending
     pub headline : HasHeadline (state_in e) (ends_in e) report
     pub told :
@@ -105,22 +106,47 @@ module _ (out : OutGhosts SinkOut) (give : TakeGhosts TakeHalf Left) (ring : End
         after.lines
         ≡ report.lists.items ++ drop (length report.lists.items) before.lines
 
-  -- an engine may be closed with so much room for lines: all its samplers came back
-  abbrev pub MayClose : Content → Content → ℕ → Type 0
-  MayClose old new room =
-      (s t : Parts) × (old ≡ Engine s) × (new ≡ Engine t) × KeepsAll s t
-      × AreBack ring t.lending × (MAX_LISTS ≤ room)
-
-  -- an engine is closed with its account
-  abbrev pub ClosesWell
-      : Option Content → Option Content → AccountRoom → AccountRoom → Type 0
-  ClosesWell old new before after =
-      (s t : Parts) × (old ≡ Some (Engine s)) × (new ≡ None) × KeepsAll s t
+  -- an engine is given up with its account
+  abbrev pub ClosesEngine : EngineState S T E → AccountRoom → AccountRoom → Type 0
+  ClosesEngine s before after =
+      (t : EngineState S T E) × KeepsAll s t
       × ((report : Report) × IsAccountOf t before after report)
+
+-- why what is held stays, where it is to be closed with so much room for lines
+abbrev pub StaysHeld : Option Content → Option Content → ℕ → Status → Type 0
+StaysHeld (Some (OverItems s)) new room result =
+    (t : ItemEngine) × (new ≡ Some (OverItems t)) × StaysOpen s t room result
+StaysHeld (Some (OverBytes s)) new room result =
+    (t : ByteEngine) × (new ≡ Some (OverBytes t)) × StaysOpen s t room result
+StaysHeld old new room result = (result ≡ status.Empty) × (new ≡ old)
+
+module _ (items : Items) (bytes : Bytes) where
+  -- what ng_drain does to a handle
+  abbrev pub Drains : Option Content → Option Content → DrainRoom → DrainRoom → Status → Type 0
+  Drains old new before after result =
+      OnEngine old new result (after ≡ before)
+      (λ s t. DrainsEngine items.out items.give items.ring s t before after result)
+      (λ s t. DrainsEngine bytes.out bytes.give bytes.ring s t before after result)
+
+  -- what is held is an engine that may be closed
+  abbrev pub MayCloseHeld : Content → Content → ℕ → Type 0
+  MayCloseHeld (OverItems s) new room =
+      (t : ItemEngine) × (new ≡ OverItems t) × MayClose items.ring s t room
+  MayCloseHeld (OverBytes s) new room =
+      (t : ByteEngine) × (new ≡ OverBytes t) × MayClose bytes.ring s t room
+  MayCloseHeld old new room = ⊥
+
+  -- the engine that is held is given up
+  abbrev pub ClosesHeld : Option Content → AccountRoom → AccountRoom → Type 0
+  ClosesHeld (Some (OverItems s)) before after =
+      ClosesEngine items.out items.give items.ring s before after
+  ClosesHeld (Some (OverBytes s)) before after =
+      ClosesEngine bytes.out bytes.give bytes.ring s before after
+  ClosesHeld old before after = ⊥
 
   -- what ng_close does to a handle
   abbrev pub Closes
       : Option Content → Option Content → AccountRoom → AccountRoom → Status → Type 0
   Closes old new before after result =
-      ((result ≡ status.Ok) × ClosesWell old new before after)
-      ⊎ (StaysOpen old new (length before.lines) result × (after ≡ before))
+      ((result ≡ status.Ok) × (new ≡ None) × ClosesHeld old before after)
+      ⊎ (StaysHeld old new (length before.lines) result × (after ≡ before))

@@ -1,7 +1,9 @@
--- The numbers of `ng_id_kind` in `nerthogal.h` (own).
+-- The numbers of `ng_id_kind` and `ng_ring` in `nerthogal.h` (own).
 use Rattle.std.specs.Prelude.{ℕ, ◌==◌, if◌then◌else◌, Option, Some, None}
 use Rattle.xcp_base.specs.declared.id_kind.IdKind.{IdKind}
 use Rattle.xcp_base.specs.declared.id_kind.IdKind.TheVariants.{Absolute, RelativeByte, RelativeWord}
+use Rattle.nerthogal_c.specs.declared.ring_kind.RingKind.{RingKind}
+use Rattle.nerthogal_c.specs.declared.ring_kind.RingKind.TheVariants.{Bytes, Items}
 
 -- the identification field with this number, if there is one
 abbrev pub kind_of : ℕ → Option IdKind
@@ -9,3 +11,9 @@ kind_of number =
     if number == 0 then Some Absolute
     else if number == 1 then Some RelativeByte
     else if number == 2 then Some RelativeWord else None
+
+-- the kind of ring with this number, if there is one
+abbrev pub ring_of : ℕ → Option RingKind
+ring_of number =
+    if number == 0 then Some Items
+    else if number == 1 then Some Bytes else None

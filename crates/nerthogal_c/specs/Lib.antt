@@ -6,5 +6,6 @@ pub mod Lendings
 pub mod Lends
 pub mod Owned
 pub mod Samplers
+pub mod States
 pub mod Statuses
 pub mod Ways

@@ -1,5 +1,5 @@
 use crate::returns::{Return, Returns};
-use channel_ring::{RingEnd, SendEnd, SendHalf, SendLeft};
+use channel_ring::SendEnd;
 use rtrb::Consumer;
 use sampler::SamplerEnd;
 use std::alloc::Global;
@@ -7,34 +7,37 @@ use std::marker::Model;
 
 /// The end of a way back that an engine has.
 #[derive(Drop)]
-pub struct ComingBack {
-    pub(crate) consumer: Consumer<Return, Global, Returns>,
+pub struct ComingBack<S: SendEnd> {
+    pub(crate) consumer: Consumer<Return<S>, Global, Returns>,
 }
 
-impl Model for ComingBack {
+impl<S: SendEnd> Model for ComingBack<S> {
     ghost use Rattle.rtrb.specs.Ring.{received};
     ghost use Rattle.nerthogal_c.specs.Ways.{Place, WasBegun, place_in};
 
     ghost Value = { Place };
 
-    ghost view = { λ c. place_in ⟦<SendHalf as SendEnd>⟧ (received c.consumer) };
+    ghost view = { λ c. place_in S.SendEnd (received c.consumer) };
 
     ghost invariant = { λ c. WasBegun (received c.consumer) };
 }
 
-impl ComingBack {
+impl<S: SendEnd> ComingBack<S> {
     ghost use Rattle.std.specs.Prelude.{◌≡◌, IfSome};
     ghost use Rattle.nerthogal_c.specs.Ways.{place_of_end};
 
     /// What is left of the sampler, if it was given back.
-    pub fn take(&mut self) -> Option<SamplerEnd<SendLeft>>
+    pub fn take(&mut self) -> Option<SamplerEnd<S::End>>
         ensures place { IfSome result (λ end.
-            place_of_end ⟦<SendLeft as RingEnd>⟧ end ≡ self.old) }
+            place_of_end S.End.RingEnd end ≡ self.old) }
         ensures stays { self.new ≡ self.old }
     {
-        match self.consumer.pop() {
-            Ok(Return::End(end)) => Some(end),
-            _ => None,
+        let Ok(returned) = self.consumer.pop() else {
+            return None;
+        };
+        match returned {
+            Return::End(end) => Some(end),
+            Return::Sampler(_) => None,
         }
     }
 }

@@ -7,18 +7,18 @@ use crate::engine::Engine;
 use crate::pumping::{PUMP_BYTES, pump};
 use crate::sets::PumpedOut;
 use crate::status::Status;
-use channel_ring::{RingEnd, SendLeft, TakeEnd, TakeHalf};
+use daq_engine::Ring;
 use frame_writer::{Out, SinkOut};
 
 /// Looks at all that was sent, and pumps where something is left.
-pub fn drain(
-    engine: &mut Engine,
+pub fn drain<R: Ring>(
+    engine: &mut Engine<R>,
     buffer: &mut [u8],
     len: &mut usize,
     pumped: &mut PumpedOut,
     left: &mut bool,
 ) -> Status
-    ensures { DrainsEngine ⟦<SinkOut as Out>⟧ ⟦<TakeHalf as TakeEnd>⟧ ⟦<SendLeft as RingEnd>⟧
+    ensures { DrainsEngine ⟦<SinkOut as Out>⟧ R.Take.TakeEnd R.Send.End.RingEnd
         engine.old engine.new
         (record {
           frames = record { buffer = buffer.old; len = len.old; pumped = pumped.old };

@@ -10,12 +10,13 @@ use crate::closing::close_by;
 use crate::content::Content;
 use crate::draining::drain;
 use crate::handle::Handle;
+use crate::held_ring::HeldRing;
 use crate::report_out::ReportOut;
 use crate::sets::PumpedOut;
 use crate::status::Status;
-use channel_ring::{RingEnd, SendEnd, SendHalf, SendLeft, TakeEnd, TakeHalf};
+use byte_ring::ByteRing;
+use channel_ring::SampleRing;
 use daq_engine::ListReport;
-use frame_writer::{Out, SinkOut};
 use std::alloc::Global;
 
 /// Finishes a sampler, and gives what is left of it back to its engine. The handle is empty then.
@@ -25,7 +26,7 @@ use std::alloc::Global;
 #[unsafe(no_mangle)]
 pub extern "C" fn ng_finish(alloc: Global, sampler: &mut Handle) -> u32
     ensures { (status : StatusOf) × (result ≡ number_of status)
-        × Finishes ⟦<SendHalf as SendEnd>⟧ ⟦<SendLeft as RingEnd>⟧
+        × Finishes ⟦<SampleRing as HeldRing>⟧.rings ⟦<ByteRing as HeldRing>⟧.rings
         sampler.old.held sampler.new.held status }
 {
     finish_by(alloc, sampler).number()
@@ -45,7 +46,7 @@ pub extern "C" fn ng_drain(
     left: &mut bool,
 ) -> u32
     ensures { (status : StatusOf) × (result ≡ number_of status)
-        × Drains ⟦<SinkOut as Out>⟧ ⟦<TakeHalf as TakeEnd>⟧ ⟦<SendLeft as RingEnd>⟧
+        × Drains ⟦<SampleRing as HeldRing>⟧.rings ⟦<ByteRing as HeldRing>⟧.rings
         engine.old.held engine.new.held
         (record {
           frames = record { buffer = buffer.old; len = len.old; pumped = pumped.old };
@@ -73,7 +74,7 @@ pub extern "C" fn ng_close(
     report: &mut ReportOut,
 ) -> u32
     ensures { (status : StatusOf) × (result ≡ number_of status)
-        × Closes ⟦<SinkOut as Out>⟧ ⟦<TakeHalf as TakeEnd>⟧ ⟦<SendLeft as RingEnd>⟧
+        × Closes ⟦<SampleRing as HeldRing>⟧.rings ⟦<ByteRing as HeldRing>⟧.rings
         engine.old.held engine.new.held
         (record { lines = lines.old; report = report.old })
         (record { lines = lines.new; report = report.new }) status }
@@ -85,12 +86,12 @@ pub extern "C" fn ng_close(
 fn holds_sampler(content: &Content) -> bool
     ensures { IsTrue result ↔ IsSampler content.now }
 {
-    matches!(content, Content::Sampler(_))
+    matches!(content, Content::Sampler(_) | Content::ByteSampler(_))
 }
 
 /// Finishes the sampler of a handle.
 fn finish_by(alloc: Global, handle: &mut Handle) -> Status
-    ensures { Finishes ⟦<SendHalf as SendEnd>⟧ ⟦<SendLeft as RingEnd>⟧
+    ensures { Finishes ⟦<SampleRing as HeldRing>⟧.rings ⟦<ByteRing as HeldRing>⟧.rings
         handle.old.held handle.new.held result }
 {
     let Some(held) = handle.take(alloc) else {
@@ -100,10 +101,11 @@ fn finish_by(alloc: Global, handle: &mut Handle) -> Status
         handle.put(alloc, held);
         return Status::Empty;
     }
-    let Content::Sampler(lent) = Box::into_inner(held) else {
-        unreachable!()
-    };
-    lent.finish()
+    match Box::into_inner(held) {
+        Content::Sampler(lent) => lent.finish(),
+        Content::ByteSampler(lent) => lent.finish(),
+        _ => unreachable!(),
+    }
 }
 
 /// Drains by the engine of a handle.
@@ -115,7 +117,7 @@ fn drain_by(
     pumped: &mut PumpedOut,
     left: &mut bool,
 ) -> Status
-    ensures { Drains ⟦<SinkOut as Out>⟧ ⟦<TakeHalf as TakeEnd>⟧ ⟦<SendLeft as RingEnd>⟧
+    ensures { Drains ⟦<SampleRing as HeldRing>⟧.rings ⟦<ByteRing as HeldRing>⟧.rings
         handle.old.held handle.new.held
         (record {
           frames = record { buffer = buffer.old; len = len.old; pumped = pumped.old };
@@ -143,7 +145,7 @@ fn drain_in(
     pumped: &mut PumpedOut,
     left: &mut bool,
 ) -> Status
-    ensures { Drains ⟦<SinkOut as Out>⟧ ⟦<TakeHalf as TakeEnd>⟧ ⟦<SendLeft as RingEnd>⟧
+    ensures { Drains ⟦<SampleRing as HeldRing>⟧.rings ⟦<ByteRing as HeldRing>⟧.rings
         (Some content.old) (Some content.new)
         (record {
           frames = record { buffer = buffer.old; len = len.old; pumped = pumped.old };
@@ -157,6 +159,7 @@ fn drain_in(
 {
     match content {
         Content::Engine(engine) => drain(engine, buffer, len, pumped, left),
+        Content::ByteEngine(engine) => drain(engine, buffer, len, pumped, left),
         _ => Status::Empty,
     }
 }

@@ -1,28 +1,39 @@
-ghost use Rattle.std.specs.Prelude.{◌≡◌, ◌≤◌, false, length, vec_capacity, vec_len};
-ghost use Rattle.xcp_base.specs.declared.limits.TheConstants.{MAX_LISTS};
-ghost use Rattle.transmitter.specs.Written.{transmission};
-ghost use Rattle.daq_engine.specs.Configuration.{upto};
-ghost use Rattle.nerthogal_c.specs.Lendings.{channels_in, rings_in};
-
 use crate::lending::Lending;
-use channel_ring::{TakeEnd, TakeHalf};
-use daq_engine::ListReport;
+use channel_ring::TakeEnd;
+use daq_engine::{ListReport, Ring};
 use frame_writer::{Out, SinkOut};
+use std::marker::Model;
 use transmitter::Transmitter;
 
-/// An engine that was opened over rings of items: its transmitter, its samplers, and the room for
-/// the lines of its report.
+/// An engine that was opened over rings of one kind: its transmitter, its samplers, and the room
+/// for the lines of its report.
 #[derive(Drop)]
-pub struct Engine {
-    pub(crate) transmitter: Transmitter<SinkOut, TakeHalf>,
-    pub(crate) lending: Lending,
+pub struct Engine<R: Ring> {
+    pub(crate) transmitter: Transmitter<SinkOut, R::Take>,
+    pub(crate) lending: Lending<R>,
     pub(crate) lines: Vec<ListReport>,
-    ghost rings: { rings_in lending.places
-        ≡ (transmission ⟦<SinkOut as Out>⟧ ⟦<TakeHalf as TakeEnd>⟧ transmitter).rings },
-    ghost in_order: { channels_in lending.places
-        ≡ upto 0 (length lending.places) },
-    ghost is_open: { (transmission ⟦<SinkOut as Out>⟧ ⟦<TakeHalf as TakeEnd>⟧ transmitter).writer.closed
-        ≡ false },
-    ghost no_line: { vec_len lines ≡ 0 },
-    ghost enough: { MAX_LISTS ≤ vec_capacity lines },
+}
+
+impl<R: Ring> Model for Engine<R> {
+    ghost use Rattle.std.specs.Prelude.{◌≡◌, ◌≤◌, false, length, vec_capacity, vec_len};
+    ghost use Rattle.xcp_base.specs.declared.limits.TheConstants.{MAX_LISTS};
+    ghost use Rattle.transmitter.specs.Written.{transmission};
+    ghost use Rattle.daq_engine.specs.Configuration.{upto};
+    ghost use Rattle.nerthogal_c.specs.Lendings.{channels_in, rings_in};
+    ghost use Rattle.nerthogal_c.specs.States.{EngineState};
+
+    ghost Value = { EngineState R.Send R.Take R.Send.End };
+
+    ghost view = { λ e. record {
+      transmitter = e.transmitter;
+      lending = e.lending;
+    } };
+
+    ghost invariant = { λ e.
+        (rings_in e.lending.places
+        ≡ (transmission ⟦<SinkOut as Out>⟧ R.Take.TakeEnd e.transmitter).rings)
+        × (channels_in e.lending.places ≡ upto 0 (length e.lending.places))
+        × ((transmission ⟦<SinkOut as Out>⟧ R.Take.TakeEnd e.transmitter).writer.closed ≡ false)
+        × (vec_len e.lines ≡ 0)
+        × (MAX_LISTS ≤ vec_capacity e.lines) };
 }

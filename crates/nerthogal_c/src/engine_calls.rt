@@ -9,33 +9,35 @@ ghost use Rattle.nerthogal_c.specs.declared.status.Status.{Status as StatusOf};
 use crate::content::Content;
 use crate::handing::give_sampler;
 use crate::handle::Handle;
+use crate::held_ring::HeldRing;
 use crate::opening::open_into;
 use crate::pumping::pump;
 use crate::sets::PumpedOut;
 use crate::status::Status;
-use channel_ring::{RingEnd, SendEnd, SendHalf, SendLeft, TakeEnd, TakeHalf};
-use frame_writer::{Out, SinkOut};
+use byte_ring::ByteRing;
+use channel_ring::SampleRing;
 use std::alloc::Global;
 
-/// Opens an engine over a store, which stays as it is. The ring of event channel `c` has `caps[c]`
-/// places, 1 to 1024.
+/// Opens an engine over a store, which stays as it is, with rings of the kind that has this number
+/// in `ng_ring`. That of event channel `c` has `caps[c]` places, 1 to 1024, or bytes, 532 to
+/// 65536.
 ///
-/// Refused in this order (own): an engine's handle that isn't empty, no store, want of memory for
-/// the frames; capacities that don't fit, no list runs, want of memory.
+/// Refused in this order (own): an engine's handle that isn't empty, no store, no such kind of
+/// ring, want of memory for the frames; capacities that don't fit, no list runs, want of memory.
 #[unsafe(no_mangle)]
 pub extern "C" fn ng_open(
     alloc: Global,
     store: &mut Handle,
+    ring: u32,
     caps: &[usize],
     engine: &mut Handle,
 ) -> u32
     ensures opens { (status : StatusOf) × (result ≡ number_of status)
-        × OpensEngine ⟦<SinkOut as Out>⟧ ⟦<TakeHalf as TakeEnd>⟧
-        ⟦<SendHalf as SendEnd>⟧ ⟦<SendLeft as RingEnd>⟧
-        store.old.held engine.old.held engine.new.held caps.now status }
+        × OpensEngine ⟦<SampleRing as HeldRing>⟧.rings ⟦<ByteRing as HeldRing>⟧.rings
+        store.old.held engine.old.held engine.new.held ring caps.now status }
     ensures store_stays { store.new.held ≡ store.old.held }
 {
-    open_into(alloc, store, caps, engine).number()
+    open_into(alloc, store, ring, caps, engine).number()
 }
 
 /// Hands out the sampler of the lowest event channel whose sampler wasn't handed out yet.
@@ -64,7 +66,8 @@ pub extern "C" fn ng_pump(
     pumped: &mut PumpedOut,
 ) -> u32
     ensures { (status : StatusOf) × (result ≡ number_of status)
-        × PumpsHandle ⟦<SinkOut as Out>⟧ ⟦<TakeHalf as TakeEnd>⟧ engine.old.held engine.new.held
+        × PumpsHandle ⟦<SampleRing as HeldRing>⟧.rings ⟦<ByteRing as HeldRing>⟧.rings
+        engine.old.held engine.new.held
         (record { buffer = buffer.old; len = len.old; pumped = pumped.old })
         (record { buffer = buffer.new; len = len.new; pumped = pumped.new }) status }
 {
@@ -97,7 +100,8 @@ fn pump_by(
     len: &mut usize,
     pumped: &mut PumpedOut,
 ) -> Status
-    ensures { PumpsHandle ⟦<SinkOut as Out>⟧ ⟦<TakeHalf as TakeEnd>⟧ handle.old.held handle.new.held
+    ensures { PumpsHandle ⟦<SampleRing as HeldRing>⟧.rings ⟦<ByteRing as HeldRing>⟧.rings
+        handle.old.held handle.new.held
         (record { buffer = buffer.old; len = len.old; pumped = pumped.old })
         (record { buffer = buffer.new; len = len.new; pumped = pumped.new }) result }
 {
@@ -116,13 +120,14 @@ fn pump_in(
     len: &mut usize,
     pumped: &mut PumpedOut,
 ) -> Status
-    ensures { PumpsHandle ⟦<SinkOut as Out>⟧ ⟦<TakeHalf as TakeEnd>⟧
+    ensures { PumpsHandle ⟦<SampleRing as HeldRing>⟧.rings ⟦<ByteRing as HeldRing>⟧.rings
         (Some content.old) (Some content.new)
         (record { buffer = buffer.old; len = len.old; pumped = pumped.old })
         (record { buffer = buffer.new; len = len.new; pumped = pumped.new }) result }
 {
     match content {
         Content::Engine(engine) => pump(engine, buffer, len, pumped),
+        Content::ByteEngine(engine) => pump(engine, buffer, len, pumped),
         _ => Status::Empty,
     }
 }

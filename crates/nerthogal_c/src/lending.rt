@@ -1,10 +1,10 @@
 ghost use Rattle.std.specs.Prelude.{◌≡◌};
 
 use crate::coming_back::ComingBack;
-use crate::content::Content;
 use crate::lent::Lent;
 use crate::returns::Returns;
-use channel_ring::{RingEnd, SendEnd, SendHalf, SendLeft, TakeEnd, TakeHalf};
+use channel_ring::{SendEnd, TakeEnd};
+use daq_engine::Ring;
 use frame_writer::{Out, SinkOut};
 use rtrb::RingBuffer;
 use sampler::{Sampler, SamplerEnd};
@@ -15,44 +15,47 @@ use transmitter::Transmitter;
 /// The samplers of an engine: those that weren't handed out yet, the ways back of those that were,
 /// and what came back.
 #[derive(Drop)]
-pub struct Lending {
+pub struct Lending<R: Ring> {
     // in falling order of their event channels, so that the first one is popped
-    pub(crate) samplers: Vec<Sampler<SendHalf>>,
-    pub(crate) ways: Vec<ComingBack>,
-    pub(crate) ends: Vec<SamplerEnd<SendLeft>>,
+    pub(crate) samplers: Vec<Sampler<R::Send>>,
+    pub(crate) ways: Vec<ComingBack<R::Send>>,
+    pub(crate) ends: Vec<SamplerEnd<<R::Send as SendEnd>::End>>,
 }
 
-impl Model for Lending {
+impl<R: Ring> Model for Lending<R> {
     ghost use Rattle.std.specs.Prelude.{◌+◌, ◌≤◌, reverse, vec_capacity, vec_len};
     ghost use Rattle.nerthogal_c.specs.Lendings.{LendingState, places_of};
 
-    ghost Value = { LendingState };
+    ghost Value = { LendingState R.Send R.Send.End };
 
     ghost view = { λ l. record {
-      places = places_of ⟦<SendHalf as SendEnd>⟧ ⟦<SendLeft as RingEnd>⟧
+      places = places_of R.Send.SendEnd R.Send.End.RingEnd
           l.ends.items l.ways.items (reverse l.samplers.items);
+      out = l.ways.items;
       samplers = reverse l.samplers.items;
       ends = l.ends.items;
     } };
 
     ghost invariant = { λ l.
-        (vec_len l.ways + vec_len l.samplers ≤ vec_capacity l.ways)
+        (vec_len l.ways + vec_len l.samplers ≤ vec_capacity l.samplers)
+        × (vec_len l.ways + vec_len l.samplers ≤ vec_capacity l.ways)
         × (vec_len l.ends + (vec_len l.ways + vec_len l.samplers) ≤ vec_capacity l.ends) };
 }
 
-impl Lending {
+impl<R: Ring> Lending<R> {
     ghost use Rattle.std.specs.Prelude.{◌≡◌, ◌<◌, [], IfOk, OnErr, false, length, map, true};
-    ghost use Rattle.std.specs.Prelude.{option_map};
     ghost use Rattle.transmitter.specs.Looks.{KnowsNone, KnowsSome};
     ghost use Rattle.transmitter.specs.Written.{transmission, writer_of};
     ghost use Rattle.nerthogal_c.specs.Lendings.{AreBack, LooksAtEnds, rings_in};
-    ghost use Rattle.nerthogal_c.specs.Lends.{LendsNext};
+    ghost use Rattle.nerthogal_c.specs.Lendings.{LendingState as LendingOf};
+    ghost use Rattle.nerthogal_c.specs.Lends.{Lends, LendsNext};
     ghost use Rattle.nerthogal_c.specs.Ways.{place_of};
 
     /// Of samplers that weren't handed out.
-    pub fn new(alloc: Global, samplers: Vec<Sampler<SendHalf>>) -> Result<Lending, AllocError>
+    pub fn new(alloc: Global, samplers: Vec<Sampler<R::Send>>) -> Result<Lending<R>, AllocError>
         ensures { IfOk result (λ lending. lending ≡ record {
-          places = map (place_of ⟦<SendHalf as SendEnd>⟧) samplers.items;
+          places = map (place_of R.Send.SendEnd) samplers.items;
+          out = [];
           samplers = samplers.items;
           ends = [];
         }) }
@@ -68,10 +71,9 @@ impl Lending {
         })
     }
 
-    /// Hands the first sampler out, on the heap, where there is one.
-    pub fn next(&mut self, alloc: Global) -> Result<Option<Box<Content>>, AllocError>
-        ensures ok { IfOk result (λ given.
-            LendsNext self.old self.new (option_map (λ it. it.value) given)) }
+    /// Hands the first sampler out, where there is one.
+    pub fn next(&mut self, alloc: Global) -> Result<Option<Lent<R>>, AllocError>
+        ensures ok { IfOk result (LendsNext R.Send.SendEnd self.old self.new) }
         ensures err { OnErr result (self.new ≡ self.old) }
         ensures wanted { OnErr result (0 < length self.old.samplers) }
     {
@@ -83,26 +85,29 @@ impl Lending {
             return Err(AllocError);
         };
         let (lent, way) = Lent::over(producer, consumer, sampler);
-        match Box::new(alloc, Content::Sampler(lent)) {
-            Ok(content) => {
-                self.ways.push_reserved(way);
-                Ok(Some(content))
-            }
-            Err(failed) => {
-                let Content::Sampler(back) = failed.value else {
-                    unreachable!()
-                };
-                self.samplers.push_reserved(back.sampler);
-                Err(AllocError)
-            }
-        }
+        self.ways.push_reserved(way);
+        Ok(Some(lent))
+    }
+
+    /// Takes the sampler back that was handed out last, as though it hadn't been.
+    pub fn take_back(&mut self, lent: Lent<R>)
+        requires { (before : LendingOf R.Send R.Send.End)
+            × Lends R.Send.SendEnd before self.old lent }
+        ensures { (before : LendingOf R.Send R.Send.End) →
+            Lends R.Send.SendEnd before self.old lent → self.new ≡ before }
+    {
+        let Lent { sampler, way: _ } = lent;
+        let Some(_way) = self.ways.pop() else {
+            return;
+        };
+        self.samplers.push_reserved(sampler);
     }
 
     /// Collects what came back, and tells whether nothing is out any more.
     pub fn collect(&mut self) -> bool
         ensures places { self.new.places ≡ self.old.places }
         ensures samplers { self.new.samplers ≡ self.old.samplers }
-        ensures all { result ≡ true → AreBack ⟦<SendLeft as RingEnd>⟧ self.new }
+        ensures all { result ≡ true → AreBack R.Send.End.RingEnd self.new }
     {
         while !self.ways.is_empty() {
             let Some(end) = self.ways[0].take() else {
@@ -116,19 +121,19 @@ impl Lending {
 
     /// Looks at all that was sent, once nothing is out any more, and tells whether something is
     /// left.
-    pub fn look(&mut self, transmitter: &mut Transmitter<SinkOut, TakeHalf>) -> bool
-        requires back { AreBack ⟦<SendLeft as RingEnd>⟧ self.old }
+    pub fn look(&mut self, transmitter: &mut Transmitter<SinkOut, R::Take>) -> bool
+        requires back { AreBack R.Send.End.RingEnd self.old }
         requires rings { rings_in self.old.places
-            ≡ (transmission ⟦<SinkOut as Out>⟧ ⟦<TakeHalf as TakeEnd>⟧ transmitter.old).rings }
-        ensures looks { LooksAtEnds ⟦<SendLeft as RingEnd>⟧
-            (transmission ⟦<SinkOut as Out>⟧ ⟦<TakeHalf as TakeEnd>⟧ transmitter.old)
-            (transmission ⟦<SinkOut as Out>⟧ ⟦<TakeHalf as TakeEnd>⟧ transmitter.new)
+            ≡ (transmission ⟦<SinkOut as Out>⟧ R.Take.TakeEnd transmitter.old).rings }
+        ensures looks { LooksAtEnds R.Send.End.RingEnd
+            (transmission ⟦<SinkOut as Out>⟧ R.Take.TakeEnd transmitter.old)
+            (transmission ⟦<SinkOut as Out>⟧ R.Take.TakeEnd transmitter.new)
             self.old self.new }
         ensures writer_stays { writer_of transmitter.new ≡ writer_of transmitter.old }
         ensures some { result ≡ true → KnowsSome
-            (transmission ⟦<SinkOut as Out>⟧ ⟦<TakeHalf as TakeEnd>⟧ transmitter.new) }
+            (transmission ⟦<SinkOut as Out>⟧ R.Take.TakeEnd transmitter.new) }
         ensures none { result ≡ false → KnowsNone
-            (transmission ⟦<SinkOut as Out>⟧ ⟦<TakeHalf as TakeEnd>⟧ transmitter.new) }
+            (transmission ⟦<SinkOut as Out>⟧ R.Take.TakeEnd transmitter.new) }
     {
         transmitter.after(self.ends.as_mut_slice())
     }

@@ -6,7 +6,7 @@ use crate::sampling::{counts_of, start, stop, trigger};
 use crate::sets::{CountsOut, TakenOut};
 use crate::status::Status;
 use crate::way_back::WayBack;
-use channel_ring::{RingEnd, SendEnd, SendHalf, SendLeft};
+use daq_engine::Ring;
 use rtrb::{Consumer, Producer};
 use sampler::Sampler;
 use std::alloc::Global;
@@ -14,25 +14,24 @@ use std::marker::Model;
 
 /// A sampler that was handed out, and its way back to its engine.
 #[derive(Drop)]
-pub struct Lent {
-    pub(crate) sampler: Sampler<SendHalf>,
-    pub(crate) way: WayBack,
+pub struct Lent<R: Ring> {
+    pub(crate) sampler: Sampler<R::Send>,
+    pub(crate) way: WayBack<R::Send>,
 }
 
-impl Model for Lent {
+impl<R: Ring> Model for Lent<R> {
     ghost use Rattle.std.specs.Prelude.{◌≡◌};
-    ghost use Rattle.channel_ring.specs.declared.sample_ring.SendHalf.{SendHalf as HalfOf};
     ghost use Rattle.sampler.specs.State.{SamplerState};
     ghost use Rattle.nerthogal_c.specs.Ways.{place_of};
 
-    ghost Value = { SamplerState HalfOf };
+    ghost Value = { SamplerState R.Send };
 
     ghost view = { λ l. l.sampler };
 
-    ghost invariant = { λ l. l.way ≡ place_of ⟦<SendHalf as SendEnd>⟧ l.sampler };
+    ghost invariant = { λ l. l.way ≡ place_of R.Send.SendEnd l.sampler };
 }
 
-impl Lent {
+impl<R: Ring> Lent<R> {
     ghost use Rattle.std.specs.Prelude.{◌≡◌, [], ◌<◌};
     ghost use Rattle.rtrb.specs.Ring.{IsPair, known_free, known_items, received, sent};
     ghost use Rattle.nerthogal_c.specs.Samplers.{CountsList, FinishesSampler, StartsList};
@@ -41,16 +40,16 @@ impl Lent {
 
     /// A sampler with its way back, and the other end of that.
     pub fn over(
-        mut producer: Producer<Return, Global, Returns>,
-        mut consumer: Consumer<Return, Global, Returns>,
-        sampler: Sampler<SendHalf>,
-    ) -> (Lent, ComingBack)
+        mut producer: Producer<Return<R::Send>, Global, Returns>,
+        mut consumer: Consumer<Return<R::Send>, Global, Returns>,
+        sampler: Sampler<R::Send>,
+    ) -> (Lent<R>, ComingBack<R::Send>)
         requires pair { IsPair producer consumer }
         requires room { 0 < known_free producer }
         requires nothing_sent { sent producer ≡ [] }
         requires nothing_received { received consumer ≡ [] }
         ensures sampler { result.0 ≡ sampler }
-        ensures place { result.1 ≡ place_of ⟦<SendHalf as SendEnd>⟧ sampler }
+        ensures place { result.1 ≡ place_of R.Send.SendEnd sampler }
     {
         producer.push_reserved(Return::Sampler(sampler));
         let _ = consumer.slots_beside(&mut producer);
@@ -64,7 +63,7 @@ impl Lent {
 
     /// Takes a trigger.
     pub fn trigger(&mut self, image: &[u8], stamp: u32, taken: &mut TakenOut) -> Status
-        ensures { TriggersSampler ⟦<SendHalf as SendEnd>⟧ ⟦<SendLeft as RingEnd>⟧
+        ensures { TriggersSampler R.Send.SendEnd R.Send.End.RingEnd
             self.old self.new image.now stamp taken.old taken.new result }
     {
         trigger(&mut self.sampler, image, stamp, taken)
@@ -72,7 +71,7 @@ impl Lent {
 
     /// Starts a DAQ list.
     pub fn start(&mut self, list: u8) -> Status
-        ensures { StartsList ⟦<SendHalf as SendEnd>⟧ ⟦<SendLeft as RingEnd>⟧
+        ensures { StartsList R.Send.SendEnd R.Send.End.RingEnd
             self.old self.new list result }
     {
         start(&mut self.sampler, list)
@@ -80,7 +79,7 @@ impl Lent {
 
     /// Stops a DAQ list.
     pub fn stop(&mut self, list: u8) -> Status
-        ensures { StopsList ⟦<SendHalf as SendEnd>⟧ ⟦<SendLeft as RingEnd>⟧
+        ensures { StopsList R.Send.SendEnd R.Send.End.RingEnd
             self.old self.new list result }
     {
         stop(&mut self.sampler, list)
@@ -88,7 +87,7 @@ impl Lent {
 
     /// Tells a DAQ list's counts.
     pub fn counts_of(&self, list: u8, counts: &mut CountsOut) -> Status
-        ensures { CountsList ⟦<SendHalf as SendEnd>⟧ ⟦<SendLeft as RingEnd>⟧
+        ensures { CountsList R.Send.SendEnd R.Send.End.RingEnd
             self.now list counts.old counts.new result }
     {
         counts_of(&self.sampler, list, counts)
@@ -96,7 +95,7 @@ impl Lent {
 
     /// Finishes the sampler, and gives what is left of it back.
     pub fn finish(self) -> Status
-        ensures { FinishesSampler ⟦<SendHalf as SendEnd>⟧ ⟦<SendLeft as RingEnd>⟧ self result }
+        ensures { FinishesSampler R.Send.SendEnd R.Send.End.RingEnd self result }
     {
         let Lent { sampler, way } = self;
         match sampler.finish() {

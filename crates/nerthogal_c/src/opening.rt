@@ -3,16 +3,21 @@
 ghost use Rattle.std.specs.Prelude.{◌≡◌, IfErr, IfOk, None, Some, false, length, map};
 ghost use Rattle.transmitter.specs.Written.{transmission};
 ghost use Rattle.daq_engine.specs.Configuration.{upto};
-ghost use Rattle.nerthogal_c.specs.Engines.{IsOpened, OpensEngine, OpensOn, OpensOver};
-ghost use Rattle.nerthogal_c.specs.Engines.{samplers_in};
+ghost use Rattle.nerthogal_c.specs.Engines.{IsOpened, IsRefused, OpensAs, OpensEngine, OpensOn};
+ghost use Rattle.nerthogal_c.specs.Kinds.{ring_of};
+ghost use Rattle.nerthogal_c.specs.States.{samplers_in};
 
 use crate::content::Content;
 use crate::engine::Engine;
 use crate::handle::Handle;
+use crate::held_ring::HeldRing;
+use crate::kinds::ring_numbered;
 use crate::lending::Lending;
+use crate::ring_kind::RingKind;
 use crate::status::Status;
-use channel_ring::{RingEnd, SendEnd, SendHalf, SendLeft, TakeEnd, TakeHalf};
-use daq_engine::{OpenFault, open};
+use byte_ring::ByteRing;
+use channel_ring::{SampleRing, SendEnd, TakeEnd};
+use daq_engine::{OpenFault, Ring, open_over};
 use daq_store::Store;
 use frame_writer::{FrameWriter, Out, SinkOut};
 use sampler::Sampler;
@@ -21,14 +26,14 @@ use transmitter::Transmitter;
 use xcp_base::limits::MAX_LISTS;
 
 /// An engine of what was opened.
-fn engine_of(
+fn engine_of<R: Ring>(
     alloc: Global,
-    samplers: Vec<Sampler<SendHalf>>,
-    transmitter: Transmitter<SinkOut, TakeHalf>,
-) -> Result<Engine, AllocError>
-    requires rings { (transmission ⟦<SinkOut as Out>⟧ ⟦<TakeHalf as TakeEnd>⟧ transmitter).rings
-        ≡ map (λ s. ⟦<SendHalf as SendEnd>⟧.ring s.end) samplers.items }
-    requires is_open { (transmission ⟦<SinkOut as Out>⟧ ⟦<TakeHalf as TakeEnd>⟧ transmitter).writer.closed
+    samplers: Vec<Sampler<R::Send>>,
+    transmitter: Transmitter<SinkOut, R::Take>,
+) -> Result<Engine<R>, AllocError>
+    requires rings { (transmission ⟦<SinkOut as Out>⟧ R.Take.TakeEnd transmitter).rings
+        ≡ map (λ s. R.Send.ring s.end) samplers.items }
+    requires is_open { (transmission ⟦<SinkOut as Out>⟧ R.Take.TakeEnd transmitter).writer.closed
         ≡ false }
     requires in_order { map (λ s. s.channel) samplers.items ≡ upto 0 (length samplers.items) }
     ensures { IfOk result (λ engine. (engine.transmitter ≡ transmitter)
@@ -44,14 +49,13 @@ fn engine_of(
 }
 
 /// Opens an engine over a store.
-pub fn opened(alloc: Global, store: &Store, caps: &[usize]) -> Result<Engine, Status>
-    ensures ok { IfOk result (λ engine. IsOpened ⟦<SinkOut as Out>⟧ ⟦<TakeHalf as TakeEnd>⟧
-        ⟦<SendHalf as SendEnd>⟧ ⟦<SendLeft as RingEnd>⟧ store.now caps.now engine) }
-    ensures err { IfErr result (λ status. OpensOver ⟦<SinkOut as Out>⟧ ⟦<TakeHalf as TakeEnd>⟧
-        ⟦<SendHalf as SendEnd>⟧ ⟦<SendLeft as RingEnd>⟧ store.now caps.now None status) }
+pub fn opened<R: Ring>(alloc: Global, store: &Store, caps: &[usize]) -> Result<Engine<R>, Status>
+    ensures ok { IfOk result (λ engine. IsOpened ⟦<SinkOut as Out>⟧ R.Take.TakeEnd
+        R.Send.SendEnd R.Send.End.RingEnd R.is_cap store.now caps.now engine) }
+    ensures err { IfErr result (λ status. IsRefused R.is_cap store.now caps.now status) }
 {
     let writer = FrameWriter::new(SinkOut::new());
-    match open(alloc, store, caps, writer) {
+    match open_over::<R, SinkOut>(alloc, store, caps, writer) {
         Ok((samplers, transmitter)) => match engine_of(alloc, samplers, transmitter) {
             Ok(engine) => Ok(engine),
             Err(_) => Err(Status::Memory),
@@ -62,17 +66,54 @@ pub fn opened(alloc: Global, store: &Store, caps: &[usize]) -> Result<Engine, St
     }
 }
 
-/// Opens an engine over a store, on the heap.
-fn opened_on_heap(alloc: Global, store: &Store, caps: &[usize]) -> Result<Box<Content>, Status>
-    ensures ok { IfOk result (λ it. OpensOver ⟦<SinkOut as Out>⟧ ⟦<TakeHalf as TakeEnd>⟧
-        ⟦<SendHalf as SendEnd>⟧ ⟦<SendLeft as RingEnd>⟧ store.now caps.now
-        (Some it.value) Status.Ok) }
-    ensures err { IfErr result (λ status. OpensOver ⟦<SinkOut as Out>⟧ ⟦<TakeHalf as TakeEnd>⟧
-        ⟦<SendHalf as SendEnd>⟧ ⟦<SendLeft as RingEnd>⟧ store.now caps.now None status) }
+/// Opens an engine over a store and over rings of one kind, as a handle holds it.
+fn opened_as(
+    alloc: Global,
+    store: &Store,
+    kind: RingKind,
+    caps: &[usize],
+) -> Result<Content, Status>
+    ensures ok { IfOk result (λ it.
+        OpensAs ⟦<SampleRing as HeldRing>⟧.rings ⟦<ByteRing as HeldRing>⟧.rings
+        (Some kind) store.now caps.now (Some it) Status.Ok) }
+    ensures err { IfErr result (λ status.
+        OpensAs ⟦<SampleRing as HeldRing>⟧.rings ⟦<ByteRing as HeldRing>⟧.rings
+        (Some kind) store.now caps.now None status) }
+    ensures no_memory { OpensAs ⟦<SampleRing as HeldRing>⟧.rings ⟦<ByteRing as HeldRing>⟧.rings
+        (Some kind) store.now caps.now None Status.Memory }
 {
-    match opened(alloc, store, caps) {
-        Ok(engine) => match Box::new(alloc, Content::Engine(engine)) {
-            Ok(content) => Ok(content),
+    match kind {
+        RingKind::Items => match opened::<SampleRing>(alloc, store, caps) {
+            Ok(engine) => Ok(Content::Engine(engine)),
+            Err(status) => Err(status),
+        },
+        RingKind::Bytes => match opened::<ByteRing>(alloc, store, caps) {
+            Ok(engine) => Ok(Content::ByteEngine(engine)),
+            Err(status) => Err(status),
+        },
+    }
+}
+
+/// Opens an engine over a store, on the heap.
+fn opened_on_heap(
+    alloc: Global,
+    store: &Store,
+    ring: u32,
+    caps: &[usize],
+) -> Result<Box<Content>, Status>
+    ensures ok { IfOk result (λ it.
+        OpensAs ⟦<SampleRing as HeldRing>⟧.rings ⟦<ByteRing as HeldRing>⟧.rings
+        (ring_of ring) store.now caps.now (Some it.value) Status.Ok) }
+    ensures err { IfErr result (λ status.
+        OpensAs ⟦<SampleRing as HeldRing>⟧.rings ⟦<ByteRing as HeldRing>⟧.rings
+        (ring_of ring) store.now caps.now None status) }
+{
+    let Some(kind) = ring_numbered(ring) else {
+        return Err(Status::BadLimits);
+    };
+    match opened_as(alloc, store, kind, caps) {
+        Ok(content) => match Box::new(alloc, content) {
+            Ok(boxed) => Ok(boxed),
             Err(_) => Err(Status::Memory),
         },
         Err(status) => Err(status),
@@ -80,48 +121,65 @@ fn opened_on_heap(alloc: Global, store: &Store, caps: &[usize]) -> Result<Box<Co
 }
 
 /// Opens an engine over what is held, if it is a store.
-fn opened_on(alloc: Global, content: &Content, caps: &[usize]) -> Result<Box<Content>, Status>
-    ensures ok { IfOk result (λ it. OpensOn ⟦<SinkOut as Out>⟧ ⟦<TakeHalf as TakeEnd>⟧
-        ⟦<SendHalf as SendEnd>⟧ ⟦<SendLeft as RingEnd>⟧ (Some content.now) caps.now
-        (Some it.value) Status.Ok) }
-    ensures err { IfErr result (λ status. OpensOn ⟦<SinkOut as Out>⟧ ⟦<TakeHalf as TakeEnd>⟧
-        ⟦<SendHalf as SendEnd>⟧ ⟦<SendLeft as RingEnd>⟧ (Some content.now) caps.now None status) }
+fn opened_on(
+    alloc: Global,
+    content: &Content,
+    ring: u32,
+    caps: &[usize],
+) -> Result<Box<Content>, Status>
+    ensures ok { IfOk result (λ it.
+        OpensOn ⟦<SampleRing as HeldRing>⟧.rings ⟦<ByteRing as HeldRing>⟧.rings
+        (Some content.now) (ring_of ring) caps.now (Some it.value) Status.Ok) }
+    ensures err { IfErr result (λ status.
+        OpensOn ⟦<SampleRing as HeldRing>⟧.rings ⟦<ByteRing as HeldRing>⟧.rings
+        (Some content.now) (ring_of ring) caps.now None status) }
 {
     match content {
-        Content::Store(store) => opened_on_heap(alloc, store, caps),
+        Content::Store(store) => opened_on_heap(alloc, store, ring, caps),
         _ => Err(Status::Empty),
     }
 }
 
 /// Opens an engine over the store of a handle.
-fn opened_over(alloc: Global, store: &mut Handle, caps: &[usize]) -> Result<Box<Content>, Status>
-    ensures ok { IfOk result (λ it. OpensOn ⟦<SinkOut as Out>⟧ ⟦<TakeHalf as TakeEnd>⟧
-        ⟦<SendHalf as SendEnd>⟧ ⟦<SendLeft as RingEnd>⟧ store.old.held caps.now
-        (Some it.value) Status.Ok) }
-    ensures err { IfErr result (λ status. OpensOn ⟦<SinkOut as Out>⟧ ⟦<TakeHalf as TakeEnd>⟧
-        ⟦<SendHalf as SendEnd>⟧ ⟦<SendLeft as RingEnd>⟧ store.old.held caps.now None status) }
+fn opened_over(
+    alloc: Global,
+    store: &mut Handle,
+    ring: u32,
+    caps: &[usize],
+) -> Result<Box<Content>, Status>
+    ensures ok { IfOk result (λ it.
+        OpensOn ⟦<SampleRing as HeldRing>⟧.rings ⟦<ByteRing as HeldRing>⟧.rings
+        store.old.held (ring_of ring) caps.now (Some it.value) Status.Ok) }
+    ensures err { IfErr result (λ status.
+        OpensOn ⟦<SampleRing as HeldRing>⟧.rings ⟦<ByteRing as HeldRing>⟧.rings
+        store.old.held (ring_of ring) caps.now None status) }
     ensures store_stays { store.new.held ≡ store.old.held }
 {
     let Some(held) = store.take(alloc) else {
         return Err(Status::Empty);
     };
-    let result = opened_on(alloc, held.as_ref(), caps);
+    let result = opened_on(alloc, held.as_ref(), ring, caps);
     store.put(alloc, held);
     result
 }
 
 /// Opens an engine over the store of a handle, into an empty one.
-pub fn open_into(alloc: Global, store: &mut Handle, caps: &[usize], engine: &mut Handle) -> Status
-    ensures opens { OpensEngine ⟦<SinkOut as Out>⟧ ⟦<TakeHalf as TakeEnd>⟧
-        ⟦<SendHalf as SendEnd>⟧ ⟦<SendLeft as RingEnd>⟧
-        store.old.held engine.old.held engine.new.held caps.now result }
+pub fn open_into(
+    alloc: Global,
+    store: &mut Handle,
+    ring: u32,
+    caps: &[usize],
+    engine: &mut Handle,
+) -> Status
+    ensures opens { OpensEngine ⟦<SampleRing as HeldRing>⟧.rings ⟦<ByteRing as HeldRing>⟧.rings
+        store.old.held engine.old.held engine.new.held ring caps.now result }
     ensures store_stays { store.new.held ≡ store.old.held }
 {
     if let Some(held) = engine.take(alloc) {
         engine.put(alloc, held);
         return Status::InUse;
     }
-    match opened_over(alloc, store, caps) {
+    match opened_over(alloc, store, ring, caps) {
         Ok(content) => {
             engine.put(alloc, content);
             Status::Ok

@@ -6,7 +6,8 @@ ghost use Rattle.nerthogal_c.specs.Engines.{PumpsEngine};
 use crate::engine::Engine;
 use crate::sets::PumpedOut;
 use crate::status::Status;
-use channel_ring::{TakeEnd, TakeHalf};
+use channel_ring::TakeEnd;
+use daq_engine::Ring;
 use frame_writer::{Out, SinkOut};
 
 /// The bytes that one pump writes at most: of 8 event channels a sample of 8 packets each, of 64
@@ -14,13 +15,13 @@ use frame_writer::{Out, SinkOut};
 pub const PUMP_BYTES: usize = 4352;
 
 /// Pumps, and puts the frames into the front of the buffer.
-pub fn pump(
-    engine: &mut Engine,
+pub fn pump<R: Ring>(
+    engine: &mut Engine<R>,
     buffer: &mut [u8],
     len: &mut usize,
     pumped: &mut PumpedOut,
 ) -> Status
-    ensures { PumpsEngine ⟦<SinkOut as Out>⟧ ⟦<TakeHalf as TakeEnd>⟧ engine.old engine.new
+    ensures { PumpsEngine ⟦<SinkOut as Out>⟧ R.Take.TakeEnd engine.old engine.new
         (record { buffer = buffer.old; len = len.old; pumped = pumped.old })
         (record { buffer = buffer.new; len = len.new; pumped = pumped.new }) result }
 {

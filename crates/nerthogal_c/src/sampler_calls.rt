@@ -7,9 +7,11 @@ ghost use Rattle.nerthogal_c.specs.declared.status.Status.{Status as StatusOf};
 
 use crate::content::Content;
 use crate::handle::Handle;
+use crate::held_ring::HeldRing;
 use crate::sets::{CountsOut, TakenOut};
 use crate::status::Status;
-use channel_ring::{RingEnd, SendEnd, SendHalf, SendLeft};
+use byte_ring::ByteRing;
+use channel_ring::SampleRing;
 use std::alloc::Global;
 
 /// Takes a trigger of the sampler's event channel, with the memory image and a timestamp in ticks.
@@ -24,7 +26,7 @@ pub extern "C" fn ng_trigger(
     taken: &mut TakenOut,
 ) -> u32
     ensures { (status : StatusOf) × (result ≡ number_of status)
-        × Triggers ⟦<SendHalf as SendEnd>⟧ ⟦<SendLeft as RingEnd>⟧
+        × Triggers ⟦<SampleRing as HeldRing>⟧.rings ⟦<ByteRing as HeldRing>⟧.rings
         sampler.old.held sampler.new.held image.now stamp taken.old taken.new status }
 {
     trigger_by(alloc, sampler, image, stamp, taken).number()
@@ -36,7 +38,7 @@ pub extern "C" fn ng_trigger(
 #[unsafe(no_mangle)]
 pub extern "C" fn ng_start(alloc: Global, sampler: &mut Handle, list: u8) -> u32
     ensures { (status : StatusOf) × (result ≡ number_of status)
-        × Starts ⟦<SendHalf as SendEnd>⟧ ⟦<SendLeft as RingEnd>⟧
+        × Starts ⟦<SampleRing as HeldRing>⟧.rings ⟦<ByteRing as HeldRing>⟧.rings
         sampler.old.held sampler.new.held list status }
 {
     start_by(alloc, sampler, list).number()
@@ -48,7 +50,7 @@ pub extern "C" fn ng_start(alloc: Global, sampler: &mut Handle, list: u8) -> u32
 #[unsafe(no_mangle)]
 pub extern "C" fn ng_stop(alloc: Global, sampler: &mut Handle, list: u8) -> u32
     ensures { (status : StatusOf) × (result ≡ number_of status)
-        × Stops ⟦<SendHalf as SendEnd>⟧ ⟦<SendLeft as RingEnd>⟧
+        × Stops ⟦<SampleRing as HeldRing>⟧.rings ⟦<ByteRing as HeldRing>⟧.rings
         sampler.old.held sampler.new.held list status }
 {
     stop_by(alloc, sampler, list).number()
@@ -66,7 +68,7 @@ pub extern "C" fn ng_counts_of(
     counts: &mut CountsOut,
 ) -> u32
     ensures { (status : StatusOf) × (result ≡ number_of status)
-        × Counts ⟦<SendHalf as SendEnd>⟧ ⟦<SendLeft as RingEnd>⟧
+        × Counts ⟦<SampleRing as HeldRing>⟧.rings ⟦<ByteRing as HeldRing>⟧.rings
         sampler.old.held sampler.new.held list counts.old counts.new status }
 {
     counts_by(alloc, sampler, list, counts).number()
@@ -80,7 +82,7 @@ fn trigger_by(
     stamp: u32,
     taken: &mut TakenOut,
 ) -> Status
-    ensures { Triggers ⟦<SendHalf as SendEnd>⟧ ⟦<SendLeft as RingEnd>⟧
+    ensures { Triggers ⟦<SampleRing as HeldRing>⟧.rings ⟦<ByteRing as HeldRing>⟧.rings
         handle.old.held handle.new.held image.now stamp taken.old taken.new result }
 {
     let Some(mut held) = handle.take(alloc) else {
@@ -93,18 +95,19 @@ fn trigger_by(
 
 /// Takes a trigger by a sampler, if this is one.
 fn trigger_in(content: &mut Content, image: &[u8], stamp: u32, taken: &mut TakenOut) -> Status
-    ensures { Triggers ⟦<SendHalf as SendEnd>⟧ ⟦<SendLeft as RingEnd>⟧
+    ensures { Triggers ⟦<SampleRing as HeldRing>⟧.rings ⟦<ByteRing as HeldRing>⟧.rings
         (Some content.old) (Some content.new) image.now stamp taken.old taken.new result }
 {
     match content {
         Content::Sampler(lent) => lent.trigger(image, stamp, taken),
+        Content::ByteSampler(lent) => lent.trigger(image, stamp, taken),
         _ => Status::Empty,
     }
 }
 
 /// Starts a DAQ list by the sampler of a handle.
 fn start_by(alloc: Global, handle: &mut Handle, list: u8) -> Status
-    ensures { Starts ⟦<SendHalf as SendEnd>⟧ ⟦<SendLeft as RingEnd>⟧
+    ensures { Starts ⟦<SampleRing as HeldRing>⟧.rings ⟦<ByteRing as HeldRing>⟧.rings
         handle.old.held handle.new.held list result }
 {
     let Some(mut held) = handle.take(alloc) else {
@@ -117,18 +120,19 @@ fn start_by(alloc: Global, handle: &mut Handle, list: u8) -> Status
 
 /// Starts a DAQ list by a sampler, if this is one.
 fn start_in(content: &mut Content, list: u8) -> Status
-    ensures { Starts ⟦<SendHalf as SendEnd>⟧ ⟦<SendLeft as RingEnd>⟧
+    ensures { Starts ⟦<SampleRing as HeldRing>⟧.rings ⟦<ByteRing as HeldRing>⟧.rings
         (Some content.old) (Some content.new) list result }
 {
     match content {
         Content::Sampler(lent) => lent.start(list),
+        Content::ByteSampler(lent) => lent.start(list),
         _ => Status::Empty,
     }
 }
 
 /// Stops a DAQ list by the sampler of a handle.
 fn stop_by(alloc: Global, handle: &mut Handle, list: u8) -> Status
-    ensures { Stops ⟦<SendHalf as SendEnd>⟧ ⟦<SendLeft as RingEnd>⟧
+    ensures { Stops ⟦<SampleRing as HeldRing>⟧.rings ⟦<ByteRing as HeldRing>⟧.rings
         handle.old.held handle.new.held list result }
 {
     let Some(mut held) = handle.take(alloc) else {
@@ -141,18 +145,19 @@ fn stop_by(alloc: Global, handle: &mut Handle, list: u8) -> Status
 
 /// Stops a DAQ list by a sampler, if this is one.
 fn stop_in(content: &mut Content, list: u8) -> Status
-    ensures { Stops ⟦<SendHalf as SendEnd>⟧ ⟦<SendLeft as RingEnd>⟧
+    ensures { Stops ⟦<SampleRing as HeldRing>⟧.rings ⟦<ByteRing as HeldRing>⟧.rings
         (Some content.old) (Some content.new) list result }
 {
     match content {
         Content::Sampler(lent) => lent.stop(list),
+        Content::ByteSampler(lent) => lent.stop(list),
         _ => Status::Empty,
     }
 }
 
 /// Tells a DAQ list's counts by the sampler of a handle.
 fn counts_by(alloc: Global, handle: &mut Handle, list: u8, counts: &mut CountsOut) -> Status
-    ensures { Counts ⟦<SendHalf as SendEnd>⟧ ⟦<SendLeft as RingEnd>⟧
+    ensures { Counts ⟦<SampleRing as HeldRing>⟧.rings ⟦<ByteRing as HeldRing>⟧.rings
         handle.old.held handle.new.held list counts.old counts.new result }
 {
     let Some(mut held) = handle.take(alloc) else {
@@ -165,11 +170,12 @@ fn counts_by(alloc: Global, handle: &mut Handle, list: u8, counts: &mut CountsOu
 
 /// Tells a DAQ list's counts by a sampler, if this is one.
 fn counts_in(content: &mut Content, list: u8, counts: &mut CountsOut) -> Status
-    ensures { Counts ⟦<SendHalf as SendEnd>⟧ ⟦<SendLeft as RingEnd>⟧
+    ensures { Counts ⟦<SampleRing as HeldRing>⟧.rings ⟦<ByteRing as HeldRing>⟧.rings
         (Some content.old) (Some content.new) list counts.old counts.new result }
 {
     match content {
         Content::Sampler(lent) => lent.counts_of(list, counts),
+        Content::ByteSampler(lent) => lent.counts_of(list, counts),
         _ => Status::Empty,
     }
 }

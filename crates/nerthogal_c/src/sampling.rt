@@ -5,17 +5,17 @@ ghost use Rattle.nerthogal_c.specs.Samplers.{CountsList, StartsList, StopsList, 
 
 use crate::sets::{CountsOut, TakenOut};
 use crate::status::Status;
-use channel_ring::{RingEnd, SendEnd, SendHalf, SendLeft};
+use channel_ring::SendEnd;
 use sampler::{Sampler, StartFault, StopFault, TriggerFault};
 
 /// Takes a trigger.
-pub fn trigger(
-    sampler: &mut Sampler<SendHalf>,
+pub fn trigger<S: SendEnd>(
+    sampler: &mut Sampler<S>,
     image: &[u8],
     stamp: u32,
     taken: &mut TakenOut,
 ) -> Status
-    ensures { TriggersSampler ⟦<SendHalf as SendEnd>⟧ ⟦<SendLeft as RingEnd>⟧
+    ensures { TriggersSampler S.SendEnd S.End.RingEnd
         sampler.old sampler.new image.now stamp taken.old taken.new result }
 {
     match sampler.trigger(image, stamp) {
@@ -29,8 +29,8 @@ pub fn trigger(
 }
 
 /// Starts a DAQ list.
-pub fn start(sampler: &mut Sampler<SendHalf>, list: u8) -> Status
-    ensures { StartsList ⟦<SendHalf as SendEnd>⟧ ⟦<SendLeft as RingEnd>⟧
+pub fn start<S: SendEnd>(sampler: &mut Sampler<S>, list: u8) -> Status
+    ensures { StartsList S.SendEnd S.End.RingEnd
         sampler.old sampler.new list result }
 {
     match sampler.start(list) {
@@ -41,8 +41,8 @@ pub fn start(sampler: &mut Sampler<SendHalf>, list: u8) -> Status
 }
 
 /// Stops a DAQ list.
-pub fn stop(sampler: &mut Sampler<SendHalf>, list: u8) -> Status
-    ensures { StopsList ⟦<SendHalf as SendEnd>⟧ ⟦<SendLeft as RingEnd>⟧
+pub fn stop<S: SendEnd>(sampler: &mut Sampler<S>, list: u8) -> Status
+    ensures { StopsList S.SendEnd S.End.RingEnd
         sampler.old sampler.new list result }
 {
     match sampler.stop(list) {
@@ -54,8 +54,8 @@ pub fn stop(sampler: &mut Sampler<SendHalf>, list: u8) -> Status
 }
 
 /// Tells a DAQ list's counts.
-pub fn counts_of(sampler: &Sampler<SendHalf>, list: u8, counts: &mut CountsOut) -> Status
-    ensures { CountsList ⟦<SendHalf as SendEnd>⟧ ⟦<SendLeft as RingEnd>⟧
+pub fn counts_of<S: SendEnd>(sampler: &Sampler<S>, list: u8, counts: &mut CountsOut) -> Status
+    ensures { CountsList S.SendEnd S.End.RingEnd
         sampler.now list counts.old counts.new result }
 {
     match sampler.counts(list) {

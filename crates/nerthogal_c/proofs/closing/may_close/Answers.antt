@@ -1,30 +1,28 @@
-use Rattle.std.proofs.Common.{◌≤◌, arith, refl}
+use Rattle.std.proofs.Common.{◌≤◌, ◌∙◌, arith, ap}
 use Rattle.std.proofs.lemmas.Grind.{common_steps}
 use Rattle.xcp_base.specs.declared.limits.TheConstants.{MAX_LISTS}
-use Rattle.nerthogal_c.proofs.EndLemmas.{stays-unfinished}
+use Rattle.nerthogal_c.specs.States.{EngineState}
 use Rattle.nerthogal_c.proofs.closing.may_close.Goals as goal
 
 -- the engine keeps all that it has
 pub returns-then-not-collect-clause-err : goal.returns-then-not-collect-clause-err
-returns-then-not-collect-clause-err c =
-    let room : MAX_LISTS ≤ c.args.room = grind (arith, common_steps) in
-    stays-unfinished c.in-Engine.is room (record {
-      samplers = c.collect.ensures.samplers;
-      transmitter = refl;
-      places = c.collect.ensures.places;
-    })
+returns-then-not-collect-clause-err g c =
+    let room : MAX_LISTS ≤ c.args.room = grind (arith, common_steps) in (
+      room,
+      record {
+        samplers = c.collect.ensures.samplers ∙ ap (λ (e : EngineState _ _ _). e.lending.samplers) c.engine.view_is;
+        transmitter = ap (λ (e : EngineState _ _ _). e.transmitter) c.engine.view_is;
+        places = c.collect.ensures.places ∙ ap (λ (e : EngineState _ _ _). e.lending.places) c.engine.view_is;
+      },
+    )
 
 pub returns-clause-ok : goal.returns-clause-ok
-returns-clause-ok c =
+returns-clause-ok g c =
     let room : MAX_LISTS ≤ c.args.room = grind (arith, common_steps) in (
-      c.in-Engine.engine,
-      _,
-      c.in-Engine.is,
-      refl,
       record {
-        samplers = c.collect.ensures.samplers;
-        transmitter = refl;
-        places = c.collect.ensures.places;
+        samplers = c.collect.ensures.samplers ∙ ap (λ (e : EngineState _ _ _). e.lending.samplers) c.engine.view_is;
+        transmitter = ap (λ (e : EngineState _ _ _). e.transmitter) c.engine.view_is;
+        places = c.collect.ensures.places ∙ ap (λ (e : EngineState _ _ _). e.lending.places) c.engine.view_is;
       },
       c.collect.ensures.all c.if-not-collect.false,
       room,

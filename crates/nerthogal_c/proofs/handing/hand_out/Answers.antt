@@ -1,14 +1,27 @@
-use Rattle.std.proofs.Common.{◌∙◌, Some, ap, option_map, refl, subst}
-use Rattle.nerthogal_c.specs.Lends.{Lends, LendsNext}
+use Rattle.std.proofs.Common.{◌∙◌, subst, sym}
+use Rattle.channel_ring.specs.contracts.sample_ring.SendHalfSendEnd.TheImpl.{ghosts as send}
+use Rattle.nerthogal_c.specs.Engines.{LendsOut}
+use Rattle.nerthogal_c.specs.declared.content.Content.TheVariants as held
+use Rattle.nerthogal_c.proofs.EngineLemmas.{hands-back, hands-none, hands-one}
+use Rattle.nerthogal_c.proofs.OnLemmas.{same-sampler}
 use Rattle.nerthogal_c.proofs.handing.hand_out.Goals as goal
 
--- the sampler that goes out is the one that is put
-pub returns-in-Ok-Some : goal.returns-in-Ok-Some
-returns-in-Ok-Some c =
-    let lends : Lends c.args.engine.now.lending c.next.new.self c.in-Ok-Some.content.value
-    = subst (λ given. LendsNext c.args.engine.now.lending c.next.new.self (option_map (λ it. it.value) given)) c.in-Ok-Some.field-0-is
-    c.in-Ok-Some.ensures.ok in (
-      lends.sampler,
-      c.put.ensures ∙ ap Some lends.content_is,
-      record { first = lends.first; transmitter = refl; places = lends.places },
-    )
+-- a sampler goes out
+pub returns-in-Ok-put_in : goal.returns-in-Ok-put_in
+returns-in-Ok-put_in c = hands-one held.Sampler _ c.in-Ok-put_in.ensures.ok c.in-Ok.ensures.ok
+
+-- none does
+pub returns-in-Err : goal.returns-in-Err
+returns-in-Err c = hands-none held.Sampler c.in-Err.status c.requires.empty c.in-Err.ensures.err
+
+-- the one that comes back is the one that went out
+pub take_back-requires : goal.take_back-requires
+take_back-requires c = (
+  c.args.engine.now,
+  subst (λ s. LendsOut send c.args.engine.now c.next_of.new.engine s) (same-sampler (sym c.in-Err-put_in.ensures.back ∙ c.in-Sampler.is)) c.in-Ok.ensures.ok,
+)
+
+pub returns-in-Sampler : goal.returns-in-Sampler
+returns-in-Sampler c =
+    hands-back held.Sampler _ (c.in-Err-put_in.ensures.err ∙ c.requires.empty) c.in-Ok.ensures.ok (c.take_back.ensures _ (
+    subst (λ s. LendsOut send c.args.engine.now c.next_of.new.engine s) (same-sampler (sym c.in-Err-put_in.ensures.back ∙ c.in-Sampler.is)) c.in-Ok.ensures.ok))

@@ -1,15 +1,15 @@
 use Rattle.std.proofs.Common.{◌≡◌, ◌+◌, ◌≤◌, reverse, vec_capacity, vec_len}
 use Rattle.nerthogal_c.specs.Lendings.{places_of}
-use Rattle.nerthogal_c.proofs.LendingLemmas.{ring, send}
 use Rattle.nerthogal_c.proofs.lending.Lending.collect.Given as goal
 
 -- what came back has the places that it had when it was out
 abbrev pub invariant-loop-self : goal.invariant-loop-self
-invariant-loop-self l = record {
+invariant-loop-self g l = record {
   places :
-      places_of send ring l.self-inside.ends.items l.self-inside.ways.items (reverse l.self-inside.samplers.items)
+      places_of g.R.Send.SendEnd g.R.Send.End.RingEnd l.self-inside.ends.items l.self-inside.ways.items (reverse l.self-inside.samplers.items)
       ≡ l.fn.self.places;
   samplers : reverse l.self-inside.samplers.items ≡ l.fn.self.samplers;
+  samplers_fit : vec_len l.self-inside.ways + vec_len l.self-inside.samplers ≤ vec_capacity l.self-inside.samplers;
   ways_fit : vec_len l.self-inside.ways + vec_len l.self-inside.samplers ≤ vec_capacity l.self-inside.ways;
   ends_fit :
       vec_len l.self-inside.ends + (vec_len l.self-inside.ways + vec_len l.self-inside.samplers)
@@ -17,4 +17,4 @@ invariant-loop-self l = record {
 }
 
 abbrev pub decreases-loop-self : goal.decreases-loop-self
-decreases-loop-self l = vec_len l.self-inside.ways
+decreases-loop-self g l = vec_len l.self-inside.ways
