@@ -4,8 +4,8 @@ ghost use Rattle.std.specs.Prelude.{◌≡◌};
 ghost use Rattle.nerthogal_c.specs.Engines.{PumpsEngine};
 
 use crate::engine::Engine;
+use crate::pumped_out::PumpedOut;
 use crate::ring_out::RingOut;
-use crate::sets::PumpedOut;
 use crate::status::Status;
 use channel_ring::TakeEnd;
 use daq_engine::Ring;
