@@ -58,14 +58,14 @@
 extern "C" {
 #endif
 
-#define NG_MAX_CHANNELS 8u  /* event channels: 1 to 8 */
-#define NG_MAX_IMAGE 4096u  /* bytes of a memory image: 1 to 4096 */
-#define NG_MAX_RING 1024u   /* places of an event channel's ring of items: 1 to 1024 */
-#define NG_MIN_BYTE_RING 532u   /* bytes of an event channel's ring of bytes: 532 .. */
+#define NG_MAX_CHANNELS 8u      /* event channels: 1 to 8 */
+#define NG_MAX_IMAGE 4096u      /* bytes of a memory image: 1 to 4096 */
+#define NG_MAX_RING 1024u       /* places of an event channel's ring of items: 1 to 1024 */
+#define NG_MIN_BYTE_RING 532u   /* bytes of an event channel's ring of bytes: from 532 .. */
 #define NG_MAX_BYTE_RING 65536u /* .. to 65536 */
-#define NG_MAX_LISTS 16u    /* DAQ lists, and so the lines of an account */
-#define NG_REPLY_BYTES 8u   /* room that the answer to a command needs */
-#define NG_PUMP_BYTES 4352u /* room that a pump needs: 8 samples of 8 frames of 4 + 64 bytes */
+#define NG_MAX_LISTS 16u        /* DAQ lists, and so the lines of an account */
+#define NG_REPLY_BYTES 8u       /* room that the answer to a command needs */
+#define NG_PUMP_BYTES 4352u     /* room that a pump needs: 8 samples of 8 frames of 4 + 64 bytes */
 
 /* What a call answers: one of the numbers below. */
 typedef uint32_t ng_status;

@@ -22,7 +22,7 @@ use Rattle.nerthogal_c.specs.declared.content.Content.TheVariants.{ByteEngine as
 use Rattle.nerthogal_c.specs.declared.content.Content.TheVariants.{Sampler as OfItems}
 use Rattle.nerthogal_c.specs.declared.content.Content.TheVariants.{ByteSampler as OfBytes, Store}
 use Rattle.nerthogal_c.specs.declared.pumping.TheConstants.{PUMP_BYTES}
-use Rattle.nerthogal_c.specs.declared.sets.PumpedOut.{PumpedOut}
+use Rattle.nerthogal_c.specs.declared.pumped_out.PumpedOut.{PumpedOut}
 use Rattle.nerthogal_c.specs.declared.ring_kind.RingKind.{RingKind}
 use Rattle.nerthogal_c.specs.declared.ring_kind.RingKind.TheVariants as kind
 use Rattle.nerthogal_c.specs.Kinds.{ring_of}

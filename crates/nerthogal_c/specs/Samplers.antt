@@ -18,8 +18,8 @@ use Rattle.nerthogal_c.specs.States.{ByteSampler, Bytes, ItemSampler, Items}
 use Rattle.nerthogal_c.specs.declared.content.Content.{Content}
 use Rattle.nerthogal_c.specs.declared.content.Content.TheVariants.{Sampler as OfItems}
 use Rattle.nerthogal_c.specs.declared.content.Content.TheVariants.{ByteSampler as OfBytes}
-use Rattle.nerthogal_c.specs.declared.sets.CountsOut.{CountsOut}
-use Rattle.nerthogal_c.specs.declared.sets.TakenOut.{TakenOut}
+use Rattle.nerthogal_c.specs.declared.counts_out.CountsOut.{CountsOut}
+use Rattle.nerthogal_c.specs.declared.taken_out.TakenOut.{TakenOut}
 use Rattle.nerthogal_c.specs.declared.status.Status.{Status}
 use Rattle.nerthogal_c.specs.declared.status.Status.TheVariants as status
 

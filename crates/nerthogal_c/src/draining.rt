@@ -4,8 +4,8 @@ ghost use Rattle.std.specs.Prelude.{◌≡◌};
 ghost use Rattle.nerthogal_c.specs.Ends.{DrainsEngine};
 
 use crate::engine::Engine;
+use crate::pumped_out::PumpedOut;
 use crate::pumping::{PUMP_BYTES, pump};
-use crate::sets::PumpedOut;
 use crate::status::Status;
 use daq_engine::Ring;
 use frame_writer::{Out, SinkOut};

@@ -11,8 +11,8 @@ use crate::handing::give_sampler;
 use crate::handle::Handle;
 use crate::held_ring::HeldRing;
 use crate::opening::open_into;
+use crate::pumped_out::PumpedOut;
 use crate::pumping::pump;
-use crate::sets::PumpedOut;
 use crate::status::Status;
 use byte_ring::ByteRing;
 use channel_ring::SampleRing;
@@ -23,7 +23,7 @@ use std::alloc::Global;
 /// 65536.
 ///
 /// Refused in this order (own): an engine's handle that isn't empty, no store, no such kind of
-/// ring, want of memory for the frames; capacities that don't fit, no list runs, want of memory.
+/// ring; capacities that don't fit, no list runs, want of memory.
 #[unsafe(no_mangle)]
 pub extern "C" fn ng_open(
     alloc: Global,

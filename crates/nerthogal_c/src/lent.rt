@@ -1,10 +1,11 @@
 ghost use Rattle.std.specs.Prelude.{◌≡◌};
 
 use crate::coming_back::ComingBack;
+use crate::counts_out::CountsOut;
 use crate::returns::{Return, Returns};
 use crate::sampling::{counts_of, start, stop, trigger};
-use crate::sets::{CountsOut, TakenOut};
 use crate::status::Status;
+use crate::taken_out::TakenOut;
 use crate::way_back::WayBack;
 use daq_engine::Ring;
 use rtrb::{Consumer, Producer};

@@ -4,7 +4,7 @@ ghost use Rattle.std.specs.Prelude.{◌≡◌};
 ghost use Rattle.nerthogal_c.specs.Engines.{PumpsEngine};
 
 use crate::engine::Engine;
-use crate::sets::PumpedOut;
+use crate::pumped_out::PumpedOut;
 use crate::status::Status;
 use channel_ring::TakeEnd;
 use daq_engine::Ring;

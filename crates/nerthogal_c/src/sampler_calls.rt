@@ -6,10 +6,11 @@ ghost use Rattle.nerthogal_c.specs.Samplers.{Counts, Starts, Stops, Triggers};
 ghost use Rattle.nerthogal_c.specs.declared.status.Status.{Status as StatusOf};
 
 use crate::content::Content;
+use crate::counts_out::CountsOut;
 use crate::handle::Handle;
 use crate::held_ring::HeldRing;
-use crate::sets::{CountsOut, TakenOut};
 use crate::status::Status;
+use crate::taken_out::TakenOut;
 use byte_ring::ByteRing;
 use channel_ring::SampleRing;
 use std::alloc::Global;

@@ -3,8 +3,9 @@
 ghost use Rattle.std.specs.Prelude.{◌≡◌};
 ghost use Rattle.nerthogal_c.specs.Samplers.{CountsList, StartsList, StopsList, TriggersSampler};
 
-use crate::sets::{CountsOut, TakenOut};
+use crate::counts_out::CountsOut;
 use crate::status::Status;
+use crate::taken_out::TakenOut;
 use channel_ring::SendEnd;
 use sampler::{Sampler, StartFault, StopFault, TriggerFault};
 
