@@ -20,7 +20,7 @@ module _ {S T E : Type 0} (out : OutGhosts RingOut) (give : TakeGhosts T E) (rin
   pub looked-at-all : {i s : EngineState S T E} {transmitter : Transmitter RingOut T} {collected looked : LendingState S E}
       → i ≡ s → collected.places ≡ i.lending.places → collected.samplers ≡ i.lending.samplers
       → LooksAtEnds ring (transmission out give i.transmitter) (transmission out give transmitter) collected looked
-      → LooksAtAll out give ring s (record { transmitter = transmitter; frames = i.frames; lending = looked })
+      → LooksAtAll out give ring s (record { transmitter = transmitter; frames = i.frames; lending = looked; lines = i.lines })
   looked-at-all {i} {s} {transmitter} {collected} {looked} is places samplers looks = record {
     ends = record {
       back = looks.back;

@@ -17,11 +17,13 @@ module _ {S T E : Type 0} (send : SendGhosts S E) where
   lends-inside {s} {before} {now} {sampler} is lends =
       subst (λ (e : EngineState S T E). Lends send before.lending e.lending sampler) (sym is) lends.lends
 
-  same-parts : {a b : EngineState S T E} → a.transmitter ≡ b.transmitter → a.frames ≡ b.frames → a.lending ≡ b.lending → a ≡ b
-  same-parts {a} {b} one two three =
+  same-parts : {a b : EngineState S T E} → a.transmitter ≡ b.transmitter → a.frames ≡ b.frames → a.lending ≡ b.lending
+      → a.lines ≡ b.lines → a ≡ b
+  same-parts {a} {b} one two three four =
       ap (λ t. record a { transmitter = t }) one
-      ∙ ap (λ f. record { transmitter = b.transmitter; frames = f; lending = a.lending }) two
-      ∙ ap (λ l. record { transmitter = b.transmitter; frames = b.frames; lending = l }) three
+      ∙ ap (λ f. record { transmitter = b.transmitter; frames = f; lending = a.lending; lines = a.lines }) two
+      ∙ ap (λ l. record { transmitter = b.transmitter; frames = b.frames; lending = l; lines = a.lines }) three
+      ∙ ap (λ r. record { transmitter = b.transmitter; frames = b.frames; lending = b.lending; lines = r }) four
 
   -- with the samplers of before it is the engine of before
   pub lent-before : {s before now : EngineState S T E} {sampler : SamplerState S} {lending : LendingState S E} → s ≡ now
@@ -31,6 +33,7 @@ module _ {S T E : Type 0} (send : SendGhosts S E) where
       (ap (λ (e : EngineState S T E). e.transmitter) is ∙ lends.transmitter)
       (ap (λ (e : EngineState S T E). e.frames) is ∙ lends.frames)
       same
+      (ap (λ (e : EngineState S T E). e.lines) is ∙ lends.lines)
 
 module _ {S T E : Type 0} where
   -- one that is as it was keeps all

@@ -31,6 +31,7 @@ impl<R: Ring> Model for Engine<R> {
       transmitter = e.transmitter;
       frames = e.frames;
       lending = e.lending;
+      lines = e.lines;
     } };
 
     ghost invariant = { λ e.
