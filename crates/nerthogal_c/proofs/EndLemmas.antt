@@ -20,7 +20,7 @@ module _ {S T E : Type 0} (out : OutGhosts SinkOut) (give : TakeGhosts T E) (rin
   pub looked-at-all : {i s : EngineState S T E} (transmitter : Transmitter SinkOut T) {collected looked : LendingState S E}
       → i ≡ s → collected.places ≡ i.lending.places → collected.samplers ≡ i.lending.samplers
       → LooksAtEnds ring (transmission out give i.transmitter) (transmission out give transmitter) collected looked
-      → LooksAtAll out give ring s (record { transmitter = transmitter; lending = looked })
+      → LooksAtAll out give ring s (record { transmitter = transmitter; lending = looked; lines = i.lines })
   looked-at-all {i} {s} transmitter {collected} {looked} is places samplers looks = record {
     back = looks.back;
     looked = subst (λ (e : EngineState S T E). Looked (transmission out give e.transmitter) (transmission out give transmitter)) is looks.looked;

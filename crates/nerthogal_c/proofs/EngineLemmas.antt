@@ -17,10 +17,11 @@ module _ {S T E : Type 0} (send : SendGhosts S E) where
   lends-inside {s} {before} {now} {sampler} is lends =
       subst (λ (e : EngineState S T E). Lends send before.lending e.lending sampler) (sym is) lends.lends
 
-  same-parts : {a b : EngineState S T E} → a.transmitter ≡ b.transmitter → a.lending ≡ b.lending → a ≡ b
-  same-parts {a} {b} one two =
+  same-parts : {a b : EngineState S T E} → a.transmitter ≡ b.transmitter → a.lending ≡ b.lending → a.lines ≡ b.lines → a ≡ b
+  same-parts {a} {b} one two three =
       ap (λ t. record a { transmitter = t }) one
-      ∙ ap (λ l. record { transmitter = b.transmitter; lending = l }) two
+      ∙ ap (λ l. record { transmitter = b.transmitter; lending = l; lines = a.lines }) two
+      ∙ ap (λ r. record { transmitter = b.transmitter; lending = b.lending; lines = r }) three
 
   -- with the samplers of before it is the engine of before
   pub lent-before : {s before now : EngineState S T E} {sampler : SamplerState S} {lending : LendingState S E} → s ≡ now
@@ -29,6 +30,7 @@ module _ {S T E : Type 0} (send : SendGhosts S E) where
       same-parts
       (ap (λ (e : EngineState S T E). e.transmitter) is ∙ lends.transmitter)
       same
+      (ap (λ (e : EngineState S T E). e.lines) is ∙ lends.lines)
 
 module _ {S T E : Type 0} where
   -- one that is as it was keeps all

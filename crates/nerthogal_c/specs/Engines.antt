@@ -67,6 +67,7 @@ module _ {S T E : Type 0} where
       : Type 0 where
     pub lends : Lends send s.lending t.lending sampler
     pub transmitter : t.transmitter ≡ s.transmitter
+    pub lines : t.lines ≡ s.lines
 
   -- why none is handed out
   abbrev pub LendsNone : EngineState S T E → EngineState S T E → Status → Type 0

@@ -1,5 +1,5 @@
 -- What contracts see of rings of one kind, and of an engine over them (own).
-use Rattle.std.specs.Prelude.{ℕ, Bool, List}
+use Rattle.std.specs.Prelude.{ℕ, Bool, List, Vec}
 use Rattle.std.specs.declared.alloc.Global.{Global}
 use Rattle.rtrb.specs.declared.AnyItems.{AnyItems}
 use Rattle.rtrb.specs.declared.finished.Finished.{Finished}
@@ -16,6 +16,7 @@ use Rattle.frame_writer.specs.declared.out.Out.{Ghosts as OutGhosts}
 use Rattle.frame_writer.specs.declared.sink_out.SinkOut.{SinkOut}
 use Rattle.sampler.specs.State.{SamplerState}
 use Rattle.transmitter.specs.declared.transmitter.Transmitter.{Transmitter}
+use Rattle.daq_engine.specs.declared.report.ListReport.{ListReport}
 use Rattle.nerthogal_c.specs.Lendings.{LendingState}
 
 -- what contracts speak of where they speak of one kind of ring: the writer that frames go to, the
@@ -27,10 +28,11 @@ pub record Rings (S T E : Type 0) : Type 1 where
   pub ring : EndGhosts E
   pub may_have : ℕ → Bool
 
--- an engine: its transmitter and its samplers
+-- an engine: its transmitter, its samplers, and the room for the lines of its account
 pub record EngineState (S T E : Type 0) : Type 0 where
   pub transmitter : Transmitter SinkOut T
   pub lending : LendingState S E
+  pub lines : Vec ListReport Global
 
 -- the samplers that weren't handed out, in rising order of their event channels
 abbrev pub samplers_in : {S T E : Type 0} → EngineState S T E → List (SamplerState S)

@@ -27,6 +27,7 @@ impl<R: Ring> Model for Engine<R> {
     ghost view = { λ e. record {
       transmitter = e.transmitter;
       lending = e.lending;
+      lines = e.lines;
     } };
 
     ghost invariant = { λ e.
