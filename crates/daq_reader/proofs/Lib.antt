@@ -4,4 +4,6 @@ pub mod FieldLemmas
 pub mod ReadingLemmas
 pub mod RecordedLemmas
 pub mod SlotLemmas
+pub mod UniqueLemmas
 pub mod ViewLemmas
+pub mod WrittenLemmas

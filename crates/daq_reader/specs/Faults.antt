@@ -12,7 +12,8 @@ use Rattle.daq_reader.specs.Recorded.{is_of_list}
 
 -- the first byte is the PID of ODT k, in ODT 0 with or without the overload indication
 abbrev pub is_pid : ListPlan → ℕ → List ℕ → Bool
-is_pid plan k q = if slice_index q 0 == pid plan k false then true else slice_index q 0 == pid plan k true
+is_pid plan k q =
+    if slice_index q 0 == pid plan k false then true else slice_index q 0 == pid plan k true
 
 -- the bytes of the packet of ODT k
 abbrev pub len_of : ListPlan → ℕ → ℕ

@@ -1,4 +1,6 @@
 pub mod Faults
+pub mod Frames
 pub mod Inner
+pub mod Laws
 pub mod Reading
 pub mod Recorded

@@ -1,13 +1,18 @@
 //! The reader of recordings: from the packets of a recording back to the samples of its DAQ lists.
 #![tactic(auto)]
 
+mod frame_fault;
+pub mod laws;
 mod list_reader;
 mod list_shape;
 mod packet_fault;
 mod sample_view;
 mod slots;
+mod unread;
 
+pub use frame_fault::FrameFault;
 pub use list_reader::ListReader;
 pub use list_shape::ListShape;
 pub use packet_fault::PacketFault;
 pub use sample_view::SampleView;
+pub use unread::Unread;

@@ -1,5 +1,5 @@
-ghost use Rattle.std.specs.Prelude.{◌≡◌, ◌<◌, ◌≤◌, ◌+◌, ◌&&◌, nat_le, nat_lt, IfErr, IfOk, IfSome, IsSome};
-ghost use Rattle.std.specs.Prelude.{None, OnOk, Some, length, map, slice_get, true};
+ghost use Rattle.std.specs.Prelude.{◌≡◌, ◌<◌, ◌≤◌, ◌+◌, ◌&&◌, nat_le, nat_lt, IfOk, IfSome};
+ghost use Rattle.std.specs.Prelude.{IsSome, length, map, slice_get, true};
 ghost use Rattle.xcp_base.specs.Forms.{FitsFirstPid, field_len};
 ghost use Rattle.daq_store.specs.Configuration.{is_ready};
 ghost use Rattle.copy_plan.specs.Config.{IsPlan, odt, plan_of, written_entries};
@@ -134,8 +134,8 @@ impl ListShape {
         field
     }
 
-    /// Where entry `e` of ODT `k` stands in its packet, and its bytes; `None` exactly where there is
-    /// no such entry.
+    /// Where entry `e` of ODT `k` stands in its packet, and its bytes; `None` exactly where there
+    /// is no such entry.
     pub(crate) fn place(&self, k: usize, e: usize) -> Option<(usize, usize)>
         ensures place { result ≡ place_of self.now k e }
         ensures odt { IsSome result → k < length self.now.odts }

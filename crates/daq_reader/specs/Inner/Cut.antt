@@ -1,7 +1,8 @@
 -- The sample that packets are of, read off their bytes.
 use Rattle.std.specs.Prelude.{ℕ, ◌+◌, nat_lt, nat_le, Bool, if◌then◌else◌}
 use Rattle.std.specs.Prelude.{List, [], ◌∷◌, length, map, take, drop, replicate}
-use Rattle.std.specs.Prelude.{slice_index, slice_index_or, Option, Some, None, option_map, slice_get}
+use Rattle.std.specs.Prelude.{slice_index, slice_index_or, slice_get}
+use Rattle.std.specs.Prelude.{Option, Some, None, option_map}
 use Rattle.std.specs.Int.{from_le_bytes, w16, w32}
 use Rattle.std.specs.List.{range_with_len}
 use Rattle.xcp_base.specs.declared.stamp_size.StampSize.{StampSize}

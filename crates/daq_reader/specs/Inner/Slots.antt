@@ -14,7 +14,8 @@ bytes_of es = sum_by (λ (e : OdtEntry). e.1) es
 -- the entries one behind another, from a place on
 abbrev pub laid_out : ℕ → List OdtEntry → List Slot
 laid_out start [] = []
-laid_out start (e ∷ es) = record { address = e.0; size = e.1; start = start } ∷ laid_out (start + e.1) es
+laid_out start (e ∷ es) =
+    record { address = e.0; size = e.1; start = start } ∷ laid_out (start + e.1) es
 
 abbrev pub slots_view : Inside → List OdtEntry
 slots_view a = map entry_of a.slots.items
