@@ -2,5 +2,6 @@ pub mod Faults
 pub mod Frames
 pub mod Inner
 pub mod Laws
+pub mod Lists
 pub mod Reading
 pub mod Recorded

@@ -3,6 +3,7 @@ ghost use Rattle.std.specs.Prelude.{IfErr, IfOk, IfSome, IsOk, IsSome};
 ghost use Rattle.std.specs.Prelude.{None, OnErr, OnOk, Some, length, true};
 ghost use Rattle.daq_reader.specs.Faults.{fault_of};
 ghost use Rattle.daq_reader.specs.Inner.Fitting.{IsReading};
+ghost use Rattle.daq_reader.specs.Lists.{is_of};
 ghost use Rattle.daq_reader.specs.Reading.{is_whole, under_way};
 ghost use Rattle.daq_reader.specs.Recorded.{AreOf, Begin};
 
@@ -75,6 +76,13 @@ impl ListReader {
         ensures { result ≡ is_whole self.now }
     {
         self.packets.len() == self.shape.odts()
+    }
+
+    /// Whether a packet has an identification field that names the list.
+    pub fn names(&self, packet: &[u8]) -> bool
+        ensures { result ≡ is_of self.now.plan packet.now }
+    {
+        packet.len() >= self.shape.form().id.field_len() && self.shape.names(packet)
     }
 
     /// The sample that is whole; `None` exactly where none is.
