@@ -1,6 +1,7 @@
 pub mod BeginLemmas
 pub mod CutLemmas
 pub mod FieldLemmas
+pub mod GivenLemmas
 pub mod ListsLemmas
 pub mod ReadingLemmas
 pub mod RecordedLemmas

@@ -34,7 +34,7 @@ ticks_of-stamp_field One n h = omega arith
 ticks_of-stamp_field Two n h = from_le_bytes-to_le_bytes_2 n h
 ticks_of-stamp_field Four n h = from_le_bytes-to_le_bytes_4 n h
 
-same_front : {X : Type 0} (a b x y : List X) → length a ≡ length b → a ++ x ≡ b ++ y → (a ≡ b) × (x ≡ y)
+pub same_front : {X : Type 0} (a b x y : List X) → length a ≡ length b → a ++ x ≡ b ++ y → (a ≡ b) × (x ≡ y)
 same_front [] [] x y h e = (refl, e)
 same_front [] (c ∷ b) x y h e = absurd (omega (arith, h))
 same_front (c ∷ a) [] x y h e = absurd (omega (arith, h))

@@ -1,5 +1,6 @@
 pub mod Faults
 pub mod Frames
+pub mod Given
 pub mod Inner
 pub mod Laws
 pub mod Lists
