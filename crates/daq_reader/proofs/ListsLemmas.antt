@@ -219,3 +219,26 @@ added xs plan some h = record {
     | inr last ↦ rw last (fresh_read plan some)
   ];
 }
+
+-- a list whose sample is whole stands at a place
+pub record WholeAt (now : List Reading) (i : ℕ) : Type 0 where
+  pub list : Reading
+  pub at : slice_get now i ≡ Some list
+  pub whole : is_whole list ≡ true
+
+get_set : (xs : List Reading) (i : ℕ) (b : Reading) → i < length xs → slice_get (set xs i b) i ≡ Some b
+get_set [] i b h = absurd (omega (arith, h))
+get_set (x ∷ xs) zero b h = refl
+get_set (x ∷ xs) (suc i) b h = get_set xs i b (omega (arith, h))
+
+whole_if : (now : List Reading) (i place : ℕ) (a : Reading) (v : Bool) → slice_get now place ≡ Some a → is_whole a ≡ v → Some i ≡ (if v then Some place else None) → WholeAt now i
+whole_if now i place a true at is h =
+    let same : i ≡ place = cc in
+    record { list = a; at = ap (slice_get now) same ∙ at; whole = is }
+whole_if now i place a false at is h = absurd (cc)
+
+pub whole_at : (old now : List Reading) (q : List ℕ) (whole : Option ℕ) (i : ℕ) → Takes old now q whole → whole ≡ Some i → WholeAt now i
+whole_at old now q whole i t is =
+    let place : ℕ = place_in (plans_of old) q in
+    let at : slice_get now place ≡ Some t.after = ap (λ (xs : List Reading). slice_get xs place) t.others ∙ get_set old place t.after (slice_get_within old place t.before t.at) in
+    whole_if now i place t.after (is_whole t.after) at refl (sym is ∙ t.sample)

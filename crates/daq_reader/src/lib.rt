@@ -7,7 +7,9 @@ mod list_reader;
 mod list_shape;
 mod packet_fault;
 mod reader;
+mod reading;
 mod sample_view;
+mod samples;
 mod slots;
 mod unread;
 
@@ -16,5 +18,7 @@ pub use list_reader::ListReader;
 pub use list_shape::ListShape;
 pub use packet_fault::PacketFault;
 pub use reader::Reader;
+pub use reading::read_packet;
 pub use sample_view::SampleView;
+pub use samples::Samples;
 pub use unread::Unread;
