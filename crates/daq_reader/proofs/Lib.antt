@@ -4,6 +4,7 @@ pub mod FieldLemmas
 pub mod GivenLemmas
 pub mod ListsLemmas
 pub mod ReadingLemmas
+pub mod ReadsLemmas
 pub mod RecordedLemmas
 pub mod SlotLemmas
 pub mod UniqueLemmas

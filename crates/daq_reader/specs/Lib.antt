@@ -5,4 +5,5 @@ pub mod Inner
 pub mod Laws
 pub mod Lists
 pub mod Reading
+pub mod Reads
 pub mod Recorded
