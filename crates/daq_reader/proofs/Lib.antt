@@ -7,6 +7,7 @@ pub mod ReadingLemmas
 pub mod ReadsLemmas
 pub mod RecordedLemmas
 pub mod SlotLemmas
+pub mod StandardFacts
 pub mod UniqueLemmas
 pub mod ViewLemmas
 pub mod WrittenLemmas
