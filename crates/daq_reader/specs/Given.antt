@@ -16,8 +16,8 @@ SamplesAreGivenBack =
     → of_place (plans_of lists) i qs ≡ flat_map (packets_of a.plan) rs
     → (given i samples ≡ rs) × (under_way a ≡ [])
 
--- the next of the packets is taken where, with those behind it, the packets of its list are those of
--- samples
+-- the next of the packets is taken where, with those behind it, the packets of its list are those
+-- of samples
 abbrev pub SamplesAreTaken : Type 0
 SamplesAreTaken =
     (lists : List Reading) (qs more : List (List ℕ)) (q : List ℕ) (samples : List (ℕ × Recorded))

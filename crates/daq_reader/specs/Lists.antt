@@ -1,5 +1,5 @@
--- The packets of several lists, told apart by their identification fields, and the samples that were
--- given back of them.
+-- The packets of several lists, told apart by their identification fields, and the samples that
+-- were given back of them.
 use Rattle.std.specs.Prelude.{◌≡◌, ℕ, suc, ◌<◌, ◌==◌, ◌&&◌, nat_le, Bool, if◌then◌else◌, All, List}
 use Rattle.std.specs.Prelude.{[], ◌∷◌, ◌++◌, length, map, filter, slice_get, slice_set}
 use Rattle.std.specs.Prelude.{Option, Some, None}

@@ -1,5 +1,5 @@
--- What a reader has read of a recording: the packets of its frames, and the samples that were handed
--- over.
+-- What a reader has read of a recording: the packets of its frames, and the samples that were
+-- handed over.
 use Rattle.std.specs.Prelude.{◌≡◌, ℕ, ◌+◌, ◌%◌, All, List, ◌++◌, length}
 use Rattle.frame_writer.specs.Frame.{text}
 use Rattle.frame_writer.specs.Split.{Fits}

@@ -1,5 +1,5 @@
-ghost use Rattle.std.specs.Prelude.{◌≡◌, ◌≤◌, ◌++◌, ◌∷◌, ℕ, List, [], IfErr, IfOk, None, OnErr, OnOk};
-ghost use Rattle.std.specs.Prelude.{Some, length, slice_get};
+ghost use Rattle.std.specs.Prelude.{◌≡◌, ◌≤◌, ◌++◌, ◌∷◌, ℕ, List, [], IfErr, IfOk};
+ghost use Rattle.std.specs.Prelude.{None, OnErr, OnOk, Some, length, slice_get};
 ghost use Rattle.std.specs.Option.{option_copied};
 ghost use Rattle.daq_reader.specs.Lists.{Stands, StandsWith, Takes, place_in, plans_of, refusal};
 ghost use Rattle.daq_reader.specs.Recorded.{Recorded};

@@ -12,8 +12,8 @@ use crate::unread::Unread;
 
 /// Reads all frames that are left, and hands over each sample that is whole.
 ///
-/// Whatever ends it, the frames that it went over are read, and nothing behind them: `unread` stands
-/// at the frame that was not.
+/// Whatever ends it, the frames that it went over are read, and nothing behind them: `unread`
+/// stands at the frame that was not.
 pub fn read<S: Samples>(
     reader: &mut Reader,
     unread: &mut Unread<'_>,
