@@ -1,0 +1,13 @@
+pub mod BeginLemmas
+pub mod CutLemmas
+pub mod FieldLemmas
+pub mod GivenLemmas
+pub mod ListsLemmas
+pub mod ReadingLemmas
+pub mod ReadsLemmas
+pub mod RecordedLemmas
+pub mod SlotLemmas
+pub mod StandardFacts
+pub mod UniqueLemmas
+pub mod ViewLemmas
+pub mod WrittenLemmas

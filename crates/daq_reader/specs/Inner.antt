@@ -1,0 +1,5 @@
+-- What no public clause cites.
+pub mod Cut
+pub mod Fitting
+pub mod Shapes
+pub mod Slots

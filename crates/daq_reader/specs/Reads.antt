@@ -1,0 +1,20 @@
+-- What a reader has read of a recording: the packets of its frames, and the samples that were
+-- handed over.
+use Rattle.std.specs.Prelude.{◌≡◌, ℕ, ◌+◌, ◌%◌, All, List, ◌++◌, length}
+use Rattle.frame_writer.specs.Frame.{text}
+use Rattle.frame_writer.specs.Split.{Fits}
+use Rattle.daq_reader.specs.Frames.{Unread}
+use Rattle.daq_reader.specs.Lists.{Stands}
+use Rattle.daq_reader.specs.Reading.{Reading}
+use Rattle.daq_reader.specs.Recorded.{Recorded}
+
+-- behind the packets `qs` the frames of some more were read, and the lists and the samples stand
+-- after all of them
+pub record HasRead (lists : List Reading) (qs : List (List ℕ)) (samples : List (ℕ × Recorded))
+    (before now : Unread)
+    : Type 0 where
+  pub read : List (List ℕ)
+  pub legal : All Fits read
+  pub bytes : before.rest ≡ text before.counter read ++ now.rest
+  pub counter : now.counter % 65536 ≡ (before.counter + length read) % 65536
+  pub stands : Stands lists (qs ++ read) samples

@@ -1,0 +1,82 @@
+ghost use Rattle.std.specs.Prelude.{◌≡◌, ◌<◌, [], length, slice_index_or};
+ghost use Rattle.std.specs.Option.{option_copied};
+ghost use Rattle.daq_reader.specs.Recorded.{element};
+
+use crate::list_shape::ListShape;
+use std::marker::Model;
+use xcp_base::{Packets, StampSize};
+
+/// A whole sample of a DAQ list, read in place off its packets.
+#[derive(Drop)]
+pub struct SampleView<'a> {
+    pub(crate) shape: &'a ListShape,
+    pub(crate) packets: &'a Packets,
+}
+
+impl<'a> Model for SampleView<'a> {
+    ghost use Rattle.daq_reader.specs.Reading.{Shown};
+    ghost use Rattle.daq_reader.specs.Inner.Cut.{recorded_in};
+    ghost use Rattle.daq_reader.specs.Inner.Fitting.{IsWhole};
+
+    ghost Value = { Shown };
+
+    ghost view = { λ a. record {
+      plan = a.shape.now;
+      sample = recorded_in a.shape.now a.packets.now;
+    } };
+
+    ghost invariant = { λ a. IsWhole a.shape.now a.packets.now };
+}
+
+impl<'a> SampleView<'a> {
+    /// The shape of the list.
+    pub fn shape(&self) -> &ListShape
+        ensures { result.now ≡ self.now.plan }
+    {
+        self.shape
+    }
+
+    /// Whether the sample has the overload indication.
+    pub fn overload(&self) -> bool
+        ensures { result ≡ self.now.sample.overload }
+    {
+        let first = packet_at(self.packets, 0);
+        first[0] >= 128
+    }
+
+    /// The ticks of the timestamp, modulo 256, 65536 or 2^32; `None` exactly where the list isn't
+    /// stamped.
+    pub fn stamp(&self) -> Option<u32>
+        ensures { result ≡ self.now.sample.stamp }
+    {
+        if !self.shape.stamped() {
+            return None;
+        }
+        let bytes = &packet_at(self.packets, 0)[self.shape.form().id.field_len()..];
+        let ticks = match self.shape.form().stamp {
+            StampSize::One => bytes[0] as u32,
+            StampSize::Two => u16::from_le_bytes([bytes[0], bytes[1]]) as u32,
+            StampSize::Four => u32::from_le_bytes([bytes[0], bytes[1], bytes[2], bytes[3]]),
+        };
+        Some(ticks)
+    }
+
+    /// The bytes of entry `e` of ODT `k`; `None` exactly where there is no such entry.
+    pub fn entry(&self, k: usize, e: usize) -> Option<&[u8]>
+        ensures { option_copied result ≡ element self.now.sample k e }
+    {
+        let (start, size) = self.shape.place(k, e)?;
+        Some(&packet_at(self.packets, k)[start..start + size])
+    }
+}
+
+/// A packet of a sample.
+fn packet_at(packets: &Packets, k: usize) -> &[u8]
+    requires { k < length packets.now }
+    ensures { result.now ≡ slice_index_or packets.now k [] }
+{
+    let Some(packet) = packets.get(k) else {
+        unreachable!();
+    };
+    packet
+}
