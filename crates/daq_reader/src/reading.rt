@@ -1,9 +1,10 @@
-ghost use Rattle.std.specs.Prelude.{◌≡◌, List, ℕ, [], ◌∷◌, ◌++◌, IfErr, None, OnErr, OnOk, Some};
-ghost use Rattle.std.specs.Prelude.{Ok, true, false};
-ghost use Rattle.daq_reader.specs.Frames.{IsNext};
+ghost use Rattle.std.specs.Prelude.{◌≡◌, ◌≢◌, List, ℕ, [], ◌∷◌, ◌++◌, IfErr, None, OnErr, OnOk, Some};
+ghost use Rattle.std.specs.Prelude.{Err, Ok, true, false};
+ghost use Rattle.daq_reader.specs.Frames.{HasFrame, IsNext, Unread};
 ghost use Rattle.daq_reader.specs.Lists.{Stands, refusal};
 ghost use Rattle.daq_reader.specs.Reads.{HasRead};
 
+use crate::frame_fault::FrameFault;
 use crate::packet_fault::PacketFault;
 use crate::read_fault::ReadFault;
 use crate::reader::Reader;
@@ -39,6 +40,14 @@ pub fn read_frame<S: Samples>(
     ensures end { result ≡ Ok false → unread.new.rest ≡ [] }
     ensures end_stays { result ≡ Ok false → (unread.new ≡ unread.old)
         × (reader.new ≡ reader.old) × (S.handed samples.new ≡ S.handed samples.old) }
+
+    ensures torn { result ≡ Err (ReadFault.Frame FrameFault.Torn)
+        → (unread.old.rest ≢ []) × ((n : ℕ) → ¬ HasFrame unread.old n) }
+    ensures jump { result ≡ Err (ReadFault.Frame FrameFault.Jump)
+        → (n : ℕ) × (n ≢ unread.old.counter) × HasFrame unread.old n }
+    ensures packet { (fault : PacketFault) → result ≡ Err (ReadFault.Packet fault)
+        → (q : List ℕ) × (behind : Unread) × IsNext unread.old behind q
+        × (refusal reader.old q ≡ Some fault) }
     ensures err { OnErr result ((unread.new ≡ unread.old) × (reader.new ≡ reader.old)
         × (S.handed samples.new ≡ S.handed samples.old)) }
 {
