@@ -1,5 +1,5 @@
-ghost use Rattle.std.specs.Prelude.{◌≡◌, ◌≢◌, List, ℕ, [], ◌∷◌, ◌++◌, IfErr, None, OnErr, OnOk, Some};
-ghost use Rattle.std.specs.Prelude.{Err, Ok, true, false};
+ghost use Rattle.std.specs.Prelude.{◌≡◌, ◌≢◌, List, ℕ, [], ◌∷◌, ◌++◌, IfErr, None};
+ghost use Rattle.std.specs.Prelude.{Err, Ok, OnErr, OnOk, Some, true, false};
 ghost use Rattle.daq_reader.specs.Frames.{HasFrame, IsNext, Unread};
 ghost use Rattle.daq_reader.specs.Lists.{Stands, refusal};
 ghost use Rattle.daq_reader.specs.Reads.{HasRead};

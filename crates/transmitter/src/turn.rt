@@ -1,5 +1,6 @@
 //! A turn of a pump at one ring.
-ghost use Rattle.std.specs.Prelude.{◌≡◌, ◌<◌, ◌↔◌, [], ◌∷◌, ◌++◌, false, IsTrue, length, map, vec_len};
+ghost use Rattle.std.specs.Prelude.{◌≡◌, ◌<◌, ◌↔◌, [], ◌∷◌, ◌++◌, false, IsTrue, length, map};
+ghost use Rattle.std.specs.Prelude.{vec_len};
 ghost use mathlib.Core.List.{IsPrefix};
 ghost use Rattle.frame_writer.specs.Writing.{AfterText, last_text_of, state_of};
 ghost use Rattle.transmitter.specs.Merge.{Takes, of_ring};
