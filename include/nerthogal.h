@@ -225,12 +225,11 @@ ng_status ng_store_free(ng_store *store);
  *   NG_BAD_CAPS         caps_len isn't the store's number of event channels, or a capacity is
  *                       out of the limits of this kind
  *   NG_NOTHING_RUNNING  no DAQ list of the store runs
- *   NG_MEMORY           malloc gave none. It is asked for the buffer of frames before NG_BAD_CAPS
- *                       is looked for, and for all else behind NG_NOTHING_RUNNING
+ *   NG_MEMORY           malloc gave none
  *   NG_OK               *engine holds the new engine
  *
- * They are looked for in this order, but as said of NG_MEMORY; *engine is as it was on each but
- * NG_OK. Proved: all of this, but that malloc gave none. Calls malloc and free. */
+ * They are looked for in this order; *engine is as it was on each but NG_OK. Proved: all of this,
+ * but that malloc gave none, and that it is asked last. Calls malloc and free. */
 ng_status ng_open(ng_store *store, ng_ring ring, const size_t *caps, size_t caps_len,
                   ng_engine *engine);
 
