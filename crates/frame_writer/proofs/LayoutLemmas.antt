@@ -1,6 +1,7 @@
 -- Frames of several packets in one buffer, and how many of them are whole in its first bytes.
-use Rattle.std.proofs.Common.{◌≡◌, ℕ, ◌+◌, ◌*◌, ◌%◌, ◌≤◌, List, [], ◌∷◌, ◌++◌, length, map, take, false, true, refl, sym, ap, ◌∙◌, arith, append_assoc, append-nil, length-append, Bor}
-use Rattle.std.proofs.lemmas.List.{length-map, map_push}
+use Rattle.std.proofs.Common.{◌≡◌, ℕ, ◌+◌, ◌-◌, ◌*◌, ◌%◌, ◌≤◌, List, [], ◌∷◌, ◌++◌, drop, length, map, take, false, true, refl, sym, ap, ◌∙◌, arith, append_assoc, append-nil, length-append, Bor}
+use Rattle.std.proofs.lemmas.List.{drop-drop, drop-take, length-map, length-take-le, map_push}
+use Rattle.std.proofs.Math.Seq.{drop-append_seam}
 use Rattle.std.proofs.lemmas.List.Elements.{All-head, All-tail}
 use Rattle.xcp_base.specs.Packets.{ArePackets, IsPacket}
 use Rattle.frame_writer.specs.Frame.{frame, text}
@@ -75,3 +76,21 @@ fails_within_text a b qs taken count off into counter was_open closed =
         closed = closed;
       };
     }
+
+-- what is behind `n` bytes more that were written
+pub behind-next : (n end last : ℕ) (start before now : List ℕ) → drop last now ≡ drop last before → last ≡ end + n → drop end before ≡ drop end start → drop last now ≡ drop last start
+behind-next n end last start before now behind is was =
+    behind ∙ ap (λ k. drop k before) is ∙ sym (drop-drop n end before) ∙ ap (drop n) was ∙ drop-drop n end start ∙ ap (λ k. drop k start) (sym is)
+
+-- packets of a sample take up so many bytes at most
+pub few_bytes : (qs : List (List ℕ)) → ArePackets qs → text_len qs ≤ 68 * length qs
+few_bytes [] each = omega arith
+few_bytes (q ∷ qs) each =
+    let fits : length q ≤ 64 = (All-head IsPacket q qs each).fits in
+    omega (arith, fits, few_bytes qs (All-tail IsPacket q qs each))
+
+-- what was written from `at` on
+pub written_part : (at end : ℕ) (room old part : List ℕ) → at ≤ length old → at ≤ end → take end room ≡ take at old ++ part → take (end - at) (drop at room) ≡ part
+written_part at end room old part within ends front =
+    sym (drop-take at (end - at) room) ∙ ap (λ k. drop at (take k room)) (omega (arith, ends)) ∙ ap (drop at) front
+    ∙ ap (λ k. drop k (take at old ++ part)) (sym (length-take-le at old within)) ∙ drop-append_seam (take at old) part

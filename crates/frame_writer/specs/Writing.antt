@@ -1,5 +1,5 @@
 -- What a frame writer shows, and what it leaves.
-use Rattle.std.specs.Prelude.{◌≡◌, ℕ, ◌+◌, ◌%◌, Bool, false, true, List, ◌∷◌, ◌++◌, length, take}
+use Rattle.std.specs.Prelude.{◌≡◌, ℕ, ◌+◌, ◌%◌, Bool, false, true, List, ◌∷◌, ◌++◌, length}
 use Rattle.frame_writer.specs.declared.out.Out.{Ghosts}
 use Rattle.frame_writer.specs.declared.writer.FrameWriter.{FrameWriter}
 use Rattle.frame_writer.specs.Frame.{frame, text}
@@ -8,10 +8,6 @@ use Rattle.frame_writer.specs.Shown.{BreaksOff, OutState, after_bytes, shown}
 -- the writer that a frame writer has
 abbrev pub out_of : {O : Type 0} → FrameWriter O → O
 out_of w = w.out
-
--- the frames of its last call, if that succeeded
-abbrev pub last_text_of : {O : Type 0} → FrameWriter O → List ℕ
-last_text_of w = take w.text w.room
 
 -- whether it is closed
 abbrev pub is_closed : {O : Type 0} → FrameWriter O → Bool

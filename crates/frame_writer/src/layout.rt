@@ -1,5 +1,5 @@
 //! Frames, laid out one behind another in a buffer.
-ghost use Rattle.std.specs.Prelude.{◌≡◌, ◌+◌, ◌%◌, ◌<◌, ◌≤◌, ◌++◌, length, take};
+ghost use Rattle.std.specs.Prelude.{◌≡◌, ◌+◌, ◌%◌, ◌<◌, ◌≤◌, ◌++◌, drop, length, take};
 ghost use Rattle.frame_writer.specs.Frame.{frame, text, two_bytes};
 ghost use Rattle.frame_writer.specs.Inner.{ReachesInto, text_len};
 
@@ -26,6 +26,7 @@ fn place(room: &mut [u8], at: usize, bytes: &[u8]) -> usize
     requires room { at + length bytes.now ≤ length room.old }
     ensures bytes { take result room.new ≡ take at room.old ++ bytes.now }
     ensures end { result ≡ at + length bytes.now }
+    ensures behind { drop result room.new ≡ drop result room.old }
     ensures len { length room.new ≡ length room.old }
 {
     let end = at + bytes.len();
@@ -34,25 +35,30 @@ fn place(room: &mut [u8], at: usize, bytes: &[u8]) -> usize
 }
 
 /// Writes the frame of a packet from `at` on, and answers where it ends.
-pub fn place_frame(room: &mut [u8; MAX_TEXT], at: usize, counter: u16, packet: &[u8]) -> usize
+pub fn place_frame(room: &mut [u8], at: usize, counter: u16, packet: &[u8]) -> usize
     requires fits { length packet.now ≤ MAX_DTO }
-    requires room { at + MAX_FRAME ≤ MAX_TEXT }
+    requires room { at + MAX_FRAME ≤ length room.old }
     ensures frame { take result room.new ≡ take at room.old ++ frame counter packet.now }
     ensures end { result ≡ at + 4 + length packet.now }
-    ensures within { result ≤ MAX_TEXT }
+    ensures behind { drop result room.new ≡ drop result room.old }
+    ensures len { length room.new ≡ length room.old }
 {
     let header = header_of(packet.len() as u16, counter);
-    let body = place(&mut room[..], at, &header[..]);
-    place(&mut room[..], body, packet)
+    let body = place(room, at, &header[..]);
+    place(room, body, packet)
 }
 
-/// Writes the frames of packets, the first of them with this counter, and answers where they end.
-pub fn place_text(room: &mut [u8; MAX_TEXT], counter: u16, packets: &Packets) -> usize
-    ensures text { take result room.new ≡ text counter packets.now }
-    ensures end { result ≡ text_len packets.now }
-    ensures within { result ≤ MAX_TEXT }
+/// Writes the frames of packets from `at` on, the first of them with this counter, and answers
+/// where they end.
+pub fn place_text(room: &mut [u8], at: usize, counter: u16, packets: &Packets) -> usize
+    requires room { at + MAX_TEXT ≤ length room.old }
+    ensures text { take result room.new ≡ take at room.old ++ text counter packets.now }
+    ensures end { result ≡ at + text_len packets.now }
+    ensures within { result ≤ at + MAX_TEXT }
+    ensures behind { drop result room.new ≡ drop result room.old }
+    ensures len { length room.new ≡ length room.old }
 {
-    let mut end = 0;
+    let mut end = at;
     let mut next = counter;
     for packet in packets.iter() {
         end = place_frame(room, end, next, packet);

@@ -3,6 +3,7 @@
 
 mod byte_log;
 mod fuse_out;
+mod into_buffer;
 pub mod laws;
 mod layout;
 mod out;

@@ -1,8 +1,6 @@
 //! The packets of a sample, sent together.
 ghost use Rattle.std.specs.Prelude.{◌≡◌, ◌↔◌, false, true, IsErrOf, OnOk};
-ghost use Rattle.frame_writer.specs.Frame.{text};
-ghost use Rattle.frame_writer.specs.Writing.{FailsWithinText, after_text, last_text_of};
-ghost use Rattle.frame_writer.specs.Writing.{state_of};
+ghost use Rattle.frame_writer.specs.Writing.{FailsWithinText, after_text, state_of};
 
 use crate::layout::{place_text, whole_frames};
 use crate::out::Out;
@@ -21,8 +19,6 @@ impl<O: Out> FrameWriter<O> {
         ensures ok { OnOk result
             (state_of O.Out self.new ≡ after_text (state_of O.Out self.old) packets.now) }
         ensures stays_open { OnOk result ((state_of O.Out self.new).closed ≡ false) }
-        ensures text { OnOk result (last_text_of self.new
-            ≡ text (state_of O.Out self.old).counter packets.now) }
 
         ensures failed { IsErrOf result WriteFault.Failed
             → FailsWithinText (state_of O.Out self.old) (state_of O.Out self.new) packets.now }
@@ -34,12 +30,11 @@ impl<O: Out> FrameWriter<O> {
         if self.closed {
             return Err(WriteFault::Closed);
         }
-        let end = place_text(&mut self.room, self.counter, packets);
+        let end = place_text(&mut self.room, 0, self.counter, packets);
         let taken = put_all(&mut self.out, &self.room[..end]);
         if taken < end {
             return Err(self.break_off(whole_frames(packets, taken)));
         }
-        self.text = end;
         self.counter = self.counter.wrapping_add(packets.len() as u16);
         Ok(())
     }

@@ -1,5 +1,4 @@
 ghost use Rattle.std.specs.Prelude.{◌≡◌, ◌<◌, ◌≤◌, length};
-ghost use Rattle.frame_writer.specs.declared.layout.TheConstants.{MAX_TEXT as MOST_TEXT};
 ghost use Rattle.frame_writer.specs.Inner.{BreaksOffAfter};
 ghost use Rattle.frame_writer.specs.Shown.{after_bytes, shown};
 
@@ -25,10 +24,8 @@ pub struct FrameWriter<O> {
     pub(crate) out: O,
     pub(crate) counter: u16,
     pub(crate) closed: bool,
-    // The frames of the last call stand first, and take up `text` bytes.
+    // Where frames are laid out before the writer is handed them.
     pub(crate) room: [u8; MAX_TEXT],
-    pub(crate) text: usize,
-    ghost within: { text ≤ MOST_TEXT },
 }
 
 impl<O: Out> FrameWriter<O> {
@@ -37,7 +34,7 @@ impl<O: Out> FrameWriter<O> {
     ghost use Rattle.frame_writer.specs.Frame.{frame};
     ghost use Rattle.frame_writer.specs.Shown.{shown};
     ghost use Rattle.frame_writer.specs.Writing.{FailsWithin, after_frame, fresh_writer};
-    ghost use Rattle.frame_writer.specs.Writing.{last_text_of, out_of, state_of};
+    ghost use Rattle.frame_writer.specs.Writing.{out_of, state_of};
 
     /// A frame writer whose first frame has CTR 0 (own).
     pub fn new(out: O) -> FrameWriter<O>
@@ -49,7 +46,6 @@ impl<O: Out> FrameWriter<O> {
             counter: 0,
             closed: false,
             room: [0; MAX_TEXT],
-            text: 0,
         }
     }
 
@@ -66,8 +62,6 @@ impl<O: Out> FrameWriter<O> {
         ensures ok { OnOk result
             (state_of O.Out self.new ≡ after_frame (state_of O.Out self.old) packet.now) }
         ensures stays_open { OnOk result ((state_of O.Out self.new).closed ≡ false) }
-        ensures text { OnOk result (last_text_of self.new
-            ≡ frame (state_of O.Out self.old).counter packet.now) }
 
         ensures failed { IsErrOf result WriteFault.Failed
             → FailsWithin (state_of O.Out self.old) (state_of O.Out self.new)
@@ -82,9 +76,9 @@ impl<O: Out> FrameWriter<O> {
         }
         let end = place_frame(&mut self.room, 0, self.counter, packet);
         if put_all(&mut self.out, &self.room[..end]) < end {
-            return Err(self.break_off(0));
+            self.closed = true;
+            return Err(WriteFault::Failed);
         }
-        self.text = end;
         self.counter = self.counter.wrapping_add(1);
         Ok(())
     }
@@ -112,14 +106,6 @@ impl<O: Out> FrameWriter<O> {
         ensures { result ≡ (state_of O.Out self.now).closed }
     {
         self.closed
-    }
-
-    /// The frames of the last call of `send` or `send_all`, if it succeeded.
-    pub fn last_text(&self) -> &[u8]
-        ensures value { result.now ≡ last_text_of self.now }
-        ensures limit { length result.now ≤ MAX_TEXT }
-    {
-        &self.room[..self.text]
     }
 
     /// The writer, as it stands.

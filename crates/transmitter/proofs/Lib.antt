@@ -1,6 +1,7 @@
 pub mod TakenLemmas
 pub mod PlaceLemmas
 pub mod PacketLemmas
+pub mod TurnLemmas
 pub mod WrittenLemmas
 pub mod PumpLemmas
 pub mod DrainLemmas

@@ -14,6 +14,7 @@ use Rattle.xcp_base.specs.Lists.{has_list}
 use Rattle.xcp_base.specs.declared.limits.TheConstants.{MAX_ODTS}
 use Rattle.frame_writer.specs.Shown.{OutState}
 use Rattle.frame_writer.specs.declared.layout.TheConstants.{MAX_TEXT}
+use Rattle.transmitter.specs.Inner.Turns.{Lays}
 use Rattle.transmitter.specs.Items.{packets_of, samples}
 use Rattle.transmitter.specs.Merge.{AreRising, items_taken, of_ring, taken_from}
 use Rattle.transmitter.specs.Written.{TransmitterState}
@@ -214,24 +215,23 @@ pub nothing_placed : (a : OutState) (start : List ℕ) → Placed a a start star
 nothing_placed a start = record { within = omega arith; frames = append-nil a.contents; behind = refl; len = refl }
 
 -- a turn that wrote nothing
-pub placed_none : (a b d : OutState) (start buffer : List ℕ) (end c : ℕ) → Placed a b start buffer end c → d ≡ b → Placed a d start buffer end (c + 1)
-placed_none a b d start buffer end c p same = record {
-  within = omega (arith, p.within);
-  frames = p.frames ∙ ap (λ (o : OutState). o.contents) (sym same);
-  behind = p.behind;
-  len = p.len;
+pub placed_none : (a b d : OutState) (start buffer new : List ℕ) (end last c : ℕ) → Placed a b start buffer end c → (d ≡ b) × (new ≡ buffer) × (last ≡ end) → Placed a d start new last (c + 1)
+placed_none a b d start buffer new end last c p same = record {
+  within = omega (arith, p.within, same.2);
+  frames = rw (same.1, same.2) (p.frames ∙ ap (λ (o : OutState). o.contents) (sym same.0));
+  behind = rw (same.1, same.2) p.behind;
+  len = rw same.1 p.len;
 }
 
--- a turn that wrote some text
-pub placed_text : (a b d : OutState) (start buffer new text : List ℕ) (end last c : ℕ) → Placed a b start buffer end c
-    → d.contents ≡ b.contents ++ text → length text ≤ MAX_TEXT → take last new ≡ take end buffer ++ text → last ≡ end + length text
-    → drop last new ≡ drop last buffer → length new ≡ length buffer → Placed a d start new last (c + 1)
-placed_text a b d start buffer new text end last c p wrote few front is behind len =
+-- a turn that laid some text out
+pub placed_text : (a b d : OutState) (start buffer new : List ℕ) (end last c : ℕ) → Placed a b start buffer end c → Lays b d buffer new end last → Placed a d start new last (c + 1)
+placed_text a b d start buffer new end last c p l =
+    let text = l.text in
     let same : drop (end + length text) buffer ≡ drop (end + length text) start =
     sym (drop-drop (length text) end buffer) ∙ ap (drop (length text)) p.behind ∙ drop-drop (length text) end start in
     record {
-      within = omega (arith, p.within, is, few);
-      frames = ap (λ t. a.contents ++ t) front ∙ sym (append_assoc a.contents (take end buffer) text) ∙ ap (λ t. t ++ text) p.frames ∙ sym wrote;
-      behind = behind ∙ ap (λ n. drop n buffer) is ∙ same ∙ ap (λ n. drop n start) (sym is);
-      len = len ∙ p.len;
+      within = omega (arith, p.within, l.few);
+      frames = ap (λ t. a.contents ++ t) l.front ∙ sym (append_assoc a.contents (take end buffer) text) ∙ ap (λ t. t ++ text) p.frames ∙ sym l.wrote;
+      behind = l.behind ∙ ap (λ n. drop n buffer) l.end_is ∙ same ∙ ap (λ n. drop n start) (sym l.end_is);
+      len = l.len ∙ p.len;
     }

@@ -1,5 +1,4 @@
 //! A pump whose frames go straight to a buffer.
-ghost use Rattle.std.specs.Prelude.{◌≡◌, ◌+◌, ◌≤◌, ◌++◌, drop, length, take};
 
 use crate::faults::PumpFault;
 use crate::pumped::Pumped;
@@ -56,10 +55,9 @@ impl<T: TakeEnd> Transmitter<SinkOut, T> {
         };
         let mut end = 0;
         for c in 0..self.ends.len() {
-            match self.turn(c) {
+            match self.turn_into(c, buffer, &mut end) {
                 Turn::Nothing => {}
                 Turn::Wrote(frames) => {
-                    end = place(buffer, end, self.writer.last_text());
                     pumped.taken += 1;
                     pumped.frames += frames;
                 }
@@ -72,17 +70,4 @@ impl<T: TakeEnd> Transmitter<SinkOut, T> {
         }
         Ok((pumped, end))
     }
-}
-
-/// Places bytes from `at` on, and answers where they end.
-fn place(buffer: &mut [u8], at: usize, bytes: &[u8]) -> usize
-    requires room { at + length bytes.now ≤ length buffer.old }
-    ensures bytes { take result buffer.new ≡ take at buffer.old ++ bytes.now }
-    ensures end { result ≡ at + length bytes.now }
-    ensures behind { drop result buffer.new ≡ drop result buffer.old }
-    ensures len { length buffer.new ≡ length buffer.old }
-{
-    let end = at + bytes.len();
-    buffer[at..end].copy_from_slice(bytes);
-    end
 }

@@ -1,5 +1,5 @@
 -- A pump's turn at one ring, and a look at the rings one by one.
-use Rattle.std.specs.Prelude.{ℕ, ◌<◌, ◌≤◌, ◌≡◌, List, [], ◌∷◌, ◌++◌, length, map}
+use Rattle.std.specs.Prelude.{ℕ, ◌+◌, ◌<◌, ◌≤◌, ◌≡◌, List, [], ◌∷◌, ◌++◌, drop, length, map, take}
 use Rattle.std.specs.Prelude.{Option, None, Some}
 use mathlib.Core.List.{IsPrefix}
 use Rattle.xcp_base.specs.Samples.{SampleParts, MarkParts}
@@ -8,7 +8,8 @@ use Rattle.xcp_base.specs.declared.item.Item.TheVariants.{Sample, Marker}
 use Rattle.xcp_base.specs.declared.limits.TheConstants.{MAX_LISTS, MAX_ODTS}
 use Rattle.channel_ring.specs.declared.ends.RingEnd.{Ghosts as EndGhosts}
 use Rattle.channel_ring.specs.declared.ends.TakeEnd.{Ghosts as TakeGhosts}
-use Rattle.frame_writer.specs.Shown.{OutState, Rose}
+use Rattle.frame_writer.specs.declared.layout.TheConstants.{MAX_TEXT}
+use Rattle.frame_writer.specs.Shown.{OutState}
 use Rattle.sampler.specs.State.{SamplerEndState}
 use Rattle.transmitter.specs.Looks.{EndsStay}
 use Rattle.transmitter.specs.Merge.{Takes, of_ring}
@@ -29,12 +30,22 @@ TurnMeans c a b (Stopped l) =
     × (l < MAX_LISTS)
 TurnMeans c a b Broke = (s : SampleParts) × (b.hand ≡ Some s) × Leads a ((c, Sample s) ∷ []) b
 
--- what a turn did to the writer: it wrote this text, or nothing; or the writer failed or stalled
-abbrev pub TurnWrites : OutState → OutState → List ℕ → Turn → Type 0
-TurnWrites a b text Nothing = b ≡ a
-TurnWrites a b text (Wrote n) = b.contents ≡ a.contents ++ text
-TurnWrites a b text (Stopped l) = b ≡ a
-TurnWrites a b text Broke = Rose a b
+-- some text was written, and stands in the buffer from `at` to `end`; behind it nothing changed
+pub record Lays (a b : OutState) (old new : List ℕ) (at end : ℕ) : Type 0 where
+  pub text : List ℕ
+  pub wrote : b.contents ≡ a.contents ++ text
+  pub front : take end new ≡ take at old ++ text
+  pub end_is : end ≡ at + length text
+  pub few : end ≤ at + MAX_TEXT
+  pub behind : drop end new ≡ drop end old
+  pub len : length new ≡ length old
+
+-- what a turn wrote stands in the buffer, which else is as it was
+abbrev pub TurnLays : OutState → OutState → List ℕ → List ℕ → ℕ → ℕ → Turn → Type 0
+TurnLays a b old new at end Nothing = (b ≡ a) × (new ≡ old) × (end ≡ at)
+TurnLays a b old new at end (Wrote n) = Lays a b old new at end
+TurnLays a b old new at end (Stopped l) = (b ≡ a) × (new ≡ old) × (end ≡ at)
+TurnLays a b old new at end Broke = ⊥
 
 -- the first item known of ring c was taken, whatever it is
 abbrev pub TakesFirst :

@@ -1,7 +1,8 @@
-use Rattle.std.proofs.Common.{◌≡◌, ◌++◌, [], ◌∷◌, List, ℕ, length, sym, ap, ◌∙◌, subst, arith, length-append}
+use Rattle.std.proofs.Common.{◌≡◌, ◌+◌, ◌++◌, [], ◌∷◌, List, ℕ, length, sym, ap, ◌∙◌, subst, append-nil, append_assoc, arith, length-append, take}
 use Rattle.xcp_base.specs.Packets.{ArePackets}
-use Rattle.frame_writer.specs.Frame.{frame}
-use Rattle.frame_writer.proofs.LayoutLemmas.{given-next, packets_given, room_for, text-given, text_len-given}
+use Rattle.frame_writer.specs.Frame.{frame, text}
+use Rattle.frame_writer.specs.Inner.{text_len}
+use Rattle.frame_writer.proofs.LayoutLemmas.{behind-next, few_bytes, given-next, packets_given, room_for, text-given, text_len-given}
 use Rattle.frame_writer.proofs.layout.place_text.Goals as goal
 
 -- eight frames have room, and this packet is one of eight at most
@@ -11,7 +12,7 @@ place_frame-end-requires-clause-room c =
     let done = packets_given c.loop-packet.yielded in
     let all : c.args.packets.now ≡ done ++ c.in-Some.packet.now ∷ c.next.new.self = sym before.packets ∙ ap (λ qs. done ++ qs) c.in-Some.ensures.steps in
     let room = room_for done c.next.new.self c.in-Some.packet.now (subst ArePackets all c.iter-packet-items.ensures.each) in
-    omega (arith, room, before.end, ap length all, c.iter-packet-items.ensures.few)
+    omega (arith, room, before.end, before.len, ap length all, c.iter-packet-items.ensures.few, c.requires.room)
 
 -- one frame more stands behind those before
 pub loop-packet-preserved : goal.loop-packet-preserved
@@ -20,12 +21,24 @@ loop-packet-preserved c =
     let given = c.loop-packet.yielded in
     let q = c.in-Some.packet in
     let last : List ℕ = frame c.loop-packet.next q.now in
+    let front : List ℕ = take c.args.at c.args.room.now in
     record {
       can = tt;
       ends = tt;
       packets = given-next given q c.loop-packet.packet-iterator c.next.new.self c.args.packets.now before.packets c.in-Some.ensures.steps;
-      text = c.place_frame-end.ensures.frame ∙ ap (λ t. t ++ last) before.text ∙ sym (text-given c.args.counter c.loop-packet.next given q before.next);
+      text = c.place_frame-end.ensures.frame ∙ ap (λ t. t ++ last) before.text ∙ append_assoc front (text c.args.counter (packets_given given)) last
+          ∙ ap (λ t. front ++ t) (sym (text-given c.args.counter c.loop-packet.next given q before.next));
       end = omega (arith, c.place_frame-end.ensures.end, before.end, text_len-given given q);
-      within = c.place_frame-end.ensures.within;
+      behind = behind-next (4 + length q.now) c.loop-packet.end c.place_frame-end.result c.args.room.now c.loop-packet.room c.place_frame-end.new.room c.place_frame-end.ensures.behind (omega (arith, c.place_frame-end.ensures.end)) before.behind;
+      len = c.place_frame-end.ensures.len ∙ before.len;
       next = omega (arith, before.next, length-append given (q ∷ []));
     }
+
+-- the frames of a sample's packets are few bytes
+pub returns-clause-within : goal.returns-clause-within
+returns-clause-within c =
+    let before = c.loop-packet.invariant in
+    let given = c.iter-packet-items.ensures in
+    let done = packets_given c.loop-packet.yielded in
+    let all : c.args.packets.now ≡ done = sym before.packets ∙ ap (λ qs. done ++ qs) c.in-None.ensures.steps.0 ∙ append-nil done in
+    omega (arith, before.end, ap text_len all, few_bytes c.args.packets.now given.each, given.few)

@@ -1,5 +1,4 @@
-use Rattle.std.proofs.Common.{◌∙◌, ◌++◌, ap, sym}
-use Rattle.frame_writer.specs.Writing.{WriterState, state_of}
+use Rattle.frame_writer.specs.Writing.{state_of}
 use Rattle.frame_writer.proofs.FaultLemmas.{failed_while_open}
 use Rattle.transmitter.proofs.PacketLemmas.{after_text-sent, breaks_within}
 use Rattle.transmitter.proofs.turn.write_all.Goals as goal
@@ -13,9 +12,3 @@ returns-in-Err-clause-part g c = λ _.
     let e = c.in-Err.ensures in
     let old = state_of g.O.Out c.args.writer.now in
     breaks_within old (state_of g.O.Out c.send_all.new.self) c.args.packets.now (e.failed (failed_while_open old.closed c.in-Err.field-0 c.requires.was_open e.closed.0))
-
--- what was sent is the text
-pub returns-in-Ok-clause-text : goal.returns-in-Ok-clause-text
-returns-in-Ok-clause-text g c = λ _.
-    let old = state_of g.O.Out c.args.writer.now in
-    ap (λ (w : WriterState). w.out.contents) c.in-Ok.ensures.ok ∙ ap (λ t. old.out.contents ++ t) (sym c.in-Ok.ensures.text)

@@ -20,18 +20,17 @@ loop-c-init g c =
       placed = nothing_placed (state_of out s.writer).out c.args.buffer.now;
     }
 
-pub turn-requires-clause-nothing_in_hand : goal.turn-requires-clause-nothing_in_hand
-turn-requires-clause-nothing_in_hand g c = c.loop-c.invariant.turns.hand
+pub turn_into-requires-clause-nothing_in_hand : goal.turn_into-requires-clause-nothing_in_hand
+turn_into-requires-clause-nothing_in_hand g c = c.loop-c.invariant.turns.hand
 
-pub turn-requires-clause-room : goal.turn-requires-clause-room
-turn-requires-clause-room g c =
+pub turn_into-requires-clause-taken : goal.turn_into-requires-clause-taken
+turn_into-requires-clause-taken g c =
     omega (arith, c.loop-c.invariant.turns.leads.taken, c.loop-c.invariant.turns.count, c.loop-c.invariant.turns.few, c.if-self-ge-MAX_TAKEN.false, c.args.self.now.few, c.len-c-end.ensures, c.loop-c-test.true)
 
 -- there is room for the frames of a sample for each ring
-pub place-end-requires : goal.place-end-requires
-place-end-requires g c = record {
-  room = omega (arith, c.loop-c.invariant.placed.within, c.loop-c.invariant.placed.len, c.last_text.ensures.limit, c.requires.room, c.args.self.now.few, c.len-c-end.ensures, c.loop-c-test.true);
-}
+pub turn_into-requires-clause-room : goal.turn_into-requires-clause-room
+turn_into-requires-clause-room g c =
+    omega (arith, c.loop-c.invariant.placed.within, c.loop-c.invariant.placed.len, c.requires.room, c.args.self.now.few, c.len-c-end.ensures, c.loop-c-test.true)
 
 pub overflow_add-pumped : goal.overflow_add-pumped
 overflow_add-pumped g c = omega (arith, c.loop-c.invariant.turns.few, c.args.self.now.few, c.len-c-end.ensures, c.loop-c-test.true)
@@ -46,28 +45,27 @@ overflow_add-pumped-in-Stopped g c = omega (arith, c.loop-c.invariant.turns.few,
 pub loop-c-preserved : goal.loop-c-preserved
 loop-c-preserved g c =
     let i = c.loop-c.invariant in
-    elim c.match-turn.branch [
+    elim c.match-turn_into.branch [
       | in-Nothing w ↦
           let t = w.in-Nothing.ensures.turn in
           record {
             turns = rw w.pumped-is (idle_turn _ _ _ c.loop-c.c c.loop-c.pumped i.turns t.1 t.0 t.2);
             as_many = w.in-Nothing.ensures.as_many ∙ i.as_many;
-            placed = rw (w.buffer-is, w.end-is) (placed_none _ _ _ c.args.buffer.now c.loop-c.buffer c.loop-c.end c.loop-c.c i.placed w.in-Nothing.ensures.writes);
+            placed = placed_none _ _ _ c.args.buffer.now c.loop-c.buffer _ c.loop-c.end _ c.loop-c.c i.placed w.in-Nothing.ensures.lays;
           }
       | in-Wrote w ↦
           let t = w.in-Wrote.ensures.turn in
-          let p = w.place-end.ensures in
           record {
             turns = rw w.pumped-is (item_turn _ _ _ c.loop-c.c c.loop-c.pumped _ (Sample t.0) i.turns t.2 t.1 refl (rw (append-nil t.0.packets, t.3) refl) (rw (append-nil t.0.packets, ← t.3) t.4) (λ l. or_false (has_list c.loop-c.pumped.stopped l)));
             as_many = w.in-Wrote.ensures.as_many ∙ i.as_many;
-            placed = rw (w.buffer-is, w.end-is) (placed_text _ _ _ c.args.buffer.now c.loop-c.buffer w.place-end.new.buffer w.last_text.result.now c.loop-c.end w.place-end.result c.loop-c.c i.placed (rw w.last_text.ensures.value w.in-Wrote.ensures.writes) w.last_text.ensures.limit p.bytes p.end p.behind p.len);
+            placed = placed_text _ _ _ c.args.buffer.now c.loop-c.buffer _ c.loop-c.end _ c.loop-c.c i.placed w.in-Wrote.ensures.lays;
           }
       | in-Stopped w ↦
           let t = w.in-Stopped.ensures.turn in
           record {
             turns = rw w.pumped-is (item_turn _ _ _ c.loop-c.c c.loop-c.pumped _ (Marker t.0) i.turns t.2 t.1 refl (omega arith) (omega arith) (λ k. one_stop c.loop-c.pumped.stopped w.with_list.result t.0.list w.in-Stopped.list k t.3 (w.with_list.ensures k)));
             as_many = w.in-Stopped.ensures.as_many ∙ i.as_many;
-            placed = rw (w.buffer-is, w.end-is) (placed_none _ _ _ c.args.buffer.now c.loop-c.buffer c.loop-c.end c.loop-c.c i.placed w.in-Stopped.ensures.writes);
+            placed = placed_none _ _ _ c.args.buffer.now c.loop-c.buffer _ c.loop-c.end _ c.loop-c.c i.placed w.in-Stopped.ensures.lays;
           }
     ]
 

@@ -1,0 +1,37 @@
+//! The packets of a sample, laid out where their frames are wanted.
+ghost use Rattle.std.specs.Prelude.{◌≡◌, ◌+◌, ◌≤◌, ◌++◌, drop, false, length, take};
+ghost use Rattle.frame_writer.specs.Frame.{text};
+ghost use Rattle.frame_writer.specs.Writing.{after_text, state_of};
+
+use crate::layout::{MAX_TEXT, place_text};
+use crate::out::Out;
+use crate::sink_out::SinkOut;
+use crate::writer::FrameWriter;
+use xcp_base::Packets;
+
+impl FrameWriter<SinkOut> {
+    ghost use Rattle.std.specs.Prelude.{◌≡◌, ◌+◌, ◌≤◌, ◌++◌, drop, false, length, take};
+    ghost use Rattle.frame_writer.specs.Frame.{text};
+    ghost use Rattle.frame_writer.specs.Writing.{after_text, state_of};
+
+    /// `send_all`, and lays the frames out in a buffer, from `at` on; answers where they end. So
+    /// they are copied once. It never fails, since the writer takes all.
+    pub fn send_into(&mut self, buffer: &mut [u8], at: usize, packets: &Packets) -> usize
+        requires was_open { (state_of ⟦<SinkOut as Out>⟧ self.old).closed ≡ false }
+        requires room { at + MAX_TEXT ≤ length buffer.old }
+        ensures sent { state_of ⟦<SinkOut as Out>⟧ self.new
+            ≡ after_text (state_of ⟦<SinkOut as Out>⟧ self.old) packets.now }
+        ensures frames { take result buffer.new ≡ take at buffer.old
+            ++ text (state_of ⟦<SinkOut as Out>⟧ self.old).counter packets.now }
+        ensures end { result ≡ at
+            + length (text (state_of ⟦<SinkOut as Out>⟧ self.old).counter packets.now) }
+        ensures within { result ≤ at + MAX_TEXT }
+        ensures behind { drop result buffer.new ≡ drop result buffer.old }
+        ensures len { length buffer.new ≡ length buffer.old }
+    {
+        let end = place_text(buffer, at, self.counter, packets);
+        self.out.log.note(&buffer[at..end]);
+        self.counter = self.counter.wrapping_add(packets.len() as u16);
+        end
+    }
+}
