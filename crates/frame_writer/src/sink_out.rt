@@ -4,8 +4,8 @@ ghost use Rattle.frame_writer.specs.Streams.{sunk};
 use crate::byte_log::ByteLog;
 use crate::out::{Out, OutFault};
 
-/// A writer that takes all that it is handed and keeps none of it: for whoever reads the frames off
-/// the frame writer (`FrameWriter::last_text`). It never fails.
+/// A writer that takes all that it is handed and keeps none of it: for whoever has the frames laid
+/// out where they are wanted (`FrameWriter::send_into`). It never fails.
 #[derive(Drop)]
 pub struct SinkOut {
     pub(crate) log: ByteLog,

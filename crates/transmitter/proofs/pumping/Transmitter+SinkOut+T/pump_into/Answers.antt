@@ -1,4 +1,4 @@
-use Rattle.std.proofs.Common.{◌+◌, ◌≤◌, refl, sym, ap, ◌∙◌, arith, append-nil, length, map}
+use Rattle.std.proofs.Common.{◌≤◌, refl, sym, ◌∙◌, arith, append-nil, length, map}
 use Rattle.std.proofs.lemmas.List.{length-map}
 use Rattle.xcp_base.specs.declared.item.Item.TheVariants.{Sample, Marker}
 use Rattle.xcp_base.specs.Lists.{has_list}

@@ -1,14 +1,10 @@
-use Rattle.std.proofs.Common.{◌≡◌, ℕ, ◌+◌, ◌<◌, List, [], ◌∷◌, length, map, get_or, set, slice_index, cond, eqb, get_or-set_same, get_or-set_other, refl, sym, ap, ◌∙◌, arith, subst}
-use Rattle.std.proofs.lemmas.Grind.{common_steps}
+use Rattle.std.proofs.Common.{◌≡◌, List, [], ◌∷◌, length, map, refl, sym, ap, ◌∙◌, arith, subst}
 use Rattle.std.proofs.lemmas.Bool.{false≢true}
-use Rattle.std.proofs.lemmas.Bool.Decides.{nat_tests}
 use mathlib.Core.List.{IsPrefix}
 use Rattle.xcp_base.specs.declared.item.Item.{Item}
 use Rattle.xcp_base.specs.declared.item.Item.TheVariants.{Sample}
-use Rattle.xcp_base.specs.Samples.{SampleParts}
 use Rattle.xcp_base.specs.Packets.{ArePackets}
-use Rattle.transmitter.specs.Merge.{Takes, of_ring}
-use Rattle.transmitter.specs.Inner.Turns.{TakesFirst}
+use Rattle.transmitter.specs.Merge.{of_ring}
 use Rattle.transmitter.specs.Written.{transmission}
 use Rattle.transmitter.proofs.TakenLemmas.{none_known, same_first, takes-append}
 use Rattle.transmitter.proofs.WrittenLemmas.{leads-broken, leads-marker, leads-none, leads-sample}
