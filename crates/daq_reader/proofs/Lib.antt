@@ -6,6 +6,7 @@ pub mod ListsLemmas
 pub mod ReadingLemmas
 pub mod ReadsLemmas
 pub mod RecordedLemmas
+pub mod RecordingLemmas
 pub mod SlotLemmas
 pub mod StandardFacts
 pub mod UniqueLemmas

@@ -177,6 +177,11 @@ stands_after old now q whole qs gs t h =
     let step : Step old now q (place_in (plans_of old) q) t.before t.after = record { place = refl; at = t.at; begins = t.begins; is = t.is; others = t.others } in
     rw t.sample (stands_if old now q (place_in (plans_of old) q) t.before t.after qs gs (is_whole t.after) h step refl)
 
+-- the lists stay the same
+pub plans_taken : (old now : List Reading) (q : List ℕ) (whole : Option ℕ) → Takes old now q whole → plans_of now ≡ plans_of old
+plans_taken old now q whole t =
+    ap plans_of t.others ∙ plans-set old (place_in (plans_of old) q) t.before t.after t.at (ap (λ (x : Reading). x.plan) t.is)
+
 -- the list at the packet's place has taken it
 pub takes_at : (old : List Reading) (i : ℕ) (x b : Reading) (q : List ℕ) (whole : Option ℕ) → x ≡ get_or old i x → i < length old → i ≡ place_in (plans_of old) q → Begin x.plan (under_way x ++ q ∷ []) → b ≡ record x { packets = under_way x ++ q ∷ [] } → whole ≡ (if is_whole b then Some i else None) → Takes old (set old i b) q whole
 takes_at old i x b q whole read here place begins is sample =

@@ -7,3 +7,4 @@ pub mod Lists
 pub mod Reading
 pub mod Reads
 pub mod Recorded
+pub mod Recording

@@ -108,6 +108,16 @@ impl ListShape {
         slots.count()
     }
 
+    /// The address of entry `e` of ODT `k`, and its bytes; `None` exactly where there is no such
+    /// entry.
+    pub fn entry(&self, k: usize, e: usize) -> Option<(u32, u8)>
+        ensures { result ≡ slice_get (odt self.now k) e }
+    {
+        let slots = self.odts.get(k)?;
+        let slot = slots.get(e)?;
+        Some((slot.address, slot.size))
+    }
+
     /// Whether the identification field of a packet names the list.
     pub(crate) fn names(&self, packet: &[u8]) -> bool
         requires field { field_len self.now.form.id ≤ length packet.now }

@@ -61,6 +61,7 @@ impl Reader {
         ensures no_fault { OnOk result (refusal self.old packet.now ≡ None) }
         ensures fault { IfErr result (λ fault. refusal self.old packet.now ≡ Some fault) }
         ensures err { OnErr result (self.new ≡ self.old) }
+        ensures lists { plans_of self.new ≡ plans_of self.old }
     {
         let place = place_in(&self.lists, packet);
         if place == self.lists.len() {

@@ -1,8 +1,12 @@
-ghost use Rattle.std.specs.Prelude.{◌≡◌, ◌≢◌, List, ℕ, [], ◌∷◌, ◌++◌, IfErr, None};
+ghost use Rattle.std.specs.Prelude.{◌≡◌, ◌≢◌, ◌↔◌, List, ℕ, [], ◌∷◌, ◌++◌, IfErr, IsOk, None};
 ghost use Rattle.std.specs.Prelude.{Err, Ok, OnErr, OnOk, Some, true, false};
+ghost use Rattle.frame_writer.specs.Frame.{frame};
+ghost use Rattle.frame_writer.specs.Split.{Fits};
 ghost use Rattle.daq_reader.specs.Frames.{HasFrame, IsNext, Unread};
-ghost use Rattle.daq_reader.specs.Lists.{Stands, refusal};
+ghost use Rattle.daq_reader.specs.Lists.{Stands, plans_of, refusal};
 ghost use Rattle.daq_reader.specs.Reads.{HasRead};
+ghost use Rattle.daq_reader.specs.Recorded.{Recorded};
+ghost use Rattle.daq_reader.specs.Recording.{AreGivenBack, IsRecordingOf};
 
 use crate::frame_fault::FrameFault;
 use crate::packet_fault::PacketFault;
@@ -13,8 +17,9 @@ use crate::unread::Unread;
 
 /// Reads all frames that are left, and hands over each sample that is whole.
 ///
-/// Whatever ends it, the frames that it went over are read, and nothing behind them: `unread`
-/// stands at the frame that was not.
+/// Of a recording of whole samples each sample is handed over, once and in order. Whatever ends it,
+/// the frames that it went over are read, and nothing behind them: `unread` stands at the frame
+/// that was not.
 pub fn read<S: Samples>(
     reader: &mut Reader,
     unread: &mut Unread<'_>,
@@ -23,6 +28,11 @@ pub fn read<S: Samples>(
     ensures read { (qs : List (List ℕ)) → Stands reader.old qs (S.handed samples.old)
         → HasRead reader.new qs (S.handed samples.new) unread.old unread.new }
     ensures end { OnOk result (unread.new.rest ≡ []) }
+    ensures whole { (before : List (List ℕ)) (written : List (ℕ × Recorded))
+        → Stands reader.old before (S.handed samples.old)
+        → IsRecordingOf (plans_of reader.old) written before unread.old
+        → IsOk result × AreGivenBack reader.new written (S.handed samples.new) }
+    ensures lists { plans_of reader.new ≡ plans_of reader.old }
 {
     while read_frame(reader, unread, samples)? {}
     Ok(())
@@ -37,7 +47,10 @@ pub fn read_frame<S: Samples>(
     ensures read { result ≡ Ok true → (q : List ℕ) × IsNext unread.old unread.new q
         × ((qs : List (List ℕ)) → Stands reader.old qs (S.handed samples.old)
         → Stands reader.new (qs ++ q ∷ []) (S.handed samples.new)) }
-    ensures end { result ≡ Ok false → unread.new.rest ≡ [] }
+    ensures takes { (q behind : List ℕ) → Fits q
+        → unread.old.rest ≡ frame unread.old.counter q ++ behind
+        → refusal reader.old q ≡ None → result ≡ Ok true }
+    ensures end { (result ≡ Ok false) ↔ (unread.old.rest ≡ []) }
     ensures end_stays { result ≡ Ok false → (unread.new ≡ unread.old)
         × (reader.new ≡ reader.old) × (S.handed samples.new ≡ S.handed samples.old) }
 
@@ -50,6 +63,7 @@ pub fn read_frame<S: Samples>(
         × (refusal reader.old q ≡ Some fault) }
     ensures err { OnErr result ((unread.new ≡ unread.old) × (reader.new ≡ reader.old)
         × (S.handed samples.new ≡ S.handed samples.old)) }
+    ensures lists { plans_of reader.new ≡ plans_of reader.old }
 {
     let before = Unread::new(unread.rest(), unread.counter());
     let packet = match unread.next_packet() {
@@ -76,6 +90,7 @@ pub fn read_packet<S: Samples>(
     ensures fault { IfErr result (λ fault. refusal reader.old packet.now ≡ Some fault) }
     ensures err { OnErr result (reader.new ≡ reader.old) }
     ensures none_handed { OnErr result (S.handed samples.new ≡ S.handed samples.old) }
+    ensures lists { plans_of reader.new ≡ plans_of reader.old }
 {
     let whole = match reader.take(packet) {
         Ok(whole) => whole,

@@ -1,7 +1,7 @@
 use Rattle.std.proofs.Common.{◌≡◌, ◌<◌, ℕ, List, length, set, true, false, if◌then◌else◌, arith, ap, sym, refl, ◌∙◌, Option, Some, None}
 use Rattle.daq_reader.specs.Lists.{Takes, place_in, plans_of, refusal}
 use Rattle.daq_reader.specs.Reading.{Reading, is_whole}
-use Rattle.daq_reader.proofs.ListsLemmas.{refused_at, stands_after, takes_at}
+use Rattle.daq_reader.proofs.ListsLemmas.{plans_taken, refused_at, stands_after, takes_at}
 use Rattle.daq_reader.proofs.reader.Reader.take.Goals as goal
 use Rattle.daq_reader.proofs.reader.Reader.take.Goals.{In-Ok}
 
@@ -31,6 +31,12 @@ returns-then-not-whole-clause-stands c = λ qs samples h.
 pub returns-then-not-whole-clause-no_fault : goal.returns-then-not-whole-clause-no_fault
 returns-then-not-whole-clause-no_fault c = no_refusal (goal.at.returns-then-not-whole-clause-no_fault c).In-Ok
 
+pub returns-then-not-whole-clause-lists : goal.returns-then-not-whole-clause-lists
+returns-then-not-whole-clause-lists c =
+    let w : In-Ok = (goal.at.returns-then-not-whole-clause-lists c).In-Ok in
+    let torn : is_whole c.take.new.self ≡ false = sym c.in-Ok.ensures.whole ∙ c.if-not-whole.true in
+    plans_taken c.args.self.now (set c.self.inside.lists.items c.place_in-place.result c.take.new.self) c.args.packet.now None (taken_with w None (ap (λ v. if v then Some c.place_in-place.result else None) (sym torn)))
+
 -- a packet with which it is whole
 pub returns-clause-taken : goal.returns-clause-taken
 returns-clause-taken c =
@@ -45,3 +51,9 @@ returns-clause-stands c = λ qs samples h.
 
 pub returns-clause-no_fault : goal.returns-clause-no_fault
 returns-clause-no_fault c = no_refusal (goal.at.returns-clause-no_fault c).In-Ok
+
+pub returns-clause-lists : goal.returns-clause-lists
+returns-clause-lists c =
+    let w : In-Ok = (goal.at.returns-clause-lists c).In-Ok in
+    let whole : is_whole c.take.new.self ≡ true = sym c.in-Ok.ensures.whole ∙ c.if-not-whole.false in
+    plans_taken c.args.self.now (set c.self.inside.lists.items c.place_in-place.result c.take.new.self) c.args.packet.now (Some c.place_in-place.result) (taken_with w (Some c.place_in-place.result) (ap (λ v. if v then Some c.place_in-place.result else None) (sym whole)))
