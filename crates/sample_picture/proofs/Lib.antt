@@ -1,0 +1,4 @@
+pub mod GivenLemmas
+pub mod MarkLemmas
+pub mod MergeLemmas
+pub mod RowsLemmas

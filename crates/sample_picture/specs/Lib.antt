@@ -1,0 +1,4 @@
+pub mod Gathered
+pub mod Inner
+pub mod Marks
+pub mod Shown

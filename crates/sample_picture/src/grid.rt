@@ -1,5 +1,5 @@
 //! Which places the bins of all rows stand for.
-ghost use Rattle.std.specs.Prelude.{◌<◌};
+ghost use Rattle.std.specs.Prelude.{◌≡◌, ◌+◌, ◌/◌, ◌%◌, ◌^◌, ◌-◌, ◌<◌};
 
 use crate::row::BINS;
 
@@ -10,14 +10,19 @@ use crate::row::BINS;
 #[derive(Clone, Copy, Debug)]
 pub struct Grid {
     pub width: u64,
-    ghost positive: { 0 < width },
     pub first: u64,
     pub last: u64,
+    ghost positive: { 0 < width },
+    ghost near: { last / width < first / width + 1024 },
 }
 
 impl Grid {
     /// The grid of no sample.
-    pub fn new() -> Grid {
+    pub fn new() -> Grid
+        ensures width { result.width ≡ 1 }
+        ensures first { result.first ≡ 2 ^ 64 - 1 }
+        ensures last { result.last ≡ 0 }
+    {
         Grid {
             width: 1,
             first: u64::MAX,
@@ -32,7 +37,7 @@ impl Grid {
 
     /// The slot of a place.
     pub fn slot(&self, at: u64) -> usize
-        ensures { result < 1024 }
+        ensures { result ≡ at / self.now.width % 1024 }
     {
         (at / self.width % BINS) as usize
     }

@@ -1,4 +1,6 @@
 //! What a bin shows of its samples.
+ghost use Rattle.std.specs.Prelude.{◌≡◌};
+ghost use Rattle.sample_picture.specs.Marks.{mark_of, with_mark};
 
 /// What is seen of the samples of one bin.
 #[derive(Clone, Copy, Debug, PartialEq, Eq)]
@@ -13,7 +15,9 @@ pub enum Mark {
 
 impl Mark {
     /// The mark of one sample.
-    pub fn of(overload: bool) -> Mark {
+    pub fn of(overload: bool) -> Mark
+        ensures { result ≡ mark_of overload }
+    {
         if overload {
             Mark::Overload
         } else {
@@ -22,12 +26,15 @@ impl Mark {
     }
 
     /// What is seen of two bins that become one.
-    pub fn with(self, other: Mark) -> Mark {
+    pub fn with(self, other: Mark) -> Mark
+        ensures { result ≡ with_mark self other }
+    {
         match self {
             Mark::Overload => Mark::Overload,
             Mark::Sample => match other {
                 Mark::Overload => Mark::Overload,
-                _ => Mark::Sample,
+                Mark::Sample => Mark::Sample,
+                Mark::Empty => Mark::Sample,
             },
             Mark::Empty => other,
         }

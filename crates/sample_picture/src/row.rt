@@ -1,5 +1,6 @@
 //! What is gathered of one DAQ list.
-ghost use Rattle.std.specs.Prelude.{◌<◌};
+ghost use Rattle.std.specs.Prelude.{◌≡◌, ◌+◌, ◌^◌, ◌<◌, ◌≤◌, length};
+ghost use Rattle.sample_picture.specs.Inner.{doubled_row, fresh_row, merged, noted};
 
 use crate::mark::Mark;
 
@@ -20,7 +21,9 @@ pub struct Row {
 
 impl Row {
     /// A row of no sample.
-    pub fn new(list: u8, channel: u8) -> Row {
+    pub fn new(list: u8, channel: u8) -> Row
+        ensures { result ≡ fresh_row list channel }
+    {
         Row {
             list,
             channel,
@@ -35,21 +38,34 @@ impl Row {
     /// A sample at a place, whose bin has this slot.
     pub fn note(&mut self, slot: usize, at: u64, overload: bool)
         requires { slot < 1024 }
+        ensures { self.new ≡ noted self.old slot at overload }
     {
         self.samples = self.samples.saturating_add(1);
         if overload {
             self.overloads = self.overloads.saturating_add(1);
         }
-        self.first = self.first.min(at);
-        self.last = self.last.max(at);
+        self.first = at.min(self.first);
+        self.last = at.max(self.last);
         self.bins[slot] = Mark::of(overload).with(self.bins[slot]);
+    }
+
+    /// Each bin has twice as many places: of `count` bins from this one on.
+    pub fn double(&mut self, from: u64, count: u64)
+        requires { from + count ≤ 2 ^ 64 }
+        ensures { self.new ≡ doubled_row from count self.old }
+    {
+        self.bins = merged(&self.bins, from, count);
     }
 }
 
-/// The bins when each has twice as many places, of the bins from `from` to `to`.
-pub fn doubled(bins: &[Mark; 1024], from: u64, to: u64) -> [Mark; 1024] {
+/// The slots when each bin has twice as many places: of `count` bins from this one on.
+fn merged(bins: &[Mark; 1024], from: u64, count: u64) -> [Mark; 1024]
+    requires { from + count ≤ 2 ^ 64 }
+    ensures { result ≡ merged bins.now from count }
+{
     let mut wide = [Mark::Empty; 1024];
-    for bin in from..=to {
+    for k in 0..count {
+        let bin = from + k;
         let slot = (bin / 2 % BINS) as usize;
         wide[slot] = bins[(bin % BINS) as usize].with(wide[slot]);
     }
