@@ -1,5 +1,5 @@
 -- What is seen of samples whose places are chosen by tests that agree, or that part them.
-use Rattle.std.proofs.Common.{◌≡◌, ℕ, ◌≤◌, Bool, true, false, ◌||◌, if◌then◌else◌, List, [], ◌∷◌, refl, sym, ap, ◌∙◌}
+use Rattle.std.proofs.Common.{◌≡◌, ℕ, ◌≤◌, Bool, true, false, ◌||◌, if◌then◌else◌, List, [], ◌∷◌, refl, ap, ◌∙◌}
 use Rattle.sample_picture.specs.declared.mark.Mark.{Mark}
 use Rattle.sample_picture.specs.declared.mark.Mark.TheVariants.{Empty, Sample, Overload}
 use Rattle.sample_picture.specs.Marks.{Seen, mark_at, mark_of, with_mark}

@@ -1,5 +1,5 @@
 -- Bins of twice as many places show what the bins before showed.
-use Rattle.std.proofs.Common.{◌≡◌, ◌≢◌, ℕ, zero, suc, ◌+◌, ◌-◌, ◌*◌, ◌/◌, ◌%◌, ◌<◌, ◌≤◌, Bool, true, false, ◌&&◌, ◌||◌, nat_eq, nat_lt, List, [], ◌∷◌, length, get_or, set, replicate, refl, sym, ap, ◌∙◌, arith, inl, inr}
+use Rattle.std.proofs.Common.{◌≡◌, ◌≢◌, ℕ, zero, suc, ◌+◌, ◌*◌, ◌/◌, ◌%◌, ◌<◌, ◌≤◌, Bool, true, false, ◌&&◌, ◌||◌, nat_eq, nat_lt, List, length, get_or, refl, sym, ap, ◌∙◌, arith, inl, inr}
 use Rattle.std.proofs.Math.Nat.{div-div-eq-div-mul, div-mul-le_self}
 use Rattle.std.proofs.lemmas.Bool.{cases_eq}
 use Rattle.std.proofs.lemmas.Bool.Decides.{nat_tests}
@@ -104,7 +104,7 @@ merged_so_far bins width from low high seen in_range near shows (suc count) few 
     ]
 
 -- places that are in order have bins that are in order
-in_order : (width low at high : ℕ) → 0 < width → low ≤ at → at ≤ high → (low / width ≤ at / width) × (at / width ≤ high / width)
+pub in_order : (width low at high : ℕ) → 0 < width → low ≤ at → at ≤ high → (low / width ≤ at / width) × (at / width ≤ high / width)
 in_order width low at high pos l h =
     (le-div (low / width) at width pos (omega (arith, div-mul-le_self low width)), le-div (at / width) high width pos (omega (arith, div-mul-le_self at width)))
 

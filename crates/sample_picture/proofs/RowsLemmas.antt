@@ -1,5 +1,5 @@
 -- What rows have gathered when bins double, and when there is one sample or one row more.
-use Rattle.std.proofs.Common.{◌≡◌, ◌≢◌, ℕ, zero, suc, ◌+◌, ◌-◌, ◌*◌, ◌/◌, ◌%◌, ◌^◌, ◌<◌, ◌≤◌, min, max, Bool, true, false, nat_eq, if◌then◌else◌, List, [], ◌∷◌, ◌++◌, length, get_or, set, map, take, drop, replicate, Option, Some, None, refl, sym, ap, subst, ◌∙◌, ◌⊎◌, inl, inr, arith, length-append}
+use Rattle.std.proofs.Common.{◌≡◌, ◌≢◌, ℕ, zero, suc, ◌+◌, ◌-◌, ◌*◌, ◌/◌, ◌%◌, ◌^◌, ◌<◌, ◌≤◌, min, max, Bool, true, false, nat_eq, if◌then◌else◌, List, [], ◌∷◌, ◌++◌, length, get_or, set, map, take, drop, Some, refl, sym, ap, ◌∙◌, ◌⊎◌, inl, inr, arith, length-append}
 use Rattle.std.specs.Prelude.{slice_get}
 use Rattle.std.proofs.Math.Nat.{div-div-eq-div-mul}
 use Rattle.std.proofs.lemmas.Bool.{cases_eq}
@@ -9,12 +9,13 @@ use Rattle.sample_picture.specs.declared.row.Row.{Row}
 use Rattle.sample_picture.specs.declared.mark.Mark.{Mark}
 use Rattle.sample_picture.specs.declared.mark.Mark.TheVariants.{Empty}
 use Rattle.sample_picture.specs.Marks.{Seen, mark_at, mark_of, with_mark}
+use Rattle.sample_picture.specs.Scale.{IsFine, IsNear}
 use Rattle.sample_picture.specs.Shown.{Gathered}
-use Rattle.sample_picture.specs.Gathered.{AreRowsOf, Given, IsPictureOf, IsRowOf, all_seen, greatest, has_slot, least, overloads_of, samples_of}
-use Rattle.sample_picture.specs.Inner.{AreWithin, doubled_row, fresh_row, given_at, merged, name_of, noted, one_more, with_row}
+use Rattle.sample_picture.specs.Gathered.{AreRowsOf, Given, IsPictureOf, IsRowOf, has_slot, overloads_of, samples_of}
+use Rattle.sample_picture.specs.Inner.{AreWithin, doubled_row, fresh_row, given_at, name_of, noted, one_more, with_row}
 use Rattle.sample_picture.proofs.GivenLemmas.{between_of, none_of, real_more, within_all}
 use Rattle.sample_picture.proofs.MarkLemmas.{Between}
-use Rattle.sample_picture.proofs.MergeLemmas.{doubled_marks, length-merged}
+use Rattle.sample_picture.proofs.MergeLemmas.{doubled_marks, in_order, length-merged}
 
 -- a row whose bins have twice as many places has gathered what it had
 doubled : (row : Row) (width low high count : ℕ) (seen : List Seen)
@@ -60,6 +61,20 @@ names_of_noted (r ∷ rows) (suc k) row slot at overload h = ap (λ ns. name_of 
 pub near_doubled : (width low high : ℕ) → high / width < low / width + 1024 → high / (width * 2) < low / (width * 2) + 1024
 near_doubled width low high h =
     rw (← div-div-eq-div-mul high width 2, ← div-div-eq-div-mul low width 2) (omega (arith, h))
+
+-- bins as fine as can be, of more places or when they double
+pub wider_is_fine : (width low high first last : ℕ) → first ≤ low → high ≤ last → IsFine width low high → IsFine width first last
+wider_is_fine width low high first last l h fine more =
+    let half : 0 < width / 2 = omega (arith, more) in
+    let left = in_order (width / 2) first low low half l (omega arith) in
+    let right = in_order (width / 2) high high last half (omega arith) h in
+    let apart = fine more in
+    omega (arith, apart, left.0, right.1)
+
+pub doubled_is_fine : (width low high : ℕ) → low / width + 1024 ≤ high / width → IsFine (width * 2) low high
+doubled_is_fine width low high apart more =
+    let half : width * 2 / 2 ≡ width = omega arith in
+    rw half apart
 
 -- a total more
 more_samples : (n : ℕ) → one_more (min n (2 ^ 64 - 1)) ≡ min (suc n) (2 ^ 64 - 1)
@@ -165,6 +180,7 @@ with_row_stands p l c given h = record {
   last = h.last;
   positive = h.positive;
   near = h.near;
+  fine = h.fine;
   rows = λ k row at. elim (pushed_at p.rows (fresh_row l c) k row at) [
     | inl there ↦ h.rows k row there
     | inr here ↦ rw (here.1, none_of (length p.rows) k given here.0 h.real) (fresh l c p.width)
@@ -178,13 +194,13 @@ written_rows new old count len = take_at new (drop (length new) old) count len
 -- a picture with one sample more has gathered that too
 pub noted_stands : (p q : Gathered) (rows : List Row) (number slot place : ℕ) (mark : Bool) (row : Row) (given : List Given)
     → number < length p.rows → IsPictureOf p given
-    → q.first ≡ min place p.first → q.last ≡ max place p.last → 0 < q.width → q.last / q.width < q.first / q.width + 1024
+    → q.first ≡ min place p.first → q.last ≡ max place p.last → 0 < q.width → IsNear q.width q.first q.last → IsFine q.width q.first q.last
     → (AreWithin p.first p.last given → AreRowsOf p.width p.rows given → AreRowsOf q.width rows given)
     → map name_of rows ≡ map name_of p.rows
     → slot ≡ place / q.width % 1024 → slice_get rows number ≡ Some row
     → q.rows ≡ set rows number (noted row slot place mark)
     → IsPictureOf q (given_at number place mark ∷ given)
-noted_stands p q rows number slot place mark row given real h first last pos near reach names is there new = record {
+noted_stands p q rows number slot place mark row given real h first last pos near fine reach names is there new = record {
   real =
       let len : length q.rows ≡ length p.rows =
       ap length new ∙ length-set rows number (noted row slot place mark) ∙ sym (length-map rows name_of) ∙ ap length names ∙ length-map p.rows name_of in
@@ -193,6 +209,7 @@ noted_stands p q rows number slot place mark row given real h first last pos nea
   last = last ∙ ap (max place) h.last;
   positive = pos;
   near = near;
+  fine = fine;
   rows = rw new (noted_rows rows q.width number slot place mark row given is there
       (reach (rw (h.first, h.last) (within_all given)) h.rows));
 }

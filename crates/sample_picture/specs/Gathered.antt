@@ -1,10 +1,11 @@
 -- What a picture has gathered of its samples: the newest one comes first in each list (own).
-use Rattle.std.specs.Prelude.{◌≡◌, ℕ, ◌+◌, ◌-◌, ◌/◌, ◌%◌, ◌^◌, ◌<◌, ◌≤◌, min, max, Bool, ⊤}
+use Rattle.std.specs.Prelude.{◌≡◌, ℕ, ◌+◌, ◌-◌, ◌/◌, ◌%◌, ◌^◌, ◌<◌, min, max, Bool, ⊤}
 use Rattle.std.specs.Prelude.{List, [], ◌∷◌, length, slice_get, get_or, nat_eq, Some}
 use Rattle.std.specs.Prelude.{if◌then◌else◌}
 use Rattle.sample_picture.specs.declared.row.Row.{Row}
 use Rattle.sample_picture.specs.declared.mark.Mark.TheVariants.{Empty}
 use Rattle.sample_picture.specs.Marks.{Seen, mark_at}
+use Rattle.sample_picture.specs.Scale.{IsFine, IsNear}
 use Rattle.sample_picture.specs.Shown.{Gathered}
 
 -- a sample, with the number of its row
@@ -64,12 +65,13 @@ abbrev pub AreReal : ℕ → List Given → Type 0
 AreReal count [] = ⊤
 AreReal count (g ∷ given) = (g.row < count) × AreReal count given
 
--- a picture has gathered these samples: each is of one of its rows, and their bins are fewer than
--- 1024 apart, so that no two bins with samples have one slot
+-- a picture has gathered these samples: each is of one of its rows; their bins are fewer than 1024
+-- apart, so that no two bins with samples have one slot; and bins are as fine as that leaves
 pub record IsPictureOf (p : Gathered) (given : List Given) : Type 0 where
   pub real : AreReal (length p.rows) given
   pub first : p.first ≡ least (all_seen given)
   pub last : p.last ≡ greatest (all_seen given)
   pub positive : 0 < p.width
-  pub near : p.last / p.width < p.first / p.width + 1024
+  pub near : IsNear p.width p.first p.last
+  pub fine : IsFine p.width p.first p.last
   pub rows : AreRowsOf p.width p.rows given

@@ -1,10 +1,10 @@
 -- What the calls make of rows, as plain data (own).
-use Rattle.std.specs.Prelude.{◌≡◌, ℕ, ◌+◌, ◌-◌, ◌/◌, ◌%◌, ◌^◌, ◌≤◌, min, max, suc, Bool, List, ⊤}
+use Rattle.std.specs.Prelude.{ℕ, ◌+◌, ◌-◌, ◌/◌, ◌%◌, ◌^◌, ◌≤◌, min, max, suc, Bool, List, ⊤}
 use Rattle.std.specs.Prelude.{[], ◌∷◌, ◌++◌, get_or, set, replicate, if◌then◌else◌, zero}
 use Rattle.sample_picture.specs.declared.row.Row.{Row}
 use Rattle.sample_picture.specs.declared.mark.Mark.{Mark}
 use Rattle.sample_picture.specs.declared.mark.Mark.TheVariants.{Empty}
-use Rattle.sample_picture.specs.Marks.{Seen, mark_of, with_mark}
+use Rattle.sample_picture.specs.Marks.{mark_of, with_mark}
 use Rattle.sample_picture.specs.Gathered.{Given}
 use Rattle.sample_picture.specs.Shown.{Gathered}
 

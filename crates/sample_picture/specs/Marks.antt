@@ -1,5 +1,5 @@
 -- What is seen of samples that stand close together (own).
-use Rattle.std.specs.Prelude.{ℕ, Bool, true, false, List, [], ◌∷◌, if◌then◌else◌}
+use Rattle.std.specs.Prelude.{ℕ, Bool, List, [], ◌∷◌, if◌then◌else◌}
 use Rattle.sample_picture.specs.declared.mark.Mark.{Mark}
 use Rattle.sample_picture.specs.declared.mark.Mark.TheVariants.{Empty, Sample, Overload}
 

@@ -32,8 +32,8 @@ impl Band {
         ensures { result < 100 }
     {
         match self {
-            Band::Samples => 15,
-            Band::Overloads => 18,
+            Band::Samples => 20,
+            Band::Overloads => 22,
         }
     }
 }

@@ -1,8 +1,10 @@
 //! The text of a picture.
+ghost use Rattle.std.specs.Prelude.{IfOk, string_bytes};
+ghost use Rattle.sample_picture.specs.Shown.{IsClosed};
 
 use crate::axis::Axis;
 use crate::bands::{Band, push_strokes, push_triangles, spans_of};
-use crate::furniture::{LEFT, ROW, TOP, bottom, push_axis, push_head};
+use crate::furniture::{EDGE, ROW, TOP, bottom, push_axis, push_head};
 use crate::grid::Grid;
 use crate::numbers::push_number;
 use crate::row::Row;
@@ -10,13 +12,15 @@ use crate::ruler::Ruler;
 use std::alloc::{AllocError, Global};
 
 /// The text of a picture of these rows.
-pub fn text_of(alloc: Global, rows: &[Row], grid: &Grid, axis: Axis) -> Result<String, AllocError> {
+pub fn text_of(alloc: Global, rows: &[Row], grid: &Grid, axis: Axis) -> Result<String, AllocError>
+    ensures { IfOk result (λ text. IsClosed (string_bytes text)) }
+{
     let mut text = String::new(alloc);
     push_head(&mut text, rows)?;
     push_axis(&mut text, grid, bottom(rows), axis)?;
     let mut middle = TOP + ROW / 2;
     for row in rows {
-        writeln!(text, "<g transform=\"translate({LEFT} {middle})\">")?;
+        writeln!(text, "<g transform=\"translate({EDGE} {middle})\">")?;
         push_row(alloc, &mut text, row, grid)?;
         text.push_str("</g>\n")?;
         middle = middle.saturating_add(ROW);
@@ -29,7 +33,7 @@ pub fn text_of(alloc: Global, rows: &[Row], grid: &Grid, axis: Axis) -> Result<S
 fn push_row(alloc: Global, text: &mut String, row: &Row, grid: &Grid) -> Result<(), AllocError> {
     push_names(text, row)?;
     push_totals(text, row)?;
-    text.push_str("<path class=\"b\" d=\"M0 0h720\"/>\n")?;
+    text.push_str("<path class=\"b\" d=\"M1 0h720\"/>\n")?;
     if grid.first > grid.last {
         return Ok(());
     }

@@ -10,7 +10,9 @@ use crate::style::STYLE;
 use std::alloc::AllocError;
 
 /// The left end of the plot.
-pub const LEFT: u64 = 96;
+const LEFT: u64 = 96;
+/// Where rows begin, so that the middle of a tick is at its place.
+pub const EDGE: u64 = LEFT - 1;
 /// The upper end of the first row.
 pub const TOP: u64 = 64;
 /// The height of a row.
@@ -63,8 +65,8 @@ pub fn push_head(text: &mut String, rows: &[Row]) -> Result<(), AllocError> {
 
 /// The title and the legend.
 const LEGEND: &str = "<text class=\"h\" x=\"20\" y=\"35\">Samples of the DAQ lists</text>
-<path class=\"s\" d=\"M264 30h1.5\"/><text class=\"m\" x=\"273\" y=\"34\">sample</text>
-<path class=\"o\" d=\"M340 32h1.8\"/><path class=\"t\" d=\"M340.9 17l-3.5-6h7z\"/>
+<path class=\"s\" d=\"M263.7 30h2\"/><text class=\"m\" x=\"273\" y=\"34\">sample</text>
+<path class=\"o\" d=\"M339.8 32h2.2\"/><path class=\"t\" d=\"M340.9 17l-3.5-6h7z\"/>
 <text class=\"m\" x=\"350\" y=\"34\">overload: samples were dropped before it</text>
 <path class=\"b\" d=\"M606 30h30\"/><text class=\"m\" x=\"644\" y=\"34\">no sample</text>
 ";

@@ -1,19 +1,22 @@
 //! Which places the bins of all rows stand for.
-ghost use Rattle.std.specs.Prelude.{◌≡◌, ◌+◌, ◌/◌, ◌%◌, ◌^◌, ◌-◌, ◌<◌};
+ghost use Rattle.std.specs.Prelude.{◌≡◌, ◌/◌, ◌%◌, ◌^◌, ◌-◌, ◌<◌};
+ghost use Rattle.sample_picture.specs.Scale.{IsFine, IsNear};
 
 use crate::row::BINS;
 
 /// The width of a bin in places, and the least and the greatest place of all samples.
 ///
 /// Bin `b` has the places from `b * width`; it is kept at the slot `b % BINS` of each row. The
-/// bins of the samples are fewer than `BINS` apart, so no two of them have one slot.
+/// bins of the samples are fewer than `BINS` apart, so no two of them have one slot. No bin has
+/// more places than that asks for.
 #[derive(Clone, Copy, Debug)]
 pub struct Grid {
     pub width: u64,
     pub first: u64,
     pub last: u64,
     ghost positive: { 0 < width },
-    ghost near: { last / width < first / width + 1024 },
+    ghost near: { IsNear width first last },
+    ghost fine: { IsFine width first last },
 }
 
 impl Grid {

@@ -4,6 +4,7 @@ ghost use Rattle.std.specs.Prelude.{OnErr, OnOk, length, map, min, max};
 ghost use Rattle.std.specs.Io.KnownBytes.{Appends};
 ghost use Rattle.sample_picture.specs.Gathered.{AreRowsOf, Given, IsPictureOf};
 ghost use Rattle.sample_picture.specs.Inner.{AreWithin, doubled_row, given_at, name_of, with_row};
+ghost use Rattle.sample_picture.specs.Shown.{IsClosed};
 
 use crate::axis::Axis;
 use crate::drawing::text_of;
@@ -80,7 +81,7 @@ impl Picture {
     /// Writes the picture as SVG, with the axis's word below it. What is written is some
     /// kilobytes for each row; the faults are those of `out`, and want of memory.
     pub fn print<W: Write>(&self, out: &mut W, axis: Axis) -> io::Result<()>
-        ensures { OnOk result ((text : List ℕ)
+        ensures { OnOk result ((text : List ℕ) × IsClosed text
             × Appends (W.contents out.old) (W.contents out.new) text) }
     {
         let text = text_of(self.alloc, &self.rows, &self.grid, axis)?;

@@ -12,7 +12,7 @@ pub const STYLE: &str = "<style>
 .daq .k{fill:#fff;stroke:#d1d9e0}
 .daq .g{stroke:#d1d9e0;fill:none}
 .daq .b{stroke:#818b98;fill:none}
-.daq .s{stroke:#3b82d6;stroke-width:20;fill:none}
+.daq .s{stroke:#2f78d0;stroke-width:20;fill:none}
 .daq .o{stroke:#d1242f;stroke-width:28;fill:none}
 .daq .t{fill:#d1242f}
 @media(prefers-color-scheme:dark){
@@ -22,9 +22,9 @@ pub const STYLE: &str = "<style>
 .daq .k{fill:#0d1117;stroke:#3d444d}
 .daq .g{stroke:#2f363e}
 .daq .b{stroke:#818b98}
-.daq .s{stroke:#316dca}
-.daq .o{stroke:#ff6a69}
-.daq .t{fill:#ff6a69}
+.daq .s{stroke:#58a6ff}
+.daq .o{stroke:#ff5c57}
+.daq .t{fill:#ff5c57}
 }
 </style>
 ";

@@ -1,11 +1,10 @@
-use Rattle.std.proofs.Common.{◌≡◌, ℕ, ◌<◌, ◌++◌, List, Some, ap, arith, drop, get_or, length, map, refl, set, subst, sym, take, ◌∙◌}
+use Rattle.std.proofs.Common.{◌≡◌, ◌<◌, ◌++◌, List, Some, ap, arith, drop, get_or, length, map, refl, set, subst, sym, take, ◌∙◌}
 use Rattle.std.specs.Prelude.{slice_get}
 use Rattle.std.proofs.lemmas.Grind.{common_steps}
 use Rattle.std.proofs.lemmas.Option.{slice_get_read}
 use Rattle.sample_picture.specs.declared.row.Row.{Row}
 use Rattle.sample_picture.specs.Shown.{Gathered}
-use Rattle.sample_picture.specs.Gathered.{AreRowsOf, Given}
-use Rattle.sample_picture.specs.Inner.{AreWithin, name_of, noted}
+use Rattle.sample_picture.specs.Inner.{name_of, noted}
 use Rattle.sample_picture.proofs.RowsLemmas.{noted_stands, names_of_noted}
 use Rattle.sample_picture.proofs.picture.Picture.sample.Goals as goal
 
@@ -58,6 +57,7 @@ returns-clause-stands c = λ real given h.
     c.reach-self-inside.ensures.last
     grid.positive
     grid.near
+    grid.fine
     (λ in_range stood. c.reach-self-inside.ensures.rows given in_range (rw c.deref_mut.ensures.value stood))
     (c.reach-self-inside.ensures.names ∙ ap (map name_of) c.deref_mut.ensures.value)
     c.slot-slot.ensures
