@@ -1,0 +1,6 @@
+/// How the samples of a recording are shown.
+#[derive(Clone, Copy, Debug, PartialEq, Eq)]
+pub enum Mode {
+    /// A table with a line for each DAQ list.
+    Summary,
+}
