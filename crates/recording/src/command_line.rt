@@ -6,6 +6,7 @@ use crate::mode::Mode;
 use crate::place::Place;
 use crate::program_fault::ProgramFault;
 use crate::recording::{pass_replies, read_frames};
+use crate::sample_rows::SampleRows;
 use crate::summary::Summary;
 use crate::summary_text::print_summary;
 use crate::words::{Asked, Words, read_words};
@@ -116,6 +117,7 @@ fn show_from<I: Read, W: Write>(
     };
     match mode {
         Mode::Summary => summarize(alloc, store, input, &mut held, place, out),
+        Mode::Csv => list_rows(alloc, store, input, &mut held, place, out),
     }
 }
 
@@ -136,6 +138,28 @@ fn summarize<I: Read, W: Write>(
     let printing = print_summary(out, store, &summary);
     match outcome {
         Ok(()) => Ok(status_of(printing)),
+        Err(fault) => Err(fault),
+    }
+}
+
+/// Reads a recording behind its replies, and prints its samples as CSV.
+fn list_rows<I: Read, W: Write>(
+    alloc: Global,
+    store: &Store,
+    input: &mut I,
+    held: &mut Vec<u8>,
+    place: Place,
+    out: &mut W,
+) -> Result<u8, ProgramFault>
+    ensures { IfOk result (λ status. status ≤ 1) }
+{
+    let mut reader = reader_of(alloc, store)?;
+    let mut rows = SampleRows::new(store, &mut *out);
+    let outcome = read_frames(input, held, place, &mut reader, &mut rows);
+    let all = rows.finish();
+    let printing = out.flush();
+    match outcome {
+        Ok(()) => Ok(if all { status_of(printing) } else { 1 }),
         Err(fault) => Err(fault),
     }
 }

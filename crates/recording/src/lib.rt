@@ -1,5 +1,5 @@
 //! The program `xcpread`, generic over its files and streams: the samples of a recording, read back
-//! by the run file that it was made of, as a table.
+//! by the run file that it was made of, as a table or as CSV.
 #![tactic(auto)]
 
 mod break_off;
@@ -10,6 +10,8 @@ mod piece;
 mod place;
 mod program_fault;
 mod recording;
+mod row;
+mod sample_rows;
 mod summary;
 mod summary_text;
 mod tally;
@@ -20,5 +22,6 @@ pub use command_line::program;
 pub use lists::reader_of;
 pub use place::Place;
 pub use program_fault::ProgramFault;
+pub use sample_rows::SampleRows;
 pub use summary::Summary;
 pub use tally::Tally;

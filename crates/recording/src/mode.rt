@@ -3,4 +3,6 @@
 pub enum Mode {
     /// A table with a line for each DAQ list.
     Summary,
+    /// CSV with a row for each element of each sample.
+    Csv,
 }

@@ -49,6 +49,11 @@ fn command<'a>(alloc: Global) -> Result<Command<'a>, AllocError> {
         .long("summary")
         .action(ArgAction::SetTrue)
         .help("Print a table with a line for each DAQ list [default]");
+    let csv = Arg::new(alloc, "csv")
+        .long("csv")
+        .action(ArgAction::SetTrue)
+        .conflicts_with("summary")?
+        .help("Print CSV with a row for each element of each sample");
     let run = Arg::new(alloc, "run")
         .value_name("RUN")
         .required(true)
@@ -63,6 +68,7 @@ fn command<'a>(alloc: Global) -> Result<Command<'a>, AllocError> {
         .about("Reads a recording back, and prints its samples")
         .no_binary_name(true)
         .arg(summary)?
+        .arg(csv)?
         .arg(run)?
         .arg(frames)
 }
@@ -86,6 +92,8 @@ fn recording_of<'a>(matches: &ArgMatches<'a>) -> Result<Asked<'a>, ProgramFault>
 
 /// How the samples are shown; a table where no mode is asked for.
 fn mode_of(matches: &ArgMatches<'_>) -> Mode {
-    let _ = matches;
+    if matches.get_flag("csv") {
+        return Mode::Csv;
+    }
     Mode::Summary
 }
