@@ -8,7 +8,7 @@ ghost use Rattle.daq_run.specs.Runs.{ComesTo, cost_in};
 ghost use Rattle.daq_run.specs.declared.sim_fault.SimFault.TheVariants.{EndLost, Memory};
 
 use crate::outcome::Outcome;
-use crate::set_up::opened;
+use crate::setting_up::opened;
 use crate::sim_fault::SimFault;
 use byte_ring::ByteRing;
 use channel_ring::{Beside, RingEnd, SampleRing, SendEnd, TakeEnd};

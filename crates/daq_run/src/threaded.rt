@@ -14,7 +14,7 @@ ghost use Rattle.daq_run.specs.Threads.{ThreadsComeTo, ThreadsStandAtFault};
 use crate::gate::Gate;
 use crate::meanwhile::{Flags, Meanwhile, Pumping, take_back};
 use crate::outcome::Outcome;
-use crate::set_up::opened;
+use crate::setting_up::opened;
 use crate::sim_fault::SimFault;
 use crate::worker::{WillWork, Worked, work};
 use byte_ring::ByteRing;

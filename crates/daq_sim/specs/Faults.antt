@@ -4,16 +4,23 @@ use Rattle.run_file.specs.declared.run_fault.RunFault.{RunFault}
 use Rattle.run_file.specs.declared.run_fault.RunFault.TheVariants as bad
 use Rattle.daq_run.specs.declared.sim_fault.SimFault.TheVariants.{Memory}
 use Rattle.daq_sim.specs.declared.program_fault.ProgramFault.{ProgramFault}
-use Rattle.daq_sim.specs.declared.program_fault.ProgramFault.TheVariants.{Run, Sim}
+use Rattle.daq_sim.specs.declared.program_fault.ProgramFault.TheVariants.{Run, Sim, Unreadable}
+use Rattle.daq_sim.specs.declared.text_fault.TextFault.{TextFault}
+use Rattle.daq_sim.specs.declared.text_fault.TextFault.TheVariants as none
 
 -- want of memory, wherever it was met
 abbrev pub want_of_memory : ProgramFault
 want_of_memory = Sim Memory
 
 -- want of memory is the same one, whoever met it
-abbrev pub fault_of_run : RunFault → ProgramFault
-fault_of_run bad.Memory = want_of_memory
-fault_of_run fault = Run fault
+abbrev pub text_fault_of : RunFault → TextFault
+text_fault_of bad.Memory = none.Memory
+text_fault_of fault = none.Run fault
+
+abbrev pub fault_of_text : TextFault → ProgramFault
+fault_of_text none.Unreadable = Unreadable
+fault_of_text (none.Run fault) = Run fault
+fault_of_text none.Memory = want_of_memory
 
 -- 1 for a run that was begun and for want of memory, 2 for what is wrong with words, text or file
 abbrev pub status_of : ProgramFault → ℕ

@@ -13,6 +13,8 @@ use Rattle.daq_sim.specs.Done.{nothing_written}
 use Rattle.daq_sim.specs.declared.program_fault.ProgramFault.{ProgramFault}
 use Rattle.daq_sim.specs.declared.program_fault.ProgramFault.TheVariants.{CommandLine, OutFile, Run}
 use Rattle.daq_sim.specs.declared.program_fault.ProgramFault.TheVariants.{Sim, Unreadable}
+use Rattle.daq_sim.specs.declared.text_fault.TextFault.{TextFault}
+use Rattle.daq_sim.specs.declared.text_fault.TextFault.TheVariants as none
 
 -- the text comes to this fault, and to no run
 abbrev pub IsNoRun : List ℕ → RunFault → Type 0
@@ -21,6 +23,12 @@ IsNoRun text bad.BadKey = IsOutcome text bad_key
 IsNoRun text (bad.BadSetup place) = IsOutcome text (bad_setup place)
 IsNoRun text (bad.BadStep place) = IsOutcome text (bad_step place)
 IsNoRun text bad.Memory = ⊥
+
+-- a text stops for this: it can't be read, or is no run; of want of memory nothing is said
+abbrev pub StopsText : List ℕ → TextFault → Type 0
+StopsText text none.Unreadable = ⊤
+StopsText text (none.Run fault) = IsNoRun text fault
+StopsText text none.Memory = ⊤
 
 -- a run was begun with a writer that had taken nothing, and this is what stands at its fault; of
 -- want of memory nothing is said

@@ -108,10 +108,10 @@ fn run_of<R: Files, I: Read + Drop>(
 {
     let mut input = input;
     let Some(path) = path else {
-        return run_from(alloc, &mut input);
+        return Ok(run_from(alloc, &mut input)?);
     };
     match fs::open(rt, path) {
-        Ok(mut file) => run_from(alloc, &mut file),
+        Ok(mut file) => Ok(run_from(alloc, &mut file)?),
         Err(error) => Err(ProgramFault::Unreadable.or_memory(&error)),
     }
 }

@@ -1,6 +1,7 @@
 ghost use Rattle.std.specs.Prelude.{◌≡◌, ◌≢◌};
 ghost use Rattle.std.specs.IoError.{error_kind};
 
+use crate::text_fault::TextFault;
 use daq_run::SimFault;
 use run_file::RunFault;
 use std::alloc::AllocError;
@@ -55,15 +56,16 @@ impl ProgramFault {
     }
 }
 
-impl From<RunFault> for ProgramFault {
-    ghost use Rattle.daq_sim.specs.Faults.{fault_of_run};
+impl From<TextFault> for ProgramFault {
+    ghost use Rattle.daq_sim.specs.Faults.{fault_of_text};
 
-    ghost from_gives = { λ run fault. fault ≡ fault_of_run run };
+    ghost from_gives = { λ text fault. fault ≡ fault_of_text text };
 
-    fn from(fault: RunFault) -> ProgramFault {
+    fn from(fault: TextFault) -> ProgramFault {
         match fault {
-            RunFault::Memory => ProgramFault::MEMORY,
-            _ => ProgramFault::Run(fault),
+            TextFault::Unreadable => ProgramFault::Unreadable,
+            TextFault::Run(fault) => ProgramFault::Run(fault),
+            TextFault::Memory => ProgramFault::MEMORY,
         }
     }
 }

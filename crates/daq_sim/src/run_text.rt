@@ -1,20 +1,19 @@
 //! The run of a text, from a file or from standard input.
 ghost use Rattle.std.specs.Prelude.{◌≡◌, ◌⊎◌, ◌<◌, ◌≤◌, IfErr, IfOk, IfSome, OnOk, length};
-ghost use Rattle.std.specs.Prelude.{Bool, string_bytes, true};
+ghost use Rattle.std.specs.Prelude.{string_bytes, true};
 ghost use Rattle.std.specs.Io.{StartsWith, appended_bytes};
 ghost use Rattle.std.specs.Io.KnownBytes.{Consumes, IsAtEnd};
 ghost use Rattle.run_file.specs.RunFile.{IsRunText};
-ghost use Rattle.daq_sim.specs.declared.program_fault.ProgramFault.TheVariants.{Unreadable};
-ghost use Rattle.daq_sim.specs.Faults.{want_of_memory};
-ghost use Rattle.daq_sim.specs.Stops.{StopsAt};
+ghost use Rattle.daq_sim.specs.declared.text_fault.TextFault.TheVariants.{Memory, Unreadable};
+ghost use Rattle.daq_sim.specs.Stops.{StopsText};
 
-use crate::program_fault::ProgramFault;
+use crate::text_fault::TextFault;
 use run_file::Run;
 use std::alloc::Global;
 use std::io::{ErrorKind, Read};
 
 /// The longest text of a run, in bytes.
-const MAX_TEXT: usize = 67_108_864;
+pub const MAX_TEXT: usize = 67_108_864;
 
 /// The most reads of a text, the one that finds its end among them.
 const MAX_READS: usize = 67_108_864;
@@ -23,11 +22,11 @@ const MAX_READS: usize = 67_108_864;
 const CHUNK: usize = 65_536;
 
 /// Reads a run, from a text that is read to its end.
-pub fn run_from<I: Read>(alloc: Global, input: &mut I) -> Result<Run, ProgramFault>
+pub fn run_from<I: Read>(alloc: Global, input: &mut I) -> Result<Run, TextFault>
     ensures ok { IfOk result (λ run.
         IfSome (I.remaining input.old) (λ text. IsRunText text run)) }
-    ensures stops { (threads : Bool) → IfErr result (λ fault.
-        IfSome (I.remaining input.old) (λ text. StopsAt threads text fault)) }
+    ensures stops { IfErr result (λ fault.
+        IfSome (I.remaining input.old) (λ text. StopsText text fault)) }
 {
     let text = text_from(alloc, input)?;
     Ok(Run::read(alloc, &text)?)
@@ -38,29 +37,32 @@ pub fn run_from<I: Read>(alloc: Global, input: &mut I) -> Result<Run, ProgramFau
 /// Refused where a read fails, but for an interruption, which counts as a read of no byte; where
 /// the text is longer than `MAX_TEXT`, or isn't at its end after `MAX_READS`; and where it isn't
 /// UTF-8.
-fn text_from<I: Read>(alloc: Global, input: &mut I) -> Result<String, ProgramFault>
+fn text_from<I: Read>(alloc: Global, input: &mut I) -> Result<String, TextFault>
     ensures whole { IfOk result (λ text.
         Consumes (I.remaining input.old) (I.remaining input.new) (string_bytes text)) }
     ensures end { OnOk result (IsAtEnd (I.remaining input.new)) }
     ensures within { IfOk result (λ text. length (string_bytes text) ≤ MAX_TEXT) }
-    ensures fault { IfErr result (λ f. (f ≡ Unreadable) ⊎ (f ≡ want_of_memory)) }
+    ensures fault { IfErr result (λ f. (f ≡ Unreadable) ⊎ (f ≡ Memory)) }
 {
     let mut bytes = Vec::new(alloc);
     let mut chunk = [0; CHUNK];
     for _ in 0..MAX_READS {
         if is_read_to_end(input, &mut chunk, &mut bytes)? {
-            return String::from_utf8(bytes).map_err(|_| ProgramFault::Unreadable);
+            return String::from_utf8(bytes).map_err(|_| TextFault::Unreadable);
         }
     }
-    Err(ProgramFault::Unreadable)
+    Err(TextFault::Unreadable)
 }
 
 /// Makes one read, appends what it gave, and tells whether it met the end.
-fn is_read_to_end<I: Read>(
+///
+/// An interruption counts as a read of no byte. Refused where a read fails, and where there would
+/// be more than `MAX_TEXT` bytes; want of memory is `Memory`.
+pub fn is_read_to_end<I: Read>(
     input: &mut I,
     chunk: &mut [u8],
     bytes: &mut Vec<u8>,
-) -> Result<bool, ProgramFault>
+) -> Result<bool, TextFault>
     requires room { 0 < length chunk.old }
     requires short { length bytes.old.items ≤ MAX_TEXT }
     ensures appends { OnOk result (StartsWith bytes.new.items bytes.old.items) }
@@ -69,15 +71,15 @@ fn is_read_to_end<I: Read>(
     ensures end { IfOk result (λ at_end. at_end ≡ true → IsAtEnd (I.remaining input.new)) }
     ensures within { OnOk result (length bytes.new.items ≤ MAX_TEXT) }
     ensures room_stays { length chunk.new ≡ length chunk.old }
-    ensures fault { IfErr result (λ f. (f ≡ Unreadable) ⊎ (f ≡ want_of_memory)) }
+    ensures fault { IfErr result (λ f. (f ≡ Unreadable) ⊎ (f ≡ Memory)) }
 {
     let count = match input.read(chunk) {
         Ok(count) => count,
         Err(error) if error.kind() == ErrorKind::Interrupted => return Ok(false),
-        Err(error) => return Err(ProgramFault::Unreadable.or_memory(&error)),
+        Err(error) => return Err(TextFault::Unreadable.or_memory(&error)),
     };
     if bytes.len() + count > MAX_TEXT {
-        return Err(ProgramFault::Unreadable);
+        return Err(TextFault::Unreadable);
     }
     bytes.extend_from_slice(&chunk[..count])?;
     Ok(count == 0)

@@ -5,7 +5,7 @@ use Rattle.run_setup.specs.Setup.{LosesReply, WantsMemory}
 use Rattle.daq_run.specs.Faults.{StandsAtFault, run_fault}
 use Rattle.daq_run.specs.SetUps.{profile_of}
 use Rattle.daq_run.proofs.SetUpLemmas.{stops}
-use Rattle.daq_run.proofs.set_up.set_up.Goals as goal
+use Rattle.daq_run.proofs.setting_up.set_up.Goals as goal
 
 -- where `carry_all` stops, the run does
 pub returns-in-Err-clause-fault : goal.returns-in-Err-clause-fault

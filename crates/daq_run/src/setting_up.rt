@@ -36,7 +36,7 @@ fn store_of(alloc: Global, run: &Run) -> Result<Store, BadLimits>
 
 /// Carries the command packets of a run out on a fresh store, and writes the replies as the first
 /// frames.
-fn set_up<O: Out>(
+pub fn set_up<O: Out>(
     alloc: Global,
     run: &Run,
     out: O,

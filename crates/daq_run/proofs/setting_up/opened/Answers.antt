@@ -2,7 +2,7 @@ use Rattle.std.proofs.Common.{◌≡◌, true, Some, sym, ap, subst, ◌∙◌}
 use Rattle.std.proofs.lemmas.Bool.{false≢true}
 use Rattle.daq_engine.specs.Openings.{fit_caps_of}
 use Rattle.daq_run.proofs.SetUpLemmas.{caps_fit}
-use Rattle.daq_run.proofs.set_up.opened.Goals as goal
+use Rattle.daq_run.proofs.setting_up.opened.Goals as goal
 
 -- the limits of a run are those of the rings
 pub unreachable-requires : goal.unreachable-requires

@@ -1,0 +1,3 @@
+pub mod PieceLemmas
+pub mod ReadyLemmas
+pub mod TallyLemmas

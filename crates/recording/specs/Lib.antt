@@ -1,0 +1,5 @@
+pub mod Faults
+pub mod Pieces
+pub mod Ready
+pub mod Rows
+pub mod Tallies

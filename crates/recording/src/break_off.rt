@@ -1,0 +1,13 @@
+use crate::place::Place;
+use daq_reader::ReadFault;
+use thiserror::Error;
+
+/// Where and why a recording breaks off. What stands before the place was read.
+#[derive(Clone, Copy, Debug, PartialEq, Eq, Error)]
+#[error("recording breaks off at byte {}, frame {}: {why}", .place.byte, .place.frame)]
+pub struct BreakOff {
+    /// The place of the first frame that isn't read.
+    pub place: Place,
+    /// What is wrong with it.
+    pub why: ReadFault,
+}

@@ -1,0 +1,27 @@
+//! The program `xcpread`, generic over its files and streams: the samples of a recording, read back
+//! by the run file that it was made of, as a table or as CSV.
+#![tactic(auto)]
+
+mod break_off;
+mod command_line;
+mod lists;
+mod mode;
+mod piece;
+mod place;
+mod program_fault;
+mod recording;
+mod row;
+mod sample_rows;
+mod summary;
+mod summary_text;
+mod tally;
+mod words;
+
+pub use break_off::BreakOff;
+pub use command_line::program;
+pub use lists::reader_of;
+pub use place::Place;
+pub use program_fault::ProgramFault;
+pub use sample_rows::SampleRows;
+pub use summary::Summary;
+pub use tally::Tally;

@@ -1,0 +1,8 @@
+/// How the samples of a recording are shown.
+#[derive(Clone, Copy, Debug, PartialEq, Eq)]
+pub enum Mode {
+    /// A table with a line for each DAQ list.
+    Summary,
+    /// CSV with a row for each element of each sample.
+    Csv,
+}

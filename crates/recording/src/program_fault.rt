@@ -1,0 +1,66 @@
+use crate::break_off::BreakOff;
+use daq_sim::TextFault;
+use std::alloc::AllocError;
+use thiserror::Error;
+
+/// Why the program stops, as the line that it prints.
+#[derive(Clone, Copy, Debug, PartialEq, Eq, Error)]
+pub enum ProgramFault {
+    /// The words are no command line.
+    #[error("xcpread: bad command line")]
+    CommandLine,
+    /// No run is read, or memory was wanting.
+    #[error("xcpread: {0}")]
+    Text(TextFault),
+    /// The recording can't be read.
+    #[error("xcpread: cannot read recording")]
+    Unreadable,
+    /// The recording doesn't begin with the replies of this run.
+    #[error("xcpread: recording of another run file")]
+    OtherRun,
+    /// The recording breaks off.
+    #[error("xcpread: {0}")]
+    BreaksOff(BreakOff),
+}
+
+impl ProgramFault {
+    ghost use Rattle.std.specs.Prelude.{◌≡◌};
+    ghost use Rattle.recording.specs.Faults.{status_of};
+
+    /// Want of memory, wherever it was met.
+    pub const MEMORY: ProgramFault = ProgramFault::Text(TextFault::Memory);
+
+    /// The status that the program ends with.
+    pub fn status(self) -> u8
+        ensures { result ≡ status_of self }
+    {
+        match self {
+            ProgramFault::Text(TextFault::Memory) => 1,
+            ProgramFault::OtherRun => 1,
+            ProgramFault::BreaksOff(_) => 1,
+            _ => 2,
+        }
+    }
+}
+
+impl From<TextFault> for ProgramFault {
+    ghost use Rattle.std.specs.Prelude.{◌≡◌};
+    ghost use Rattle.recording.specs.declared.program_fault.ProgramFault.TheVariants.{Text};
+
+    ghost from_gives = { λ text fault. fault ≡ Text text };
+
+    fn from(fault: TextFault) -> ProgramFault {
+        ProgramFault::Text(fault)
+    }
+}
+
+impl From<AllocError> for ProgramFault {
+    ghost use Rattle.std.specs.Prelude.{◌≡◌};
+    ghost use Rattle.recording.specs.Faults.{want_of_memory};
+
+    ghost from_gives = { λ _ fault. fault ≡ want_of_memory };
+
+    fn from(_error: AllocError) -> ProgramFault {
+        ProgramFault::MEMORY
+    }
+}
