@@ -1,0 +1,19 @@
+#!/bin/sh
+# Measures how fast xcpread sums recordings of 100 MB up, beside a plain copy of the same bytes, five times in turn: one of samples
+# of eight packets of 64 bytes, and one of samples of one packet of 3 bytes.
+set -e
+cd "$(dirname "$0")/.."
+room=$(mktemp -d)
+trap 'rm -rf "$room"' EXIT
+cc -std=c99 -O2 -Wall -Wextra -Werror -pedantic -o "$room/recording" bench/recording.c
+./xcpread --help > /dev/null
+"$room/recording" make "$room"
+for turn in 1 2 3 4 5; do
+    for run in long short; do
+        "$room/recording" copy "$room/$run.frames"
+        start=$(date +%s%N)
+        crates/xcpread/out/xcpread "$room/$run.toml" "$room/$run.frames" > "$room/out"
+        end=$(date +%s%N)
+        echo "xcpread $run.toml $run.frames: $(((end - start) / 1000000)) ms, $(tail -n 1 "$room/out" | awk '{ print $3 }') samples"
+    done
+done
