@@ -33,11 +33,6 @@ impl Grid {
         }
     }
 
-    /// Whether there is a sample.
-    pub fn is_used(&self) -> bool {
-        self.first <= self.last
-    }
-
     /// The slot of a place.
     pub fn slot(&self, at: u64) -> usize
         ensures { result ≡ at / self.now.width % 1024 }

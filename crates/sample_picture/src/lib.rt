@@ -14,6 +14,8 @@ mod row;
 mod ruler;
 mod span;
 mod style;
+#[cfg(test)]
+mod tests;
 
 pub use axis::Axis;
 pub use picture::Picture;
