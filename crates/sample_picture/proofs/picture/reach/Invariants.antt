@@ -1,0 +1,16 @@
+-- Bins have more places each time, and hold the samples that they held.
+use Rattle.std.proofs.Common.{◌≡◌, ◌<◌, ◌+◌, ◌/◌, ◌-◌, ◌^◌, List, map}
+use Rattle.sample_picture.specs.Gathered.{AreRowsOf, Given}
+use Rattle.sample_picture.specs.Inner.{AreWithin, name_of}
+use Rattle.sample_picture.specs.Scale.{IsFine}
+use Rattle.sample_picture.proofs.picture.reach.Given as goal
+
+abbrev pub invariant-loop-width : goal.invariant-loop-width
+invariant-loop-width l = (0 < l.width)
+    × (l.grid.last / l.width < l.grid.first / l.width + 1024)
+    × IsFine l.width l.first l.last
+    × (map name_of l.rows ≡ map name_of l.initial.rows)
+    × ((given : List Given) → AreWithin l.grid.first l.grid.last given → AreRowsOf l.grid.width l.initial.rows given → AreRowsOf l.width l.rows given)
+
+abbrev pub decreases-loop-width : goal.decreases-loop-width
+decreases-loop-width l = 2 ^ 64 - l.width

@@ -1,0 +1,108 @@
+//! The strokes of a row: from neighbouring bins to one stroke.
+ghost use Rattle.std.specs.Prelude.{◌<◌};
+
+use crate::grid::Grid;
+use crate::mark::Mark;
+use crate::numbers::push_tenths;
+use crate::row::{BINS, Row};
+use crate::ruler::Ruler;
+use crate::span::Span;
+use std::alloc::{AllocError, Global};
+
+/// Which bins are drawn.
+#[derive(Clone, Copy, Debug, PartialEq, Eq)]
+pub enum Band {
+    /// Those with a sample.
+    Samples,
+    /// Those with a sample that has the overload indication.
+    Overloads,
+}
+
+impl Band {
+    /// Whether a bin with this mark is drawn.
+    fn shows(self, mark: Mark) -> bool {
+        match self {
+            Band::Samples => mark.is_sample(),
+            Band::Overloads => mark.is_overload(),
+        }
+    }
+
+    /// The least length of a stroke, in tenths of a unit.
+    fn tick(self) -> u64
+        ensures { result < 100 }
+    {
+        match self {
+            Band::Samples => 20,
+            Band::Overloads => 22,
+        }
+    }
+}
+
+/// The strokes of a row. Ticks that would be less than half a unit apart become one stroke.
+pub fn spans_of(
+    alloc: Global,
+    row: &Row,
+    grid: &Grid,
+    ruler: &Ruler,
+    band: Band,
+) -> Result<Vec<Span>, AllocError> {
+    let mut spans = Vec::new(alloc);
+    for bin in grid.first / grid.width..=grid.last / grid.width {
+        if band.shows(row.bins[(bin % BINS) as usize]) {
+            let x = ruler.x(bin.saturating_mul(grid.width));
+            push_tick(&mut spans, x, band.tick())?;
+        }
+    }
+    Ok(spans)
+}
+
+/// One more tick, which the last stroke takes in where it is near.
+fn push_tick(spans: &mut Vec<Span>, x: u64, tick: u64) -> Result<(), AllocError>
+    requires place { x < 8000 }
+    requires len { tick < 100 }
+{
+    let to = x + tick;
+    if let Some(last) = spans.pop() {
+        if x >= last.from && x - last.from <= (last.to - last.from) + 5 {
+            spans.push(Span {
+                from: last.from,
+                to: to.max(last.to),
+            })?;
+            return Ok(());
+        }
+        spans.push(last)?;
+    }
+    spans.push(Span { from: x, to })?;
+    Ok(())
+}
+
+/// Writes a row's strokes as one path, or nothing where there is none.
+pub fn push_strokes(text: &mut String, class: &str, spans: &[Span]) -> Result<(), AllocError> {
+    if spans.is_empty() {
+        return Ok(());
+    }
+    write!(text, "<path class=\"{class}\" d=\"")?;
+    for span in spans {
+        span.push_stroke(text)?;
+    }
+    text.push_str("\"/>\n")
+}
+
+/// Writes a triangle above the middle of each stroke, where it is clear of the one before.
+pub fn push_triangles(text: &mut String, spans: &[Span]) -> Result<(), AllocError> {
+    if spans.is_empty() {
+        return Ok(());
+    }
+    text.push_str("<path class=\"t\" d=\"")?;
+    let mut free = 0;
+    for span in spans {
+        let middle = span.middle();
+        if middle >= free {
+            text.push_str("M")?;
+            push_tenths(text, middle)?;
+            text.push_str("-15l-3.5-6h7z")?;
+            free = middle.saturating_add(50);
+        }
+    }
+    text.push_str("\"/>\n")
+}

@@ -1,0 +1,21 @@
+//! A picture of where the samples of DAQ lists stand: gathered in one pass and in bounded memory,
+//! and written as SVG.
+#![tactic(auto)]
+
+mod axis;
+mod bands;
+mod drawing;
+mod furniture;
+mod grid;
+mod mark;
+mod numbers;
+mod picture;
+mod row;
+mod ruler;
+mod span;
+mod style;
+#[cfg(test)]
+mod tests;
+
+pub use axis::Axis;
+pub use picture::Picture;
