@@ -2,8 +2,8 @@
 use Rattle.std.specs.Prelude.{ℕ}
 use Rattle.daq_sim.specs.declared.text_fault.TextFault.TheVariants.{Memory}
 use Rattle.recording.specs.declared.program_fault.ProgramFault.{ProgramFault}
-use Rattle.recording.specs.declared.program_fault.ProgramFault.TheVariants.{BreaksOff, OtherRun}
-use Rattle.recording.specs.declared.program_fault.ProgramFault.TheVariants.{Text}
+use Rattle.recording.specs.declared.program_fault.ProgramFault.TheVariants.{BreaksOff, InReplies}
+use Rattle.recording.specs.declared.program_fault.ProgramFault.TheVariants.{OtherRun, Text}
 
 -- want of memory, wherever it was met
 abbrev pub want_of_memory : ProgramFault
@@ -14,5 +14,6 @@ want_of_memory = Text Memory
 abbrev pub status_of : ProgramFault → ℕ
 status_of (Text Memory) = 1
 status_of OtherRun = 1
+status_of InReplies = 1
 status_of (BreaksOff at) = 1
 status_of _ = 2

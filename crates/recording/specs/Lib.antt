@@ -1,3 +1,4 @@
+pub mod Axes
 pub mod Faults
 pub mod Pieces
 pub mod Ready

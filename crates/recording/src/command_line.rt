@@ -1,6 +1,7 @@
 //! The program: from its words to its status.
 ghost use Rattle.std.specs.Prelude.{◌≤◌, IfOk};
 
+use crate::drawing::Drawing;
 use crate::lists::reader_of;
 use crate::mode::Mode;
 use crate::place::Place;
@@ -118,6 +119,7 @@ fn show_from<I: Read, W: Write>(
     match mode {
         Mode::Summary => summarize(alloc, store, input, &mut held, place, out),
         Mode::Csv => list_rows(alloc, store, input, &mut held, place, out),
+        Mode::Svg => draw(alloc, store, input, &mut held, place, out),
     }
 }
 
@@ -160,6 +162,27 @@ fn list_rows<I: Read, W: Write>(
     let printing = out.flush();
     match outcome {
         Ok(()) => Ok(if all { status_of(printing) } else { 1 }),
+        Err(fault) => Err(fault),
+    }
+}
+
+/// Reads a recording behind its replies, and prints a picture of its samples.
+fn draw<I: Read, W: Write>(
+    alloc: Global,
+    store: &Store,
+    input: &mut I,
+    held: &mut Vec<u8>,
+    place: Place,
+    out: &mut W,
+) -> Result<u8, ProgramFault>
+    ensures { IfOk result (λ status. status ≤ 1) }
+{
+    let mut reader = reader_of(alloc, store)?;
+    let mut drawing = Drawing::new(alloc, store)?;
+    let outcome = read_frames(input, held, place, &mut reader, &mut drawing);
+    let printing = drawing.print(out).and_then(|()| out.flush());
+    match outcome {
+        Ok(()) => Ok(status_of(printing)),
         Err(fault) => Err(fault),
     }
 }

@@ -1,13 +1,15 @@
 //! The program `xcpread`, generic over its files and streams: the samples of a recording, read back
-//! by the run file that it was made of, as a table or as CSV.
+//! by the run file that it was made of, as a table, as CSV or as a picture.
 #![tactic(auto)]
 
 mod break_off;
 mod command_line;
+mod drawing;
 mod lists;
 mod mode;
 mod piece;
 mod place;
+mod places;
 mod program_fault;
 mod recording;
 mod row;
@@ -19,6 +21,7 @@ mod words;
 
 pub use break_off::BreakOff;
 pub use command_line::program;
+pub use drawing::Drawing;
 pub use lists::reader_of;
 pub use place::Place;
 pub use program_fault::ProgramFault;

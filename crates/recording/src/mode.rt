@@ -5,4 +5,6 @@ pub enum Mode {
     Summary,
     /// CSV with a row for each element of each sample.
     Csv,
+    /// A picture, as SVG.
+    Svg,
 }

@@ -18,6 +18,9 @@ pub enum ProgramFault {
     /// The recording doesn't begin with the replies of this run.
     #[error("xcpread: recording of another run file")]
     OtherRun,
+    /// The recording is at its end before the replies are.
+    #[error("xcpread: recording breaks off in the replies of its set-up")]
+    InReplies,
     /// The recording breaks off.
     #[error("xcpread: {0}")]
     BreaksOff(BreakOff),
@@ -37,6 +40,7 @@ impl ProgramFault {
         match self {
             ProgramFault::Text(TextFault::Memory) => 1,
             ProgramFault::OtherRun => 1,
+            ProgramFault::InReplies => 1,
             ProgramFault::BreaksOff(_) => 1,
             _ => 2,
         }

@@ -30,10 +30,18 @@ pub fn pass_replies<I: Read>(
         }
     }
     if !held.starts_with(replies) {
-        return Err(ProgramFault::OtherRun);
+        return Err(fault_of_replies(held, replies));
     }
     drop_front(held, replies.len());
     Ok(())
+}
+
+/// Why bytes that don't begin with the replies are no recording of the run.
+fn fault_of_replies(held: &[u8], replies: &[u8]) -> ProgramFault {
+    if replies.starts_with(held) {
+        return ProgramFault::InReplies;
+    }
+    ProgramFault::OtherRun
 }
 
 /// Reads the frames behind the replies to the end of the recording, and hands over each sample that

@@ -54,6 +54,12 @@ fn command<'a>(alloc: Global) -> Result<Command<'a>, AllocError> {
         .action(ArgAction::SetTrue)
         .conflicts_with("summary")?
         .help("Print CSV with a row for each element of each sample");
+    let svg = Arg::new(alloc, "svg")
+        .long("svg")
+        .action(ArgAction::SetTrue)
+        .conflicts_with("summary")?
+        .conflicts_with("csv")?
+        .help("Print a picture with a row for each DAQ list, as SVG");
     let run = Arg::new(alloc, "run")
         .value_name("RUN")
         .required(true)
@@ -69,6 +75,7 @@ fn command<'a>(alloc: Global) -> Result<Command<'a>, AllocError> {
         .no_binary_name(true)
         .arg(summary)?
         .arg(csv)?
+        .arg(svg)?
         .arg(run)?
         .arg(frames)
 }
@@ -94,6 +101,9 @@ fn recording_of<'a>(matches: &ArgMatches<'a>) -> Result<Asked<'a>, ProgramFault>
 fn mode_of(matches: &ArgMatches<'_>) -> Mode {
     if matches.get_flag("csv") {
         return Mode::Csv;
+    }
+    if matches.get_flag("svg") {
+        return Mode::Svg;
     }
     Mode::Summary
 }
