@@ -4,7 +4,7 @@ use thiserror::Error;
 #[derive(Clone, Copy, Debug, PartialEq, Eq, Error)]
 pub enum FrameFault {
     /// The bytes that are left don't begin with a whole frame of at least one byte.
-    #[error("the recording breaks off within a frame")]
+    #[error("the frame is torn")]
     Torn,
     /// The frame is whole, and has another counter than is awaited.
     #[error("the counter of a frame jumps")]
