@@ -36,11 +36,9 @@ impl Drawing {
         let mut picture = Picture::new(alloc);
         let mut axis = Axis::Ticks;
         let mut size = StampSize::Four;
-        let mut rows = 0;
         for l in 0..store.lists() {
             if let Some(conf) = store.plan(l) {
                 picture.add_row(l as u8, conf.channel())?;
-                rows += 1;
                 size = conf.form().stamp;
                 if !conf.stamped() {
                     axis = Axis::Samples;
@@ -49,7 +47,7 @@ impl Drawing {
         }
         Ok(Drawing {
             picture,
-            places: Places::new(alloc, axis, size, rows)?,
+            places: Places::new(alloc, axis, size, store.lists() as usize)?,
             log: SampleLog::new(),
         })
     }
