@@ -12,12 +12,12 @@ BEGIN {
     setup = setup ", \"e010" word(l) (l == 2 ? "0100" : "0000") (l == 1 ? "04" : "01") "00\""
   }
   for (l = 0; l < 3; l++) setup = setup ", \"de01" word(l) "\""
-  for (k = 0; k < 7200; k++) {
+  for (k = 0; k < 8000; k++) {
     add("trigger 0 " 10 * k " " word(k) word(k))
     if (k % 5 == 4) add("trigger 1 " 10 * k + 3 " " word(k) word(k))
-    if (k == 2400) add("stop 0 1")
-    if (k == 4800) add("start 0 1")
-    late = (k > 900 && k < 1000) || (k > 3000 && k < 3300) || (k > 5600 && k < 5650) || (k > 6500 && k < 6700)
+    if (k == 2700) add("stop 0 1")
+    if (k == 5300) add("start 0 1")
+    late = (k > 900 && k < 1000) || (k > 3000 && k < 3300) || (k > 6100 && k < 6150) || (k > 7200 && k < 7400)
     if (!late || k % 40 == 0) { add("pump"); add("pump") }
   }
   print "channels = 2\nimage_len = 4\ncaps = [4, 2]\nsetup = [" setup "]\nsteps = [" steps "]"
