@@ -1,0 +1,5 @@
+pub mod FrameLemmas
+pub mod PlaceLemmas
+pub mod AcceptedLemmas
+pub mod ListLemmas
+pub mod JoinLemmas
