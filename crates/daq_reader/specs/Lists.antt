@@ -24,6 +24,10 @@ abbrev pub place_in : List ListPlan → List ℕ → ℕ
 place_in [] q = 0
 place_in (plan ∷ plans) q = if is_of plan q then 0 else suc (place_in plans q)
 
+-- no list has packets that wait for others
+abbrev pub NoneWaits : List Reading → Type 0
+NoneWaits lists = All (λ (a : Reading). under_way a ≡ []) lists
+
 -- those of the packets that are of the list at a place, in order
 abbrev pub of_place : List ListPlan → ℕ → List (List ℕ) → List (List ℕ)
 of_place plans i qs = filter (λ (q : List ℕ). place_in plans q == i) qs

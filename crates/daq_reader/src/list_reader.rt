@@ -1,5 +1,5 @@
 ghost use Rattle.std.specs.Prelude.{◌≡◌, ◌==◌, ◌↔◌, ◌<◌, ◌≤◌, if◌then◌else◌, [], ◌∷◌, ◌++◌};
-ghost use Rattle.std.specs.Prelude.{IfErr, IfOk, IfSome, IsOk, IsSome};
+ghost use Rattle.std.specs.Prelude.{IfErr, IfOk, IfSome, IsOk, IsSome, false};
 ghost use Rattle.std.specs.Prelude.{None, OnErr, OnOk, Some, length, true};
 ghost use Rattle.daq_reader.specs.Faults.{fault_of};
 ghost use Rattle.daq_reader.specs.Inner.Fitting.{IsReading};
@@ -76,6 +76,13 @@ impl ListReader {
         ensures { result ≡ is_whole self.now }
     {
         self.packets.len() == self.shape.odts()
+    }
+
+    /// Whether packets wait for others of their sample.
+    pub fn waits(&self) -> bool
+        ensures { (result ≡ false) ↔ (under_way self.now ≡ []) }
+    {
+        self.packets.len() > 0 && !self.is_whole()
     }
 
     /// Whether a packet has an identification field that names the list.

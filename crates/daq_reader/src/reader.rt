@@ -1,7 +1,8 @@
-ghost use Rattle.std.specs.Prelude.{◌≡◌, ◌≤◌, ◌++◌, ◌∷◌, ℕ, List, [], IfErr, IfOk};
-ghost use Rattle.std.specs.Prelude.{None, OnErr, OnOk, Some, length, slice_get};
+ghost use Rattle.std.specs.Prelude.{◌≡◌, ◌↔◌, ◌≤◌, ◌++◌, ◌∷◌, ℕ, List, [], IfErr, IfOk};
+ghost use Rattle.std.specs.Prelude.{None, OnErr, OnOk, Some, length, slice_get, true};
 ghost use Rattle.std.specs.Option.{option_copied};
-ghost use Rattle.daq_reader.specs.Lists.{Stands, StandsWith, Takes, place_in, plans_of, refusal};
+ghost use Rattle.daq_reader.specs.Lists.{NoneWaits, Stands, StandsWith, Takes, place_in, plans_of};
+ghost use Rattle.daq_reader.specs.Lists.{refusal};
 ghost use Rattle.daq_reader.specs.Recorded.{Recorded};
 
 use crate::list_reader::ListReader;
@@ -75,6 +76,13 @@ impl Reader {
             return Ok(None);
         }
         Ok(Some(place))
+    }
+
+    /// Whether no list has packets that wait for others of their sample.
+    pub fn is_between_samples(&self) -> bool
+        ensures { (result ≡ true) ↔ NoneWaits self.now }
+    {
+        self.lists.iter().all(|list| !list.waits())
     }
 
     /// The reader of the list at a place; `None` exactly where there is none.

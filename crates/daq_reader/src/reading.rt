@@ -33,6 +33,14 @@ pub fn read<S: Samples>(
         → IsRecordingOf (plans_of reader.old) written before unread.old
         → IsOk result × AreGivenBack reader.new written (S.handed samples.new) }
     ensures lists { plans_of reader.new ≡ plans_of reader.old }
+
+    ensures torn { result ≡ Err (ReadFault.Frame FrameFault.Torn)
+        → (unread.new.rest ≢ []) × ((n : ℕ) → ¬ HasFrame unread.new n) }
+    ensures jump { result ≡ Err (ReadFault.Frame FrameFault.Jump)
+        → (n : ℕ) × (n ≢ unread.new.counter) × HasFrame unread.new n }
+    ensures packet { (fault : PacketFault) → result ≡ Err (ReadFault.Packet fault)
+        → (q : List ℕ) × (behind : Unread) × IsNext unread.new behind q
+        × (refusal reader.new q ≡ Some fault) }
 {
     while read_frame(reader, unread, samples)? {}
     Ok(())
