@@ -1,5 +1,7 @@
 -- The faults of the program: what stands for a fault of a run file, and the status of each.
 use Rattle.std.specs.Prelude.{ℕ}
+use Rattle.daq_sim.specs.declared.arguments_fault.ArgumentsFault.{ArgumentsFault}
+use Rattle.daq_sim.specs.declared.arguments_fault.ArgumentsFault.TheVariants as words
 use Rattle.run_file.specs.declared.run_fault.RunFault.{RunFault}
 use Rattle.run_file.specs.declared.run_fault.RunFault.TheVariants as bad
 use Rattle.daq_run.specs.declared.sim_fault.SimFault.TheVariants.{Memory}
@@ -26,3 +28,8 @@ fault_of_text none.Memory = want_of_memory
 abbrev pub status_of : ProgramFault → ℕ
 status_of (Sim fault) = 1
 status_of _ = 2
+
+-- 1 for want of memory, 2 for words that aren't text
+abbrev pub status_of_arguments : ArgumentsFault → ℕ
+status_of_arguments words.Memory = 1
+status_of_arguments words.NotText = 2

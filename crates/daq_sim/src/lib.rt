@@ -2,6 +2,8 @@
 //! files, set-ups, runs and their outcomes.
 #![tactic(auto)]
 
+mod argument_list;
+mod arguments_fault;
 mod carrying;
 mod command_line;
 mod program_fault;
@@ -10,6 +12,8 @@ mod run_text;
 mod text_fault;
 mod words;
 
+pub use argument_list::arguments;
+pub use arguments_fault::ArgumentsFault;
 pub use command_line::program;
 pub use daq_run::{Gate, NoGate, Outcome, SimFault, run_serial, run_threads};
 pub use run_file::{Run, RunFault, Step};

@@ -69,6 +69,7 @@ pub fn is_read_to_end<I: Read>(
     ensures taken { OnOk result (Consumes (I.remaining input.old) (I.remaining input.new)
         (appended_bytes bytes.old.items bytes.new.items)) }
     ensures end { IfOk result (λ at_end. at_end ≡ true → IsAtEnd (I.remaining input.new)) }
+    ensures nothing { IfOk result (λ at_end. at_end ≡ true → bytes.new.items ≡ bytes.old.items) }
     ensures within { OnOk result (length bytes.new.items ≤ MAX_TEXT) }
     ensures room_stays { length chunk.new ≡ length chunk.old }
     ensures fault { IfErr result (λ f. (f ≡ Unreadable) ⊎ (f ≡ Memory)) }

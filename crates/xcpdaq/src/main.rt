@@ -1,37 +1,14 @@
 //! The program `xcpdaq`: it carries out a run file, and prints its frames and its account.
 #![tactic(auto)]
 
-use daq_sim::program;
-use std::env;
-use std::io::{self, ErrorKind};
+use daq_sim::{arguments, program};
 use std::process::ExitCode;
-use std::rt::Env;
-use thiserror::Error;
-
-/// Why there are no words.
-#[derive(Clone, Copy, Debug, PartialEq, Eq, Error)]
-enum WordsFault {
-    #[error("xcpdaq: bad command line")]
-    NotText,
-    #[error("xcpdaq: want of memory")]
-    Memory,
-}
-
-impl WordsFault {
-    /// The status that the process ends with.
-    fn status(self) -> u8 {
-        match self {
-            WordsFault::NotText => 2,
-            WordsFault::Memory => 1,
-        }
-    }
-}
 
 fn main(rt: HostRuntime) -> ExitCode {
-    let words = match words_of(&rt) {
+    let words = match arguments(&rt) {
         Ok(words) => words,
         Err(fault) => {
-            let _ = eprintln!(rt; "{fault}");
+            let _ = eprintln!(rt; "xcpdaq: {fault}");
             return ExitCode::from(fault.status());
         }
     };
@@ -44,21 +21,4 @@ fn main(rt: HostRuntime) -> ExitCode {
         rt.stderr(),
     );
     ExitCode::from(status)
-}
-
-/// The words behind the program's name.
-fn words_of<R: AllocGlobal + Env>(rt: &R) -> Result<Vec<String>, WordsFault> {
-    let words = env::args(rt).map_err(|error| words_fault(&error))?;
-    words
-        .skip(1)
-        .collect(rt.alloc())
-        .map_err(|_| WordsFault::Memory)
-}
-
-/// Why there is no command line: a word isn't UTF-8, or memory was refused.
-fn words_fault(error: &io::Error) -> WordsFault {
-    match error.kind() {
-        ErrorKind::OutOfMemory => WordsFault::Memory,
-        _ => WordsFault::NotText,
-    }
 }

@@ -1,0 +1,24 @@
+//! The words behind a program's name.
+use crate::arguments_fault::ArgumentsFault;
+use std::env;
+use std::io::{self, ErrorKind};
+use std::rt::Env;
+
+/// The words behind the program's name.
+///
+/// Refused where a word isn't UTF-8; want of memory is `Memory`.
+pub fn arguments<R: AllocGlobal + Env>(rt: &R) -> Result<Vec<String>, ArgumentsFault> {
+    let words = env::args(rt).map_err(|error| fault_of(&error))?;
+    words
+        .skip(1)
+        .collect(rt.alloc())
+        .map_err(|_| ArgumentsFault::Memory)
+}
+
+/// Why there are no words: one isn't UTF-8, or memory was refused.
+fn fault_of(error: &io::Error) -> ArgumentsFault {
+    match error.kind() {
+        ErrorKind::OutOfMemory => ArgumentsFault::Memory,
+        _ => ArgumentsFault::NotText,
+    }
+}

@@ -1,0 +1,27 @@
+ghost use Rattle.std.specs.Prelude.{◌≡◌};
+ghost use Rattle.daq_sim.specs.Faults.{status_of_arguments};
+
+use thiserror::Error;
+
+/// Why there are no words behind a program's name.
+#[derive(Clone, Copy, Debug, PartialEq, Eq, Error)]
+pub enum ArgumentsFault {
+    /// A word isn't UTF-8.
+    #[error("bad command line")]
+    NotText,
+    /// Memory was wanting.
+    #[error("want of memory")]
+    Memory,
+}
+
+impl ArgumentsFault {
+    /// The status that the program ends with.
+    pub fn status(self) -> u8
+        ensures { result ≡ status_of_arguments self }
+    {
+        match self {
+            ArgumentsFault::NotText => 2,
+            ArgumentsFault::Memory => 1,
+        }
+    }
+}
