@@ -1,3 +1,5 @@
+pub mod FrontLemmas
+pub mod PassLemmas
 pub mod PieceLemmas
 pub mod ReadyLemmas
 pub mod TallyLemmas

@@ -1,13 +1,26 @@
 -- The faults of the program, and the status of each (own).
 use Rattle.std.specs.Prelude.{ℕ}
 use Rattle.daq_sim.specs.declared.text_fault.TextFault.TheVariants.{Memory}
+use Rattle.daq_reader.specs.declared.frame_fault.FrameFault.TheVariants.{Torn}
+use Rattle.daq_reader.specs.declared.read_fault.ReadFault.TheVariants.{Frame}
+use Rattle.recording.specs.declared.place.Place.{Place}
 use Rattle.recording.specs.declared.program_fault.ProgramFault.{ProgramFault}
 use Rattle.recording.specs.declared.program_fault.ProgramFault.TheVariants.{BreaksOff, InReplies}
 use Rattle.recording.specs.declared.program_fault.ProgramFault.TheVariants.{OtherRun, Text}
+use Rattle.recording.specs.declared.reason.Reason.{Reason}
+use Rattle.recording.specs.declared.reason.Reason.TheVariants.{Read}
 
 -- want of memory, wherever it was met
 abbrev pub want_of_memory : ProgramFault
 want_of_memory = Text Memory
+
+-- the recording breaks off at a place
+abbrev pub breaks_off : Place → Reason → ProgramFault
+breaks_off place why = BreaksOff (record { place = place; why = why })
+
+-- the bytes that are left are the front of a frame at most
+abbrev pub torn : Reason
+torn = Read (Frame Torn)
 
 -- 1 for a recording that was read in part or is of another run, and for want of memory; 2 for what
 -- is wrong with words or files

@@ -1,5 +1,6 @@
 pub mod Axes
 pub mod Faults
+pub mod Messages
 pub mod Pieces
 pub mod Ready
 pub mod Rows

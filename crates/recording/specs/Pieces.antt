@@ -1,9 +1,12 @@
 -- A recording that is read piece by piece (own).
-use Rattle.std.specs.Prelude.{ℕ, ◌+◌, ◌%◌, ◌^◌, List}
+use Rattle.std.specs.Prelude.{◌≡◌, ℕ, ◌+◌, ◌%◌, ◌^◌, List, ◌++◌, length, Option}
+use Rattle.std.specs.Io.KnownBytes.{Consumes}
 use Rattle.daq_reader.specs.Frames.{Unread}
 use Rattle.daq_reader.specs.Lists.{Stands}
 use Rattle.daq_reader.specs.Reading.{Reading}
+use Rattle.daq_reader.specs.Reads.{HasRead}
 use Rattle.daq_reader.specs.Recorded.{Recorded}
+use Rattle.recording.specs.declared.piece.Piece.{Piece}
 use Rattle.recording.specs.declared.place.Place.{Place}
 
 -- the counter of the frame at a place
@@ -17,9 +20,37 @@ place_behind place bytes frames = record {
   frame = (place.frame + frames) % 2 ^ 64;
 }
 
--- the bytes that are still to be read at a place
+-- bytes that are still to be read at a place
 abbrev pub unread_at : Place → List ℕ → Unread
 unread_at place bytes = record { rest = bytes; counter = counter_at place }
+
+-- those of a piece
+abbrev pub unread_of : Piece → Unread
+unread_of piece = unread_at piece.place piece.bytes.items
+
+-- where the packets `qs` were read, a recording was read on from one piece to another: so many bytes
+-- were taken off the input, and behind those of the piece before they begin with the frames of some
+-- more packets, after which the lists and the samples stand; the other piece has the bytes behind
+-- these frames, and its place counts them
+pub record HasPassed (lists : List Reading) (qs : List (List ℕ)) (samples : List (ℕ × Recorded))
+    (input rest : Option (List ℕ)) (before now : Piece)
+    : Type 0 where
+  pub taken : List ℕ
+  pub of_input : Consumes input rest taken
+  pub read :
+      HasRead lists qs samples (unread_at before.place (before.bytes.items ++ taken))
+      (unread_of now)
+  pub byte :
+      (before.place.byte + length (before.bytes.items ++ taken)) % 2 ^ 64
+      ≡ (now.place.byte + length now.bytes.items) % 2 ^ 64
+
+-- the same of all that a reader may have read before
+abbrev pub Passes :
+    List Reading → List (ℕ × Recorded) → List Reading → List (ℕ × Recorded)
+    → Option (List ℕ) → Option (List ℕ) → Piece → Piece → Type 0
+Passes old given now samples input rest before piece =
+    (qs : List (List ℕ)) → Stands old qs given
+    → HasPassed now qs samples input rest before piece
 
 -- some packets were read, and the lists and the samples stand after them
 pub record StandSomewhere (lists : List Reading) (samples : List (ℕ × Recorded)) : Type 0 where

@@ -1,5 +1,5 @@
 use crate::place::Place;
-use daq_reader::ReadFault;
+use crate::reason::Reason;
 use thiserror::Error;
 
 /// Where and why a recording breaks off. What stands before the place was read.
@@ -9,5 +9,5 @@ pub struct BreakOff {
     /// The place of the first frame that isn't read.
     pub place: Place,
     /// What is wrong with it.
-    pub why: ReadFault,
+    pub why: Reason,
 }

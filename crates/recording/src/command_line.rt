@@ -1,10 +1,13 @@
 //! The program: from its words to its status.
-ghost use Rattle.std.specs.Prelude.{◌≤◌, IfOk};
+ghost use Rattle.std.specs.Prelude.{◌≡◌, ◌≢◌, ◌≤◌, Err, IfErr, IfOk, IsOk, Ok};
+ghost use Rattle.std.specs.IoError.{error_kind};
+ghost use Rattle.recording.specs.Faults.{want_of_memory};
 
 use crate::drawing::Drawing;
 use crate::lists::reader_of;
+use crate::messages::Messages;
 use crate::mode::Mode;
-use crate::place::Place;
+use crate::piece::Piece;
 use crate::program_fault::ProgramFault;
 use crate::recording::{pass_replies, read_frames};
 use crate::sample_rows::SampleRows;
@@ -33,32 +36,33 @@ pub fn program<R: Files, W: Write + Drop, E: Write + Drop>(
 ) -> u8
     ensures { result ≤ 2 }
 {
-    let mut err = err;
+    let mut messages = Messages::new(err);
     let answer = match BufWriter::new(alloc, out) {
-        Ok(mut out) => answer(rt, alloc, words, &mut out),
+        Ok(mut out) => answer(rt, alloc, words, &mut out, &mut messages),
         Err(_) => Err(ProgramFault::MEMORY),
     };
     match answer {
         Ok(status) => status,
         Err(fault) => {
-            let _ = writeln!(err, "{fault}");
+            messages.tell_fault(fault);
             fault.status()
         }
     }
 }
 
 /// What the words ask for: the status once that is printed, or the fault that is still to be.
-fn answer<R: Files, W: Write>(
+fn answer<R: Files, W: Write, E: Write + Drop>(
     rt: &R,
     alloc: Global,
     words: &[String],
     out: &mut W,
+    messages: &mut Messages<E>,
 ) -> Result<u8, ProgramFault>
     ensures { IfOk result (λ status. status ≤ 1) }
 {
     match read_words(alloc, words)? {
         Asked::Help(text) => Ok(print_help(out, text)),
-        Asked::Recording(words) => show(rt, alloc, words, out),
+        Asked::Recording(words) => show(rt, alloc, words, out, messages),
     }
 }
 
@@ -70,11 +74,12 @@ fn print_help<W: Write>(out: &mut W, help: Error) -> u8
 }
 
 /// Reads the recording that words name, and prints its samples.
-fn show<R: Files, W: Write>(
+fn show<R: Files, W: Write, E: Write + Drop>(
     rt: &R,
     alloc: Global,
     words: Words<'_>,
     out: &mut W,
+    messages: &mut Messages<E>,
 ) -> Result<u8, ProgramFault>
     ensures { IfOk result (λ status. status ≤ 1) }
 {
@@ -84,106 +89,72 @@ fn show<R: Files, W: Write>(
     };
     let replies = writer.into_out();
     let frames = run.setup().len();
+    if words.progress {
+        messages.want_progress();
+    }
     match fs::open(rt, words.frames) {
-        Ok(mut file) => show_from(
-            alloc,
-            &store,
-            replies.bytes(),
-            frames,
-            &mut file,
-            words.mode,
-            out,
-        ),
+        Ok(mut file) => {
+            let mut piece = pass_replies(alloc, &mut file, replies.bytes(), frames)?;
+            show_samples(
+                alloc, &store, words.mode, &mut file, &mut piece, out, messages,
+            )
+        }
         Err(error) => Err(unreadable(&error)),
     }
 }
 
-/// Reads a recording that begins with so many frames of replies, and prints its samples.
-fn show_from<I: Read, W: Write>(
+/// Reads a recording behind its replies, and prints its samples.
+fn show_samples<I: Read, W: Write, E: Write + Drop>(
     alloc: Global,
     store: &Store,
-    replies: &[u8],
-    frames: usize,
-    input: &mut I,
     mode: Mode,
+    input: &mut I,
+    piece: &mut Piece,
     out: &mut W,
+    messages: &mut Messages<E>,
 ) -> Result<u8, ProgramFault>
     ensures { IfOk result (λ status. status ≤ 1) }
 {
-    let mut held = Vec::new(alloc);
-    pass_replies(input, &mut held, replies)?;
-    let place = Place {
-        byte: replies.len() as u64,
-        frame: frames as u64,
-    };
+    let mut reader = reader_of(alloc, store)?;
     match mode {
-        Mode::Summary => summarize(alloc, store, input, &mut held, place, out),
-        Mode::Csv => list_rows(alloc, store, input, &mut held, place, out),
-        Mode::Svg => draw(alloc, store, input, &mut held, place, out),
+        Mode::Summary => {
+            let mut summary = Summary::new(alloc, store.lists() as usize)?;
+            let outcome = read_frames(input, piece, &mut reader, &mut summary, messages);
+            concluded(outcome, print_summary(out, store, &summary))
+        }
+        Mode::Csv => {
+            let mut rows = SampleRows::new(store, &mut *out);
+            let outcome = read_frames(input, piece, &mut reader, &mut rows, messages);
+            let printing = rows.finish();
+            concluded(outcome, printing.and_then(|()| out.flush()))
+        }
+        Mode::Svg => {
+            let mut drawing = Drawing::new(alloc, store)?;
+            let outcome = read_frames(input, piece, &mut reader, &mut drawing, messages);
+            concluded(outcome, drawing.print(out).and_then(|()| out.flush()))
+        }
     }
 }
 
-/// Reads a recording behind its replies, and prints a table of its samples.
-fn summarize<I: Read, W: Write>(
-    alloc: Global,
-    store: &Store,
-    input: &mut I,
-    held: &mut Vec<u8>,
-    place: Place,
-    out: &mut W,
+/// What comes of a recording that was read, or breaks off, and of what was printed of it: where it
+/// breaks off, that is the fault; else want of memory is one, and the status tells of any other.
+fn concluded(
+    outcome: Result<(), ProgramFault>,
+    printing: io::Result<()>,
 ) -> Result<u8, ProgramFault>
-    ensures { IfOk result (λ status. status ≤ 1) }
+    ensures status { IfOk result (λ status. status ≤ 1) }
+    ensures fault { IfErr outcome (λ fault. result ≡ Err fault) }
+    ensures printed { IsOk outcome → IsOk printing → result ≡ Ok 0 }
+    ensures memory { IsOk outcome → IfErr printing (λ error.
+        error_kind error ≡ ErrorKind.OutOfMemory → result ≡ Err want_of_memory) }
+    ensures other { IsOk outcome → IfErr printing (λ error.
+        error_kind error ≢ ErrorKind.OutOfMemory → result ≡ Ok 1) }
 {
-    let mut reader = reader_of(alloc, store)?;
-    let mut summary = Summary::new(alloc, store.lists() as usize)?;
-    let outcome = read_frames(input, held, place, &mut reader, &mut summary);
-    let printing = print_summary(out, store, &summary);
-    match outcome {
-        Ok(()) => Ok(status_of(printing)),
-        Err(fault) => Err(fault),
-    }
-}
-
-/// Reads a recording behind its replies, and prints its samples as CSV.
-fn list_rows<I: Read, W: Write>(
-    alloc: Global,
-    store: &Store,
-    input: &mut I,
-    held: &mut Vec<u8>,
-    place: Place,
-    out: &mut W,
-) -> Result<u8, ProgramFault>
-    ensures { IfOk result (λ status. status ≤ 1) }
-{
-    let mut reader = reader_of(alloc, store)?;
-    let mut rows = SampleRows::new(store, &mut *out);
-    let outcome = read_frames(input, held, place, &mut reader, &mut rows);
-    let all = rows.finish();
-    let printing = out.flush();
-    match outcome {
-        Ok(()) => Ok(if all { status_of(printing) } else { 1 }),
-        Err(fault) => Err(fault),
-    }
-}
-
-/// Reads a recording behind its replies, and prints a picture of its samples.
-fn draw<I: Read, W: Write>(
-    alloc: Global,
-    store: &Store,
-    input: &mut I,
-    held: &mut Vec<u8>,
-    place: Place,
-    out: &mut W,
-) -> Result<u8, ProgramFault>
-    ensures { IfOk result (λ status. status ≤ 1) }
-{
-    let mut reader = reader_of(alloc, store)?;
-    let mut drawing = Drawing::new(alloc, store)?;
-    let outcome = read_frames(input, held, place, &mut reader, &mut drawing);
-    let printing = drawing.print(out).and_then(|()| out.flush());
-    match outcome {
-        Ok(()) => Ok(status_of(printing)),
-        Err(fault) => Err(fault),
+    outcome?;
+    match printing {
+        Ok(()) => Ok(0),
+        Err(error) if error.kind() == ErrorKind::OutOfMemory => Err(ProgramFault::MEMORY),
+        Err(_) => Ok(1),
     }
 }
 

@@ -7,6 +7,7 @@ ghost use Rattle.daq_sim.specs.declared.run_text.TheConstants.{MAX_TEXT};
 ghost use Rattle.recording.specs.declared.program_fault.ProgramFault.TheVariants.{Unreadable};
 ghost use Rattle.recording.specs.Faults.{want_of_memory};
 
+use crate::place::Place;
 use crate::program_fault::ProgramFault;
 use daq_sim::{TextFault, is_read_to_end};
 use std::io::Read;
@@ -19,6 +20,15 @@ pub const MAX_READS: u64 = 1_099_511_627_776;
 
 /// The longest frame, in bytes.
 pub const MAX_FRAME: usize = 65_539;
+
+/// Bytes of a recording that were read, and not yet taken.
+#[derive(Drop)]
+pub struct Piece {
+    /// The bytes.
+    pub bytes: Vec<u8>,
+    /// The place of the first.
+    pub place: Place,
+}
 
 /// Makes one read, puts what it gave behind the bytes that are there, and tells whether it met the
 /// end.
@@ -33,6 +43,7 @@ pub fn read_more<I: Read>(
     ensures taken { OnOk result (Consumes (I.remaining input.old) (I.remaining input.new)
         (appended_bytes held.old.items held.new.items)) }
     ensures end { IfOk result (λ at_end. at_end ≡ true → IsAtEnd (I.remaining input.new)) }
+    ensures nothing { IfOk result (λ at_end. at_end ≡ true → held.new.items ≡ held.old.items) }
     ensures within { OnOk result (length held.new.items ≤ MAX_TEXT) }
     ensures room_stays { length chunk.new ≡ length chunk.old }
     ensures fault { IfErr result (λ f. (f ≡ Unreadable) ⊎ (f ≡ want_of_memory)) }

@@ -1,102 +1,203 @@
 //! Reads a recording, piece by piece.
-ghost use Rattle.std.specs.Prelude.{◌≡◌, ◌<◌, ℕ, List, [], OnOk, false, length};
-ghost use Rattle.daq_reader.specs.Lists.{Stands};
+ghost use Rattle.std.specs.Prelude.{◌≡◌, ◌≢◌, ◌↔◌, ◌⊎◌, ◌+◌, ◌%◌, ◌^◌, ◌<◌, ◌++◌, ℕ, List, []};
+ghost use Rattle.std.specs.Prelude.{Err, IfErr, IfOk, IfSome, IsOk, OnOk, false, length, true};
+ghost use Rattle.std.specs.Io.{StartsWith};
+ghost use Rattle.std.specs.Io.KnownBytes.{Consumes, IsAtEnd};
+ghost use Rattle.daq_reader.specs.Lists.{NoneWaits, Stands};
 ghost use Rattle.daq_reader.specs.Reads.{HasRead};
-ghost use Rattle.recording.specs.Pieces.{StandSomewhere, unread_at};
+ghost use Rattle.recording.specs.Faults.{breaks_off, torn, want_of_memory};
+ghost use Rattle.recording.specs.Pieces.{Passes, StandSomewhere, unread_of};
 ghost use Rattle.recording.specs.declared.piece.TheConstants.{MAX_FRAME};
+ghost use Rattle.recording.specs.declared.program_fault.ProgramFault.TheVariants.{BreaksOff, InReplies};
+ghost use Rattle.recording.specs.declared.program_fault.ProgramFault.TheVariants.{OtherRun};
+ghost use Rattle.recording.specs.declared.program_fault.ProgramFault.TheVariants.{Unreadable};
+ghost use Rattle.recording.specs.declared.reason.Reason.TheVariants.{WithinSample};
 
 use crate::break_off::BreakOff;
-use crate::piece::{CHUNK, MAX_FRAME, MAX_READS, drop_front, read_more};
+use crate::messages::Messages;
+use crate::piece::{CHUNK, MAX_FRAME, MAX_READS, Piece, drop_front, read_more};
 use crate::place::Place;
 use crate::program_fault::ProgramFault;
+use crate::reason::Reason;
 use daq_reader::{FrameFault, ReadFault, Reader, Samples, Unread, read};
-use std::io::Read;
+use std::alloc::Global;
+use std::io::{Read, Write};
 
-/// Reads the replies with which a recording begins, and keeps what was read behind them.
+/// Reads the replies with which a recording begins, in so many frames, and gives what was read
+/// behind them.
 pub fn pass_replies<I: Read>(
+    alloc: Global,
     input: &mut I,
-    held: &mut Vec<u8>,
     replies: &[u8],
-) -> Result<(), ProgramFault>
-    requires fresh { held.old.items ≡ [] }
+    frames: usize,
+) -> Result<Piece, ProgramFault>
+    ensures begins { IfOk result (λ piece. Consumes (I.remaining input.old)
+        (I.remaining input.new) (replies.now ++ piece.bytes.items)) }
+    ensures place { IfOk result (λ piece.
+        piece.place ≡ record { byte = length replies.now; frame = frames }) }
+    ensures other { result ≡ Err OtherRun → IfSome (I.remaining input.old)
+        (λ bytes. ¬ StartsWith bytes replies.now) }
+    ensures within { result ≡ Err InReplies → IfSome (I.remaining input.old)
+        (λ bytes. StartsWith replies.now bytes × (length bytes < length replies.now)) }
 {
-    let mut chunk = [0; CHUNK];
-    for _ in 0..MAX_READS {
-        if held.len() >= replies.len() {
-            break;
-        }
-        if read_more(input, &mut chunk, held)? {
-            break;
-        }
+    let mut bytes = front_of(alloc, input, replies.len())?;
+    if !begins_with(&bytes, replies) {
+        return Err(fault_of_front(&bytes, replies));
     }
-    if !held.starts_with(replies) {
-        return Err(fault_of_replies(held, replies));
-    }
-    drop_front(held, replies.len());
-    Ok(())
+    drop_front(&mut bytes, replies.len());
+    let place = Place {
+        byte: replies.len() as u64,
+        frame: frames as u64,
+    };
+    Ok(Piece { bytes, place })
 }
 
-/// Why bytes that don't begin with the replies are no recording of the run.
-fn fault_of_replies(held: &[u8], replies: &[u8]) -> ProgramFault {
-    if replies.starts_with(held) {
-        return ProgramFault::InReplies;
-    }
-    ProgramFault::OtherRun
-}
-
-/// Reads the frames behind the replies to the end of the recording, and hands over each sample that
-/// is whole.
-pub fn read_frames<I: Read, S: Samples>(
-    input: &mut I,
-    held: &mut Vec<u8>,
-    place: Place,
-    reader: &mut Reader,
-    samples: &mut S,
-) -> Result<(), ProgramFault>
-    requires stands { StandSomewhere reader.old (S.handed samples.old) }
+/// Reads until so many bytes are there, or to the end.
+fn front_of<I: Read>(alloc: Global, input: &mut I, len: usize) -> Result<Vec<u8>, ProgramFault>
+    ensures taken { IfOk result (λ bytes.
+        Consumes (I.remaining input.old) (I.remaining input.new) bytes.items) }
+    ensures all { IfOk result (λ bytes.
+        length bytes.items < len → IsAtEnd (I.remaining input.new)) }
+    ensures fault { IfErr result (λ f. (f ≡ Unreadable) ⊎ (f ≡ want_of_memory)) }
 {
-    let mut place = place;
+    let mut bytes = Vec::new(alloc);
     let mut chunk = [0; CHUNK];
     for _ in 0..MAX_READS {
-        if let Err(why) = take_whole(held, &mut place, reader, samples) {
-            return Err(ProgramFault::BreaksOff(BreakOff { place, why }));
+        if bytes.len() >= len {
+            return Ok(bytes);
         }
-        if read_more(input, &mut chunk, held)? {
-            return ended(held, place);
+        if read_more(input, &mut chunk, &mut bytes)? {
+            return Ok(bytes);
         }
     }
     Err(ProgramFault::Unreadable)
 }
 
-/// What comes of a recording that is at its end, where some bytes are left.
-fn ended(held: &[u8], place: Place) -> Result<(), ProgramFault> {
-    if held.is_empty() {
-        return Ok(());
+/// Why bytes that don't begin with the replies are no recording of the run.
+fn fault_of_front(bytes: &[u8], replies: &[u8]) -> ProgramFault
+    ensures within { (result ≡ InReplies) ↔ StartsWith replies.now bytes.now }
+    ensures other { (result ≡ OtherRun) ↔ ¬ StartsWith replies.now bytes.now }
+{
+    if begins_with(replies, bytes) {
+        return ProgramFault::InReplies;
     }
-    Err(ProgramFault::BreaksOff(BreakOff {
-        place,
-        why: ReadFault::Frame(FrameFault::Torn),
-    }))
+    ProgramFault::OtherRun
+}
+
+/// Whether bytes begin with others.
+fn begins_with(bytes: &[u8], front: &[u8]) -> bool
+    ensures { (result ≡ true) ↔ StartsWith bytes.now front.now }
+{
+    bytes.starts_with(front)
+}
+
+/// Reads the frames behind the replies to the end of the recording, hands over each sample that is
+/// whole, and tells how far it has come.
+pub fn read_frames<I: Read, S: Samples, E: Write + Drop>(
+    input: &mut I,
+    piece: &mut Piece,
+    reader: &mut Reader,
+    samples: &mut S,
+    messages: &mut Messages<E>,
+) -> Result<(), ProgramFault>
+    requires stands { StandSomewhere reader.old (S.handed samples.old) }
+    ensures read { OnOk result (Passes reader.old (S.handed samples.old) reader.new
+        (S.handed samples.new) (I.remaining input.old) (I.remaining input.new) piece.old piece.new) }
+    ensures end { OnOk result (IsAtEnd (I.remaining input.new)) }
+    ensures all { OnOk result (piece.new.bytes.items ≡ []) }
+    ensures whole { OnOk result (NoneWaits reader.new) }
+
+    ensures broken { (at : BreakOff) → result ≡ Err (BreaksOff at) → Passes reader.old
+        (S.handed samples.old) reader.new (S.handed samples.new) (I.remaining input.old)
+        (I.remaining input.new) piece.old piece.new }
+    ensures place { (at : BreakOff) → result ≡ Err (BreaksOff at) → at.place ≡ piece.new.place }
+{
+    let outcome = read_pieces(input, piece, reader, samples, messages);
+    messages.end_progress();
+    outcome
+}
+
+/// Reads piece by piece, to the end.
+fn read_pieces<I: Read, S: Samples, E: Write + Drop>(
+    input: &mut I,
+    piece: &mut Piece,
+    reader: &mut Reader,
+    samples: &mut S,
+    messages: &mut Messages<E>,
+) -> Result<(), ProgramFault>
+    requires stands { StandSomewhere reader.old (S.handed samples.old) }
+    ensures read { OnOk result (Passes reader.old (S.handed samples.old) reader.new
+        (S.handed samples.new) (I.remaining input.old) (I.remaining input.new) piece.old piece.new) }
+    ensures end { OnOk result (IsAtEnd (I.remaining input.new)) }
+    ensures all { OnOk result (piece.new.bytes.items ≡ []) }
+    ensures whole { OnOk result (NoneWaits reader.new) }
+
+    ensures broken { (at : BreakOff) → result ≡ Err (BreaksOff at) → Passes reader.old
+        (S.handed samples.old) reader.new (S.handed samples.new) (I.remaining input.old)
+        (I.remaining input.new) piece.old piece.new }
+    ensures place { (at : BreakOff) → result ≡ Err (BreaksOff at) → at.place ≡ piece.new.place }
+{
+    let mut chunk = [0; CHUNK];
+    for _ in 0..MAX_READS {
+        if let Err(why) = take_whole(piece, reader, samples) {
+            return Err(broken(piece, Reason::Read(why)));
+        }
+        messages.read_to(piece.place.byte);
+        if read_more(input, &mut chunk, &mut piece.bytes)? {
+            return ended(piece, reader);
+        }
+    }
+    Err(ProgramFault::Unreadable)
+}
+
+/// What comes of a recording that is at its end: it is read where no byte is left, and no list
+/// wants packets of a sample.
+fn ended(piece: &Piece, reader: &Reader) -> Result<(), ProgramFault>
+    ensures ok { IsOk result
+        ↔ (piece.now.bytes.items ≡ []) × NoneWaits reader.now }
+    ensures torn { piece.now.bytes.items ≢ []
+        → result ≡ Err (breaks_off piece.now.place torn) }
+    ensures within { piece.now.bytes.items ≡ [] → ¬ NoneWaits reader.now
+        → result ≡ Err (breaks_off piece.now.place WithinSample) }
+    ensures place { (at : BreakOff) → result ≡ Err (BreaksOff at) → at.place ≡ piece.now.place }
+{
+    if !piece.bytes.is_empty() {
+        return Err(broken(piece, Reason::Read(ReadFault::Frame(FrameFault::Torn))));
+    }
+    if !reader.is_between_samples() {
+        return Err(broken(piece, Reason::WithinSample));
+    }
+    Ok(())
+}
+
+/// The recording breaks off where a piece begins.
+fn broken(piece: &Piece, why: Reason) -> ProgramFault
+    ensures { result ≡ breaks_off piece.now.place why }
+{
+    ProgramFault::BreaksOff(BreakOff {
+        place: piece.place,
+        why,
+    })
 }
 
 /// Reads the frames that are whole, and keeps the bytes behind them where they may be the front of
 /// another.
 fn take_whole<S: Samples>(
-    held: &mut Vec<u8>,
-    place: &mut Place,
+    piece: &mut Piece,
     reader: &mut Reader,
     samples: &mut S,
 ) -> Result<(), ReadFault>
     requires stands { StandSomewhere reader.old (S.handed samples.old) }
     ensures read { (qs : List (List ℕ)) → Stands reader.old qs (S.handed samples.old)
-        → HasRead reader.new qs (S.handed samples.new)
-        (unread_at place.old held.old.items) (unread_at place.new held.new.items) }
-    ensures short { OnOk result (length held.new.items < MAX_FRAME) }
+        → HasRead reader.new qs (S.handed samples.new) (unread_of piece.old) (unread_of piece.new) }
+    ensures byte { (piece.old.place.byte + length piece.old.bytes.items) % 2 ^ 64
+        ≡ (piece.new.place.byte + length piece.new.bytes.items) % 2 ^ 64 }
+    ensures short { OnOk result (length piece.new.bytes.items < MAX_FRAME) }
 {
-    let Err(why) = take_frames(held, place, reader, samples) else {
+    let Err(why) = take_frames(piece, reader, samples) else {
         return Ok(());
     };
-    if is_final(why, held.len()) {
+    if is_final(why, piece.bytes.len()) {
         return Err(why);
     }
     Ok(())
@@ -114,24 +215,24 @@ fn is_final(why: ReadFault, left: usize) -> bool
 
 /// Reads the frames that are whole, and keeps the bytes behind them.
 fn take_frames<S: Samples>(
-    held: &mut Vec<u8>,
-    place: &mut Place,
+    piece: &mut Piece,
     reader: &mut Reader,
     samples: &mut S,
 ) -> Result<(), ReadFault>
     requires stands { StandSomewhere reader.old (S.handed samples.old) }
     ensures read { (qs : List (List ℕ)) → Stands reader.old qs (S.handed samples.old)
-        → HasRead reader.new qs (S.handed samples.new)
-        (unread_at place.old held.old.items) (unread_at place.new held.new.items) }
-    ensures end { OnOk result (held.new.items ≡ []) }
+        → HasRead reader.new qs (S.handed samples.new) (unread_of piece.old) (unread_of piece.new) }
+    ensures byte { (piece.old.place.byte + length piece.old.bytes.items) % 2 ^ 64
+        ≡ (piece.new.place.byte + length piece.new.bytes.items) % 2 ^ 64 }
+    ensures end { OnOk result (piece.new.bytes.items ≡ []) }
 {
-    let counter = place.counter();
-    let mut unread = Unread::new(held, counter);
+    let counter = piece.place.counter();
+    let mut unread = Unread::new(&piece.bytes, counter);
     let outcome = read(reader, &mut unread, samples);
     let left = unread.rest().len();
     let frames = unread.counter().wrapping_sub(counter);
-    let taken = held.len() - left;
-    drop_front(held, taken);
-    *place = place.behind(taken, frames);
+    let taken = piece.bytes.len() - left;
+    drop_front(&mut piece.bytes, taken);
+    piece.place = piece.place.behind(taken, frames);
     outcome
 }

@@ -4,7 +4,7 @@ use crate::row::{Row, write_names, write_row};
 use csv::{Error, Terminator, Writer, WriterBuilder};
 use daq_reader::{SampleLog, SampleView, Samples};
 use daq_store::{ListConf, Store};
-use std::io::Write;
+use std::io::{self, ErrorKind, Write};
 use std::marker::Model;
 
 /// Writes each sample that it is handed as rows of CSV, one row an element.
@@ -44,11 +44,14 @@ impl<'a, W: Write + Drop> SampleRows<'a, W> {
         }
     }
 
-    /// Writes out what is left, and tells whether all rows were written.
-    pub fn finish(self) -> bool {
+    /// Writes out what is left; refused where that, or a row, can't be written.
+    pub fn finish(self) -> io::Result<()> {
         let SampleRows { rows, failed, .. } = self;
         let mut rows = rows;
-        rows.flush().is_ok() && !failed
+        if rows.flush().is_err() || failed {
+            return Err(io::Error::from(ErrorKind::Other));
+        }
+        Ok(())
     }
 }
 

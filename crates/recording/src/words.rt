@@ -27,6 +27,8 @@ pub struct Words<'a> {
     pub run: &'a str,
     /// The file of the recording.
     pub frames: &'a str,
+    /// Whether standard error is told how far it is read.
+    pub progress: bool,
 }
 
 /// Reads the words behind the program's name.
@@ -60,6 +62,10 @@ fn command<'a>(alloc: Global) -> Result<Command<'a>, AllocError> {
         .conflicts_with("summary")?
         .conflicts_with("csv")?
         .help("Print a picture with a row for each DAQ list, as SVG");
+    let progress = Arg::new(alloc, "progress")
+        .long("progress")
+        .action(ArgAction::SetTrue)
+        .help("Say on standard error how far a long recording is read");
     let run = Arg::new(alloc, "run")
         .value_name("RUN")
         .required(true)
@@ -76,6 +82,7 @@ fn command<'a>(alloc: Global) -> Result<Command<'a>, AllocError> {
         .arg(summary)?
         .arg(csv)?
         .arg(svg)?
+        .arg(progress)?
         .arg(run)?
         .arg(frames)
 }
@@ -94,6 +101,7 @@ fn recording_of<'a>(matches: &ArgMatches<'a>) -> Result<Asked<'a>, ProgramFault>
         mode: mode_of(matches),
         run,
         frames,
+        progress: matches.get_flag("progress"),
     }))
 }
 

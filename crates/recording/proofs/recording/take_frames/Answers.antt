@@ -16,8 +16,8 @@ overflow_sub-taken g c =
 pub returns-clause-read : goal.returns-clause-read
 returns-clause-read g c = λ qs stands.
     let read = c.read-outcome.ensures.read qs stands in
-    let place = c.args.place.now in
-    let held = c.args.held.now.items in
+    let place = c.args.piece.now.place in
+    let held = c.args.piece.now.bytes.items in
     let first : c.new-unread.result ≡ unread_at place held = search rules in
     let fewer : length c.read-outcome.new.unread.rest ≤ length c.new-unread.result.rest = no_longer _ _ _ _ _ read in
     let all : length c.new-unread.result.rest ≡ length held = search rules in
@@ -26,5 +26,5 @@ returns-clause-read g c = λ qs stands.
     let counter : c.counter.result ≡ c.read-outcome.new.unread.counter = c.counter.ensures in
     let small : c.counter.result < 65536 = c.counter.type_inv in
     let start : c.counter-counter.result ≡ counter_at place = c.counter-counter.ensures in
-    read_at _ qs _ place c.behind.result held c.drop_front.new.held.items c.new-unread.result c.read-outcome.new.unread _ _ read first c.drop_front.ensures
-    (omega (arith, fewer, all, len, left)) (omega (arith, counter, small)) c.behind.ensures (omega (arith, counter, small, start))
+    read_at _ qs _ place c.behind-piece.result held c.drop_front.new.held.items c.new-unread.result c.read-outcome.new.unread _ _ read first c.drop_front.ensures
+    (omega (arith, fewer, all, len, left)) (omega (arith, counter, small)) c.behind-piece.ensures (omega (arith, counter, small, start))

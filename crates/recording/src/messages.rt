@@ -1,0 +1,62 @@
+ghost use Rattle.std.specs.Prelude.{◌≡◌};
+ghost use Rattle.recording.specs.Messages.{is_next_step};
+
+use crate::program_fault::ProgramFault;
+use std::io::Write;
+
+/// So many bytes of a recording are read between two notes of its progress.
+const STEP: u64 = 10_000_000;
+
+/// What standard error is told: how far a recording is read, where that is wanted, and a fault.
+#[derive(Drop)]
+pub struct Messages<E: Write + Drop> {
+    err: E,
+    tells_progress: bool,
+    told: u64,
+}
+
+impl<E: Write + Drop> Messages<E> {
+    /// Nothing is told yet, and progress isn't wanted.
+    pub fn new(err: E) -> Messages<E> {
+        Messages {
+            err,
+            tells_progress: false,
+            told: 0,
+        }
+    }
+
+    /// From now on progress is told.
+    pub fn want_progress(&mut self) {
+        self.tells_progress = true;
+    }
+
+    /// Tells that the recording is read up to a byte, where that is wanted and another 10 MB are
+    /// read; each note stands in the place of the one before.
+    pub fn read_to(&mut self, byte: u64) {
+        if !self.tells_progress || !is_next_step(self.told, byte) {
+            return;
+        }
+        self.told = byte;
+        let _ = write!(self.err, "\rxcpread: {} MB read", byte / 1_000_000);
+        let _ = self.err.flush();
+    }
+
+    /// Ends the line of the notes, if there were any.
+    pub fn end_progress(&mut self) {
+        if self.told > 0 {
+            let _ = writeln!(self.err);
+        }
+    }
+
+    /// Tells a fault, in a line of its own.
+    pub fn tell_fault(&mut self, fault: ProgramFault) {
+        let _ = writeln!(self.err, "{fault}");
+    }
+}
+
+/// Whether another step ends between two places.
+fn is_next_step(told: u64, byte: u64) -> bool
+    ensures { result ≡ is_next_step told byte }
+{
+    told / STEP < byte / STEP
+}
