@@ -1,7 +1,7 @@
 -- Bytes that don't begin with others, and may be the front of these.
-use Rattle.std.proofs.Common.{◌≡◌, ℕ, ◌+◌, ◌<◌, ◌≤◌, ◌⊎◌, inl, inr, List, [], ◌++◌, length, drop, Option, Some, None, refl, sym, ap, subst, ◌∙◌, arith, append-nil, length-append, drop_of_length-le}
+use Rattle.std.proofs.Common.{◌≡◌, ℕ, ◌<◌, ◌≤◌, inl, inr, List, [], ◌++◌, length, drop, Option, sym, ap, ◌∙◌, append-nil, drop_of_length-le}
 use Rattle.std.proofs.KnownBytes.{Consumes-whole, starts_with_rest}
-use Rattle.std.proofs.Transfers.{starts_with_length, starts_with_of_eq}
+use Rattle.std.proofs.Transfers.{starts_with_of_eq}
 use Rattle.std.proofs.lemmas.Bool.{cases_lt}
 use Rattle.std.specs.Prelude.{IfSome}
 use Rattle.std.specs.Io.{StartsWith}

@@ -1,5 +1,5 @@
 -- A recording that is read on, piece by piece.
-use Rattle.std.proofs.Common.{◌≡◌, ℕ, ◌+◌, ◌%◌, ◌^◌, ◌≤◌, List, [], ◌++◌, length, drop, Option, Result, Ok, Err, refl, sym, ap, subst, ◌∙◌, arith, append_assoc, length-append}
+use Rattle.std.proofs.Common.{◌≡◌, ℕ, ◌+◌, ◌%◌, ◌^◌, List, [], ◌++◌, length, Option, Result, Ok, Err, sym, ap, subst, ◌∙◌, arith, append_assoc, length-append}
 use Rattle.std.proofs.KnownBytes.{Consumes-nil, Consumes-trans, starts_with_rest}
 use Rattle.std.proofs.lemmas.List.{append-nil}
 use Rattle.std.proofs.lemmas.List.Elements.{All-append}
@@ -16,7 +16,7 @@ use Rattle.daq_reader.specs.Reading.{Reading}
 use Rattle.daq_reader.specs.Reads.{HasRead}
 use Rattle.daq_reader.specs.Recorded.{Recorded}
 use Rattle.recording.specs.declared.piece.Piece.{Piece}
-use Rattle.recording.specs.Pieces.{HasPassed, Passes, unread_at, unread_of}
+use Rattle.recording.specs.Pieces.{Passes, unread_at, unread_of}
 
 -- bytes more at hand stand behind those that are left
 pub with_more : (lists : List Reading) (qs : List (List ℕ)) (gs : List (ℕ × Recorded)) (a b : Unread) (more : List ℕ) → HasRead lists qs gs a b → HasRead lists qs gs (record a { rest = a.rest ++ more }) (record b { rest = b.rest ++ more })

@@ -1,14 +1,19 @@
 -- The bytes and the counter behind some frames.
-use Rattle.std.proofs.Common.{◌≡◌, ℕ, ◌+◌, ◌%◌, ◌<◌, ◌≤◌, List, ◌++◌, length, drop, refl, sym, ap, subst, ◌∙◌, arith, length-append}
+use Rattle.std.proofs.Common.{◌≡◌, ℕ, ◌+◌, ◌%◌, ◌<◌, ◌≤◌, ◌≢◌, List, [], ◌++◌, length, drop, Result, Ok, Err, Some, refl, sym, ap, subst, ◌∙◌, arith, length-append}
 use Rattle.std.proofs.Math.Seq.{drop-append_seam}
-use Rattle.frame_writer.specs.Frame.{text}
-use Rattle.daq_reader.specs.Frames.{Unread}
-use Rattle.daq_reader.specs.Lists.{Stands}
+use Rattle.std.specs.Prelude.{IfErr}
+use Rattle.frame_writer.specs.Frame.{text, two_bytes}
+use Rattle.daq_reader.specs.declared.frame_fault.FrameFault.TheVariants.{Jump, Torn}
+use Rattle.daq_reader.specs.declared.packet_fault.PacketFault.{PacketFault}
+use Rattle.daq_reader.specs.declared.read_fault.ReadFault.{ReadFault}
+use Rattle.daq_reader.specs.declared.read_fault.ReadFault.TheVariants.{Frame, Packet}
+use Rattle.daq_reader.specs.Frames.{HasFrame, IsNext, Unread}
+use Rattle.daq_reader.specs.Lists.{Stands, refusal}
 use Rattle.daq_reader.specs.Reading.{Reading}
 use Rattle.daq_reader.specs.Reads.{HasRead}
 use Rattle.daq_reader.specs.Recorded.{Recorded}
 use Rattle.recording.specs.declared.place.Place.{Place}
-use Rattle.recording.specs.Pieces.{StandSomewhere, counter_at, place_behind, unread_at}
+use Rattle.recording.specs.Pieces.{IsFaultOf, StandSomewhere, counter_at, place_behind, unread_at}
 
 -- what is left is no longer than what was there
 pub no_longer : (lists : List Reading) (qs : List (List ℕ)) (gs : List (ℕ × Recorded)) (a b : Unread) → HasRead lists qs gs a b → length b.rest ≤ length a.rest
@@ -27,14 +32,34 @@ counter_behind place taken frames next small h = omega (arith, small, h)
 same_unread : (b : Unread) (rest : List ℕ) (counter : ℕ) → b.rest ≡ rest → b.counter ≡ counter → b ≡ record { rest = rest; counter = counter }
 same_unread b rest counter p q = rw (← p, ← q) refl
 
--- what was read of bytes at a place, and where that leads
-pub read_at : (lists : List Reading) (qs : List (List ℕ)) (gs : List (ℕ × Recorded)) (place now : Place) (held left : List ℕ) (a b : Unread) (taken frames : ℕ) → HasRead lists qs gs a b → a ≡ unread_at place held → left ≡ drop taken held → taken + length b.rest ≡ length held → b.counter < 65536
-    → now ≡ place_behind place taken frames → (frames + counter_at place) % 65536 ≡ b.counter → HasRead lists qs gs (unread_at place held) (unread_at now left)
-read_at lists qs gs place now held left a b taken frames h first rest size small is counter =
+-- what is left of bytes at a place stands at the place behind what was read
+pub left_at : (lists : List Reading) (qs : List (List ℕ)) (gs : List (ℕ × Recorded)) (place : Place) (held left : List ℕ) (a b : Unread) (taken frames : ℕ) → HasRead lists qs gs a b → a ≡ unread_at place held → left ≡ drop taken held → taken + length b.rest ≡ length held → b.counter < 65536
+    → (frames + counter_at place) % 65536 ≡ b.counter → b ≡ unread_at (place_behind place taken frames) left
+left_at lists qs gs place held left a b taken frames h first rest size small counter =
     let read : HasRead lists qs gs (unread_at place held) b = subst (λ u. HasRead lists qs gs u b) first h in
-    let behind : b ≡ unread_at (place_behind place taken frames) left
-    = same_unread b left (counter_at (place_behind place taken frames)) (sym (rest ∙ left_is lists qs gs (unread_at place held) b taken read size)) (sym (counter_behind place taken frames b.counter small counter)) in
-    subst (λ p. HasRead lists qs gs (unread_at place held) (unread_at p left)) (sym is) (subst (HasRead lists qs gs (unread_at place held)) behind read)
+    same_unread b left (counter_at (place_behind place taken frames)) (sym (rest ∙ left_is lists qs gs (unread_at place held) b taken read size)) (sym (counter_behind place taken frames b.counter small counter))
+
+-- what was read, where both are said by the bytes
+pub read_at : (lists : List Reading) (qs : List (List ℕ)) (gs : List (ℕ × Recorded)) (a b c d : Unread) → HasRead lists qs gs a b → a ≡ c → b ≡ d → HasRead lists qs gs c d
+read_at lists qs gs a b c d h first last = subst (HasRead lists qs gs c) last (subst (λ u. HasRead lists qs gs u b) first h)
+
+-- the fault that ended the reading, of the bytes that are left
+pub fault_is : (result : Result (Unit {0}) ReadFault) (lists : List Reading) (a b : Unread) → a ≡ b
+    → (result ≡ Err (Frame Torn) → (a.rest ≢ []) × ((n : ℕ) → HasFrame a n → ⊥))
+    → (result ≡ Err (Frame Jump) → (n : ℕ) × (n ≢ a.counter) × HasFrame a n)
+    → ((fault : PacketFault) → result ≡ Err (Packet fault) → (q : List ℕ) × (behind : Unread) × IsNext a behind q × (refusal lists q ≡ Some fault))
+    → IfErr result (IsFaultOf lists b)
+fault_is (Ok done) lists a b same torn jump packet = tt
+fault_is (Err (Frame Torn)) lists a b same torn jump packet = subst (λ u. IsFaultOf lists u (Frame Torn)) same (torn refl)
+fault_is (Err (Frame Jump)) lists a b same torn jump packet = subst (λ u. IsFaultOf lists u (Frame Jump)) same (jump refl)
+fault_is (Err (Packet fault)) lists a b same torn jump packet = subst (λ u. IsFaultOf lists u (Packet fault)) same (packet fault refl)
+
+absurd_frame : (head packet behind : List ℕ) → 0 ≡ length ((head ++ packet) ++ behind) → 0 < length head → ⊥
+absurd_frame head packet behind h some = omega (arith, h, some, length-append (head ++ packet) behind, length-append head packet)
+
+-- no frame stands in no bytes
+pub no_frame : (a : Unread) → a.rest ≡ [] → (n : ℕ) → HasFrame a n → ⊥
+no_frame a none n f = absurd_frame (two_bytes (length f.packet) ++ two_bytes (n % 65536)) f.packet f.behind (ap length (sym none ∙ f.bytes)) (omega arith)
 
 -- the lists and the samples stand after what was read
 pub stand_behind : (old now : List Reading) (gs hs : List (ℕ × Recorded)) (a b : Unread) → StandSomewhere old gs → ((qs : List (List ℕ)) → Stands old qs gs → HasRead now qs hs a b) → StandSomewhere now hs

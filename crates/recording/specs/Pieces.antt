@@ -1,13 +1,19 @@
 -- A recording that is read piece by piece (own).
-use Rattle.std.specs.Prelude.{◌≡◌, ℕ, ◌+◌, ◌%◌, ◌^◌, List, ◌++◌, length, Option}
+use Rattle.std.specs.Prelude.{◌≡◌, ◌≢◌, ℕ, ◌+◌, ◌%◌, ◌^◌, List, [], ◌++◌, length}
+use Rattle.std.specs.Prelude.{Option, Some}
 use Rattle.std.specs.Io.KnownBytes.{Consumes}
-use Rattle.daq_reader.specs.Frames.{Unread}
-use Rattle.daq_reader.specs.Lists.{Stands}
+use Rattle.daq_reader.specs.Frames.{HasFrame, IsNext, Unread}
+use Rattle.daq_reader.specs.Lists.{NoneWaits, Stands, refusal}
 use Rattle.daq_reader.specs.Reading.{Reading}
 use Rattle.daq_reader.specs.Reads.{HasRead}
 use Rattle.daq_reader.specs.Recorded.{Recorded}
+use Rattle.daq_reader.specs.declared.frame_fault.FrameFault.TheVariants.{Jump, Torn}
+use Rattle.daq_reader.specs.declared.read_fault.ReadFault.{ReadFault}
+use Rattle.daq_reader.specs.declared.read_fault.ReadFault.TheVariants.{Frame, Packet}
 use Rattle.recording.specs.declared.piece.Piece.{Piece}
 use Rattle.recording.specs.declared.place.Place.{Place}
+use Rattle.recording.specs.declared.reason.Reason.{Reason}
+use Rattle.recording.specs.declared.reason.Reason.TheVariants.{Read, WithinSample}
 
 -- the counter of the frame at a place
 abbrev pub counter_at : Place → ℕ
@@ -56,3 +62,17 @@ Passes old given now samples input rest before piece =
 pub record StandSomewhere (lists : List Reading) (samples : List (ℕ × Recorded)) : Type 0 where
   pub packets : List (List ℕ)
   pub stands : Stands lists packets samples
+
+-- the bytes at hand don't begin with the next frame for this: no whole frame stands there; one
+-- does, with another counter; or it has a packet that is refused for this
+abbrev pub IsFaultOf : List Reading → Unread → ReadFault → Type 0
+IsFaultOf lists left (Frame Torn) = (left.rest ≢ []) × ((n : ℕ) → ¬ HasFrame left n)
+IsFaultOf lists left (Frame Jump) = (n : ℕ) × (n ≢ left.counter) × HasFrame left n
+IsFaultOf lists left (Packet fault) =
+    (q : List ℕ) × (behind : Unread) × IsNext left behind q × (refusal lists q ≡ Some fault)
+
+-- a recording is read no further for this: the bytes at hand don't begin with the next frame; or
+-- there are none, and packets of some list wait for others
+abbrev pub IsReason : List Reading → Unread → Reason → Type 0
+IsReason lists left (Read fault) = IsFaultOf lists left fault
+IsReason lists left WithinSample = (left.rest ≡ []) × ¬ NoneWaits lists

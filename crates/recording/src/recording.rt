@@ -3,10 +3,11 @@ ghost use Rattle.std.specs.Prelude.{◌≡◌, ◌≢◌, ◌↔◌, ◌⊎◌, 
 ghost use Rattle.std.specs.Prelude.{Err, IfErr, IfOk, IfSome, IsOk, OnOk, false, length, true};
 ghost use Rattle.std.specs.Io.{StartsWith};
 ghost use Rattle.std.specs.Io.KnownBytes.{Consumes, IsAtEnd};
+ghost use Rattle.daq_reader.specs.Frames.{HasFrame};
 ghost use Rattle.daq_reader.specs.Lists.{NoneWaits, Stands};
 ghost use Rattle.daq_reader.specs.Reads.{HasRead};
 ghost use Rattle.recording.specs.Faults.{breaks_off, torn, want_of_memory};
-ghost use Rattle.recording.specs.Pieces.{Passes, StandSomewhere, unread_of};
+ghost use Rattle.recording.specs.Pieces.{IsFaultOf, IsReason, Passes, StandSomewhere, unread_of};
 ghost use Rattle.recording.specs.declared.piece.TheConstants.{MAX_FRAME};
 ghost use Rattle.recording.specs.declared.program_fault.ProgramFault.TheVariants.{BreaksOff, InReplies};
 ghost use Rattle.recording.specs.declared.program_fault.ProgramFault.TheVariants.{OtherRun};
@@ -111,6 +112,8 @@ pub fn read_frames<I: Read, S: Samples, E: Write + Drop>(
         (S.handed samples.old) reader.new (S.handed samples.new) (I.remaining input.old)
         (I.remaining input.new) piece.old piece.new }
     ensures place { (at : BreakOff) → result ≡ Err (BreaksOff at) → at.place ≡ piece.new.place }
+    ensures why { (at : BreakOff) → result ≡ Err (BreaksOff at)
+        → IsReason reader.new (unread_of piece.new) at.why }
 {
     let outcome = read_pieces(input, piece, reader, samples, messages);
     messages.end_progress();
@@ -136,6 +139,8 @@ fn read_pieces<I: Read, S: Samples, E: Write + Drop>(
         (S.handed samples.old) reader.new (S.handed samples.new) (I.remaining input.old)
         (I.remaining input.new) piece.old piece.new }
     ensures place { (at : BreakOff) → result ≡ Err (BreaksOff at) → at.place ≡ piece.new.place }
+    ensures why { (at : BreakOff) → result ≡ Err (BreaksOff at)
+        → IsReason reader.new (unread_of piece.new) at.why }
 {
     let mut chunk = [0; CHUNK];
     for _ in 0..MAX_READS {
@@ -160,6 +165,8 @@ fn ended(piece: &Piece, reader: &Reader) -> Result<(), ProgramFault>
     ensures within { piece.now.bytes.items ≡ [] → ¬ NoneWaits reader.now
         → result ≡ Err (breaks_off piece.now.place WithinSample) }
     ensures place { (at : BreakOff) → result ≡ Err (BreaksOff at) → at.place ≡ piece.now.place }
+    ensures why { (at : BreakOff) → ((n : ℕ) → ¬ HasFrame (unread_of piece.now) n)
+        → result ≡ Err (BreaksOff at) → IsReason reader.now (unread_of piece.now) at.why }
 {
     if !piece.bytes.is_empty() {
         return Err(broken(piece, Reason::Read(ReadFault::Frame(FrameFault::Torn))));
@@ -193,6 +200,8 @@ fn take_whole<S: Samples>(
     ensures byte { (piece.old.place.byte + length piece.old.bytes.items) % 2 ^ 64
         ≡ (piece.new.place.byte + length piece.new.bytes.items) % 2 ^ 64 }
     ensures short { OnOk result (length piece.new.bytes.items < MAX_FRAME) }
+    ensures none { OnOk result ((n : ℕ) → ¬ HasFrame (unread_of piece.new) n) }
+    ensures fault { IfErr result (IsFaultOf reader.new (unread_of piece.new)) }
 {
     let Err(why) = take_frames(piece, reader, samples) else {
         return Ok(());
@@ -205,7 +214,8 @@ fn take_whole<S: Samples>(
 
 /// Whether a fault stays one, however many bytes come behind the `left` that are there.
 fn is_final(why: ReadFault, left: usize) -> bool
-    ensures { result ≡ false → left < MAX_FRAME }
+    ensures short { result ≡ false → left < MAX_FRAME }
+    ensures torn { result ≡ false → why ≡ ReadFault.Frame FrameFault.Torn }
 {
     match why {
         ReadFault::Frame(FrameFault::Torn) => left >= MAX_FRAME,
@@ -225,6 +235,7 @@ fn take_frames<S: Samples>(
     ensures byte { (piece.old.place.byte + length piece.old.bytes.items) % 2 ^ 64
         ≡ (piece.new.place.byte + length piece.new.bytes.items) % 2 ^ 64 }
     ensures end { OnOk result (piece.new.bytes.items ≡ []) }
+    ensures fault { IfErr result (IsFaultOf reader.new (unread_of piece.new)) }
 {
     let counter = piece.place.counter();
     let mut unread = Unread::new(&piece.bytes, counter);

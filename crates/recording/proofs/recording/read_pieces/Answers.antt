@@ -1,4 +1,6 @@
-use Rattle.std.proofs.Common.{◌∙◌, rules, refl}
+use Rattle.std.proofs.Common.{◌∙◌, rules, refl, subst}
+use Rattle.daq_reader.specs.Frames.{HasFrame}
+use Rattle.recording.specs.Pieces.{unread_at}
 use Rattle.recording.proofs.PassLemmas.{frames_pass, nothing_passed, read_pass, where_ok}
 use Rattle.recording.proofs.PieceLemmas.{stand_behind}
 use Rattle.recording.proofs.recording.read_pieces.Goals as goal
@@ -28,3 +30,8 @@ returns-then-branch-clause-read g c =
 pub returns-then-branch-clause-broken : goal.returns-then-branch-clause-broken
 returns-then-branch-clause-broken g c = λ at is.
     read_pass _ _ _ _ _ _ _ _ _ _ c.loop.piece c.take_whole.new.piece (record { bytes = c.read_more.new.held; place = c.take_whole.new.piece.place }) c.loop.invariant.2 c.take_whole.ensures.read c.take_whole.ensures.byte refl c.in_ok-read_more.ensures.appends c.in_ok-read_more.ensures.taken
+
+-- the end is met, and nothing more was read
+pub returns-then-branch-clause-why : goal.returns-then-branch-clause-why
+returns-then-branch-clause-why g c = λ at is.
+    c.ended.ensures.why at (λ n f. c.in_default.ensures.none n (subst (λ xs. HasFrame (unread_at c.take_whole.new.piece.place xs) n) (c.in_ok-read_more.ensures.nothing c.if-branch.true) f)) is

@@ -1,6 +1,7 @@
-use Rattle.std.proofs.Common.{rules, ◌≡◌, ◌≤◌, ◌<◌, ap, length, arith}
+use Rattle.std.proofs.Common.{rules, ◌≡◌, ◌≤◌, ◌<◌, ap, sym, ◌∙◌, length, arith}
 use Rattle.recording.specs.Pieces.{counter_at, unread_at}
-use Rattle.recording.proofs.PieceLemmas.{no_longer, read_at}
+use Rattle.recording.proofs.PieceLemmas.{fault_is, left_at, no_longer, read_at}
+use Rattle.recording.proofs.recording.take_frames.Given.{Over}
 use Rattle.recording.proofs.recording.take_frames.Goals as goal
 
 -- the bytes that are left were there
@@ -12,10 +13,11 @@ overflow_sub-taken g c =
     let left : length c.rest-left.result.now ≡ length c.read-outcome.new.unread.rest = ap length c.rest-left.ensures in
     omega (arith, fewer, all, left)
 
--- the place and the bytes that are kept are those behind the frames
-pub returns-clause-read : goal.returns-clause-read
-returns-clause-read g c = λ qs stands.
-    let read = c.read-outcome.ensures.read qs stands in
+-- what is left stands at the place and in the bytes behind the frames
+left_behind : (g : Over) (c : goal.After-piece-1 g) → c.read-outcome.new.unread ≡ unread_at c.behind-piece.result c.drop_front.new.held.items
+left_behind g c =
+    let at = c.requires.stands in
+    let read = c.read-outcome.ensures.read at.packets at.stands in
     let place = c.args.piece.now.place in
     let held = c.args.piece.now.bytes.items in
     let first : c.new-unread.result ≡ unread_at place held = search rules in
@@ -26,5 +28,14 @@ returns-clause-read g c = λ qs stands.
     let counter : c.counter.result ≡ c.read-outcome.new.unread.counter = c.counter.ensures in
     let small : c.counter.result < 65536 = c.counter.type_inv in
     let start : c.counter-counter.result ≡ counter_at place = c.counter-counter.ensures in
-    read_at _ qs _ place c.behind-piece.result held c.drop_front.new.held.items c.new-unread.result c.read-outcome.new.unread _ _ read first c.drop_front.ensures
-    (omega (arith, fewer, all, len, left)) (omega (arith, counter, small)) c.behind-piece.ensures (omega (arith, counter, small, start))
+    left_at _ at.packets _ place held c.drop_front.new.held.items c.new-unread.result c.read-outcome.new.unread _ _ read first c.drop_front.ensures
+    (omega (arith, fewer, all, len, left)) (omega (arith, counter, small)) (omega (arith, counter, small, start)) ∙ ap (λ p. unread_at p c.drop_front.new.held.items) (sym c.behind-piece.ensures)
+
+-- the place and the bytes that are kept are those behind the frames
+pub returns-clause-read : goal.returns-clause-read
+returns-clause-read g c = λ qs stands.
+    read_at _ qs _ c.new-unread.result c.read-outcome.new.unread _ _ (c.read-outcome.ensures.read qs stands) (search rules) (left_behind g c)
+
+-- a fault is one of the bytes that are kept
+pub returns-clause-fault : goal.returns-clause-fault
+returns-clause-fault g c = fault_is c.read-outcome.result c.read-outcome.new.reader c.read-outcome.new.unread _ (left_behind g c) c.read-outcome.ensures.torn c.read-outcome.ensures.jump c.read-outcome.ensures.packet

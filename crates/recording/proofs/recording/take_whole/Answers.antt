@@ -1,0 +1,8 @@
+use Rattle.std.proofs.Common.{subst}
+use Rattle.recording.specs.Pieces.{IsFaultOf, unread_of}
+use Rattle.recording.proofs.recording.take_whole.Goals as goal
+
+-- a torn frame is one that isn't whole yet
+pub returns-clause-none : goal.returns-clause-none
+returns-clause-none g c =
+    (subst (λ why. IsFaultOf c.take_frames.new.reader (unread_of c.take_frames.new.piece) why) (c.is_final.ensures.torn c.if-is_final.false) c.in-Err.ensures.fault).1
