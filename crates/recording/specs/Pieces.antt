@@ -34,10 +34,10 @@ unread_at place bytes = record { rest = bytes; counter = counter_at place }
 abbrev pub unread_of : Piece → Unread
 unread_of piece = unread_at piece.place piece.bytes.items
 
--- where the packets `qs` were read, a recording was read on from one piece to another: so many bytes
--- were taken off the input, and behind those of the piece before they begin with the frames of some
--- more packets, after which the lists and the samples stand; the other piece has the bytes behind
--- these frames, and its place counts them
+-- behind the packets `qs` a recording was read on from one piece to another: bytes were taken off
+-- the input, and behind those of the piece before they begin with the frames of some more packets,
+-- after which the lists and the samples stand; the other piece has the bytes behind these frames,
+-- and its place counts them
 pub record HasPassed (lists : List Reading) (qs : List (List ℕ)) (samples : List (ℕ × Recorded))
     (input rest : Option (List ℕ)) (before now : Piece)
     : Type 0 where

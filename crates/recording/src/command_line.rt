@@ -120,17 +120,20 @@ fn show_samples<I: Read, W: Write, E: Write + Drop>(
         Mode::Summary => {
             let mut summary = Summary::new(alloc, store.lists() as usize)?;
             let outcome = read_frames(input, piece, &mut reader, &mut summary, messages);
+            messages.end_progress();
             concluded(outcome, print_summary(out, store, &summary))
         }
         Mode::Csv => {
             let mut rows = SampleRows::new(store, &mut *out);
             let outcome = read_frames(input, piece, &mut reader, &mut rows, messages);
+            messages.end_progress();
             let printing = rows.finish();
             concluded(outcome, printing.and_then(|()| out.flush()))
         }
         Mode::Svg => {
             let mut drawing = Drawing::new(alloc, store)?;
             let outcome = read_frames(input, piece, &mut reader, &mut drawing, messages);
+            messages.end_progress();
             concluded(outcome, drawing.print(out).and_then(|()| out.flush()))
         }
     }

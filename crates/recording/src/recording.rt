@@ -9,7 +9,8 @@ ghost use Rattle.daq_reader.specs.Reads.{HasRead};
 ghost use Rattle.recording.specs.Faults.{breaks_off, torn, want_of_memory};
 ghost use Rattle.recording.specs.Pieces.{IsFaultOf, IsReason, Passes, StandSomewhere, unread_of};
 ghost use Rattle.recording.specs.declared.piece.TheConstants.{MAX_FRAME};
-ghost use Rattle.recording.specs.declared.program_fault.ProgramFault.TheVariants.{BreaksOff, InReplies};
+ghost use Rattle.recording.specs.declared.program_fault.ProgramFault.TheVariants.{BreaksOff};
+ghost use Rattle.recording.specs.declared.program_fault.ProgramFault.TheVariants.{InReplies};
 ghost use Rattle.recording.specs.declared.program_fault.ProgramFault.TheVariants.{OtherRun};
 ghost use Rattle.recording.specs.declared.program_fault.ProgramFault.TheVariants.{Unreadable};
 ghost use Rattle.recording.specs.declared.reason.Reason.TheVariants.{WithinSample};
@@ -92,8 +93,8 @@ fn begins_with(bytes: &[u8], front: &[u8]) -> bool
     bytes.starts_with(front)
 }
 
-/// Reads the frames behind the replies to the end of the recording, hands over each sample that is
-/// whole, and tells how far it has come.
+/// Reads the frames behind the replies, piece by piece, to the end of the recording; hands each
+/// sample that is whole over, and tells how far it has come.
 pub fn read_frames<I: Read, S: Samples, E: Write + Drop>(
     input: &mut I,
     piece: &mut Piece,
@@ -103,34 +104,8 @@ pub fn read_frames<I: Read, S: Samples, E: Write + Drop>(
 ) -> Result<(), ProgramFault>
     requires stands { StandSomewhere reader.old (S.handed samples.old) }
     ensures read { OnOk result (Passes reader.old (S.handed samples.old) reader.new
-        (S.handed samples.new) (I.remaining input.old) (I.remaining input.new) piece.old piece.new) }
-    ensures end { OnOk result (IsAtEnd (I.remaining input.new)) }
-    ensures all { OnOk result (piece.new.bytes.items ≡ []) }
-    ensures whole { OnOk result (NoneWaits reader.new) }
-
-    ensures broken { (at : BreakOff) → result ≡ Err (BreaksOff at) → Passes reader.old
-        (S.handed samples.old) reader.new (S.handed samples.new) (I.remaining input.old)
-        (I.remaining input.new) piece.old piece.new }
-    ensures place { (at : BreakOff) → result ≡ Err (BreaksOff at) → at.place ≡ piece.new.place }
-    ensures why { (at : BreakOff) → result ≡ Err (BreaksOff at)
-        → IsReason reader.new (unread_of piece.new) at.why }
-{
-    let outcome = read_pieces(input, piece, reader, samples, messages);
-    messages.end_progress();
-    outcome
-}
-
-/// Reads piece by piece, to the end.
-fn read_pieces<I: Read, S: Samples, E: Write + Drop>(
-    input: &mut I,
-    piece: &mut Piece,
-    reader: &mut Reader,
-    samples: &mut S,
-    messages: &mut Messages<E>,
-) -> Result<(), ProgramFault>
-    requires stands { StandSomewhere reader.old (S.handed samples.old) }
-    ensures read { OnOk result (Passes reader.old (S.handed samples.old) reader.new
-        (S.handed samples.new) (I.remaining input.old) (I.remaining input.new) piece.old piece.new) }
+        (S.handed samples.new) (I.remaining input.old) (I.remaining input.new)
+        piece.old piece.new) }
     ensures end { OnOk result (IsAtEnd (I.remaining input.new)) }
     ensures all { OnOk result (piece.new.bytes.items ≡ []) }
     ensures whole { OnOk result (NoneWaits reader.new) }

@@ -3,7 +3,7 @@ use Rattle.daq_reader.specs.Frames.{HasFrame}
 use Rattle.recording.specs.Pieces.{unread_at}
 use Rattle.recording.proofs.PassLemmas.{frames_pass, nothing_passed, read_pass, where_ok}
 use Rattle.recording.proofs.PieceLemmas.{stand_behind}
-use Rattle.recording.proofs.recording.read_pieces.Goals as goal
+use Rattle.recording.proofs.recording.read_frames.Goals as goal
 
 -- before the first piece
 pub loop-init : goal.loop-init
