@@ -23,11 +23,11 @@ pub record IsWithin (written : List (ℕ × Recorded)) (lists : List Reading) (h
   pub left : IsRecordingOf (plans_of lists) written before a
 
 -- two bytes tell a number below 65536
-same_number : (m n : ℕ) → m < 65536 → n < 65536 → m % 256 ≡ n % 256 → m / 256 % 256 ≡ n / 256 % 256 → m ≡ n
+pub same_number : (m n : ℕ) → m < 65536 → n < 65536 → m % 256 ≡ n % 256 → m / 256 % 256 ≡ n / 256 % 256 → m ≡ n
 same_number m n hm hn low high = omega arith
 
 -- bytes begin with at most one frame
-one_frame : (n : ℕ) (p q xs ys : List ℕ) → length p < 65536 → length q < 65536 → frame n p ++ xs ≡ frame n q ++ ys → (p ≡ q) × (xs ≡ ys)
+pub one_frame : (n : ℕ) (p q xs ys : List ℕ) → length p < 65536 → length q < 65536 → frame n p ++ xs ≡ frame n q ++ ys → (p ≡ q) × (xs ≡ ys)
 one_frame n p q xs ys hp hq e =
     let low : length p % 256 ≡ length q % 256 = cc in
     let high : length p / 256 % 256 ≡ length q / 256 % 256 = cc in
@@ -65,7 +65,7 @@ behind P [] ys h = h
 behind P (x ∷ xs) ys h = behind P xs ys (All-tail P x (xs ++ ys) h)
 
 -- the next packet is not refused
-next_taken : (lists : List Reading) (before qs : List (List ℕ)) (q : List ℕ) (written handed : List (ℕ × Recorded)) → Stands lists before handed → AreSampled (plans_of lists) written (before ++ q ∷ qs) → refusal lists q ≡ None
+pub next_taken : (lists : List Reading) (before qs : List (List ℕ)) (q : List ℕ) (written handed : List (ℕ × Recorded)) → Stands lists before handed → AreSampled (plans_of lists) written (before ++ q ∷ qs) → refusal lists q ≡ None
 next_taken lists before qs q written handed h are =
     let i : ℕ = place_in (plans_of lists) q in
     let known : i < length (plans_of lists) = All-head (λ (p : List ℕ). place_in (plans_of lists) p < length (plans_of lists)) q qs (behind (λ (p : List ℕ). place_in (plans_of lists) p < length (plans_of lists)) before (q ∷ qs) are.known) in

@@ -18,5 +18,5 @@ pub use command_line::program;
 pub use daq_run::{Gate, NoGate, Outcome, SimFault, run_serial, run_threads};
 pub use run_file::{Run, RunFault, Step};
 pub use run_setup::{SetupFault, carry_all, fixed_run};
-pub use run_text::{MAX_TEXT, is_read_to_end, run_from};
+pub use run_text::{MAX_TEXT, front_from, is_read_to_end, run_from};
 pub use text_fault::TextFault;

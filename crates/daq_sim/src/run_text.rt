@@ -44,11 +44,31 @@ fn text_from<I: Read>(alloc: Global, input: &mut I) -> Result<String, TextFault>
     ensures within { IfOk result (λ text. length (string_bytes text) ≤ MAX_TEXT) }
     ensures fault { IfErr result (λ f. (f ≡ Unreadable) ⊎ (f ≡ Memory)) }
 {
+    let bytes = front_from(alloc, input, usize::MAX)?;
+    String::from_utf8(bytes).map_err(|_| TextFault::Unreadable)
+}
+
+/// Reads until so many bytes are there, or to the end, if that comes first.
+///
+/// Refused where a read fails, but for an interruption, which counts as a read of no byte; where
+/// there would be more than `MAX_TEXT` bytes, or `MAX_READS` reads don't do; want of memory is
+/// `Memory`.
+pub fn front_from<I: Read>(alloc: Global, input: &mut I, len: usize) -> Result<Vec<u8>, TextFault>
+    ensures taken { IfOk result (λ bytes.
+        Consumes (I.remaining input.old) (I.remaining input.new) bytes.items) }
+    ensures all { IfOk result (λ bytes.
+        length bytes.items < len → IsAtEnd (I.remaining input.new)) }
+    ensures within { IfOk result (λ bytes. length bytes.items ≤ MAX_TEXT) }
+    ensures fault { IfErr result (λ f. (f ≡ Unreadable) ⊎ (f ≡ Memory)) }
+{
     let mut bytes = Vec::new(alloc);
     let mut chunk = [0; CHUNK];
     for _ in 0..MAX_READS {
+        if bytes.len() >= len {
+            return Ok(bytes);
+        }
         if is_read_to_end(input, &mut chunk, &mut bytes)? {
-            return String::from_utf8(bytes).map_err(|_| TextFault::Unreadable);
+            return Ok(bytes);
         }
     }
     Err(TextFault::Unreadable)

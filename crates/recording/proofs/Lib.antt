@@ -3,3 +3,4 @@ pub mod PassLemmas
 pub mod PieceLemmas
 pub mod ReadyLemmas
 pub mod TallyLemmas
+pub mod WithinLemmas

@@ -1,5 +1,6 @@
 -- The faults of the program, and the status of each (own).
 use Rattle.std.specs.Prelude.{ℕ}
+use Rattle.daq_sim.specs.declared.text_fault.TextFault.{TextFault}
 use Rattle.daq_sim.specs.declared.text_fault.TextFault.TheVariants.{Memory}
 use Rattle.daq_reader.specs.declared.frame_fault.FrameFault.TheVariants.{Torn}
 use Rattle.daq_reader.specs.declared.read_fault.ReadFault.TheVariants.{Frame}
@@ -7,12 +8,18 @@ use Rattle.recording.specs.declared.place.Place.{Place}
 use Rattle.recording.specs.declared.program_fault.ProgramFault.{ProgramFault}
 use Rattle.recording.specs.declared.program_fault.ProgramFault.TheVariants.{BreaksOff, InReplies}
 use Rattle.recording.specs.declared.program_fault.ProgramFault.TheVariants.{OtherRun, Text}
+use Rattle.recording.specs.declared.program_fault.ProgramFault.TheVariants.{Unreadable}
 use Rattle.recording.specs.declared.reason.Reason.{Reason}
 use Rattle.recording.specs.declared.reason.Reason.TheVariants.{Read}
 
 -- want of memory, wherever it was met
 abbrev pub want_of_memory : ProgramFault
 want_of_memory = Text Memory
+
+-- a recording isn't read: want of memory, or else it can't be read
+abbrev pub fault_of_recording : TextFault → ProgramFault
+fault_of_recording Memory = want_of_memory
+fault_of_recording _ = Unreadable
 
 -- the recording breaks off at a place
 abbrev pub breaks_off : Place → Reason → ProgramFault

@@ -1,7 +1,7 @@
 -- A recording that is read piece by piece (own).
-use Rattle.std.specs.Prelude.{◌≡◌, ◌≢◌, ℕ, ◌+◌, ◌%◌, ◌^◌, List, [], ◌++◌, length}
+use Rattle.std.specs.Prelude.{◌≡◌, ◌≢◌, ◌⊎◌, ℕ, ◌+◌, ◌%◌, ◌^◌, ◌≤◌, List, [], ◌++◌, length}
 use Rattle.std.specs.Prelude.{Option, Some}
-use Rattle.std.specs.Io.KnownBytes.{Consumes}
+use Rattle.std.specs.Io.KnownBytes.{Consumes, IsAtEnd}
 use Rattle.daq_reader.specs.Frames.{HasFrame, IsNext, Unread}
 use Rattle.daq_reader.specs.Lists.{NoneWaits, Stands, refusal}
 use Rattle.daq_reader.specs.Reading.{Reading}
@@ -11,6 +11,7 @@ use Rattle.daq_reader.specs.declared.frame_fault.FrameFault.TheVariants.{Jump, T
 use Rattle.daq_reader.specs.declared.read_fault.ReadFault.{ReadFault}
 use Rattle.daq_reader.specs.declared.read_fault.ReadFault.TheVariants.{Frame, Packet}
 use Rattle.recording.specs.declared.piece.Piece.{Piece}
+use Rattle.recording.specs.declared.piece.TheConstants.{MAX_FRAME}
 use Rattle.recording.specs.declared.place.Place.{Place}
 use Rattle.recording.specs.declared.reason.Reason.{Reason}
 use Rattle.recording.specs.declared.reason.Reason.TheVariants.{Read, WithinSample}
@@ -33,6 +34,10 @@ unread_at place bytes = record { rest = bytes; counter = counter_at place }
 -- those of a piece
 abbrev pub unread_of : Piece → Unread
 unread_of piece = unread_at piece.place piece.bytes.items
+
+-- those of a piece, and those that are left of the input behind it
+abbrev pub unread_with : Piece → List ℕ → Unread
+unread_with piece left = unread_at piece.place (piece.bytes.items ++ left)
 
 -- behind the packets `qs` a recording was read on from one piece to another: bytes were taken off
 -- the input, and behind those of the piece before they begin with the frames of some more packets,
@@ -71,8 +76,11 @@ IsFaultOf lists left (Frame Jump) = (n : ℕ) × (n ≢ left.counter) × HasFram
 IsFaultOf lists left (Packet fault) =
     (q : List ℕ) × (behind : Unread) × IsNext left behind q × (refusal lists q ≡ Some fault)
 
--- a recording is read no further for this: the bytes at hand don't begin with the next frame; or
--- there are none, and packets of some list wait for others
-abbrev pub IsReason : List Reading → Unread → Reason → Type 0
-IsReason lists left (Read fault) = IsFaultOf lists left fault
-IsReason lists left WithinSample = (left.rest ≡ []) × ¬ NoneWaits lists
+-- a recording is read no further for this: the bytes at hand don't begin with the next frame, and
+-- where none is whole, nothing is left behind them, or they are as many as the longest has; or
+-- there is no byte at all, and packets of some list wait for others
+abbrev pub IsReason : List Reading → Unread → Option (List ℕ) → Reason → Type 0
+IsReason lists left rest (Read fault) =
+    IsFaultOf lists left fault
+    × (fault ≡ Frame Torn → IsAtEnd rest ⊎ (MAX_FRAME ≤ length left.rest))
+IsReason lists left rest WithinSample = (left.rest ≡ []) × IsAtEnd rest × ¬ NoneWaits lists

@@ -99,7 +99,7 @@ fn show<R: Files, W: Write, E: Write + Drop>(
                 alloc, &store, words.mode, &mut file, &mut piece, out, messages,
             )
         }
-        Err(error) => Err(unreadable(&error)),
+        Err(error) => Err(ProgramFault::of_recording(TextFault::Unreadable.or_memory(&error))),
     }
 }
 
@@ -166,14 +166,6 @@ fn run_of<R: Files>(rt: &R, alloc: Global, path: &str) -> Result<Run, ProgramFau
     match fs::open(rt, path) {
         Ok(mut file) => Ok(run_from(alloc, &mut file)?),
         Err(error) => Err(ProgramFault::Text(TextFault::Unreadable.or_memory(&error))),
-    }
-}
-
-/// Why a recording can't be opened.
-fn unreadable(error: &io::Error) -> ProgramFault {
-    match error.kind() {
-        ErrorKind::OutOfMemory => ProgramFault::MEMORY,
-        _ => ProgramFault::Unreadable,
     }
 }
 

@@ -9,7 +9,7 @@ ghost use Rattle.recording.specs.Faults.{want_of_memory};
 
 use crate::place::Place;
 use crate::program_fault::ProgramFault;
-use daq_sim::{TextFault, is_read_to_end};
+use daq_sim::is_read_to_end;
 use std::io::Read;
 
 /// How many bytes are asked for in one read.
@@ -48,11 +48,7 @@ pub fn read_more<I: Read>(
     ensures room_stays { length chunk.new ≡ length chunk.old }
     ensures fault { IfErr result (λ f. (f ≡ Unreadable) ⊎ (f ≡ want_of_memory)) }
 {
-    match is_read_to_end(input, chunk, held) {
-        Ok(at_end) => Ok(at_end),
-        Err(TextFault::Memory) => Err(ProgramFault::MEMORY),
-        Err(_) => Err(ProgramFault::Unreadable),
-    }
+    is_read_to_end(input, chunk, held).map_err(ProgramFault::of_recording)
 }
 
 /// Drops the first `n` bytes.

@@ -28,10 +28,20 @@ pub enum ProgramFault {
 
 impl ProgramFault {
     ghost use Rattle.std.specs.Prelude.{◌≡◌};
-    ghost use Rattle.recording.specs.Faults.{status_of};
+    ghost use Rattle.recording.specs.Faults.{fault_of_recording, status_of};
 
     /// Want of memory, wherever it was met.
     pub const MEMORY: ProgramFault = ProgramFault::Text(TextFault::Memory);
+
+    /// Why a recording isn't read, where there was this fault.
+    pub fn of_recording(fault: TextFault) -> ProgramFault
+        ensures { result ≡ fault_of_recording fault }
+    {
+        match fault {
+            TextFault::Memory => ProgramFault::MEMORY,
+            _ => ProgramFault::Unreadable,
+        }
+    }
 
     /// The status that the program ends with.
     pub fn status(self) -> u8

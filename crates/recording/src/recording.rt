@@ -1,18 +1,21 @@
 //! Reads a recording, piece by piece.
-ghost use Rattle.std.specs.Prelude.{◌≡◌, ◌≢◌, ◌↔◌, ◌⊎◌, ◌+◌, ◌%◌, ◌^◌, ◌<◌, ◌++◌, ℕ, List, []};
-ghost use Rattle.std.specs.Prelude.{Err, IfErr, IfOk, IfSome, IsOk, OnOk, false, length, true};
+ghost use Rattle.std.specs.Prelude.{◌≡◌, ◌≢◌, ◌↔◌, ◌+◌, ◌%◌, ◌^◌, ◌<◌, ◌≤◌, ◌++◌, ℕ, List, []};
+ghost use Rattle.std.specs.Prelude.{Err, IfErr, IfOk, IfSome, IsOk, OnOk, Option, Some, false};
+ghost use Rattle.std.specs.Prelude.{length, true};
 ghost use Rattle.std.specs.Io.{StartsWith};
 ghost use Rattle.std.specs.Io.KnownBytes.{Consumes, IsAtEnd};
 ghost use Rattle.daq_reader.specs.Frames.{HasFrame};
-ghost use Rattle.daq_reader.specs.Lists.{NoneWaits, Stands};
+ghost use Rattle.daq_reader.specs.Lists.{NoneWaits, Stands, plans_of};
 ghost use Rattle.daq_reader.specs.Reads.{HasRead};
-ghost use Rattle.recording.specs.Faults.{breaks_off, torn, want_of_memory};
+ghost use Rattle.daq_reader.specs.Recorded.{Recorded};
+ghost use Rattle.daq_reader.specs.Recording.{AreGivenBack, IsRecordingOf};
+ghost use Rattle.recording.specs.Faults.{breaks_off, torn};
 ghost use Rattle.recording.specs.Pieces.{IsFaultOf, IsReason, Passes, StandSomewhere, unread_of};
+ghost use Rattle.recording.specs.Pieces.{unread_with};
 ghost use Rattle.recording.specs.declared.piece.TheConstants.{MAX_FRAME};
 ghost use Rattle.recording.specs.declared.program_fault.ProgramFault.TheVariants.{BreaksOff};
 ghost use Rattle.recording.specs.declared.program_fault.ProgramFault.TheVariants.{InReplies};
 ghost use Rattle.recording.specs.declared.program_fault.ProgramFault.TheVariants.{OtherRun};
-ghost use Rattle.recording.specs.declared.program_fault.ProgramFault.TheVariants.{Unreadable};
 ghost use Rattle.recording.specs.declared.reason.Reason.TheVariants.{WithinSample};
 
 use crate::break_off::BreakOff;
@@ -22,6 +25,7 @@ use crate::place::Place;
 use crate::program_fault::ProgramFault;
 use crate::reason::Reason;
 use daq_reader::{FrameFault, ReadFault, Reader, Samples, Unread, read};
+use daq_sim::front_from;
 use std::alloc::Global;
 use std::io::{Read, Write};
 
@@ -42,7 +46,7 @@ pub fn pass_replies<I: Read>(
     ensures within { result ≡ Err InReplies → IfSome (I.remaining input.old)
         (λ bytes. StartsWith replies.now bytes × (length bytes < length replies.now)) }
 {
-    let mut bytes = front_of(alloc, input, replies.len())?;
+    let mut bytes = front_from(alloc, input, replies.len()).map_err(ProgramFault::of_recording)?;
     if !begins_with(&bytes, replies) {
         return Err(fault_of_front(&bytes, replies));
     }
@@ -52,27 +56,6 @@ pub fn pass_replies<I: Read>(
         frame: frames as u64,
     };
     Ok(Piece { bytes, place })
-}
-
-/// Reads until so many bytes are there, or to the end.
-fn front_of<I: Read>(alloc: Global, input: &mut I, len: usize) -> Result<Vec<u8>, ProgramFault>
-    ensures taken { IfOk result (λ bytes.
-        Consumes (I.remaining input.old) (I.remaining input.new) bytes.items) }
-    ensures all { IfOk result (λ bytes.
-        length bytes.items < len → IsAtEnd (I.remaining input.new)) }
-    ensures fault { IfErr result (λ f. (f ≡ Unreadable) ⊎ (f ≡ want_of_memory)) }
-{
-    let mut bytes = Vec::new(alloc);
-    let mut chunk = [0; CHUNK];
-    for _ in 0..MAX_READS {
-        if bytes.len() >= len {
-            return Ok(bytes);
-        }
-        if read_more(input, &mut chunk, &mut bytes)? {
-            return Ok(bytes);
-        }
-    }
-    Err(ProgramFault::Unreadable)
 }
 
 /// Why bytes that don't begin with the replies are no recording of the run.
@@ -115,7 +98,14 @@ pub fn read_frames<I: Read, S: Samples, E: Write + Drop>(
         (I.remaining input.new) piece.old piece.new }
     ensures place { (at : BreakOff) → result ≡ Err (BreaksOff at) → at.place ≡ piece.new.place }
     ensures why { (at : BreakOff) → result ≡ Err (BreaksOff at)
-        → IsReason reader.new (unread_of piece.new) at.why }
+        → IsReason reader.new (unread_of piece.new) (I.remaining input.new) at.why }
+
+    ensures given { (before : List (List ℕ)) (written : List (ℕ × Recorded)) (left : List ℕ)
+        → Stands reader.old before (S.handed samples.old) → I.remaining input.old ≡ Some left
+        → IsRecordingOf (plans_of reader.old) written before (unread_with piece.old left)
+        → ((at : BreakOff) → result ≢ Err (BreaksOff at))
+        × OnOk result (AreGivenBack reader.new written (S.handed samples.new)) }
+    ensures lists { plans_of reader.new ≡ plans_of reader.old }
 {
     let mut chunk = [0; CHUNK];
     for _ in 0..MAX_READS {
@@ -140,8 +130,9 @@ fn ended(piece: &Piece, reader: &Reader) -> Result<(), ProgramFault>
     ensures within { piece.now.bytes.items ≡ [] → ¬ NoneWaits reader.now
         → result ≡ Err (breaks_off piece.now.place WithinSample) }
     ensures place { (at : BreakOff) → result ≡ Err (BreaksOff at) → at.place ≡ piece.now.place }
-    ensures why { (at : BreakOff) → ((n : ℕ) → ¬ HasFrame (unread_of piece.now) n)
-        → result ≡ Err (BreaksOff at) → IsReason reader.now (unread_of piece.now) at.why }
+    ensures why { (at : BreakOff) (rest : Option (List ℕ)) → IsAtEnd rest
+        → ((n : ℕ) → ¬ HasFrame (unread_of piece.now) n)
+        → result ≡ Err (BreaksOff at) → IsReason reader.now (unread_of piece.now) rest at.why }
 {
     if !piece.bytes.is_empty() {
         return Err(broken(piece, Reason::Read(ReadFault::Frame(FrameFault::Torn))));
@@ -177,6 +168,9 @@ fn take_whole<S: Samples>(
     ensures short { OnOk result (length piece.new.bytes.items < MAX_FRAME) }
     ensures none { OnOk result ((n : ℕ) → ¬ HasFrame (unread_of piece.new) n) }
     ensures fault { IfErr result (IsFaultOf reader.new (unread_of piece.new)) }
+    ensures long { result ≡ Err (ReadFault.Frame FrameFault.Torn)
+        → MAX_FRAME ≤ length piece.new.bytes.items }
+    ensures lists { plans_of reader.new ≡ plans_of reader.old }
 {
     let Err(why) = take_frames(piece, reader, samples) else {
         return Ok(());
@@ -189,8 +183,7 @@ fn take_whole<S: Samples>(
 
 /// Whether a fault stays one, however many bytes come behind the `left` that are there.
 fn is_final(why: ReadFault, left: usize) -> bool
-    ensures short { result ≡ false → left < MAX_FRAME }
-    ensures torn { result ≡ false → why ≡ ReadFault.Frame FrameFault.Torn }
+    ensures { (result ≡ false) ↔ (why ≡ ReadFault.Frame FrameFault.Torn) × (left < MAX_FRAME) }
 {
     match why {
         ReadFault::Frame(FrameFault::Torn) => left >= MAX_FRAME,
@@ -211,6 +204,7 @@ fn take_frames<S: Samples>(
         ≡ (piece.new.place.byte + length piece.new.bytes.items) % 2 ^ 64 }
     ensures end { OnOk result (piece.new.bytes.items ≡ []) }
     ensures fault { IfErr result (IsFaultOf reader.new (unread_of piece.new)) }
+    ensures lists { plans_of reader.new ≡ plans_of reader.old }
 {
     let counter = piece.place.counter();
     let mut unread = Unread::new(&piece.bytes, counter);

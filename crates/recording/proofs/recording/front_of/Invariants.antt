@@ -1,8 +1,0 @@
--- what was kept is what was read, and is short enough; each read has room
-use Rattle.std.proofs.Common.{◌≡◌, ◌≤◌, length}
-use Rattle.std.specs.Io.KnownBytes.{Consumes}
-use Rattle.recording.proofs.recording.front_of.Given as goal
-
-abbrev pub invariant-loop : goal.invariant-loop
-invariant-loop g l = Consumes (g.I.Read.remaining l.fn.input) (g.I.Read.remaining l.input) l.bytes.items
-    × (length l.bytes.items ≤ 67108864) × (length l.chunk ≡ 65536)
