@@ -1,9 +1,9 @@
 -- A recording that is read on, piece by piece.
-use Rattle.std.proofs.Common.{◌≡◌, ℕ, ◌+◌, ◌%◌, ◌^◌, List, [], ◌++◌, length, Option, Result, Ok, Err, sym, ap, subst, ◌∙◌, arith, append_assoc, length-append}
+use Rattle.std.proofs.Common.{◌≡◌, ℕ, ◌+◌, ◌%◌, ◌^◌, List, [], ◌++◌, length, Option, Result, Ok, Err, refl, sym, ap, subst, ◌∙◌, arith, append_assoc, length-append}
 use Rattle.std.proofs.KnownBytes.{Consumes-nil, Consumes-trans, starts_with_rest}
 use Rattle.std.proofs.lemmas.List.{append-nil}
 use Rattle.std.proofs.lemmas.List.Elements.{All-append}
-use Rattle.std.specs.Prelude.{OnOk}
+use Rattle.std.specs.Prelude.{IsOk, OnOk}
 use Rattle.std.specs.Io.{StartsWith, appended_bytes}
 use Rattle.std.specs.Io.KnownBytes.{Consumes}
 use Rattle.frame_writer.proofs.TextLemmas.{text-append, text-mod}
@@ -106,3 +106,7 @@ read_pass old lists now start gs hs input mid rest first before left piece passe
 pub where_ok : {T E : Type 0} (result : Result T E) (P : Type 0) → P → OnOk result P
 where_ok (Ok x) P p = p
 where_ok (Err e) P p = tt
+
+pub when_ok : {T E : Type 0} (result : Result T E) (P : Type 0) → (IsOk result → P) → OnOk result P
+when_ok (Ok x) P p = p refl
+when_ok (Err e) P p = tt

@@ -1,5 +1,5 @@
 -- A recording of whole samples that is read on, piece by piece.
-use Rattle.std.proofs.Common.{◌≡◌, ◌≢◌, ℕ, ◌+◌, ◌%◌, ◌/◌, ◌<◌, ◌≤◌, ◌⊎◌, inl, inr, List, [], ◌∷◌, ◌++◌, length, drop, Option, None, Some, refl, sym, ap, subst, ◌∙◌, arith, append_assoc, length-append}
+use Rattle.std.proofs.Common.{◌≡◌, ◌≢◌, ℕ, ◌+◌, ◌%◌, ◌/◌, ◌<◌, ◌≤◌, ◌⊎◌, inl, inr, List, [], ◌∷◌, ◌++◌, length, drop, Option, None, Some, refl, sym, ap, subst, ◌∙◌, arith, append_assoc}
 use Rattle.std.proofs.lemmas.List.{append-nil}
 use Rattle.std.proofs.lemmas.List.Elements.{All-from_recursion, All-head, All-tail}
 use Rattle.std.specs.Prelude.{All}
@@ -13,7 +13,7 @@ use Rattle.daq_reader.specs.declared.frame_fault.FrameFault.TheVariants.{Jump, T
 use Rattle.daq_reader.specs.declared.packet_fault.PacketFault.{PacketFault}
 use Rattle.daq_reader.specs.declared.read_fault.ReadFault.TheVariants.{Frame, Packet}
 use Rattle.daq_reader.specs.Frames.{HasFrame, IsNext, Unread}
-use Rattle.daq_reader.specs.Lists.{NoneWaits, Stands, plans_of, refusal}
+use Rattle.daq_reader.specs.Lists.{Stands, plans_of, refusal}
 use Rattle.daq_reader.specs.Reading.{Reading, under_way}
 use Rattle.daq_reader.specs.Reads.{HasRead}
 use Rattle.daq_reader.specs.Recorded.{Recorded}

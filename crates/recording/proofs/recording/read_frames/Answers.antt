@@ -1,8 +1,11 @@
-use Rattle.std.proofs.Common.{◌∙◌, rules, refl, subst}
+use Rattle.std.proofs.Common.{◌∙◌, Err, ap, inr, rules, refl, subst}
 use Rattle.daq_reader.specs.Frames.{HasFrame}
+use Rattle.recording.specs.declared.piece.Piece.{Piece}
+use Rattle.recording.specs.declared.reason.Reason.TheVariants.{Read}
 use Rattle.recording.specs.Pieces.{unread_at}
-use Rattle.recording.proofs.PassLemmas.{frames_pass, nothing_passed, read_pass, where_ok}
+use Rattle.recording.proofs.PassLemmas.{frames_pass, nothing_passed, read_pass, when_ok, where_ok}
 use Rattle.recording.proofs.PieceLemmas.{stand_behind}
+use Rattle.recording.proofs.WithinLemmas.{given_at_end, no_reason, passed_within}
 use Rattle.recording.proofs.recording.read_frames.Goals as goal
 
 -- before the first piece
@@ -35,4 +38,23 @@ returns-then-branch-clause-broken g c = λ at is.
 -- the end is met, and nothing more was read
 pub returns-then-branch-clause-why : goal.returns-then-branch-clause-why
 returns-then-branch-clause-why g c = λ at is.
-    c.ended.ensures.why at (λ n f. c.in_default.ensures.none n (subst (λ xs. HasFrame (unread_at c.take_whole.new.piece.place xs) n) (c.in_ok-read_more.ensures.nothing c.if-branch.true) f)) is
+    c.ended.ensures.why at (g.I.Read.remaining c.read_more.new.input) (c.in_ok-read_more.ensures.end c.if-branch.true)
+    (λ n f. c.in_default.ensures.none n (subst (λ xs. HasFrame (unread_at c.take_whole.new.piece.place xs) n) (c.in_ok-read_more.ensures.nothing c.if-branch.true) f)) is
+
+-- no frame of a recording of whole samples is refused
+pub returns-in-Err-clause-given : goal.returns-in-Err-clause-given
+returns-in-Err-clause-given g c = λ before written left stands all is.
+    let passes = frames_pass _ _ _ _ _ _ _ _ _ c.loop.piece c.take_whole.new.piece c.loop.invariant.2 c.take_whole.ensures.read c.take_whole.ensures.byte in
+    let within = passed_within written c.args.reader.now c.take_whole.new.reader before _ left _ _ c.args.piece.now c.take_whole.new.piece all is (passes before stands) (c.take_whole.ensures.lists ∙ c.loop.invariant.3) in
+    (λ at e. no_reason written _ _ _ c.take_whole.new.piece (Read c.in-Err.why) within (c.in-Err.ensures.fault, λ torn. inr (c.take_whole.ensures.long (c.in-Err.is ∙ ap Err torn))), tt)
+
+-- and at its end all is read
+pub returns-then-branch-clause-given : goal.returns-then-branch-clause-given
+returns-then-branch-clause-given g c = λ before written left stands all is.
+    let piece : Piece = record { bytes = c.read_more.new.held; place = c.take_whole.new.piece.place } in
+    let end = c.in_ok-read_more.ensures.end c.if-branch.true in
+    let passes = read_pass _ _ _ _ _ _ _ _ _ _ c.loop.piece c.take_whole.new.piece piece c.loop.invariant.2 c.take_whole.ensures.read c.take_whole.ensures.byte refl c.in_ok-read_more.ensures.appends c.in_ok-read_more.ensures.taken in
+    let within = passed_within written c.args.reader.now c.take_whole.new.reader before _ left _ _ c.args.piece.now piece all is (passes before stands) (c.take_whole.ensures.lists ∙ c.loop.invariant.3) in (
+      λ at e. no_reason written _ _ _ piece at.why within (returns-then-branch-clause-why g c at e),
+      when_ok c.ended.result _ (λ ok. given_at_end written _ _ _ piece within (c.ended.ensures.ok.0 ok).0 end),
+    )
