@@ -2,10 +2,11 @@ use Rattle.std.proofs.Common.{◌∙◌, Err, ap, inr, rules, refl, subst}
 use Rattle.daq_reader.specs.Frames.{HasFrame}
 use Rattle.recording.specs.declared.piece.Piece.{Piece}
 use Rattle.recording.specs.declared.reason.Reason.TheVariants.{Read}
-use Rattle.recording.specs.Pieces.{unread_at}
+use Rattle.recording.specs.Pieces.{Passes, unread_at}
 use Rattle.recording.proofs.PassLemmas.{frames_pass, nothing_passed, read_pass, when_ok, where_ok}
 use Rattle.recording.proofs.PieceLemmas.{stand_behind}
 use Rattle.recording.proofs.WithinLemmas.{given_at_end, no_reason, passed_within}
+use Rattle.recording.proofs.recording.read_frames.Given.{Over}
 use Rattle.recording.proofs.recording.read_frames.Goals as goal
 
 -- before the first piece
@@ -25,15 +26,21 @@ loop-preserved g c = (
 pub returns-in-Err-clause-broken : goal.returns-in-Err-clause-broken
 returns-in-Err-clause-broken g c = λ at is. frames_pass _ _ _ _ _ _ _ _ _ c.loop.piece c.take_whole.new.piece c.loop.invariant.2 c.take_whole.ensures.read c.take_whole.ensures.byte
 
+-- what is at hand once the end is met
+abbrev last_piece : (g : Over) → goal.After-ended g → Piece
+last_piece g c = record { bytes = c.read_more.new.held; place = c.take_whole.new.piece.place }
+
+end_passes : (g : Over) (c : goal.After-ended g) → Passes c.args.reader.now (g.S.Samples.handed c.args.samples.now) c.take_whole.new.reader (g.S.Samples.handed c.take_whole.new.samples) (g.I.Read.remaining c.args.input.now) (g.I.Read.remaining c.read_more.new.input) c.args.piece.now (last_piece g c)
+end_passes g c =
+    read_pass _ _ _ _ _ _ _ _ _ _ c.loop.piece c.take_whole.new.piece (last_piece g c) c.loop.invariant.2 c.take_whole.ensures.read c.take_whole.ensures.byte refl c.in_ok-read_more.ensures.appends c.in_ok-read_more.ensures.taken
+
 -- the end is met, and all is read
 pub returns-then-branch-clause-read : goal.returns-then-branch-clause-read
-returns-then-branch-clause-read g c =
-    where_ok c.ended.result _ (read_pass _ _ _ _ _ _ _ _ _ _ c.loop.piece c.take_whole.new.piece (record { bytes = c.read_more.new.held; place = c.take_whole.new.piece.place }) c.loop.invariant.2 c.take_whole.ensures.read c.take_whole.ensures.byte refl c.in_ok-read_more.ensures.appends c.in_ok-read_more.ensures.taken)
+returns-then-branch-clause-read g c = where_ok c.ended.result _ (end_passes g c)
 
 -- the end is met, and something is left
 pub returns-then-branch-clause-broken : goal.returns-then-branch-clause-broken
-returns-then-branch-clause-broken g c = λ at is.
-    read_pass _ _ _ _ _ _ _ _ _ _ c.loop.piece c.take_whole.new.piece (record { bytes = c.read_more.new.held; place = c.take_whole.new.piece.place }) c.loop.invariant.2 c.take_whole.ensures.read c.take_whole.ensures.byte refl c.in_ok-read_more.ensures.appends c.in_ok-read_more.ensures.taken
+returns-then-branch-clause-broken g c = λ at is. end_passes g c
 
 -- the end is met, and nothing more was read
 pub returns-then-branch-clause-why : goal.returns-then-branch-clause-why
@@ -51,10 +58,7 @@ returns-in-Err-clause-given g c = λ before written left stands all is.
 -- and at its end all is read
 pub returns-then-branch-clause-given : goal.returns-then-branch-clause-given
 returns-then-branch-clause-given g c = λ before written left stands all is.
-    let piece : Piece = record { bytes = c.read_more.new.held; place = c.take_whole.new.piece.place } in
-    let end = c.in_ok-read_more.ensures.end c.if-branch.true in
-    let passes = read_pass _ _ _ _ _ _ _ _ _ _ c.loop.piece c.take_whole.new.piece piece c.loop.invariant.2 c.take_whole.ensures.read c.take_whole.ensures.byte refl c.in_ok-read_more.ensures.appends c.in_ok-read_more.ensures.taken in
-    let within = passed_within written c.args.reader.now c.take_whole.new.reader before _ left _ _ c.args.piece.now piece all is (passes before stands) (c.take_whole.ensures.lists ∙ c.loop.invariant.3) in (
-      λ at e. no_reason written _ _ _ piece at.why within (returns-then-branch-clause-why g c at e),
-      when_ok c.ended.result _ (λ ok. given_at_end written _ _ _ piece within (c.ended.ensures.ok.0 ok).0 end),
+    let within = passed_within written c.args.reader.now c.take_whole.new.reader before _ left _ _ c.args.piece.now (last_piece g c) all is (end_passes g c before stands) (c.take_whole.ensures.lists ∙ c.loop.invariant.3) in (
+      λ at e. no_reason written _ _ _ (last_piece g c) at.why within (returns-then-branch-clause-why g c at e),
+      when_ok c.ended.result _ (λ ok. given_at_end written _ _ _ (last_piece g c) within (c.ended.ensures.ok.0 ok).0 (c.in_ok-read_more.ensures.end c.if-branch.true)),
     )
