@@ -77,8 +77,8 @@ IsFaultOf lists left (Packet fault) =
     (q : List ℕ) × (behind : Unread) × IsNext left behind q × (refusal lists q ≡ Some fault)
 
 -- a recording is read no further for this: the bytes at hand don't begin with the next frame, and
--- where none is whole, nothing is left behind them, or they are as many as the longest has; or
--- there is no byte at all, and packets of some list wait for others
+-- where they don't with any whole one, nothing is left behind them, or they are at least as many as
+-- the longest frame has; or no byte is left at all, and packets of some list wait for others
 abbrev pub IsReason : List Reading → Unread → Option (List ℕ) → Reason → Type 0
 IsReason lists left rest (Read fault) =
     IsFaultOf lists left fault

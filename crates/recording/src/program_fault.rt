@@ -33,7 +33,7 @@ impl ProgramFault {
     /// Want of memory, wherever it was met.
     pub const MEMORY: ProgramFault = ProgramFault::Text(TextFault::Memory);
 
-    /// Why a recording isn't read, where there was this fault.
+    /// Why a recording isn't read, by the fault of reading a text.
     pub fn of_recording(fault: TextFault) -> ProgramFault
         ensures { result ≡ fault_of_recording fault }
     {
