@@ -1,5 +1,5 @@
 -- A recording of whole samples that is read on, piece by piece.
-use Rattle.std.proofs.Common.{◌≡◌, ◌≢◌, ℕ, ◌+◌, ◌%◌, ◌/◌, ◌<◌, ◌≤◌, ◌⊎◌, inl, inr, List, [], ◌∷◌, ◌++◌, length, drop, Option, None, Some, refl, sym, ap, subst, ◌∙◌, arith, append_assoc}
+use Rattle.std.proofs.Common.{◌≡◌, ◌≢◌, ℕ, ◌+◌, ◌%◌, ◌/◌, ◌<◌, ◌≤◌, ◌⊎◌, inl, inr, List, [], ◌∷◌, ◌++◌, length, drop, Option, Some, refl, sym, ap, subst, ◌∙◌, arith, append_assoc}
 use Rattle.std.proofs.lemmas.List.{append-nil}
 use Rattle.std.proofs.lemmas.List.Elements.{All-from_recursion, All-head, All-tail}
 use Rattle.std.specs.Prelude.{All}
@@ -21,6 +21,7 @@ use Rattle.daq_reader.specs.Recording.{AreGivenBack, AreSampled, IsRecordingOf}
 use Rattle.recording.specs.declared.piece.Piece.{Piece}
 use Rattle.recording.specs.declared.reason.Reason.{Reason}
 use Rattle.recording.specs.declared.reason.Reason.TheVariants.{Read, WithinSample}
+use Rattle.recording.proofs.FrontLemmas.{in_front, rest_of}
 use Rattle.recording.specs.Pieces.{HasPassed, IsReason, unread_at, unread_of, unread_with}
 
 -- bytes more behind those that are to be read
@@ -79,10 +80,6 @@ pub record IsLeft (written : List (ℕ × Recorded)) (lists : List Reading) (gs 
   pub is : rest ≡ Some behind
   pub within : IsWithin written lists gs (unread_with piece behind)
 
-rest_of : (left : List ℕ) (rest : Option (List ℕ)) (taken : List ℕ) → Consumes (Some left) rest taken → (behind : List ℕ) × (rest ≡ Some behind) × (left ≡ taken ++ behind)
-rest_of left None taken h = absurd h
-rest_of left (Some behind) taken h = (behind, refl, h)
-
 pub passed_within : (written : List (ℕ × Recorded)) (old now : List Reading) (before : List (List ℕ)) (gs : List (ℕ × Recorded)) (left : List ℕ) (input rest : Option (List ℕ)) (first piece : Piece)
     → input ≡ Some left → IsRecordingOf (plans_of old) written before (unread_with first left) → HasPassed now before gs input rest first piece → plans_of now ≡ plans_of old → IsLeft written now gs rest piece
 passed_within written old now before gs left input rest first piece all is p same =
@@ -97,15 +94,6 @@ passed_within written old now before gs left input rest first piece all is p sam
 front_none : (xs ys : List ℕ) → xs ++ ys ≡ [] → xs ≡ []
 front_none [] ys e = refl
 front_none (x ∷ xs) ys e = absurd (cc)
-
--- what is no longer than the front stands in it
-in_front : (xs ys f zs : List ℕ) → xs ++ ys ≡ f ++ zs → length f ≤ length xs → xs ≡ f ++ drop (length f) xs
-in_front xs ys [] zs e long = refl
-in_front [] ys (c ∷ f) zs e long = absurd (omega (arith, long))
-in_front (x ∷ xs) ys (c ∷ f) zs e long =
-    let head : x ≡ c = cc in
-    let tail : xs ++ ys ≡ f ++ zs = cc in
-    ap (λ h. h ∷ xs) head ∙ ap (λ t. c ∷ t) (in_front xs ys f zs tail (omega (arith, long)))
 
 -- bytes that begin a recording, and have no whole frame, are the front of a frame behind which more
 -- is left

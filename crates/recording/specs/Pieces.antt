@@ -39,6 +39,10 @@ unread_of piece = unread_at piece.place piece.bytes.items
 abbrev pub unread_with : Piece → List ℕ → Unread
 unread_with piece left = unread_at piece.place (piece.bytes.items ++ left)
 
+-- the bytes of a piece, and behind them the rest of the input, are what is to be read
+abbrev pub IsLeftUnread : Option (List ℕ) → Unread → Piece → Type 0
+IsLeftUnread rest a piece = (left : List ℕ) × (rest ≡ Some left) × (unread_with piece left ≡ a)
+
 -- behind the packets `qs` a recording was read on from one piece to another: bytes were taken off
 -- the input, and behind those of the piece before they begin with the frames of some more packets,
 -- after which the lists and the samples stand; the other piece has the bytes behind these frames,

@@ -11,7 +11,7 @@ ghost use Rattle.daq_reader.specs.Recorded.{Recorded};
 ghost use Rattle.daq_reader.specs.Recording.{AreGivenBack, IsRecordingOf};
 ghost use Rattle.recording.specs.Faults.{breaks_off, torn};
 ghost use Rattle.recording.specs.Pieces.{IsFaultOf, IsReason, Passes, StandSomewhere, unread_of};
-ghost use Rattle.recording.specs.Pieces.{unread_with};
+ghost use Rattle.recording.specs.Pieces.{IsLeftUnread, unread_with};
 ghost use Rattle.recording.specs.declared.piece.TheConstants.{MAX_FRAME};
 ghost use Rattle.recording.specs.declared.program_fault.ProgramFault.TheVariants.{BreaksOff};
 ghost use Rattle.recording.specs.declared.program_fault.ProgramFault.TheVariants.{InReplies};
@@ -45,6 +45,11 @@ pub fn pass_replies<I: Read>(
         (λ bytes. ¬ StartsWith bytes replies.now) }
     ensures within { result ≡ Err InReplies → IfSome (I.remaining input.old)
         (λ bytes. StartsWith replies.now bytes × (length bytes < length replies.now)) }
+
+    ensures passed { (behind : List ℕ) → I.remaining input.old ≡ Some (replies.now ++ behind)
+        → (result ≢ Err OtherRun) × (result ≢ Err InReplies)
+        × IfOk result (IsLeftUnread (I.remaining input.new)
+        (record { rest = behind; counter = frames % 65536 })) }
 {
     let mut bytes = front_from(alloc, input, replies.len()).map_err(ProgramFault::of_recording)?;
     if !begins_with(&bytes, replies) {
