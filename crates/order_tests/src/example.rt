@@ -1,4 +1,4 @@
-//! The README's example of orders, whose last lines it shows.
+//! An example of orders, to which the README points.
 use channel_ring::SendEnd;
 use control_ring::{ControlSend, ControlTake, Order};
 use sampler::{Polled, Sampler};
