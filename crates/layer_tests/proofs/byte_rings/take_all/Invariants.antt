@@ -1,6 +1,6 @@
 use Rattle.std.proofs.Common.{◌≡◌}
 use Rattle.channel_ring.specs.Names.{name_of}
-use Rattle.sample_tests.proofs.byte_rings.take_all.Given as goal
+use Rattle.layer_tests.proofs.byte_rings.take_all.Given as goal
 
 -- the end is still of its ring
 abbrev pub invariant-loop-number : goal.invariant-loop-number
