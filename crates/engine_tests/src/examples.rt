@@ -576,11 +576,6 @@ fn each_engine_writes_its_frames_and_its_account(rt: HostRuntime) -> Result<(), 
     for example in OF_ITEMS.iter().chain(&OF_BOTH) {
         run::<SampleRing>(&rt, rt.alloc(), example, example.caps)?;
     }
-    Ok(())
-}
-
-#[test]
-fn each_engine_over_rings_of_bytes_does_the_same(rt: HostRuntime) -> Result<(), Fail> {
     for example in OF_BOTH.iter().chain(&OF_BYTES) {
         let caps = &IN_BYTES[..example.caps.len().min(2)];
         run::<ByteRing>(&rt, rt.alloc(), example, caps)?;

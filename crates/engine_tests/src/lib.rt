@@ -7,8 +7,6 @@ mod broken_writers;
 #[cfg(test)]
 mod examples;
 #[cfg(test)]
-mod forms;
-#[cfg(test)]
 mod opened;
 #[cfg(test)]
 mod opening;

@@ -2,7 +2,6 @@
 use daq_store::{Refusal, Store};
 use std::alloc::Global;
 use std::test::Fail;
-use xcp_base::IdKind;
 
 /// A DAQ list: its event channel, its mode, its prescaler and, of each ODT, its one entry.
 #[derive(Clone, Copy)]
@@ -78,19 +77,6 @@ pub fn store_of(
     lists: &[List],
 ) -> Result<Store, Fail> {
     let mut store = ready_of(alloc, channels, image_len, lists)?;
-    start(&mut store, count_of(lists))?;
-    Ok(store)
-}
-
-/// A store of one event channel, for images of two bytes, with packets of this form, in which these
-/// lists run.
-pub fn store_in(
-    alloc: Global,
-    (id, stamp_size): (IdKind, u8),
-    lists: &[List],
-) -> Result<Store, Fail> {
-    let mut store = Store::with_form(alloc, 1, 2, id, stamp_size)?;
-    set_up(&mut store, lists)?;
     start(&mut store, count_of(lists))?;
     Ok(store)
 }

@@ -11,31 +11,8 @@ pub const ONE_CHANNEL_BYTES: &str = "channels = 1\nimage_len = 2\nring = \"bytes
 pub const ONE_LIST: &str = "setup = [\"d6\", \"d5000100\", \"d400000001\", \"d30000000001\",
   \"e20000000000\", \"e1ff020000000000\", \"e000000000000100\", \"de010000\"]\n";
 
-/// The set-up of one list, which isn't started.
-pub const ONE_LIST_STOPPED: &str = "setup = [\"d6\", \"d5000100\", \"d400000001\", \"d30000000001\",
-  \"e20000000000\", \"e1ff020000000000\", \"e000000000000100\"]\n";
-
-/// The set-up of three lists of one entry, each on an event channel of its own, which then run.
-pub const THREE_LISTS: &str = "setup = ['d6', 'd5000300', 'd400000001', 'd400010001', 'd400020001',
-  'd30000000001', 'd30001000001', 'd30002000001',
-  'e20000000000', 'e1ff020000000000', 'e000000000000100',
-  'e20001000000', 'e1ff020000000000', 'e000010001000100',
-  'e20002000000', 'e1ff020000000000', 'e000020002000100',
-  'de010000', 'de010100', 'de010200']\n";
-
-/// No set-up.
-pub const NO_SETUP: &str = "setup = []\n";
-
 /// Two triggers.
 pub const TWO_TRIGGERS: &str = "steps = [\"trigger 0 0 aabb\", \"trigger 0 0 ccdd\"]\n";
-
-/// No steps.
-pub const NO_STEPS: &str = "steps = []\n";
-
-/// 31 and 32 bytes in hexadecimal.
-pub const BYTES_31: &str = "d6d6d6d6d6d6d6d6d6d6d6d6d6d6d6d6d6d6d6d6d6d6d6d6d6d6d6d6d6d6d6";
-
-pub const BYTES_32: &str = "d6d6d6d6d6d6d6d6d6d6d6d6d6d6d6d6d6d6d6d6d6d6d6d6d6d6d6d6d6d6d6d6";
 
 /// The parts of a text, one behind another.
 pub fn joined(alloc: Global, parts: &[&str]) -> Result<String, AllocError> {
