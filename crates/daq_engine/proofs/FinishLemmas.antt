@@ -1,7 +1,8 @@
 -- One sampler more that was finished.
-use Rattle.std.proofs.Common.{◌≡◌, ℕ, zero, suc, ◌⊎◌, inl, inr, ◌++◌, List, [], ◌∷◌, length, map, IfSome, Option, Some, refl, sym, ap, subst, ◌∙◌}
+use Rattle.std.proofs.Common.{◌≡◌, ℕ, zero, suc, ◌⊎◌, inl, inr, ◌++◌, List, [], ◌∷◌, length, map, All, IfSome, Option, Some, refl, sym, ap, subst, ◌∙◌}
 use Rattle.std.specs.Prelude.{slice_get}
 use Rattle.std.proofs.lemmas.List.{length-map, map-append}
+use Rattle.std.proofs.lemmas.List.Elements.{All-nil, All-cons}
 use Rattle.channel_ring.specs.declared.ends.SendEnd.{Ghosts as SendGhosts}
 use Rattle.channel_ring.specs.declared.ends.RingEnd.{Ghosts as EndGhosts}
 use Rattle.sampler.specs.State.{JoinedEnd, SamplerEndState, SamplerState, joined}
@@ -57,3 +58,8 @@ module _ {S E : Type 0} (send : SendGhosts S E) (ring : EndGhosts E) (past : ℕ
 pub capacities-joined : {E : Type 0} (ring : EndGhosts E) (es : List (SamplerEndState E)) → map (λ (e : JoinedEnd). e.capacity) (map (joined ring) es) ≡ map (λ (e : SamplerEndState E). e.capacity) es
 capacities-joined ring [] = refl
 capacities-joined ring (e ∷ es) = ap (λ ns. e.capacity ∷ ns) (capacities-joined ring es)
+
+-- and the costs of its kind of ring
+pub costs-joined : {E : Type 0} (ring : EndGhosts E) (es : List (SamplerEndState E)) → All (λ (e : JoinedEnd). e.cost ≡ ring.cost) (map (joined ring) es)
+costs-joined ring [] = All-nil (λ (e : JoinedEnd). e.cost ≡ ring.cost)
+costs-joined ring (e ∷ es) = All-cons (λ (e : JoinedEnd). e.cost ≡ ring.cost) (joined ring e) (map (joined ring) es) refl (costs-joined ring es)

@@ -218,7 +218,7 @@ where
     pub fn close(self, alloc: Global, drain: bool) -> Result<(Report, O), Unclosed<O, T>>
         ensures closed { IfOk result (λ r. (st : Standing) →
             Stands T.Send.SendEnd T.End.RingEnd (engine_state O.Out T.TakeEnd self) st →
-            ClosesEngine T.Send.SendEnd drain (engine_state O.Out T.TakeEnd self) st
+            ClosesEngine T.Send.SendEnd T.End.RingEnd drain (engine_state O.Out T.TakeEnd self) st
             r.0 (shown O.Out r.1)) }
         ensures back { IfErr result (λ r.
             GivesBack O.Out T.TakeEnd r (engine_state O.Out T.TakeEnd self)) }

@@ -108,7 +108,7 @@ module _ {S E : Type 0} (send : SendGhosts S E) (ring : EndGhosts E) (run : RunD
     abbrev standing : Standing
     standing = record { start = opened.writer; past = h.past; taken = taken_in h.done }
 
-    module _ (report : Report) (after : OutState) (closes : ClosesEngine send run.drain b standing report after) where
+    module _ (report : Report) (after : OutState) (closes : ClosesEngine send ring run.drain b standing report after) where
       abbrev ends : List JoinedEnd
       ends = closes.ends
 

@@ -14,7 +14,7 @@ use Rattle.daq_store.specs.declared.entry.Entry.{Entry}
 use Rattle.daq_store.specs.declared.mode.Mode.{Mode}
 use Rattle.daq_store.specs.declared.list_state.ListState.{ListState}
 use Rattle.daq_store.specs.Configuration.{fresh_conf, odt_entries, is_ready}
-use Rattle.daq_store.specs.Standing.{StoreState, IsStore, IsAtEntry, HasForm, RunsReady, conf_of, odts_of}
+use Rattle.daq_store.specs.Standing.{StoreState, IsStore, IsAtEntry, HasChannel, HasForm, RunsReady, conf_of, odts_of}
 use Rattle.daq_store.specs.Inner.Effects.{with_mode, with_entry, start_stopped, synched, is_unready}
 use Rattle.daq_store.proofs.TableLemmas.{sum_by-map, below_from}
 use Rattle.daq_store.proofs.StandingLemmas.{conf_at}
@@ -44,8 +44,9 @@ pointer_kept s t (Some p) same h = at_kept s t p same h
 
 -- the lists are others with the same ODTs, and those that run are ready
 pub same_odts_keep : (s : StoreState) (ys : List ListState) → IsStore s → map all_odts ys ≡ map all_odts s.lists
-    → All (HasForm s.profile.form) ys → All (RunsReady s.profile.image_len) ys → IsStore (record s { lists = ys })
-same_odts_keep s ys h same forms runs =
+    → All (HasForm s.profile.form) ys → All (HasChannel s.profile.channels) ys → All (RunsReady s.profile.image_len) ys
+    → IsStore (record s { lists = ys })
+same_odts_keep s ys h same forms modes runs =
     let len : length ys ≡ length s.lists = sym (length-map ys all_odts) ∙ ap length same ∙ length-map s.lists all_odts in
     let total : sum_by odts_of ys ≡ sum_by odts_of s.lists
     = sym (sum_by-map length all_odts ys) ∙ ap (sum_by length) same ∙ sum_by-map length all_odts s.lists in
@@ -55,6 +56,7 @@ same_odts_keep s ys h same forms runs =
       lists = rw len h.lists;
       odts = rw total h.odts;
       forms = forms;
+      modes = modes;
       running = runs;
       pointer = pointer_kept s (record s { lists = ys }) s.pointer same h.pointer;
     }
@@ -67,12 +69,23 @@ forms_set s l x y h inside is same =
     let own : HasForm s.profile.form y = same ∙ ap (λ (z : ListState). z.conf.form) is ∙ was in
     All-set (HasForm s.profile.form) s.lists l y own h.forms
 
+-- the mode of each list names a channel of the store after a change of one that keeps its mode
+pub modes_set : (s : StoreState) (l : ℕ) (x y : ListState) → IsStore s → l < length s.lists → x ≡ get_or s.lists l x
+    → y.conf.mode ≡ x.conf.mode → All (HasChannel s.profile.channels) (set s.lists l y)
+modes_set s l x y h inside is same =
+    let was : HasChannel s.profile.channels (get_or s.lists l x) = All-get_or (HasChannel s.profile.channels) s.lists l x inside h.modes in
+    let here : y.conf.mode ≡ (get_or s.lists l x).conf.mode = same ∙ ap (λ (z : ListState). z.conf.mode) is in
+    let own : HasChannel s.profile.channels y = subst (λ (o : Option Mode). IfSome o (λ mode. mode.channel < s.profile.channels)) (sym here) was in
+    All-set (HasChannel s.profile.channels) s.lists l y own h.modes
+
 -- one list is another with the same ODTs and the same form
 one_kept : (s : StoreState) (l : ℕ) (x y : ListState) → IsStore s → l < length s.lists → x ≡ get_or s.lists l x
-    → RunsReady s.profile.image_len y → all_odts y ≡ all_odts x → y.conf.form ≡ x.conf.form → IsStore (record s { lists = set s.lists l y })
-one_kept s l x y h inside is runs odts form =
+    → RunsReady s.profile.image_len y → all_odts y ≡ all_odts x → y.conf.form ≡ x.conf.form → All (HasChannel s.profile.channels) (set s.lists l y)
+    → IsStore (record s { lists = set s.lists l y })
+one_kept s l x y h inside is runs odts form modes =
     same_odts_keep s (set s.lists l y) h (map-set_same all_odts s.lists l y x (odts ∙ ap all_odts is))
     (forms_set s l x y h inside is form)
+    modes
     (All-set (RunsReady s.profile.image_len) s.lists l y runs h.running)
 
 -- a list that doesn't run is as good as ready
@@ -80,10 +93,11 @@ stopped_is_ready : (image_len : ℕ) (x : ListState) → x.running ≡ false →
 stopped_is_ready image_len x stopped = λ runs. let bad : true ≡ false = sym runs ∙ stopped in cc
 
 -- SET_DAQ_LIST_MODE
-pub mode_keeps : (s : StoreState) (l : ℕ) (x : ListState) (mode : Mode) → IsStore s → l < length s.lists → x ≡ get_or s.lists l x → x.running ≡ false
+pub mode_keeps : (s : StoreState) (l : ℕ) (x : ListState) (mode : Mode) → IsStore s → l < length s.lists → x ≡ get_or s.lists l x → x.running ≡ false → mode.channel < s.profile.channels
     → IsStore (record s { lists = set s.lists l (with_mode x mode) })
-mode_keeps s l x mode h inside is stopped =
+mode_keeps s l x mode h inside is stopped there =
     one_kept s l x (with_mode x mode) h inside is (stopped_is_ready s.profile.image_len (with_mode x mode) stopped) refl refl
+    (All-set (HasChannel s.profile.channels) s.lists l (with_mode x mode) there h.modes)
 
 -- START_STOP_DAQ_LIST
 started_ready : (select start run ready : Bool) → (run ≡ true → ready ≡ true) → (start && not ready) ≡ false
@@ -101,6 +115,7 @@ start_stop_keeps s l mode x h inside is starts =
     let was : RunsReady s.profile.image_len (get_or s.lists l x) = All-get_or (RunsReady s.profile.image_len) s.lists l x inside h.running in
     let was_ready : RunsReady s.profile.image_len x = subst (RunsReady s.profile.image_len) (sym is) was in
     one_kept s l x (start_stopped mode x) h inside is (started_ready (mode == 2) (mode == 1) x.running ready was_ready starts) refl refl
+    (modes_set s l x (start_stopped mode x) h inside is refl)
 
 -- START_STOP_SYNCH
 synched_ready : (all start chosen run ready : Bool) → (all && start) ≡ false → (run ≡ true → ready ≡ true)
@@ -133,6 +148,7 @@ synch_keeps s mode h starts =
     let none = none_of (mode == 1) (is_unready s.profile.image_len) s.lists starts in
     same_odts_keep s (map (synched mode) s.lists) h (map-map all_odts (synched mode) s.lists)
     (All-map (HasForm s.profile.form) (synched mode) s.lists h.forms)
+    (All-map (HasChannel s.profile.channels) (synched mode) s.lists h.modes)
     (All-map (RunsReady s.profile.image_len) (synched mode) s.lists
     (λ k d inside.
     let x : ListState = get_or s.lists k d in
@@ -183,6 +199,7 @@ entry_keeps s l k e x entry h inside is stopped there =
       lists = rw (length-set s.lists l y) h.lists;
       odts = omega (arith, sum_by-set odts_of s.lists l y x inside, own, got, h.odts);
       forms = forms;
+      modes = modes_set s l x y h inside is refl;
       running = All-set (RunsReady s.profile.image_len) s.lists l y (stopped_is_ready s.profile.image_len y stopped) h.running;
       pointer = next_is_there t l k e (nat_lt (e + 1) (length (odt_entries x.conf k))) (λ more. rw len (below_from _ _ more));
     }

@@ -1,5 +1,5 @@
 -- What a store shows is what is read off the calls that it stands after.
-use Rattle.std.proofs.Common.{inl, inr, slice_get, unwrap_or, option_map, suc, Some, None, nat_lt, [], Option, ◌≡◌, ℕ, ◌+◌, ◌<◌, ◌≤◌, Bool, true, false, ◌&&◌, List, length, get_or, take, sum_by, refl, sym, ◌∙◌, ap, arith, zero-add, All}
+use Rattle.std.proofs.Common.{inl, inr, slice_get, unwrap_or, option_map, suc, Some, None, nat_lt, [], Option, ◌≡◌, ℕ, ◌<◌, ◌≤◌, Bool, true, false, ◌&&◌, List, length, get_or, take, sum_by, refl, sym, ◌∙◌, ap, arith, zero-add, All}
 use Rattle.std.specs.List.{list_any}
 use Rattle.std.proofs.lemmas.List.FromFn.{length-map-range_with_len, get_or-map-range_with_len, take-map-range_with_len}
 use Rattle.std.proofs.lemmas.Option.{slice_get-get_or, slice_get_past}

@@ -97,6 +97,10 @@ first_pid_after form calls l =
 abbrev pub RunsReady : ℕ → ListState → Type 0
 RunsReady image_len x = x.running ≡ true → is_ready image_len x.conf ≡ true
 
+-- the mode of a list, if one was set, names one of so many event channels
+abbrev pub HasChannel : ℕ → ListState → Type 0
+HasChannel channels x = IfSome x.conf.mode (λ mode. mode.channel < channels)
+
 -- the packets of a list have this form
 abbrev pub HasForm : PacketForm → ListState → Type 0
 HasForm form x = x.conf.form ≡ form
@@ -112,5 +116,6 @@ pub record IsStore (s : StoreState) : Type 0 where
   pub lists : length s.lists ≤ MAX_LISTS
   pub odts : sum_by odts_of s.lists ≤ most_odts s.profile.form.id
   pub forms : All (HasForm s.profile.form) s.lists
+  pub modes : All (HasChannel s.profile.channels) s.lists
   pub running : All (RunsReady s.profile.image_len) s.lists
   pub pointer : IfSome s.pointer (IsAtEntry s)

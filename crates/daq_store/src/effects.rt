@@ -97,6 +97,7 @@ impl Store {
         requires there { list < length self.old.lists }
         requires stopped { shows_running self.old list ≡ false }
         requires mode { IsMode mode }
+        requires channel { mode.channel < self.old.profile.channels }
         ensures { self.new ≡ mode_put self.old list mode }
     {
         let state = &mut self.lists[list as usize];

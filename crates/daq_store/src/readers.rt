@@ -6,7 +6,7 @@ ghost use Rattle.xcp_base.specs.Forms.{FitsFirstPid, stamp_bytes};
 ghost use Rattle.daq_store.specs.Shape.{list_count, is_list};
 ghost use Rattle.daq_store.specs.Pointer.{pointer};
 ghost use Rattle.daq_store.specs.Running.{is_active, is_chosen};
-ghost use Rattle.daq_store.specs.Configuration.{is_ready, list_is_ready, configuration};
+ghost use Rattle.daq_store.specs.Configuration.{channel_of, configuration, is_ready, list_is_ready};
 
 use crate::command::Command;
 use crate::list_conf::ListConf;
@@ -116,6 +116,8 @@ impl Store {
         ensures ready { IsSome result ↔ ((list < length self.now.lists)
             × (is_ready self.now.profile.image_len (conf_of self.now list) ≡ true)) }
         ensures value { IfSome result (λ conf. conf.now ≡ conf_of self.now list) }
+        ensures channel { IfSome result
+            (λ conf. channel_of conf.now.mode < self.now.profile.channels) }
         ensures ready_after { (calls : List Command) → StoreStandsAfter self.now calls
             → IsSome result
             ↔ ((is_list calls list && list_is_ready self.now.profile calls list) ≡ true) }

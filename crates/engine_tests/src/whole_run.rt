@@ -1,19 +1,13 @@
 //! A whole run in one thread, over any writer and any kind of ring: it has the headline, with its
 //! history by name.
-ghost use Rattle.std.specs.Prelude.{ℕ, ◌<◌, [], Bool, IfOk, List, true};
-ghost use Rattle.xcp_base.specs.declared.item.Item.{Item};
+ghost use Rattle.std.specs.Prelude.{IfOk};
 ghost use Rattle.frame_writer.specs.Shown.{shown};
-ghost use Rattle.frame_writer.specs.Writing.{fresh_writer};
-ghost use Rattle.sampler.specs.History.{Opening, Start, Stop, Trigger};
-ghost use Rattle.daq_engine.specs.Openings.{IsOpeningOf};
-ghost use Rattle.daq_engine.specs.Closings.{ClosesEngine};
-ghost use Rattle.daq_engine.specs.Engines.{EngineState, Stands, Standing};
-ghost use Rattle.daq_engine.specs.Engines.{engine_state, first_standing};
-ghost use Rattle.daq_engine.specs.Events.{with_event, with_taken};
+ghost use Rattle.daq_engine.specs.Engines.{Stands, Standing, engine_state};
+ghost use Rattle.engine_tests.specs.WholeRun.{RecordsOnce, RunsOnce};
 
 use crate::same::same;
 use crate::stores::two_lists;
-use channel_ring::{Beside, RingEnd, SendEnd, SendHalf, TakeEnd};
+use channel_ring::{Beside, RingEnd, SendEnd, SendHalf, SendLeft, TakeEnd};
 use daq_engine::{Engine, ListReport, Report};
 use daq_store::Store;
 use frame_writer::{FrameWriter, Out, VecOut};
@@ -32,10 +26,8 @@ where
     T::Send: SendEnd<End = T::End>,
     ensures { IfOk result (λ r. (st : Standing) →
         Stands T.Send.SendEnd T.End.RingEnd (engine_state O.Out T.TakeEnd engine) st →
-        (ds : List Bool) × (qs : List (ℕ × Item)) × (last : EngineState _)
-        × ClosesEngine T.Send.SendEnd true last
-        (with_event 0 (Start 0) [] (with_event 0 (Stop 0) []
-        (with_taken qs (with_event 0 (Trigger image.now stamp) ds st)))) r.0 (shown O.Out r.1)) }
+        RunsOnce T.Send.SendEnd T.End.RingEnd (engine_state O.Out T.TakeEnd engine) st
+        image.now stamp r.0 (shown O.Out r.1)) }
 {
     let mut engine = engine;
     let Ok(_) = engine.trigger(0, image, stamp) else {
@@ -63,13 +55,9 @@ fn record_once<O: Out + Drop>(
     image: &[u8],
     stamp: u32,
 ) -> Result<(Report, O), Fail>
-    ensures { IfOk result (λ r. (openings : ℕ → Opening)
-        × ((c : ℕ) → c < store.now.profile.channels → IsOpeningOf store.now c (openings c))
-        × (ds : List Bool) × (qs : List (ℕ × Item)) × (last : EngineState _)
-        × ClosesEngine ⟦<SendHalf as SendEnd>⟧ true last
-        (with_event 0 (Start 0) [] (with_event 0 (Stop 0) []
-        (with_taken qs (with_event 0 (Trigger image.now stamp) ds
-        (first_standing (fresh_writer (shown O.Out out)) openings))))) r.0 (shown O.Out r.1)) }
+    ensures { IfOk result (λ r.
+        RecordsOnce ⟦<SendHalf as SendEnd>⟧ ⟦<SendLeft as RingEnd>⟧ store.now caps.now
+        (shown O.Out out) image.now stamp r.0 (shown O.Out r.1)) }
 {
     match Engine::open(alloc, store, caps, FrameWriter::new(out)) {
         Ok(engine) => run_once(alloc, engine, image, stamp),

@@ -3,3 +3,4 @@ pub mod PlaceLemmas
 pub mod AcceptedLemmas
 pub mod ListLemmas
 pub mod JoinLemmas
+pub mod StoreLemmas

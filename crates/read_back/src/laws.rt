@@ -1,5 +1,8 @@
-//! The law that joins the engine to the reader: the contract of a function that does nothing.
+//! The laws that join the engine to the reader: the contracts of functions that do nothing.
 ghost use Rattle.read_back.specs.Laws.{WrittenIsReadBack};
+ghost use Rattle.read_back.specs.Plans.{HasAllPlans};
+
+use daq_store::Store;
 
 /// What an engine wrote is a recording of the first samples that its event channels accepted.
 ///
@@ -10,3 +13,13 @@ ghost use Rattle.read_back.specs.Laws.{WrittenIsReadBack};
 pub fn what_is_written_is_read_back()
     ensures { WrittenIsReadBack }
 {}
+
+/// The ready DAQ lists of a store are all that an engine over it is opened with: each of them is
+/// of an event channel that the store has. So a reader of these lists is one of all channels.
+pub fn ready_lists_are_all(store: &Store)
+    ensures { HasAllPlans store.now }
+{
+    for l in 0..store.lists() {
+        let _ = store.plan(l);
+    }
+}

@@ -28,7 +28,7 @@ returns-in-Ok-clause-ok g c =
     let done = c.do_steps-refused.ensures.does opened.writer opened.openings opened.stands in
     comes_to g.K.Send.SendEnd g.K.Send.End.RingEnd c.args.run.now c.requires.cost (shown g.O.Out c.args.out) a b opened c.do_steps-refused.ensures.samplers_stay
     c.do_steps-refused.result done c.in-Ok.report (shown g.O.Out c.in-Ok.out)
-    (subst (λ d. ClosesEngine g.K.Send.SendEnd d b (standing_of opened.writer done.past done.done) c.in-Ok.report (shown g.O.Out c.in-Ok.out)) c.drain.ensures.value
+    (subst (λ d. ClosesEngine g.K.Send.SendEnd g.K.Send.End.RingEnd d b (standing_of opened.writer done.past done.done) c.in-Ok.report (shown g.O.Out c.in-Ok.out)) c.drain.ensures.value
     (c.in-Ok.ensures.closed (standing_of opened.writer done.past done.done) done.stands))
 
 -- what comes back is the engine after its steps, or its frame writer

@@ -14,7 +14,11 @@ returns-in-Ok g c =
     let openings = c.in-Ok.ensures.opened.0 in
     let opened = c.in-Ok.ensures.opened.1 in
     let stands = subst (λ (s : WriterState). Stands send.ghosts ring.ghosts (engine_state g.O.Out take_end.ghosts c.in-Ok.engine) (first_standing s openings)) c.new.ensures.fresh c.in-Ok.ensures.opened.2 in
-    if_ok _ _ c.run_once.result (λ r runs.
-    let one = runs (first_standing (fresh_writer (shown g.O.Out c.args.out)) openings) stands in
-    (openings, opened.of_store, one.0, one.1, one.2, one.3))
+    if_ok _ _ c.run_once.result (λ r runs. record {
+      openings = openings;
+      engine = engine_state g.O.Out take_end.ghosts c.in-Ok.engine;
+      opened = opened;
+      stands = stands;
+      runs = runs (first_standing (fresh_writer (shown g.O.Out c.args.out)) openings) stands;
+    })
     c.run_once.ensures

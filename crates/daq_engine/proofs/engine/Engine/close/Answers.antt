@@ -3,7 +3,7 @@ use Rattle.std.proofs.lemmas.List.{length-map}
 use Rattle.sampler.specs.State.{SamplerEndState, SamplerState, joined}
 use Rattle.daq_engine.specs.Configuration.{IsConfiguration}
 use Rattle.daq_engine.specs.Headline.{AllStand}
-use Rattle.daq_engine.proofs.FinishLemmas.{capacities-joined}
+use Rattle.daq_engine.proofs.FinishLemmas.{capacities-joined, costs-joined}
 use Rattle.daq_engine.proofs.engine.Engine.close.Goals as goal
 
 -- the ends stand after what the samplers stood after
@@ -25,5 +25,7 @@ returns-in-Some-clause-closed g c = λ st stands.
       as_many = as_many;
       sent = e.sent;
       capacities = capacities-joined ring c.in-Some.ends.items ∙ e.capacities;
+      costs = costs-joined ring c.in-Some.ends.items;
+      stand = e.stand st.past stands.samplers;
       closed = c.account_after.ensures st.start st.taken st.past stands.transmitter all;
     }
