@@ -147,7 +147,8 @@ typedef struct {
 
 /* What became of the samples of a DAQ list since the opening: of so many due, those of which all
  * frames were written, those that were dropped, and those that were left: in the ring, or not
- * written whole. The last three make up the first. */
+ * written whole. The last three make up the first. Written means that ng_pump or ng_drain gave the
+ * frames to their caller; nothing is known here of what a socket then did with them. */
 typedef struct {
     uint8_t list;
     uint64_t due, written, dropped, left;
@@ -217,7 +218,8 @@ ng_status ng_store_free(ng_store *store);
 
 /* Opens an engine over a store, which is only read. Each DAQ list that is ready is in the sampler
  * of its event channel, and runs there where it runs in the store. The rings are of this kind, and
- * that of event channel c has the capacity caps[c].
+ * that of event channel c has the capacity caps[c]. From then on the store and the engine are apart:
+ * a command that the store is sent later is answered as ever, and changes nothing of the engine.
  *
  *   NG_IN_USE           *engine isn't empty
  *   NG_EMPTY            *store is empty

@@ -48,11 +48,11 @@ fn command<'a>(alloc: Global) -> Result<Command<'a>, AllocError> {
         .long("out")
         .value_name("FILE")
         .action(ArgAction::Set)
-        .help("Write the frames to FILE, and print the account alone");
+        .help("Write the frames to FILE, for one run at a time, and print the account alone");
     let threads = Arg::new(alloc, "threads")
         .long("threads")
         .action(ArgAction::SetTrue)
-        .help("Sample each event channel in a thread of its own");
+        .help("Sample each event channel in a thread of its own, a stress test: most samples may be dropped");
     let run = Arg::new(alloc, "run")
         .value_name("RUN")
         .action(ArgAction::Set)
