@@ -6,7 +6,7 @@ cd "$(dirname "$0")/.."
 room=$(mktemp -d)
 trap 'rm -rf "$room"' EXIT
 cc -std=c99 -O2 -Wall -Wextra -Werror -pedantic -o "$room/recording" bench/recording.c
-./xcpread --help > /dev/null
+./prove > /dev/null
 "$room/recording" make "$room"
 for turn in 1 2 3 4 5; do
     for run in long short; do
