@@ -12,7 +12,7 @@ for turn in 1 2 3 4 5; do
     for run in long short; do
         "$room/recording" copy "$room/$run.frames"
         start=$(date +%s%N)
-        crates/xcpread/out/xcpread "$room/$run.toml" "$room/$run.frames" > "$room/out"
+        out/proved/xcpread "$room/$run.toml" "$room/$run.frames" > "$room/out"
         end=$(date +%s%N)
         echo "xcpread $run.toml $run.frames: $(((end - start) / 1000000)) ms, $(tail -n 1 "$room/out" | awk '{ print $3 }') samples"
     done
