@@ -1,6 +1,6 @@
 -- What the take end of a ring of bytes holds (own), and how long a record is.
-use Rattle.std.specs.Prelude.{◌≡◌, ℕ, zero, suc, ◌+◌, ◌-◌, ◌==◌, List, [], ◌∷◌, ◌++◌}
-use Rattle.std.specs.Prelude.{length, take, drop, min, nat_lt, slice_index, if◌then◌else◌}
+use Rattle.std.specs.Prelude.{◌≡◌, ℕ, zero, suc, ◌+◌, ◌==◌, List, [], ◌∷◌, ◌++◌}
+use Rattle.std.specs.Prelude.{length, drop, min, nat_lt, slice_index, if◌then◌else◌}
 use Rattle.byte_ring.specs.Records.{records_of}
 use Rattle.byte_ring.specs.Reading.{items_in}
 
@@ -8,14 +8,9 @@ use Rattle.byte_ring.specs.Reading.{items_in}
 abbrev pub AreRecords : List ℕ → Type 0
 AreRecords bytes = bytes ≡ records_of (items_in bytes)
 
--- of the bytes popped, those in front of what is held
-abbrev pub gone : List ℕ → List ℕ → List ℕ
-gone popped held = take (length popped - length held) popped
-
--- what is held stands last among the bytes popped, and in front of it stand whole records
-pub record IsHeld (popped held : List ℕ) : Type 0 where
-  pub last : popped ≡ gone popped held ++ held
-  pub whole : AreRecords (gone popped held)
+-- what is held is what was popped behind the records of the items received
+abbrev pub IsHeld : List ℕ → List ℕ → Type 0
+IsHeld popped held = popped ≡ records_of (items_in popped) ++ held
 
 -- the least number of bytes that n packets take up, each behind its length, which begin with these
 unfoldable pub least_body : ℕ → List ℕ → ℕ
@@ -23,8 +18,8 @@ least_body zero bytes = 0
 least_body (suc n) [] = 2 + least_body n []
 least_body (suc n) (len ∷ bytes) = 1 + len + least_body n (drop len bytes)
 
--- the least number of bytes of a record that begins with these; where a whole record stands in
--- front, its length
+-- the least number of bytes of a record that begins with these: more than these, where they are only
+-- a part of it; where a whole record stands in front, its length
 unfoldable pub least_record : List ℕ → ℕ
 least_record [] = 3
 least_record (kind ∷ bytes) =

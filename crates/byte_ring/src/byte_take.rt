@@ -1,14 +1,15 @@
-ghost use Rattle.std.specs.Prelude.{◌≡◌, ◌+◌, ◌%◌, ◌^◌, ◌≤◌, [], ◌++◌, length, take};
-ghost use Rattle.rtrb.specs.Ring.{known_items, received};
+ghost use Rattle.std.specs.Prelude.{◌≡◌, ◌%◌, ◌^◌, [], length};
+ghost use Rattle.rtrb.specs.Ring.{received};
 ghost use Rattle.channel_ring.specs.Names.{name_of};
-ghost use Rattle.byte_ring.specs.Fronts.{IsReady, part};
-ghost use Rattle.byte_ring.specs.Held.{IsHeld, gone};
+ghost use Rattle.byte_ring.specs.Fronts.{IsReady, known_of, part};
+ghost use Rattle.byte_ring.specs.Held.{IsHeld};
 ghost use Rattle.byte_ring.specs.Reading.{items_in};
 
 use crate::byte_left::ByteLeft;
 use crate::byte_send::ByteSend;
-use crate::finding::{next, nothing, settle, take_out};
+use crate::first_record::{nothing, read, take_out};
 use crate::front::Front;
+use crate::popping::let_go;
 use channel_ring::{Beside, TakeEnd};
 use rtrb::Consumer;
 use xcp_base::Item;
@@ -17,16 +18,14 @@ use xcp_base::Item;
 #[derive(Drop)]
 pub struct ByteTake {
     consumer: Consumer<u8>,
-    // The bytes popped ahead, and the next item.
+    // The part that was popped of the record that stands first.
     front: Front,
     // The items received, modulo 2^64.
     count: u64,
     // The bytes popped are the records of the items received, and then what is held.
     ghost held: { IsHeld (received consumer) (part front) },
-    // The next item is ready, or none is known.
     ghost ready: { IsReady consumer front },
-    ghost counted: { count
-        ≡ length (items_in (gone (received consumer) (part front))) % 2 ^ 64 },
+    ghost counted: { count ≡ length (items_in (received consumer)) % 2 ^ 64 },
 }
 
 impl ByteTake {
@@ -46,33 +45,32 @@ impl ByteTake {
 }
 
 impl TakeEnd for ByteTake {
-    ghost use Rattle.std.specs.Prelude.{◌++◌, take};
-
     type End = ByteLeft;
 
-    ghost received = { λ t. items_in (gone (received t.consumer) (part t.front)) };
+    ghost received = { λ t. items_in (received t.consumer) };
 
-    ghost known = { λ t. items_in (part t.front ++ take t.front.ahead (known_items t.consumer)) };
+    ghost known = { λ t. known_of t.consumer t.front };
 
     ghost ring = { λ t. name_of t.consumer.end };
+
+    ghost ready = { λ t. t.front.is_ready };
 
     fn take(&mut self) -> Option<Item> {
         if !self.look() {
             return None;
         }
         let item = take_out(&mut self.front);
-        next(&mut self.consumer, &mut self.front);
+        let_go(&mut self.consumer, &mut self.front);
         self.count = self.count.wrapping_add(1);
         Some(item)
     }
 
     fn look(&mut self) -> bool {
-        if self.front.is_whole {
+        if read(&mut self.consumer, &mut self.front) {
             return true;
         }
         self.front.ahead = self.consumer.slots();
-        settle(&mut self.consumer, &mut self.front);
-        self.front.is_whole
+        read(&mut self.consumer, &mut self.front)
     }
 
     fn first(&self) -> &Item {
@@ -80,13 +78,13 @@ impl TakeEnd for ByteTake {
     }
 
     fn pass(&mut self) {
-        next(&mut self.consumer, &mut self.front);
+        let _ = read(&mut self.consumer, &mut self.front);
+        let_go(&mut self.consumer, &mut self.front);
         self.count = self.count.wrapping_add(1);
     }
 
     fn after(&mut self, end: &mut ByteLeft) -> usize {
         self.front.ahead = self.consumer.slots_after(&mut end.finished);
-        settle(&mut self.consumer, &mut self.front);
         end.count.wrapping_sub(self.count) as usize
     }
 }
@@ -95,9 +93,8 @@ impl Beside for ByteTake {
     type Send = ByteSend;
 
     fn beside(&mut self, send: &mut ByteSend) -> usize {
-        self.front.ahead = self.consumer.slots_beside(&mut send.producer);
-        settle(&mut self.consumer, &mut self.front);
         let _ = send.producer.slots_beside(&mut self.consumer);
+        self.front.ahead = self.consumer.slots_beside(&mut send.producer);
         send.count.wrapping_sub(self.count) as usize
     }
 }

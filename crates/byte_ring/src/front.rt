@@ -1,26 +1,19 @@
-ghost use Rattle.std.specs.Prelude.{◌+◌, ◌≤◌};
-ghost use Rattle.byte_ring.specs.declared.front.TheConstants.{AHEAD};
+ghost use Rattle.std.specs.Prelude.{◌<◌};
+ghost use Rattle.byte_ring.specs.declared.record.TheConstants.{MAX_RECORD};
 
 use crate::record::MAX_RECORD;
 use xcp_base::Item;
 
-/// The most bytes that are held: two longest records.
-pub(crate) const AHEAD: usize = 2 * MAX_RECORD;
-
-/// The bytes that were popped and not let go yet, and the item whose record stands first among
-/// them.
+/// The part of a record that was popped, and the item of the record that stands first.
 #[derive(Drop)]
 pub(crate) struct Front {
-    // The bytes held stand from the place `from` to the place `to`.
-    pub(crate) bytes: [u8; AHEAD],
-    pub(crate) from: usize,
-    pub(crate) to: usize,
+    // The bytes held stand first. Behind them there is a place for one more byte of the record.
+    pub(crate) bytes: [u8; MAX_RECORD],
+    pub(crate) held: usize,
     // How many bytes are in the ring for sure, behind those held.
     pub(crate) ahead: usize,
-    // The item, and the length of its record, where that is held whole.
+    // The item, where all of its record is held but the last byte, and that is in the ring.
     pub(crate) item: Item,
-    pub(crate) len: usize,
-    pub(crate) is_whole: bool,
-    ghost within: { to ≤ AHEAD },
-    ghost inside: { from + len ≤ to },
+    pub(crate) is_ready: bool,
+    ghost within: { held < MAX_RECORD },
 }

@@ -2,15 +2,15 @@
 //! its record and no more.
 #![tactic(auto)]
 
-mod ahead;
 mod byte_left;
 mod byte_send;
 mod byte_take;
 mod decode;
-mod finding;
+mod first_record;
 mod front;
 mod held;
 pub mod laws;
+mod popping;
 mod record;
 mod ring;
 

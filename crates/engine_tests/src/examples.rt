@@ -401,6 +401,7 @@ const OF_BYTES: [Example; 3] = [
             Step::Trigger(0, &[1, 2], 0, [1, 0, 1]),
             Step::Pump(1, 1, 0),
             Step::Trigger(0, &[1, 2], 0, [1, 1, 0]),
+            Step::Trigger(0, &[1, 2], 0, [1, 0, 1]),
         ],
         drain: true,
         bytes: &[
@@ -439,7 +440,7 @@ const OF_BYTES: [Example; 3] = [
             &[3, 0, 32, 0, 0x00, 1, 2],
             &[3, 0, 33, 0, 0x80, 1, 2],
         ],
-        lines: &[(0, 35, 34, 1, 0)],
+        lines: &[(0, 36, 34, 2, 0)],
         failed: false,
     },
     Example {

@@ -1,6 +1,6 @@
 //! A turn of a pump at one ring.
 ghost use Rattle.std.specs.Prelude.{◌≡◌, ◌+◌, ◌<◌, ◌≤◌, ◌↔◌, [], ◌∷◌, false, IsTrue, length};
-ghost use Rattle.std.specs.Prelude.{map, vec_len};
+ghost use Rattle.std.specs.Prelude.{map, slice_index_or, true, vec_len};
 ghost use mathlib.Core.List.{IsPrefix};
 ghost use Rattle.frame_writer.specs.Writing.{AfterText, state_of};
 ghost use Rattle.transmitter.specs.Merge.{Takes, of_ring};
@@ -106,10 +106,11 @@ impl<T: TakeEnd> Transmitter<SinkOut, T> {
     }
 }
 
-/// Whether an item of ring `c` is there, which is then known.
+/// Whether an item of ring `c` is there, which is then known, and was read.
 fn look_for<T: TakeEnd>(ends: &mut Vec<T>, c: usize) -> bool
     requires within { c < vec_len ends.old }
     ensures value { IsTrue result ↔ (0 < length (of_ring (map T.known ends.new.items) c)) }
+    ensures reads { result ≡ true → slice_index_or (map T.ready ends.new.items) c false ≡ true }
     ensures looks { Takes (map T.received ends.old.items) (map T.received ends.new.items)
         (map T.known ends.old.items) (map T.known ends.new.items) [] }
     ensures rings_stay { map T.ring ends.new.items ≡ map T.ring ends.old.items }
@@ -118,10 +119,10 @@ fn look_for<T: TakeEnd>(ends: &mut Vec<T>, c: usize) -> bool
     ends[c].look()
 }
 
-/// The first item of ring `c`, which is known to be there.
+/// The first item of ring `c`, which was read.
 fn first_of<T: TakeEnd>(ends: &Vec<T>, c: usize) -> &Item
     requires within { c < vec_len ends.now }
-    requires some { 0 < length (of_ring (map T.known ends.now.items) c) }
+    requires ready { slice_index_or (map T.ready ends.now.items) c false ≡ true }
     ensures { IsPrefix (result.now ∷ []) (of_ring (map T.known ends.now.items) c) }
 {
     ends[c].first()

@@ -1,4 +1,4 @@
-use Rattle.std.proofs.Common.{◌<◌, [], length, ap, ◌∙◌, arith}
+use Rattle.std.proofs.Common.{◌<◌, [], false, length, ap, ◌∙◌, arith}
 use Rattle.std.proofs.Math.Seq.{map-set_same}
 use Rattle.transmitter.proofs.PlaceLemmas.{shown_here, takes-look}
 use Rattle.transmitter.proofs.turn.look_for.Goals as goal
@@ -9,6 +9,12 @@ returns-clause-value g c =
     let within : c.args.c < length c.args.ends.now.items = omega (arith, c.args.ends.now.ok.0) in
     let here = shown_here g.T.TakeEnd.known c.args.ends.now.items c.args.c c.look.new.self [] within in
     rw here c.look.ensures.value
+
+-- and that its first item was read
+pub returns-clause-reads : goal.returns-clause-reads
+returns-clause-reads g c = λ yes_item.
+    let within : c.args.c < length c.args.ends.now.items = omega (arith, c.args.ends.now.ok.0) in
+    shown_here g.T.TakeEnd.ready c.args.ends.now.items c.args.c c.look.new.self false within ∙ c.look.ensures.reads yes_item
 
 pub returns-clause-looks : goal.returns-clause-looks
 returns-clause-looks g c =

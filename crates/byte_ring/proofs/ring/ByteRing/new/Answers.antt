@@ -1,8 +1,7 @@
 use Rattle.std.proofs.Common.{ap, ◌∙◌}
 use Rattle.rtrb.specs.Ring.{known_items, received, sent}
 use Rattle.byte_ring.specs.Fronts.{part}
-use Rattle.byte_ring.specs.Held.{gone}
-use Rattle.byte_ring.proofs.FrontLemmas.{gone_nothing, nothing_known, reads_none}
+use Rattle.byte_ring.proofs.FrontLemmas.{nothing_known, reads_none}
 use Rattle.byte_ring.proofs.ring.ByteRing.new.Goals as goal
 
 -- nothing was sent
@@ -13,7 +12,7 @@ returns-in-Ok-clause-sent c = reads_none (sent c.new-in-Ok.result.producer) (ap 
 pub returns-in-Ok-clause-received : goal.returns-in-Ok-clause-received
 returns-in-Ok-clause-received c =
     let t = c.new-in-Ok-2.result in
-    reads_none (gone (received t.consumer) (part t.front)) (gone_nothing (received t.consumer) (part t.front) (ap (λ k. received k) c.new-in-Ok-2.ensures.ring ∙ c.in-Ok.ensures.consumer.0))
+    reads_none (received t.consumer) (ap (λ k. received k) c.new-in-Ok-2.ensures.ring ∙ c.in-Ok.ensures.consumer.0)
 
 -- and nothing is known
 pub returns-in-Ok-clause-known : goal.returns-in-Ok-clause-known

@@ -1,11 +1,11 @@
-//! Bytes, popped ahead of the records that are read off them.
-ghost use Rattle.std.specs.Prelude.{◌≡◌, ◌+◌, ◌-◌, ◌<◌, ◌≤◌, ◌++◌, length};
+//! Bytes of the record that stands first, popped behind those that are held.
+ghost use Rattle.std.specs.Prelude.{◌≡◌, ◌+◌, ◌<◌, ◌≤◌, ◌++◌, [], drop, false, length, take};
 ghost use mathlib.Core.List.{IsPrefix};
 ghost use Rattle.rtrb.specs.Ring.{SameConsumer, known_items, received};
 ghost use Rattle.byte_ring.specs.Fronts.{part, place_of};
 ghost use Rattle.byte_ring.specs.Held.{Pulls};
 
-use crate::front::{AHEAD, Front};
+use crate::front::Front;
 use crate::record::MAX_RECORD;
 use rtrb::Consumer;
 
@@ -17,7 +17,7 @@ const SHORT: usize = 64;
 /// A pop into bytes that a caller lent would read where the ring lies anew for each byte, since the
 /// code generator can't tell that they aren't a part of the ring's end.
 fn pop_by<const N: usize>(consumer: &mut Consumer<u8>, part: &mut [u8])
-    requires size { N ≤ AHEAD }
+    requires size { N ≤ MAX_RECORD }
     requires few { length part.old ≤ N }
     requires there { length part.old ≤ length (known_items consumer.old) }
     ensures ring { SameConsumer consumer.old consumer.new }
@@ -32,59 +32,52 @@ fn pop_by<const N: usize>(consumer: &mut Consumer<u8>, part: &mut [u8])
 
 /// Pops bytes that are there.
 fn pop_part(consumer: &mut Consumer<u8>, part: &mut [u8])
-    requires few { length part.old ≤ AHEAD }
+    requires few { length part.old ≤ MAX_RECORD }
     requires there { length part.old ≤ length (known_items consumer.old) }
     ensures ring { SameConsumer consumer.old consumer.new }
     ensures popped { received consumer.new ≡ received consumer.old ++ part.new }
     ensures known { IsPrefix (known_items consumer.old) (part.new ++ known_items consumer.new) }
 {
     if part.len() > SHORT {
-        pop_by::<AHEAD>(consumer, part);
+        pop_by::<MAX_RECORD>(consumer, part);
     } else {
         pop_by::<SHORT>(consumer, part);
     }
 }
 
-/// Moves what is held to the first places.
-fn to_front(front: &mut Front)
-    ensures part { part front.new ≡ part front.old }
-    ensures ahead { front.new.ahead ≡ front.old.ahead }
-    ensures from { front.new.from ≡ 0 }
-{
-    front.bytes.copy_within(front.from..front.to, 0);
-    front.to -= front.from;
-    front.from = 0;
-}
-
-/// Pops as many bytes behind those held as are there for sure and have room.
-fn pop_more(consumer: &mut Consumer<u8>, front: &mut Front)
+/// Pops so many bytes more, which are there for sure, and holds them behind the others.
+pub(crate) fn hold_more(consumer: &mut Consumer<u8>, front: &mut Front, count: usize)
     requires there { front.old.ahead ≤ length (known_items consumer.old) }
+    requires few { count ≤ front.old.ahead }
+    requires room { front.old.held + count < MAX_RECORD }
     ensures ring { SameConsumer consumer.old consumer.new }
     ensures pulls { Pulls (place_of consumer.old front.old) (place_of consumer.new front.new) }
     ensures there { front.new.ahead ≤ length (known_items consumer.new) }
-    ensures from { front.new.from ≡ front.old.from }
-    ensures long { length front.new.bytes ≡ AHEAD }
-    ensures all { front.new.to < AHEAD → front.new.ahead ≡ 0 }
+    ensures held { front.new.held ≡ front.old.held + count }
+    ensures ahead { front.new.ahead + count ≡ front.old.ahead }
+    ensures ready_stays { front.new.is_ready ≡ front.old.is_ready }
 {
-    let count = front.ahead.min(AHEAD - front.to);
-    let end = front.to + count;
-    pop_part(consumer, &mut front.bytes[front.to..end]);
+    let end = front.held + count;
+    pop_part(consumer, &mut front.bytes[front.held..end]);
     front.ahead -= count;
-    front.to = end;
+    front.held = end;
 }
 
-/// Holds as many bytes more as are there for sure and have room: either a longest record has room
-/// among those held, or nothing is there for sure any more.
-pub(crate) fn hold_more(consumer: &mut Consumer<u8>, front: &mut Front)
+/// Pops the last byte of the record that stands first: all of it is gone then, and nothing is held.
+pub(crate) fn let_go(consumer: &mut Consumer<u8>, front: &mut Front)
     requires there { front.old.ahead ≤ length (known_items consumer.old) }
+    requires some { 0 < front.old.ahead }
     ensures ring { SameConsumer consumer.old consumer.new }
-    ensures pulls { Pulls (place_of consumer.old front.old) (place_of consumer.new front.new) }
+    ensures popped { received consumer.new
+        ≡ received consumer.old ++ take 1 (take front.old.ahead (known_items consumer.old)) }
+    ensures ahead { take front.new.ahead (known_items consumer.new)
+        ≡ drop 1 (take front.old.ahead (known_items consumer.old)) }
     ensures there { front.new.ahead ≤ length (known_items consumer.new) }
-    ensures all { length (part front.new) < MAX_RECORD → front.new.ahead ≡ 0 }
+    ensures part { part front.new ≡ [] }
+    ensures not_ready { front.new.is_ready ≡ false }
 {
-    if front.ahead == 0 {
-        return;
-    }
-    to_front(front);
-    pop_more(consumer, front);
+    let _ = consumer.pop_known();
+    front.ahead -= 1;
+    front.held = 0;
+    front.is_ready = false;
 }
