@@ -340,9 +340,9 @@ ng_status ng_drain(ng_engine *engine, uint8_t *buffer, size_t buffer_cap, size_t
  *
  * They are looked for in this order. On each but NG_OK the engine keeps all that it has, and lines
  * and *report are as they were; on NG_OK the elements of lines behind the account are as they were.
- * Proved: all of this, and each number of the account, by what was written and by what came back of
- * the samplers: due = written + dropped + left; but not that this is what ng_finish gave, nor that
- * NG_UNFINISHED is answered only where it is due, which the tests find. Calls free. */
+ * Proved: all of this, and each number of the account, by what was written and by what came back,
+ * which is left of the samplers that the engine was opened with: due = written + dropped + left; but
+ * not that NG_UNFINISHED is answered only where it is due, which the tests find. Calls free. */
 ng_status ng_close(ng_engine *engine, ng_line *lines, size_t lines_cap, ng_report *report);
 
 /* Give an engine up, with the samplers that it has still; and a sampler. What is left in the rings

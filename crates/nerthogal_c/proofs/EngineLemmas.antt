@@ -1,6 +1,5 @@
 -- What becomes of an engine that hands a sampler out, and where it takes it back.
 use Rattle.std.proofs.Common.{◌≡◌, ◌∙◌, ◌<◌, List, Option, Some, None, ap, arith, inl, inr, length, subst, sym}
-use Rattle.channel_ring.specs.declared.ends.SendEnd.{Ghosts as SendGhosts}
 use Rattle.sampler.specs.State.{SamplerState}
 use Rattle.nerthogal_c.specs.Lendings.{LendingState}
 use Rattle.nerthogal_c.specs.Lends.{Lends}
@@ -10,12 +9,12 @@ use Rattle.nerthogal_c.specs.declared.status.Status.{Status}
 use Rattle.nerthogal_c.specs.declared.status.Status.TheVariants as status
 use Rattle.nerthogal_c.specs.Engines.{HandsSampler, KeepsAll, LendsNone, LendsOut}
 
-module _ {S T E : Type 0} (send : SendGhosts S E) where
+module _ {S T E : Type 0} where
   -- its samplers are those inside
   pub lends-inside : {s before now : EngineState S T E} {sampler : SamplerState S} → s ≡ now
-      → LendsOut send before now sampler → Lends send before.lending s.lending sampler
+      → LendsOut before now sampler → Lends before.lending s.lending sampler
   lends-inside {s} {before} {now} {sampler} is lends =
-      subst (λ (e : EngineState S T E). Lends send before.lending e.lending sampler) (sym is) lends.lends
+      subst (λ (e : EngineState S T E). Lends before.lending e.lending sampler) (sym is) lends.lends
 
   same-parts : {a b : EngineState S T E} → a.transmitter ≡ b.transmitter → a.lending ≡ b.lending → a.lines ≡ b.lines → a ≡ b
   same-parts {a} {b} one two three =
@@ -25,7 +24,7 @@ module _ {S T E : Type 0} (send : SendGhosts S E) where
 
   -- with the samplers of before it is the engine of before
   pub lent-before : {s before now : EngineState S T E} {sampler : SamplerState S} {lending : LendingState S E} → s ≡ now
-      → LendsOut send before now sampler → lending ≡ before.lending → record s { lending = lending } ≡ before
+      → LendsOut before now sampler → lending ≡ before.lending → record s { lending = lending } ≡ before
   lent-before {s} {before} {now} {sampler} {lending} is lends same =
       same-parts
       (ap (λ (e : EngineState S T E). e.transmitter) is ∙ lends.transmitter)
@@ -38,17 +37,17 @@ module _ {S T E : Type 0} where
   keeps is = record {
     samplers = ap (λ (e : EngineState S T E). samplers_in e) is;
     transmitter = ap (λ (e : EngineState S T E). e.transmitter) is;
-    places = ap (λ (e : EngineState S T E). e.lending.places) is;
+    began = ap (λ (e : EngineState S T E). e.lending.began) is;
   }
 
   module _ (holds : SamplerState S → Content) {s t : EngineState S T E} {given : Option Content} where
     -- a sampler goes out, none does, or it went out and came back
-    pub hands-one : (send : SendGhosts S E) {sampler : SamplerState S} → given ≡ Some (holds sampler) → LendsOut send s t sampler
+    pub hands-one : {sampler : SamplerState S} → given ≡ Some (holds sampler) → LendsOut s t sampler
         → HandsSampler holds s t given status.Ok
-    hands-one send {sampler} is lends = (
+    hands-one {sampler} is lends = (
       sampler,
       is,
-      record { first = lends.lends.first; transmitter = lends.transmitter; places = lends.lends.places },
+      record { first = lends.lends.first; transmitter = lends.transmitter; began = lends.lends.began },
     )
 
     pub hands-none : (result : Status) → given ≡ None → LendsNone s t result → HandsSampler holds s t given result
@@ -57,9 +56,9 @@ module _ {S T E : Type 0} where
     hands-none result empty (is, inr (which, some)) =
         subst (λ r. HandsSampler holds s t given r) (sym which) (some, keeps is, empty)
 
-    pub hands-back : (send : SendGhosts S E) {m : EngineState S T E} {sampler : SamplerState S} → given ≡ None
-        → LendsOut send s m sampler → t ≡ s → HandsSampler holds s t given status.Memory
-    hands-back send {m} {sampler} empty lends is = (
+    pub hands-back : {m : EngineState S T E} {sampler : SamplerState S} → given ≡ None
+        → LendsOut s m sampler → t ≡ s → HandsSampler holds s t given status.Memory
+    hands-back {m} {sampler} empty lends is = (
       subst (λ (xs : List (SamplerState S)). 0 < length xs) (sym lends.lends.first) (omega arith),
       keeps is,
       empty,

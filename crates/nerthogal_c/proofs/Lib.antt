@@ -4,5 +4,6 @@ pub mod EngineLemmas
 pub mod HandleValues
 pub mod LendingLemmas
 pub mod OnLemmas
+pub mod OpenedLemmas
 pub mod PartsValues
 pub mod WayLemmas

@@ -2,19 +2,22 @@
 use Rattle.std.specs.Prelude.{◌≡◌, ◌⊎◌, ℕ, ◌<◌, ◌≤◌, Bool, false, true, List, ◌++◌, length}
 use Rattle.std.specs.Prelude.{drop, map, Option, Some, None}
 use Rattle.xcp_base.specs.declared.limits.TheConstants.{MAX_LISTS}
+use Rattle.channel_ring.specs.declared.ends.SendEnd.{Ghosts as SendGhosts}
 use Rattle.channel_ring.specs.declared.ends.RingEnd.{Ghosts as EndGhosts}
 use Rattle.channel_ring.specs.declared.ends.TakeEnd.{Ghosts as TakeGhosts}
 use Rattle.frame_writer.specs.declared.out.Out.{Ghosts as OutGhosts}
 use Rattle.frame_writer.specs.declared.sink_out.SinkOut.{SinkOut}
+use Rattle.sampler.specs.Past.{Past, first_past}
 use Rattle.sampler.specs.State.{JoinedEnd, joined}
 use Rattle.transmitter.specs.Looks.{KnowsNone, KnowsSome}
 use Rattle.transmitter.specs.Written.{TransmitterState, transmission}
-use Rattle.daq_engine.specs.Headline.{HasHeadline}
+use Rattle.daq_engine.specs.Headline.{AllStand, Headline}
 use Rattle.daq_engine.specs.declared.report.ListReport.{ListReport}
 use Rattle.daq_engine.specs.declared.report.Report.{Report}
 use Rattle.nerthogal_c.specs.Engines.{FrameRoom, KeepsAll, OnEngine, PumpsEngine}
-use Rattle.nerthogal_c.specs.Lendings.{AreBack, LooksAtEnds}
+use Rattle.nerthogal_c.specs.Lendings.{AreBack, LooksAtEnds, WasOpened}
 use Rattle.nerthogal_c.specs.States.{ByteEngine, Bytes, EngineState, ItemEngine, Items}
+use Rattle.nerthogal_c.specs.Ways.{GoesOnFrom}
 use Rattle.nerthogal_c.specs.declared.report_out.ReportOut.{ReportOut}
 use Rattle.nerthogal_c.specs.declared.content.Content.{Content}
 use Rattle.nerthogal_c.specs.declared.content.Content.TheVariants.{Engine as OverItems}
@@ -40,8 +43,10 @@ pub record AccountRoom : Type 0 where
 
 module _ {S T E : Type 0} where
   -- an engine may be closed with so much room for lines: all its samplers came back
-  abbrev pub MayClose : EndGhosts E → EngineState S T E → EngineState S T E → ℕ → Type 0
-  MayClose ring s t room = KeepsAll s t × AreBack ring t.lending × (MAX_LISTS ≤ room)
+  abbrev pub MayClose
+      : SendGhosts S E → EndGhosts E → EngineState S T E → EngineState S T E → ℕ → Type 0
+  MayClose send ring s t room =
+      KeepsAll s t × AreBack send ring t.lending × (MAX_LISTS ≤ room)
 
   -- why it stays open
   abbrev pub StaysOpen : EngineState S T E → EngineState S T E → ℕ → Status → Type 0
@@ -50,7 +55,7 @@ module _ {S T E : Type 0} where
   StaysOpen s t room _ = ⊥
 
 module _ {S T E : Type 0} (out : OutGhosts SinkOut) (give : TakeGhosts T E)
-    (ring : EndGhosts E) where
+    (send : SendGhosts S E) (ring : EndGhosts E) where
   abbrev pub state_in : EngineState S T E → TransmitterState
   state_in e = transmission out give e.transmitter
 
@@ -59,7 +64,7 @@ module _ {S T E : Type 0} (out : OutGhosts SinkOut) (give : TakeGhosts T E)
 
   -- all samplers came back, and all that they sent was looked at
   abbrev pub LooksAtAll : EngineState S T E → EngineState S T E → Type 0
-  LooksAtAll s t = LooksAtEnds ring (state_in s) (state_in t) s.lending t.lending
+  LooksAtAll s t = LooksAtEnds send ring (state_in s) (state_in t) s.lending t.lending
 
   -- then it pumps, where something is left
   abbrev pub DrainsOn
@@ -94,11 +99,25 @@ module _ {S T E : Type 0} (out : OutGhosts SinkOut) (give : TakeGhosts T E)
       ⊎ (((result ≡ status.Unfinished) × AwaitsSome s t before after)
       ⊎ DrainsAll s t before after result)
 
-  -- an account is that of the engine, by what came back
+  -- the headline holds of what came back: each of it stands after a past that goes on from the
+  -- opening of its channel
+  pub record HasHeadlineSince (e : EngineState S T E)
+      (opened : WasOpened send ring e.lending.began (state_in e)) (report : Report)
+      : Type 0 where
+    pub past : ℕ → Past
+    pub goes_on : (c : ℕ) → GoesOnFrom (first_past (opened.openings c)) (past c)
+    pub stand : AllStand (ends_in e) past
+    pub headline : Headline opened.start (state_in e) (ends_in e) past report
+
+  -- an account is that of the engine, by what came back: the engine was opened, and has the headline
+  -- for all that it was opened with
   pub record IsAccountOf (e : EngineState S T E) (before after : AccountRoom) (report : Report)
       : Type 0 where
-    pub back : AreBack ring e.lending
-    pub headline : HasHeadline (state_in e) (ends_in e) report
+    pub back : AreBack send ring e.lending
+    pub opened : WasOpened send ring e.lending.began (state_in e)
+    pub headline :
+        (opened : WasOpened send ring e.lending.began (state_in e))
+        → HasHeadlineSince e opened report
     pub told :
         after.report
         ≡ record { lines = length report.lists.items; failed = report.failed }
@@ -125,23 +144,23 @@ module _ (items : Items) (bytes : Bytes) where
   abbrev pub Drains : Option Content → Option Content → DrainRoom → DrainRoom → Status → Type 0
   Drains old new before after result =
       OnEngine old new result (after ≡ before)
-      (λ s t. DrainsEngine items.out items.give items.ring s t before after result)
-      (λ s t. DrainsEngine bytes.out bytes.give bytes.ring s t before after result)
+      (λ s t. DrainsEngine items.out items.give items.send items.ring s t before after result)
+      (λ s t. DrainsEngine bytes.out bytes.give bytes.send bytes.ring s t before after result)
 
   -- what is held is an engine that may be closed
   abbrev pub MayCloseHeld : Content → Content → ℕ → Type 0
   MayCloseHeld (OverItems s) new room =
-      (t : ItemEngine) × (new ≡ OverItems t) × MayClose items.ring s t room
+      (t : ItemEngine) × (new ≡ OverItems t) × MayClose items.send items.ring s t room
   MayCloseHeld (OverBytes s) new room =
-      (t : ByteEngine) × (new ≡ OverBytes t) × MayClose bytes.ring s t room
+      (t : ByteEngine) × (new ≡ OverBytes t) × MayClose bytes.send bytes.ring s t room
   MayCloseHeld old new room = ⊥
 
   -- the engine that is held is given up
   abbrev pub ClosesHeld : Option Content → AccountRoom → AccountRoom → Type 0
   ClosesHeld (Some (OverItems s)) before after =
-      ClosesEngine items.out items.give items.ring s before after
+      ClosesEngine items.out items.give items.send items.ring s before after
   ClosesHeld (Some (OverBytes s)) before after =
-      ClosesEngine bytes.out bytes.give bytes.ring s before after
+      ClosesEngine bytes.out bytes.give bytes.send bytes.ring s before after
   ClosesHeld old before after = ⊥
 
   -- what ng_close does to a handle

@@ -54,18 +54,17 @@ module _ {S T E : Type 0} where
   pub record HandsOut (s t : EngineState S T E) (sampler : SamplerState S) : Type 0 where
     pub first : samplers_in s ≡ sampler ∷ samplers_in t
     pub transmitter : t.transmitter ≡ s.transmitter
-    pub places : t.lending.places ≡ s.lending.places
+    pub began : t.lending.began ≡ s.lending.began
 
   -- it keeps all that it has
   pub record KeepsAll (s t : EngineState S T E) : Type 0 where
     pub samplers : samplers_in t ≡ samplers_in s
     pub transmitter : t.transmitter ≡ s.transmitter
-    pub places : t.lending.places ≡ s.lending.places
+    pub began : t.lending.began ≡ s.lending.began
 
   -- the same, by what becomes of its samplers
-  pub record LendsOut (send : SendGhosts S E) (s t : EngineState S T E) (sampler : SamplerState S)
-      : Type 0 where
-    pub lends : Lends send s.lending t.lending sampler
+  pub record LendsOut (s t : EngineState S T E) (sampler : SamplerState S) : Type 0 where
+    pub lends : Lends s.lending t.lending sampler
     pub transmitter : t.transmitter ≡ s.transmitter
     pub lines : t.lines ≡ s.lines
 
@@ -134,6 +133,7 @@ module _ {S T E : Type 0} (out : OutGhosts SinkOut) (give : TakeGhosts T E)
     pub could : CanOpenOver may_have s caps
     pub openings : ℕ → Opening
     pub opened : AreOpened send ring s caps (samplers_in e) openings
+    pub began : e.lending.began ≡ samplers_in e
     pub start : WriterState
     pub fresh : start ≡ fresh_writer (record { contents = []; failures = 0; stalls = 0 })
     pub paired :

@@ -1,16 +1,14 @@
 -- How an engine hands its samplers out (own).
 use Rattle.std.specs.Prelude.{◌≡◌, [], ◌∷◌, ◌++◌, Option, Some, None}
-use Rattle.channel_ring.specs.declared.ends.SendEnd.{Ghosts as SendGhosts}
 use Rattle.sampler.specs.State.{SamplerState}
 use Rattle.nerthogal_c.specs.Lendings.{LendingState}
-use Rattle.nerthogal_c.specs.Ways.{place_of}
 
-module _ {S E : Type 0} (send : SendGhosts S E) where
+module _ {S E : Type 0} where
   -- the first sampler that there is goes out
   pub record Lends (old new : LendingState S E) (sampler : SamplerState S) : Type 0 where
     pub first : old.samplers ≡ sampler ∷ new.samplers
-    pub out : new.out ≡ old.out ++ place_of send sampler ∷ []
-    pub places : new.places ≡ old.places
+    pub out : new.out ≡ old.out ++ sampler ∷ []
+    pub began : new.began ≡ old.began
     pub ends : new.ends ≡ old.ends
 
   -- the first one goes out, where there is one

@@ -23,10 +23,10 @@ use xcp_base::limits::MAX_LISTS;
 
 /// Closes an engine, and tells its account.
 fn close<R: Ring>(engine: Engine<R>, lines: &mut [ListReport], report: &mut ReportOut)
-    requires back { AreBack R.Send.End.RingEnd engine.lending }
+    requires back { AreBack R.Send.SendEnd R.Send.End.RingEnd engine.lending }
     requires room { MOST_LISTS ≤ length lines.old }
     ensures { (told : ReportOf) × IsAccountOf ⟦<SinkOut as Out>⟧ R.Take.TakeEnd
-        R.Send.End.RingEnd engine
+        R.Send.SendEnd R.Send.End.RingEnd engine
         (record { lines = lines.old; report = report.old })
         (record { lines = lines.new; report = report.new }) told }
 {
@@ -39,6 +39,7 @@ fn close<R: Ring>(engine: Engine<R>, lines: &mut [ListReport], report: &mut Repo
         samplers: _,
         ways: _,
         ends,
+        began: _,
     } = lending;
     let (told, _) = account(room, transmitter, ends);
     let len = told.lists.len();
@@ -52,7 +53,7 @@ fn close<R: Ring>(engine: Engine<R>, lines: &mut [ListReport], report: &mut Repo
 /// Whether an engine may be closed with so much room for lines, since all its samplers came back;
 /// or why not.
 fn may_close<R: Ring>(engine: &mut Engine<R>, room: usize) -> Result<(), Status>
-    ensures ok { OnOk result (MayClose R.Send.End.RingEnd engine.old engine.new room) }
+    ensures ok { OnOk result (MayClose R.Send.SendEnd R.Send.End.RingEnd engine.old engine.new room) }
     ensures err { IfErr result (StaysOpen engine.old engine.new room) }
 {
     if room < MAX_LISTS as usize {

@@ -18,7 +18,7 @@ pub fn drain<R: Ring>(
     pumped: &mut PumpedOut,
     left: &mut bool,
 ) -> Status
-    ensures { DrainsEngine ⟦<SinkOut as Out>⟧ R.Take.TakeEnd R.Send.End.RingEnd
+    ensures { DrainsEngine ⟦<SinkOut as Out>⟧ R.Take.TakeEnd R.Send.SendEnd R.Send.End.RingEnd
         engine.old engine.new
         (record {
           frames = record { buffer = buffer.old; len = len.old; pumped = pumped.old };

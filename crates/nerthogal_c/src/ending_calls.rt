@@ -11,6 +11,7 @@ use crate::content::Content;
 use crate::draining::drain;
 use crate::handle::Handle;
 use crate::held_ring::HeldRing;
+use crate::lent::finish;
 use crate::pumped_out::PumpedOut;
 use crate::report_out::ReportOut;
 use crate::status::Status;
@@ -102,8 +103,8 @@ fn finish_by(alloc: Global, handle: &mut Handle) -> Status
         return Status::Empty;
     }
     match Box::into_inner(held) {
-        Content::Sampler(lent) => lent.finish(),
-        Content::ByteSampler(lent) => lent.finish(),
+        Content::Sampler(lent) => finish(lent),
+        Content::ByteSampler(lent) => finish(lent),
         _ => unreachable!(),
     }
 }

@@ -19,7 +19,7 @@ impl<R: Ring> Model for Engine<R> {
     ghost use Rattle.xcp_base.specs.declared.limits.TheConstants.{MAX_LISTS};
     ghost use Rattle.transmitter.specs.Written.{transmission};
     ghost use Rattle.daq_engine.specs.Configuration.{upto};
-    ghost use Rattle.nerthogal_c.specs.Lendings.{channels_in, rings_in};
+    ghost use Rattle.nerthogal_c.specs.Lendings.{WasOpened, channels_in, rings_in};
     ghost use Rattle.nerthogal_c.specs.States.{EngineState};
 
     ghost Value = { EngineState R.Send R.Take R.Send.End };
@@ -31,10 +31,12 @@ impl<R: Ring> Model for Engine<R> {
     } };
 
     ghost invariant = { λ e.
-        (rings_in e.lending.places
+        (rings_in R.Send.SendEnd e.lending.began
         ≡ (transmission ⟦<SinkOut as Out>⟧ R.Take.TakeEnd e.transmitter).rings)
-        × (channels_in e.lending.places ≡ upto 0 (length e.lending.places))
+        × (channels_in e.lending.began ≡ upto 0 (length e.lending.began))
         × ((transmission ⟦<SinkOut as Out>⟧ R.Take.TakeEnd e.transmitter).writer.closed ≡ false)
         × (vec_len e.lines ≡ 0)
-        × (MAX_LISTS ≤ vec_capacity e.lines) };
+        × (MAX_LISTS ≤ vec_capacity e.lines)
+        × WasOpened R.Send.SendEnd R.Send.End.RingEnd e.lending.began
+        (transmission ⟦<SinkOut as Out>⟧ R.Take.TakeEnd e.transmitter) };
 }

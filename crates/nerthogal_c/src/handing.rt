@@ -18,7 +18,7 @@ use std::alloc::Global;
 
 /// The next sampler of an engine, which is out then.
 fn next_of<R: Ring>(alloc: Global, engine: &mut Engine<R>) -> Result<Lent<R>, Status>
-    ensures ok { IfOk result (LendsOut R.Send.SendEnd engine.old engine.new) }
+    ensures ok { IfOk result (LendsOut engine.old engine.new) }
     ensures err { IfErr result (LendsNone engine.old engine.new) }
 {
     match engine.lending.next(alloc) {
@@ -31,9 +31,9 @@ fn next_of<R: Ring>(alloc: Global, engine: &mut Engine<R>) -> Result<Lent<R>, St
 /// Takes the sampler back that an engine handed out last.
 fn take_back<R: Ring>(engine: &mut Engine<R>, lent: Lent<R>)
     requires { (before : EngineState R.Send R.Take R.Send.End)
-        × LendsOut R.Send.SendEnd before engine.old lent }
+        × LendsOut before engine.old lent }
     ensures { (before : EngineState R.Send R.Take R.Send.End) →
-        LendsOut R.Send.SendEnd before engine.old lent → engine.new ≡ before }
+        LendsOut before engine.old lent → engine.new ≡ before }
 {
     engine.lending.take_back(lent);
 }

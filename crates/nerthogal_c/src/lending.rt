@@ -10,6 +10,7 @@ use rtrb::RingBuffer;
 use sampler::{Sampler, SamplerEnd};
 use std::alloc::{AllocError, Global};
 use std::marker::Model;
+use std::snapshot::Snapshot;
 use transmitter::Transmitter;
 
 /// The samplers of an engine: those that weren't handed out yet, the ways back of those that were,
@@ -20,17 +21,18 @@ pub struct Lending<R: Ring> {
     pub(crate) samplers: Vec<Sampler<R::Send>>,
     pub(crate) ways: Vec<ComingBack<R::Send>>,
     pub(crate) ends: Vec<SamplerEnd<<R::Send as SendEnd>::End>>,
+    // all of them, as they were at the opening
+    pub(crate) began: Snapshot<Vec<Sampler<R::Send>>>,
 }
 
 impl<R: Ring> Model for Lending<R> {
-    ghost use Rattle.std.specs.Prelude.{◌+◌, ◌≤◌, reverse, vec_capacity, vec_len};
-    ghost use Rattle.nerthogal_c.specs.Lendings.{LendingState, places_of};
+    ghost use Rattle.std.specs.Prelude.{◌+◌, ◌≤◌, ◌++◌, reverse, vec_capacity, vec_len};
+    ghost use Rattle.nerthogal_c.specs.Lendings.{HaveComeOf, LendingState};
 
     ghost Value = { LendingState R.Send R.Send.End };
 
     ghost view = { λ l. record {
-      places = places_of R.Send.SendEnd R.Send.End.RingEnd
-          l.ends.items l.ways.items (reverse l.samplers.items);
+      began = l.began.value.items;
       out = l.ways.items;
       samplers = reverse l.samplers.items;
       ends = l.ends.items;
@@ -39,27 +41,29 @@ impl<R: Ring> Model for Lending<R> {
     ghost invariant = { λ l.
         (vec_len l.ways + vec_len l.samplers ≤ vec_capacity l.samplers)
         × (vec_len l.ways + vec_len l.samplers ≤ vec_capacity l.ways)
-        × (vec_len l.ends + (vec_len l.ways + vec_len l.samplers) ≤ vec_capacity l.ends) };
+        × (vec_len l.ends + (vec_len l.ways + vec_len l.samplers) ≤ vec_capacity l.ends)
+        × HaveComeOf R.Send.SendEnd R.Send.End.RingEnd l.began.value.items l.ends.items
+        (l.ways.items ++ reverse l.samplers.items) };
 }
 
 impl<R: Ring> Lending<R> {
-    ghost use Rattle.std.specs.Prelude.{◌≡◌, ◌<◌, [], IfOk, OnErr, false, length, map, true};
+    ghost use Rattle.std.specs.Prelude.{◌≡◌, ◌<◌, [], IfOk, OnErr, false, length, true};
     ghost use Rattle.transmitter.specs.Looks.{KnowsNone, KnowsSome};
     ghost use Rattle.transmitter.specs.Written.{transmission, writer_of};
     ghost use Rattle.nerthogal_c.specs.Lendings.{AreBack, LooksAtEnds, rings_in};
     ghost use Rattle.nerthogal_c.specs.Lendings.{LendingState as LendingOf};
     ghost use Rattle.nerthogal_c.specs.Lends.{Lends, LendsNext};
-    ghost use Rattle.nerthogal_c.specs.Ways.{place_of};
 
     /// Of samplers that weren't handed out.
     pub fn new(alloc: Global, samplers: Vec<Sampler<R::Send>>) -> Result<Lending<R>, AllocError>
         ensures { IfOk result (λ lending. lending ≡ record {
-          places = map (place_of R.Send.SendEnd) samplers.items;
+          began = samplers.items;
           out = [];
           samplers = samplers.items;
           ends = [];
         }) }
     {
+        let began = Snapshot::of(&samplers);
         let ways = Vec::with_capacity(alloc, samplers.len())?;
         let ends = Vec::with_capacity(alloc, samplers.len())?;
         let mut samplers = samplers;
@@ -68,12 +72,13 @@ impl<R: Ring> Lending<R> {
             samplers,
             ways,
             ends,
+            began,
         })
     }
 
     /// Hands the first sampler out, where there is one.
     pub fn next(&mut self, alloc: Global) -> Result<Option<Lent<R>>, AllocError>
-        ensures ok { IfOk result (LendsNext R.Send.SendEnd self.old self.new) }
+        ensures ok { IfOk result (LendsNext self.old self.new) }
         ensures err { OnErr result (self.new ≡ self.old) }
         ensures wanted { OnErr result (0 < length self.old.samplers) }
     {
@@ -92,9 +97,9 @@ impl<R: Ring> Lending<R> {
     /// Takes the sampler back that was handed out last, as though it hadn't been.
     pub fn take_back(&mut self, lent: Lent<R>)
         requires { (before : LendingOf R.Send R.Send.End)
-            × Lends R.Send.SendEnd before self.old lent }
+            × Lends before self.old lent }
         ensures { (before : LendingOf R.Send R.Send.End) →
-            Lends R.Send.SendEnd before self.old lent → self.new ≡ before }
+            Lends before self.old lent → self.new ≡ before }
     {
         let Lent { sampler, way: _ } = lent;
         let Some(_way) = self.ways.pop() else {
@@ -105,9 +110,9 @@ impl<R: Ring> Lending<R> {
 
     /// Collects what came back, and tells whether nothing is out any more.
     pub fn collect(&mut self) -> bool
-        ensures places { self.new.places ≡ self.old.places }
+        ensures began { self.new.began ≡ self.old.began }
         ensures samplers { self.new.samplers ≡ self.old.samplers }
-        ensures all { result ≡ true → AreBack R.Send.End.RingEnd self.new }
+        ensures all { result ≡ true → AreBack R.Send.SendEnd R.Send.End.RingEnd self.new }
     {
         while !self.ways.is_empty() {
             let Some(end) = self.ways[0].take() else {
@@ -122,10 +127,10 @@ impl<R: Ring> Lending<R> {
     /// Looks at all that was sent, once nothing is out any more, and tells whether something is
     /// left.
     pub fn look(&mut self, transmitter: &mut Transmitter<SinkOut, R::Take>) -> bool
-        requires back { AreBack R.Send.End.RingEnd self.old }
-        requires rings { rings_in self.old.places
+        requires back { AreBack R.Send.SendEnd R.Send.End.RingEnd self.old }
+        requires rings { rings_in R.Send.SendEnd self.old.began
             ≡ (transmission ⟦<SinkOut as Out>⟧ R.Take.TakeEnd transmitter.old).rings }
-        ensures looks { LooksAtEnds R.Send.End.RingEnd
+        ensures looks { LooksAtEnds R.Send.SendEnd R.Send.End.RingEnd
             (transmission ⟦<SinkOut as Out>⟧ R.Take.TakeEnd transmitter.old)
             (transmission ⟦<SinkOut as Out>⟧ R.Take.TakeEnd transmitter.new)
             self.old self.new }

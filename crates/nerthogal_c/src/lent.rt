@@ -1,4 +1,5 @@
 ghost use Rattle.std.specs.Prelude.{◌≡◌};
+ghost use Rattle.nerthogal_c.specs.Samplers.{FinishesSampler};
 
 use crate::coming_back::ComingBack;
 use crate::counts_out::CountsOut;
@@ -6,12 +7,13 @@ use crate::returns::{Return, Returns};
 use crate::sampling::{counts_of, start, stop, trigger};
 use crate::status::Status;
 use crate::taken_out::TakenOut;
-use crate::way_back::WayBack;
+use crate::way_back::{Given, WayBack};
 use daq_engine::Ring;
 use rtrb::{Consumer, Producer};
 use sampler::Sampler;
 use std::alloc::Global;
 use std::marker::Model;
+use std::snapshot::Snapshot;
 
 /// A sampler that was handed out, and its way back to its engine.
 #[derive(Drop)]
@@ -21,23 +23,21 @@ pub struct Lent<R: Ring> {
 }
 
 impl<R: Ring> Model for Lent<R> {
-    ghost use Rattle.std.specs.Prelude.{◌≡◌};
     ghost use Rattle.sampler.specs.State.{SamplerState};
-    ghost use Rattle.nerthogal_c.specs.Ways.{place_of};
+    ghost use Rattle.nerthogal_c.specs.Ways.{IsLaterOf};
 
     ghost Value = { SamplerState R.Send };
 
     ghost view = { λ l. l.sampler };
 
-    ghost invariant = { λ l. l.way ≡ place_of R.Send.SendEnd l.sampler };
+    ghost invariant = { λ l. IsLaterOf R.Send.SendEnd R.Send.End.RingEnd l.way l.sampler };
 }
 
 impl<R: Ring> Lent<R> {
-    ghost use Rattle.std.specs.Prelude.{◌≡◌, [], ◌<◌};
+    ghost use Rattle.std.specs.Prelude.{◌≡◌, [], ◌<◌, IfErr, IfOk};
     ghost use Rattle.rtrb.specs.Ring.{IsPair, known_free, known_items, received, sent};
-    ghost use Rattle.nerthogal_c.specs.Samplers.{CountsList, FinishesSampler, StartsList};
-    ghost use Rattle.nerthogal_c.specs.Samplers.{StopsList, TriggersSampler};
-    ghost use Rattle.nerthogal_c.specs.Ways.{place_of};
+    ghost use Rattle.nerthogal_c.specs.Samplers.{CountsList, IsLeftOf, StartsList, StopsList};
+    ghost use Rattle.nerthogal_c.specs.Samplers.{TriggersSampler};
 
     /// A sampler with its way back, and the other end of that.
     pub fn over(
@@ -50,16 +50,22 @@ impl<R: Ring> Lent<R> {
         requires nothing_sent { sent producer ≡ [] }
         requires nothing_received { received consumer ≡ [] }
         ensures sampler { result.0 ≡ sampler }
-        ensures place { result.1 ≡ place_of R.Send.SendEnd sampler }
+        ensures coming { result.1 ≡ sampler }
     {
+        let began = Snapshot::of(&sampler);
+        let kept = Snapshot::of(&sampler);
         producer.push_reserved(Return::Sampler(sampler));
         let _ = consumer.slots_beside(&mut producer);
         let Return::Sampler(sampler) = consumer.pop_known() else {
             unreachable!()
         };
         let _ = producer.slots_beside(&mut consumer);
-        let way = WayBack { producer };
-        (Lent { sampler, way }, ComingBack { consumer })
+        let way = WayBack { producer, began };
+        let coming = ComingBack {
+            consumer,
+            began: kept,
+        };
+        (Lent { sampler, way }, coming)
     }
 
     /// Takes a trigger.
@@ -95,16 +101,25 @@ impl<R: Ring> Lent<R> {
     }
 
     /// Finishes the sampler, and gives what is left of it back.
-    pub fn finish(self) -> Status
-        ensures { FinishesSampler R.Send.SendEnd R.Send.End.RingEnd self result }
+    pub fn finish(self) -> Result<Given<R::Send>, Status>
+        ensures ok { IfOk result (λ given.
+            IsLeftOf R.Send.SendEnd R.Send.End.RingEnd self given.end) }
+        ensures err { IfErr result (λ status. status ≡ Status.NoEngine) }
     {
         let Lent { sampler, way } = self;
         match sampler.finish() {
-            Some(end) => {
-                way.give(end);
-                Status::Ok
-            }
-            None => Status::NoEngine,
+            Some(end) => Ok(way.give(end)),
+            None => Err(Status::NoEngine),
         }
+    }
+}
+
+/// Finishes a sampler that was handed out, and gives what is left of it back.
+pub fn finish<R: Ring>(lent: Lent<R>) -> Status
+    ensures { FinishesSampler R.Send.SendEnd R.Send.End.RingEnd lent result }
+{
+    match lent.finish() {
+        Ok(_given) => Status::Ok,
+        Err(status) => status,
     }
 }

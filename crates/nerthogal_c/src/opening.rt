@@ -5,6 +5,7 @@ ghost use Rattle.transmitter.specs.Written.{transmission};
 ghost use Rattle.daq_engine.specs.Configuration.{upto};
 ghost use Rattle.nerthogal_c.specs.Engines.{IsOpened, IsRefused, OpensAs, OpensEngine, OpensOn};
 ghost use Rattle.nerthogal_c.specs.Kinds.{ring_of};
+ghost use Rattle.nerthogal_c.specs.Lendings.{WasOpened};
 ghost use Rattle.nerthogal_c.specs.States.{samplers_in};
 
 use crate::content::Content;
@@ -36,8 +37,10 @@ fn engine_of<R: Ring>(
     requires is_open { (transmission ⟦<SinkOut as Out>⟧ R.Take.TakeEnd transmitter).writer.closed
         ≡ false }
     requires in_order { map (λ s. s.channel) samplers.items ≡ upto 0 (length samplers.items) }
+    requires opened { WasOpened R.Send.SendEnd R.Send.End.RingEnd samplers.items
+        (transmission ⟦<SinkOut as Out>⟧ R.Take.TakeEnd transmitter) }
     ensures { IfOk result (λ engine. (engine.transmitter ≡ transmitter)
-        × (samplers_in engine ≡ samplers.items)) }
+        × (samplers_in engine ≡ samplers.items) × (engine.lending.began ≡ samplers.items)) }
 {
     let lines = Vec::with_capacity(alloc, MAX_LISTS as usize)?;
     let lending = Lending::new(alloc, samplers)?;

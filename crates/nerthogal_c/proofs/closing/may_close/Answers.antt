@@ -12,7 +12,7 @@ returns-then-not-collect-clause-err g c =
       record {
         samplers = c.collect.ensures.samplers ∙ ap (λ (e : EngineState _ _ _). e.lending.samplers) c.engine.view_is;
         transmitter = ap (λ (e : EngineState _ _ _). e.transmitter) c.engine.view_is;
-        places = c.collect.ensures.places ∙ ap (λ (e : EngineState _ _ _). e.lending.places) c.engine.view_is;
+        began = c.collect.ensures.began ∙ ap (λ (e : EngineState _ _ _). e.lending.began) c.engine.view_is;
       },
     )
 
@@ -22,7 +22,7 @@ returns-clause-ok g c =
       record {
         samplers = c.collect.ensures.samplers ∙ ap (λ (e : EngineState _ _ _). e.lending.samplers) c.engine.view_is;
         transmitter = ap (λ (e : EngineState _ _ _). e.transmitter) c.engine.view_is;
-        places = c.collect.ensures.places ∙ ap (λ (e : EngineState _ _ _). e.lending.places) c.engine.view_is;
+        began = c.collect.ensures.began ∙ ap (λ (e : EngineState _ _ _). e.lending.began) c.engine.view_is;
       },
       c.collect.ensures.all c.if-not-collect.false,
       room,

@@ -1,5 +1,4 @@
 use Rattle.std.proofs.Common.{◌∙◌, subst, sym}
-use Rattle.channel_ring.specs.contracts.sample_ring.SendHalfSendEnd.TheImpl.{ghosts as send}
 use Rattle.nerthogal_c.specs.Engines.{LendsOut}
 use Rattle.nerthogal_c.specs.declared.content.Content.TheVariants as held
 use Rattle.nerthogal_c.proofs.EngineLemmas.{hands-back, hands-none, hands-one}
@@ -8,7 +7,7 @@ use Rattle.nerthogal_c.proofs.handing.hand_out.Goals as goal
 
 -- a sampler goes out
 pub returns-in-Ok-put_in : goal.returns-in-Ok-put_in
-returns-in-Ok-put_in c = hands-one held.Sampler _ c.in-Ok-put_in.ensures.ok c.in-Ok.ensures.ok
+returns-in-Ok-put_in c = hands-one held.Sampler c.in-Ok-put_in.ensures.ok c.in-Ok.ensures.ok
 
 -- none does
 pub returns-in-Err : goal.returns-in-Err
@@ -18,10 +17,10 @@ returns-in-Err c = hands-none held.Sampler c.in-Err.status c.requires.empty c.in
 pub take_back-requires : goal.take_back-requires
 take_back-requires c = (
   c.args.engine.now,
-  subst (λ s. LendsOut send c.args.engine.now c.next_of.new.engine s) (same-sampler (sym c.in-Err-put_in.ensures.back ∙ c.in-Sampler.is)) c.in-Ok.ensures.ok,
+  subst (λ s. LendsOut c.args.engine.now c.next_of.new.engine s) (same-sampler (sym c.in-Err-put_in.ensures.back ∙ c.in-Sampler.is)) c.in-Ok.ensures.ok,
 )
 
 pub returns-in-Sampler : goal.returns-in-Sampler
 returns-in-Sampler c =
-    hands-back held.Sampler _ (c.in-Err-put_in.ensures.err ∙ c.requires.empty) c.in-Ok.ensures.ok (c.take_back.ensures _ (
-    subst (λ s. LendsOut send c.args.engine.now c.next_of.new.engine s) (same-sampler (sym c.in-Err-put_in.ensures.back ∙ c.in-Sampler.is)) c.in-Ok.ensures.ok))
+    hands-back held.Sampler (c.in-Err-put_in.ensures.err ∙ c.requires.empty) c.in-Ok.ensures.ok (c.take_back.ensures _ (
+    subst (λ s. LendsOut c.args.engine.now c.next_of.new.engine s) (same-sampler (sym c.in-Err-put_in.ensures.back ∙ c.in-Sampler.is)) c.in-Ok.ensures.ok))
