@@ -1,11 +1,8 @@
 //! A gate that holds a step back until others have gone on.
+use crate::turns::{TURNS, take_turn};
 use daq_run::Gate;
 use std::sync::atomic::{AtomicU64, Ordering};
-use std::thread::yield_now;
 use transmitter::Pumped;
-
-/// How many turns a step is held at most.
-const TURNS: u64 = 200_000_000;
 
 /// Holds one step of an event channel until so many steps of other channels were answered and a
 /// pump wrote a frame, or until it gave up; and counts its calls.
@@ -72,9 +69,7 @@ impl Gate for Holds {
             if self.is_open() {
                 return;
             }
-            if turn % 16 == 0 {
-                yield_now();
-            }
+            take_turn(turn);
         }
         self.gave_up.store(1, Ordering::SeqCst);
     }

@@ -2,7 +2,11 @@
 #![tactic(auto)]
 
 #[cfg(test)]
+mod calls;
+#[cfg(test)]
 mod holds;
+#[cfg(test)]
+mod in_order;
 #[cfg(test)]
 mod lists;
 #[cfg(test)]
@@ -11,3 +15,5 @@ mod same;
 mod schedules;
 #[cfg(test)]
 mod text;
+#[cfg(test)]
+mod turns;
