@@ -1,4 +1,4 @@
--- The frames that were written from counter 0 on are the text of their packets.
+-- The frames that were written are the text of their packets, from the counter on that was next.
 use Rattle.std.proofs.Common.{◌≡◌, ℕ, zero, suc, ◌+◌, ◌%◌, List, [], ◌∷◌, ◌++◌, length, refl, sym, ap, ◌∙◌, arith, append-nil}
 use Rattle.std.specs.Prelude.{All, false, Bool, Option}
 use Rattle.std.proofs.lemmas.List.Elements.{All-cons, All-head, All-nil, All-tail}
@@ -23,14 +23,12 @@ all_fit (f ∷ fs) legal =
     let is = All-head IsFrame f fs legal in
     All-cons Fits f.1 (packets_of_frames fs) (is.some, is.fits) (all_fit fs (All-tail IsFrame f fs legal))
 
--- what a writer wrote that was fresh and did not fail
-pub written-text : (start now : WriterState) (hand : Option SampleParts) (failed : Bool) (whole : List ℕ) (fs : List (ℕ × List ℕ)) → HasFrames start now hand failed whole fs → start.out.contents ≡ [] → start.counter ≡ 0 → failed ≡ false
-    → now.out.contents ≡ text 0 (packets_of_frames fs)
-written-text start now hand failed whole fs h empty fresh fine =
-    h.gained
-    ∙ ap (λ (xs : List ℕ). xs ++ (whole ++ h.behind)) empty
-    ∙ ap (λ xs. whole ++ xs) (h.none_behind fine)
-    ∙ append-nil whole
-    ∙ sym h.split.whole
-    ∙ joined-text start.counter fs h.counted
-    ∙ ap (λ n. text n (packets_of_frames fs)) fresh
+-- what a writer wrote in whole frames
+pub whole-text : (start now : WriterState) (hand : Option SampleParts) (failed : Bool) (whole : List ℕ) (fs : List (ℕ × List ℕ)) → HasFrames start now hand failed whole fs
+    → whole ≡ text start.counter (packets_of_frames fs)
+whole-text start now hand failed whole fs h = sym h.split.whole ∙ joined-text start.counter fs h.counted
+
+-- there are as many packets as frames
+pub length-packets_of_frames : (fs : List (ℕ × List ℕ)) → length (packets_of_frames fs) ≡ length fs
+length-packets_of_frames [] = refl
+length-packets_of_frames (f ∷ fs) = ap suc (length-packets_of_frames fs)

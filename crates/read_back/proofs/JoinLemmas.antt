@@ -1,5 +1,5 @@
 -- The samples of all lists, each with the place of its list, and the recording that they are.
-use Rattle.std.proofs.Common.{◌≡◌, ◌≢◌, ℕ, zero, suc, ◌<◌, ◌≤◌, ◌==◌, inl, inr, Bool, true, false, cond, List, [], ◌∷◌, ◌++◌, length, map, Option, Some, None, refl, sym, ap, ◌∙◌, arith, subst}
+use Rattle.std.proofs.Common.{◌≡◌, ◌≢◌, ℕ, zero, suc, ◌+◌, ◌<◌, ◌≤◌, ◌==◌, inl, inr, Bool, true, false, cond, List, [], ◌∷◌, ◌++◌, length, map, Option, Some, None, refl, sym, ap, ◌∙◌, arith, subst}
 use Rattle.std.specs.Prelude.{filter, slice_get}
 use Rattle.std.specs.List.{AllByRecursion}
 use mathlib.Core.List.{IsPrefix}
@@ -13,7 +13,7 @@ use Rattle.sampler.specs.State.{JoinedEnd}
 use Rattle.transmitter.specs.Merge.{of_ring}
 use Rattle.transmitter.specs.Written.{TransmitterState}
 use Rattle.daq_engine.specs.Configuration.{IsConfiguration}
-use Rattle.daq_engine.specs.Frames.{packets_of_frames}
+use Rattle.daq_engine.specs.Frames.{IsTornAt, packets_of_frames}
 use Rattle.daq_engine.specs.Headline.{Headline, KeepsChannel}
 use Rattle.daq_engine.specs.declared.report.Report.{Report}
 use Rattle.daq_engine.proofs.OrderLemmas.{end_at}
@@ -22,9 +22,9 @@ use Rattle.daq_reader.specs.Lists.{given, of_place, place_in}
 use Rattle.daq_reader.specs.Recorded.{Recorded}
 use Rattle.daq_reader.specs.Recording.{AreWhole}
 use Rattle.read_back.specs.Accepted.{HasImages, recorded_of}
-use Rattle.read_back.specs.Laws.{IsRecordingOfFirst, WrittenIsReadBack}
+use Rattle.read_back.specs.Laws.{IsReadBack, IsRecordingOfFirst, WrittenIsReadBack}
 use Rattle.read_back.specs.Plans.{AreAllPlans}
-use Rattle.read_back.proofs.FrameLemmas.{all_fit, written-text}
+use Rattle.read_back.proofs.FrameLemmas.{all_fit, length-packets_of_frames, whole-text}
 use Rattle.read_back.proofs.ListLemmas.{all_of_one, channel-one, list_is_whole}
 use Rattle.read_back.proofs.PlaceLemmas.{IsOfOne, all-as, of_place-of_list, place_known, the_same}
 
@@ -153,14 +153,14 @@ module _ (start : WriterState) (t : TransmitterState) (ends : List JoinedEnd) (p
   abbrev all_samples : List (ℕ × Recorded)
   all_samples = gathered AreOfPlace plans some_at (length plans)
 
-  is_recording : start.out.contents ≡ [] → start.counter ≡ 0 → report.failed ≡ false → IsRecordingOfFirst (length ends) past plans all_samples t.writer.out.contents
-  is_recording empty fresh fine =
+  is_recording : IsRecordingOfFirst (length ends) past plans all_samples (record { rest = head.settled.whole; counter = start.counter })
+  is_recording =
       let good : (i : ℕ) (p : ListPlan) → slice_get plans i ≡ Some p → AreOfPlace i p (given i all_samples) = gathered-good AreOfPlace plans some_at in
       record {
         recording = record {
           packets = written;
           legal = all_fit head.frames head.settled.written.split.legal;
-          bytes = written-text start t.writer t.hand report.failed head.settled.whole head.frames head.settled.written empty fresh fine;
+          bytes = whole-text start t.writer t.hand report.failed head.settled.whole head.frames head.settled.written;
           are = record {
             known = All-from_recursion (λ (q : List ℕ). place_in plans q < length plans) written (all-as (IsOfOne plans) (λ q. place_in plans q < length plans) written (λ q o. place_known plans q o) one);
             each = λ i p at. (good i p at).whole;
@@ -170,6 +170,17 @@ module _ (start : WriterState) (t : TransmitterState) (ends : List JoinedEnd) (p
         first = λ i c k p at below there. (good i p at).first c k below there;
       }
 
+  is_read_back : IsReadBack (length ends) past plans start t report.failed
+  unfolding is_recording
+  is_read_back = record {
+    samples = all_samples;
+    whole = head.settled.whole;
+    behind = head.settled.written.behind;
+    gained = head.settled.written.gained;
+    read = is_recording;
+    none_behind = head.settled.written.none_behind;
+    torn = λ failed. subst (λ n. IsTornAt (start.counter + n) t.hand head.settled.written.behind) (sym (length-packets_of_frames head.frames)) (head.settled.written.torn failed);
+  }
+
 pub written_is_read_back : WrittenIsReadBack
-written_is_read_back start t ends past report plans empty fresh conf head fine images all =
-    (all_samples start t ends past report plans conf head images all, is_recording start t ends past report plans conf head images all empty fresh fine)
+written_is_read_back start t ends past report plans conf head images all = is_read_back start t ends past report plans conf head images all

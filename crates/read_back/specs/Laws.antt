@@ -1,6 +1,7 @@
 -- What an engine wrote is, for the reader of its lists, a recording of the samples that its event
 -- channels accepted (own).
-use Rattle.std.specs.Prelude.{◌≡◌, ℕ, ◌<◌, false, All, List, [], length, slice_get, Some}
+use Rattle.std.specs.Prelude.{◌≡◌, ℕ, ◌+◌, ◌<◌, Bool, false, true, All, List, [], ◌++◌, length}
+use Rattle.std.specs.Prelude.{slice_get, Some}
 use mathlib.Core.List.{IsPrefix}
 use Rattle.copy_plan.specs.Config.{ListPlan}
 use Rattle.frame_writer.specs.Writing.{WriterState}
@@ -8,36 +9,52 @@ use Rattle.sampler.specs.Past.{Past}
 use Rattle.sampler.specs.State.{JoinedEnd}
 use Rattle.transmitter.specs.Written.{TransmitterState}
 use Rattle.daq_engine.specs.Configuration.{IsConfiguration}
+use Rattle.daq_engine.specs.Frames.{IsTornAt}
 use Rattle.daq_engine.specs.Headline.{Headline}
 use Rattle.daq_engine.specs.declared.report.Report.{Report}
+use Rattle.daq_reader.specs.Frames.{Unread}
 use Rattle.daq_reader.specs.Lists.{given}
 use Rattle.daq_reader.specs.Recorded.{Recorded}
 use Rattle.daq_reader.specs.Recording.{IsRecordingOf}
 use Rattle.read_back.specs.Accepted.{HasImages, recorded_of}
 use Rattle.read_back.specs.Plans.{AreAllPlans}
 
--- these bytes are, from counter 0 on, a recording of these samples, each of which is of a list that
--- is there; those of each list are the first that its channel accepted
+-- what is to be read is a recording of these samples, each of which is of a list that is there;
+-- those of each list are the first that its channel accepted
 pub record IsRecordingOfFirst (n : ℕ) (past : ℕ → Past) (plans : List ListPlan)
-    (samples : List (ℕ × Recorded)) (bytes : List ℕ)
+    (samples : List (ℕ × Recorded)) (a : Unread)
     : Type 0 where
-  pub recording : IsRecordingOf plans samples [] (record { rest = bytes; counter = 0 })
+  pub recording : IsRecordingOf plans samples [] a
   pub of_lists : All (λ (s : ℕ × Recorded). s.0 < length plans) samples
   pub first :
       (i c k : ℕ) (plan : ListPlan) → slice_get plans i ≡ Some plan → c < n
       → slice_get (past c).opening.plans k ≡ Some plan
       → IsPrefix (given i samples) (recorded_of (past c) plan)
 
--- what an engine wrote, whose frame writer was fresh and did not fail, is such a recording, for
+-- what a frame writer's bytes gained since `start` is such a recording, for a reader who awaits the
+-- counter that was next at `start`; what follows it is nothing, or, where the writer failed or
+-- stalled, a proper prefix of the frames that the sample in hand would have had there
+pub record IsReadBack (n : ℕ) (past : ℕ → Past) (plans : List ListPlan) (start : WriterState)
+    (t : TransmitterState) (failed : Bool)
+    : Type 0 where
+  pub samples : List (ℕ × Recorded)
+  pub whole : List ℕ
+  pub behind : List ℕ
+  pub gained : t.writer.out.contents ≡ start.out.contents ++ (whole ++ behind)
+  pub read :
+      IsRecordingOfFirst n past plans samples
+      (record { rest = whole; counter = start.counter })
+  pub none_behind : failed ≡ false → behind ≡ []
+  pub torn :
+      failed ≡ true → IsTornAt (start.counter + length read.recording.packets) t.hand behind
+
+-- what an engine wrote behind whatever its frame writer had written before is read back so, for
 -- every order of the plans that its channels were opened with, once each image was as long as they
 -- say (an engine accepts no other)
 abbrev pub WrittenIsReadBack : Type 0
 WrittenIsReadBack =
     (start : WriterState) (t : TransmitterState) (ends : List JoinedEnd) (past : ℕ → Past)
     (report : Report) (plans : List ListPlan)
-    → start.out.contents ≡ [] → start.counter ≡ 0
     → IsConfiguration (length ends) (λ c. (past c).opening) → Headline start t ends past report
-    → report.failed ≡ false → ((c : ℕ) → c < length ends → HasImages (past c))
-    → AreAllPlans (length ends) past plans
-    → (samples : List (ℕ × Recorded))
-    × IsRecordingOfFirst (length ends) past plans samples t.writer.out.contents
+    → ((c : ℕ) → c < length ends → HasImages (past c)) → AreAllPlans (length ends) past plans
+    → IsReadBack (length ends) past plans start t report.failed
