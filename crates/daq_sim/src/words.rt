@@ -52,7 +52,7 @@ fn command<'a>(alloc: Global) -> Result<Command<'a>, AllocError> {
     let threads = Arg::new(alloc, "threads")
         .long("threads")
         .action(ArgAction::SetTrue)
-        .help("Sample each event channel in a thread of its own, a stress test: most samples may be dropped");
+        .help("Sample each event channel in a thread of its own: a stress test, with drops");
     let run = Arg::new(alloc, "run")
         .value_name("RUN")
         .action(ArgAction::Set)

@@ -24,8 +24,8 @@ pub record Accepts {S E : Type 0} (send : SendGhosts S E) (ring : EndGhosts E)
   pub others_stay : StaysBut send 0 before after
 
 -- an engine that stood so took a trigger of event channel 0, pumped, stopped list 0 and started it
--- again, and was closed with this report and this writer. Each state is the one that the call of its
--- name led to from the state above it, and it is the last one that was closed
+-- again, and was closed with this report and this writer. Each state is the one that the call of
+-- its name led to from the state above it, and it is the last one that was closed
 pub record RunsOnce {S E : Type 0} (send : SendGhosts S E) (ring : EndGhosts E)
     (engine : EngineState S) (st : Standing) (image : List ℕ) (stamp : ℕ) (report : Report)
     (out : OutState)

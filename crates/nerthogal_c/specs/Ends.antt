@@ -109,8 +109,8 @@ module _ {S T E : Type 0} (out : OutGhosts SinkOut) (give : TakeGhosts T E)
     pub stand : AllStand (ends_in e) past
     pub headline : Headline opened.start (state_in e) (ends_in e) past report
 
-  -- an account is that of the engine, by what came back: the engine was opened, and has the headline
-  -- for all that it was opened with
+  -- an account is that of the engine, by what came back: the engine was opened, and has the
+  -- headline for all that it was opened with
   pub record IsAccountOf (e : EngineState S T E) (before after : AccountRoom) (report : Report)
       : Type 0 where
     pub back : AreBack send ring e.lending

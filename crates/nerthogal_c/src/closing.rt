@@ -53,7 +53,8 @@ fn close<R: Ring>(engine: Engine<R>, lines: &mut [ListReport], report: &mut Repo
 /// Whether an engine may be closed with so much room for lines, since all its samplers came back;
 /// or why not.
 fn may_close<R: Ring>(engine: &mut Engine<R>, room: usize) -> Result<(), Status>
-    ensures ok { OnOk result (MayClose R.Send.SendEnd R.Send.End.RingEnd engine.old engine.new room) }
+    ensures ok { OnOk result
+        (MayClose R.Send.SendEnd R.Send.End.RingEnd engine.old engine.new room) }
     ensures err { IfErr result (StaysOpen engine.old engine.new room) }
 {
     if room < MAX_LISTS as usize {
