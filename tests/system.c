@@ -5,7 +5,7 @@
  *   READ_INTERRUPTED         so many reads of standard input are interrupted before the first that isn't
  *   READ_ERROR               each read of standard input fails with this error
  *   OPEN_PATH, OPEN_ERROR    a file of this name can't be opened, for this error
- *   THREAD_ERROR             no thread can be made, for this error, which errno has too, as the C library leaves it
+ *   THREAD_ERROR             no thread can be made, for this error
  */
 #define _GNU_SOURCE
 #include <dlfcn.h>
@@ -77,10 +77,7 @@ int open(const char *path, int how, ...) {
 
 int pthread_create(pthread_t *thread, const pthread_attr_t *kind, void *(*run)(void *), void *given) {
     static int (*next)(pthread_t *, const pthread_attr_t *, void *(*)(void *), void *);
-    if (number_in("THREAD_ERROR")) {
-        errno = (int)number_in("THREAD_ERROR");
-        return errno;
-    }
+    if (number_in("THREAD_ERROR")) return (int)number_in("THREAD_ERROR");
     if (!next) next = dlsym(RTLD_NEXT, "pthread_create");
     return next(thread, kind, run, given);
 }

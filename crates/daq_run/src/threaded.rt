@@ -1,5 +1,5 @@
 //! A whole run with a thread for each event channel.
-ghost use Rattle.std.specs.Prelude.{◌≡◌, ◌≤◌, All, IfErr, IfOk, IfSome, None, map};
+ghost use Rattle.std.specs.Prelude.{◌≡◌, ◌≤◌, All, IfErr, IfOk, map};
 ghost use Rattle.std.specs.Prelude.{true, vec_capacity, vec_len};
 ghost use Rattle.xcp_base.specs.declared.limits.TheConstants.{MAX_CHANNELS};
 ghost use Rattle.std.specs.List.{list_all};
@@ -24,7 +24,6 @@ use frame_writer::Out;
 use run_file::{RingKind, Run};
 use sampler::{Sampler, SamplerEnd};
 use std::alloc::Global;
-use std::io::{Error, ErrorKind};
 use std::snapshot::Snapshot;
 use std::sync::Wait;
 use std::sync::atomic::AtomicBool;
@@ -42,8 +41,7 @@ type Worker<'a, S> = PromisedHandle<Worked<<S as SendEnd>::End>, WillWork<'a, S>
 /// The steps go on where the writer fails; the report says that it failed. Refused with `Memory`,
 /// `NothingRunning` where after the set-up no DAQ list runs, `SetupWrite` where a reply isn't
 /// written whole, `EndLost`, or `NoThread` where a thread can't be had; then those that run are
-/// joined first. A thread that finds no memory is `Memory`. The writer comes back with what was
-/// written until then.
+/// joined first. The writer comes back with what was written until then.
 pub fn run_threads<R: Threads + Wait + Sync, O: Out, G: Gate + Sync>(
     rt: &R,
     alloc: Global,
@@ -207,17 +205,17 @@ where
     let Ok(ends) = Vec::with_capacity(alloc, samplers.len()) else {
         return (Err(SimFault::Memory), meanwhile.run(0));
     };
-    let (workers, refusal) = start_all(scope, samplers, workers, run, gate, ended);
+    let (workers, all) = start_all(scope, samplers, workers, run, gate, ended);
     let done = meanwhile.run(workers.len());
     let joined = join_all(rt, workers, ends);
-    match refusal {
-        Some(fault) => (Err(fault), done),
-        None => (joined, done),
+    if !all {
+        return (Err(SimFault::NoThread), done);
     }
+    (joined, done)
 }
 
 /// Starts a thread for each of the samplers, up to the first for which none can be had, and tells
-/// why, if there is one.
+/// whether all were started.
 fn start_all<'s, 'e, S: SendEnd + Send + 'e, G: Gate + Sync + 'e>(
     scope: &'s Scope<'s, &'e ()>,
     samplers: Vec<Sampler<S>>,
@@ -225,14 +223,13 @@ fn start_all<'s, 'e, S: SendEnd + Send + 'e, G: Gate + Sync + 'e>(
     run: &'e Run,
     gate: &'e G,
     ended: &'e Flags,
-) -> (Vec<Worker<'e, S>>, Option<SimFault>)
+) -> (Vec<Worker<'e, S>>, bool)
 where
     S::End: Send + 'e,
     requires few { vec_len samplers ≤ MAX_CHANNELS }
     requires empty { vec_len room ≡ 0 }
     requires enough { vec_len samplers ≤ vec_capacity room }
-    ensures late { IfSome result.1 MayComeLate }
-    ensures of_samplers { result.1 ≡ None
+    ensures of_samplers { result.1 ≡ true
         → map (λ h. h.promise.sampler.value) result.0.items ≡ samplers.items }
     ensures of_run { All (λ h. h.promise.run.now ≡ run.now) result.0.items }
     ensures few { vec_len result.0 ≤ vec_len samplers }
@@ -246,21 +243,10 @@ where
         };
         match scope.spawn_with(promise, move || work(sampler, run, gate, flag)) {
             Ok(worker) => workers.push_reserved(worker),
-            Err(_refused) => return (workers, Some(why_no_thread())),
+            Err(_) => return (workers, false),
         }
     }
-    (workers, None)
-}
-
-/// Why no thread was had just now: want of memory, where that is the system's last error in this
-/// thread, as an allocation leaves it that is refused. The refusal itself tells no cause.
-fn why_no_thread() -> SimFault
-    ensures late { MayComeLate result }
-{
-    match Error::from_raw_os_error(os::errno()).kind() {
-        ErrorKind::OutOfMemory => SimFault::Memory,
-        _ => SimFault::NoThread,
-    }
+    (workers, true)
 }
 
 /// Joins the threads: what is left of the samplers, in the order of the threads and in the room

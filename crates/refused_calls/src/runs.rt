@@ -114,6 +114,15 @@ fn carried_out<'a, R: Threads + Wait + Sync>(
     }
 }
 
+/// Whether a fault is want of memory; a thread that finds none can't be had.
+fn is_want_of_memory(fault: SimFault, way: Way) -> bool {
+    match (fault, way) {
+        (SimFault::Memory, _) => true,
+        (SimFault::NoThread, Way::Threads) => true,
+        _ => false,
+    }
+}
+
 /// Whether an account has the two samples of list 0, and none of list 1.
 fn is_account(report: &Report) -> bool {
     let first = ListReport {
@@ -151,7 +160,7 @@ pub fn carry_run<R: Threads + Wait + Sync>(
     let (outcome, answer) = match carried_out(rt, alloc, &run, &heap, way) {
         Ok(outcome) => (outcome, Answer::AtOnce),
         Err((fault, out)) => {
-            check(fault == SimFault::Memory, "another fault")?;
+            check(is_want_of_memory(fault, way), "another fault")?;
             check(
                 FRAMES.starts_with(out.bytes()),
                 "other bytes before the fault",
