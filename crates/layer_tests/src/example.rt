@@ -16,7 +16,7 @@ pub enum Step {
     /// FIRST_PID of a list.
     FirstPid(u16, Option<u8>),
     /// Whether each of lists 0 and 1 runs, and whether it is selected.
-    States([(bool, bool); 2]),
+    States((bool, bool), (bool, bool)),
     Ready(u16, bool),
     /// What is set of a list that is ready.
     Set(u16, Set),
@@ -81,9 +81,15 @@ fn make(rt: &impl Abort, store: &mut Store, step: Step, row: &str, at: usize) {
         Step::Lists(count) => same(rt, (at, store.lists()), (at, count), row, "lists"),
         Step::Pointer(place) => same(rt, (at, store.pointer()), (at, place), row, "pointer"),
         Step::FirstPid(l, pid) => same(rt, (at, store.first_pid(l)), (at, pid), row, "FIRST_PID"),
-        Step::States(states) => {
-            let shown = [state_of(store, 0), state_of(store, 1)];
-            same(rt, (at, shown), (at, states), row, "runs, selected");
+        Step::States(first, second) => {
+            let shown = (state_of(store, 0), state_of(store, 1));
+            same(
+                rt,
+                (at, shown),
+                (at, (first, second)),
+                row,
+                "runs, selected",
+            );
         }
         Step::Ready(l, is) => same(rt, (at, store.plan(l).is_some()), (at, is), row, "ready"),
         Step::Set(l, set) => match store.plan(l) {

@@ -42,7 +42,7 @@ const SET_UPS: [SetUp; 3] = [
             1, 0, 0, 0, 0xFF, 1, 0, 1, 0, 0xFF, 1, 0, 2, 0, 0xFF, 1, 0, 3, 0, 0xFF, 1, 0, 4, 0,
             0xFF, 1, 0, 5, 0, 0xFF, 1, 0, 6, 0, 0xFF, 2, 0, 7, 0, 0xFF, 0x00,
         ],
-        then: &[Step::States([(true, false), (false, false)])],
+        then: &[Step::States((true, false), (false, false))],
     },
     SetUp {
         name: "a command whose reply breaks off is carried out",
