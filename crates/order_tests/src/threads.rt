@@ -180,7 +180,8 @@ where
 }
 
 /// Drains and closes, and compares the orders that were answered and left with those that were
-/// sent, and the account with itself.
+/// sent, and the account with itself. The first order is sent before the sampler's first look, so
+/// some are answered, however the threads run.
 fn settle<T: TakeEnd>(
     rt: &impl Abort,
     alloc: Global,
@@ -193,13 +194,20 @@ fn settle<T: TakeEnd>(
 {
     let (end, take, answered) = sampled;
     let (ended, transmitter, sent) = ordered;
+    same(
+        rt,
+        answered.is_empty(),
+        false,
+        "50 tries",
+        "whether none was answered",
+    );
     adds_up(rt, close_one(alloc, transmitter, end)?)?;
     same_orders(rt, with_left(take, ended, answered), sent);
     Ok(())
 }
 
 /// Runs a sampler in a thread of its own, and a master's orders beside it, through a control ring
-/// of four places.
+/// of four places, in which a stop waits before the threads start.
 fn orders_come_through<R, S, T>(
     rt: &R,
     alloc: Global,
@@ -214,9 +222,12 @@ where
     requires rings { (transmission ⟦<VecOut<Global> as Out>⟧ T.TakeEnd transmitter).rings
         ≡ S.ring sampler.end ∷ [] }
 {
-    let (send, take) = ControlRing::new(alloc, 4)?;
+    let (mut send, take) = ControlRing::new(alloc, 4)?;
     let answered = Vec::with_capacity(alloc, TRIES)?;
-    let sent = Vec::with_capacity(alloc, TRIES)?;
+    let mut sent = Vec::with_capacity(alloc, TRIES)?;
+    let stop = Order::Stop(0);
+    same(rt, send.send(stop), Ok(()), "50 tries", "the first order");
+    sent.push(stop)?;
     let (sampled, ordered) = sample_beside(
         rt,
         (sampler, take, answered),

@@ -4,6 +4,8 @@
 #[cfg(test)]
 mod broken_streams;
 #[cfg(test)]
+mod faults;
+#[cfg(test)]
 mod same;
 #[cfg(test)]
 mod streams;

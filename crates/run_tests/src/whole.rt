@@ -1,6 +1,7 @@
 //! Whole runs over a writer that fails at each of their bytes.
 use crate::same::same;
 use crate::text::{ONE_CHANNEL, ONE_CHANNEL_BYTES, ONE_LIST, TWO_TRIGGERS, joined};
+use daq_engine::ListReport;
 use daq_run::{NoGate, Outcome, SimFault, run_serial, run_threads};
 use frame_writer::{FuseOut, Out};
 use run_file::Run;
@@ -40,21 +41,31 @@ const WAYS: [(&str, &str, bool); 4] = [
     ("in threads, in bytes", ONE_CHANNEL_BYTES, true),
 ];
 
-/// How many samples a run of two triggers writes whose writer takes so many bytes and then fails;
-/// or its fault.
-pub fn wanted_after(good: usize) -> Result<Option<u64>, SimFault> {
-    match good {
-        0..=40 => Err(SimFault::SetupWrite),
-        41..=47 => Ok(Some(0)),
-        48..=54 => Ok(Some(1)),
-        _ => Ok(Some(2)),
-    }
+/// The account of a list.
+type Account = Option<ListReport>;
+
+/// The account of a run of two triggers whose writer takes so many bytes and then fails; or its
+/// fault.
+pub fn wanted_after(good: usize) -> Result<Account, SimFault> {
+    let (written, left) = match good {
+        0..=40 => return Err(SimFault::SetupWrite),
+        41..=47 => (0, 2),
+        48..=54 => (1, 1),
+        _ => (2, 0),
+    };
+    Ok(Some(ListReport {
+        list: 0,
+        due: 2,
+        written,
+        dropped: 0,
+        left,
+    }))
 }
 
-/// How many samples of its first list a run wrote; or its fault.
-pub fn came_to<O>(outcome: &Result<Outcome<O>, (SimFault, O)>) -> Result<Option<u64>, SimFault> {
+/// The account of a run's first list; or the run's fault.
+pub fn came_to<O>(outcome: &Result<Outcome<O>, (SimFault, O)>) -> Result<Account, SimFault> {
     match outcome {
-        Ok(outcome) => Ok(outcome.report.lists.get(0).map(|line| line.written)),
+        Ok(outcome) => Ok(outcome.report.lists.first().copied()),
         Err((fault, _)) => Err(*fault),
     }
 }
