@@ -72,7 +72,7 @@ fn pump_beside(
 
 /// The two samplers of a store of two event channels, and the transmitter of their rings, which
 /// have 16 places each.
-pub fn two_of(
+fn two_of(
     rt: &HostRuntime,
     store: &Store,
 ) -> Result<

@@ -1,50 +1,68 @@
 //! Ends that don't fit an engine come back, and those that do close it.
-ghost use Rattle.std.specs.Prelude.{◌≡◌, [], ◌∷◌, IfOk, IfSome};
+ghost use Rattle.std.specs.Prelude.{◌≡◌, [], ◌∷◌, IfOk};
 ghost use Rattle.transmitter.specs.Written.{transmission};
 
 use crate::same::same;
 use crate::stores::{one_list, two_lists};
-use crate::threads::two_of;
-use channel_ring::{RingEnd, SendEnd, SendHalf, SendLeft, TakeEnd, TakeHalf};
-use daq_engine::{CloseFault, close, open};
-use daq_store::Store;
+use byte_ring::ByteRing;
+use channel_ring::{RingEnd, SampleRing, SendEnd, TakeEnd};
+use daq_engine::{CloseFault, Ring, close, open_over};
 use frame_writer::{FrameWriter, Out, VecOut};
 use sampler::{Sampler, SamplerEnd};
 use std::alloc::Global;
+use std::process::Abort;
 use std::test::Fail;
 use transmitter::Transmitter;
 
-/// The sampler of a store of one event channel, and the transmitter of its ring.
-fn one_of(
-    rt: &HostRuntime,
-    store: &Store,
-) -> Result<(Sampler<SendHalf>, Transmitter<VecOut<Global>, TakeHalf>), Fail>
+/// A transmitter that writes into memory.
+type Writing<T> = Transmitter<VecOut<Global>, T>;
+
+/// What is left of a sampler that sent into rings of a kind.
+type Left<K> = SamplerEnd<<<K as Ring>::Send as SendEnd>::End>;
+
+/// The sampler of a store of one event channel, and the transmitter of its ring of `cap` units.
+fn one_of<K: Ring>(alloc: Global, cap: usize) -> Result<(Sampler<K::Send>, Writing<K::Take>), Fail>
     ensures rings { IfOk result (λ r.
-        (transmission ⟦<VecOut<Global> as Out>⟧ ⟦<TakeHalf as TakeEnd>⟧ r.1).rings
-        ≡ ⟦<SendHalf as SendEnd>⟧.ring r.0.end ∷ []) }
+        (transmission ⟦<VecOut<Global> as Out>⟧ K.Take.TakeEnd r.1).rings
+        ≡ K.Send.ring r.0.end ∷ []) }
 {
-    let writer = FrameWriter::new(VecOut::new(rt.alloc()));
-    let Ok((mut samplers, transmitter)) = open(rt.alloc(), store, &[8], writer) else {
+    let store = one_list(alloc)?;
+    let writer = FrameWriter::new(VecOut::new(alloc));
+    let opened = open_over::<K, VecOut<Global>>(alloc, &store, &[cap], writer);
+    let Ok((mut samplers, transmitter)) = opened else {
         return Err(Fail::from("not opened"));
     };
     if samplers.len() != 1 {
         return Err(Fail::from("other than one sampler"));
     }
-    match samplers.pop() {
-        Some(sampler) => Ok((sampler, transmitter)),
-        None => Err(Fail::from("no sampler")),
-    }
+    let sampler = samplers.pop().ok_or("no sampler")?;
+    Ok((sampler, transmitter))
+}
+
+/// What is left of the two samplers of another engine, over rings of `cap` units.
+fn two_ends<K: Ring>(alloc: Global, cap: usize) -> Result<(Left<K>, Left<K>), Fail> {
+    let store = two_lists(alloc)?;
+    let writer = FrameWriter::new(VecOut::new(alloc));
+    let opened = open_over::<K, VecOut<Global>>(alloc, &store, &[cap, cap], writer);
+    let Ok((mut samplers, _transmitter)) = opened else {
+        return Err(Fail::from("not opened"));
+    };
+    let second = samplers.pop().ok_or("no sampler")?;
+    let first = samplers.pop().ok_or("one sampler alone")?;
+    let first = first.finish().ok_or("a sampler that isn't finished")?;
+    let second = second.finish().ok_or("a sampler that isn't finished")?;
+    Ok((first, second))
 }
 
 /// Which fault two ends answer where there is one ring, and how many ends come back.
-fn with_two(
+fn with_two<T: TakeEnd>(
     alloc: Global,
-    transmitter: Transmitter<VecOut<Global>, TakeHalf>,
-    first: SamplerEnd<SendLeft>,
-    second: SamplerEnd<SendLeft>,
-) -> Result<(CloseFault, usize, Transmitter<VecOut<Global>, TakeHalf>), Fail>
-    ensures back { IfOk result (λ r. r.2 ≡ transmitter) }
+    transmitter: Writing<T>,
+    two: (SamplerEnd<T::End>, SamplerEnd<T::End>),
+) -> Result<((CloseFault, usize), Writing<T>), Fail>
+    ensures back { IfOk result (λ r. r.1 ≡ transmitter) }
 {
+    let (first, second) = two;
     let mut ends = Vec::new(alloc);
     ends.push(first)?;
     ends.push(second)?;
@@ -53,35 +71,34 @@ fn with_two(
     }
     match close(alloc, transmitter, ends) {
         Ok(_) => Err(Fail::from("closed")),
-        Err((fault, transmitter, ends)) => Ok((fault, ends.len(), transmitter)),
+        Err((fault, transmitter, ends)) => Ok(((fault, ends.len()), transmitter)),
     }
 }
 
-/// Which fault no end answers where there is a ring.
-fn with_none(
+/// Which fault no end answers where there is a ring, and how many ends come back.
+fn with_none<T: TakeEnd>(
     alloc: Global,
-    transmitter: Transmitter<VecOut<Global>, TakeHalf>,
-) -> Result<(CloseFault, usize, Transmitter<VecOut<Global>, TakeHalf>), Fail>
-    ensures back { IfOk result (λ r. r.2 ≡ transmitter) }
+    transmitter: Writing<T>,
+) -> Result<((CloseFault, usize), Writing<T>), Fail>
+    ensures back { IfOk result (λ r. r.1 ≡ transmitter) }
 {
     if transmitter.rings() != 1 {
         return Err(Fail::from("other than one ring"));
     }
     match close(alloc, transmitter, Vec::new(alloc)) {
         Ok(_) => Err(Fail::from("closed")),
-        Err((fault, transmitter, ends)) => Ok((fault, ends.len(), transmitter)),
+        Err((fault, transmitter, ends)) => Ok(((fault, ends.len()), transmitter)),
     }
 }
 
 /// Closes an engine of one ring.
-fn with_its_own(
+fn with_its_own<T: TakeEnd>(
     alloc: Global,
-    transmitter: Transmitter<VecOut<Global>, TakeHalf>,
-    end: SamplerEnd<SendLeft>,
+    transmitter: Writing<T>,
+    end: SamplerEnd<T::End>,
 ) -> Result<bool, Fail>
-    requires rings { (transmission ⟦<VecOut<Global> as Out>⟧ ⟦<TakeHalf as TakeEnd>⟧
-        transmitter).rings
-        ≡ ⟦<SendLeft as RingEnd>⟧.ring end.end ∷ [] }
+    requires rings { (transmission ⟦<VecOut<Global> as Out>⟧ T.TakeEnd transmitter).rings
+        ≡ T.End.ring end.end ∷ [] }
 {
     let mut ends = Vec::new(alloc);
     ends.push(end)?;
@@ -91,25 +108,32 @@ fn with_its_own(
     }
 }
 
+/// Closes an engine of one event channel with no end, with two, and with its own.
+fn closes_with_its_own<K: Ring>(
+    rt: &impl Abort,
+    alloc: Global,
+    cap: usize,
+    row: &str,
+) -> Result<(), Fail> {
+    let (sampler, transmitter) = one_of::<K>(alloc, cap)?;
+    let end = sampler.finish().ok_or("a sampler that isn't finished")?;
+    let (none, transmitter) = with_none(alloc, transmitter)?;
+    let (two, transmitter) = with_two(alloc, transmitter, two_ends::<K>(alloc, cap)?)?;
+    let failed = with_its_own(alloc, transmitter, end)?;
+    let wrong = CloseFault::WrongEnds;
+    let wanted = ((wrong, 0), (wrong, 2), false);
+    same(
+        rt,
+        (none, two, failed),
+        wanted,
+        row,
+        "no end, two ends, its own",
+    );
+    Ok(())
+}
+
 #[test]
 fn ends_that_do_not_fit_come_back(rt: HostRuntime) -> Result<(), Fail> {
-    let (sampler, transmitter) = one_of(&rt, &one_list(rt.alloc())?)?;
-    let end = sampler.finish().ok_or("a sampler that isn't finished")?;
-    let (first, second, _other) = two_of(&rt, &two_lists(rt.alloc())?)?;
-    let first = first.finish().ok_or("a sampler that isn't finished")?;
-    let second = second.finish().ok_or("a sampler that isn't finished")?;
-    let (none, no_ends, transmitter) = with_none(rt.alloc(), transmitter)?;
-    let (two, both_ends, transmitter) = with_two(rt.alloc(), transmitter, first, second)?;
-    let wrong = CloseFault::WrongEnds;
-    let shown = [(none, no_ends), (two, both_ends)];
-    same(
-        &rt,
-        shown,
-        [(wrong, 0), (wrong, 2)],
-        "one ring",
-        "no end, two ends",
-    );
-    let failed = with_its_own(rt.alloc(), transmitter, end)?;
-    same(&rt, failed, false, "one ring", "whether the writer failed");
-    Ok(())
+    closes_with_its_own::<SampleRing>(&rt, rt.alloc(), 8, "a ring of samples")?;
+    closes_with_its_own::<ByteRing>(&rt, rt.alloc(), 532, "a ring of bytes")
 }
