@@ -1,8 +1,11 @@
 //! A gate that holds a step back until others have gone on.
-use crate::turns::{TURNS, take_turn};
+use crate::turns::take_turn;
 use daq_run::Gate;
 use std::sync::atomic::{AtomicU64, Ordering};
 use transmitter::Pumped;
+
+/// How many turns a step is held at most.
+const TURNS: u64 = 200_000_000;
 
 /// Holds one step of an event channel until so many steps of other channels were answered and a
 /// pump wrote a frame, or until it gave up; and counts its calls.

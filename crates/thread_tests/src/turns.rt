@@ -2,9 +2,9 @@
 use std::sync::atomic::{AtomicU64, Ordering};
 use std::thread::yield_now;
 
-/// How many turns a step is held at most: some seconds, so that a body for which it waits in vain
-/// fails by an answer and not by running out of time.
-pub const TURNS: u64 = 50_000_000;
+/// How many turns a number is awaited at most: some seconds, so that a body for which it is awaited
+/// in vain fails by an answer and not by running out of time.
+const TURNS: u64 = 50_000_000;
 
 /// Gives the other threads a turn now and then.
 pub fn take_turn(turn: u64) {
