@@ -1,21 +1,14 @@
 //! The calls of an engine.
 
-ghost use Rattle.std.specs.Prelude.{◌≡◌, Some};
-ghost use Rattle.nerthogal_c.specs.Answers.{Frees};
-ghost use Rattle.nerthogal_c.specs.Engines.{GivesSampler, OpensEngine, PumpsHandle};
-ghost use Rattle.nerthogal_c.specs.Statuses.{number_of};
-ghost use Rattle.nerthogal_c.specs.declared.status.Status.{Status as StatusOf};
+ghost use Rattle.std.specs.Prelude.{◌≡◌};
+ghost use Rattle.handle_calls.specs.Answers.{Frees};
+ghost use Rattle.handle_calls.specs.Engines.{GivesSampler, OpensEngine, PumpsHandle};
+ghost use Rattle.handle_calls.specs.Statuses.{number_of};
+ghost use Rattle.handle_calls.specs.declared.status.Status.{Status as StatusOf};
 
-use crate::content::Content;
-use crate::handing::give_sampler;
-use crate::handle::Handle;
-use crate::held_ring::HeldRing;
-use crate::opening::open_into;
-use crate::pumped_out::PumpedOut;
-use crate::pumping::pump;
-use crate::status::Status;
 use byte_ring::ByteRing;
 use channel_ring::SampleRing;
+use handle_calls::{Handle, HeldRing, PumpedOut, give_sampler, open_into, pump_by};
 use std::alloc::Global;
 
 /// Opens an engine over a store, which stays as it is, with rings of the kind that has this number
@@ -90,44 +83,4 @@ pub extern "C" fn ng_sampler_free(alloc: Global, sampler: &mut Handle) -> u32
         × Frees sampler.old.held sampler.new.held status }
 {
     sampler.free(alloc).number()
-}
-
-/// Pumps by the engine of a handle.
-fn pump_by(
-    alloc: Global,
-    handle: &mut Handle,
-    buffer: &mut [u8],
-    len: &mut usize,
-    pumped: &mut PumpedOut,
-) -> Status
-    ensures { PumpsHandle ⟦<SampleRing as HeldRing>⟧.rings ⟦<ByteRing as HeldRing>⟧.rings
-        handle.old.held handle.new.held
-        (record { buffer = buffer.old; len = len.old; pumped = pumped.old })
-        (record { buffer = buffer.new; len = len.new; pumped = pumped.new }) result }
-{
-    let Some(mut held) = handle.take(alloc) else {
-        return Status::Empty;
-    };
-    let status = pump_in(held.as_mut(), buffer, len, pumped);
-    handle.put(alloc, held);
-    status
-}
-
-/// Pumps by an engine, if this is one.
-fn pump_in(
-    content: &mut Content,
-    buffer: &mut [u8],
-    len: &mut usize,
-    pumped: &mut PumpedOut,
-) -> Status
-    ensures { PumpsHandle ⟦<SampleRing as HeldRing>⟧.rings ⟦<ByteRing as HeldRing>⟧.rings
-        (Some content.old) (Some content.new)
-        (record { buffer = buffer.old; len = len.old; pumped = pumped.old })
-        (record { buffer = buffer.new; len = len.new; pumped = pumped.new }) result }
-{
-    match content {
-        Content::Engine(engine) => pump(engine, buffer, len, pumped),
-        Content::ByteEngine(engine) => pump(engine, buffer, len, pumped),
-        _ => Status::Empty,
-    }
 }

@@ -1,15 +1,11 @@
 //! The calls of a store.
 
 ghost use Rattle.std.specs.Prelude.{◌≡◌};
-ghost use Rattle.nerthogal_c.specs.Statuses.{number_of};
-ghost use Rattle.nerthogal_c.specs.Answers.{CarriesCommand, Frees, MakesStore};
-ghost use Rattle.nerthogal_c.specs.declared.status.Status.{Status as StatusOf};
+ghost use Rattle.handle_calls.specs.Statuses.{number_of};
+ghost use Rattle.handle_calls.specs.Answers.{CarriesCommand, Frees, MakesStore};
+ghost use Rattle.handle_calls.specs.declared.status.Status.{Status as StatusOf};
 
-use crate::asked::Asked;
-use crate::carrying::answer_command;
-use crate::content::Content;
-use crate::handle::Handle;
-use crate::status::Status;
+use handle_calls::{Asked, Handle, carry, make};
 use std::alloc::Global;
 
 /// Makes a store without DAQ lists, for 1 to 8 event channels and images of 1 to 4096 bytes, and
@@ -71,45 +67,4 @@ pub extern "C" fn ng_store_free(alloc: Global, store: &mut Handle) -> u32
         × Frees store.old.held store.new.held status }
 {
     store.free(alloc).number()
-}
-
-/// Makes a store in a handle.
-fn make(alloc: Global, asked: Asked, handle: &mut Handle) -> Status
-    ensures { MakesStore handle.old.held handle.new.held asked result }
-{
-    if let Some(store) = handle.take(alloc) {
-        handle.put(alloc, store);
-        return Status::InUse;
-    }
-    let Some(store) = asked.store(alloc) else {
-        return Status::BadLimits;
-    };
-    let Ok(made) = Box::new(alloc, Content::Store(store)) else {
-        return Status::Memory;
-    };
-    handle.put(alloc, made);
-    Status::Ok
-}
-
-/// Carries a command packet out by the store of a handle.
-fn carry(
-    alloc: Global,
-    handle: &mut Handle,
-    packet: &[u8],
-    buffer: &mut [u8],
-    len: &mut usize,
-) -> Status
-    ensures { CarriesCommand handle.old.held handle.new.held packet.now
-        (record { buffer = buffer.old; len = len.old })
-        (record { buffer = buffer.new; len = len.new }) result }
-{
-    let Some(mut held) = handle.take(alloc) else {
-        return Status::Empty;
-    };
-    let status = match held.as_mut() {
-        Content::Store(store) => answer_command(store, packet, buffer, len),
-        _ => Status::Empty,
-    };
-    handle.put(alloc, held);
-    status
 }

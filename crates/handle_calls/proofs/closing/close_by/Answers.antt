@@ -1,0 +1,23 @@
+use Rattle.std.proofs.Common.{◌∙◌, Some, ap, inl, refl, sym}
+use Rattle.handle_calls.proofs.CloseLemmas.{closes-bytes, closes-items}
+use Rattle.handle_calls.proofs.OnLemmas.{bytes, items}
+use Rattle.handle_calls.proofs.closing.close_by.Goals as goal
+
+-- what may be closed is closed
+pub returns-in-Engine : goal.returns-in-Engine
+returns-in-Engine c = inl (
+  refl,
+  c.take.ensures.left,
+  closes-items items bytes _
+      (c.in-Some.ensures.taken ∙ ap Some (sym c.as_mut.ensures.value)) c.in_default-may_close_in.ensures.ok
+      (sym c.into_inner.ensures ∙ c.in-Engine.is) c.close.ensures,
+)
+
+pub returns-in-ByteEngine : goal.returns-in-ByteEngine
+returns-in-ByteEngine c = inl (
+  refl,
+  c.take.ensures.left,
+  closes-bytes items bytes _
+      (c.in-Some.ensures.taken ∙ ap Some (sym c.as_mut.ensures.value)) c.in_default-may_close_in.ensures.ok
+      (sym c.into_inner.ensures ∙ c.in-ByteEngine.is) c.close-in-ByteEngine.ensures,
+)

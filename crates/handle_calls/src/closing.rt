@@ -1,0 +1,108 @@
+//! The account of an engine whose samplers were all finished.
+
+ghost use Rattle.std.specs.Prelude.{◌≡◌, ◌≤◌, IfErr, OnOk, Some, length};
+ghost use Rattle.xcp_base.specs.declared.limits.TheConstants.{MAX_LISTS as MOST_LISTS};
+ghost use Rattle.daq_engine.specs.declared.report.Report.{Report as ReportOf};
+ghost use Rattle.handle_calls.specs.Ends.{Closes, IsAccountOf, MayClose, MayCloseHeld};
+ghost use Rattle.handle_calls.specs.Ends.{StaysHeld, StaysOpen};
+ghost use Rattle.handle_calls.specs.Lendings.{AreBack};
+
+use crate::content::Content;
+use crate::engine::Engine;
+use crate::handle::Handle;
+use crate::held_ring::HeldRing;
+use crate::lending::Lending;
+use crate::report_out::ReportOut;
+use crate::status::Status;
+use byte_ring::ByteRing;
+use channel_ring::{SampleRing, SendEnd, TakeEnd};
+use daq_engine::{ListReport, Ring, account};
+use frame_writer::{Out, SinkOut};
+use std::alloc::Global;
+use xcp_base::limits::MAX_LISTS;
+
+/// Closes an engine, and tells its account.
+fn close<R: Ring>(engine: Engine<R>, lines: &mut [ListReport], report: &mut ReportOut)
+    requires back { AreBack R.Send.SendEnd R.Send.End.RingEnd engine.lending }
+    requires room { MOST_LISTS ≤ length lines.old }
+    ensures { (told : ReportOf) × IsAccountOf ⟦<SinkOut as Out>⟧ R.Take.TakeEnd
+        R.Send.SendEnd R.Send.End.RingEnd engine
+        (record { lines = lines.old; report = report.old })
+        (record { lines = lines.new; report = report.new }) told }
+{
+    let Engine {
+        transmitter,
+        lending,
+        lines: room,
+    } = engine;
+    let Lending {
+        samplers: _,
+        ways: _,
+        ends,
+        began: _,
+    } = lending;
+    let (told, _) = account(room, transmitter, ends);
+    let len = told.lists.len();
+    lines[..len].copy_from_slice(told.lists.as_slice());
+    *report = ReportOut {
+        lines: len,
+        failed: told.failed,
+    };
+}
+
+/// Whether an engine may be closed with so much room for lines, since all its samplers came back;
+/// or why not.
+fn may_close<R: Ring>(engine: &mut Engine<R>, room: usize) -> Result<(), Status>
+    ensures ok { OnOk result
+        (MayClose R.Send.SendEnd R.Send.End.RingEnd engine.old engine.new room) }
+    ensures err { IfErr result (StaysOpen engine.old engine.new room) }
+{
+    if room < MAX_LISTS as usize {
+        return Err(Status::SmallBuffer);
+    }
+    if !engine.lending.collect() {
+        return Err(Status::Unfinished);
+    }
+    Ok(())
+}
+
+/// Whether what is held is an engine that may be closed with so much room for lines; or why not.
+fn may_close_in(content: &mut Content, room: usize) -> Result<(), Status>
+    ensures ok { OnOk result
+        (MayCloseHeld ⟦<SampleRing as HeldRing>⟧.rings ⟦<ByteRing as HeldRing>⟧.rings
+        content.old content.new room) }
+    ensures err { IfErr result (StaysHeld (Some content.old) (Some content.new) room) }
+{
+    match content {
+        Content::Engine(engine) => may_close(engine, room),
+        Content::ByteEngine(engine) => may_close(engine, room),
+        _ => Err(Status::Empty),
+    }
+}
+
+/// Closes the engine of a handle, and tells its account.
+pub fn close_by(
+    alloc: Global,
+    handle: &mut Handle,
+    lines: &mut [ListReport],
+    report: &mut ReportOut,
+) -> Status
+    ensures { Closes ⟦<SampleRing as HeldRing>⟧.rings ⟦<ByteRing as HeldRing>⟧.rings
+        handle.old.held handle.new.held
+        (record { lines = lines.old; report = report.old })
+        (record { lines = lines.new; report = report.new }) result }
+{
+    let Some(mut held) = handle.take(alloc) else {
+        return Status::Empty;
+    };
+    if let Err(status) = may_close_in(held.as_mut(), lines.len()) {
+        handle.put(alloc, held);
+        return status;
+    }
+    match Box::into_inner(held) {
+        Content::Engine(engine) => close(engine, lines, report),
+        Content::ByteEngine(engine) => close(engine, lines, report),
+        _ => unreachable!(),
+    }
+    Status::Ok
+}

@@ -1,0 +1,30 @@
+ghost use Rattle.std.specs.Prelude.{◌≡◌};
+ghost use Rattle.handle_calls.specs.Kinds.{kind_of, ring_of};
+
+use crate::ring_kind::RingKind;
+use xcp_base::IdKind;
+
+/// The identification field with this number, which is that of `ng_id_kind` in `nerthogal.h`; there
+/// are those of 0, 1 and 2.
+pub fn kind_numbered(number: u32) -> Option<IdKind>
+    ensures { result ≡ kind_of number }
+{
+    match number {
+        0 => Some(IdKind::Absolute),
+        1 => Some(IdKind::RelativeByte),
+        2 => Some(IdKind::RelativeWord),
+        _ => None,
+    }
+}
+
+/// The kind of ring with this number, which is that of `ng_ring` in `nerthogal.h`; there are those
+/// of 0 and 1.
+pub fn ring_numbered(number: u32) -> Option<RingKind>
+    ensures { result ≡ ring_of number }
+{
+    match number {
+        0 => Some(RingKind::Items),
+        1 => Some(RingKind::Bytes),
+        _ => None,
+    }
+}

@@ -1,0 +1,125 @@
+ghost use Rattle.std.specs.Prelude.{◌≡◌};
+ghost use Rattle.handle_calls.specs.Samplers.{FinishesSampler};
+
+use crate::coming_back::ComingBack;
+use crate::counts_out::CountsOut;
+use crate::returns::{Return, Returns};
+use crate::sampling::{counts_of, start, stop, trigger};
+use crate::status::Status;
+use crate::taken_out::TakenOut;
+use crate::way_back::{Given, WayBack};
+use daq_engine::Ring;
+use rtrb::{Consumer, Producer};
+use sampler::Sampler;
+use std::alloc::Global;
+use std::marker::Model;
+use std::snapshot::Snapshot;
+
+/// A sampler that was handed out, and its way back to its engine.
+#[derive(Drop)]
+pub struct Lent<R: Ring> {
+    pub(crate) sampler: Sampler<R::Send>,
+    pub(crate) way: WayBack<R::Send>,
+}
+
+impl<R: Ring> Model for Lent<R> {
+    ghost use Rattle.sampler.specs.State.{SamplerState};
+    ghost use Rattle.handle_calls.specs.Ways.{IsLaterOf};
+
+    ghost Value = { SamplerState R.Send };
+
+    ghost view = { λ l. l.sampler };
+
+    ghost invariant = { λ l. IsLaterOf R.Send.SendEnd R.Send.End.RingEnd l.way l.sampler };
+}
+
+impl<R: Ring> Lent<R> {
+    ghost use Rattle.std.specs.Prelude.{◌≡◌, [], ◌<◌, IfErr, IfOk};
+    ghost use Rattle.rtrb.specs.Ring.{IsPair, known_free, known_items, received, sent};
+    ghost use Rattle.handle_calls.specs.Samplers.{CountsList, IsLeftOf, StartsList, StopsList};
+    ghost use Rattle.handle_calls.specs.Samplers.{TriggersSampler};
+
+    /// A sampler with its way back, and the other end of that.
+    pub fn over(
+        mut producer: Producer<Return<R::Send>, Global, Returns>,
+        mut consumer: Consumer<Return<R::Send>, Global, Returns>,
+        sampler: Sampler<R::Send>,
+    ) -> (Lent<R>, ComingBack<R::Send>)
+        requires pair { IsPair producer consumer }
+        requires room { 0 < known_free producer }
+        requires nothing_sent { sent producer ≡ [] }
+        requires nothing_received { received consumer ≡ [] }
+        ensures sampler { result.0 ≡ sampler }
+        ensures coming { result.1 ≡ sampler }
+    {
+        let began = Snapshot::of(&sampler);
+        let kept = Snapshot::of(&sampler);
+        producer.push_reserved(Return::Sampler(sampler));
+        let _ = consumer.slots_beside(&mut producer);
+        let Return::Sampler(sampler) = consumer.pop_known() else {
+            unreachable!()
+        };
+        let _ = producer.slots_beside(&mut consumer);
+        let way = WayBack { producer, began };
+        let coming = ComingBack {
+            consumer,
+            began: kept,
+        };
+        (Lent { sampler, way }, coming)
+    }
+
+    /// Takes a trigger.
+    pub fn trigger(&mut self, image: &[u8], stamp: u32, taken: &mut TakenOut) -> Status
+        ensures { TriggersSampler R.Send.SendEnd R.Send.End.RingEnd
+            self.old self.new image.now stamp taken.old taken.new result }
+    {
+        trigger(&mut self.sampler, image, stamp, taken)
+    }
+
+    /// Starts a DAQ list.
+    pub fn start(&mut self, list: u8) -> Status
+        ensures { StartsList R.Send.SendEnd R.Send.End.RingEnd
+            self.old self.new list result }
+    {
+        start(&mut self.sampler, list)
+    }
+
+    /// Stops a DAQ list.
+    pub fn stop(&mut self, list: u8) -> Status
+        ensures { StopsList R.Send.SendEnd R.Send.End.RingEnd
+            self.old self.new list result }
+    {
+        stop(&mut self.sampler, list)
+    }
+
+    /// Tells a DAQ list's counts.
+    pub fn counts_of(&self, list: u8, counts: &mut CountsOut) -> Status
+        ensures { CountsList R.Send.SendEnd R.Send.End.RingEnd
+            self.now list counts.old counts.new result }
+    {
+        counts_of(&self.sampler, list, counts)
+    }
+
+    /// Finishes the sampler, and gives what is left of it back.
+    pub fn finish(self) -> Result<Given<R::Send>, Status>
+        ensures ok { IfOk result (λ given.
+            IsLeftOf R.Send.SendEnd R.Send.End.RingEnd self given.end) }
+        ensures err { IfErr result (λ status. status ≡ Status.NoEngine) }
+    {
+        let Lent { sampler, way } = self;
+        match sampler.finish() {
+            Some(end) => Ok(way.give(end)),
+            None => Err(Status::NoEngine),
+        }
+    }
+}
+
+/// Finishes a sampler that was handed out, and gives what is left of it back.
+pub fn finish<R: Ring>(lent: Lent<R>) -> Status
+    ensures { FinishesSampler R.Send.SendEnd R.Send.End.RingEnd lent result }
+{
+    match lent.finish() {
+        Ok(_given) => Status::Ok,
+        Err(status) => status,
+    }
+}

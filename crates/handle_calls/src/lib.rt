@@ -1,0 +1,52 @@
+//! What the handles of C hold, and what each call for C does to them, with a status for each answer.
+#![tactic(auto)]
+
+mod asked;
+mod carrying;
+mod closing;
+mod coming_back;
+mod content;
+mod counts_out;
+mod draining;
+mod ending_calls;
+mod engine;
+mod engine_calls;
+mod handing;
+mod handle;
+mod held_ring;
+mod hidden;
+mod kinds;
+mod lending;
+mod lent;
+mod opening;
+mod parts;
+mod pumped_out;
+mod pumping;
+mod report_out;
+mod returns;
+mod ring_kind;
+mod sampler_calls;
+mod sampling;
+mod status;
+mod store;
+mod taken_out;
+mod way_back;
+
+pub use asked::Asked;
+pub use closing::close_by;
+pub use content::Content;
+pub use counts_out::CountsOut;
+pub use ending_calls::{drain_by, finish_by};
+pub use engine::Engine;
+pub use engine_calls::pump_by;
+pub use handing::give_sampler;
+pub use handle::Handle;
+pub use held_ring::HeldRing;
+pub use lent::Lent;
+pub use opening::open_into;
+pub use pumped_out::PumpedOut;
+pub use report_out::ReportOut;
+pub use sampler_calls::{counts_by, start_by, stop_by, trigger_by};
+pub use status::Status;
+pub use store::{carry, make};
+pub use taken_out::TakenOut;
