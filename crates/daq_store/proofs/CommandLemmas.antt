@@ -5,7 +5,7 @@ use Rattle.std.proofs.lemmas.Bool.Decides.{eqb_tells, leb_tells}
 use Rattle.xcp_base.specs.declared.err_code.ErrCode.{ErrCode}
 use Rattle.xcp_base.specs.declared.err_code.ErrCode.TheVariants.{CmdUnknown}
 use Rattle.daq_store.specs.declared.command.Command.{Command}
-use Rattle.daq_store.specs.declared.command.Command.TheVariants.{FreeDaq, AllocDaq, AllocOdt, AllocOdtEntry, SetDaqPtr, WriteDaq, SetDaqListMode, StartStopDaqList, StartStopSynch}
+use Rattle.daq_store.specs.declared.command.Command.TheVariants.{FreeDaq, AllocDaq, AllocOdt, AllocOdtEntry, SetDaqPtr, WriteDaq, SetDaqListMode, StartStopDaqList, StartStopSynch, ClearDaqList, ReadDaq}
 use Rattle.daq_store.specs.Commands.{IsPacketOf, alloc_daq, alloc_odt, alloc_odt_entry, command, dword, fault_of_len, packet_fault, set_daq_list_mode, set_daq_ptr, start_stop_daq_list, start_stop_synch, word, write_daq}
 
 -- the bytes of a number make the number
@@ -42,6 +42,8 @@ packet_is_read packet (StartStopDaqList mode list) p =
     let made : command packet ≡ Ok (StartStopDaqList mode (word (list % 256) (list / 256 % 256))) = ap command p.bytes in
     rw (word-bytes list p.fields) at made
 packet_is_read packet (StartStopSynch mode) p = ap command p.bytes
+packet_is_read packet (ClearDaqList list) p = absurd p.sets_up
+packet_is_read packet ReadDaq p = absurd p.sets_up
 
 -- a number made of bytes has these bytes
 word_has : (a b : ℕ) → a < 256 → b < 256 → (word a b < 65536) × (a ≡ word a b % 256) × (b ≡ word a b / 256 % 256)
@@ -57,7 +59,7 @@ abbrev AreBytes : List ℕ → Type 0
 AreBytes packet = (k : ℕ) → get_or packet k 0 < 256
 
 free_daq_packet : (more : List ℕ) → IsPacketOf (0xD6 ∷ more) FreeDaq
-free_daq_packet more = record { fields = tt; reserved = 0; surplus = more; bytes = refl }
+free_daq_packet more = record { sets_up = tt; fields = tt; reserved = 0; surplus = more; bytes = refl }
 
 alloc_daq_packet : (more : List ℕ) → AreBytes more → IfOk (alloc_daq more) (IsPacketOf (0xD5 ∷ more))
 alloc_daq_packet [] h = tt
@@ -65,7 +67,7 @@ alloc_daq_packet (r ∷ []) h = tt
 alloc_daq_packet (r ∷ a ∷ []) h = tt
 alloc_daq_packet (r ∷ a ∷ b ∷ rest) h =
     let n = word_has a b (h 1) (h 2) in
-    record { fields = n.0; reserved = r; surplus = rest; bytes = cc (n.1, n.2) }
+    record { sets_up = tt; fields = n.0; reserved = r; surplus = rest; bytes = cc (n.1, n.2) }
 
 alloc_odt_packet : (more : List ℕ) → AreBytes more → IfOk (alloc_odt more) (IsPacketOf (0xD4 ∷ more))
 alloc_odt_packet [] h = tt
@@ -74,7 +76,7 @@ alloc_odt_packet (r ∷ a ∷ []) h = tt
 alloc_odt_packet (r ∷ a ∷ b ∷ []) h = tt
 alloc_odt_packet (r ∷ a ∷ b ∷ n ∷ rest) h =
     let l = word_has a b (h 1) (h 2) in
-    record { fields = l.0; reserved = r; surplus = rest; bytes = cc (l.1, l.2) }
+    record { sets_up = tt; fields = l.0; reserved = r; surplus = rest; bytes = cc (l.1, l.2) }
 
 alloc_odt_entry_packet : (more : List ℕ) → AreBytes more → IfOk (alloc_odt_entry more) (IsPacketOf (0xD3 ∷ more))
 alloc_odt_entry_packet [] h = tt
@@ -84,7 +86,7 @@ alloc_odt_entry_packet (r ∷ a ∷ b ∷ []) h = tt
 alloc_odt_entry_packet (r ∷ a ∷ b ∷ k ∷ []) h = tt
 alloc_odt_entry_packet (r ∷ a ∷ b ∷ k ∷ n ∷ rest) h =
     let l = word_has a b (h 1) (h 2) in
-    record { fields = l.0; reserved = r; surplus = rest; bytes = cc (l.1, l.2) }
+    record { sets_up = tt; fields = l.0; reserved = r; surplus = rest; bytes = cc (l.1, l.2) }
 
 set_daq_ptr_packet : (more : List ℕ) → AreBytes more → IfOk (set_daq_ptr more) (IsPacketOf (0xE2 ∷ more))
 set_daq_ptr_packet [] h = tt
@@ -94,7 +96,7 @@ set_daq_ptr_packet (r ∷ a ∷ b ∷ []) h = tt
 set_daq_ptr_packet (r ∷ a ∷ b ∷ k ∷ []) h = tt
 set_daq_ptr_packet (r ∷ a ∷ b ∷ k ∷ e ∷ rest) h =
     let l = word_has a b (h 1) (h 2) in
-    record { fields = l.0; reserved = r; surplus = rest; bytes = cc (l.1, l.2) }
+    record { sets_up = tt; fields = l.0; reserved = r; surplus = rest; bytes = cc (l.1, l.2) }
 
 write_daq_packet : (more : List ℕ) → AreBytes more → IfOk (write_daq more) (IsPacketOf (0xE1 ∷ more))
 write_daq_packet [] h = tt
@@ -106,7 +108,7 @@ write_daq_packet (bit ∷ size ∷ ext ∷ a ∷ b ∷ []) h = tt
 write_daq_packet (bit ∷ size ∷ ext ∷ a ∷ b ∷ c ∷ []) h = tt
 write_daq_packet (bit ∷ size ∷ ext ∷ a ∷ b ∷ c ∷ d ∷ rest) h =
     let x = dword_has a b c d (h 3) (h 4) (h 5) (h 6) in
-    record { fields = x.0; reserved = 0; surplus = rest; bytes = cc (x.1, x.2, x.3, x.4) }
+    record { sets_up = tt; fields = x.0; reserved = 0; surplus = rest; bytes = cc (x.1, x.2, x.3, x.4) }
 
 set_daq_list_mode_packet : (more : List ℕ) → AreBytes more → IfOk (set_daq_list_mode more) (IsPacketOf (0xE0 ∷ more))
 set_daq_list_mode_packet [] h = tt
@@ -119,7 +121,7 @@ set_daq_list_mode_packet (mode ∷ a ∷ b ∷ c ∷ d ∷ prescaler ∷ []) h =
 set_daq_list_mode_packet (mode ∷ a ∷ b ∷ c ∷ d ∷ prescaler ∷ priority ∷ rest) h =
     let l = word_has a b (h 1) (h 2) in
     let e = word_has c d (h 3) (h 4) in
-    record { fields = (l.0, e.0); reserved = 0; surplus = rest; bytes = cc (l.1, l.2, e.1, e.2) }
+    record { sets_up = tt; fields = (l.0, e.0); reserved = 0; surplus = rest; bytes = cc (l.1, l.2, e.1, e.2) }
 
 start_stop_daq_list_packet : (more : List ℕ) → AreBytes more → IfOk (start_stop_daq_list more) (IsPacketOf (0xDE ∷ more))
 start_stop_daq_list_packet [] h = tt
@@ -127,11 +129,11 @@ start_stop_daq_list_packet (mode ∷ []) h = tt
 start_stop_daq_list_packet (mode ∷ a ∷ []) h = tt
 start_stop_daq_list_packet (mode ∷ a ∷ b ∷ rest) h =
     let l = word_has a b (h 1) (h 2) in
-    record { fields = l.0; reserved = 0; surplus = rest; bytes = cc (l.1, l.2) }
+    record { sets_up = tt; fields = l.0; reserved = 0; surplus = rest; bytes = cc (l.1, l.2) }
 
 start_stop_synch_packet : (more : List ℕ) → IfOk (start_stop_synch more) (IsPacketOf (0xDD ∷ more))
 start_stop_synch_packet [] = tt
-start_stop_synch_packet (mode ∷ rest) = record { fields = tt; reserved = 0; surplus = rest; bytes = refl }
+start_stop_synch_packet (mode ∷ rest) = record { sets_up = tt; fields = tt; reserved = 0; surplus = rest; bytes = refl }
 
 -- one code of the table, and then the others
 one_code : (code known : ℕ) (more : List ℕ) (x y : Result Command ErrCode)

@@ -1,24 +1,26 @@
 -- The store after each accepted call stands after the calls with this one.
-use Rattle.std.proofs.Common.{not, if◌then◌else◌, Some, None, nat_lt, replicate, [], Option, ◌≡◌, ℕ, ◌+◌, ◌<◌, ◌==◌, Bool, true, false, List, ◌∷◌, length, set, map, refl, sym, ◌∙◌, ap, arith, option_and_then, add-zero}
+use Rattle.std.proofs.Common.{not, if◌then◌else◌, Some, None, nat_lt, replicate, [], Option, ◌≡◌, ℕ, ◌+◌, ◌<◌, ◌==◌, Bool, true, false, List, ◌∷◌, length, set, map, refl, sym, ◌∙◌, ap, arith, option_and_then, option_map, slice_get, add-zero, zero-add}
 use Rattle.std.proofs.lemmas.Simd.{map-map}
 use Rattle.std.proofs.lemmas.Bool.{eq-eqb, ne_eqb}
-use Rattle.std.proofs.lemmas.List.FromFn.{length-map-range_with_len}
+use Rattle.std.proofs.lemmas.List.FromFn.{length-map-range_with_len, get_or-map-range_with_len}
+use Rattle.std.proofs.lemmas.Option.{slice_get-get_or}
 use Rattle.xcp_base.specs.declared.packet_form.PacketForm.{PacketForm}
 use Rattle.daq_store.specs.declared.command.Command.{Command}
-use Rattle.daq_store.specs.declared.command.Command.TheVariants.{AllocDaq, AllocOdt, AllocOdtEntry, SetDaqPtr, WriteDaq, SetDaqListMode, StartStopDaqList, StartStopSynch}
+use Rattle.daq_store.specs.declared.command.Command.TheVariants.{AllocDaq, AllocOdt, AllocOdtEntry, SetDaqPtr, WriteDaq, SetDaqListMode, StartStopDaqList, StartStopSynch, ClearDaqList, ReadDaq}
+use Rattle.daq_store.specs.declared.entry.Entry.{Entry}
 use Rattle.daq_store.specs.declared.mode.Mode.{Mode}
 use Rattle.daq_store.specs.declared.list_state.ListState.{ListState}
 use Rattle.daq_store.specs.Calls.{numbers_below}
 use Rattle.daq_store.specs.Shape.{list_count, odt_count, entry_count, has_odt, has_entry}
-use Rattle.daq_store.specs.Pointer.{pointer, set_place, writes_since, entry_at}
-use Rattle.daq_store.specs.Entries.{odt_of, last_write}
+use Rattle.daq_store.specs.Pointer.{pointer, set_place, steps_since, entry_at}
+use Rattle.daq_store.specs.Entries.{odt_of, last_write, pointed}
 use Rattle.daq_store.specs.Modes.{mode_of, stamps}
 use Rattle.daq_store.specs.Running.{is_running, is_selected}
-use Rattle.daq_store.specs.Configuration.{configuration, odt_entries}
-use Rattle.daq_store.specs.Standing.{StoreState, StoreStandsAfter, list_after}
-use Rattle.daq_store.specs.Inner.Effects.{fresh_state, list_at, shows_odt, shows_entry, lists_put, odts_put, entries_put, entry_put, mode_put, start_stop_put, synch_put, with_odts, with_entries, with_mode, with_entry, start_stopped, synched}
+use Rattle.daq_store.specs.Configuration.{configuration, entry_of, odt_entries}
+use Rattle.daq_store.specs.Standing.{StoreState, StoreStandsAfter, conf_of, list_after}
+use Rattle.daq_store.specs.Inner.Effects.{fresh_state, list_at, shows_odt, shows_entry, lists_put, odts_put, entries_put, entry_put, mode_put, start_stop_put, synch_put, with_odts, with_entries, with_mode, with_entry, unwritten, cleared, cleared_put, moved_on, start_stopped, synched}
 use Rattle.daq_store.proofs.TableLemmas.{map-same, set-map_below, map-one, and_left, and_right, below_from}
-use Rattle.daq_store.proofs.StandingLemmas.{count_stands, get_stands, odt_within, has_odt_stands, has_entry_stands}
+use Rattle.daq_store.proofs.StandingLemmas.{conf_stands, count_stands, get_stands, odt_within, has_odt_stands, has_entry_stands}
 
 -- two lists of calls show the same ODTs of list l
 record SameOdts (a b : List Command) (l : ℕ) : Type 0 where
@@ -274,7 +276,7 @@ entry_put_stands s calls bit size ext addr l k e h pointed shown =
       lists = one_list s calls (WriteDaq bit size ext addr) l _ h (rw (count_stands s calls h) list)
           (λ here. write_here s.profile.form calls bit size ext addr l k e at entry odt (list_at s l) is)
           (λ i other. written_other_list calls bit size ext addr l k e i at other);
-      pointer = sym (moved (WriteDaq bit size ext addr ∷ calls) calls l k e (writes_since calls) (set_place calls) (λ i j. refl) at ∙ rw len refl);
+      pointer = sym (moved (WriteDaq bit size ext addr ∷ calls) calls l k e (steps_since calls) (set_place calls) (λ i j. refl) at ∙ rw len refl);
       phase = h.phase;
     }
 
@@ -370,5 +372,96 @@ synch_put_stands s calls mode h = record {
       ∙ map-map (synched mode) (list_after s.profile.form calls) (numbers_below (list_count calls))
       ∙ map-same (λ i. synched mode (list_after s.profile.form calls i)) (list_after s.profile.form (StartStopSynch mode ∷ calls)) (numbers_below (list_count calls)) (synch_here s.profile.form calls mode);
   pointer = h.pointer;
+  phase = h.phase;
+}
+
+-- READ_DAQ
+read_same : (calls : List Command) (i : ℕ) → SameOf calls (ReadDaq ∷ calls) i
+read_same calls i = record {
+  odts = record { odts = refl; entries = λ _. refl; last_write = λ _ _. refl };
+  mode = refl;
+  running = refl;
+  selected = refl;
+}
+
+-- the pointer moves on from an entry that is there
+pub moved_on_stands : (s : StoreState) (calls : List Command) (l k e : ℕ) → StoreStandsAfter s calls
+    → s.pointer ≡ Some (l, k, e) → shows_entry s l k e ≡ true → StoreStandsAfter (moved_on s l k e) (ReadDaq ∷ calls)
+moved_on_stands s calls l k e h pointed shown =
+    let at : pointer calls ≡ Some (l, k, e) = sym h.pointer ∙ pointed in
+    let there : has_entry calls l k e ≡ true = has_entry_stands s calls l k e h ∙ shown in
+    let list : l < list_count calls = below_from _ _ (and_left _ _ (and_left _ _ there)) in
+    let odt : k < odt_count calls l = below_from _ _ (and_right _ _ (and_left _ _ there)) in
+    let is : list_at s l ≡ list_after s.profile.form calls l = get_stands s calls l (fresh_state s.profile.form) h list in
+    let len : length (odt_entries (list_at s l).conf k) ≡ entry_count calls l k
+    = ap (λ (x : ListState). length (odt_entries x.conf k)) is ∙ ap length (odt_within s.profile.form calls l k odt) ∙ length-map-range_with_len (last_write calls l k) 0 (entry_count calls l k) in
+    record {
+      lists = h.lists ∙ map-same (list_after s.profile.form calls) (list_after s.profile.form (ReadDaq ∷ calls)) (numbers_below (list_count calls))
+          (λ i. list_same s.profile.form calls (ReadDaq ∷ calls) i (read_same calls i));
+      pointer = sym (moved (ReadDaq ∷ calls) calls l k e (steps_since calls) (set_place calls) (λ i j. refl) at ∙ rw len refl);
+      phase = h.phase;
+    }
+
+-- an entry that is there
+entry_of_odt : (f : PacketForm) (calls : List Command) (l k e : ℕ) → k < odt_count calls l → e < entry_count calls l k
+    → entry_of (configuration f calls l) k e ≡ last_write calls l k e
+entry_of_odt f calls l k e odt entry =
+    let long : e < length (odt_of calls l k) = rw (length-map-range_with_len (last_write calls l k) 0 (entry_count calls l k)) entry in
+    ap (λ es. option_and_then (λ (o : Option Entry). o) (slice_get es e)) (odt_within f calls l k odt)
+    ∙ ap (option_and_then (λ (o : Option Entry). o)) (slice_get-get_or (odt_of calls l k) e None long)
+    ∙ get_or-map-range_with_len (last_write calls l k) 0 (entry_count calls l k) e e None entry (zero-add e)
+
+-- what is shown of the entry at the pointer
+pub pointed_stands : (s : StoreState) (calls : List Command) (l k e : ℕ) → StoreStandsAfter s calls
+    → s.pointer ≡ Some (l, k, e) → shows_entry s l k e ≡ true
+    → pointed calls ≡ option_map (λ x. (x.address, x.size)) (entry_of (conf_of s l) k e)
+pointed_stands s calls l k e h here shown =
+    let at : pointer calls ≡ Some (l, k, e) = sym h.pointer ∙ here in
+    let there : has_entry calls l k e ≡ true = has_entry_stands s calls l k e h ∙ shown in
+    let list : l < list_count calls = below_from _ _ (and_left _ _ (and_left _ _ there)) in
+    let odt : k < odt_count calls l = below_from _ _ (and_right _ _ (and_left _ _ there)) in
+    let entry : e < entry_count calls l k = below_from _ _ (and_right _ _ there) in
+    let is : entry_of (conf_of s l) k e ≡ last_write calls l k e
+    = ap (λ c. entry_of c k e) (conf_stands s calls l h list) ∙ entry_of_odt s.profile.form calls l k e odt entry in
+    rw (at, is) refl
+
+-- CLEAR_DAQ_LIST
+clear_other : (calls : List Command) (l i : ℕ) → (l == i) ≡ false → SameOf calls (ClearDaqList l ∷ calls) i
+clear_other calls l i e = record {
+  odts = record { odts = refl; entries = λ _. refl; last_write = λ _ _. rw e refl };
+  mode = rw e refl;
+  running = rw e refl;
+  selected = rw e refl;
+}
+
+-- the entries of each ODT of the list are unwritten, as many as there were
+odt_cleared : (calls : List Command) (l k : ℕ) → (l == l) ≡ true → unwritten (odt_of calls l k) ≡ odt_of (ClearDaqList l ∷ calls) l k
+odt_cleared calls l k a =
+    let n : ℕ = entry_count calls l k in
+    let none : (e : ℕ) → last_write (ClearDaqList l ∷ calls) l k e ≡ None = λ e. rw a refl in
+    ap (λ m. replicate m None) (length-map-range_with_len (last_write calls l k) 0 n)
+    ∙ sym (map-one (last_write (ClearDaqList l ∷ calls) l k) None n 0 none)
+
+odts_cleared : (calls : List Command) (l : ℕ) → (l == l) ≡ true
+    → map unwritten (map (odt_of calls l) (numbers_below (odt_count calls l)))
+    ≡ map (odt_of (ClearDaqList l ∷ calls) l) (numbers_below (odt_count calls l))
+odts_cleared calls l a =
+    map-map unwritten (odt_of calls l) (numbers_below (odt_count calls l))
+    ∙ map-same (λ k. unwritten (odt_of calls l k)) (odt_of (ClearDaqList l ∷ calls) l) (numbers_below (odt_count calls l)) (λ k. odt_cleared calls l k a)
+
+clear_here : (f : PacketForm) (calls : List Command) (l : ℕ) → (l == l) ≡ true → (x : ListState) → x ≡ list_after f calls l
+    → cleared x ≡ list_after f (ClearDaqList l ∷ calls) l
+clear_here f calls l a x is =
+    let odts : map unwritten (map (odt_of calls l) (numbers_below (odt_count calls l)))
+    ≡ map (odt_of (ClearDaqList l ∷ calls) l) (numbers_below (odt_count calls l)) = odts_cleared calls l a in
+    rw (is, a, odts) refl
+
+pub cleared_put_stands : (s : StoreState) (calls : List Command) (l : ℕ) → StoreStandsAfter s calls → l < length s.lists
+    → StoreStandsAfter (cleared_put s l) (ClearDaqList l ∷ calls)
+cleared_put_stands s calls l h inside = record {
+  lists = one_list s calls (ClearDaqList l) l _ h inside
+      (λ here. clear_here s.profile.form calls l (eq-eqb l l refl) (list_at s l) (get_stands s calls l (fresh_state s.profile.form) h here))
+      (λ i other. clear_other calls l i other);
+  pointer = refl;
   phase = h.phase;
 }

@@ -8,7 +8,7 @@ use Rattle.std.proofs.Math.Seq.{take-length}
 use Rattle.xcp_base.specs.declared.err_code.ErrCode.{ErrCode}
 use Rattle.xcp_base.specs.declared.err_code.ErrCode.TheVariants.{DaqActive, Sequence}
 use Rattle.daq_store.specs.declared.command.Command.{Command}
-use Rattle.daq_store.specs.declared.command.Command.TheVariants.{FreeDaq, AllocDaq, AllocOdt, AllocOdtEntry, SetDaqPtr, WriteDaq, SetDaqListMode, StartStopDaqList, StartStopSynch}
+use Rattle.daq_store.specs.declared.command.Command.TheVariants.{FreeDaq, AllocDaq, AllocOdt, AllocOdtEntry, SetDaqPtr, WriteDaq, SetDaqListMode, StartStopDaqList, StartStopSynch, ClearDaqList, ReadDaq}
 use Rattle.daq_store.specs.declared.refusal.Refusal.{Refusal}
 use Rattle.daq_store.specs.declared.refusal.Refusal.TheVariants.{Code, Memory}
 use Rattle.daq_store.specs.declared.reply.Reply.TheVariants.{Error}
@@ -119,6 +119,8 @@ fault_stands s calls (SetDaqListMode mode l channel prescaler priority) h =
     set_mode_fault s calls mode l channel prescaler priority h
 fault_stands s calls (StartStopDaqList mode l) h = start_stop_fault s calls mode l h
 fault_stands s calls (StartStopSynch mode) h = synch_fault s calls mode h
+fault_stands s calls (ClearDaqList l) h = rw (is_list_stands s calls l h) refl
+fault_stands s calls ReadDaq h = rw (← h.pointer) refl
 
 -- what is answered where a check fails, and where none does
 pub answer_fails : (s : StoreState) (calls : List Command) (call : Command) (code : ErrCode) → StoreStandsAfter s calls

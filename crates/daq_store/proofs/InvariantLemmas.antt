@@ -2,20 +2,20 @@
 use Rattle.std.proofs.Common.{inl, inr, nat_lt, not, if◌then◌else◌, Some, None, [], Option, ◌≡◌, ℕ, suc, zero, ◌+◌, ◌<◌, ◌==◌, Bool, true, false, ◌&&◌, ◌||◌, List, ◌∷◌, length, get_or, set, map, refl, sym, ◌∙◌, ap, arith, slice_get, unwrap_or, option_map, sum_by, subst, All, IfSome}
 use Rattle.std.specs.List.{list_any}
 use Rattle.std.proofs.lemmas.Simd.{map-map}
-use Rattle.std.proofs.lemmas.List.{length-set, length-map, get_or-set_same}
+use Rattle.std.proofs.lemmas.List.{length-set, length-map, length-replicate, get_or-set_same}
 use Rattle.std.proofs.Math.Seq.{map-set_same}
 use Rattle.std.proofs.lemmas.List.Folds.{list_any_at}
 use Rattle.std.proofs.lemmas.List.Sums.{sum_by-set}
 use Rattle.std.proofs.lemmas.Option.{slice_get_past, unwrap_or-slice_get}
 use Rattle.std.proofs.lemmas.Bool.Decides.{leb_tells, eqb_tells}
-use Rattle.std.proofs.lemmas.List.Elements.{All-set, All-map, All-get_or}
+use Rattle.std.proofs.lemmas.List.Elements.{All-set, All-map, All-get_or, All-replicate}
 use Rattle.xcp_base.specs.declared.packet_form.PacketForm.{PacketForm}
 use Rattle.daq_store.specs.declared.entry.Entry.{Entry}
 use Rattle.daq_store.specs.declared.mode.Mode.{Mode}
 use Rattle.daq_store.specs.declared.list_state.ListState.{ListState}
-use Rattle.daq_store.specs.Configuration.{fresh_conf, odt_entries, is_ready}
+use Rattle.daq_store.specs.Configuration.{Configuration, IsEntry, IsOdt, IsWithinLimits, fresh_conf, odt_entries, is_ready}
 use Rattle.daq_store.specs.Standing.{StoreState, IsStore, IsAtEntry, HasChannel, HasForm, RunsReady, conf_of, odts_of}
-use Rattle.daq_store.specs.Inner.Effects.{with_mode, with_entry, start_stopped, synched, is_unready}
+use Rattle.daq_store.specs.Inner.Effects.{with_mode, with_entry, unwritten, cleared, start_stopped, synched, is_unready}
 use Rattle.daq_store.proofs.TableLemmas.{sum_by-map, below_from}
 use Rattle.daq_store.proofs.StandingLemmas.{conf_at}
 
@@ -99,6 +99,60 @@ mode_keeps s l x mode h inside is stopped there =
     one_kept s l x (with_mode x mode) h inside is (stopped_is_ready s.profile.image_len (with_mode x mode) stopped) refl refl
     (All-set (HasChannel s.profile.channels) s.lists l (with_mode x mode) there h.modes)
 
+-- the pointer is at the next entry, if there is one
+next_is_there : (s : StoreState) (l k e : ℕ) (b : Bool) → (b ≡ true → IsAtEntry s (l, k, e + 1))
+    → IfSome (if b then Some (l, k, e + 1) else None) (IsAtEntry s)
+next_is_there s l k e true h = h refl
+next_is_there s l k e false h = tt
+
+-- READ_DAQ: the pointer moves on
+pub moved_keeps : (s : StoreState) (l k e : ℕ) (x : ListState) → IsStore s → l < length s.lists → x ≡ get_or s.lists l x
+    → IsStore (record s { pointer = if nat_lt (e + 1) (length (odt_entries x.conf k)) then Some (l, k, e + 1) else None })
+moved_keeps s l k e x h inside is =
+    let conf : x.conf ≡ conf_of s l = conf_at s l x h.forms inside is in
+    let len : length (odt_entries (conf_of s l) k) ≡ length (odt_entries x.conf k) = ap (λ c. length (odt_entries c k)) (sym conf) in
+    record {
+      channels = h.channels;
+      image_len = h.image_len;
+      lists = h.lists;
+      odts = h.odts;
+      forms = h.forms;
+      modes = h.modes;
+      running = h.running;
+      pointer = next_is_there s l k e (nat_lt (e + 1) (length (odt_entries x.conf k))) (λ more. rw len (below_from _ _ more));
+    }
+
+-- what is set of a list without its mode and the values of its entries
+pub unset_keeps : (x : Configuration) → IsWithinLimits x → IsWithinLimits (record x { mode = None; odts = map unwritten x.odts })
+unset_keeps x h = record {
+  mode = tt;
+  count = rw (length-map x.odts unwritten) h.count;
+  odts = All-map IsOdt unwritten x.odts (λ k d inside.
+      let odt : List (Option Entry) = get_or x.odts k d in
+      record {
+        count = rw (length-replicate {A = Option Entry} (length odt) None) (h.odts k d inside).count;
+        sizes = All-replicate IsEntry (length odt) None tt;
+      });
+}
+
+-- CLEAR_DAQ_LIST: as many ODTs, no mode, and the list doesn't run
+pub clear_keeps : (s : StoreState) (l : ℕ) (x : ListState) → IsStore s → l < length s.lists → x ≡ get_or s.lists l x
+    → IsStore (record s { lists = set s.lists l (cleared x); pointer = None })
+clear_keeps s l x h inside is =
+    let y : ListState = cleared x in
+    let own : odts_of y ≡ odts_of x = length-map x.conf.odts unwritten in
+    let got : odts_of (get_or s.lists l x) ≡ odts_of x = ap odts_of (sym is) in
+    record {
+      channels = h.channels;
+      image_len = h.image_len;
+      lists = rw (length-set s.lists l y) h.lists;
+      odts = omega (arith, sum_by-set odts_of s.lists l y x inside, own, got, h.odts);
+      forms = forms_set s l x y h inside is refl;
+      modes = All-set (HasChannel s.profile.channels) s.lists l y tt h.modes;
+      running = All-set (RunsReady s.profile.image_len) s.lists l y (stopped_is_ready s.profile.image_len y refl) h.running;
+      pointer = tt;
+    }
+
 -- START_STOP_DAQ_LIST
 started_ready : (select start run ready : Bool) → (run ≡ true → ready ≡ true) → (start && not ready) ≡ false
     → (if select then run else start) ≡ true → ready ≡ true
@@ -167,12 +221,6 @@ odt_inside xs k e h = elim (leb_tells (suc k) (length xs)) [
       let empty : length (unwrap_or (slice_get xs k) []) ≡ 0 = ap (λ (o : Option (List (Option Entry))). length (unwrap_or o [])) none in
       absurd (omega (arith, h, empty))
 ]
-
--- the pointer is at the next entry, if there is one
-next_is_there : (s : StoreState) (l k e : ℕ) (b : Bool) → (b ≡ true → IsAtEntry s (l, k, e + 1))
-    → IfSome (if b then Some (l, k, e + 1) else None) (IsAtEntry s)
-next_is_there s l k e true h = h refl
-next_is_there s l k e false h = tt
 
 pub entry_keeps : (s : StoreState) (l k e : ℕ) (x : ListState) (entry : Entry) → IsStore s → l < length s.lists → x ≡ get_or s.lists l x
     → x.running ≡ false → e < length (odt_entries x.conf k)

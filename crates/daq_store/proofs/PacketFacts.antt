@@ -16,7 +16,7 @@ command-set_daq_list_mode = refl
 
 -- a reserved byte may have any value, and a surplus is ignored
 surplus-alloc_daq : IsPacketOf (0xD5 ∷ 0xAA ∷ 0x01 ∷ 0x00 ∷ 0x55 ∷ []) (AllocDaq 1)
-surplus-alloc_daq = record { fields = lit< tt; reserved = 0xAA; surplus = 0x55 ∷ []; bytes = refl }
+surplus-alloc_daq = record { sets_up = tt; fields = lit< tt; reserved = 0xAA; surplus = 0x55 ∷ []; bytes = refl }
 
 -- empty, of no known code, too short, long enough
 fault-empty : packet_fault [] ≡ Some CmdSyntax
@@ -24,6 +24,13 @@ fault-empty = refl
 
 fault-unknown : packet_fault (0xC0 ∷ []) ≡ Some CmdUnknown
 fault-unknown = refl
+
+-- the codes of CLEAR_DAQ_LIST and READ_DAQ are none of the nine
+fault-clear : packet_fault (0xE3 ∷ 0 ∷ 0 ∷ 0 ∷ []) ≡ Some CmdUnknown
+fault-clear = refl
+
+fault-read : packet_fault (0xDB ∷ []) ≡ Some CmdUnknown
+fault-read = refl
 
 fault-short : packet_fault (0xE1 ∷ 0xFF ∷ 0x02 ∷ []) ≡ Some CmdSyntax
 fault-short = refl

@@ -3,12 +3,13 @@ use Rattle.std.proofs.Common.{◌≡◌, ℕ, Bool, true, false, if◌then◌els
 use Rattle.std.specs.Prelude.{is_some}
 use Rattle.xcp_base.specs.declared.err_code.ErrCode.{ErrCode}
 use Rattle.daq_store.specs.declared.command.Command.{Command}
-use Rattle.daq_store.specs.declared.command.Command.TheVariants.{FreeDaq, AllocDaq, AllocOdt, AllocOdtEntry, SetDaqPtr, WriteDaq, SetDaqListMode, StartStopDaqList, StartStopSynch}
+use Rattle.daq_store.specs.declared.command.Command.TheVariants.{FreeDaq, AllocDaq, AllocOdt, AllocOdtEntry, SetDaqPtr, WriteDaq, SetDaqListMode, StartStopDaqList, StartStopSynch, ClearDaqList, ReadDaq}
 use Rattle.daq_store.specs.declared.refusal.Refusal.TheVariants.{Code}
 use Rattle.daq_store.specs.declared.reply.Reply.{Reply}
 use Rattle.daq_store.specs.declared.reply.Reply.TheVariants.{Error}
 use Rattle.daq_store.specs.Calls.{Profile, and_then}
-use Rattle.daq_store.specs.Answer.{accepted_reply, answer, fault_of, reply_by}
+use Rattle.daq_store.specs.Answer.{accepted_reply, answer, fault_of, read_reply, reply_by}
+use Rattle.daq_store.specs.Entries.{pointed}
 use Rattle.daq_store.specs.Standing.{Refuses, StoreStandsAfter, StoreState}
 use Rattle.daq_store.specs.Inner.Accepted.{IsAccepted, IsPositive}
 use Rattle.daq_store.specs.Replies.{CarriesOut, calls_after_packet, calls_after_packets, packet_reply, replies, reply_bytes}
@@ -23,6 +24,10 @@ some_fault : (accepted : Reply) (code : ErrCode) (fault : Option ErrCode) → Is
 some_fault accepted code None positive is = absurd (subst IsPositive is positive)
 some_fault accepted code (Some other) positive is = refl
 
+read_is_positive : (entry : Option (ℕ × ℕ)) → IsPositive (read_reply entry)
+read_is_positive None = tt
+read_is_positive (Some x) = tt
+
 accepted_is_positive : (p : Profile) (calls : List Command) (call : Command) → IsPositive (accepted_reply p calls call)
 accepted_is_positive p calls FreeDaq = tt
 accepted_is_positive p calls (AllocDaq count) = tt
@@ -33,6 +38,8 @@ accepted_is_positive p calls (WriteDaq bit size ext addr) = tt
 accepted_is_positive p calls (SetDaqListMode mode list channel prescaler priority) = tt
 accepted_is_positive p calls (StartStopDaqList mode list) = tt
 accepted_is_positive p calls (StartStopSynch mode) = tt
+accepted_is_positive p calls (ClearDaqList list) = tt
+accepted_is_positive p calls ReadDaq = read_is_positive (pointed calls)
 
 -- an accepted call is carried out
 pub accepted_is_carried : (old new : StoreState) (call : Command) (reply : Reply) → IsAccepted old new call reply → CarriesOut old new call reply

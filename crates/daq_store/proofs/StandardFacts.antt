@@ -7,9 +7,9 @@ use Rattle.xcp_base.specs.declared.stamp_size.StampSize.TheVariants.{One, Two, F
 use Rattle.xcp_base.specs.declared.packet_form.PacketForm.{PacketForm}
 use Rattle.xcp_base.specs.Forms.{usual_form}
 use Rattle.daq_store.specs.declared.command.Command.{Command}
-use Rattle.daq_store.specs.declared.command.Command.TheVariants.{FreeDaq, AllocDaq, AllocOdt, AllocOdtEntry, SetDaqPtr, WriteDaq, SetDaqListMode, StartStopDaqList, StartStopSynch}
+use Rattle.daq_store.specs.declared.command.Command.TheVariants.{FreeDaq, AllocDaq, AllocOdt, AllocOdtEntry, SetDaqPtr, WriteDaq, SetDaqListMode, StartStopDaqList, StartStopSynch, ClearDaqList, ReadDaq}
 use Rattle.daq_store.specs.declared.reply.Reply.{Reply}
-use Rattle.daq_store.specs.declared.reply.Reply.TheVariants.{Positive, Started, Error}
+use Rattle.daq_store.specs.declared.reply.Reply.TheVariants.{Positive, Started, Read, Error}
 use Rattle.daq_store.specs.Calls.{Profile}
 use Rattle.daq_store.specs.Shape.{odts_before}
 use Rattle.daq_store.specs.Pointer.{pointer}
@@ -189,3 +189,35 @@ mode_and_then_running = refl
 mode_over_alloc_daq :
     mode_of (stand_after (images_of 4) [] (AllocDaq 1 ∷ SetDaqListMode 0 0 0 1 0 ∷ AllocDaq 1 ∷ [])) 0 ≡ None
 mode_over_alloc_daq = refl
+
+-- READ_DAQ reads on through an ODT, also of a list that runs, and CLEAR_DAQ_LIST leaves two unwritten
+-- entries and a list that can't be started
+abbrev reads_and_clears : List Command
+reads_and_clears =
+    AllocDaq 1 ∷ AllocOdt 0 1 ∷ AllocOdtEntry 0 0 2 ∷ ReadDaq ∷ SetDaqPtr 0 0 0 ∷ ReadDaq ∷ WriteDaq 0xFF 1 0 3
+    ∷ SetDaqPtr 0 0 0 ∷ WriteDaq 0xFF 2 0 1 ∷ SetDaqPtr 0 0 0 ∷ SetDaqListMode 0 0 0 1 0 ∷ StartStopDaqList 1 0
+    ∷ ReadDaq ∷ ReadDaq ∷ ReadDaq ∷ ClearDaqList 1 ∷ ClearDaqList 0 ∷ StartStopDaqList 1 0 ∷ SetDaqPtr 0 0 1 ∷ ReadDaq
+    ∷ ReadDaq ∷ []
+
+reading_and_clearing :
+    answers (images_of 4) [] reads_and_clears
+    ≡ Positive ∷ Positive ∷ Positive ∷ Error Sequence ∷ Positive ∷ Read 0 0 ∷ Positive
+    ∷ Positive ∷ Positive ∷ Positive ∷ Positive ∷ Started 0
+    ∷ Read 2 1 ∷ Read 1 3 ∷ Error Sequence ∷ Error OutOfRange ∷ Positive ∷ Error DaqConfig ∷ Positive ∷ Read 0 0
+    ∷ Error Sequence ∷ []
+reading_and_clearing = refl
+
+-- CLEAR_DAQ_LIST of another list leaves all but the pointer
+abbrev clears_another : List Command
+clears_another =
+    AllocDaq 2 ∷ AllocOdt 0 1 ∷ AllocOdtEntry 0 0 2 ∷ SetDaqPtr 0 0 0 ∷ WriteDaq 0xFF 2 0 1
+    ∷ SetDaqListMode 0 0 0 1 0 ∷ StartStopDaqList 2 0 ∷ ClearDaqList 1 ∷ []
+
+the_pointer_is_undefined : pointer (stand_after (images_of 4) [] clears_another) ≡ None
+the_pointer_is_undefined = refl
+
+the_entry_stays : last_write (stand_after (images_of 4) [] clears_another) 0 0 0 ≡ Some (record { address = 1; size = 2 })
+the_entry_stays = refl
+
+the_selection_stays : is_selected (stand_after (images_of 4) [] clears_another) 0 ≡ true
+the_selection_stays = refl

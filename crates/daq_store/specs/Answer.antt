@@ -14,13 +14,15 @@ use Rattle.daq_store.specs.declared.command.Command.{Command}
 use Rattle.daq_store.specs.declared.command.Command.TheVariants.{FreeDaq, AllocDaq, AllocOdt}
 use Rattle.daq_store.specs.declared.command.Command.TheVariants.{AllocOdtEntry, SetDaqPtr, WriteDaq}
 use Rattle.daq_store.specs.declared.command.Command.TheVariants.{SetDaqListMode, StartStopDaqList}
-use Rattle.daq_store.specs.declared.command.Command.TheVariants.{StartStopSynch}
+use Rattle.daq_store.specs.declared.command.Command.TheVariants.{StartStopSynch, ClearDaqList}
+use Rattle.daq_store.specs.declared.command.Command.TheVariants.{ReadDaq}
 use Rattle.daq_store.specs.declared.reply.Reply.{Reply}
-use Rattle.daq_store.specs.declared.reply.Reply.TheVariants.{Positive, Started, Error}
+use Rattle.daq_store.specs.declared.reply.Reply.TheVariants.{Positive, Started, Read, Error}
 use Rattle.daq_store.specs.Calls.{Profile, and_then}
 use Rattle.daq_store.specs.Shape.{phase_of, list_count, is_list, has_odt, has_entry, odts_before}
 use Rattle.daq_store.specs.Shape.{forbids_lists, forbids_odts, forbids_entries}
 use Rattle.daq_store.specs.Pointer.{pointer}
+use Rattle.daq_store.specs.Entries.{pointed}
 use Rattle.daq_store.specs.Running.{is_running, is_selected, is_active, any_list}
 use Rattle.daq_store.specs.Configuration.{list_is_ready}
 
@@ -85,6 +87,8 @@ checks profile calls (StartStopDaqList mode list) =
 checks profile calls (StartStopSynch mode) =
     (nat_lt 2 mode, ModeNotValid)
     ∷ (mode == 1 && any_list calls (selects_unready profile calls), DaqConfig) ∷ []
+checks profile calls (ClearDaqList list) = (not (is_list calls list), OutOfRange) ∷ []
+checks profile calls ReadDaq = (is_none (pointer calls), Sequence) ∷ []
 
 -- the error of the first check that fails
 abbrev pub first_failing : List (Bool × ErrCode) → Option ErrCode
@@ -95,10 +99,17 @@ first_failing (check ∷ more) = if check.0 then Some check.1 else first_failing
 abbrev pub fault_of : Profile → List Command → Command → Option ErrCode
 fault_of profile calls call = first_failing (checks profile calls call)
 
--- the positive reply to a call: to START_STOP_DAQ_LIST with FIRST_PID of its list
+-- the reply to READ_DAQ at an entry of this address and size, or at an unwritten one (own)
+abbrev pub read_reply : Option (ℕ × ℕ) → Reply
+read_reply None = Read 0 0
+read_reply (Some x) = Read x.1 x.0
+
+-- the positive reply to a call: to START_STOP_DAQ_LIST with FIRST_PID of its list, to READ_DAQ with
+-- the entry at the pointer
 abbrev pub accepted_reply : Profile → List Command → Command → Reply
 accepted_reply profile calls (StartStopDaqList mode list) =
     Started (first_pid_behind profile.form.id (odts_before calls list))
+accepted_reply profile calls ReadDaq = read_reply (pointed calls)
 accepted_reply profile calls _ = Positive
 
 -- the error, or else the positive reply

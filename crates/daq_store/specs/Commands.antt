@@ -9,7 +9,8 @@ use Rattle.daq_store.specs.declared.command.Command.{Command}
 use Rattle.daq_store.specs.declared.command.Command.TheVariants.{FreeDaq, AllocDaq, AllocOdt}
 use Rattle.daq_store.specs.declared.command.Command.TheVariants.{AllocOdtEntry, SetDaqPtr, WriteDaq}
 use Rattle.daq_store.specs.declared.command.Command.TheVariants.{SetDaqListMode, StartStopDaqList}
-use Rattle.daq_store.specs.declared.command.Command.TheVariants.{StartStopSynch}
+use Rattle.daq_store.specs.declared.command.Command.TheVariants.{StartStopSynch, ClearDaqList}
+use Rattle.daq_store.specs.declared.command.Command.TheVariants.{ReadDaq}
 
 -- a WORD and a DWORD, the least significant byte first
 abbrev pub word_bytes : ℕ → List ℕ
@@ -32,6 +33,8 @@ command_bytes (SetDaqListMode mode list channel prescaler priority) reserved =
     0xE0 ∷ mode ∷ (word_bytes list ++ (word_bytes channel ++ prescaler ∷ priority ∷ []))
 command_bytes (StartStopDaqList mode list) reserved = 0xDE ∷ mode ∷ word_bytes list
 command_bytes (StartStopSynch mode) reserved = 0xDD ∷ mode ∷ []
+command_bytes (ClearDaqList list) reserved = 0xE3 ∷ reserved ∷ word_bytes list
+command_bytes ReadDaq reserved = 0xDB ∷ []
 
 -- each field of a command that is a WORD or a DWORD fits two or four bytes
 abbrev pub HasFields : Command → Type 0
@@ -42,11 +45,20 @@ HasFields (SetDaqPtr list odt entry) = list < 65536
 HasFields (WriteDaq bit size ext addr) = addr < 4294967296
 HasFields (SetDaqListMode mode list channel prescaler priority) = (list < 65536) × (channel < 65536)
 HasFields (StartStopDaqList mode list) = list < 65536
+HasFields (ClearDaqList list) = list < 65536
 HasFields _ = Unit {0}
 
--- the packet is that of the command: for some reserved byte it is the command's bytes, and then any
--- surplus
+-- one of the nine commands that set lists up and start them: the others are left to who speaks with
+-- a master that is connected (own)
+abbrev pub SetsUp : Command → Type 0
+SetsUp (ClearDaqList list) = ⊥
+SetsUp ReadDaq = ⊥
+SetsUp _ = Unit {0}
+
+-- the packet is that of one of these commands: for some reserved byte it is the command's bytes, and
+-- then any surplus
 pub record IsPacketOf (packet : List ℕ) (call : Command) : Type 0 where
+  pub sets_up : SetsUp call
   pub fields : HasFields call
   pub reserved : ℕ
   pub surplus : List ℕ

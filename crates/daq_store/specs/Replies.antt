@@ -6,18 +6,24 @@ use Rattle.xcp_base.specs.ErrorCodes.{error_byte}
 use Rattle.daq_store.specs.declared.command.Command.{Command}
 use Rattle.daq_store.specs.declared.command.Command.TheVariants.{AllocDaq, AllocOdt, AllocOdtEntry}
 use Rattle.daq_store.specs.declared.reply.Reply.{Reply}
-use Rattle.daq_store.specs.declared.reply.Reply.TheVariants.{Positive, Started, Error}
+use Rattle.daq_store.specs.declared.reply.Reply.TheVariants.{Positive, Started, Read, Error}
 use Rattle.daq_store.specs.Calls.{Profile}
 use Rattle.daq_store.specs.Answer.{answer, calls_after}
 use Rattle.daq_store.specs.Standing.{StoreStandsAfter, StoreState}
-use Rattle.daq_store.specs.Commands.{command}
+use Rattle.daq_store.specs.Commands.{command, dword_bytes}
 
--- the bytes of a reply: RES is FF, to START_STOP_DAQ_LIST with FIRST_PID behind it; ERR is FE and
--- the byte of the error
+-- the bytes of a reply: RES is FF, to START_STOP_DAQ_LIST with FIRST_PID behind it, to READ_DAQ with
+-- bit offset FF, size, address extension 0 and address; ERR is FE and the byte of the error
 abbrev pub reply_bytes : Reply → List ℕ
 reply_bytes Positive = 0xFF ∷ []
 reply_bytes (Started first_pid) = 0xFF ∷ first_pid ∷ []
+reply_bytes (Read size addr) = 0xFF ∷ 0xFF ∷ size ∷ 0x00 ∷ dword_bytes addr
 reply_bytes (Error code) = 0xFE ∷ error_byte code ∷ []
+
+-- any reply but that to READ_DAQ
+abbrev pub ShowsNoEntry : Reply → Type 0
+ShowsNoEntry (Read size addr) = ⊥
+ShowsNoEntry _ = Unit {0}
 
 -- one of the three commands that take memory
 abbrev pub Allocates : Command → Type 0

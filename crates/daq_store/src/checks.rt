@@ -205,8 +205,34 @@ impl Store {
         Ok(())
     }
 
+    /// The check of CLEAR_DAQ_LIST.
+    pub(crate) fn check_clear(&self, list: u16) -> Result<(), ErrCode>
+        ensures passes { OnOk result (Passes self.now (Command.ClearDaqList list)) }
+        ensures fails { IfErr result (Fails self.now (Command.ClearDaqList list)) }
+        ensures there { OnOk result (list < length self.now.lists) }
+    {
+        if !self.is_list(list) {
+            return Err(ErrCode::OutOfRange);
+        }
+        Ok(())
+    }
+
+    /// The check of READ_DAQ; where it passes, the place of the entry.
+    pub(crate) fn check_read(&self) -> Result<(u16, u8, u8), ErrCode>
+        ensures passes { OnOk result (Passes self.now Command.ReadDaq) }
+        ensures fails { IfErr result (Fails self.now Command.ReadDaq) }
+        ensures place { IfOk result (λ place. self.now.pointer ≡ Some place) }
+        ensures there { IfOk result
+            (λ place. shows_entry self.now place.0 place.1 place.2 ≡ true) }
+    {
+        let Some(place) = self.pointer else {
+            return Err(ErrCode::Sequence);
+        };
+        Ok(place)
+    }
+
     /// Whether some list runs.
-    fn some_runs(&self) -> bool
+    pub(crate) fn some_runs(&self) -> bool
         ensures { result ≡ some_runs self.now }
     {
         self.lists.iter().any(|list| list.running)

@@ -63,10 +63,19 @@ pub enum Command {
     StartStopSynch {
         mode: u8,
     },
+    /// CLEAR_DAQ_LIST.
+    ClearDaqList {
+        list: u16,
+    },
+    /// READ_DAQ.
+    ReadDaq,
 }
 
 /// Reads the command of a packet, of any bytes. A longer packet is accepted and its surplus
 /// ignored; a reserved byte may have any value (own).
+///
+/// It knows the nine commands that set lists up and start them. To it the codes of CLEAR_DAQ_LIST
+/// and READ_DAQ are those of no command: only a master that is connected may send them (own).
 ///
 /// Refused in this order (own): ERR_CMD_SYNTAX for an empty packet, ERR_CMD_UNKNOWN for the code of
 /// no command, ERR_CMD_SYNTAX for a packet that is too short for its command.
@@ -160,6 +169,10 @@ fn call(store: &mut Store, command: Command) -> Result<Reply, Refusal>
             let first_pid = store.start_stop(mode, list)?;
             Ok(Reply::Started { first_pid })
         }
+        Command::ReadDaq => {
+            let entry = store.read()?;
+            Ok(Reply::of_entry(entry))
+        }
         _ => {
             call_plainly(store, command)?;
             Ok(Reply::Positive)
@@ -199,6 +212,7 @@ fn call_plainly(store: &mut Store, command: Command) -> Result<(), Refusal>
             priority,
         } => store.set_mode(mode, list, channel, prescaler, priority),
         Command::StartStopSynch { mode } => store.synch(mode),
-        Command::StartStopDaqList { .. } => unreachable!(),
+        Command::ClearDaqList { list } => store.clear(list),
+        Command::StartStopDaqList { .. } | Command::ReadDaq => unreachable!(),
     }
 }

@@ -9,6 +9,7 @@ ghost use Rattle.daq_store.specs.Inner.Effects.{some_runs, shows_odt, shows_entr
 ghost use Rattle.daq_store.specs.Inner.Effects.{is_unready, other_odts, lists_put, odts_put};
 ghost use Rattle.daq_store.specs.Inner.Effects.{entries_put};
 ghost use Rattle.daq_store.specs.Inner.Effects.{entry_put, mode_put, start_stop_put, synch_put};
+ghost use Rattle.daq_store.specs.Inner.Effects.{cleared_put, moved_on};
 ghost use Rattle.daq_store.specs.Inner.Effects.{synched};
 
 use crate::entry::Entry;
@@ -102,6 +103,25 @@ impl Store {
     {
         let state = &mut self.lists[list as usize];
         state.conf.set_mode(mode);
+    }
+
+    /// READ_DAQ: moves the pointer from an entry to the next one of the ODT, if there is one.
+    pub(crate) fn move_on(&mut self, list: u16, odt: u8, entry: u8)
+        requires { shows_entry self.old list odt entry ≡ true }
+        ensures { self.new ≡ moved_on self.old list odt entry }
+    {
+        let entries = self.lists[list as usize].conf.entries(odt as usize);
+        self.pointer = next_place(list, odt, entry, entries);
+    }
+
+    /// CLEAR_DAQ_LIST: puts a list without mode and written entries in the place of a list.
+    pub(crate) fn put_cleared(&mut self, list: u16)
+        requires { list < length self.old.lists }
+        ensures { self.new ≡ cleared_put self.old list }
+    {
+        let state = &mut self.lists[list as usize];
+        state.clear();
+        self.pointer = None;
     }
 
     /// START_STOP_DAQ_LIST: stops, starts or selects a list.

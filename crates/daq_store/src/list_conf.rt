@@ -1,10 +1,11 @@
 ghost use Rattle.std.specs.Prelude.{◌≡◌, ◌<◌, ◌≤◌, IfOk, IfSome, OnOk, OnErr, IsSome, [], None};
-ghost use Rattle.std.specs.Prelude.{Some, length, option_map, replicate, slice_set};
+ghost use Rattle.std.specs.Prelude.{Some, length, map, option_map, replicate, slice_set};
 ghost use Rattle.xcp_base.specs.Forms.{field_len, stamp_bytes};
 ghost use Rattle.xcp_base.specs.Packets.{stamp_len};
 ghost use Rattle.daq_store.specs.Configuration.{channel_of, prescaler_of, priority_of, is_stamped};
 ghost use Rattle.daq_store.specs.Configuration.{odt_entries, entry_of, is_ready};
 ghost use Rattle.daq_store.specs.Configuration.{fresh_conf, IsMode};
+ghost use Rattle.daq_store.specs.Inner.Effects.{unwritten};
 
 use crate::entry::Entry;
 use crate::mode::Mode;
@@ -182,6 +183,15 @@ impl ListConf {
         }
     }
 
+    /// Unsets the mode, and makes the entries unwritten.
+    pub(crate) fn clear(&mut self)
+        ensures { self.new
+            ≡ record self.old { mode = None; odts = map unwritten self.old.odts } }
+    {
+        clear_all(&mut self.odts);
+        self.mode = None;
+    }
+
     /// Sets the mode.
     pub(crate) fn set_mode(&mut self, mode: Mode)
         requires { IsMode mode }
@@ -230,6 +240,15 @@ impl ListConf {
     {
         let odt = &mut self.odts[odt];
         odt.write(entry, value);
+    }
+}
+
+/// Makes the entries of ODTs unwritten.
+fn clear_all(odts: &mut [Odt])
+    ensures { odts.new ≡ map unwritten odts.old }
+{
+    for odt in odts.iter_mut() {
+        odt.clear();
     }
 }
 

@@ -1,5 +1,5 @@
 ghost use Rattle.std.specs.Prelude.{◌≡◌, IfOk, replicate};
-ghost use Rattle.daq_store.specs.Inner.Effects.{fresh_state, start_stopped, synched};
+ghost use Rattle.daq_store.specs.Inner.Effects.{cleared, fresh_state, start_stopped, synched};
 
 use crate::list_conf::ListConf;
 use std::alloc::{AllocError, Global};
@@ -24,6 +24,15 @@ pub struct ListState {
 }
 
 impl ListState {
+    /// Clears what is set of the list, stops it and ends its selection.
+    pub fn clear(&mut self)
+        ensures { self.new ≡ cleared self.old }
+    {
+        self.conf.clear();
+        self.running = false;
+        self.selected = false;
+    }
+
     /// Stops, starts or selects the list.
     pub fn start_stop(&mut self, mode: u8)
         ensures { self.new ≡ start_stopped mode self.old }

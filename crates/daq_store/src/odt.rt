@@ -3,6 +3,7 @@ ghost use Rattle.std.specs.Prelude.{option_and_then};
 ghost use Rattle.std.specs.Prelude.{replicate, slice_get, slice_set, sum_by};
 ghost use Rattle.std.specs.List.{list_all};
 ghost use Rattle.daq_store.specs.Configuration.{entry_len, is_filled, is_within};
+ghost use Rattle.daq_store.specs.Inner.Effects.{unwritten};
 
 use crate::entry::{Entry, is_within};
 use std::alloc::{AllocError, Global};
@@ -69,6 +70,13 @@ impl Odt {
         ensures { self.new ≡ slice_set self.old entry (Some value) }
     {
         self.entries[entry] = Some(value);
+    }
+
+    /// Makes the entries unwritten.
+    pub fn clear(&mut self)
+        ensures { self.new ≡ unwritten self.old }
+    {
+        self.entries.fill(None);
     }
 
     /// Whether there is an entry, and each is written and ends within the image.

@@ -1,12 +1,14 @@
 //! What the store shows.
 
 ghost use Rattle.std.specs.Prelude.{◌≡◌, ◌+◌, ◌<◌, ◌≤◌, ◌↔◌, ◌&&◌, List, true, IsTrue, IsSome};
-ghost use Rattle.std.specs.Prelude.{IfSome, length};
+ghost use Rattle.std.specs.Prelude.{IfSome, is_some, length, option_map};
 ghost use Rattle.xcp_base.specs.Forms.{FitsFirstPid, stamp_bytes};
 ghost use Rattle.daq_store.specs.Shape.{list_count, is_list};
 ghost use Rattle.daq_store.specs.Pointer.{pointer};
-ghost use Rattle.daq_store.specs.Running.{is_active, is_chosen};
-ghost use Rattle.daq_store.specs.Configuration.{channel_of, configuration, is_ready, list_is_ready};
+ghost use Rattle.daq_store.specs.Running.{any_list, is_active, is_chosen, is_running};
+ghost use Rattle.daq_store.specs.Configuration.{channel_of, configuration, entry_of, is_ready};
+ghost use Rattle.daq_store.specs.Configuration.{list_is_ready};
+ghost use Rattle.daq_store.specs.Inner.Effects.{shows_entry};
 
 use crate::command::Command;
 use crate::list_conf::ListConf;
@@ -109,6 +111,39 @@ impl Store {
             → result ≡ pointer calls }
     {
         self.pointer
+    }
+
+    /// Whether some DAQ list runs.
+    pub fn any_running(&self) -> bool
+        ensures { (calls : List Command) → StoreStandsAfter self.now calls
+            → result ≡ any_list calls (is_running calls) }
+    {
+        self.some_runs()
+    }
+
+    /// What is set of a DAQ list that is there, ready or not.
+    pub fn conf(&self, list: u16) -> Option<&ListConf>
+        ensures there { IsSome result ↔ (list < length self.now.lists) }
+        ensures value { IfSome result (λ conf. conf.now ≡ conf_of self.now list) }
+        ensures there_after { (calls : List Command) → StoreStandsAfter self.now calls
+            → is_some result ≡ is_list calls list }
+        ensures value_after { (calls : List Command) → StoreStandsAfter self.now calls
+            → IfSome result
+            (λ conf. conf.now ≡ configuration self.now.profile.form calls list) }
+    {
+        let list = self.lists.get(list as usize)?;
+        Some(&list.conf)
+    }
+
+    /// Address and size in bytes of an entry that is there, if it is written.
+    pub(crate) fn entry_at(&self, list: u16, odt: u8, entry: u8) -> Option<(u32, u8)>
+        requires { shows_entry self.now list odt entry ≡ true }
+        ensures { result ≡ option_map (λ x. (x.address, x.size))
+            (entry_of (conf_of self.now list) odt entry) }
+    {
+        self.lists[list as usize]
+            .conf
+            .entry(odt as usize, entry as usize)
     }
 
     /// What is set of a DAQ list that is there and ready.

@@ -1,5 +1,6 @@
 ghost use Rattle.std.specs.Prelude.{◌≡◌, ◌≤◌, length};
-ghost use Rattle.daq_store.specs.Replies.{reply_bytes};
+ghost use Rattle.daq_store.specs.Answer.{read_reply};
+ghost use Rattle.daq_store.specs.Replies.{ShowsNoEntry, reply_bytes};
 
 use arrayvec::ArrayVec;
 use xcp_base::ErrCode;
@@ -11,16 +12,30 @@ pub enum Reply {
     Positive,
     /// RES to START_STOP_DAQ_LIST, with FIRST_PID of the DAQ list.
     Started { first_pid: u8 },
+    /// RES to READ_DAQ, with the size in bytes and the address of the entry; both are 0 if it is
+    /// unwritten.
+    Read { size: u8, addr: u32 },
     /// ERR.
     Error(ErrCode),
 }
 
 impl Reply {
-    /// The packet: FF for RES, with FIRST_PID behind it if it has one; FE and the byte of the error
-    /// for ERR.
+    /// The reply to READ_DAQ at an entry with this address and size, or at an unwritten one.
+    pub(crate) fn of_entry(entry: Option<(u32, u8)>) -> Reply
+        ensures { result ≡ read_reply entry }
+    {
+        match entry {
+            Some((addr, size)) => Reply::Read { size, addr },
+            None => Reply::Read { size: 0, addr: 0 },
+        }
+    }
+
+    /// The packet: FF for RES, and behind it FIRST_PID, or bit offset, size, address extension and
+    /// address of an entry, if it has them; FE and the byte of the error for ERR.
     pub fn bytes(self) -> ArrayVec<u8, 8>
         ensures bytes { result.items ≡ reply_bytes self }
-        ensures short { (1 ≤ length result.items) × (length result.items ≤ 2) }
+        ensures short { (1 ≤ length result.items) × (length result.items ≤ 8) }
+        ensures shorter { ShowsNoEntry self → length result.items ≤ 2 }
     {
         let mut bytes = ArrayVec::new();
         match self {
@@ -28,6 +43,10 @@ impl Reply {
             Reply::Started { first_pid } => {
                 bytes.push(0xFF);
                 bytes.push(first_pid);
+            }
+            Reply::Read { size, addr } => {
+                let [a, b, c, d] = addr.to_le_bytes();
+                let _ = bytes.try_extend_from_slice(&[0xFF, 0xFF, size, 0x00, a, b, c, d]);
             }
             Reply::Error(code) => {
                 bytes.push(0xFE);

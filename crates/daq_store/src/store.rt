@@ -52,6 +52,7 @@ impl Model for Store {
 }
 
 impl Store {
+    ghost use Rattle.daq_store.specs.Answer.{read_reply};
     ghost use Rattle.daq_store.specs.Standing.{StoreStandsAfter, Accepts, Refuses};
 
     /// A store without lists, as after FREE_DAQ, for 1 to 8 event channels and images of 1 to 4096
@@ -224,6 +225,42 @@ impl Store {
                 size,
             },
         );
+        Ok(())
+    }
+
+    /// READ_DAQ: address and size in bytes of the entry at the pointer, if it is written, also of a
+    /// list that runs; the pointer moves on as by WRITE_DAQ.
+    ///
+    /// Refused with ERR_SEQUENCE with an undefined pointer (own).
+    pub fn read(&mut self) -> Result<Option<(u32, u8)>, Refusal>
+        ensures accepted { IfOk result
+            (λ entry. Accepts self.old self.new Command.ReadDaq (read_reply entry)) }
+        ensures refused { IfErr result (Refuses self.old Command.ReadDaq) }
+        ensures memory { result ≢ Err Refusal.Memory }
+        ensures unchanged { OnErr result (self.new ≡ self.old) }
+        ensures profile_stays { self.new.profile ≡ self.old.profile }
+    {
+        let (list, odt, entry) = self.check_read()?;
+        let value = self.entry_at(list, odt, entry);
+        self.move_on(list, odt, entry);
+        Ok(value)
+    }
+
+    /// CLEAR_DAQ_LIST: each entry of the list is unwritten and no mode is set, it doesn't run and
+    /// isn't selected; the pointer is undefined, wherever it was (own). A list that runs is cleared
+    /// too.
+    ///
+    /// Refused with ERR_OUT_OF_RANGE without such a list.
+    pub fn clear(&mut self, list: u16) -> Result<(), Refusal>
+        ensures accepted { OnOk result
+            (Accepts self.old self.new (Command.ClearDaqList list) Reply.Positive) }
+        ensures refused { IfErr result (Refuses self.old (Command.ClearDaqList list)) }
+        ensures memory { result ≢ Err Refusal.Memory }
+        ensures unchanged { OnErr result (self.new ≡ self.old) }
+        ensures profile_stays { self.new.profile ≡ self.old.profile }
+    {
+        self.check_clear(list)?;
+        self.put_cleared(list);
         Ok(())
     }
 

@@ -4,6 +4,10 @@ ghost use Rattle.xcp_base.specs.ErrorCodes.{error_byte};
 /// Why a command is refused, under the names of ASAM MCD-1 XCP, protocol layer, error codes.
 #[derive(Clone, Copy, Debug, PartialEq, Eq)]
 pub enum ErrCode {
+    /// ERR_CMD_SYNCH: the reply to SYNCH.
+    CmdSynch,
+    /// ERR_CMD_BUSY: the command can't be carried out now.
+    CmdBusy,
     /// ERR_DAQ_ACTIVE: a DAQ list runs.
     DaqActive,
     /// ERR_CMD_UNKNOWN: no such command.
@@ -28,6 +32,8 @@ impl ErrCode {
         ensures { result ≡ error_byte self }
     {
         match self {
+            ErrCode::CmdSynch => 0x00,
+            ErrCode::CmdBusy => 0x10,
             ErrCode::DaqActive => 0x11,
             ErrCode::CmdUnknown => 0x20,
             ErrCode::CmdSyntax => 0x21,

@@ -19,6 +19,16 @@ pub const MAX_ENTRIES: usize = 32;
 /// MAX_DTO: the longest packet, in bytes.
 pub const MAX_DTO: usize = 64;
 
+/// MAX_CTO: the longest command packet of a master and the longest reply to one, in bytes.
+pub const MAX_CTO: usize = 64;
+
+/// The longest name of a slave or of an event channel, in bytes: the reply to GET_ID has eight
+/// bytes before it.
+pub const MAX_NAME: usize = 56;
+
+/// The greatest unit of time, 1 s; the least, 0, is 1 ns.
+pub const MAX_UNIT: u8 = 9;
+
 /// The longest identification field, in bytes.
 pub const MAX_FIELD: usize = 3;
 

@@ -1,6 +1,6 @@
 -- Which commands and replies the two halves of `carry_out` tell apart.
 use Rattle.daq_store.specs.declared.command.Command.{Command}
-use Rattle.daq_store.specs.declared.command.Command.TheVariants.{StartStopDaqList}
+use Rattle.daq_store.specs.declared.command.Command.TheVariants.{ReadDaq, StartStopDaqList}
 use Rattle.daq_store.specs.declared.reply.Reply.{Reply}
 use Rattle.daq_store.specs.declared.reply.Reply.TheVariants.{Error}
 use Rattle.daq_store.specs.Standing.{Accepts, StoreState}
@@ -8,6 +8,7 @@ use Rattle.daq_store.specs.Standing.{Accepts, StoreState}
 -- a command whose positive reply has nothing more
 abbrev pub IsPlain : Command → Type 0
 IsPlain (StartStopDaqList mode list) = ⊥
+IsPlain ReadDaq = ⊥
 IsPlain _ = Unit {0}
 
 -- a reply that is no error

@@ -1,7 +1,7 @@
 -- What the private helpers of the store test and change.
 use Rattle.std.specs.Prelude.{◌≡◌, ℕ, ◌+◌, ◌-◌, ◌==◌, ◌&&◌, ◌||◌, not, nat_lt, Bool, false}
 use Rattle.std.specs.Prelude.{if◌then◌else◌, [], length, map, sum_by, slice_index_or, slice_set}
-use Rattle.std.specs.Prelude.{replicate, Option, Some, None, is_none}
+use Rattle.std.specs.Prelude.{replicate, List, Option, Some, None, is_none}
 use Rattle.std.specs.List.{list_any}
 use Rattle.xcp_base.specs.declared.limits.TheConstants.{MAX_ENTRIES, MAX_LISTS, MAX_ODTS}
 use Rattle.xcp_base.specs.declared.packet_form.PacketForm.{PacketForm}
@@ -14,7 +14,8 @@ use Rattle.daq_store.specs.declared.command.Command.{Command}
 use Rattle.daq_store.specs.declared.command.Command.TheVariants.{FreeDaq, AllocDaq, AllocOdt}
 use Rattle.daq_store.specs.declared.command.Command.TheVariants.{AllocOdtEntry, SetDaqPtr, WriteDaq}
 use Rattle.daq_store.specs.declared.command.Command.TheVariants.{SetDaqListMode, StartStopDaqList}
-use Rattle.daq_store.specs.declared.command.Command.TheVariants.{StartStopSynch}
+use Rattle.daq_store.specs.declared.command.Command.TheVariants.{StartStopSynch, ClearDaqList}
+use Rattle.daq_store.specs.declared.command.Command.TheVariants.{ReadDaq}
 use Rattle.daq_store.specs.declared.phase.Phase.TheVariants as phase
 use Rattle.daq_store.specs.declared.mode.Mode.{Mode}
 use Rattle.daq_store.specs.declared.entry.Entry.{Entry}
@@ -120,6 +121,8 @@ shown_fault s (StartStopSynch mode) =
     if nat_lt 2 mode then Some ModeNotValid
     else if mode == 1 && list_any (is_unready s.profile.image_len) s.lists then Some DaqConfig
     else None
+shown_fault s (ClearDaqList list) = if not (shows_list s list) then Some OutOfRange else None
+shown_fault s ReadDaq = if is_none s.pointer then Some Sequence else None
 
 -- every check of the call passes, this check is the first to fail, on what the store shows
 abbrev pub Passes : StoreState → Command → Type 0
@@ -155,6 +158,19 @@ with_entry x k e entry =
       conf = record x.conf {
         odts = slice_set x.conf.odts k (slice_set (odt_entries x.conf k) e (Some entry));
       };
+    }
+
+-- as many unwritten entries
+abbrev pub unwritten : List (Option Entry) → List (Option Entry)
+unwritten entries = replicate (length entries) None
+
+-- a list after CLEAR_DAQ_LIST of it
+abbrev pub cleared : ListState → ListState
+cleared x =
+    record {
+      conf = record x.conf { mode = None; odts = map unwritten x.conf.odts };
+      running = false;
+      selected = false;
     }
 
 -- a list after START_STOP_DAQ_LIST of it, after START_STOP_SYNCH
@@ -205,6 +221,15 @@ entry_put s l k e entry =
       lists = slice_set s.lists l (with_entry (list_at s l) k e entry);
       pointer = next_place s l k e;
     }
+
+-- the store after CLEAR_DAQ_LIST
+abbrev pub cleared_put : StoreState → ℕ → StoreState
+cleared_put s l =
+    record s { lists = slice_set s.lists l (cleared (list_at s l)); pointer = None }
+
+-- the store with the pointer moved on from a place
+abbrev pub moved_on : StoreState → ℕ → ℕ → ℕ → StoreState
+moved_on s l k e = record s { pointer = next_place s l k e }
 
 -- the store after START_STOP_SYNCH
 abbrev pub synch_put : StoreState → ℕ → StoreState
