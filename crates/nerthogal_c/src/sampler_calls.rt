@@ -7,7 +7,9 @@ ghost use Rattle.handle_calls.specs.declared.status.Status.{Status as StatusOf};
 
 use byte_ring::ByteRing;
 use channel_ring::SampleRing;
-use handle_calls::{CountsOut, Handle, HeldRing, TakenOut, counts_by, start_by, stop_by, trigger_by};
+use handle_calls::{
+    CountsOut, Handle, HeldRing, TakenOut, counts_by, start_by, stop_by, trigger_by,
+};
 use std::alloc::Global;
 
 /// Takes a trigger of the sampler's event channel, with the memory image and a timestamp in ticks.
