@@ -122,10 +122,6 @@ nothing_known held known n none zero_ahead = rw (none, zero_ahead) items_in-nil
 
 -- ---- whether an item is there
 
--- nothing was told to be there any more, and what is held is no record
-pub none_ahead : (held known : List ℕ) (n : ℕ) → n ≡ 0 → items_in held ≡ [] → items_in (held ++ take n known) ≡ []
-none_ahead held known n zero_ahead none = ap (λ m. items_in (held ++ take m known)) zero_ahead ∙ ap items_in (append-nil held) ∙ none
-
 value_by : (b : Bool) (x : Item) (held ahead : List ℕ) → (b ≡ true → IsFirst x held ahead) → (b ≡ false → items_in (held ++ ahead) ≡ []) → IsTrue b ↔ (0 < length (items_in (held ++ ahead)))
 value_by true x held ahead first none =
     let known = the_first x held ahead (first refl) in
@@ -155,18 +151,6 @@ known_grows n r held known zs now is all =
     ∙ ap (λ l. held ++ l) (sym (append_assoc (take n known) (drop n known) zs) ∙ ap (λ l. l ++ zs) (take-append-drop n known) ∙ is ∙ sym (take_all r now (omega (arith, all)))) in
     let p = items_in-prefix (held ++ take n known) more in
     (p.0, sym p.1 ∙ ap items_in cells)
-
--- the record that stood first stands so where more bytes are there
-pub first_still : (x : Item) (held known zs now : List ℕ) (n m : ℕ) → n ≤ length known → known ++ zs ≡ now → n ≤ m → IsFirst x held (take n known) → IsFirst x held (take m now)
-first_still x held known zs now n m there is more f =
-    let inside : 1 ≤ n = omega (arith, f.inside, length-take n known) in
-    let same : take 1 (take m now) ≡ take 1 (take n known)
-    = take-take 1 m now (omega (arith, inside, more)) ∙ ap (λ l. take 1 l) (sym is) ∙ take-append-le 1 known zs (omega (arith, inside, there)) ∙ sym (take-take 1 n known inside) in
-    record {
-      item = f.item;
-      inside = omega (arith, length-take m now, ap length is, length-append known zs, inside, more, there);
-      whole = f.whole ∙ ap (λ l. held ++ l) (sym same);
-    }
 
 -- ---- all that is left
 

@@ -276,28 +276,6 @@ no_record held ahead none long other = no_item (held ++ ahead) (λ x more h is.
 
 -- ---- pulls
 
-pub pulls_none : (a : Place) → Pulls a a
-pulls_none a = record { got = []; popped = sym (append-nil a.popped); held = sym (append-nil a.held); ahead = refl }
-
-pub pulls_twice : (a b c : Place) → Pulls a b → Pulls b c → Pulls a c
-pulls_twice a b c p q =
-    record {
-      got = p.got ++ q.got;
-      popped = q.popped ∙ ap (λ l. l ++ q.got) p.popped ∙ append_assoc a.popped p.got q.got;
-      held = q.held ∙ ap (λ l. l ++ q.got) p.held ∙ append_assoc a.held p.got q.got;
-      ahead = p.ahead ∙ ap (λ l. p.got ++ l) q.ahead ∙ sym (append_assoc p.got q.got c.ahead);
-    }
-
--- from an equal place
-pub pulls_same : (a b d : Place) → b.popped ≡ a.popped → b.held ≡ a.held → b.ahead ≡ a.ahead → Pulls b d → Pulls a d
-pulls_same a b d popped held ahead p =
-    record {
-      got = p.got;
-      popped = p.popped ∙ ap (λ l. l ++ p.got) popped;
-      held = p.held ∙ ap (λ l. l ++ p.got) held;
-      ahead = sym ahead ∙ p.ahead;
-    }
-
 -- ---- what is held
 
 take_over : (p r : List ℕ) (n : ℕ) → take (length p + n) (p ++ r) ≡ p ++ take n r

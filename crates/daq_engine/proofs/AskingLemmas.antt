@@ -35,10 +35,6 @@ pub on_err : {A F : Type 0} {P Q : Type 0} (r : Result A F) → (P → Q) → On
 on_err (Ok a) f h = tt
 on_err (Err e) f h = f h
 
-pub if_err : {A F : Type 0} (P Q : F → Type 0) (r : Result A F) → ((f : F) → P f → Q f) → IfErr r P → IfErr r Q
-if_err P Q (Ok a) f h = tt
-if_err P Q (Err e) f h = f e h
-
 -- the samplers xs beside transmitter t became ys, which are still those of their channels and rings
 module _ {S E : Type 0} (send : SendGhosts S E) (ring : EndGhosts E) (xs ys : List (SamplerState S)) (t : TransmitterState) (stay : StayThose send xs ys) where
   abbrev before : EngineState S

@@ -63,10 +63,6 @@ and_right : (a b : Bool) → (a && b) ≡ true → b ≡ true
 and_right true b h = h
 and_right false b h = absurd cc
 
--- what both are, the first is
-pub first_of_both : (x a b : Bool) → x ≡ (a && b) → x ≡ true → a ≡ true
-first_of_both x a b e h = and_left a b (sym e ∙ h)
-
 -- the event channel of a list that is ready on it
 pub channel-ready : (s : StoreState) (c l : ℕ) → is_ready_on s c l ≡ true → (list_plan s l).channel ≡ c
 channel-ready s c l h =

@@ -97,12 +97,6 @@ kept_if qs ps false k h is = kept (k == 0) refl where
 pub kept_is : (a : Reading) (k : ℕ) → k ≡ length (under_way a) → (if k == 0 then [] else a.packets) ≡ under_way a
 kept_is a k h = kept_if (under_way a) a.packets (is_whole a) k h refl
 
-pub kept_len : (a : Reading) (k : ℕ) → k ≡ length (under_way a) → 0 < k → k ≡ length a.packets
-kept_len a k h some = by (is_whole a) refl h where
-  by : (b : Bool) → is_whole a ≡ b → k ≡ length (if b then [] else a.packets) → k ≡ length a.packets
-  by true e is = absurd (omega (arith, is, some))
-  by false e is = is
-
 pub put_reading : (a : Reading) (k : ℕ) (q : List ℕ) → IsReading a → k ≡ length (under_way a) → All (λ (b : ℕ). b < 256) q → fault_of a.plan k q ≡ None → IsReading (record { plan = a.plan; packets = (if k == 0 then [] else a.packets) ++ q ∷ [] })
 put_reading a k q is at small none =
     rw (kept_is a k at) (one_more a.plan (under_way a) q is.plan (waits a is) small (rw at at none))

@@ -45,10 +45,6 @@ one_read old now qs gs hs a b c q h n step =
       stands = subst (λ xs. Stands now xs hs) (append_assoc qs h.read (q ∷ [])) (step (qs ++ h.read) h.stands);
     }
 
--- the same where nothing changed
-pub still_read : (old now : List Reading) (qs : List (List ℕ)) (gs hs : List (ℕ × Recorded)) (a b c : Unread) → HasRead old qs gs a b → c ≡ b → now ≡ old → hs ≡ gs → HasRead now qs hs a c
-still_read old now qs gs hs a b c h same lists samples = rw (same, lists, samples) h
-
 -- a frame has bytes
 pub shorter : (b c : Unread) (q : List ℕ) → IsNext b c q → length c.rest < length b.rest
 shorter b c q n = omega (arith, ap length n.bytes, length-append (frame b.counter q) c.rest, n.legal.some, length-append (two_bytes (length q) ++ two_bytes (b.counter % 65536)) q)

@@ -25,16 +25,3 @@ end-stands send ring s left past stands channel plans counts capacity sent = rec
   counts = counts ∙ ap (map (λ (t : Track). t.counts)) stands.tracks ∙ counts-tracks past.opening past.history past.decisions past.opening.plans;
   drops = rw capacity stands.drops;
 }
-
--- a sampler that was given another end, with the same items sent and the same capacity, stands after the same
-pub same-stands : {S E : Type 0} (send : SendGhosts S E) (ring : EndGhosts E) (s : SamplerState S) (end : S) (past : Past) → StandsAfter send ring s past → send.sent end ≡ send.sent s.end → send.capacity end ≡ send.capacity s.end → StandsAfter send ring (record s { end = end }) past
-same-stands send ring s end past stands sent capacity = record {
-  channel = stands.channel;
-  plans = stands.plans;
-  decisions = stands.decisions;
-  sent = sent ∙ stands.sent;
-  tracks = stands.tracks;
-  triggers = stands.triggers;
-  accepted = stands.accepted;
-  drops = rw capacity stands.drops;
-}

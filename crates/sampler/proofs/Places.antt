@@ -113,9 +113,3 @@ slice_get-map f (y ∷ xs) zero x is = ap (λ z. Some (f z)) (the_same y x is)
     the_same : {X : Type 0} (a b : X) → Some a ≡ Some b → a ≡ b
     the_same a b e = cc
 slice_get-map f (y ∷ xs) (suc i) x is = slice_get-map f xs i x is
-
--- what became of the samples of a list at a place
-pub counts-found : (l : ℕ) (plans : List ListPlan) (tracks : List Track) (i : ℕ) → place_of l plans ≡ Some i → length plans ≤ length tracks → option_and_then (λ k. slice_get (map (λ (t : Track). t.counts) (take (length plans) tracks)) k) (place_of l plans) ≡ Some (get_or tracks i no_track).counts
-counts-found l plans tracks i at fits =
-    ap (option_and_then (λ k. slice_get (map (λ (t : Track). t.counts) (take (length plans) tracks)) k)) at
-    ∙ slice_get-map (λ (t : Track). t.counts) (take (length plans) tracks) i (get_or tracks i no_track) (sym (ap (option_and_then (λ k. slice_get (take (length plans) tracks) k)) at) ∙ track-found l plans tracks i at fits)

@@ -72,18 +72,6 @@ no_body_with_more n last stop bytes f more qs b =
     let some = drop_more bytes stop 0 more in
     cc
 
-pub whole_body : (n last stop : ℕ) (bytes : List ℕ) → HasFront n last stop bytes → length bytes ≤ stop → drop stop bytes ≡ [] → HasLast n last bytes
-whole_body n last stop bytes f all none =
-    let is : bytes ≡ body_of f.packets = f.body ∙ ap (λ l. body_of f.packets ++ l) none ∙ append-nil (body_of f.packets) in
-    let within = f.within in
-    record {
-      packets = f.packets;
-      body = is;
-      count = f.count;
-      each = f.each;
-      at = λ some. let a = f.at some in omega (arith, a, all, within);
-    }
-
 -- the bytes of a part are bytes
 pub small_part : (bytes front behind : List ℕ) (start b : ℕ) → ((i : ℕ) → get_or bytes i 0 < 256) → drop start bytes ≡ b ∷ (front ++ behind) → All (λ (x : ℕ). x < 256) front
 small_part bytes front behind start b small is =

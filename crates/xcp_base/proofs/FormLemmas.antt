@@ -22,11 +22,6 @@ fits_behind Absolute before n h = h
 fits_behind RelativeByte before n h = refl
 fits_behind RelativeWord before n h = refl
 
-pub most_odts-limit : (id : IdKind) → most_odts id ≤ 128
-most_odts-limit Absolute = omega arith
-most_odts-limit RelativeByte = omega arith
-most_odts-limit RelativeWord = omega arith
-
 within : (a b x : ℕ) → a ≤ x → x < b → (nat_le a x && nat_lt x b) ≡ true
 within a b x low high = grind (arith, nat_tests)
 
@@ -83,19 +78,7 @@ length-id_field Absolute f l k overload = refl
 length-id_field RelativeByte f l k overload = refl
 length-id_field RelativeWord f l k overload = refl
 
--- a timestamp is the front of the bytes of a number of 32 bits
-pub take-to_le_bytes : (size : StampSize) (ticks : ℕ) → take (stamp_bytes size) (to_le_bytes w32 ticks) ≡ stamp_field size ticks
-take-to_le_bytes One ticks = refl
-take-to_le_bytes Two ticks = refl
-take-to_le_bytes Four ticks = refl
-
 pub length-stamp_field : (size : StampSize) (ticks : ℕ) → length (stamp_field size ticks) ≡ stamp_bytes size
 length-stamp_field One ticks = refl
 length-stamp_field Two ticks = refl
 length-stamp_field Four ticks = refl
-
--- a form is that of its kind and of the number of its timestamp's bytes
-pub form_of-same : (id : IdKind) (size : StampSize) → form_of id (stamp_bytes size) ≡ Some (record { id = id; stamp = size })
-form_of-same id One = refl
-form_of-same id Two = refl
-form_of-same id Four = refl

@@ -111,14 +111,3 @@ with_longer_last-twice (q ∷ r ∷ s ∷ qs) a b = ap (λ ps. q ∷ ps) (with_l
 pub record StaysAsLong (qs : List (List ℕ)) (bytes : List ℕ) : Type 0 where
   pub count : length (with_longer_last qs bytes) ≡ length qs
   pub last : length (last_packet (with_longer_last qs bytes)) ≡ length (last_packet qs) + length bytes
-
-pub stays_as_long : (qs : List (List ℕ)) (bytes : List ℕ) → 0 < length qs → StaysAsLong qs bytes
-stays_as_long qs bytes some =
-    let (before, ends) = ends_in qs some in
-    let q : List ℕ = last_packet qs in
-    let longer : with_longer_last qs bytes ≡ before ++ (q ++ bytes) ∷ []
-    = ap (λ ps. with_longer_last ps bytes) ends.is ∙ with_longer_last-push before q bytes in
-    record {
-      count = omega (arith, ap length longer, ap length ends.is, length-append before (q ∷ []), length-append before ((q ++ bytes) ∷ []));
-      last = ap (λ ps. length (last_packet ps)) longer ∙ ap length (last_packet-push before (q ++ bytes)) ∙ length-append q bytes;
-    }
