@@ -8,3 +8,6 @@ pub mod ApartLemmas
 pub mod ThreadLemmas
 pub mod SetUpLemmas
 pub mod WholeLemmas
+pub mod DrainedLemmas
+pub mod SameLines
+pub mod AlikeLemmas

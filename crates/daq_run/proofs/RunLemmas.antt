@@ -16,6 +16,7 @@ use Rattle.sampler.specs.Standing.{DropsOnlyWhenFull}
 use Rattle.transmitter.specs.Merge.{of_ring}
 use Rattle.daq_engine.specs.Closed.{WasDrained}
 use Rattle.daq_engine.specs.Closings.{ClosesEngine}
+use Rattle.daq_engine.specs.Configuration.{IsConfiguration}
 use Rattle.daq_engine.specs.Engines.{EngineState, Standing}
 use Rattle.daq_engine.specs.Openings.{IsOpeningOf}
 use Rattle.daq_engine.specs.Samplers.{StayThose}
@@ -92,9 +93,11 @@ module _ {S E : Type 0} (send : SendGhosts S E) (ring : EndGhosts E) (run : RunD
       past = h.past;
       has_pasts = record {
         store = opened.store;
+        keeps = opened.keeps;
         set_up = opened.set_up;
         some_list_runs = opened.running;
         openings = opening;
+        configuration = subst (λ n. IsConfiguration n (λ c. (h.past c).opening)) as_many h.stands.configuration;
         decided = λ c within. decided send ring b (record { start = opened.writer; past = h.past; taken = taken_in h.done }) h.stands c (within_samplers c within);
         drops = drops;
       };
@@ -128,7 +131,7 @@ module _ {S E : Type 0} (send : SendGhosts S E) (ring : EndGhosts E) (run : RunD
           let within : c < run.channels = omega (arith, at, many, all) in
           let steps = length-map run.steps run_step in
           let l = opened.limits.steps in
-          few_sent (setting_of run c) c (map run_step run.steps) (told_of c h.done) (h.past c) opened.store (are_done.answered c within) (opening c within) opened.few_lists (omega (arith, steps, l))
+          few_sent (setting_of run c) c (map run_step run.steps) (told_of c h.done) (h.past c) opened.store (are_done.answered c within) (opening c within) opened.keeps.lists (omega (arith, steps, l))
 
       few_before : b.transmitter.taken ≤ 8000000
       few_before =

@@ -153,13 +153,16 @@ module _ {S E : Type 0} (send : SendGhosts S E) (ring : EndGhosts E) (run : RunD
         let capacity : one.0.capacity ≡ slice_index run.caps c = sym (read_at (λ (e : SamplerEndState E). e.capacity) 0 es c one.0 one.1) ∙ ap (λ ns. slice_index ns c) (got.capacities ∙ opened.opened.capacities) in
         subst (λ f. DropsOnlyWhenFull (slice_index run.caps c) f (got.past c)) cost (subst (λ n. DropsOnlyWhenFull n ring.cost (got.past c)) capacity stands.drops)
 
+    configuration : IsConfiguration run.channels (λ c. (got.past c).opening)
+    configuration =
+        subst (λ n. IsConfiguration n (λ c. (got.past c).opening)) (ap (λ p. p.channels) opened.set_up.store.profile)
+        (same_configuration opened.store.profile.channels opened.openings (λ c. (got.past c).opening) got.opened opened.opened.configuration)
+
     all_stand : AllStand ends got.past
-    all_stand =
-        let many : length ends ≡ opened.store.profile.channels = many_joined ∙ sym (ap (λ p. p.channels) opened.set_up.store.profile) in
-        record {
-          configuration = subst (λ n. IsConfiguration n (λ c. (got.past c).opening)) (sym many) (same_configuration opened.store.profile.channels opened.openings (λ c. (got.past c).opening) got.opened opened.opened.configuration);
-          stand = got.stand;
-        }
+    all_stand = record {
+      configuration = subst (λ n. IsConfiguration n (λ c. (got.past c).opening)) (sym many_joined) configuration;
+      stand = got.stand;
+    }
 
     pub has_run : HasRunApart run before refused
     has_run = record {
@@ -167,9 +170,11 @@ module _ {S E : Type 0} (send : SendGhosts S E) (ring : EndGhosts E) (run : RunD
       past = got.past;
       has_pasts = record {
         store = opened.store;
+        keeps = opened.keeps;
         set_up = opened.set_up;
         some_list_runs = opened.running;
         openings = opening;
+        configuration = configuration;
         decided = decided;
         drops = drops;
       };
@@ -189,7 +194,7 @@ module _ {S E : Type 0} (send : SendGhosts S E) (ring : EndGhosts E) (run : RunD
         let within : c < run.channels = omega (arith, at, many) in
         let steps = length-map run.steps run_step in
         let l = opened.limits.steps in
-        few_sent (setting_of run c) c (map run_step run.steps) (got.told c) (got.past c) opened.store (answered c within) (opening c within) opened.few_lists (omega (arith, steps, l))
+        few_sent (setting_of run c) c (map run_step run.steps) (got.told c) (got.past c) opened.store (answered c within) (opening c within) opened.keeps.lists (omega (arith, steps, l))
 
     module _ (report : Report) (after : OutState) (closes : ClosesWith run.drain t ends report after) (received : length t.received ≡ length t.rings) (beside : AreBeside send a.samplers a.transmitter) where
       closed : HasClosed run.drain opened.writer items t ends got.past report after

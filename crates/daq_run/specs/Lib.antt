@@ -4,4 +4,5 @@ pub mod Faults
 pub mod Ample
 pub mod Threads
 pub mod Whole
+pub mod Alike
 pub mod Inner

@@ -3,7 +3,7 @@ use Rattle.std.specs.Prelude.{◌≡◌, ℕ, ◌<◌, true, false, List, count_
 use Rattle.std.specs.Prelude.{slice_index, Some}
 use Rattle.xcp_base.specs.declared.item.Item.{Item}
 use Rattle.byte_ring.specs.Records.{record_len}
-use Rattle.daq_store.specs.Standing.{StoreState}
+use Rattle.daq_store.specs.Standing.{IsStore, StoreState}
 use Rattle.frame_writer.specs.Shown.{OutState}
 use Rattle.frame_writer.specs.Writing.{WriterState}
 use Rattle.run_file.specs.RunFile.{RunData}
@@ -15,6 +15,7 @@ use Rattle.sampler.specs.Standing.{DropsOnlyWhenFull}
 use Rattle.sampler.specs.State.{JoinedEnd}
 use Rattle.transmitter.specs.Written.{HasTaken, TransmitterState}
 use Rattle.daq_engine.specs.Closed.{HasClosed}
+use Rattle.daq_engine.specs.Configuration.{IsConfiguration}
 use Rattle.daq_engine.specs.Drained.{LeavesNothing}
 use Rattle.daq_engine.specs.Openings.{IsOpeningOf, some_list_runs}
 use Rattle.daq_engine.specs.declared.report.Report.{Report}
@@ -37,14 +38,16 @@ setting_of run c = record {
 }
 
 -- a run was set up and opened, with the replies written by that writer. Its channels have come to
--- these pasts: each with its opening in the store, a decision for each list that it found due, and
--- drops only within the bound
+-- these pasts: each with its opening in the store, all of one configuration, a decision for each
+-- list that it found due, and drops only within the bound
 pub record HasPasts (run : RunData) (before : OutState) (writer : WriterState) (past : ℕ → Past)
     : Type 0 where
   pub store : StoreState
+  pub keeps : IsStore store
   pub set_up : IsSetUp run before store writer
   pub some_list_runs : some_list_runs store ≡ true
   pub openings : (c : ℕ) → c < run.channels → IsOpeningOf store c (past c).opening
+  pub configuration : IsConfiguration run.channels (λ c. (past c).opening)
   pub decided :
       (c : ℕ) → c < run.channels
       → length (past c).decisions ≡ length (due (past c).opening (past c).history)

@@ -1,5 +1,5 @@
 -- What a run with a thread for each event channel comes to, whatever the schedule (own).
-use Rattle.std.specs.Prelude.{◌≡◌, ℕ, ◌<◌, true, false, List, count_by, map, sum_by}
+use Rattle.std.specs.Prelude.{◌≡◌, ℕ, ◌<◌, true, List, count_by, map, sum_by}
 use Rattle.xcp_base.specs.declared.item.Item.{Item}
 use Rattle.daq_store.specs.Standing.{StoreState}
 use Rattle.frame_writer.specs.Shown.{OutState}

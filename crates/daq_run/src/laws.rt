@@ -1,6 +1,9 @@
 //! Laws of the definitions: each is the contract of a function that does nothing.
+ghost use Rattle.daq_run.specs.Alike.{AmpleRunsAreSame, RefusalsDecideRuns};
 ghost use Rattle.daq_run.specs.Ample.{AmpleRingsDropNothing};
 ghost use Rattle.daq_run.specs.Whole.{AmpleRunsAreWhole};
+
+use run_file::Run;
 
 /// Where a ring holds all items that its channel's steps would give if none were refused for want
 /// of room, no sample is dropped, and no stop is refused for want of room.
@@ -14,3 +17,20 @@ pub fn ample_rings_drop_nothing()
 pub fn ample_runs_are_whole()
     ensures { AmpleRunsAreWhole }
 {}
+
+/// What comes of a run in one thread, whose writer doesn't fail, is a function of the run and of
+/// which offers its rings refused: the bytes written since it began, the account, how many steps
+/// were refused, and what each channel had behind it at last.
+pub fn refusals_decide_runs(run: &Run)
+    ensures { RefusalsDecideRuns run.now }
+{
+    let _ = run.ring();
+}
+
+/// Where each ring holds all items that its channel's steps would give if none were refused for
+/// want of room, it is a function of the run alone.
+pub fn ample_runs_are_same(run: &Run)
+    ensures { AmpleRunsAreSame run.now }
+{
+    let _ = run.ring();
+}

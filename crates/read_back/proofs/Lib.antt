@@ -4,3 +4,4 @@ pub mod AcceptedLemmas
 pub mod ListLemmas
 pub mod JoinLemmas
 pub mod StoreLemmas
+pub mod RunLemmas

@@ -1,3 +1,4 @@
 pub mod Accepted
 pub mod Plans
 pub mod Laws
+pub mod Runs

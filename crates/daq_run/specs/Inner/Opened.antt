@@ -1,9 +1,8 @@
 -- The engine of a run, as it was opened.
-use Rattle.std.specs.Prelude.{◌≡◌, ◌≤◌, ℕ, length, true}
-use Rattle.xcp_base.specs.declared.limits.TheConstants.{MAX_LISTS}
+use Rattle.std.specs.Prelude.{◌≡◌, ℕ, true}
 use Rattle.channel_ring.specs.declared.ends.SendEnd.{Ghosts as SendGhosts}
 use Rattle.channel_ring.specs.declared.ends.RingEnd.{Ghosts as EndGhosts}
-use Rattle.daq_store.specs.Standing.{StoreState}
+use Rattle.daq_store.specs.Standing.{IsStore, StoreState}
 use Rattle.frame_writer.specs.Shown.{OutState}
 use Rattle.frame_writer.specs.Writing.{WriterState}
 use Rattle.run_file.specs.Limits.{HasLimits}
@@ -21,7 +20,7 @@ pub record IsOpened {S E : Type 0} (send : SendGhosts S E) (ring : EndGhosts E) 
   pub store : StoreState
   pub writer : WriterState
   pub set_up : IsSetUp run before store writer
-  pub few_lists : length store.lists ≤ MAX_LISTS
+  pub keeps : IsStore store
   pub running : some_list_runs store ≡ true
   pub openings : ℕ → Opening
   pub opened : AreOpened send ring store run.caps e.samplers openings

@@ -1,4 +1,4 @@
-use Rattle.std.proofs.Common.{◌≡◌, ℕ, Err, List, map, vec_items, ap, subst, ◌∙◌}
+use Rattle.std.proofs.Common.{◌≡◌, ℕ, Err, List, map, vec_items, ap, subst}
 use Rattle.frame_writer.specs.Shown.{shown}
 use Rattle.frame_writer.specs.Writing.{WriterState, fresh_writer, state_of}
 use Rattle.run_setup.specs.Setup.{LosesReply, WantsMemory}
