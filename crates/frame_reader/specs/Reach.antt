@@ -1,6 +1,7 @@
--- How far bytes reach into the frame that they begin (XCP on Ethernet, header): LEN, CTR and as many
--- bytes as LEN says. That LEN is 1 to MAX_CTO is (own).
-use Rattle.std.specs.Prelude.{ℕ, ◌+◌, ◌*◌, ◌==◌, ◌||◌, nat_lt, Bool, if◌then◌else◌, List, ◌∷◌, length}
+-- How far bytes reach into the frame that they begin (XCP on Ethernet, header): LEN, CTR and as
+-- many bytes as LEN says. That LEN is 1 to MAX_CTO is (own).
+use Rattle.std.specs.Prelude.{ℕ, ◌+◌, ◌*◌, ◌==◌, ◌||◌, nat_lt, Bool, if◌then◌else◌, List, ◌∷◌}
+use Rattle.std.specs.Prelude.{length}
 use Rattle.xcp_base.specs.declared.limits.TheConstants.{MAX_CTO}
 use Rattle.frame_reader.specs.declared.reach.Reach.{Reach}
 use Rattle.frame_reader.specs.declared.reach.Reach.TheVariants.{Part, Whole, Bad}

@@ -1,6 +1,7 @@
--- What a reader shows, and when it stands after all bytes that it took and the packets that it gave.
-use Rattle.std.specs.Prelude.{◌≡◌, ℕ, ◌+◌, ◌<◌, ◌≤◌, Bool, true, false, All, List, [], ◌∷◌, ◌++◌, length, take}
-use Rattle.std.specs.Prelude.{Option, Some, None}
+-- What a reader shows, and when it stands after all bytes that it took and the packets that it
+-- gave.
+use Rattle.std.specs.Prelude.{◌≡◌, ℕ, ◌+◌, ◌<◌, ◌≤◌, Bool, true, false, All, List, [], ◌∷◌, ◌++◌}
+use Rattle.std.specs.Prelude.{length, take, Option, Some, None}
 use Rattle.xcp_base.specs.declared.limits.TheConstants.{MAX_CTO}
 use Rattle.frame_reader.specs.declared.reach.Reach.TheVariants.{Part, Bad}
 use Rattle.frame_reader.specs.declared.fed.Fed.{Fed}
@@ -15,7 +16,8 @@ pub record ReaderState : Type 0 where
 
 -- the bytes split into frames with these packets, and then the bytes held: less than a frame, or
 -- where the reader is closed the begin of a bad one
-pub record ReaderStandsAfter (r : ReaderState) (bytes : List ℕ) (packets : List (List ℕ)) : Type 0 where
+pub record ReaderStandsAfter (r : ReaderState) (bytes : List ℕ) (packets : List (List ℕ))
+    : Type 0 where
   pub split : SplitsInto bytes packets r.held
   pub part : r.closed ≡ false → reach r.held ≡ Part
   pub bad : r.closed ≡ true → reach r.held ≡ Bad

@@ -62,8 +62,8 @@ impl FrameReader {
     /// Takes bytes up to the end of the frame that they end, or else all of them, and gives the
     /// packet of that frame.
     ///
-    /// Refused if a frame is bad: as soon as its LEN is there, and for good from then on; then nothing
-    /// is taken any more.
+    /// Refused if a frame is bad: as soon as its LEN is there, and for good from then on; then
+    /// nothing is taken any more.
     pub fn feed(&mut self, bytes: &[u8]) -> Result<Fed, BadFrame>
         ensures ok { IfOk result
             (λ fed. Leads self.old self.new (take fed.taken bytes.now) (given_of fed)) }
@@ -98,7 +98,8 @@ impl FrameReader {
     /// Takes one byte, and gives the packet of the frame that it ends.
     fn push(&mut self, byte: u8) -> Result<Option<ArrayVec<u8, MAX_CTO>>, BadFrame>
         requires { self.old.closed ≡ false }
-        ensures ok { IfOk result (λ given. Leads self.old self.new (byte ∷ []) (packet_list given)) }
+        ensures ok { IfOk result
+            (λ given. Leads self.old self.new (byte ∷ []) (packet_list given)) }
         ensures ends { IfOk result (λ given. IsSome given → self.new.held ≡ []) }
         ensures bad { OnErr result (Leads self.old self.new (byte ∷ []) []) }
         ensures shut { OnErr result (self.new.closed ≡ true) }

@@ -11,8 +11,9 @@ use Rattle.daq_store.specs.Answer.{answer, calls_after, fault_of}
 use Rattle.daq_store.specs.Replies.{Allocates}
 use Rattle.session.specs.declared.profile.Profile.{Profile}
 use Rattle.session.specs.declared.request.Request.{Request}
-use Rattle.session.specs.declared.request.Request.TheVariants.{Connect, Disconnect, GetStatus, Synch}
-use Rattle.session.specs.declared.request.Request.TheVariants.{GetCommModeInfo, GetId, Upload}
+use Rattle.session.specs.declared.request.Request.TheVariants.{Connect, Disconnect, GetStatus}
+use Rattle.session.specs.declared.request.Request.TheVariants.{Synch, GetCommModeInfo, GetId}
+use Rattle.session.specs.declared.request.Request.TheVariants.{Upload}
 use Rattle.session.specs.declared.request.Request.TheVariants.{GetDaqListMode, GetDaqClock}
 use Rattle.session.specs.declared.request.Request.TheVariants.{GetDaqProcessorInfo}
 use Rattle.session.specs.declared.request.Request.TheVariants.{GetDaqResolutionInfo, GetDaqListInfo}
@@ -74,7 +75,8 @@ past_after d past packet (WriteDaqMultiple n) =
     record past {
       calls = calls_after_writes (lists_of d) past.calls (writes d.base n (drop 2 packet));
     }
-past_after d past packet (Lists call) = record past { calls = calls_after (lists_of d) past.calls call }
+past_after d past packet (Lists call) =
+    record past { calls = calls_after (lists_of d) past.calls call }
 past_after d past packet _ = past
 
 -- CONNECT with mode 0, the one packet that is answered while no master is connected

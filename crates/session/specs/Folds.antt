@@ -12,7 +12,8 @@ abbrev pub of_exchange : Exchange → List ℕ × ℕ
 of_exchange x = (x.packet, x.clock)
 
 -- these packets arrived, and these replies were sent
-pub record AnswersAll (old new : SessionState) (packets : List (List ℕ × ℕ)) (sent : List (Option (List ℕ)))
+pub record AnswersAll
+    (old new : SessionState) (packets : List (List ℕ × ℕ)) (sent : List (Option (List ℕ)))
     : Type 0 where
   pub xs : List Exchange
   pub are : map of_exchange xs ≡ packets

@@ -1,6 +1,6 @@
--- What stands in each reply to a connected master, field by field with its name in the standard (ASAM
--- MCD-1 XCP, protocol layer; what is marked (own) is this profile's choice). A field that is kept for
--- later versions is reserved, and 0.
+-- What stands in each reply to a connected master, field by field with its name in the standard
+-- (ASAM MCD-1 XCP, protocol layer; what is marked (own) is this profile's choice). A field that is
+-- kept for later versions is reserved, and 0.
 use Rattle.std.specs.Prelude.{ℕ, ◌+◌, ◌*◌, ◌==◌, ◌||◌, nat_lt, nat_le, max, Bool, true, false}
 use Rattle.std.specs.Prelude.{if◌then◌else◌, List, [], ◌∷◌, ◌++◌, length, map, take, drop}
 use Rattle.std.specs.Prelude.{Option, Some, None, Result, Ok, Err}
@@ -172,7 +172,8 @@ abbrev pub text_after_event : Option EventChannel → Option (List ℕ) → Opti
 text_after_event None text = text
 text_after_event (Some e) text = Some e.name.items
 
--- READ_DAQ, in a store whose image begins at `base`; an unwritten entry has size and address 0 (own)
+-- READ_DAQ, in a store whose image begins at `base`; an unwritten entry has size and address 0
+-- (own)
 abbrev pub read_fields : ℕ → ℕ → ℕ → List ℕ
 read_fields base size place =
     BYTE 0xFF  -- BIT_OFFSET

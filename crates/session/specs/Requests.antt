@@ -1,8 +1,8 @@
 -- Command packets (ASAM MCD-1 XCP, protocol layer): the commands of a session, those that set DAQ
--- lists among them. That a longer packet is accepted and its surplus ignored, that a reserved byte may
--- have any value, and the order of the errors are (own).
-use Rattle.std.specs.Prelude.{ℕ, zero, suc, ◌*◌, ◌-◌, ◌==◌, ◌||◌, nat_lt, if◌then◌else◌, List, [], ◌∷◌}
-use Rattle.std.specs.Prelude.{length, drop, take, Result, Ok, Err}
+-- lists among them. That a longer packet is accepted and its surplus ignored, that a reserved byte
+-- may have any value, and the order of the errors are (own).
+use Rattle.std.specs.Prelude.{ℕ, zero, suc, ◌*◌, ◌-◌, ◌==◌, ◌||◌, nat_lt, if◌then◌else◌, List, []}
+use Rattle.std.specs.Prelude.{◌∷◌, length, drop, take, Result, Ok, Err}
 use Rattle.xcp_base.specs.declared.err_code.ErrCode.{ErrCode}
 use Rattle.xcp_base.specs.declared.err_code.ErrCode.TheVariants.{CmdSyntax, OutOfRange}
 use Rattle.xcp_base.specs.declared.limits.TheConstants.{MAX_IMAGE_LEN}
@@ -10,16 +10,17 @@ use Rattle.daq_store.specs.declared.command.Command.{Command}
 use Rattle.daq_store.specs.declared.command.Command.TheVariants.{ClearDaqList, ReadDaq, WriteDaq}
 use Rattle.daq_store.specs.Commands.{command, dword, word}
 use Rattle.session.specs.declared.request.Request.{Request}
-use Rattle.session.specs.declared.request.Request.TheVariants.{Connect, Disconnect, GetStatus, Synch}
-use Rattle.session.specs.declared.request.Request.TheVariants.{GetCommModeInfo, GetId, Upload}
+use Rattle.session.specs.declared.request.Request.TheVariants.{Connect, Disconnect, GetStatus}
+use Rattle.session.specs.declared.request.Request.TheVariants.{Synch, GetCommModeInfo, GetId}
+use Rattle.session.specs.declared.request.Request.TheVariants.{Upload}
 use Rattle.session.specs.declared.request.Request.TheVariants.{GetDaqListMode, GetDaqClock}
 use Rattle.session.specs.declared.request.Request.TheVariants.{GetDaqProcessorInfo}
 use Rattle.session.specs.declared.request.Request.TheVariants.{GetDaqResolutionInfo, GetDaqListInfo}
 use Rattle.session.specs.declared.request.Request.TheVariants.{GetDaqEventInfo, Lists}
 use Rattle.session.specs.declared.request.Request.TheVariants.{WriteDaqMultiple}
 
--- the place of an address in an image that begins at `base`; an address below it has a place that no
--- image has, so that writing it is out of range
+-- the place of an address in an image that begins at `base`; an address below it has a place that
+-- no image has, so that writing it is out of range
 abbrev pub place_of : ℕ → ℕ → ℕ
 place_of base addr = if nat_lt addr base then MAX_IMAGE_LEN else addr - base
 
@@ -44,8 +45,8 @@ with_entries (n ∷ entries) =
     if n == 0 || nat_lt 7 n then Err OutOfRange
     else if nat_lt (length entries) (8 * n) then Err CmdSyntax else Ok (WriteDaqMultiple n)
 
--- the WRITE_DAQ of the first eight bytes: bit offset, size, address, address extension and a reserved
--- byte; that of each eight bytes
+-- the WRITE_DAQ of the first eight bytes: bit offset, size, address, address extension and a
+-- reserved byte; that of each eight bytes
 abbrev pub write_of : ℕ → List ℕ → Command
 write_of base (bit ∷ size ∷ a ∷ b ∷ c ∷ d ∷ ext ∷ _) =
     WriteDaq bit size ext (place_of base (dword a b c d))

@@ -98,18 +98,23 @@ PacketMayRunOut s packet =
 
 -- one exchange: it runs out of memory only where it may, and after each past that the old session
 -- stands after, this is the reply, and the new session stands after what the exchange leaves
-pub record Exchanges (old new : SessionState) (packet : List ℕ) (clock : ℕ) (reply : Option (List ℕ))
+abbrev pub IsExchange : SessionState → SessionState → Exchange → Option (List ℕ) → Type 0
+IsExchange old new x reply =
+    (past : Past) → SessionStandsAfter old past
+    → (reply ≡ reply_in old.profile past x) × SessionStandsAfter new (past_behind old.profile past x)
+
+pub record Exchanges
+    (old new : SessionState) (packet : List ℕ) (clock : ℕ) (reply : Option (List ℕ))
     : Type 0 where
   pub out_of_memory : Bool
   pub only_where : out_of_memory ≡ true → PacketMayRunOut old packet
   pub answers :
-      (past : Past) → SessionStandsAfter old past
-      → (reply ≡ reply_in old.profile past (record { packet = packet; clock = clock; out_of_memory = out_of_memory }))
-      × SessionStandsAfter new
-      (past_behind old.profile past (record { packet = packet; clock = clock; out_of_memory = out_of_memory }))
+      IsExchange old new
+      (record { packet = packet; clock = clock; out_of_memory = out_of_memory }) reply
 
 -- some exchanges, one after another: so the replies are those of a fold over them
-pub record ExchangesAll (old new : SessionState) (xs : List Exchange) (sent : List (Option (List ℕ)))
+pub record ExchangesAll
+    (old new : SessionState) (xs : List Exchange) (sent : List (Option (List ℕ)))
     : Type 0 where
   pub profile : new.profile ≡ old.profile
   pub answers :

@@ -94,8 +94,8 @@ impl Session {
         }
     }
 
-    /// The transport was lost: all DAQ lists are given up as by FREE_DAQ, the text is forgotten, and
-    /// no master is connected. So it is after DISCONNECT, but nothing is replied.
+    /// The transport was lost: all DAQ lists are given up as by FREE_DAQ, the text is forgotten,
+    /// and no master is connected. So it is after DISCONNECT, but nothing is replied.
     pub fn hang_up(&mut self)
         ensures fresh { SessionStandsAfter self.new new_past }
         ensures profile_stays { self.new.profile ≡ self.old.profile }
@@ -234,8 +234,8 @@ impl Session {
     }
 }
 
-/// What stands behind FF in the reply to CONNECT: RESOURCE, COMM_MODE_BASIC, MAX_CTO, MAX_DTO, and the
-/// versions of the protocol layer and the transport layer.
+/// What stands behind FF in the reply to CONNECT: RESOURCE, COMM_MODE_BASIC, MAX_CTO, MAX_DTO, and
+/// the versions of the protocol layer and the transport layer.
 pub(crate) const CONNECTED: [u8; 7] = [0x04, 0x80, 0x40, 0x40, 0x00, 0x01, 0x01];
 
 /// Whether UPLOAD asks for no byte, for more than a reply has, or for more than are left.

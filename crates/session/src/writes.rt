@@ -15,7 +15,8 @@ impl Session {
     /// WRITE_DAQ_MULTIPLE: writes entries in their order, up to the first that is refused.
     pub(crate) fn write_multiple(&mut self, count: u8, entries: &[u8]) -> Cto
         requires { 8 * count ≤ length entries.now }
-        ensures reply { WritesAll self.old self.new (writes self.old.profile.base count entries.now) result }
+        ensures reply { WritesAll self.old self.new
+            (writes self.old.profile.base count entries.now) result }
         ensures profile_stays { self.new.profile ≡ self.old.profile }
     {
         let base = self.profile.base;
