@@ -55,8 +55,8 @@ SetsUp (ClearDaqList list) = ⊥
 SetsUp ReadDaq = ⊥
 SetsUp _ = Unit {0}
 
--- the packet is that of one of these commands: for some reserved byte it is the command's bytes, and
--- then any surplus
+-- the packet is that of one of these commands: for some reserved byte it is the command's bytes,
+-- and then any surplus
 pub record IsPacketOf (packet : List ℕ) (call : Command) : Type 0 where
   pub sets_up : SetsUp call
   pub fields : HasFields call

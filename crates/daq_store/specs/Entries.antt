@@ -18,7 +18,8 @@ last_write (AllocOdt list count ∷ earlier) l k e =
     if list == l then None else last_write earlier l k e
 last_write (AllocOdtEntry list odt count ∷ earlier) l k e =
     if list == l && odt == k then None else last_write earlier l k e
-last_write (ClearDaqList list ∷ earlier) l k e = if list == l then None else last_write earlier l k e
+last_write (ClearDaqList list ∷ earlier) l k e =
+    if list == l then None else last_write earlier l k e
 last_write (WriteDaq bit size ext addr ∷ earlier) l k e =
     if points_at (pointer earlier) l k e then Some (record { address = addr; size = size })
     else last_write earlier l k e

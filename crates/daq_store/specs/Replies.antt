@@ -12,8 +12,8 @@ use Rattle.daq_store.specs.Answer.{answer, calls_after}
 use Rattle.daq_store.specs.Standing.{StoreStandsAfter, StoreState}
 use Rattle.daq_store.specs.Commands.{command, dword_bytes}
 
--- the bytes of a reply: RES is FF, to START_STOP_DAQ_LIST with FIRST_PID behind it, to READ_DAQ with
--- bit offset FF, size, address extension 0 and address; ERR is FE and the byte of the error
+-- the bytes of a reply: RES is FF, to START_STOP_DAQ_LIST with FIRST_PID behind it, to READ_DAQ
+-- with bit offset FF, size, address extension 0 and address; ERR is FE and the byte of the error
 abbrev pub reply_bytes : Reply → List ℕ
 reply_bytes Positive = 0xFF ∷ []
 reply_bytes (Started first_pid) = 0xFF ∷ first_pid ∷ []

@@ -21,8 +21,9 @@ is_selected (StartStopDaqList mode list ∷ earlier) l =
 is_selected (ClearDaqList list ∷ earlier) l = if list == l then false else is_selected earlier l
 is_selected (_ ∷ earlier) l = is_selected earlier l
 
--- list l runs where, among ALLOC_DAQ, CLEAR_DAQ_LIST of l, the starts and stops of l, the stop of all
--- lists, and the starts and stops of the selected lists at which l was selected, the last is a start
+-- list l runs where, among ALLOC_DAQ, CLEAR_DAQ_LIST of l, the starts and stops of l, the stop of
+-- all lists, and the starts and stops of the selected lists at which l was selected, the last is a
+-- start
 abbrev pub is_running : List Command → ℕ → Bool
 is_running [] l = false
 is_running (AllocDaq count ∷ earlier) l = false

@@ -1,0 +1,5 @@
+pub mod PlaceLemmas
+pub mod ProfileLemmas
+pub mod ReplyLemmas
+pub mod FoldLemmas
+mod StandardFacts

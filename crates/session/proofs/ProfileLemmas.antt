@@ -1,0 +1,96 @@
+-- A profile without a fault is within its limits.
+use Rattle.std.proofs.Common.{◌≡◌, ◌≤◌, ◌∙◌, ℕ, Bool, true, false, List, [], ◌∷◌, length, Option, Some, None, is_none, unwrap_or, refl, sym, ap, arith}
+use Rattle.std.specs.Prelude.{All, ◌==◌, ◌||◌, nat_lt, if◌then◌else◌}
+use Rattle.std.specs.List.{list_any}
+use Rattle.std.proofs.lemmas.Bool.Decides.{nat_tests}
+use Rattle.std.proofs.lemmas.List.Elements.{All-nil, All-cons}
+use Rattle.daq_store.specs.Calls.{Profile as ListsProfile}
+use Rattle.xcp_base.specs.Forms.{form_of, size_of, usual_form}
+use Rattle.xcp_base.specs.declared.packet_form.PacketForm.{PacketForm}
+use Rattle.session.specs.declared.profile.Profile.{Profile}
+use Rattle.session.specs.declared.event_channel.EventChannel.{EventChannel}
+use Rattle.session.specs.declared.profile.ProfileFault.{ProfileFault}
+use Rattle.session.specs.Profiles.{profile_fault, numbers_fault, names_fault, event_fault, events_fault, or_else, is_bad_name, is_unprintable, IsProfile, HasShortName, lists_of}
+
+-- a test that names no fault
+not_named : {X : Type 0} (b : Bool) (x : X) (next : Option X) → (if b then Some x else next) ≡ None → (b ≡ false) × (next ≡ None)
+not_named true x next h = absurd (cc)
+not_named false x next h = (refl, h)
+
+neither : (first next : Option ProfileFault) → or_else first next ≡ None → (first ≡ None) × (next ≡ None)
+neither (Some x) next h = absurd (cc)
+neither None next h = (refl, h)
+
+first_false : (a b : Bool) → (a || b) ≡ false → (a ≡ false) × (b ≡ false)
+first_false true b h = absurd (cc)
+first_false false b h = (refl, h)
+
+at_most : (n m : ℕ) → nat_lt n m ≡ false → m ≤ n
+at_most n m h = grind (arith, nat_tests)
+
+not_zero : (n : ℕ) → (n == 0) ≡ false → 1 ≤ n
+not_zero n h = grind (arith, nat_tests)
+
+small_size : (n : ℕ) → is_none (size_of n) ≡ false → n ≤ 4
+small_size n h = grind (arith, nat_tests)
+
+short_name : (name : List ℕ) → is_bad_name name ≡ false → length name ≤ 56
+short_name name h = at_most 56 (length name) (first_false (nat_lt 56 (length name)) (list_any is_unprintable name) h).0
+
+short_names : (events : List EventChannel) → events_fault events ≡ None → All HasShortName events
+short_names [] h = All-nil HasShortName
+short_names (e ∷ more) h =
+    let both = neither (event_fault e) (events_fault more) h in
+    let name = not_named (is_bad_name e.name.items) _ _ both.0 in
+    All-cons HasShortName e more (short_name e.name.items name.0) (short_names more both.1)
+
+-- what the numbers of a profile without a fault keep to
+pub record HasNumbers (d : Profile) : Type 0 where
+  pub some : 1 ≤ length d.events.items
+  pub channels : length d.events.items ≤ 8
+  pub some_image : 1 ≤ d.image_len
+  pub image : d.image_len ≤ 4096
+  pub stamp : is_none (size_of d.stamp_size) ≡ false
+  pub unit : d.unit ≤ 9
+
+pub numbers_within : (d : Profile) → profile_fault d ≡ None → HasNumbers d
+numbers_within d h =
+    let numbers = (neither (numbers_fault d) (names_fault d) h).0 in
+    let channels = not_named (length d.events.items == 0 || nat_lt 8 (length d.events.items)) _ _ numbers in
+    let image = not_named (d.image_len == 0 || nat_lt 4096 d.image_len) _ _ channels.1 in
+    let stamp = not_named (is_none (size_of d.stamp_size)) _ _ image.1 in
+    let unit = not_named (nat_lt 9 d.unit) _ _ stamp.1 in
+    let c = first_false (length d.events.items == 0) (nat_lt 8 (length d.events.items)) channels.0 in
+    let i = first_false (d.image_len == 0) (nat_lt 4096 d.image_len) image.0 in
+    record {
+      some = not_zero (length d.events.items) c.0;
+      channels = at_most 8 (length d.events.items) c.1;
+      some_image = not_zero d.image_len i.0;
+      image = at_most 4096 d.image_len i.1;
+      stamp = stamp.0;
+      unit = at_most 9 d.unit unit.0;
+    }
+
+pub profile_within : (d : Profile) → profile_fault d ≡ None → IsProfile d
+profile_within d h =
+    let n = numbers_within d h in
+    let names = (neither (numbers_fault d) (names_fault d) h).1 in
+    let name = not_named (is_bad_name d.name.items) _ _ names in
+    record {
+      channels = n.channels;
+      unit = n.unit;
+      stamp = small_size d.stamp_size n.stamp;
+      name = short_name d.name.items name.0;
+      names = short_names d.events.items name.1;
+    }
+
+-- what a store is made for, field by field
+pub lists_same : (p : ListsProfile) (d : Profile) → p.channels ≡ length d.events.items → p.image_len ≡ d.image_len → form_of d.id d.stamp_size ≡ Some p.form
+    → p ≡ lists_of d
+lists_same p d channels image form =
+    let is : p.form ≡ unwrap_or (form_of d.id d.stamp_size) usual_form = sym (ap (λ (o : Option PacketForm). unwrap_or o usual_form) form) in
+    let one : p ≡ record { channels = length d.events.items; image_len = p.image_len; form = p.form } = ap (λ n. record { channels = n; image_len = p.image_len; form = p.form }) channels in
+    let two : record { channels = length d.events.items; image_len = p.image_len; form = p.form } ≡ record { channels = length d.events.items; image_len = d.image_len; form = p.form } =
+    ap (λ n. record { channels = length d.events.items; image_len = n; form = p.form }) image in
+    let P : PacketForm → ListsProfile = λ f. record { channels = length d.events.items; image_len = d.image_len; form = f } in
+    one ∙ two ∙ ap P is

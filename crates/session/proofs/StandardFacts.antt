@@ -1,0 +1,82 @@
+-- Worked replies of a slave with one event channel, an absolute ODT number, timestamps of 4 bytes in
+-- microseconds, its name `ng`, and `e0` its channel's.
+use Rattle.std.proofs.Common.{◌≡◌, [], ◌∷◌, Some, None, Ok, Err, false, refl}
+use Rattle.xcp_base.specs.declared.err_code.ErrCode.TheVariants.{CmdSynch, CmdSyntax, CmdUnknown, OutOfRange}
+use Rattle.daq_store.specs.declared.command.Command.TheVariants.{AllocDaq, ReadDaq, SetDaqListMode, StartStopDaqList, WriteDaq}
+use Rattle.daq_store.specs.declared.reply.Reply.TheVariants.{Read}
+use Rattle.session.specs.declared.request.Request.TheVariants.{Lists, WriteDaqMultiple}
+use Rattle.session.specs.Fields.{packet_of}
+use Rattle.session.specs.Replies.{clock_fields, comm_mode_fields, connect_reply, id_reply, list_mode_reply, status_fields, store_reply, upload_reply}
+use Rattle.session.specs.Requests.{request}
+
+connect : packet_of (connect_reply 0) ≡ 0xFF ∷ 0x04 ∷ 0x80 ∷ 0x40 ∷ 0x40 ∷ 0x00 ∷ 0x01 ∷ 0x01 ∷ []
+connect = refl
+
+connect_otherwise : packet_of (connect_reply 1) ≡ 0xFE ∷ 0x22 ∷ []
+connect_otherwise = refl
+
+-- no list runs
+status : status_fields false ≡ 0 ∷ 0 ∷ 0 ∷ 0 ∷ 0 ∷ []
+status = refl
+
+synch : packet_of (Err CmdSynch) ≡ 0xFE ∷ 0x00 ∷ []
+synch = refl
+
+comm_mode : comm_mode_fields ≡ 0 ∷ 0 ∷ 0 ∷ 0 ∷ 0 ∷ 0 ∷ 0x10 ∷ []
+comm_mode = refl
+
+id : packet_of (id_reply (0x6E ∷ 0x67 ∷ []) 0) ≡ 0xFF ∷ 0x01 ∷ 0 ∷ 0 ∷ 2 ∷ 0 ∷ 0 ∷ 0 ∷ 0x6E ∷ 0x67 ∷ []
+id = refl
+
+upload : packet_of (upload_reply 2 (Some (0x65 ∷ 0x30 ∷ []))) ≡ 0xFF ∷ 0x65 ∷ 0x30 ∷ []
+upload = refl
+
+upload_of_no_more : packet_of (upload_reply 1 (Some [])) ≡ 0xFE ∷ 0x22 ∷ []
+upload_of_no_more = refl
+
+upload_without_text : packet_of (upload_reply 1 None) ≡ 0xFE ∷ 0x29 ∷ []
+upload_without_text = refl
+
+clock : clock_fields 0x01020304 ≡ 0 ∷ 0 ∷ 0 ∷ 4 ∷ 3 ∷ 2 ∷ 1 ∷ []
+clock = refl
+
+-- a list with a prescaler of 1 on channel 0, without timestamps
+list_mode : packet_of (list_mode_reply (SetDaqListMode 0 0 0 1 0 ∷ AllocDaq 1 ∷ []) 0) ≡ 0xFF ∷ 0 ∷ 0 ∷ 0 ∷ 0 ∷ 0 ∷ 1 ∷ 0 ∷ []
+list_mode = refl
+
+-- the same list once it runs
+list_mode_of_one_that_runs : packet_of (list_mode_reply (StartStopDaqList 1 0 ∷ SetDaqListMode 0x10 0 0 1 0 ∷ AllocDaq 1 ∷ []) 0) ≡ 0xFF ∷ 0x50 ∷ 0 ∷ 0 ∷ 0 ∷ 0 ∷ 1 ∷ 0 ∷ []
+list_mode_of_one_that_runs = refl
+
+-- READ_DAQ shows the address as a master knows it, and of an unwritten entry none
+entry_read : store_reply 0x1000 (Read 2 1) ≡ 0xFF ∷ 0xFF ∷ 2 ∷ 0 ∷ 0x01 ∷ 0x10 ∷ 0 ∷ 0 ∷ []
+entry_read = refl
+
+unwritten_read : store_reply 0x1000 (Read 0 0) ≡ 0xFF ∷ 0xFF ∷ 0 ∷ 0 ∷ 0 ∷ 0 ∷ 0 ∷ 0 ∷ []
+unwritten_read = refl
+
+-- WRITE_DAQ at the first byte of an image that begins at 0x1000, and below it
+write_first : request 0x1000 (0xE1 ∷ 0xFF ∷ 1 ∷ 0 ∷ 0x00 ∷ 0x10 ∷ 0 ∷ 0 ∷ []) ≡ Ok (Lists (WriteDaq 0xFF 1 0 0))
+write_first = refl
+
+write_below : request 0x1000 (0xE1 ∷ 0xFF ∷ 1 ∷ 0 ∷ 0xFF ∷ 0x0F ∷ 0 ∷ 0 ∷ []) ≡ Ok (Lists (WriteDaq 0xFF 1 0 4096))
+write_below = refl
+
+-- packets of no known code, too short, with no entry, with the entries of one byte too few
+read : request 0 (0xDB ∷ []) ≡ Ok (Lists ReadDaq)
+read = refl
+
+unknown : request 0 (0xC0 ∷ []) ≡ Err CmdUnknown
+unknown = refl
+
+short : request 0 (0xE3 ∷ 0 ∷ 0 ∷ []) ≡ Err CmdSyntax
+short = refl
+
+no_entries : request 0 (0xC7 ∷ 0 ∷ []) ≡ Err OutOfRange
+no_entries = refl
+
+entry_cut : request 0 (0xC7 ∷ 1 ∷ 0xFF ∷ 1 ∷ 0 ∷ 0 ∷ 0 ∷ 0 ∷ 0 ∷ []) ≡ Err CmdSyntax
+entry_cut = refl
+
+one_entry : request 0 (0xC7 ∷ 1 ∷ 0xFF ∷ 1 ∷ 0 ∷ 0 ∷ 0 ∷ 0 ∷ 0 ∷ 0 ∷ []) ≡ Ok (WriteDaqMultiple 1)
+one_entry = refl

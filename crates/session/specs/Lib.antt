@@ -1,0 +1,9 @@
+pub mod Fields
+pub mod Profiles
+pub mod Requests
+pub mod Past
+pub mod Replies
+pub mod Exchanges
+pub mod Standing
+pub mod Folds
+pub mod Laws

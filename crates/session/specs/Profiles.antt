@@ -1,0 +1,86 @@
+-- What a slave is opened with, and its limits (own).
+use Rattle.std.specs.Prelude.{ℕ, ◌+◌, ◌≤◌, ◌==◌, ◌||◌, nat_lt, Bool, if◌then◌else◌, All}
+use Rattle.std.specs.Prelude.{List, [], ◌∷◌, length, Option, Some, None, is_none, unwrap_or}
+use Rattle.std.specs.List.{list_any}
+use Rattle.xcp_base.specs.declared.limits.TheConstants.{MAX_BYTE_RING, MAX_CHANNELS, MAX_IMAGE_LEN}
+use Rattle.xcp_base.specs.declared.limits.TheConstants.{MAX_NAME, MAX_SAMPLE_RING, MAX_UNIT}
+use Rattle.xcp_base.specs.declared.limits.TheConstants.{MIN_BYTE_RING}
+use Rattle.xcp_base.specs.Forms.{form_of, size_of, usual_form}
+use Rattle.daq_store.specs.Calls.{Profile as ListsProfile}
+use Rattle.session.specs.declared.profile.Profile.{Profile}
+use Rattle.session.specs.declared.profile.TheConstants.{ADDRESSES}
+use Rattle.session.specs.declared.event_channel.EventChannel.{EventChannel}
+use Rattle.session.specs.declared.profile.RingKind.{RingKind}
+use Rattle.session.specs.declared.profile.RingKind.TheVariants as ring
+use Rattle.session.specs.declared.profile.ProfileFault.{ProfileFault}
+use Rattle.session.specs.declared.profile.ProfileFault.TheVariants as fault
+
+-- a byte that is not printable ASCII
+abbrev pub is_unprintable : ℕ → Bool
+is_unprintable b = nat_lt b 0x20 || nat_lt 0x7E b
+
+-- bytes that are not printable ASCII, or too many
+abbrev pub is_bad_name : List ℕ → Bool
+is_bad_name name =
+    nat_lt MAX_NAME (length name) || list_any is_unprintable name
+
+-- a capacity that a ring of this kind may not have
+abbrev pub is_bad_capacity : RingKind → ℕ → Bool
+is_bad_capacity ring.Samples n = n == 0 || nat_lt MAX_SAMPLE_RING n
+is_bad_capacity ring.Bytes n = nat_lt n MIN_BYTE_RING || nat_lt MAX_BYTE_RING n
+
+-- the first limit that an event channel is out of, and that event channels are
+abbrev pub event_fault : EventChannel → Option ProfileFault
+event_fault e =
+    if is_bad_name e.name.items then Some fault.EventName
+    else if nat_lt MAX_UNIT e.cycle_unit then Some fault.CycleUnit else None
+
+abbrev pub or_else : Option ProfileFault → Option ProfileFault → Option ProfileFault
+or_else (Some first) next = Some first
+or_else None next = next
+
+abbrev pub events_fault : List EventChannel → Option ProfileFault
+events_fault [] = None
+events_fault (e ∷ more) = or_else (event_fault e) (events_fault more)
+
+-- the first limit that the numbers of a profile are out of, and its names
+abbrev pub numbers_fault : Profile → Option ProfileFault
+numbers_fault d =
+    if length d.events.items == 0 || nat_lt MAX_CHANNELS (length d.events.items)
+    then Some fault.Channels
+    else if d.image_len == 0 || nat_lt MAX_IMAGE_LEN d.image_len then Some fault.ImageLen
+    else if is_none (size_of d.stamp_size) then Some fault.StampSize
+    else if nat_lt MAX_UNIT d.unit then Some fault.Unit
+    else if d.ticks == 0 then Some fault.Ticks
+    else if nat_lt ADDRESSES (d.base + d.image_len) then Some fault.Base
+    else if list_any (λ e. is_bad_capacity d.ring e.capacity) d.events.items
+    then Some fault.Capacity else None
+
+abbrev pub names_fault : Profile → Option ProfileFault
+names_fault d =
+    if is_bad_name d.name.items then Some fault.Name else events_fault d.events.items
+
+-- the first limit that a profile is out of
+abbrev pub profile_fault : Profile → Option ProfileFault
+profile_fault d = or_else (numbers_fault d) (names_fault d)
+
+-- what its store is made for
+abbrev pub lists_of : Profile → ListsProfile
+lists_of d =
+    record {
+      channels = length d.events.items;
+      image_len = d.image_len;
+      form = unwrap_or (form_of d.id d.stamp_size) usual_form;
+    }
+
+-- the name of an event channel is short enough
+abbrev pub HasShortName : EventChannel → Type 0
+HasShortName e = length e.name.items ≤ MAX_NAME
+
+-- a profile within the limits that replies depend on
+pub record IsProfile (d : Profile) : Type 0 where
+  pub channels : length d.events.items ≤ MAX_CHANNELS
+  pub unit : d.unit ≤ MAX_UNIT
+  pub stamp : d.stamp_size ≤ 4
+  pub name : length d.name.items ≤ MAX_NAME
+  pub names : All HasShortName d.events.items

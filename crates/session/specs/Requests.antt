@@ -1,0 +1,89 @@
+-- Command packets (ASAM MCD-1 XCP, protocol layer): the commands of a session, those that set DAQ
+-- lists among them. That a longer packet is accepted and its surplus ignored, that a reserved byte
+-- may have any value, and the order of the errors are (own).
+use Rattle.std.specs.Prelude.{ℕ, zero, suc, ◌*◌, ◌-◌, ◌==◌, ◌||◌, nat_lt, if◌then◌else◌, List, []}
+use Rattle.std.specs.Prelude.{◌∷◌, length, drop, take, Result, Ok, Err}
+use Rattle.xcp_base.specs.declared.err_code.ErrCode.{ErrCode}
+use Rattle.xcp_base.specs.declared.err_code.ErrCode.TheVariants.{CmdSyntax, OutOfRange}
+use Rattle.xcp_base.specs.declared.limits.TheConstants.{MAX_IMAGE_LEN}
+use Rattle.daq_store.specs.declared.command.Command.{Command}
+use Rattle.daq_store.specs.declared.command.Command.TheVariants.{ClearDaqList, ReadDaq, WriteDaq}
+use Rattle.daq_store.specs.Commands.{command, dword, word}
+use Rattle.session.specs.declared.request.Request.{Request}
+use Rattle.session.specs.declared.request.Request.TheVariants.{Connect, Disconnect, GetStatus}
+use Rattle.session.specs.declared.request.Request.TheVariants.{Synch, GetCommModeInfo, GetId}
+use Rattle.session.specs.declared.request.Request.TheVariants.{Upload}
+use Rattle.session.specs.declared.request.Request.TheVariants.{GetDaqListMode, GetDaqClock}
+use Rattle.session.specs.declared.request.Request.TheVariants.{GetDaqProcessorInfo}
+use Rattle.session.specs.declared.request.Request.TheVariants.{GetDaqResolutionInfo, GetDaqListInfo}
+use Rattle.session.specs.declared.request.Request.TheVariants.{GetDaqEventInfo, Lists}
+use Rattle.session.specs.declared.request.Request.TheVariants.{WriteDaqMultiple}
+
+-- the place of an address in an image that begins at `base`; an address below it has a place that
+-- no image has, so that writing it is out of range
+abbrev pub place_of : ℕ → ℕ → ℕ
+place_of base addr = if nat_lt addr base then MAX_IMAGE_LEN else addr - base
+
+-- a command with the place in the place of its address
+abbrev pub from_base : ℕ → Command → Command
+from_base base (WriteDaq bit size ext addr) = WriteDaq bit size ext (place_of base addr)
+from_base base call = call
+
+-- a request with a BYTE behind its code; with a WORD behind a reserved byte
+abbrev pub with_byte : (ℕ → Request) → List ℕ → Result Request ErrCode
+with_byte make (x ∷ _) = Ok (make x)
+with_byte make [] = Err CmdSyntax
+
+abbrev pub with_word : (ℕ → Request) → List ℕ → Result Request ErrCode
+with_word make (_ ∷ low ∷ high ∷ _) = Ok (make (word low high))
+with_word make _ = Err CmdSyntax
+
+-- WRITE_DAQ_MULTIPLE: its count is 1 to 7, and then there are eight bytes for each entry
+abbrev pub with_entries : List ℕ → Result Request ErrCode
+with_entries [] = Err CmdSyntax
+with_entries (n ∷ entries) =
+    if n == 0 || nat_lt 7 n then Err OutOfRange
+    else if nat_lt (length entries) (8 * n) then Err CmdSyntax else Ok (WriteDaqMultiple n)
+
+-- the WRITE_DAQ of the first eight bytes: bit offset, size, address, address extension and a
+-- reserved byte; that of each eight bytes
+abbrev pub write_of : ℕ → List ℕ → Command
+write_of base (bit ∷ size ∷ a ∷ b ∷ c ∷ d ∷ ext ∷ _) =
+    WriteDaq bit size ext (place_of base (dword a b c d))
+write_of base _ = WriteDaq 0 0 0 0
+
+abbrev pub writes : ℕ → ℕ → List ℕ → List Command
+writes base zero bytes = []
+writes base (suc n) bytes = write_of base (take 8 bytes) ∷ writes base n (drop 8 bytes)
+
+-- one of the nine commands that set lists up, or the error of a packet that is none of these
+abbrev pub of_lists : ℕ → Result Command ErrCode → Result Request ErrCode
+of_lists base (Ok call) = Ok (Lists (from_base base call))
+of_lists base (Err code) = Err code
+
+-- CLEAR_DAQ_LIST
+abbrev pub clear_list : ℕ → Request
+clear_list list = Lists (ClearDaqList list)
+
+-- the request of a packet, or its error: it is empty, or else its code is unknown, or else it is
+-- too short
+abbrev pub request : ℕ → List ℕ → Result Request ErrCode
+request base [] = Err CmdSyntax
+request base (code ∷ more) =
+    if code == 0xFF then with_byte Connect more  -- mode
+    else if code == 0xFE then Ok Disconnect
+    else if code == 0xFD then Ok GetStatus
+    else if code == 0xFC then Ok Synch
+    else if code == 0xFB then Ok GetCommModeInfo
+    else if code == 0xFA then with_byte GetId more  -- type
+    else if code == 0xF5 then with_byte Upload more  -- number of bytes
+    else if code == 0xE3 then with_word clear_list more  -- DAQ list
+    else if code == 0xDF then with_word GetDaqListMode more  -- DAQ list
+    else if code == 0xDC then Ok GetDaqClock
+    else if code == 0xDB then Ok (Lists ReadDaq)
+    else if code == 0xDA then Ok GetDaqProcessorInfo
+    else if code == 0xD9 then Ok GetDaqResolutionInfo
+    else if code == 0xD8 then with_word GetDaqListInfo more  -- DAQ list
+    else if code == 0xD7 then with_word GetDaqEventInfo more  -- event channel
+    else if code == 0xC7 then with_entries more  -- number of entries, entries
+    else of_lists base (command (code ∷ more))

@@ -1,0 +1,124 @@
+-- What a session shows, and when it stands after a past.
+use Rattle.std.specs.Prelude.{◌≡◌, ℕ, Bool, true, List, [], Option, Some, None, Result}
+use Rattle.arrayvec.specs.ArrayVec.{ArrayVec}
+use Rattle.xcp_base.specs.declared.err_code.ErrCode.{ErrCode}
+use Rattle.daq_store.specs.declared.command.Command.{Command}
+use Rattle.daq_store.specs.declared.reply.Reply.{Reply}
+use Rattle.daq_store.specs.Answer.{answer, calls_after, fault_of}
+use Rattle.daq_store.specs.Replies.{Allocates}
+use Rattle.daq_store.specs.Standing.{StoreStandsAfter, StoreState}
+use Rattle.session.specs.declared.profile.Profile.{Profile}
+use Rattle.session.specs.declared.request.Request.{Request}
+use Rattle.session.specs.declared.request.Request.TheVariants.{Lists}
+use Rattle.session.specs.Past.{Past}
+use Rattle.session.specs.Profiles.{IsProfile, lists_of}
+use Rattle.session.specs.Replies.{store_reply}
+use Rattle.session.specs.Exchanges.{Exchange, MayBeOut, RunOutOnlyWhereMay, calls_after_writes}
+use Rattle.session.specs.Exchanges.{greeting_reply, master_replies, master_reply, past_after}
+use Rattle.session.specs.Exchanges.{past_after_greeting, past_after_packet, past_behind}
+use Rattle.session.specs.Exchanges.{past_behind_all, reply_in, request_reply, writes_reply}
+
+-- what a session shows
+pub record SessionState : Type 0 where
+  pub profile : Profile
+  pub connected : Bool
+  pub text : Option (List ℕ)
+  pub store : StoreState
+
+-- a text as it is held
+abbrev pub text_held : Option (ArrayVec ℕ) → Option (List ℕ)
+text_held None = None
+text_held (Some text) = Some text.items
+
+-- the session shows what the past says
+pub record SessionStandsAfter (s : SessionState) (past : Past) : Type 0 where
+  pub connected : s.connected ≡ past.connected
+  pub text : s.text ≡ past.text
+  pub store : StoreStandsAfter s.store past.calls
+
+-- what every session keeps to
+pub record IsSession (s : SessionState) : Type 0 where
+  pub within : IsProfile s.profile
+  pub lists : s.store.profile ≡ lists_of s.profile
+
+-- after each past that the old session stands after, this is the reply to the request, and the new
+-- session stands after what it leaves
+abbrev pub AnswersRequest : SessionState → SessionState → ℕ → List ℕ → Request → List ℕ → Type 0
+AnswersRequest old new clock packet asked bytes =
+    (past : Past) → SessionStandsAfter old past
+    → (bytes ≡ request_reply old.profile past clock packet asked)
+    × SessionStandsAfter new (past_after old.profile past packet asked)
+
+-- the same of one write
+abbrev pub WritesOne : SessionState → SessionState → Command → Reply → Type 0
+WritesOne old new call reply =
+    (past : Past) → SessionStandsAfter old past
+    → (reply ≡ answer (lists_of old.profile) past.calls call)
+    × SessionStandsAfter new
+    (record past { calls = calls_after (lists_of old.profile) past.calls call })
+
+-- the same of these writes
+abbrev pub WritesAll : SessionState → SessionState → List Command → List ℕ → Type 0
+WritesAll old new calls bytes =
+    (past : Past) → SessionStandsAfter old past
+    → (bytes ≡ store_reply old.profile.base (writes_reply (lists_of old.profile) past.calls calls))
+    × SessionStandsAfter new
+    (record past { calls = calls_after_writes (lists_of old.profile) past.calls calls })
+
+-- the same of a request that only looks
+abbrev pub Looks : SessionState → ℕ → Request → List ℕ → Type 0
+Looks s clock asked bytes =
+    (past : Past) → SessionStandsAfter s past → bytes ≡ request_reply s.profile past clock [] asked
+
+-- the same of what was read where no master is connected
+abbrev pub Greets : SessionState → SessionState → Result Request ErrCode → Option (List ℕ) → Type 0
+Greets old new read reply =
+    (past : Past) → SessionStandsAfter old past
+    → (reply ≡ greeting_reply read) × SessionStandsAfter new (past_after_greeting past read)
+
+-- the same of a packet
+abbrev pub AnswersMaster : SessionState → SessionState → ℕ → List ℕ → Option (List ℕ) → Type 0
+AnswersMaster old new clock packet reply =
+    (past : Past) → SessionStandsAfter old past
+    → (reply ≡ master_reply old.profile past clock packet)
+    × SessionStandsAfter new (past_after_packet old.profile past packet)
+
+-- there may be no memory for the request: it is an allocation, and after each past that the session
+-- stands after, every check of it passes
+abbrev pub MayRunOut : SessionState → Request → Type 0
+MayRunOut s asked =
+    (call : Command) × (asked ≡ Lists call) × Allocates call
+    × ((past : Past) → SessionStandsAfter s past
+    → fault_of (lists_of s.profile) past.calls call ≡ None)
+
+-- after each past that the session stands after, there may be no memory for the packet
+abbrev pub PacketMayRunOut : SessionState → List ℕ → Type 0
+PacketMayRunOut s packet =
+    (past : Past) → SessionStandsAfter s past → MayBeOut s.profile past packet
+
+-- one exchange: it runs out of memory only where it may, and after each past that the old session
+-- stands after, this is the reply, and the new session stands after what the exchange leaves
+abbrev pub IsExchange : SessionState → SessionState → Exchange → Option (List ℕ) → Type 0
+IsExchange old new x reply =
+    (past : Past) → SessionStandsAfter old past
+    → (reply ≡ reply_in old.profile past x) × SessionStandsAfter new (past_behind old.profile past x)
+
+pub record Exchanges
+    (old new : SessionState) (packet : List ℕ) (clock : ℕ) (reply : Option (List ℕ))
+    : Type 0 where
+  pub out_of_memory : Bool
+  pub only_where : out_of_memory ≡ true → PacketMayRunOut old packet
+  pub answers :
+      IsExchange old new
+      (record { packet = packet; clock = clock; out_of_memory = out_of_memory }) reply
+
+-- some exchanges, one after another: so the replies are those of a fold over them
+pub record ExchangesAll
+    (old new : SessionState) (xs : List Exchange) (sent : List (Option (List ℕ)))
+    : Type 0 where
+  pub profile : new.profile ≡ old.profile
+  pub answers :
+      (past : Past) → SessionStandsAfter old past
+      → (sent ≡ master_replies old.profile past xs)
+      × SessionStandsAfter new (past_behind_all old.profile past xs)
+      × RunOutOnlyWhereMay old.profile past xs

@@ -1,0 +1,130 @@
+ghost use Rattle.std.specs.Prelude.{◌≡◌, ◌+◌, ◌%◌, ◌<◌, ◌≤◌, ◌==◌, ◌∷◌, ◌++◌, Err, length};
+ghost use Rattle.std.specs.Prelude.{if◌then◌else◌};
+ghost use Rattle.session.specs.Fields.{IsReplyPacket, packet_of};
+ghost use Rattle.session.specs.Replies.{key_byte, mode_bits, store_reply};
+
+use arrayvec::ArrayVec;
+use daq_store::Reply;
+use std::marker::Model;
+use xcp_base::limits::{MAX_CTO, MAX_NAME};
+use xcp_base::{ErrCode, IdKind};
+
+/// The packet of a reply: RES, FF and the bytes behind it, or ERR, FE and an error code; 1 to
+/// MAX_CTO bytes.
+#[derive(Drop)]
+pub struct Cto {
+    bytes: ArrayVec<u8, MAX_CTO>,
+}
+
+impl Model for Cto {
+    ghost use Rattle.std.specs.Prelude.{ℕ, List};
+
+    ghost Value = { List ℕ };
+
+    ghost use Rattle.session.specs.Fields.{IsReplyPacket};
+
+    ghost view = { λ a. a.bytes.items };
+
+    ghost invariant = { λ a. IsReplyPacket a.bytes.items };
+}
+
+impl Cto {
+    /// Its bytes.
+    pub fn as_slice(&self) -> &[u8]
+        ensures value { result.now ≡ self.now }
+        ensures packet { IsReplyPacket result.now }
+    {
+        self.bytes.as_slice()
+    }
+
+    /// RES, with these bytes behind it.
+    pub(crate) fn positive(bytes: &[u8]) -> Cto
+        requires { length bytes.now < MAX_CTO }
+        ensures { result ≡ 0xFF ∷ bytes.now }
+    {
+        Cto::with_text(bytes, &[])
+    }
+
+    /// RES, with these bytes behind it and then a text.
+    pub(crate) fn with_text(bytes: &[u8], text: &[u8]) -> Cto
+        requires { length bytes.now + length text.now < MAX_CTO }
+        ensures { result ≡ 0xFF ∷ (bytes.now ++ text.now) }
+    {
+        let mut packet = ArrayVec::new();
+        packet.push(0xFF);
+        let _ = packet.try_extend_from_slice(bytes);
+        let _ = packet.try_extend_from_slice(text);
+        Cto { bytes: packet }
+    }
+
+    /// ERR.
+    pub(crate) fn error(code: ErrCode) -> Cto
+        ensures { result ≡ packet_of (Err code) }
+    {
+        let mut packet = ArrayVec::new();
+        packet.push(0xFE);
+        packet.push(code.byte());
+        Cto { bytes: packet }
+    }
+
+    /// The reply of a store whose image begins at this address.
+    pub(crate) fn of_store(reply: Reply, base: u32) -> Cto
+        ensures { result ≡ store_reply base reply }
+    {
+        match reply {
+            Reply::Positive => Cto::positive(&[]),
+            Reply::Started { first_pid } => Cto::positive(&[first_pid]),
+            Reply::Read { size, addr } => {
+                let [a, b, c, d] = shown_address(size, addr, base).to_le_bytes();
+                Cto::positive(&[0xFF, size, 0x00, a, b, c, d])
+            }
+            Reply::Error(code) => Cto::error(code),
+        }
+    }
+}
+
+/// The address of an entry, as a master knows it; 0 if it is unwritten.
+fn shown_address(size: u8, addr: u32, base: u32) -> u32
+    ensures { result ≡ (if size == 0 then 0 else (base + addr) % 4294967296) }
+{
+    if size == 0 {
+        0
+    } else {
+        base.wrapping_add(addr)
+    }
+}
+
+/// A text.
+pub fn text_of(bytes: &[u8]) -> ArrayVec<u8, MAX_NAME>
+    requires { length bytes.now ≤ MAX_NAME }
+    ensures { result.items ≡ bytes.now }
+{
+    let mut text = ArrayVec::new();
+    let _ = text.try_extend_from_slice(bytes);
+    text
+}
+
+/// A bit, if it is set.
+pub fn bit(set: bool, value: u8) -> u8
+    ensures { result ≡ (if set then value else 0) }
+{
+    if set { value } else { 0 }
+}
+
+/// The bits of the mode that GET_DAQ_LIST_MODE shows.
+pub fn mode_bits(selected: bool, stamped: bool, runs: bool) -> u8
+    ensures { result ≡ mode_bits selected stamped runs }
+{
+    bit(selected, 0x01) + bit(stamped, 0x10) + bit(runs, 0x40)
+}
+
+/// DAQ_KEY_BYTE: the identification field.
+pub fn key_byte(id: IdKind) -> u8
+    ensures { result ≡ key_byte id }
+{
+    match id {
+        IdKind::Absolute => 0x00,
+        IdKind::RelativeByte => 0x40,
+        IdKind::RelativeWord => 0x80,
+    }
+}

@@ -1,0 +1,19 @@
+//! The session of an XCP slave with its master: command packets and the replies to them.
+#![tactic(auto)]
+
+mod cto;
+mod event_channel;
+mod exchange;
+pub mod laws;
+mod looks;
+mod profile;
+mod request;
+mod session;
+mod writes;
+
+pub use cto::Cto;
+pub use event_channel::EventChannel;
+pub use exchange::{Arrived, answer_all};
+pub use profile::{Profile, ProfileFault, RingKind};
+pub use request::Request;
+pub use session::Session;

@@ -1,0 +1,133 @@
+//! The commands of a session, and how they are read from packets.
+ghost use Rattle.std.specs.Prelude.{◌≡◌, ◌∷◌, ◌==◌, ◌||◌, nat_lt};
+ghost use Rattle.daq_store.specs.Commands.{word};
+ghost use Rattle.session.specs.Requests.{from_base, place_of, request, with_entries};
+
+use daq_store::command::{self, Command};
+use xcp_base::ErrCode;
+use xcp_base::limits::MAX_IMAGE_LEN;
+
+/// A command with its fields, in the order of its packet and without the reserved bytes.
+#[derive(Clone, Copy, Debug, PartialEq, Eq)]
+pub enum Request {
+    /// CONNECT.
+    Connect { mode: u8 },
+    /// DISCONNECT.
+    Disconnect,
+    /// GET_STATUS.
+    GetStatus,
+    /// SYNCH.
+    Synch,
+    /// GET_COMM_MODE_INFO.
+    GetCommModeInfo,
+    /// GET_ID.
+    GetId { kind: u8 },
+    /// UPLOAD.
+    Upload { count: u8 },
+    /// GET_DAQ_LIST_MODE.
+    GetDaqListMode { list: u16 },
+    /// GET_DAQ_CLOCK.
+    GetDaqClock,
+    /// GET_DAQ_PROCESSOR_INFO.
+    GetDaqProcessorInfo,
+    /// GET_DAQ_RESOLUTION_INFO.
+    GetDaqResolutionInfo,
+    /// GET_DAQ_LIST_INFO.
+    GetDaqListInfo { list: u16 },
+    /// GET_DAQ_EVENT_INFO.
+    GetDaqEventInfo { channel: u16 },
+    /// WRITE_DAQ_MULTIPLE: so many entries, which stand in the packet.
+    WriteDaqMultiple { count: u8 },
+    /// One of the commands that set DAQ lists; an address in it is a place in the image.
+    Lists(Command),
+}
+
+/// Reads the request of a packet, of any bytes, for an image that begins at this address. A longer
+/// packet is accepted and its surplus ignored; a reserved byte may have any value (own).
+///
+/// Refused in this order (own): ERR_CMD_SYNTAX for an empty packet, ERR_CMD_UNKNOWN for the code of
+/// no command, ERR_CMD_SYNTAX for a packet that is too short for its command.
+pub fn read(packet: &[u8], base: u32) -> Result<Request, ErrCode>
+    ensures { result ≡ request base packet.now }
+{
+    match packet {
+        [0xFF, mode, ..] => Ok(Request::Connect { mode: *mode }),
+        [0xFE, ..] => Ok(Request::Disconnect),
+        [0xFD, ..] => Ok(Request::GetStatus),
+        [0xFC, ..] => Ok(Request::Synch),
+        [0xFB, ..] => Ok(Request::GetCommModeInfo),
+        [0xFA, kind, ..] => Ok(Request::GetId { kind: *kind }),
+        [0xF5, count, ..] => Ok(Request::Upload { count: *count }),
+        [0xE3, _, a, b, ..] => Ok(Request::Lists(Command::ClearDaqList { list: word(a, b) })),
+        [0xDF, _, a, b, ..] => Ok(Request::GetDaqListMode { list: word(a, b) }),
+        [0xDC, ..] => Ok(Request::GetDaqClock),
+        [0xDB, ..] => Ok(Request::Lists(Command::ReadDaq)),
+        [0xDA, ..] => Ok(Request::GetDaqProcessorInfo),
+        [0xD9, ..] => Ok(Request::GetDaqResolutionInfo),
+        [0xD8, _, a, b, ..] => Ok(Request::GetDaqListInfo { list: word(a, b) }),
+        [0xD7, _, a, b, ..] => Ok(Request::GetDaqEventInfo {
+            channel: word(a, b),
+        }),
+        [0xC7, count, entries @ ..] => multiple(*count, entries),
+        [] | [0xFF | 0xFA | 0xF5 | 0xE3 | 0xDF | 0xD7..=0xD8 | 0xC7, ..] => Err(ErrCode::CmdSyntax),
+        _ => Ok(Request::Lists(from_base(command::read(packet)?, base))),
+    }
+}
+
+/// A command with the place in the image in the place of an address.
+fn from_base(command: Command, base: u32) -> Command
+    ensures { result ≡ from_base base command }
+{
+    match command {
+        Command::WriteDaq {
+            bit,
+            size,
+            ext,
+            addr,
+        } => Command::WriteDaq {
+            bit,
+            size,
+            ext,
+            addr: place_of(addr, base),
+        },
+        _ => command,
+    }
+}
+
+/// The place of an address in an image that begins at `base`; of one below it a place that no image
+/// has.
+pub fn place_of(addr: u32, base: u32) -> u32
+    ensures { result ≡ place_of base addr }
+{
+    if addr < base {
+        return MAX_IMAGE_LEN as u32;
+    }
+    addr - base
+}
+
+/// The WORD that stands in two bytes.
+fn word(low: &u8, high: &u8) -> u16
+    ensures { result ≡ word low.now high.now }
+{
+    u16::from_le_bytes([*low, *high])
+}
+
+/// WRITE_DAQ_MULTIPLE of so many entries, and the bytes of them.
+fn multiple(count: u8, entries: &[u8]) -> Result<Request, ErrCode>
+    ensures { result ≡ with_entries (count ∷ entries.now) }
+{
+    if is_bad_entry_count(count) {
+        return Err(ErrCode::OutOfRange);
+    }
+    if entries.len() < 8 * count as usize {
+        return Err(ErrCode::CmdSyntax);
+    }
+    Ok(Request::WriteDaqMultiple { count })
+}
+
+/// Whether WRITE_DAQ_MULTIPLE has no entry, or too many.
+fn is_bad_entry_count(count: u8) -> bool
+    ensures { result ≡ (count == 0 || nat_lt 7 count) }
+{
+    count == 0 || count > 7
+}
