@@ -170,6 +170,13 @@ module _ (begun : WriterState) (a b : TransmitterState) (ps : List (ℕ × Item)
   took_in_all true (Err Closed, drains) few = absurd (let was = drains.0 in let same = ap (λ (t : TransmitterState). t.writer.closed) drains.1 in cc)
   took_in_all true (Err Spent, drains) few = absurd (let f = few refl in omega (arith, f, drains.2))
 
+-- of a drain that came to its end nothing is left
+received_all : (a b : TransmitterState) (sent : List (List Item)) → b.hand ≡ None → b.writer.closed ≡ false → b.taken < MAX_TAKEN → WasDrained true sent a b → (c : ℕ) → of_ring b.received c ≡ of_ring sent c
+received_all a b sent hand is_open few (Ok u, drains) = drains.2
+received_all a b sent hand is_open few (Err Failed, drains) = absurd (let some = drains.1.hand in cc)
+received_all a b sent hand is_open few (Err Closed, drains) = absurd (let was = drains.0 in let same = ap (λ (t : TransmitterState). t.writer.closed) drains.1 in cc)
+received_all a b sent hand is_open few (Err Spent, drains) = absurd (omega (arith, few, drains.2))
+
 more_same : (drain : Bool) (received others sent again : ℕ → List Item) (xs ys : List (ℕ × Item)) → ((c : ℕ) → received c ≡ others c) → ((c : ℕ) → sent c ≡ again c)
     → DrainedOf drain received sent xs → DrainedOf drain others again ys → xs ≡ ys
 more_same true received others sent again xs ys one two a b = empties_same received others sent again xs ys one two append_cancel_left a b
@@ -197,7 +204,7 @@ module _ (run : RunData) (limits : HasLimits run) (o : RunOutcome run) (good : I
   calm_at_last : Rose o.comes_to.has_run.writer.out closing.closed.last.writer.out → ⊥
   calm_at_last rose = false≢true (sym good ∙ closing.closed.headline.settled.written.rose.1 rose)
 
-  hand_empty : closing.closed.last.hand ≡ None
+  pub hand_empty : closing.closed.last.hand ≡ None
   hand_empty = (all_written o.comes_to.has_run.writer closing.closed.last _ closing.closed.taken calm_at_last).0
 
   open_at_last : closing.closed.last.writer.closed ≡ false
@@ -237,6 +244,15 @@ module _ (run : RunData) (limits : HasLimits run) (o : RunOutcome run) (good : I
       let before = few_before in
       few_at_last closing.ends (past_of o) (omega (arith, many, eight)) closing.sent few_each o.comes_to.has_run.transmitter closing.closed.last (omega (arith, before))
       (subst (λ d. WasDrained d (sent_by closing.ends) o.comes_to.has_run.transmitter closing.closed.last) wanted closing.closed.drained)
+
+  -- after a drain all was received
+  pub all_received : run.drain ≡ true → (c : ℕ) → c < run.channels → of_ring closing.closed.last.received c ≡ sent_in (past_of o c)
+  all_received wanted c within =
+      let many = closing.as_many in
+      let e = sampler_at closing.ends c (omega (arith, within, many)) in
+      let drained = subst (λ d. WasDrained d (sent_by closing.ends) o.comes_to.has_run.transmitter closing.closed.last) wanted closing.closed.drained in
+      received_all o.comes_to.has_run.transmitter closing.closed.last (sent_by closing.ends) hand_empty open_at_last (few_in_all wanted) drained c
+      ∙ (sent_at closing.ends c e.0 e.1 ∙ closing.sent c e.0 e.1)
 
   in_all : TookInAll run.drain o.comes_to.has_run.writer closing.closed.last (taken_in o.comes_to.has_run.done) (of_ring (sent_by closing.ends))
   in_all =

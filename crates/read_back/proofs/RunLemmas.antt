@@ -14,6 +14,7 @@ use Rattle.daq_store.specs.Standing.{HasChannel, IsStore, StoreState, conf_of}
 use Rattle.frame_writer.specs.Frame.{text}
 use Rattle.frame_writer.specs.Shown.{OutState}
 use Rattle.frame_writer.proofs.TextLemmas.{text-mod}
+use Rattle.run_file.specs.Limits.{HasLimits}
 use Rattle.run_file.specs.RunFile.{RunData}
 use Rattle.sampler.specs.History.{Event, Trigger, is_trigger}
 use Rattle.sampler.specs.Past.{Past}
@@ -26,7 +27,7 @@ use Rattle.daq_steps.specs.declared.cause.Cause.TheVariants.{Trigger as OfTrigge
 use Rattle.daq_steps.specs.Answers.{Answered, accepted, until}
 use Rattle.daq_run.specs.Alike.{RunOutcome, past_of, told_in}
 use Rattle.daq_run.specs.SetUps.{replies_of}
-use Rattle.daq_run.proofs.AlikeLemmas.{store_same}
+use Rattle.daq_run.proofs.AlikeLemmas.{all_received, hand_empty, store_same}
 use Rattle.read_back.specs.Accepted.{HasImages}
 use Rattle.read_back.specs.Laws.{IsReadBack}
 use Rattle.read_back.specs.Plans.{AreAllPlans, plans_in}
@@ -65,7 +66,7 @@ right_image image_len past image none = elim (eqb_tells (length image) image_len
   | inr w ↦ absurd (let wrong = ap (λ (b : Bool). option_map OfTrigger (if b then (if nat_eq (count_by is_trigger past.history) MAX_TRIGGERS then Some Spent else None) else Some WrongImage)) w.0 in cc)
 ]
 
-module _ (run : RunData) (o : RunOutcome run) where
+module _ (run : RunData) (limits : HasLimits run) (o : RunOutcome run) where
   abbrev own : StoreState
   own = o.comes_to.has_run.has_pasts.store
 
@@ -134,11 +135,12 @@ module _ (run : RunData) (o : RunOutcome run) where
           of_lists = b.read.of_lists;
           first = b.read.first;
         };
+        all_given = λ wanted good i c k plan at within there. b.all_given i c k plan at within there (all_received run limits o good wanted c within) (hand_empty run limits o good);
         none_behind = b.none_behind;
         torn = λ failed. torn_at (w.counter + length r.packets) (n + length r.packets) o.comes_to.closed.closed.last.hand b.behind (omega (arith, counter)) (b.torn failed);
       }
 
-pub written_run_is_read_back : WrittenRunIsReadBack
-written_run_is_read_back run o store stands =
+pub written_run_is_read_back : (run : RunData) → HasLimits run → WrittenRunIsReadBack run
+written_run_is_read_back run limits o store stands =
     let p = o.comes_to.has_run.has_pasts in
-    subst (IsRunReadBack run o) (store_same run run.setup p.store store p.set_up.store stands) (run_is_read_back run o)
+    subst (IsRunReadBack run o) (store_same run run.setup p.store store p.set_up.store stands) (run_is_read_back run limits o)

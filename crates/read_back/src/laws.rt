@@ -4,6 +4,7 @@ ghost use Rattle.read_back.specs.Plans.{HasAllPlans};
 ghost use Rattle.read_back.specs.Runs.{WrittenRunIsReadBack};
 
 use daq_store::Store;
+use run_file::Run;
 
 /// What an engine wrote is a recording of the first samples that its event channels accepted.
 ///
@@ -33,8 +34,10 @@ pub fn ready_lists_are_all(store: &Store)
 /// and from the counter behind the replies.
 ///
 /// So `daq_reader::read`, begun there with these lists, gives back of each of them just the first
-/// samples that its event channel accepted. It holds where the writer failed too, as far as the
-/// frames go that were written whole.
-pub fn what_a_run_wrote_is_read_back()
-    ensures { WrittenRunIsReadBack }
-{}
+/// samples that its event channel accepted, and all of them after a drain at which the writer
+/// didn't fail. Where it failed, it holds as far as the frames go that were written whole.
+pub fn what_a_run_wrote_is_read_back(run: &Run)
+    ensures { WrittenRunIsReadBack run.now }
+{
+    let _ = run.ring();
+}
