@@ -35,8 +35,8 @@ pub record IsRecordingOfFirst (n : ℕ) (past : ℕ → Past) (plans : List List
 
 -- what a frame writer's bytes gained since `start` is such a recording, for a reader who awaits the
 -- counter that was next at `start`: of a channel all of whose items were received, while no sample
--- is in hand, it has all that was accepted. What follows it is nothing, or, where the writer failed
--- or stalled, a proper prefix of the frames that the sample in hand would have had there
+-- is in hand, it has all that was accepted. What follows it is nothing, or, if the writer failed or
+-- stalled, a proper prefix of the frames that the sample in hand would have had there
 pub record IsReadBack (n : ℕ) (past : ℕ → Past) (plans : List ListPlan) (start : WriterState)
     (t : TransmitterState) (failed : Bool)
     : Type 0 where

@@ -24,8 +24,8 @@ use Rattle.read_back.specs.Plans.{plans_in}
 -- last: what its writer took since it began are the frames of the replies, and behind them a
 -- recording of samples of the ready lists of this store, for a reader who awaits the counter behind
 -- the replies; of each list the first that its channel accepted, and all of them after a drain at
--- which the writer didn't fail. What follows it is nothing, or, where the writer failed or stalled,
--- a proper prefix of the frames that the sample in hand would have had there
+-- which the writer didn't fail. What follows it is nothing, or, if the writer failed or stalled, a
+-- proper prefix of the frames that the sample in hand would have had there
 pub record IsRunReadBack (run : RunData) (before after : OutState) (report : Report)
     (past : ℕ → Past) (last : TransmitterState) (store : StoreState)
     : Type 0 where

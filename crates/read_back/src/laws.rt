@@ -34,7 +34,7 @@ pub fn ready_lists_are_all(store: &Store)
 ///
 /// So `daq_reader::read`, begun there with these lists, gives back of each of them just the first
 /// samples that its event channel accepted, and all of them after a drain at which the writer
-/// didn't fail. Where it failed, it holds as far as the frames go that were written whole.
+/// didn't fail. If it failed, this holds as far as the frames go that were written whole.
 pub fn what_a_run_wrote_is_read_back()
     ensures in_one_thread { WrittenRunIsReadBack }
     ensures in_threads { WrittenInThreadsIsReadBack }
