@@ -1,5 +1,5 @@
 -- Two outcomes of one run whose rings refused the same offers are the same.
-use Rattle.std.proofs.Common.{◌≡◌, ◌≢◌, ℕ, zero, suc, ◌+◌, ◌*◌, ◌%◌, ◌<◌, ◌≤◌, inl, inr, All, Any, Bool, true, false, ◌&&◌, List, [], ◌∷◌, ◌++◌, length, map, refl, sym, ap, ap₂, subst, ◌∙◌, arith, append_assoc, append-nil, nat_eq}
+use Rattle.std.proofs.Common.{◌≡◌, ◌≢◌, ℕ, zero, suc, ◌+◌, ◌%◌, ◌<◌, inl, inr, All, Any, Bool, true, false, ◌&&◌, List, [], ◌∷◌, ◌++◌, length, map, refl, sym, ap, ap₂, subst, ◌∙◌, arith, append_assoc, append-nil, nat_eq}
 use Rattle.std.specs.Prelude.{Option, None, Some, Ok, Err, count_by, slice_get}
 use Rattle.std.specs.Int.{bit_at}
 use Rattle.std.proofs.lemmas.Bool.{false≢true}
@@ -7,7 +7,6 @@ use Rattle.std.proofs.lemmas.Bool.Decides.{leb_tells, nat_tests}
 use Rattle.std.proofs.lemmas.List.{append_cancel_left, length-map}
 use Rattle.std.proofs.lemmas.List.Elements.{All-head, All-tail}
 use Rattle.std.proofs.lemmas.Nat.Bits.{same_from_bits}
-use Rattle.std.proofs.Math.Nat.{mul-le-mul_left, mul-le-mul_right}
 use Rattle.xcp_base.specs.Lists.{has_list}
 use Rattle.xcp_base.specs.Samples.{SampleParts}
 use Rattle.xcp_base.specs.declared.item.Item.{Item}
@@ -37,6 +36,7 @@ use Rattle.daq_engine.specs.Closed.{WasDrained}
 use Rattle.daq_engine.specs.Frames.{packets_of_frames}
 use Rattle.daq_engine.specs.Openings.{IsOpeningOf}
 use Rattle.daq_engine.specs.declared.report.ListReport.{ListReport}
+use Rattle.daq_engine.specs.declared.report.Report.{Report}
 use Rattle.daq_engine.proofs.EndLemmas.{sent_at}
 use Rattle.daq_steps.specs.declared.cause.Cause.{Cause}
 use Rattle.daq_steps.specs.declared.cause.Cause.TheVariants.{Start as OfStart, Stop as OfStop, Trigger as OfTrigger}
@@ -46,15 +46,13 @@ use Rattle.daq_steps.specs.Runs.{AreDone, Done, IsStepOf, is_refused, sent_in, t
 use Rattle.daq_steps.specs.Steps.{asked_of, run_step}
 use Rattle.daq_steps.proofs.AskLemmas.{sampler_at}
 use Rattle.daq_steps.proofs.LawLemmas.{refusals_decide}
-use Rattle.daq_steps.proofs.StepLemmas.{few_taken}
 use Rattle.daq_run.specs.Alike.{AmpleRunsAreSame, AreSame, IsWritten, RefuseAlike, RefusalsDecideRuns, RingsHoldAll, RunOutcome, past_of, told_in}
 use Rattle.daq_run.specs.Ample.{DropsNothing, ample_past}
 use Rattle.daq_run.specs.Runs.{IsClosed, setting_of}
 use Rattle.daq_run.specs.SetUps.{IsStoreAfter, profile_of, replies_of}
 use Rattle.daq_run.proofs.AmpleLemmas.{ample}
-use Rattle.daq_run.proofs.DrainLemmas.{few_at_last, none_beyond}
+use Rattle.daq_run.proofs.DrainLemmas.{none_beyond}
 use Rattle.daq_run.proofs.DrainedLemmas.{Empties, empties_same}
-use Rattle.daq_run.proofs.ItemLemmas.{few_sent}
 use Rattle.daq_run.proofs.SameLines.{IsIn, line_there, same_lines}
 
 -- the store after some packets is determined
@@ -170,6 +168,13 @@ module _ (begun : WriterState) (a b : TransmitterState) (ps : List (ℕ × Item)
   took_in_all true (Err Closed, drains) few = absurd (let was = drains.0 in let same = ap (λ (t : TransmitterState). t.writer.closed) drains.1 in cc)
   took_in_all true (Err Spent, drains) few = absurd (let f = few refl in omega (arith, f, drains.2))
 
+-- of a drain that came to its end nothing is left
+received_all : (a b : TransmitterState) (sent : List (List Item)) → b.hand ≡ None → b.writer.closed ≡ false → b.taken < MAX_TAKEN → WasDrained true sent a b → (c : ℕ) → of_ring b.received c ≡ of_ring sent c
+received_all a b sent hand is_open few (Ok u, drains) = drains.2
+received_all a b sent hand is_open few (Err Failed, drains) = absurd (let some = drains.1.hand in cc)
+received_all a b sent hand is_open few (Err Closed, drains) = absurd (let was = drains.0 in let same = ap (λ (t : TransmitterState). t.writer.closed) drains.1 in cc)
+received_all a b sent hand is_open few (Err Spent, drains) = absurd (omega (arith, few, drains.2))
+
 more_same : (drain : Bool) (received others sent again : ℕ → List Item) (xs ys : List (ℕ × Item)) → ((c : ℕ) → received c ≡ others c) → ((c : ℕ) → sent c ≡ again c)
     → DrainedOf drain received sent xs → DrainedOf drain others again ys → xs ≡ ys
 more_same true received others sent again xs ys one two a b = empties_same received others sent again xs ys one two append_cancel_left a b
@@ -189,59 +194,53 @@ sent_alike n xs ys past other many again sent sends same c = elim (leb_tells n c
       sent_at xs c x.0 x.1 ∙ (sent c x.0 x.1 ∙ (ap sent_in (same c (omega (arith, w.1))) ∙ sym (sent_at ys c y.0 y.1 ∙ sends c y.0 y.1))))
 ]
 
+-- an engine of a run that was closed, at which the writer didn't fail
+module _ (run : RunData) (writer : WriterState) (past : ℕ → Past) (taken : List (ℕ × Item)) (t : TransmitterState) (report : Report) (after : OutState)
+    (closing : IsClosed run writer past taken t report after) (good : report.failed ≡ false) where
+  calm_at_last : Rose writer.out closing.closed.last.writer.out → ⊥
+  calm_at_last rose = false≢true (sym good ∙ closing.closed.headline.settled.written.rose.1 rose)
+
+  pub hand_empty : closing.closed.last.hand ≡ None
+  hand_empty = (all_written writer closing.closed.last _ closing.closed.taken calm_at_last).0
+
+  open_at_last : closing.closed.last.writer.closed ≡ false
+  open_at_last = still_open writer closing.closed.last _ closing.closed.taken calm_at_last
+
+  -- after a drain all was received
+  pub all_received : run.drain ≡ true → (c : ℕ) → c < run.channels → of_ring closing.closed.last.received c ≡ sent_in (past c)
+  all_received wanted c within =
+      let many = closing.as_many in
+      let e = sampler_at closing.ends c (omega (arith, within, many)) in
+      let drained = subst (λ d. WasDrained d (sent_by closing.ends) t closing.closed.last) wanted closing.closed.drained in
+      received_all t closing.closed.last (sent_by closing.ends) hand_empty open_at_last (closing.few_taken wanted) drained c
+      ∙ (sent_at closing.ends c e.0 e.1 ∙ closing.sent c e.0 e.1)
+
 -- an outcome whose writer didn't fail
-module _ (run : RunData) (limits : HasLimits run) (o : RunOutcome run) (good : IsWritten o) where
+module _ (run : RunData) (o : RunOutcome run) (good : IsWritten o) where
   abbrev closing : IsClosed run o.comes_to.has_run.writer o.comes_to.has_run.past (taken_in o.comes_to.has_run.done) o.comes_to.has_run.transmitter o.report o.after
   closing = o.comes_to.closed
 
-  calm_at_last : Rose o.comes_to.has_run.writer.out closing.closed.last.writer.out → ⊥
-  calm_at_last rose = false≢true (sym good ∙ closing.closed.headline.settled.written.rose.1 rose)
+  calm : Rose o.comes_to.has_run.writer.out closing.closed.last.writer.out → ⊥
+  calm = calm_at_last run o.comes_to.has_run.writer (past_of o) (taken_in o.comes_to.has_run.done) o.comes_to.has_run.transmitter o.report o.after closing good
 
-  hand_empty : closing.closed.last.hand ≡ None
-  hand_empty = (all_written o.comes_to.has_run.writer closing.closed.last _ closing.closed.taken calm_at_last).0
+  no_hand : closing.closed.last.hand ≡ None
+  no_hand = hand_empty run o.comes_to.has_run.writer (past_of o) (taken_in o.comes_to.has_run.done) o.comes_to.has_run.transmitter o.report o.after closing good
 
-  open_at_last : closing.closed.last.writer.closed ≡ false
-  open_at_last = still_open o.comes_to.has_run.writer closing.closed.last _ closing.closed.taken calm_at_last
+  last_open : closing.closed.last.writer.closed ≡ false
+  last_open = open_at_last run o.comes_to.has_run.writer (past_of o) (taken_in o.comes_to.has_run.done) o.comes_to.has_run.transmitter o.report o.after closing good
 
   open_at_steps : o.comes_to.has_run.transmitter.writer.closed ≡ false
   open_at_steps =
-      open_before o.comes_to.has_run.writer o.comes_to.has_run.transmitter closing.closed.last (taken_in o.comes_to.has_run.done) (sent_by closing.ends) o.comes_to.has_run.taken hand_empty open_at_last run.drain
+      open_before o.comes_to.has_run.writer o.comes_to.has_run.transmitter closing.closed.last (taken_in o.comes_to.has_run.done) (sent_by closing.ends) o.comes_to.has_run.taken no_hand last_open run.drain
       closing.closed.drained
 
   done_open : AreDone run.channels (setting_of run) (map run_step run.steps) false (past_of o) o.comes_to.has_run.done
   done_open = subst (λ f. AreDone run.channels (setting_of run) (map run_step run.steps) f (past_of o) o.comes_to.has_run.done) open_at_steps o.comes_to.has_run.are_done
 
-  -- few items were sent and taken
-  few_each : (c : ℕ) → c < length closing.ends → length (sent_in (past_of o c)) ≤ 16000000
-  few_each c at =
-      let many = closing.as_many in
-      let within : c < run.channels = omega (arith, at, many) in
-      let steps = length-map run.steps run_step in
-      let l = limits.steps in
-      let h = o.comes_to.has_run in
-      few_sent (setting_of run c) c (map run_step run.steps) (told_in o c) (past_of o c) h.has_pasts.store (h.are_done.answered c within) (h.has_pasts.openings c within) h.has_pasts.keeps.lists (omega (arith, steps, l))
-
-  few_before : o.comes_to.has_run.transmitter.taken ≤ 8000000
-  few_before =
-      let h = o.comes_to.has_run in
-      let taken = few_taken run.channels (setting_of run) (map run_step run.steps) h.transmitter.writer.closed (past_of o) h.done h.are_done in
-      let rows = mul-le-mul_right (length run.steps) limits.channels in
-      let columns = mul-le-mul_left 8 limits.steps in
-      let one : run.channels * length (map run_step run.steps) ≡ run.channels * length run.steps = ap (λ n. run.channels * n) (length-map run.steps run_step) in
-      omega (arith, h.taken.taken, taken, one, rows, columns)
-
-  few_in_all : run.drain ≡ true → closing.closed.last.taken < MAX_TAKEN
-  few_in_all wanted =
-      let many = closing.as_many in
-      let eight = limits.channels in
-      let before = few_before in
-      few_at_last closing.ends (past_of o) (omega (arith, many, eight)) closing.sent few_each o.comes_to.has_run.transmitter closing.closed.last (omega (arith, before))
-      (subst (λ d. WasDrained d (sent_by closing.ends) o.comes_to.has_run.transmitter closing.closed.last) wanted closing.closed.drained)
-
   in_all : TookInAll run.drain o.comes_to.has_run.writer closing.closed.last (taken_in o.comes_to.has_run.done) (of_ring (sent_by closing.ends))
   in_all =
-      took_in_all o.comes_to.has_run.writer o.comes_to.has_run.transmitter closing.closed.last (taken_in o.comes_to.has_run.done) (sent_by closing.ends) o.comes_to.has_run.taken hand_empty open_at_last run.drain
-      closing.closed.drained few_in_all
+      took_in_all o.comes_to.has_run.writer o.comes_to.has_run.transmitter closing.closed.last (taken_in o.comes_to.has_run.done) (sent_by closing.ends) o.comes_to.has_run.taken no_hand last_open run.drain
+      closing.closed.drained closing.few_taken
 
   -- all items taken
   abbrev everything : List (ℕ × Item)
@@ -254,7 +253,7 @@ module _ (run : RunData) (limits : HasLimits run) (o : RunOutcome run) (good : I
       let replies = replies_of run in
       let qs = packets_of (samples (items_taken everything)) in
       let replied = o.comes_to.has_run.has_pasts.set_up.replied in
-      let sent = (all_written w closing.closed.last everything in_all.taken calm_at_last).1 in
+      let sent = (all_written w closing.closed.last everything in_all.taken calm).1 in
       let number : w.counter % 65536 ≡ (0 + length replies) % 65536 = replied.counter in
       let joined : text 0 (replies ++ qs) ≡ text 0 replies ++ text w.counter qs = text-append 0 replies qs ∙ ap (λ t. text 0 replies ++ t) (sym (text-mod w.counter (0 + length replies) qs number)) in
       sym closing.closed.written
@@ -272,7 +271,7 @@ module _ (run : RunData) (limits : HasLimits run) (o : RunOutcome run) (good : I
       let found = closing.closed.headline.account.each c i e.0 plan e.1 at in
       let own = subst (λ xs. IsLineOf (past_of o c) plan frames xs (of_ring closing.closed.last.received c) closing.closed.last.hand found.1) (closing.sent c e.0 e.1) found.4 in
       let taken = subst (λ xs. IsLineOf (past_of o c) plan frames (sent_in (past_of o c)) xs closing.closed.last.hand found.1) (sym (in_all.taken.merge.each c)) own in
-      (found.0, found.1, found.2, found.3, subst (λ h. IsLineOf (past_of o c) plan frames (sent_in (past_of o c)) (taken_from c everything) h found.1) hand_empty taken)
+      (found.0, found.1, found.2, found.3, subst (λ h. IsLineOf (past_of o c) plan frames (sent_in (past_of o c)) (taken_from c everything) h found.1) no_hand taken)
 
 module _ (run : RunData) (limits : HasLimits run) where
   -- the openings of two outcomes are the same
@@ -284,7 +283,7 @@ module _ (run : RunData) (limits : HasLimits run) where
       opening_same q.store c (past_of a c).opening (past_of b c).opening (subst (λ s. IsOpeningOf s c (past_of a c).opening) same (p.openings c within)) (q.openings c within)
 
   -- the lines of the one are lines of the other
-  lines_among : (a b : RunOutcome run) (good : IsWritten a) (fine : IsWritten b) → ((c : ℕ) → c < run.channels → past_of a c ≡ past_of b c) → everything run limits a good ≡ everything run limits b fine
+  lines_among : (a b : RunOutcome run) (good : IsWritten a) (fine : IsWritten b) → ((c : ℕ) → c < run.channels → past_of a c ≡ past_of b c) → everything run a good ≡ everything run b fine
       → (x : ListReport) → IsIn x a.report.lists.items → IsIn x b.report.lists.items
   lines_among a b good fine pasts same x is =
       let h = a.comes_to.closed.closed.headline.account in
@@ -292,25 +291,25 @@ module _ (run : RunData) (limits : HasLimits run) where
       let qs = packets_of_frames a.comes_to.closed.closed.headline.frames in
       let rs = packets_of_frames b.comes_to.closed.closed.headline.frames in
       let sent : ℕ → List Item = λ c. sent_in (past_of a c) in
-      let received : ℕ → List Item = λ c. taken_from c (everything run limits a good) in
+      let received : ℕ → List Item = λ c. taken_from c (everything run a good) in
       let no_other = subst (λ n. All (IsLineOfSome n (past_of a)) a.report.lists.items) a.comes_to.closed.as_many h.no_other in
       let all : (c i : ℕ) (plan : ListPlan) → c < run.channels → slice_get (past_of b c).opening.plans i ≡ Some plan → Any (IsLineOf (past_of b c) plan rs (sent c) (received c) None) b.report.lists.items =
       λ c i plan within at.
       subst (λ ps. Any (IsLineOf (past_of b c) plan rs (sent_in (past_of a c)) (taken_from c ps) None) b.report.lists.items) (sym same)
-      (subst (λ (p : Past). Any (IsLineOf (past_of b c) plan rs (sent_in p) (taken_from c (everything run limits b fine)) None) b.report.lists.items) (sym (pasts c within)) (line_of run limits b fine c i plan within at)) in
-      line_there run.channels (past_of a) (past_of b) pasts a.report.lists.items b.report.lists.items qs rs sent received None h.rising k.rising no_other (line_of run limits a good) all x is
+      (subst (λ (p : Past). Any (IsLineOf (past_of b c) plan rs (sent_in p) (taken_from c (everything run b fine)) None) b.report.lists.items) (sym (pasts c within)) (line_of run b fine c i plan within at)) in
+      line_there run.channels (past_of a) (past_of b) pasts a.report.lists.items b.report.lists.items qs rs sent received None h.rising k.rising no_other (line_of run a good) all x is
 
   module _ (a b : RunOutcome run) (good : IsWritten a) (fine : IsWritten b) (alike : RefuseAlike a b) where
     decided : (a.comes_to.has_run.done ≡ b.comes_to.has_run.done) × ((c : ℕ) → c < run.channels → past_of a c ≡ past_of b c)
     decided =
         refusals_decide run.channels (setting_of run) (map run_step run.steps) (past_of a) (past_of b) a.comes_to.has_run.done b.comes_to.has_run.done (of_channels run.channels run.steps limits.each_step)
-        (done_open run limits a good) (done_open run limits b fine) (openings_alike a b) alike
+        (done_open run a good) (done_open run b fine) (openings_alike a b) alike
 
-    taken_alike : everything run limits a good ≡ everything run limits b fine
+    taken_alike : everything run a good ≡ everything run b fine
     taken_alike =
         let steps : taken_in a.comes_to.has_run.done ≡ taken_in b.comes_to.has_run.done = ap taken_in decided.0 in
-        let x = in_all run limits a good in
-        let y = in_all run limits b fine in
+        let x = in_all run a good in
+        let y = in_all run b fine in
         let p = a.comes_to.closed in
         let q = b.comes_to.closed in
         let more : x.more ≡ y.more =
@@ -325,9 +324,9 @@ module _ (run : RunData) (limits : HasLimits run) where
 
     pub same : AreSame a b
     same = record {
-      gained = text 0 (replies_of run ++ packets_of (samples (items_taken (everything run limits a good))));
-      first = bytes_of run limits a good;
-      second = bytes_of run limits b fine ∙ ap (λ ps. after_bytes b.before (text 0 (replies_of run ++ packets_of (samples (items_taken ps))))) (sym taken_alike);
+      gained = text 0 (replies_of run ++ packets_of (samples (items_taken (everything run a good))));
+      first = bytes_of run a good;
+      second = bytes_of run b fine ∙ ap (λ ps. after_bytes b.before (text 0 (replies_of run ++ packets_of (samples (items_taken ps))))) (sym taken_alike);
       lines = lines_alike;
       failed = good ∙ sym fine;
       refused = a.comes_to.has_run.counted ∙ (ap (λ (ds : List Done). count_by is_refused ds) decided.0 ∙ sym b.comes_to.has_run.counted);

@@ -161,6 +161,7 @@ module _ {S E : Type 0} (send : SendGhosts S E) (ring : EndGhosts E) (run : RunD
           as_many = closes.as_many ∙ as_many;
           sent = sent;
           closed = closes.closed;
+          few_taken = few_drained;
           nothing_left = λ wanted good. closes.closed.nothing_left wanted good (few_drained wanted);
         };
       }

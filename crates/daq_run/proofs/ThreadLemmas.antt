@@ -241,6 +241,7 @@ module _ {S E : Type 0} (send : SendGhosts S E) (ring : EndGhosts E) (run : RunD
           as_many = many_joined;
           sent = λ c e at. (got.stand c e at).sent;
           closed = closed;
+          few_taken = few_drained;
           nothing_left = λ wanted good. closed.nothing_left wanted good (few_drained wanted);
         };
       }

@@ -1,4 +1,4 @@
--- Two outcomes of one run: where the rings refused the same offers, they are the same (own).
+-- Two outcomes of one run: if the rings refused the same offers, they are the same (own).
 use Rattle.std.specs.Prelude.{◌≡◌, ℕ, ◌<◌, false, List, map}
 use Rattle.daq_store.specs.Standing.{StoreState}
 use Rattle.frame_writer.specs.Shown.{OutState, after_bytes}
@@ -60,7 +60,7 @@ RefusalsDecideRuns run =
     (a b : RunOutcome run) → IsWritten a → IsWritten b → RefuseAlike a b → AreSame a b
 
 -- the ring of each channel has room for all that the run's steps would have it send, from its
--- opening in the store that the set-up leaves, if nothing were refused for want of room
+-- opening in the store that the set-up leaves, if nothing were refused for lack of room
 abbrev pub RingsHoldAll : RunData → Type 0
 RingsHoldAll run =
     (store : StoreState) (c : ℕ) (opening : Opening)

@@ -2,6 +2,7 @@
 use Rattle.std.specs.Prelude.{◌≡◌, ℕ, ◌<◌, true, false, List, count_by, length, map, slice_get}
 use Rattle.std.specs.Prelude.{slice_index, Some}
 use Rattle.xcp_base.specs.declared.item.Item.{Item}
+use Rattle.xcp_base.specs.declared.limits.TheConstants.{MAX_TAKEN}
 use Rattle.byte_ring.specs.Records.{record_len}
 use Rattle.daq_store.specs.Standing.{IsStore, StoreState}
 use Rattle.frame_writer.specs.Shown.{OutState}
@@ -79,6 +80,8 @@ pub record IsClosed (run : RunData) (writer : WriterState) (past : ℕ → Past)
   pub as_many : length ends ≡ run.channels
   pub sent : (c : ℕ) (e : JoinedEnd) → slice_get ends c ≡ Some e → e.sent ≡ sent_in (past c)
   pub closed : HasClosed run.drain writer taken transmitter ends past report after
+  -- a drain doesn't come to the limit of items
+  pub few_taken : run.drain ≡ true → closed.last.taken < MAX_TAKEN
   pub nothing_left :
       run.drain ≡ true → report.failed ≡ false
       → LeavesNothing ends past report closed.headline.frames

@@ -18,7 +18,7 @@ pub fn ample_runs_are_whole()
     ensures { AmpleRunsAreWhole }
 {}
 
-/// What comes of a run in one thread, whose writer doesn't fail, is a function of the run and of
+/// If its writer doesn't fail, what comes of a run in one thread is a function of the run and of
 /// which offers its rings refused: the bytes written since it began, the account, how many steps
 /// were refused, and what each channel had behind it at last.
 pub fn refusals_decide_runs(run: &Run)
@@ -27,8 +27,8 @@ pub fn refusals_decide_runs(run: &Run)
     let _ = run.ring();
 }
 
-/// Where each ring holds all items that its channel's steps would give if none were refused for
-/// want of room, it is a function of the run alone.
+/// If each ring holds all items that its channel's steps would give, were none refused for lack of
+/// room, it is a function of the run alone.
 pub fn ample_runs_are_same(run: &Run)
     ensures { AmpleRunsAreSame run.now }
 {

@@ -30,9 +30,9 @@ pub record RefusesAlike (told : List Answered) (past : Past) (again : List Answe
   pub samples : past.decisions ≡ other.decisions
   pub markers : markers_refused told ≡ markers_refused again
 
--- where the same steps over n channels were done twice, from the same openings, the rings refused
--- the same offers, and the writer didn't fail, the same was done: each step was answered alike, and
--- the same items were taken in the same order; and each channel came to the same past
+-- if the same steps over n channels were done twice, from the same openings, the rings refused the
+-- same offers, and the writer didn't fail, then the same was done: each step was answered alike,
+-- and the same items were taken in the same order; and each channel came to the same past
 abbrev pub RefusalsDecide : Type 0
 RefusalsDecide =
     (n : ℕ) (settings : ℕ → Setting) (steps : List RunStep) (past other : ℕ → Past)

@@ -16,6 +16,7 @@ use Rattle.daq_engine.specs.Configuration.{IsConfiguration}
 use Rattle.daq_engine.specs.Frames.{IsTornAt, packets_of_frames}
 use Rattle.daq_engine.specs.Headline.{Headline, KeepsChannel}
 use Rattle.daq_engine.specs.declared.report.Report.{Report}
+use Rattle.daq_engine.specs.Order.{held_of, items_of}
 use Rattle.daq_engine.proofs.OrderLemmas.{end_at}
 use Rattle.daq_engine.proofs.PidLemmas.{all-append}
 use Rattle.daq_reader.specs.Lists.{given, of_place, place_in}
@@ -137,6 +138,7 @@ module _ (start : WriterState) (t : TransmitterState) (ends : List JoinedEnd) (p
   record AreOfPlace (i : ℕ) (p : ListPlan) (rs : List Recorded) : Type 0 where
     pub whole : AreWhole p rs (of_place plans i written)
     pub first : (c k : ℕ) → c < length ends → slice_get (past c).opening.plans k ≡ Some p → IsPrefix rs (recorded_of (past c) p)
+    pub all_given : (c k : ℕ) → c < length ends → slice_get (past c).opening.plans k ≡ Some p → of_ring t.received c ≡ items_of (past c) → t.hand ≡ None → rs ≡ recorded_of (past c) p
 
   some_at : (i : ℕ) (p : ListPlan) → slice_get plans i ≡ Some p → (rs : List Recorded) × AreOfPlace i p rs
   some_at i p at =
@@ -147,6 +149,11 @@ module _ (start : WriterState) (t : TransmitterState) (ends : List JoinedEnd) (p
         record {
           whole = subst (AreWhole p l.samples) (sym (of_place-of_list plans i p written at one)) l.whole;
           first = λ c j below there. subst (λ e. IsPrefix l.samples (recorded_of (past e) p)) (conf.once w.0 c w.1 j p p w.2 below w.3 there refl).0 l.first;
+          all_given = λ c j below there received empty.
+              let own : w.0 ≡ c = (conf.once w.0 c w.1 j p p w.2 below w.3 there refl).0 in
+              let here : of_ring t.received w.0 ≡ items_of (past w.0) = subst (λ e. of_ring t.received e ≡ items_of (past e)) (sym own) received in
+              let front : k.front ≡ items_of (past w.0) = sym (append-nil k.front) ∙ (ap (λ h. k.front ++ held_of w.0 h) (sym empty) ∙ (k.order.all_received ∙ here)) in
+              subst (λ e. l.samples ≡ recorded_of (past e) p) own (l.all front);
         },
       )
 
@@ -178,6 +185,7 @@ module _ (start : WriterState) (t : TransmitterState) (ends : List JoinedEnd) (p
     behind = head.settled.written.behind;
     gained = head.settled.written.gained;
     read = is_recording;
+    all_given = λ i c k p at below there. (gathered-good AreOfPlace plans some_at i p at).all_given c k below there;
     none_behind = head.settled.written.none_behind;
     torn = λ failed. subst (λ n. IsTornAt (start.counter + n) t.hand head.settled.written.behind) (sym (length-packets_of_frames head.frames)) (head.settled.written.torn failed);
   }

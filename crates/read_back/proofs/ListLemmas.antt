@@ -5,7 +5,7 @@ use Rattle.std.specs.List.{AllByRecursion}
 use mathlib.Core.List.{IsPrefix}
 use Rattle.std.proofs.lemmas.Bool.{false≢true}
 use Rattle.std.proofs.lemmas.Bool.Decides.{eqb_tells, nat_tests}
-use Rattle.std.proofs.lemmas.List.{map-append}
+use Rattle.std.proofs.lemmas.List.{append-nil, append_cancel_left, length-map, map-append}
 use Rattle.std.proofs.lemmas.List.Elements.{All-from_recursion, filter-append}
 use Rattle.xcp_base.specs.declared.item.Item.{Item}
 use Rattle.xcp_base.specs.declared.item.Item.TheVariants.{Sample, Marker}
@@ -56,6 +56,16 @@ front_of f (x ∷ xs) (y ∷ ys) zs e =
       prefix = (more.prefix.0, ap (λ t. x ∷ t) more.prefix.1);
       same = ap (λ t. f x ∷ t) more.same ∙ ap (λ v. v ∷ ys) here;
     }
+
+-- a prefix that is as long is the whole
+as_many_front : {X : Type 0} (xs ys : List X) → IsPrefix xs ys → length xs ≡ length ys → xs ≡ ys
+as_many_front xs ys is many =
+    let none : is.0 ≡ [] = nothing is.0 (omega (arith, many, ap length is.1, length-append xs is.0)) in
+    sym (append-nil xs) ∙ (ap (λ zs. xs ++ zs) (sym none) ∙ is.1)
+  where
+    nothing : {Y : Type 0} (zs : List Y) → length zs ≡ 0 → zs ≡ []
+    nothing [] h = refl
+    nothing (z ∷ zs) h = absurd (omega (arith, h))
 
 joined : (f : Recorded → List (List ℕ)) (ss : List SampleParts) (rs : List Recorded) → map f rs ≡ each_packets ss → packets_in ss ≡ flat_map f rs
 joined f [] [] e = refl
@@ -125,11 +135,12 @@ packets_are_of plan image stamp o is =
     all-map_range (λ q. is_of plan q ≡ true) (packet plan image stamp o) 0 (length plan.odts) (λ k low high. packet_is_of plan image stamp o k is (omega (arith, high)))
 
 module _ (n : ℕ) (past : ℕ → Past) (conf : IsConfiguration n (λ c. (past c).opening)) where
-  -- the packets of one list are those of its first samples
-  pub record ListIsWhole (c : ℕ) (plan : ListPlan) (qs : List (List ℕ)) : Type 0 where
+  -- the packets of one list are those of its first samples, and of all where these are those of all items of its channel
+  pub record ListIsWhole (c : ℕ) (plan : ListPlan) (qs : List (List ℕ)) (front : List Item) : Type 0 where
     pub samples : List Recorded
     pub whole : AreWhole plan samples qs
     pub first : IsPrefix samples (recorded_of (past c) plan)
+    pub all : front ≡ items_of (past c) → samples ≡ recorded_of (past c) plan
 
   ring_prefixes : (c : ℕ) (front : List Item) → c < n → IsPrefix front (items_of (past c)) → ArePrefixes n past (from_ring c front)
   ring_prefixes c front below is = record {
@@ -162,7 +173,7 @@ module _ (n : ℕ) (past : ℕ → Past) (conf : IsConfiguration n (λ c. (past 
         ∙ ap (λ xs. packets_in (samples_of plan.list (samples xs))) (own_ring c front)
 
     -- the packets of a list of channel c are those of the first samples that the channel accepted of it
-    pub list_is_whole : (received : List Item) (hand : Option SampleParts) (qs : List (List ℕ)) (front : List Item) → HasOrder c (past c) received hand qs front → HasImages (past c) → ListIsWhole c plan (of_list plan qs)
+    pub list_is_whole : (received : List Item) (hand : Option SampleParts) (qs : List (List ℕ)) (front : List Item) → HasOrder c (past c) received hand qs front → HasImages (past c) → ListIsWhole c plan (of_list plan qs) front
     list_is_whole received hand qs front order images =
         let ready : IsPlan plan = conf.ready c k plan below at in
         let sizes : (place stamp : ℕ) (image : List ℕ) → slice_get (past c).history place ≡ Some (Trigger image stamp) → length image ≡ plan.image_len
@@ -182,6 +193,11 @@ module _ (n : ℕ) (past : ℕ → Past) (conf : IsConfiguration n (λ c. (past 
             packets = packets-list received hand qs front order ∙ joined (packets_of plan) (mine front) f.front f.same;
           };
           first = f.prefix;
+          all = λ whole.
+              let none : each_packets (mine rest) ≡ [] = ap (λ xs. each_packets (mine xs)) (append_cancel_left front rest [] (order.prefix.1 ∙ (sym whole ∙ sym (append-nil front)))) in
+              let packets : map (packets_of plan) all ≡ each_packets (mine front) =
+              accepted-items (past c) plan ready sizes beside ∙ ap each_packets parts ∙ (map-append (λ (s : SampleParts). s.packets) (mine front) (mine rest) ∙ (ap (λ ps. each_packets (mine front) ++ ps) none ∙ append-nil (each_packets (mine front)))) in
+              as_many_front f.front all f.prefix (sym (length-map f.front (packets_of plan)) ∙ (ap length (f.same ∙ sym packets) ∙ length-map all (packets_of plan)));
         }
 
   module _ (plans : List ListPlan) (all : AreAllPlans n past plans) where

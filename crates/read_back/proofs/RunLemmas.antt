@@ -1,10 +1,11 @@
 -- What a run wrote is read back.
-use Rattle.std.proofs.Common.{◌≡◌, ℕ, zero, suc, ◌+◌, ◌%◌, ◌<◌, ◌≤◌, inl, inr, Bool, List, [], ◌∷◌, ◌++◌, length, take, refl, sym, ap, subst, ◌∙◌, arith, append_assoc, nat_eq}
+use Rattle.std.proofs.Common.{◌≡◌, ℕ, zero, suc, ◌+◌, ◌%◌, ◌<◌, ◌≤◌, inl, inr, Bool, List, [], ◌∷◌, ◌++◌, length, map, take, refl, sym, ap, subst, ◌∙◌, arith, append_assoc, nat_eq}
 use Rattle.std.specs.Prelude.{IfSome, Option, None, Some, count_by, if◌then◌else◌, slice_get, unwrap_or, option_map}
 use Rattle.std.proofs.lemmas.Bool.Decides.{eqb_tells}
 use Rattle.std.proofs.lemmas.List.Elements.{All-get_or}
 use Rattle.std.proofs.lemmas.Option.{get_or_from_slice_get, same_Some}
 use Rattle.xcp_base.specs.Samples.{SampleParts}
+use Rattle.xcp_base.specs.declared.item.Item.{Item}
 use Rattle.copy_plan.specs.Config.{ListPlan}
 use Rattle.daq_store.specs.declared.mode.Mode.{Mode}
 use Rattle.daq_store.specs.declared.list_state.ListState.{ListState}
@@ -13,24 +14,29 @@ use Rattle.daq_store.specs.Configuration.{channel_of, fresh_conf}
 use Rattle.daq_store.specs.Standing.{HasChannel, IsStore, StoreState, conf_of}
 use Rattle.frame_writer.specs.Frame.{text}
 use Rattle.frame_writer.specs.Shown.{OutState}
+use Rattle.frame_writer.specs.Writing.{WriterState}
 use Rattle.frame_writer.proofs.TextLemmas.{text-mod}
 use Rattle.run_file.specs.RunFile.{RunData}
 use Rattle.sampler.specs.History.{Event, Trigger, is_trigger}
 use Rattle.sampler.specs.Past.{Past}
 use Rattle.sampler.specs.Refusals.{trigger_refusal}
 use Rattle.sampler.specs.declared.faults.TriggerFault.TheVariants.{Spent, WrongImage}
+use Rattle.transmitter.specs.Written.{TransmitterState}
 use Rattle.daq_engine.specs.Configuration.{IsConfiguration}
 use Rattle.daq_engine.specs.Frames.{IsTornAt}
 use Rattle.daq_engine.specs.Openings.{is_ready_on, list_plan}
 use Rattle.daq_steps.specs.declared.cause.Cause.TheVariants.{Trigger as OfTrigger}
-use Rattle.daq_steps.specs.Answers.{Answered, accepted, until}
-use Rattle.daq_run.specs.Alike.{RunOutcome, past_of, told_in}
-use Rattle.daq_run.specs.SetUps.{replies_of}
-use Rattle.daq_run.proofs.AlikeLemmas.{store_same}
+use Rattle.daq_engine.specs.declared.report.Report.{Report}
+use Rattle.daq_steps.specs.Runs.{taken_in, told_of}
+use Rattle.daq_steps.specs.Steps.{asked_of, run_step}
+use Rattle.daq_steps.specs.Answers.{Answered, AreAnswered, accepted, until}
+use Rattle.daq_run.specs.Runs.{HasPasts, IsClosed, setting_of}
+use Rattle.daq_run.specs.SetUps.{IsStoreAfter, replies_of}
+use Rattle.daq_run.proofs.AlikeLemmas.{all_received, hand_empty, store_same}
 use Rattle.read_back.specs.Accepted.{HasImages}
 use Rattle.read_back.specs.Laws.{IsReadBack}
 use Rattle.read_back.specs.Plans.{AreAllPlans, plans_in}
-use Rattle.read_back.specs.Runs.{IsRunReadBack, WrittenRunIsReadBack}
+use Rattle.read_back.specs.Runs.{IsRunReadBack, WrittenInThreadsIsReadBack, WrittenRunIsReadBack}
 use Rattle.read_back.proofs.JoinLemmas.{written_is_read_back}
 use Rattle.read_back.proofs.StoreLemmas.{all_plans, found}
 
@@ -65,41 +71,39 @@ right_image image_len past image none = elim (eqb_tells (length image) image_len
   | inr w ↦ absurd (let wrong = ap (λ (b : Bool). option_map OfTrigger (if b then (if nat_eq (count_by is_trigger past.history) MAX_TRIGGERS then Some Spent else None) else Some WrongImage)) w.0 in cc)
 ]
 
-module _ (run : RunData) (o : RunOutcome run) where
-  abbrev own : StoreState
-  own = o.comes_to.has_run.has_pasts.store
-
-  plan_len : (c i : ℕ) (plan : ListPlan) → c < run.channels → slice_get (past_of o c).opening.plans i ≡ Some plan → plan.image_len ≡ run.image_len
+-- a run that was set up, whose channels came to these pasts by such answers, and that was closed
+module _ (run : RunData) (before after : OutState) (writer : WriterState) (past : ℕ → Past) (told : ℕ → List Answered) (taken : List (ℕ × Item)) (t : TransmitterState) (report : Report)
+    (has : HasPasts run before writer past)
+    (answered : (c : ℕ) → c < run.channels → AreAnswered (setting_of run c) (asked_of c (map run_step run.steps)) (told c) (past c))
+    (closed : IsClosed run writer past taken t report after) where
+  plan_len : (c i : ℕ) (plan : ListPlan) → c < run.channels → slice_get (past c).opening.plans i ≡ Some plan → plan.image_len ≡ run.image_len
   plan_len c i plan within at =
-      let p = o.comes_to.has_run.has_pasts in
-      let r = found (list_plan own) (is_ready_on own c) 0 (length own.lists) i plan (ap (λ ps. slice_get ps i) (sym (p.openings c within).plans) ∙ at) in
-      ap (λ (x : ListPlan). x.image_len) r.4 ∙ ap (λ q. q.image_len) p.set_up.store.profile
+      let s = has.store in
+      let r = found (list_plan s) (is_ready_on s c) 0 (length s.lists) i plan (ap (λ ps. slice_get ps i) (sym (has.openings c within).plans) ∙ at) in
+      ap (λ (x : ListPlan). x.image_len) r.4 ∙ ap (λ q. q.image_len) has.set_up.store.profile
 
-  images : (c : ℕ) → c < run.channels → HasImages (past_of o c)
+  images : (c : ℕ) → c < run.channels → HasImages (past c)
   images c within place i stamp image plan there at =
-      let a = o.comes_to.has_run.are_done.answered c within in
-      let asked = was_asked (told_in o c) place (Trigger image stamp) (ap (λ h. slice_get h place) (sym a.history) ∙ there) in
-      right_image run.image_len (until (past_of o c) (accepted (take asked.0 (told_in o c)))) image (a.each asked.0 (Trigger image stamp) None asked.1)
+      let a = answered c within in
+      let asked = was_asked (told c) place (Trigger image stamp) (ap (λ h. slice_get h place) (sym a.history) ∙ there) in
+      right_image run.image_len (until (past c) (accepted (take asked.0 (told c)))) image (a.each asked.0 (Trigger image stamp) None asked.1)
       ∙ sym (plan_len c i plan within at)
 
-  channels_own : own.profile.channels ≡ run.channels
-  channels_own = ap (λ q. q.channels) o.comes_to.has_run.has_pasts.set_up.store.profile
+  channels_own : has.store.profile.channels ≡ run.channels
+  channels_own = ap (λ q. q.channels) has.set_up.store.profile
 
-  plans_own : AreAllPlans run.channels (past_of o) (plans_in own)
+  plans_own : AreAllPlans run.channels past (plans_in has.store)
   plans_own =
-      let p = o.comes_to.has_run.has_pasts in
-      subst (λ n. AreAllPlans n (past_of o) (plans_in own)) channels_own
-      (all_plans own (λ l inside ready. named own p.keeps l inside) (past_of o) (λ c here. p.openings c (subst (λ n. c < n) channels_own here)))
+      subst (λ n. AreAllPlans n past (plans_in has.store)) channels_own
+      (all_plans has.store (λ l inside ready. named has.store has.keeps l inside) past (λ c here. has.openings c (subst (λ n. c < n) channels_own here)))
 
-  back : IsReadBack run.channels (past_of o) (plans_in own) o.comes_to.has_run.writer o.comes_to.closed.closed.last o.report.failed
+  back : IsReadBack run.channels past (plans_in has.store) writer closed.closed.last report.failed
   back =
-      let k = o.comes_to.closed in
-      let many : length k.ends ≡ run.channels = k.as_many in
-      let p = o.comes_to.has_run.has_pasts in
-      subst (λ n. IsReadBack n (past_of o) (plans_in own) o.comes_to.has_run.writer k.closed.last o.report.failed) many
-      (written_is_read_back o.comes_to.has_run.writer k.closed.last k.ends (past_of o) o.report (plans_in own)
-      (subst (λ n. IsConfiguration n (λ c. (past_of o c).opening)) (sym many) p.configuration) k.closed.headline
-      (λ c here. images c (subst (λ n. c < n) many here)) (subst (λ n. AreAllPlans n (past_of o) (plans_in own)) (sym many) plans_own))
+      let many : length closed.ends ≡ run.channels = closed.as_many in
+      subst (λ n. IsReadBack n past (plans_in has.store) writer closed.closed.last report.failed) many
+      (written_is_read_back writer closed.closed.last closed.ends past report (plans_in has.store)
+      (subst (λ n. IsConfiguration n (λ c. (past c).opening)) (sym many) has.configuration) closed.closed.headline
+      (λ c here. images c (subst (λ n. c < n) many here)) (subst (λ n. AreAllPlans n past (plans_in has.store)) (sym many) plans_own))
 
   torn_at : (m n : ℕ) (hand : Option SampleParts) (bytes : List ℕ) → m % 65536 ≡ n % 65536 → IsTornAt m hand bytes → IsTornAt n hand bytes
   torn_at m n None bytes same torn = torn
@@ -107,38 +111,49 @@ module _ (run : RunData) (o : RunOutcome run) where
       let is : text m s.packets ≡ text n s.packets = text-mod m n s.packets same in
       (torn.0, subst (λ t. torn.0 < length t) is torn.1, torn.2 ∙ ap (take torn.0) is)
 
-  run_is_read_back : IsRunReadBack run o own
+  run_is_read_back : IsRunReadBack run before after report past closed.closed.last has.store
   run_is_read_back =
       let b = back in
-      let w = o.comes_to.has_run.writer in
-      let replied = o.comes_to.has_run.has_pasts.set_up.replied in
+      let replied = has.set_up.replied in
       let n = length (replies_of run) in
-      let counter : w.counter % 65536 ≡ (0 + n) % 65536 = replied.counter in
+      let counter : writer.counter % 65536 ≡ (0 + n) % 65536 = replied.counter in
       let r = b.read.recording in
       record {
         samples = b.samples;
         whole = b.whole;
         behind = b.behind;
         gained =
-            ap (λ (s : OutState). s.contents) (sym o.comes_to.closed.closed.written)
+            ap (λ (s : OutState). s.contents) (sym closed.closed.written)
             ∙ (b.gained
             ∙ (ap (λ (s : OutState). s.contents ++ (b.whole ++ b.behind)) replied.out
-            ∙ append_assoc o.before.contents (text 0 (replies_of run)) (b.whole ++ b.behind)));
+            ∙ append_assoc before.contents (text 0 (replies_of run)) (b.whole ++ b.behind)));
         read = record {
           recording = record {
             packets = r.packets;
             legal = r.legal;
-            bytes = r.bytes ∙ text-mod w.counter (n % 65536) r.packets (omega (arith, counter));
+            bytes = r.bytes ∙ text-mod writer.counter (n % 65536) r.packets (omega (arith, counter));
             are = r.are;
           };
           of_lists = b.read.of_lists;
           first = b.read.first;
         };
+        all_given = λ wanted good i c k plan at within there.
+            b.all_given i c k plan at within there (all_received run writer past taken t report after closed good wanted c within) (hand_empty run writer past taken t report after closed good);
         none_behind = b.none_behind;
-        torn = λ failed. torn_at (w.counter + length r.packets) (n + length r.packets) o.comes_to.closed.closed.last.hand b.behind (omega (arith, counter)) (b.torn failed);
+        torn = λ failed. torn_at (writer.counter + length r.packets) (n + length r.packets) closed.closed.last.hand b.behind (omega (arith, counter)) (b.torn failed);
       }
 
+  -- and so it is for each store that the set-up leaves
+  for_each_store : (store : StoreState) → IsStoreAfter run store run.setup → IsRunReadBack run before after report past closed.closed.last store
+  for_each_store store stands =
+      subst (λ s. IsRunReadBack run before after report past closed.closed.last s) (store_same run run.setup has.store store has.set_up.store stands) run_is_read_back
+
 pub written_run_is_read_back : WrittenRunIsReadBack
-written_run_is_read_back run o store stands =
-    let p = o.comes_to.has_run.has_pasts in
-    subst (IsRunReadBack run o) (store_same run run.setup p.store store p.set_up.store stands) (run_is_read_back run o)
+written_run_is_read_back run before after refused report store r stands =
+    let h = r.has_run in
+    for_each_store run before after h.writer h.past (λ c. told_of c h.done) (taken_in h.done) h.transmitter report h.has_pasts h.are_done.answered r.closed store stands
+
+pub written_in_threads_is_read_back : WrittenInThreadsIsReadBack
+written_in_threads_is_read_back run before after refused report store r stands =
+    let h = r.has_run in
+    for_each_store run before after h.writer h.past h.told h.items h.transmitter report h.has_pasts h.answered r.closed store stands

@@ -1,16 +1,18 @@
 -- What an engine wrote is, for the reader of its lists, a recording of the samples that its event
 -- channels accepted (own).
 use Rattle.std.specs.Prelude.{◌≡◌, ℕ, ◌+◌, ◌<◌, Bool, false, true, All, List, [], ◌++◌, length}
-use Rattle.std.specs.Prelude.{slice_get, Some}
+use Rattle.std.specs.Prelude.{slice_get, None, Some}
 use mathlib.Core.List.{IsPrefix}
 use Rattle.copy_plan.specs.Config.{ListPlan}
 use Rattle.frame_writer.specs.Writing.{WriterState}
 use Rattle.sampler.specs.Past.{Past}
 use Rattle.sampler.specs.State.{JoinedEnd}
+use Rattle.transmitter.specs.Merge.{of_ring}
 use Rattle.transmitter.specs.Written.{TransmitterState}
 use Rattle.daq_engine.specs.Configuration.{IsConfiguration}
 use Rattle.daq_engine.specs.Frames.{IsTornAt}
 use Rattle.daq_engine.specs.Headline.{Headline}
+use Rattle.daq_engine.specs.Order.{items_of}
 use Rattle.daq_engine.specs.declared.report.Report.{Report}
 use Rattle.daq_reader.specs.Frames.{Unread}
 use Rattle.daq_reader.specs.Lists.{given}
@@ -32,7 +34,8 @@ pub record IsRecordingOfFirst (n : ℕ) (past : ℕ → Past) (plans : List List
       → IsPrefix (given i samples) (recorded_of (past c) plan)
 
 -- what a frame writer's bytes gained since `start` is such a recording, for a reader who awaits the
--- counter that was next at `start`; what follows it is nothing, or, where the writer failed or
+-- counter that was next at `start`: of a channel all of whose items were received, while no sample
+-- is in hand, it has all that was accepted. What follows it is nothing, or, if the writer failed or
 -- stalled, a proper prefix of the frames that the sample in hand would have had there
 pub record IsReadBack (n : ℕ) (past : ℕ → Past) (plans : List ListPlan) (start : WriterState)
     (t : TransmitterState) (failed : Bool)
@@ -44,6 +47,11 @@ pub record IsReadBack (n : ℕ) (past : ℕ → Past) (plans : List ListPlan) (s
   pub read :
       IsRecordingOfFirst n past plans samples
       (record { rest = whole; counter = start.counter })
+  pub all_given :
+      (i c k : ℕ) (plan : ListPlan) → slice_get plans i ≡ Some plan → c < n
+      → slice_get (past c).opening.plans k ≡ Some plan
+      → of_ring t.received c ≡ items_of (past c) → t.hand ≡ None
+      → given i samples ≡ recorded_of (past c) plan
   pub none_behind : failed ≡ false → behind ≡ []
   pub torn :
       failed ≡ true → IsTornAt (start.counter + length read.recording.packets) t.hand behind

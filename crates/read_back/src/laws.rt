@@ -1,7 +1,7 @@
 //! The laws that join the engine to the reader: the contracts of functions that do nothing.
 ghost use Rattle.read_back.specs.Laws.{WrittenIsReadBack};
 ghost use Rattle.read_back.specs.Plans.{HasAllPlans};
-ghost use Rattle.read_back.specs.Runs.{WrittenRunIsReadBack};
+ghost use Rattle.read_back.specs.Runs.{WrittenInThreadsIsReadBack, WrittenRunIsReadBack};
 
 use daq_store::Store;
 
@@ -28,13 +28,14 @@ pub fn ready_lists_are_all(store: &Store)
     }
 }
 
-/// What a run in one thread wrote is read back: its bytes are the frames of the replies to its
-/// set-up, and behind them such a recording, of the ready lists of the store that the set-up leaves
-/// and from the counter behind the replies.
+/// What a run wrote is read back, in one thread and in threads: its bytes are the frames of the
+/// replies to its set-up, and behind them such a recording, of the ready lists of the store that
+/// the set-up leaves and from the counter behind the replies.
 ///
 /// So `daq_reader::read`, begun there with these lists, gives back of each of them just the first
-/// samples that its event channel accepted. It holds where the writer failed too, as far as the
-/// frames go that were written whole.
+/// samples that its event channel accepted, and all of them after a drain at which the writer
+/// didn't fail. If it failed, this holds as far as the frames go that were written whole.
 pub fn what_a_run_wrote_is_read_back()
-    ensures { WrittenRunIsReadBack }
+    ensures in_one_thread { WrittenRunIsReadBack }
+    ensures in_threads { WrittenInThreadsIsReadBack }
 {}
