@@ -75,7 +75,9 @@ fn command_of(growth: Growth) -> Command {
 fn by_command(store: &mut Store, growth: Growth) -> Result<(), Refusal> {
     match command::carry_out(store, command_of(growth)) {
         Ok(Reply::Positive) => Ok(()),
-        Ok(Reply::Started { first_pid: _ }) => Err(Refusal::Code(ErrCode::CmdUnknown)),
+        Ok(Reply::Started { .. } | Reply::Read { .. }) => {
+            Err(Refusal::Code(ErrCode::CmdUnknown))
+        }
         Ok(Reply::Error(code)) => Err(Refusal::Code(code)),
         Err(_) => Err(Refusal::Memory),
     }
