@@ -1,6 +1,7 @@
 -- What a drain takes follows from what was left: its rounds take the first item of each ring that has one.
 use Rattle.std.proofs.Common.{◌≡◌, ℕ, zero, suc, ◌+◌, inl, inr, cond, List, [], ◌∷◌, ◌++◌, drop, refl, sym, ap, ap₂, ◌∙◌, arith, append_assoc}
 use Rattle.std.proofs.lemmas.Bool.Decides.{eqb_tells}
+use Rattle.std.proofs.lemmas.List.{append_cancel_left}
 use mathlib.Core.List.{IsPrefix}
 use Rattle.xcp_base.specs.declared.item.Item.{Item}
 use Rattle.transmitter.specs.Merge.{of_ring, taken_from}
@@ -85,10 +86,10 @@ pub record Empties (received sent : ℕ → List Item) (taken : List (ℕ × Ite
 
 -- so it is determined
 pub empties_same : (received others sent again : ℕ → List Item) (xs ys : List (ℕ × Item)) → ((c : ℕ) → received c ≡ others c) → ((c : ℕ) → sent c ≡ again c)
-    → ((xs ys zs : List Item) → xs ++ ys ≡ xs ++ zs → ys ≡ zs) → Empties received sent xs → Empties others again ys → xs ≡ ys
-empties_same received others sent again xs ys same_received same_sent cancel a b =
+    → Empties received sent xs → Empties others again ys → xs ≡ ys
+empties_same received others sent again xs ys same_received same_sent a b =
     let left : (c : ℕ) → of_ring a.left c ≡ of_ring b.left c = λ c.
-    cancel (received c) (of_ring a.left c) (of_ring b.left c) (a.leaves c ∙ (same_sent c ∙ (sym (b.leaves c) ∙ ap (λ rs. rs ++ of_ring b.left c) (sym (same_received c))))) in
+    append_cancel_left (received c) (of_ring a.left c) (of_ring b.left c) (a.leaves c ∙ (same_sent c ∙ (sym (b.leaves c) ∙ ap (λ rs. rs ++ of_ring b.left c) (sym (same_received c))))) in
     let first = prefix_on xs (rounds a.turns a.left) (rounds (a.turns + b.turns) a.left) a.in_rounds (more_rounds a.turns b.turns a.left) in
     let swapped : b.turns + a.turns ≡ a.turns + b.turns = omega arith in
     let same : rounds (b.turns + a.turns) b.left ≡ rounds (a.turns + b.turns) a.left = ap (λ n. rounds n b.left) swapped ∙ rounds_same (a.turns + b.turns) b.left a.left (λ k. sym (left k)) in

@@ -10,4 +10,6 @@ pub mod SetUpLemmas
 pub mod WholeLemmas
 pub mod DrainedLemmas
 pub mod SameLines
+pub mod OpeningLemmas
+pub mod ClosingLemmas
 pub mod AlikeLemmas

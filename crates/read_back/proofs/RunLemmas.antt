@@ -32,7 +32,8 @@ use Rattle.daq_steps.specs.Steps.{asked_of, run_step}
 use Rattle.daq_steps.specs.Answers.{Answered, AreAnswered, accepted, until}
 use Rattle.daq_run.specs.Runs.{HasPasts, IsClosed, setting_of}
 use Rattle.daq_run.specs.SetUps.{IsStoreAfter, replies_of}
-use Rattle.daq_run.proofs.AlikeLemmas.{all_received, hand_empty, store_same}
+use Rattle.daq_run.proofs.ClosingLemmas.{all_received, hand_empty}
+use Rattle.daq_run.proofs.OpeningLemmas.{store_same}
 use Rattle.read_back.specs.Accepted.{HasImages}
 use Rattle.read_back.specs.Laws.{IsReadBack}
 use Rattle.read_back.specs.Plans.{AreAllPlans, plans_in}
