@@ -14,7 +14,7 @@ mod worker;
 
 pub use gate::{Gate, NoGate};
 pub use outcome::Outcome;
-pub use serial::run_serial;
+pub use serial::{run_serial, run_watched};
 pub use setting_up::set_up;
 pub use sim_fault::SimFault;
 pub use threaded::run_threads;

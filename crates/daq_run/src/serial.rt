@@ -1,8 +1,9 @@
-ghost use Rattle.std.specs.Prelude.{◌≡◌, ◌⊎◌, IfErr, IfOk, true};
+ghost use Rattle.std.specs.Prelude.{◌≡◌, ◌⊎◌, IfErr, IfOk, length, true};
 ghost use Rattle.std.specs.List.{list_all};
 ghost use Rattle.frame_writer.specs.Shown.{shown};
 ghost use Rattle.daq_engine.specs.Closings.{GivesBack};
 ghost use Rattle.daq_engine.specs.Engines.{EngineState};
+ghost use Rattle.daq_steps.specs.Watched.{TellsSteps};
 ghost use Rattle.daq_run.specs.Faults.{StandsAtFault};
 ghost use Rattle.daq_run.specs.Runs.{ComesTo, cost_in};
 ghost use Rattle.daq_run.specs.declared.sim_fault.SimFault.TheVariants.{EndLost, Memory};
@@ -13,7 +14,7 @@ use crate::sim_fault::SimFault;
 use byte_ring::ByteRing;
 use channel_ring::{Beside, RingEnd, SampleRing, SendEnd, TakeEnd};
 use daq_engine::{Engine, Ring, Unclosed};
-use daq_steps::do_steps;
+use daq_steps::{NoWatch, Watch, do_watched};
 use frame_writer::Out;
 use run_file::{RingKind, Run};
 use std::alloc::Global;
@@ -31,23 +32,47 @@ pub fn run_serial<O: Out>(alloc: Global, run: &Run, out: O) -> Result<Outcome<O>
     ensures fault { IfErr result (λ e.
         StandsAtFault run.now (shown O.Out out) (shown O.Out e.1) e.0) }
 {
+    run_watched(alloc, run, out, &mut NoWatch)
+}
+
+/// Carries out the same run before a watch, which is told what came of each step.
+pub fn run_watched<O: Out, W: Watch>(
+    alloc: Global,
+    run: &Run,
+    out: O,
+    watch: &mut W,
+) -> Result<Outcome<O>, (SimFault, O)>
+    ensures ok { IfOk result (λ outcome. ComesTo run.now (shown O.Out out)
+        outcome.refused outcome.report (shown O.Out outcome.out)) }
+    ensures tells { IfOk result (λ outcome. TellsSteps W.notes watch.old watch.new
+        (length run.now.steps) outcome.refused) }
+    ensures fault { IfErr result (λ e.
+        StandsAtFault run.now (shown O.Out out) (shown O.Out e.1) e.0) }
+{
     match run.ring() {
-        RingKind::Samples => run_over::<SampleRing, O>(alloc, run, out),
-        RingKind::Bytes => run_over::<ByteRing, O>(alloc, run, out),
+        RingKind::Samples => run_over::<SampleRing, O, W>(alloc, run, out, watch),
+        RingKind::Bytes => run_over::<ByteRing, O, W>(alloc, run, out, watch),
     }
 }
 
 /// The same over rings of one kind.
-fn run_over<K: Ring, O: Out>(alloc: Global, run: &Run, out: O) -> Result<Outcome<O>, (SimFault, O)>
+fn run_over<K: Ring, O: Out, W: Watch>(
+    alloc: Global,
+    run: &Run,
+    out: O,
+    watch: &mut W,
+) -> Result<Outcome<O>, (SimFault, O)>
     requires caps { list_all K.is_cap run.now.caps ≡ true }
     requires cost { K.Send.End.cost ≡ cost_in run.now.ring }
     ensures ok { IfOk result (λ outcome. ComesTo run.now (shown O.Out out)
         outcome.refused outcome.report (shown O.Out outcome.out)) }
+    ensures tells { IfOk result (λ outcome. TellsSteps W.notes watch.old watch.new
+        (length run.now.steps) outcome.refused) }
     ensures fault { IfErr result (λ e.
         StandsAtFault run.now (shown O.Out out) (shown O.Out e.1) e.0) }
 {
     let mut engine = opened::<K, O>(alloc, run, out)?;
-    let refused = do_steps(&mut engine, run);
+    let refused = do_watched(&mut engine, run, watch);
     match engine.close(alloc, run.drain()) {
         Ok((report, out)) => Ok(Outcome {
             refused,

@@ -6,8 +6,10 @@ ghost use Rattle.daq_sim.specs.Done.{PrintsText, frames_line_of};
 ghost use Rattle.daq_sim.specs.Stops.{StopsAt};
 
 use crate::carrying::{status_of, to_file, to_memory};
+use crate::explaining::explain;
 use crate::program_fault::ProgramFault;
 use crate::run_text::run_from;
+use crate::why::Why;
 use crate::words::{Asked, Words, read_words};
 use clap::Error;
 use run_file::Run;
@@ -33,14 +35,16 @@ pub fn program<R: Files + Threads + Wait + Sync, I: Read + Drop, W: Write + Drop
     ensures { result ≤ 2 }
 {
     let mut err = err;
+    let mut why = Why::new(alloc, words);
     let answer = match BufWriter::new(alloc, out) {
-        Ok(mut out) => answer(rt, alloc, words, input, &mut out),
+        Ok(mut out) => answer(rt, alloc, words, input, &mut out, &mut why),
         Err(_) => Err(ProgramFault::MEMORY),
     };
     match answer {
         Ok(status) => status,
         Err(fault) => {
             let _ = writeln!(err, "{fault}");
+            let _ = err.write_all(why.text().as_bytes());
             fault.status()
         }
     }
@@ -53,13 +57,33 @@ fn answer<R: Files + Threads + Wait + Sync, I: Read + Drop, W: Write>(
     words: &[String],
     input: I,
     out: &mut W,
+    why: &mut Why,
 ) -> Result<u8, ProgramFault>
     ensures status { IfOk result (λ status. status ≤ 1) }
     ensures silent { OnErr result (Keeps (W.contents out.old) (W.contents out.new)) }
 {
-    match read_words(alloc, words)? {
+    match read_words(alloc, words, why)? {
         Asked::Help(text) => Ok(print_help(out, text)),
-        Asked::Run(words) => carry_out(rt, alloc, words, input, out),
+        Asked::Run(words) => do_run(rt, alloc, words, input, out, why),
+    }
+}
+
+/// Carries out the run that words name, and prints what came of it, or its story.
+fn do_run<R: Files + Threads + Wait + Sync, I: Read + Drop, W: Write>(
+    rt: &R,
+    alloc: Global,
+    words: Words<'_>,
+    input: I,
+    out: &mut W,
+    why: &mut Why,
+) -> Result<u8, ProgramFault>
+    ensures status { IfOk result (λ status. status ≤ 1) }
+    ensures silent { OnErr result (Keeps (W.contents out.old) (W.contents out.new)) }
+{
+    if words.explain {
+        explain(rt, alloc, words, input, out, why)
+    } else {
+        carry_out(rt, alloc, words, input, out)
     }
 }
 

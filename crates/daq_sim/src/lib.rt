@@ -6,10 +6,12 @@ mod argument_list;
 mod arguments_fault;
 mod carrying;
 mod command_line;
+mod explaining;
 mod program_fault;
 mod report_text;
 mod run_text;
 mod text_fault;
+mod why;
 mod words;
 
 pub use argument_list::arguments;

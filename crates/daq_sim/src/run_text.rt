@@ -37,7 +37,7 @@ pub fn run_from<I: Read>(alloc: Global, input: &mut I) -> Result<Run, TextFault>
 /// Refused where a read fails, but for an interruption, which counts as a read of no byte; where
 /// the text is longer than `MAX_TEXT`, or isn't at its end after `MAX_READS`; and where it isn't
 /// UTF-8.
-fn text_from<I: Read>(alloc: Global, input: &mut I) -> Result<String, TextFault>
+pub fn text_from<I: Read>(alloc: Global, input: &mut I) -> Result<String, TextFault>
     ensures whole { IfOk result (λ text.
         Consumes (I.remaining input.old) (I.remaining input.new) (string_bytes text)) }
     ensures end { OnOk result (IsAtEnd (I.remaining input.new)) }

@@ -4,6 +4,7 @@ ghost use Rattle.daq_sim.specs.declared.program_fault.ProgramFault.TheVariants.{
 ghost use Rattle.daq_sim.specs.Faults.{want_of_memory};
 
 use crate::program_fault::ProgramFault;
+use crate::why::Why;
 use clap::error::ErrorKind;
 use clap::{Arg, ArgAction, ArgMatches, Command, Error};
 use std::alloc::{AllocError, Global};
@@ -26,10 +27,16 @@ pub struct Words<'a> {
     pub out: Option<&'a str>,
     /// Whether each event channel has a thread of its own.
     pub threads: bool,
+    /// Whether the story of the run is printed in the place of its frames.
+    pub explain: bool,
 }
 
 /// Reads the words behind the program's name.
-pub fn read_words<'a>(alloc: Global, words: &'a [String]) -> Result<Asked<'a>, ProgramFault>
+pub fn read_words<'a>(
+    alloc: Global,
+    words: &'a [String],
+    why: &mut Why,
+) -> Result<Asked<'a>, ProgramFault>
     ensures { IfErr result (λ fault. (fault ≡ CommandLine) ⊎ (fault ≡ want_of_memory)) }
 {
     match command(alloc)?.try_get_matches_from(words) {
@@ -37,7 +44,10 @@ pub fn read_words<'a>(alloc: Global, words: &'a [String]) -> Result<Asked<'a>, P
         Err(error) => match error.kind() {
             ErrorKind::DisplayHelp => Ok(Asked::Help(error)),
             ErrorKind::OutOfMemory => Err(ProgramFault::MEMORY),
-            _ => Err(ProgramFault::CommandLine),
+            _ => {
+                why.tell(error);
+                Err(ProgramFault::CommandLine)
+            }
         },
     }
 }
@@ -53,6 +63,10 @@ fn command<'a>(alloc: Global) -> Result<Command<'a>, AllocError> {
         .long("threads")
         .action(ArgAction::SetTrue)
         .help("Sample each event channel in a thread of its own: a stress test, with drops");
+    let explain = Arg::new(alloc, "explain")
+        .long("explain")
+        .action(ArgAction::SetTrue)
+        .help("Print each reply, step and frame in words, and the reason behind a fault");
     let run = Arg::new(alloc, "run")
         .value_name("RUN")
         .action(ArgAction::Set)
@@ -62,6 +76,7 @@ fn command<'a>(alloc: Global) -> Result<Command<'a>, AllocError> {
         .no_binary_name(true)
         .arg(out)?
         .arg(threads)?
+        .arg(explain)?
         .arg(run)
 }
 
@@ -71,5 +86,6 @@ fn words_of<'a>(matches: &ArgMatches<'a>) -> Words<'a> {
         run: matches.get_str("run"),
         out: matches.get_str("out"),
         threads: matches.get_flag("threads"),
+        explain: matches.get_flag("explain"),
     }
 }

@@ -3,3 +3,4 @@ pub mod DoneLemmas
 pub mod StepLemmas
 pub mod LoopLemmas
 pub mod LawLemmas
+mod WatchLemmas

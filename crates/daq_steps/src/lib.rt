@@ -3,11 +3,15 @@
 #![tactic(auto)]
 
 mod asking;
+mod came;
 mod cause;
 mod doing;
 pub mod laws;
 mod sampling;
+mod watch;
 
+pub use came::Came;
 pub use cause::Cause;
-pub use doing::{do_step, do_steps};
+pub use doing::{do_step, do_steps, do_watched};
 pub use sampling::ask;
+pub use watch::{NoWatch, Watch};

@@ -23,7 +23,7 @@ pub fn are_keys(table: &Table) -> bool
 }
 
 /// Whether a word is a key of a run file.
-fn is_key(word: &str) -> bool
+pub fn is_key(word: &str) -> bool
     ensures { result ≡ is_among keys word.now }
 {
     word == "channels"
@@ -221,7 +221,7 @@ pub fn form_of(table: &Table) -> Option<PacketForm>
 }
 
 /// The identification field that `id` names; an absolute ODT number where the key is absent.
-fn id_of(table: &Table) -> Option<IdKind>
+pub fn id_of(table: &Table) -> Option<IdKind>
     ensures { result ≡ id_of (table_view table.now) }
 {
     match table.get("id") {
@@ -257,7 +257,7 @@ fn id_named(word: &str) -> Option<IdKind>
 }
 
 /// The size of timestamps by `stamp_size`; 4 bytes where the key is absent.
-fn stamp_of(table: &Table) -> Option<StampSize>
+pub fn stamp_of(table: &Table) -> Option<StampSize>
     ensures { result ≡ stamp_of (table_view table.now) }
 {
     match table.get("stamp_size") {

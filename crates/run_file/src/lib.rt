@@ -1,6 +1,7 @@
 //! Run files: from the text of a TOML document to the command packets and the steps of a run.
 #![tactic(auto)]
 
+mod bad_key;
 mod kept;
 mod keys;
 pub mod laws;
@@ -15,6 +16,8 @@ mod texts;
 mod values;
 mod wording;
 
+pub use bad_key::BadKey;
+pub use keys::is_key;
 pub use ring_kind::RingKind;
 pub use run::Run;
 pub use run_fault::RunFault;

@@ -16,7 +16,7 @@ returns-in-Ok-clause-answers g c = λ st stands.
     let a = engine_state g.O.Out g.T.TakeEnd c.args.engine.now in
     let r = trigger_refusal (image_len_at a.samplers c.args.c) (st.past c.args.c) c.args.image.now in
     let none : r ≡ None = sym (c.in-Ok.ensures.refused st stands c.requires) in
-    let ds = decisions_at st.past c.args.c c.in-Ok.field-0 c.args.image.now c.args.stamp in
+    let ds = decisions_at st.past c.args.c c.in-Ok.taken c.args.image.now c.args.stamp in
     (ap (option_map OfTrigger) {x = r} none, (ds, (c.in-Ok.ensures.ok st stands).stands))
 
 -- it was refused for its cause

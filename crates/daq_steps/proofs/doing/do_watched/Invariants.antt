@@ -5,7 +5,8 @@ use Rattle.daq_engine.specs.Engines.{Stands, engine_state, first_standing}
 use Rattle.daq_engine.specs.Samplers.{StayThose}
 use Rattle.daq_steps.specs.Runs.{HasDone}
 use Rattle.daq_steps.specs.Steps.{run_step}
-use Rattle.daq_steps.proofs.doing.do_steps.Given as goal
+use Rattle.daq_steps.specs.Watched.{TellsSteps}
+use Rattle.daq_steps.proofs.doing.do_watched.Given as goal
 
 -- the first i steps were done
 abbrev pub invariant-loop-i : goal.invariant-loop-i
@@ -16,6 +17,7 @@ invariant-loop-i g l =
     let b = engine_state g.O.Out g.T.TakeEnd l.engine in
     record {
       few : l.refused ≤ l.i;
+      tells : TellsSteps g.W.Watch.notes l.initial.watch l.watch l.i l.refused;
       those : StayThose send a.samplers b.samplers;
       does : (start : WriterState) (openings : ℕ → Opening) → Stands send ring a (first_standing start openings)
           → HasDone send ring b start openings (map run_step (take l.i l.run.steps)) l.refused;

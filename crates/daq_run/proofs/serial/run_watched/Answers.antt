@@ -1,7 +1,7 @@
 use Rattle.std.proofs.Common.{sym, ◌∙◌}
 use Rattle.run_file.specs.declared.ring_kind.RingKind.TheVariants.{Bytes, Samples}
 use Rattle.daq_run.proofs.SetUpLemmas.{caps_of_kind}
-use Rattle.daq_run.proofs.serial.run_serial.Goals as goal
+use Rattle.daq_run.proofs.serial.run_watched.Goals as goal
 
 -- each capacity is one of a ring of samples
 pub run_over-requires-clause-caps : goal.run_over-requires-clause-caps

@@ -1,0 +1,206 @@
+//! Carries a run out, and prints its story in the place of its frames.
+ghost use Rattle.std.specs.Prelude.{◌≡◌, ◌≤◌, Bool, IfErr, IfOk, IfSome, List, None, OnErr, Some};
+ghost use Rattle.std.specs.Prelude.{ℕ};
+ghost use Rattle.std.specs.Io.KnownBytes.{Keeps};
+ghost use Rattle.frame_writer.specs.Shown.{shown};
+ghost use Rattle.run_file.specs.RunFile.{IsRunText};
+ghost use Rattle.daq_sim.specs.Done.{CameTo, PrintsRun, PrintsText, nothing_written};
+ghost use Rattle.daq_sim.specs.Stops.{StopsAt, StopsOf, StopsRun, StopsText};
+
+use crate::carrying::status_of;
+use crate::program_fault::ProgramFault;
+use crate::report_text::print_outcome;
+use crate::run_text::text_from;
+use crate::text_fault::TextFault;
+use crate::why::Why;
+use crate::words::Words;
+use daq_run::{NoGate, Outcome, SimFault, run_threads, run_watched};
+use frame_writer::{Out, StdOut, VecOut};
+use run_file::Run;
+use run_story::{KeepingOut, StepLog, story_of};
+use std::alloc::Global;
+use std::fs;
+use std::io::{Read, Write};
+use std::rt::Files;
+use std::sync::Wait;
+use std::thread::Threads;
+
+/// Carries out the run that words name, and prints its story and its account. Behind a fault `why`
+/// has the reason.
+pub fn explain<R: Files + Threads + Wait + Sync, I: Read + Drop, W: Write>(
+    rt: &R,
+    alloc: Global,
+    words: Words<'_>,
+    input: I,
+    out: &mut W,
+    why: &mut Why,
+) -> Result<u8, ProgramFault>
+    ensures status { IfOk result (λ status. status ≤ 1) }
+    ensures silent { OnErr result (Keeps (W.contents out.old) (W.contents out.new)) }
+    ensures of_input { words.entry.run ≡ None → IfOk result (λ status.
+        IfSome (I.remaining input) (λ text. (story : List ℕ)
+        × PrintsText words.entry.threads (λ _. Some story) text status
+        (W.contents out.old) (W.contents out.new))) }
+    ensures stops { words.entry.run ≡ None → IfErr result (λ fault.
+        IfSome (I.remaining input) (λ text. StopsAt words.entry.threads text fault)) }
+{
+    let run = run_of(rt, alloc, words.run, input, why)?;
+    match words.out {
+        Some(path) => to_file(rt, alloc, &run, words.threads, path, out, why),
+        None => to_memory(rt, alloc, &run, words.threads, out, why),
+    }
+}
+
+/// The run of a file, or of standard input where no file is named.
+fn run_of<R: Files, I: Read + Drop>(
+    rt: &R,
+    alloc: Global,
+    path: Option<&str>,
+    input: I,
+    why: &mut Why,
+) -> Result<Run, ProgramFault>
+    ensures ok { path.entry ≡ None → IfOk result (λ run.
+        IfSome (I.remaining input) (λ text. IsRunText text run)) }
+    ensures stops { path.entry ≡ None → (threads : Bool) → IfErr result (λ fault.
+        IfSome (I.remaining input) (λ text. StopsAt threads text fault)) }
+{
+    let mut input = input;
+    let Some(path) = path else {
+        return Ok(run_from(alloc, "standard input", &mut input, why)?);
+    };
+    match fs::open(rt, path) {
+        Ok(mut file) => Ok(run_from(alloc, path, &mut file, why)?),
+        Err(error) => {
+            let fault = ProgramFault::Unreadable.or_memory(&error);
+            why.tell_file(path, error);
+            Err(fault)
+        }
+    }
+}
+
+/// Reads a run, from a text that is read to its end.
+fn run_from<I: Read>(
+    alloc: Global,
+    name: &str,
+    input: &mut I,
+    why: &mut Why,
+) -> Result<Run, TextFault>
+    ensures ok { IfOk result (λ run.
+        IfSome (I.remaining input.old) (λ text. IsRunText text run)) }
+    ensures stops { IfErr result (λ fault.
+        IfSome (I.remaining input.old) (λ text. StopsText text fault)) }
+{
+    let text = match text_from(alloc, input) {
+        Ok(text) => text,
+        Err(fault) => {
+            why.tell_file(
+                name,
+                "it can't be read, isn't UTF-8, or has over 67108864 bytes",
+            );
+            return Err(fault);
+        }
+    };
+    match Run::read(alloc, &text) {
+        Ok(run) => Ok(run),
+        Err(fault) => {
+            why.tell_text(name, &text, fault);
+            Err(TextFault::from(fault))
+        }
+    }
+}
+
+/// Carries out a run whose frames go to a file, which is made first.
+fn to_file<R: Files + Threads + Wait + Sync, W: Write>(
+    rt: &R,
+    alloc: Global,
+    run: &Run,
+    threads: bool,
+    path: &str,
+    out: &mut W,
+    why: &mut Why,
+) -> Result<u8, ProgramFault>
+    ensures status { IfOk result (λ status. status ≤ 1) }
+    ensures printed { IfOk result (λ status. (story : List ℕ)
+        × PrintsRun threads (λ _. Some story) run.now status
+        (W.contents out.old) (W.contents out.new)) }
+    ensures stops { IfErr result (StopsOf threads run.now) }
+    ensures silent { OnErr result (Keeps (W.contents out.old) (W.contents out.new)) }
+{
+    let file = match fs::create(rt, path) {
+        Ok(file) => file,
+        Err(error) => {
+            let fault = ProgramFault::OutFile.or_memory(&error);
+            why.tell_file(path, error);
+            return Err(fault);
+        }
+    };
+    let mut log = StepLog::new(alloc);
+    let frames = KeepingOut::new(alloc, StdOut::new(file));
+    match outcome_of(rt, alloc, run, threads, frames, &mut log) {
+        Ok(outcome) => {
+            let Some(written) = outcome.out.kept() else {
+                return Err(ProgramFault::MEMORY);
+            };
+            let log = if threads { None } else { Some(&log) };
+            let story = story_of(alloc, run, log, written)?;
+            let printing = print_outcome(out, Some(&story), outcome.refused, &outcome.report);
+            Ok(status_of(printing, outcome.report.failed))
+        }
+        Err((fault, frames)) => {
+            why.tell_set_up(run, frames.kept().unwrap_or(&[]));
+            Err(ProgramFault::Sim(fault))
+        }
+    }
+}
+
+/// Carries out a run whose frames are kept in memory.
+fn to_memory<R: Threads + Wait + Sync, W: Write>(
+    rt: &R,
+    alloc: Global,
+    run: &Run,
+    threads: bool,
+    out: &mut W,
+    why: &mut Why,
+) -> Result<u8, ProgramFault>
+    ensures status { IfOk result (λ status. status ≤ 1) }
+    ensures printed { IfOk result (λ status. (story : List ℕ)
+        × PrintsRun threads (λ _. Some story) run.now status
+        (W.contents out.old) (W.contents out.new)) }
+    ensures stops { IfErr result (StopsOf threads run.now) }
+    ensures silent { OnErr result (Keeps (W.contents out.old) (W.contents out.new)) }
+{
+    let mut log = StepLog::new(alloc);
+    match outcome_of(rt, alloc, run, threads, VecOut::new(alloc), &mut log) {
+        Ok(outcome) => {
+            let log = if threads { None } else { Some(&log) };
+            let story = story_of(alloc, run, log, outcome.out.bytes())?;
+            let printing = print_outcome(out, Some(&story), outcome.refused, &outcome.report);
+            Ok(status_of(printing, outcome.report.failed))
+        }
+        Err((fault, frames)) => {
+            why.tell_set_up(run, frames.bytes());
+            Err(ProgramFault::Sim(fault))
+        }
+    }
+}
+
+/// What comes of a run, in one thread before a log of its steps, or with a thread for each event
+/// channel.
+fn outcome_of<R: Threads + Wait + Sync, O: Out + Drop>(
+    rt: &R,
+    alloc: Global,
+    run: &Run,
+    threads: bool,
+    out: O,
+    log: &mut StepLog,
+) -> Result<Outcome<O>, (SimFault, O)>
+    requires unused { shown O.Out out ≡ nothing_written }
+    ensures ok { IfOk result (λ outcome. CameTo threads run.now
+        outcome.refused outcome.report (shown O.Out outcome.out)) }
+    ensures stops { IfErr result (λ e. StopsRun threads run.now e.0) }
+{
+    if threads {
+        return run_threads(rt, alloc, run, out, &NoGate);
+    }
+    run_watched(alloc, run, out, log)
+}

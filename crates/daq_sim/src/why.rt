@@ -1,0 +1,57 @@
+use run_file::{Run, RunFault};
+use run_story::{set_up_story, why_no_run};
+use std::alloc::Global;
+use std::fmt::Display;
+
+/// What standard error is told behind the line of a fault, where that is wanted. If memory for it
+/// is refused it is told nothing.
+#[derive(Drop)]
+pub struct Why {
+    alloc: Global,
+    is_wanted: bool,
+    text: String,
+}
+
+impl Why {
+    /// Nothing yet. It is wanted exactly where a word asks for it, whatever the other words are.
+    pub fn new(alloc: Global, words: &[String]) -> Why {
+        Why {
+            alloc,
+            is_wanted: words.iter().any(|word| word.as_str() == "--explain"),
+            text: String::new(alloc),
+        }
+    }
+
+    /// What is told.
+    pub fn text(&self) -> &str {
+        &self.text
+    }
+
+    /// Tells a text.
+    pub fn tell<D: Display + Drop>(&mut self, text: D) {
+        if self.is_wanted {
+            let _ = write!(self.text, "{text}");
+        }
+    }
+
+    /// Tells why a file can't be read or made.
+    pub fn tell_file<D: Display + Drop>(&mut self, path: &str, error: D) {
+        if self.is_wanted {
+            let _ = writeln!(self.text, "{path}: {error}");
+        }
+    }
+
+    /// Tells why the text of a name is no run.
+    pub fn tell_text(&mut self, name: &str, text: &str, fault: RunFault) {
+        if let Ok(why) = why_no_run(self.alloc, name, text, fault) {
+            self.tell(why.as_str());
+        }
+    }
+
+    /// Tells what was replied to the set-up of a run that was not carried out.
+    pub fn tell_set_up(&mut self, run: &Run, written: &[u8]) {
+        if let Ok(story) = set_up_story(self.alloc, run, written) {
+            self.tell(story.as_str());
+        }
+    }
+}

@@ -1,0 +1,164 @@
+//! Why a text is no run.
+use crate::awaited::write_awaited;
+use crate::near_key::near_key;
+use crate::place_in_text::{line_of_key, line_of_string};
+use run_file::{BadKey, RunFault, is_key};
+use std::alloc::{AllocError, Global};
+use toml::{Table, Value};
+
+/// Why a text, which has this name and this fault, is no run: where it stands, what stands there,
+/// and what was awaited.
+pub fn why_no_run(
+    alloc: Global,
+    name: &str,
+    text: &str,
+    fault: RunFault,
+) -> Result<String, AllocError> {
+    let mut why = String::new(alloc);
+    match toml::table_from_str(alloc, text) {
+        Ok(table) => write_fault(alloc, &mut why, name, text, &table, fault)?,
+        Err(error) => write!(why, "{name}: {error}")?,
+    }
+    Ok(why)
+}
+
+/// Writes why a table is no run.
+fn write_fault(
+    alloc: Global,
+    why: &mut String,
+    name: &str,
+    text: &str,
+    table: &Table,
+    fault: RunFault,
+) -> Result<(), AllocError> {
+    match fault {
+        RunFault::BadKey => write_key(alloc, why, name, text, table),
+        RunFault::BadSetup(i) => {
+            write_string(why, name, text, table, "setup", i)?;
+            why.push_str(
+                "awaited: 0 to 255 bytes, each as two hexadecimal digits, without spaces\n",
+            )
+        }
+        RunFault::BadStep(i) => {
+            write_string(why, name, text, table, "steps", i)?;
+            why.push_str("awaited: trigger C STAMP IMAGE, start C L, stop C L or pump; ")?;
+            write_channels(why, table)
+        }
+        RunFault::NotToml | RunFault::Memory => Ok(()),
+    }
+}
+
+/// Writes what a step's numbers are.
+fn write_channels(why: &mut String, table: &Table) -> Result<(), AllocError> {
+    let channels = match table.get("channels") {
+        Some(value) => value.as_integer(),
+        None => None,
+    };
+    writeln!(
+        why,
+        "one space between words, C below {}, L 0 to 255, STAMP 0 to 4294967295, IMAGE hexadecimal",
+        channels.unwrap_or(0)
+    )
+}
+
+/// Writes which key is bad, and why.
+fn write_key(
+    alloc: Global,
+    why: &mut String,
+    name: &str,
+    text: &str,
+    table: &Table,
+) -> Result<(), AllocError> {
+    let Some(bad) = BadKey::of(alloc, table)? else {
+        return Ok(());
+    };
+    let Some(key) = key_of(bad) else {
+        return write_unknown(alloc, why, name, text, table);
+    };
+    match table.get(key) {
+        Some(value) => {
+            write_place(why, name, line_of_key(text, key))?;
+            write_value(why, key, value)?;
+        }
+        None => writeln!(why, "{name}: there is no key {key}")?,
+    }
+    write_awaited(why, bad, table)
+}
+
+/// Writes a key with its value, or if that is an array of strings how many there are.
+fn write_value(why: &mut String, key: &str, value: &Value) -> Result<(), AllocError> {
+    match value.as_array() {
+        Some(array) if array.as_slice().len() > 16 => {
+            writeln!(why, "{key} has {} values", array.as_slice().len())
+        }
+        _ => writeln!(why, "{key} = {value}"),
+    }
+}
+
+/// Writes the first key that is none of a run file, and the nearest one that is.
+fn write_unknown(
+    alloc: Global,
+    why: &mut String,
+    name: &str,
+    text: &str,
+    table: &Table,
+) -> Result<(), AllocError> {
+    for key in table.keys() {
+        let key = key.as_str();
+        if !is_key(key) {
+            write_place(why, name, line_of_key(text, key))?;
+            writeln!(why, "{key} is no key of a run file")?;
+            return writeln!(why, "the nearest key is {}", near_key(alloc, key)?);
+        }
+    }
+    Ok(())
+}
+
+/// Writes the string at a place of an array.
+fn write_string(
+    why: &mut String,
+    name: &str,
+    text: &str,
+    table: &Table,
+    key: &str,
+    i: usize,
+) -> Result<(), AllocError> {
+    let Some(value) = table.get(key) else {
+        return Ok(());
+    };
+    let Some(array) = value.as_array() else {
+        return Ok(());
+    };
+    let Some(value) = array.as_slice().get(i) else {
+        return Ok(());
+    };
+    let Some(string) = value.as_str() else {
+        return Ok(());
+    };
+    write_place(why, name, line_of_string(text, string))?;
+    writeln!(why, "string {i} of {key} is {value}")
+}
+
+/// Writes the name of a text and the number of a line, if it was found.
+fn write_place(why: &mut String, name: &str, line: Option<usize>) -> Result<(), AllocError> {
+    match line {
+        Some(line) => write!(why, "{name}, line {line}: "),
+        None => write!(why, "{name}: "),
+    }
+}
+
+/// The name of a bad key, if it is one of a run file.
+fn key_of(bad: BadKey) -> Option<&'static str> {
+    match bad {
+        BadKey::Unknown => None,
+        BadKey::Channels => Some("channels"),
+        BadKey::ImageLen => Some("image_len"),
+        BadKey::Drain => Some("drain"),
+        BadKey::Setup => Some("setup"),
+        BadKey::Steps => Some("steps"),
+        BadKey::Id => Some("id"),
+        BadKey::StampSize => Some("stamp_size"),
+        BadKey::Ring => Some("ring"),
+        BadKey::Caps => Some("caps"),
+    }
+}

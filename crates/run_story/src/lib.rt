@@ -1,0 +1,24 @@
+//! What became of a run, told line by line: its command packets with their replies, its steps with
+//! what came of each, and its frames; or why a text is no run.
+#![tactic(auto)]
+
+mod awaited;
+mod bad_run;
+mod byte_text;
+mod came_text;
+mod command_text;
+mod frame_lines;
+mod keeping_out;
+mod list_set_text;
+mod lists;
+mod near_key;
+mod place_in_text;
+mod reply_text;
+mod step_log;
+mod step_text;
+mod story;
+
+pub use bad_run::why_no_run;
+pub use keeping_out::KeepingOut;
+pub use step_log::StepLog;
+pub use story::{set_up_story, story_of};
