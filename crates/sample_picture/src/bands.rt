@@ -2,6 +2,7 @@
 ghost use Rattle.std.specs.Prelude.{◌<◌};
 
 use crate::grid::Grid;
+use crate::losses::Losses;
 use crate::mark::Mark;
 use crate::numbers::push_tenths;
 use crate::row::{BINS, Row};
@@ -52,6 +53,33 @@ pub fn spans_of(
             let x = ruler.x(bin.saturating_mul(grid.width));
             push_tick(&mut spans, x, band.tick())?;
         }
+    }
+    Ok(spans)
+}
+
+/// The strokes over what was lost of a row: each from the bin of a sample to that of the next one.
+pub fn lost_spans(
+    alloc: Global,
+    losses: &Losses,
+    grid: &Grid,
+    ruler: &Ruler,
+) -> Result<Vec<Span>, AllocError> {
+    let mut spans = Vec::new(alloc);
+    let mut from = 0;
+    let mut open = false;
+    for bin in grid.first / grid.width..=grid.last / grid.width {
+        let x = ruler.x(bin.saturating_mul(grid.width));
+        let lost = losses.reach_over(bin);
+        if lost && !open {
+            from = x;
+        }
+        if open && !lost {
+            spans.push(Span {
+                from: from.min(x),
+                to: x,
+            })?;
+        }
+        open = lost;
     }
     Ok(spans)
 }

@@ -3,25 +3,33 @@ ghost use Rattle.std.specs.Prelude.{IfOk, string_bytes};
 ghost use Rattle.sample_picture.specs.Shown.{IsClosed};
 
 use crate::axis::Axis;
-use crate::bands::{Band, push_strokes, push_triangles, spans_of};
+use crate::bands::{Band, lost_spans, push_strokes, push_triangles, spans_of};
 use crate::furniture::{EDGE, ROW, TOP, bottom, push_axis, push_head};
 use crate::grid::Grid;
+use crate::losses::Losses;
 use crate::numbers::push_number;
 use crate::row::Row;
 use crate::ruler::Ruler;
 use std::alloc::{AllocError, Global};
 
 /// The text of a picture of these rows.
-pub fn text_of(alloc: Global, rows: &[Row], grid: &Grid, axis: Axis) -> Result<String, AllocError>
+pub fn text_of(
+    alloc: Global,
+    rows: &[Row],
+    losses: &[Losses],
+    grid: &Grid,
+    axis: Axis,
+) -> Result<String, AllocError>
     ensures { IfOk result (λ text. IsClosed (string_bytes text)) }
 {
     let mut text = String::new(alloc);
     push_head(&mut text, rows)?;
     push_axis(&mut text, grid, bottom(rows), axis)?;
     let mut middle = TOP + ROW / 2;
-    for row in rows {
+    for (place, row) in rows.iter().enumerate() {
+        let lost = losses.get(place).unwrap_or(&Losses::NONE);
         writeln!(text, "<g transform=\"translate({EDGE} {middle})\">")?;
-        push_row(alloc, &mut text, row, grid)?;
+        push_row(alloc, &mut text, row, lost, grid)?;
         text.push_str("</g>\n")?;
         middle = middle.saturating_add(ROW);
     }
@@ -30,7 +38,13 @@ pub fn text_of(alloc: Global, rows: &[Row], grid: &Grid, axis: Axis) -> Result<S
 }
 
 /// Writes one row, about the middle of its base line.
-fn push_row(alloc: Global, text: &mut String, row: &Row, grid: &Grid) -> Result<(), AllocError> {
+fn push_row(
+    alloc: Global,
+    text: &mut String,
+    row: &Row,
+    losses: &Losses,
+    grid: &Grid,
+) -> Result<(), AllocError> {
     push_names(text, row)?;
     push_totals(text, row)?;
     text.push_str("<path class=\"b\" d=\"M1 0h720\"/>\n")?;
@@ -41,6 +55,8 @@ fn push_row(alloc: Global, text: &mut String, row: &Row, grid: &Grid) -> Result<
         first: grid.first,
         last: grid.last,
     };
+    let lost = lost_spans(alloc, losses, grid, &ruler)?;
+    push_strokes(text, "l", &lost)?;
     let samples = spans_of(alloc, row, grid, &ruler, Band::Samples)?;
     push_strokes(text, "s", &samples)?;
     let overloads = spans_of(alloc, row, grid, &ruler, Band::Overloads)?;

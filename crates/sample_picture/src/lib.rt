@@ -7,6 +7,7 @@ mod bands;
 mod drawing;
 mod furniture;
 mod grid;
+mod losses;
 mod mark;
 mod numbers;
 mod picture;

@@ -9,6 +9,7 @@ ghost use Rattle.sample_picture.specs.Shown.{IsClosed};
 use crate::axis::Axis;
 use crate::drawing::text_of;
 use crate::grid::Grid;
+use crate::losses::Losses;
 use crate::row::{BINS, Row};
 use std::alloc::{AllocError, Global};
 use std::io::{self, Write};
@@ -22,6 +23,7 @@ use std::marker::Model;
 pub struct Picture {
     alloc: Global,
     rows: Vec<Row>,
+    losses: Vec<Losses>,
     grid: Grid,
 }
 
@@ -47,6 +49,7 @@ impl Picture {
         Picture {
             alloc,
             rows: Vec::new(alloc),
+            losses: Vec::new(alloc),
             grid: Grid::new(),
         }
     }
@@ -58,7 +61,9 @@ impl Picture {
             → IsPictureOf self.new given) }
         ensures err { OnErr result (self.new ≡ self.old) }
     {
+        self.losses.reserve(1)?;
         self.rows.push(Row::new(list, channel))?;
+        self.losses.push_reserved(Losses::NONE);
         Ok(())
     }
 
@@ -73,8 +78,16 @@ impl Picture {
         if row >= self.rows.len() {
             return;
         }
-        self.grid = reach(&mut self.rows, self.grid, at);
+        self.grid = reach(&mut self.rows, &mut self.losses, self.grid, at);
         let slot = self.grid.slot(at);
+        lose(
+            &mut self.losses,
+            row,
+            &self.rows[row],
+            &self.grid,
+            at,
+            overload,
+        );
         self.rows[row].note(slot, at, overload);
     }
 
@@ -84,13 +97,24 @@ impl Picture {
         ensures { OnOk result ((text : List ℕ) × IsClosed text
             × Appends (W.contents out.old) (W.contents out.new) text) }
     {
-        let text = text_of(self.alloc, &self.rows, &self.grid, axis)?;
+        let text = text_of(self.alloc, &self.rows, &self.losses, &self.grid, axis)?;
         out.write_all(text.as_bytes())
     }
 }
 
+/// If a sample has the overload indication, samples were lost from the last one of its row on, if
+/// there is one, to its place.
+fn lose(losses: &mut [Losses], place: usize, row: &Row, grid: &Grid, at: u64, overload: bool) {
+    if row.samples == 0 || !overload {
+        return;
+    }
+    if let Some(losses) = losses.get_mut(place) {
+        losses.note(grid, row.last, at);
+    }
+}
+
 /// Widens the grid to a place: the bins double until those of all samples are near enough.
-fn reach(rows: &mut [Row], grid: Grid, at: u64) -> Grid
+fn reach(rows: &mut [Row], losses: &mut [Losses], grid: Grid, at: u64) -> Grid
     ensures first { result.first ≡ min at grid.first }
     ensures last { result.last ≡ max at grid.last }
     ensures names { map name_of rows.new ≡ map name_of rows.old }
@@ -104,6 +128,7 @@ fn reach(rows: &mut [Row], grid: Grid, at: u64) -> Grid
         let from = grid.first / width;
         let count = (grid.last / width).saturating_sub(from) + 1;
         double_all(rows, from, count);
+        double_losses(losses, from, count);
         width *= 2;
     }
     Grid { width, first, last }
@@ -115,6 +140,15 @@ fn double_all(rows: &mut [Row], from: u64, count: u64)
     ensures { rows.new ≡ map (doubled_row from count) rows.old }
 {
     for row in rows.iter_mut() {
+        row.double(from, count);
+    }
+}
+
+/// Doubles the bins in which samples were lost, of each row.
+fn double_losses(losses: &mut [Losses], from: u64, count: u64)
+    requires { from + count ≤ 2 ^ 64 }
+{
+    for row in losses.iter_mut() {
         row.double(from, count);
     }
 }

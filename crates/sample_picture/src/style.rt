@@ -12,6 +12,7 @@ pub const STYLE: &str = "<style>
 .daq .k{fill:#fff;stroke:#d1d9e0}
 .daq .g{stroke:#d1d9e0;fill:none}
 .daq .b{stroke:#818b98;fill:none}
+.daq .l{stroke:#d1242f;stroke-opacity:.28;stroke-width:20;fill:none}
 .daq .s{stroke:#2f78d0;stroke-width:20;fill:none}
 .daq .o{stroke:#d1242f;stroke-width:28;fill:none}
 .daq .t{fill:#d1242f}
@@ -22,6 +23,7 @@ pub const STYLE: &str = "<style>
 .daq .k{fill:#0d1117;stroke:#3d444d}
 .daq .g{stroke:#2f363e}
 .daq .b{stroke:#818b98}
+.daq .l{stroke:#ff5c57;stroke-opacity:.4}
 .daq .s{stroke:#58a6ff}
 .daq .o{stroke:#ff5c57}
 .daq .t{fill:#ff5c57}

@@ -3,8 +3,8 @@ use std::io;
 use std::rt::HostRuntime;
 
 /// What the picture of the test has: the totals, the ends of the axis and its word, a stroke for
-/// each sample, and a red one with its triangle for the overload.
-const PIECES: [&str; 9] = [
+/// each sample, a red one with its triangle for the overload, and a shade up to it.
+const PIECES: [&str; 10] = [
     "<title>Samples of the DAQ lists</title>",
     ">list 7</text>",
     ">channel 2</text>",
@@ -13,6 +13,7 @@ const PIECES: [&str; 9] = [
     ">12,000</text>",
     ">time in ticks</text>",
     "<path class=\"s\" d=\"M0 0h2M360 0h2M720 0h2\"/>",
+    "<path class=\"l\" d=\"M0 0h360\"/>",
     "<path class=\"t\" d=\"M361.1-15l-3.5-6h7z\"/>",
 ];
 
