@@ -1,5 +1,5 @@
 //! Why a text is no run.
-use crate::awaited::write_awaited;
+use crate::expected::write_expected;
 use crate::near_key::near_key;
 use crate::place_in_text::{line_of_key, line_of_string};
 use run_file::{BadKey, RunFault, is_key};
@@ -7,7 +7,7 @@ use std::alloc::{AllocError, Global};
 use toml::{Table, Value};
 
 /// Why a text, which has this name and this fault, is no run: where it stands, what stands there,
-/// and what was awaited.
+/// and what was expected.
 pub fn why_no_run(
     alloc: Global,
     name: &str,
@@ -36,12 +36,12 @@ fn write_fault(
         RunFault::BadSetup(i) => {
             write_string(why, name, text, table, "setup", i)?;
             why.push_str(
-                "awaited: 0 to 255 bytes, each as two hexadecimal digits, without spaces\n",
+                "expected: 0 to 255 bytes, each as two hexadecimal digits, without spaces\n",
             )
         }
         RunFault::BadStep(i) => {
             write_string(why, name, text, table, "steps", i)?;
-            why.push_str("awaited: trigger C STAMP IMAGE, start C L, stop C L or pump; ")?;
+            why.push_str("expected: trigger C STAMP IMAGE, start C L, stop C L or pump; ")?;
             write_channels(why, table)
         }
         RunFault::NotToml | RunFault::Memory => Ok(()),
@@ -82,7 +82,7 @@ fn write_key(
         }
         None => writeln!(why, "{name}: there is no key {key}")?,
     }
-    write_awaited(why, bad, table)
+    write_expected(why, bad, table)
 }
 
 /// Writes a key with its value, or if that is an array of strings how many there are.

@@ -2,11 +2,11 @@
 //! what came of each, and its frames; or why a text is no run.
 #![tactic(auto)]
 
-mod awaited;
 mod bad_run;
 mod byte_text;
 mod came_text;
 mod command_text;
+mod expected;
 mod frame_lines;
 mod keeping_out;
 mod list_set_text;

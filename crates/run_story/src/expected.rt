@@ -3,8 +3,8 @@ use std::alloc::AllocError;
 use toml::Table;
 
 /// Writes what the value of a bad key should be.
-pub fn write_awaited(why: &mut String, bad: BadKey, table: &Table) -> Result<(), AllocError> {
-    why.push_str("awaited: ")?;
+pub fn write_expected(why: &mut String, bad: BadKey, table: &Table) -> Result<(), AllocError> {
+    why.push_str("expected: ")?;
     match bad {
         BadKey::Unknown => why.push_str("a key of a run file\n"),
         BadKey::Channels => why.push_str("an integer from 1 to 8\n"),
