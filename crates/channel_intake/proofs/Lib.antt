@@ -1,0 +1,4 @@
+pub mod DeedLemmas
+pub mod StepLemmas
+pub mod StopLemmas
+pub mod AccountLemmas

@@ -1,0 +1,8 @@
+use Rattle.channel_intake.proofs.AccountLemmas.{counts-are, line-of}
+use Rattle.channel_intake.proofs.intake.Intake.line.Goals as goal
+
+-- the counts are those of the list's pairs, and so many of its samples were written
+pub returns-clause-line : goal.returns-clause-line
+returns-clause-line g c = λ past deeds stands ends plans front.
+    let counts = counts-are past c.args.l c.counts.result c.in_ok-counts.counts c.in_ok-counts.was (c.counts.ensures.after _ _ past ends) in
+    line-of past deeds c.args.l c.in_ok-counts.counts c.written-written.result c.saturating_sub.result counts (c.written-written.ensures.after deeds stands) c.saturating_sub.ensures plans ends.decisions front

@@ -1,0 +1,172 @@
+ghost use Rattle.std.specs.Prelude.{◌≡◌, ◌≢◌, ℕ, ◌<◌, Some, true, false, length, slice_get};
+ghost use Rattle.xcp_base.specs.declared.limits.TheConstants.{MAX_LISTS};
+ghost use Rattle.channel_ring.specs.Ends.{PassesFirst};
+ghost use Rattle.channel_intake.specs.Inner.{IsOfList, Notes, takes_one};
+
+use crate::laying::lay_first;
+use crate::list_intake::{FIRST, ListIntake, PLACES};
+use crate::step::Step;
+use channel_ring::TakeEnd;
+use frame_writer::{FrameWriter, Out, SinkOut};
+use std::marker::Model;
+
+/// The slave's end of an event channel's ring, in one measurement.
+///
+/// It is told which starts and stops of DAQ lists the slave orders from the channel's task, when it
+/// orders them. A sample that it takes is written if its list runs by these orders and the marker
+/// of each stop came before it; else it is taken and not written: it is from before a stop.
+///
+/// Contracts speak of the deeds that it stands after: these orders, and the items that it took.
+#[derive(Drop)]
+pub struct Intake<T> {
+    pub(crate) end: T,
+    lists: [ListIntake; PLACES],
+}
+
+impl<T> Model for Intake<T> {
+    ghost use Rattle.std.specs.Prelude.{◌≡◌, length};
+    ghost use Rattle.xcp_base.specs.declared.limits.TheConstants.{MAX_LISTS};
+    ghost use Rattle.channel_intake.specs.Intakes.{IntakeState};
+
+    ghost Value = { IntakeState T };
+
+    ghost view = { λ i. record { end = i.end; lists = i.lists } };
+
+    ghost invariant = { λ i. length i.lists ≡ MAX_LISTS };
+}
+
+impl<T: TakeEnd> Intake<T> {
+    ghost use Rattle.std.specs.Prelude.{◌≡◌, ℕ, ◌+◌, ◌<◌, ◌≤◌, [], List, false, length};
+    ghost use Rattle.xcp_base.specs.declared.limits.TheConstants.{MAX_LISTS};
+    ghost use Rattle.frame_writer.specs.Writing.{state_of};
+    ghost use Rattle.frame_writer.specs.declared.layout.TheConstants.{MAX_TEXT};
+    ghost use Rattle.transmitter.specs.Items.{count_of};
+    ghost use Rattle.channel_intake.specs.Deeds.{Deed, Started, Stopped, passed};
+    ghost use Rattle.channel_intake.specs.Intakes.{GoesOn, StandsAfter};
+    ghost use Rattle.channel_intake.specs.Steps.{StepMeans};
+
+    /// The intake of a ring from which nothing was taken. No list runs yet.
+    pub fn new(end: T) -> Intake<T>
+        requires nothing_taken { T.received end ≡ [] }
+        ensures stands { StandsAfter T.TakeEnd result [] }
+        ensures end { result.end ≡ end }
+    {
+        Intake {
+            end,
+            lists: [FIRST; PLACES],
+        }
+    }
+
+    /// A start of a DAQ list is ordered now.
+    pub fn start(&mut self, l: u8)
+        requires list { l < MAX_LISTS }
+        ensures goes_on { GoesOn T.TakeEnd self.old self.new (Started l) }
+        ensures end_stays { self.new.end ≡ self.old.end }
+    {
+        let kept = kept_of(&self.lists, l).started();
+        note(&mut self.lists, l, kept);
+    }
+
+    /// A stop of a DAQ list is ordered now: no sample of it is written until it is started again,
+    /// and then none that was sent before its task saw this order.
+    pub fn stop(&mut self, l: u8)
+        requires list { l < MAX_LISTS }
+        ensures goes_on { GoesOn T.TakeEnd self.old self.new (Stopped l) }
+        ensures end_stays { self.new.end ≡ self.old.end }
+    {
+        let kept = kept_of(&self.lists, l).stopped();
+        note(&mut self.lists, l, kept);
+    }
+
+    /// Takes the next item of the ring, if one is there. The frames of a sample that is written are
+    /// laid out in the buffer from `at` on, and end at `limit` or before it; where they wouldn't,
+    /// the sample stays in the ring.
+    ///
+    /// It takes no memory. Behind `limit` the buffer has `MAX_TEXT` bytes at least.
+    pub fn step(
+        &mut self,
+        writer: &mut FrameWriter<SinkOut>,
+        buffer: &mut [u8],
+        at: usize,
+        limit: usize,
+    ) -> Step
+        requires was_open { (state_of ⟦<SinkOut as Out>⟧ writer.old).closed ≡ false }
+        requires within { at ≤ limit }
+        requires room { limit + MAX_TEXT ≤ length buffer.old }
+        ensures { StepMeans T.TakeEnd self.old self.new
+            (record { writer = state_of ⟦<SinkOut as Out>⟧ writer.old; bytes = buffer.old })
+            (record { writer = state_of ⟦<SinkOut as Out>⟧ writer.new; bytes = buffer.new })
+            at limit result }
+    {
+        if !self.end.look() {
+            return Step::Nothing;
+        }
+        let step = lay_first(&self.end, &self.lists, writer, buffer, at, limit);
+        let_go(&mut self.end, step);
+        note_step(&mut self.lists, step);
+        step
+    }
+
+    /// How many samples of a DAQ list were written.
+    pub fn written(&self, l: u8) -> u64
+        requires list { l < MAX_LISTS }
+        ensures after { (deeds : List Deed) → StandsAfter T.TakeEnd self.now deeds
+            → result ≡ count_of l (passed deeds) }
+    {
+        kept_of(&self.lists, l).written
+    }
+}
+
+/// Changes what is kept of a list.
+fn note(lists: &mut [ListIntake; PLACES], l: u8, kept: ListIntake)
+    requires places { length lists.old ≡ MAX_LISTS }
+    requires list { l < MAX_LISTS }
+    ensures here { slice_get lists.new l ≡ Some kept }
+    ensures others { (k : ℕ) → k ≢ l → slice_get lists.new k ≡ slice_get lists.old k }
+    ensures places_stay { length lists.new ≡ MAX_LISTS }
+{
+    lists[l as usize] = kept;
+}
+
+/// What is kept of a list.
+fn kept_of(lists: &[ListIntake; PLACES], l: u8) -> ListIntake
+    requires places { length lists.now ≡ MAX_LISTS }
+    requires list { l < MAX_LISTS }
+    ensures { slice_get lists.now l ≡ Some result }
+{
+    lists[l as usize]
+}
+
+/// Notes what a step took.
+fn note_step(lists: &mut [ListIntake; PLACES], step: Step)
+    requires places { length lists.old ≡ MAX_LISTS }
+    requires list { IsOfList step }
+    ensures notes { Notes lists.old lists.new step }
+    ensures places_stay { length lists.new ≡ MAX_LISTS }
+{
+    match step {
+        Step::Marked(l) => {
+            let kept = kept_of(lists, l).marked();
+            note(lists, l, kept);
+        }
+        Step::Wrote(l, _) => {
+            let kept = kept_of(lists, l).wrote();
+            note(lists, l, kept);
+        }
+        Step::Nothing | Step::Full | Step::Skipped(_) => {}
+    }
+}
+
+/// Lets the first item go, if the step takes it.
+fn let_go<T: TakeEnd>(end: &mut T, step: Step)
+    requires some { 0 < length (T.known end.old) }
+    ensures takes { takes_one step ≡ true → PassesFirst (T.received end.old) (T.received end.new)
+        (T.known end.old) (T.known end.new) }
+    ensures stays { takes_one step ≡ false → end.new ≡ end.old }
+    ensures ring_stays { T.ring end.new ≡ T.ring end.old }
+{
+    match step {
+        Step::Marked(_) | Step::Skipped(_) | Step::Wrote(_, _) => end.pass(),
+        Step::Nothing | Step::Full => {}
+    }
+}

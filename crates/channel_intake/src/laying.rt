@@ -1,0 +1,79 @@
+//! What the first item of a ring comes to, and the frames of a sample.
+ghost use Rattle.std.specs.Prelude.{◌≡◌, ℕ, ◌+◌, ◌≤◌, false, true, length};
+ghost use Rattle.xcp_base.specs.declared.limits.TheConstants.{MAX_LISTS};
+ghost use Rattle.frame_writer.specs.Frame.{text};
+ghost use Rattle.frame_writer.specs.Writing.{state_of};
+ghost use Rattle.frame_writer.specs.declared.layout.TheConstants.{MAX_TEXT};
+ghost use Rattle.channel_intake.specs.Inner.{LaysFirst, LaysSample};
+
+use crate::list_intake::{ListIntake, PLACES};
+use crate::step::Step;
+use channel_ring::TakeEnd;
+use frame_writer::{FrameWriter, MAX_TEXT, Out, SinkOut};
+use xcp_base::{Item, Packets, Sample};
+
+/// How many bytes the frames of packets have: a frame has a header of four bytes where a body has
+/// a length of one.
+fn text_len(packets: &Packets) -> usize
+    ensures { (n : ℕ) → length (text n packets.now) ≡ result }
+{
+    packets.body().len() + 3 * packets.len()
+}
+
+/// What a sample comes to, if it passes or doesn't; its frames are laid out if it does and they
+/// find room.
+fn lay_sample(
+    passes: bool,
+    sample: &Sample,
+    writer: &mut FrameWriter<SinkOut>,
+    buffer: &mut [u8],
+    at: usize,
+    limit: usize,
+) -> Step
+    requires was_open { (state_of ⟦<SinkOut as Out>⟧ writer.old).closed ≡ false }
+    requires within { at ≤ limit }
+    requires room { limit + MAX_TEXT ≤ length buffer.old }
+    ensures { LaysSample passes sample.now
+        (record { writer = state_of ⟦<SinkOut as Out>⟧ writer.old; bytes = buffer.old })
+        (record { writer = state_of ⟦<SinkOut as Out>⟧ writer.new; bytes = buffer.new })
+        at limit result }
+{
+    let list = sample.list();
+    if !passes {
+        return Step::Skipped(list);
+    }
+    if text_len(sample.packets()) > limit - at {
+        return Step::Full;
+    }
+    let end = writer.send_into(buffer, at, sample.packets());
+    Step::Wrote(list, end)
+}
+
+/// What the first item of a ring comes to, which was read and stays there; the frames of a sample
+/// are laid out if it passes and they find room.
+pub fn lay_first<T: TakeEnd>(
+    end: &T,
+    lists: &[ListIntake; PLACES],
+    writer: &mut FrameWriter<SinkOut>,
+    buffer: &mut [u8],
+    at: usize,
+    limit: usize,
+) -> Step
+    requires ready { T.ready end.now ≡ true }
+    requires places { length lists.now ≡ MAX_LISTS }
+    requires was_open { (state_of ⟦<SinkOut as Out>⟧ writer.old).closed ≡ false }
+    requires within { at ≤ limit }
+    requires room { limit + MAX_TEXT ≤ length buffer.old }
+    ensures { LaysFirst (T.known end.now) lists.now
+        (record { writer = state_of ⟦<SinkOut as Out>⟧ writer.old; bytes = buffer.old })
+        (record { writer = state_of ⟦<SinkOut as Out>⟧ writer.new; bytes = buffer.new })
+        at limit result }
+{
+    match end.first() {
+        Item::Marker(marker) => Step::Marked(marker.list()),
+        Item::Sample(sample) => {
+            let passes = lists[sample.list() as usize].passes();
+            lay_sample(passes, sample, writer, buffer, at, limit)
+        }
+    }
+}
