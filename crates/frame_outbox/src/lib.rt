@@ -1,0 +1,12 @@
+//! The frames that a slave has laid out and that its transport has not taken yet: replies and whole
+//! samples, under one counter (own).
+#![tactic(auto)]
+
+mod front;
+mod limits;
+mod outbox;
+mod unit;
+
+pub use limits::{MAX_REPLIES, PAGE};
+pub use outbox::Outbox;
+pub use unit::{Origin, Unit};

@@ -1,0 +1,21 @@
+//! The limits of an outbox (own).
+use frame_writer::MAX_TEXT;
+use xcp_base::limits::MAX_CTO;
+
+/// Samples are laid out up to so many bytes: what fits one datagram.
+pub const PAGE: usize = 1400;
+
+/// The most replies that wait.
+pub const MAX_REPLIES: usize = 16;
+
+/// The frame of a reply at its longest: LEN, CTR and the packet.
+pub(crate) const MAX_REPLY: usize = 4 + MAX_CTO;
+
+/// What waits is never more: samples up to the page's end, and replies behind them.
+pub(crate) const MOST: usize = PAGE + MAX_REPLIES * MAX_REPLY;
+
+/// The room for it, with that of the longest sample behind it.
+pub(crate) const ROOM: usize = MOST + MAX_TEXT;
+
+/// The most replies and samples that wait: more than find room.
+pub(crate) const MAX_UNITS: usize = 512;
