@@ -1,5 +1,5 @@
-//! Exchanges of a slave with its master, and frames that come in pieces. As a library this crate is
-//! empty.
+//! Exchanges of a slave with its master, frames that come in pieces, frames that wait for their
+//! transport, and rings whose lists are stopped and started. As a library this crate is empty.
 #![tactic(auto)]
 
 #[cfg(test)]
@@ -10,3 +10,7 @@ mod lengths;
 mod pieces;
 #[cfg(test)]
 mod slave;
+#[cfg(test)]
+mod stops;
+#[cfg(test)]
+mod waiting;
