@@ -5,7 +5,7 @@ use frame_writer::{FrameWriter, SinkOut};
 use std::test::Fail;
 use xcp_base::{Item, Packets, StopMark};
 
-/// What comes of seven steps: a sample is written; one from before the stop isn't; then its marker
+/// What comes of each step: a sample is written; one from before the stop isn't; then its marker
 /// comes; one from behind the next start is written; nothing is left.
 const WANTED: [Step; 6] = [
     Step::Wrote(0, 7),
@@ -40,6 +40,9 @@ fn a_sample_from_before_a_stop_is_not_written(rt: HostRuntime) -> Result<(), Fai
     }
     assert_eq!(&rt; steps, WANTED);
     assert_eq!(&rt; intake.written(0), 2);
-    assert_eq!(&rt; &page[..14], &[3, 0, 0, 0, 0, 0xAA, 0xBB, 3, 0, 1, 0, 0, 0xAA, 0xBB][..]);
+    assert_eq!(&rt;
+        &page[..14],
+        &[3, 0, 0, 0, 0, 0xAA, 0xBB, 3, 0, 1, 0, 0, 0xAA, 0xBB][..]
+    );
     Ok(())
 }
