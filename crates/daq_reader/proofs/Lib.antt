@@ -5,6 +5,7 @@ pub mod GivenLemmas
 pub mod ListsLemmas
 pub mod ReadingLemmas
 pub mod ReadsLemmas
+pub mod ReadyLemmas
 pub mod RecordedLemmas
 pub mod RecordingLemmas
 pub mod SlotLemmas

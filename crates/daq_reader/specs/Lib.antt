@@ -6,5 +6,6 @@ pub mod Laws
 pub mod Lists
 pub mod Reading
 pub mod Reads
+pub mod Ready
 pub mod Recorded
 pub mod Recording

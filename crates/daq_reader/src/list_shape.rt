@@ -76,6 +76,13 @@ impl ListShape {
         self.list
     }
 
+    /// The event channel.
+    pub fn channel(&self) -> u8
+        ensures { result ≡ self.now.channel }
+    {
+        self.channel
+    }
+
     /// The form of the packets.
     pub fn form(&self) -> PacketForm
         ensures { result ≡ self.now.form }

@@ -33,6 +33,7 @@ pub fn read<S: Samples>(
         → IsRecordingOf (plans_of reader.old) written before unread.old
         → IsOk result × AreGivenBack reader.new written (S.handed samples.new) }
     ensures lists { plans_of reader.new ≡ plans_of reader.old }
+    ensures kept { S.kept samples.new ≡ S.kept samples.old }
 
     ensures torn { result ≡ Err (ReadFault.Frame FrameFault.Torn)
         → (unread.new.rest ≢ []) × ((n : ℕ) → ¬ HasFrame unread.new n) }
@@ -72,6 +73,7 @@ pub fn read_frame<S: Samples>(
     ensures err { OnErr result ((unread.new ≡ unread.old) × (reader.new ≡ reader.old)
         × (S.handed samples.new ≡ S.handed samples.old)) }
     ensures lists { plans_of reader.new ≡ plans_of reader.old }
+    ensures kept { S.kept samples.new ≡ S.kept samples.old }
 {
     let before = Unread::new(unread.rest(), unread.counter());
     let packet = match unread.next_packet() {
@@ -99,6 +101,7 @@ pub fn read_packet<S: Samples>(
     ensures err { OnErr result (reader.new ≡ reader.old) }
     ensures none_handed { OnErr result (S.handed samples.new ≡ S.handed samples.old) }
     ensures lists { plans_of reader.new ≡ plans_of reader.old }
+    ensures kept { S.kept samples.new ≡ S.kept samples.old }
 {
     let whole = match reader.take(packet) {
         Ok(whole) => whole,

@@ -8,7 +8,14 @@ pub trait Samples {
     /// The samples that it was handed, in order, each with the place of its list.
     ghost handed: { Self → List (ℕ × Recorded) };
 
+    /// What no sample changes.
+    ghost Kept: { Type 0 } = { Unit {0} };
+
+    ghost kept: { Self → Self.Kept };
+
     /// Is handed a sample.
     fn hand(&mut self, place: usize, sample: &SampleView<'_>)
-        ensures { handed self.new ≡ handed self.old ++ (place, sample.now.sample) ∷ [] };
+        ensures handed { Self.handed self.new
+            ≡ Self.handed self.old ++ (place, sample.now.sample) ∷ [] }
+        ensures kept { Self.kept self.new ≡ Self.kept self.old };
 }

@@ -31,6 +31,8 @@ impl Shelf {
 impl Samples for Shelf {
     ghost handed = { λ a. a.log.samples };
 
+    ghost kept = { λ _. tt };
+
     fn hand(&mut self, place: usize, sample: &SampleView<'_>) {
         self.log.note(place, sample);
         let mut image = [0; 4];

@@ -1,28 +1,19 @@
 //! The program: from its words to its status.
-ghost use Rattle.std.specs.Prelude.{◌≡◌, ◌≢◌, ◌≤◌, Err, IfErr, IfOk, IsOk, Ok};
-ghost use Rattle.std.specs.IoError.{error_kind};
-ghost use Rattle.recording.specs.Faults.{want_of_memory};
+ghost use Rattle.std.specs.Prelude.{◌≡◌, ◌≤◌, ◌↔◌, IfOk, true};
 
-use crate::drawing::Drawing;
-use crate::lists::reader_of;
 use crate::messages::Messages;
-use crate::mode::Mode;
-use crate::piece::Piece;
 use crate::program_fault::ProgramFault;
-use crate::recording::{pass_replies, read_frames};
-use crate::sample_rows::SampleRows;
-use crate::summary::Summary;
-use crate::summary_text::print_summary;
+use crate::recording::pass_replies;
+use crate::showing::show_samples;
 use crate::words::{Asked, Words, read_words};
 use clap::Error;
 use daq_run::set_up;
 use daq_sim::{TextFault, run_from};
-use daq_store::Store;
 use frame_writer::VecOut;
 use run_file::Run;
 use std::alloc::Global;
 use std::fs;
-use std::io::{self, BufWriter, ErrorKind, Read, Write};
+use std::io::{self, BufWriter, Write};
 use std::rt::Files;
 
 /// The program over its words, without its name, its standard output and standard error. It answers
@@ -38,7 +29,7 @@ pub fn program<R: Files, W: Write + Drop, E: Write + Drop>(
 {
     let mut messages = Messages::new(err);
     let answer = match BufWriter::new(alloc, out) {
-        Ok(mut out) => answer(rt, alloc, words, &mut out, &mut messages),
+        Ok(out) => answer(rt, alloc, words, out, &mut messages),
         Err(_) => Err(ProgramFault::MEMORY),
     };
     match answer {
@@ -51,11 +42,11 @@ pub fn program<R: Files, W: Write + Drop, E: Write + Drop>(
 }
 
 /// What the words ask for: the status once that is printed, or the fault that is still to be.
-fn answer<R: Files, W: Write, E: Write + Drop>(
+fn answer<R: Files, W: Write + Drop, E: Write + Drop>(
     rt: &R,
     alloc: Global,
     words: &[String],
-    out: &mut W,
+    out: W,
     messages: &mut Messages<E>,
 ) -> Result<u8, ProgramFault>
     ensures { IfOk result (λ status. status ≤ 1) }
@@ -67,18 +58,20 @@ fn answer<R: Files, W: Write, E: Write + Drop>(
 }
 
 /// Prints the help, and answers the status.
-fn print_help<W: Write>(out: &mut W, help: Error) -> u8
+fn print_help<W: Write + Drop>(out: W, help: Error) -> u8
     ensures { result ≤ 1 }
 {
-    status_of(write!(out, "{help}").and_then(|()| out.flush()))
+    let mut out = out;
+    let printing = write!(out, "{help}").and_then(|()| out.flush());
+    status_of(printing.is_ok())
 }
 
 /// Reads the recording that words name, and prints its samples.
-fn show<R: Files, W: Write, E: Write + Drop>(
+fn show<R: Files, W: Write + Drop, E: Write + Drop>(
     rt: &R,
     alloc: Global,
     words: Words<'_>,
-    out: &mut W,
+    out: W,
     messages: &mut Messages<E>,
 ) -> Result<u8, ProgramFault>
     ensures { IfOk result (λ status. status ≤ 1) }
@@ -92,73 +85,17 @@ fn show<R: Files, W: Write, E: Write + Drop>(
     if words.progress {
         messages.want_progress();
     }
-    match fs::open(rt, words.frames) {
-        Ok(mut file) => {
-            let mut piece = pass_replies(alloc, &mut file, replies.bytes(), frames)?;
-            show_samples(
-                alloc, &store, words.mode, &mut file, &mut piece, out, messages,
-            )
+    let mut file = match fs::open(rt, words.frames) {
+        Ok(file) => file,
+        Err(error) => {
+            return Err(ProgramFault::of_recording(TextFault::Unreadable.or_memory(&error)));
         }
-        Err(error) => Err(ProgramFault::of_recording(TextFault::Unreadable.or_memory(&error))),
-    }
-}
-
-/// Reads a recording behind its replies, and prints its samples.
-fn show_samples<I: Read, W: Write, E: Write + Drop>(
-    alloc: Global,
-    store: &Store,
-    mode: Mode,
-    input: &mut I,
-    piece: &mut Piece,
-    out: &mut W,
-    messages: &mut Messages<E>,
-) -> Result<u8, ProgramFault>
-    ensures { IfOk result (λ status. status ≤ 1) }
-{
-    let mut reader = reader_of(alloc, store)?;
-    match mode {
-        Mode::Summary => {
-            let mut summary = Summary::new(alloc, store.lists() as usize)?;
-            let outcome = read_frames(input, piece, &mut reader, &mut summary, messages);
-            messages.end_progress();
-            concluded(outcome, print_summary(out, store, &summary))
-        }
-        Mode::Csv => {
-            let mut rows = SampleRows::new(store, &mut *out);
-            let outcome = read_frames(input, piece, &mut reader, &mut rows, messages);
-            messages.end_progress();
-            let printing = rows.finish();
-            concluded(outcome, printing.and_then(|()| out.flush()))
-        }
-        Mode::Svg => {
-            let mut drawing = Drawing::new(alloc, store)?;
-            let outcome = read_frames(input, piece, &mut reader, &mut drawing, messages);
-            messages.end_progress();
-            concluded(outcome, drawing.print(out).and_then(|()| out.flush()))
-        }
-    }
-}
-
-/// What comes of a recording that was read, or breaks off, and of what was printed of it: where it
-/// breaks off, that is the fault; else want of memory is one, and the status tells of any other.
-fn concluded(
-    outcome: Result<(), ProgramFault>,
-    printing: io::Result<()>,
-) -> Result<u8, ProgramFault>
-    ensures status { IfOk result (λ status. status ≤ 1) }
-    ensures fault { IfErr outcome (λ fault. result ≡ Err fault) }
-    ensures printed { IsOk outcome → IsOk printing → result ≡ Ok 0 }
-    ensures memory { IsOk outcome → IfErr printing (λ error.
-        error_kind error ≡ ErrorKind.OutOfMemory → result ≡ Err want_of_memory) }
-    ensures other { IsOk outcome → IfErr printing (λ error.
-        error_kind error ≢ ErrorKind.OutOfMemory → result ≡ Ok 1) }
-{
-    outcome?;
-    match printing {
-        Ok(()) => Ok(0),
-        Err(error) if error.kind() == ErrorKind::OutOfMemory => Err(ProgramFault::MEMORY),
-        Err(_) => Ok(1),
-    }
+    };
+    let mut piece = pass_replies(alloc, &mut file, replies.bytes(), frames)?;
+    let shown = show_samples(
+        alloc, &store, words.mode, &mut file, &mut piece, out, messages,
+    )?;
+    Ok(status_of(shown.is_some()))
 }
 
 /// The run of a file.
@@ -169,9 +106,10 @@ fn run_of<R: Files>(rt: &R, alloc: Global, path: &str) -> Result<Run, ProgramFau
     }
 }
 
-/// The status: 1 where the output can't be printed, else 0.
-fn status_of(printing: io::Result<()>) -> u8
-    ensures { result ≤ 1 }
+/// The status: 0 where all was printed, else 1.
+fn status_of(printed: bool) -> u8
+    ensures range { result ≤ 1 }
+    ensures well { (result ≡ 0) ↔ (printed ≡ true) }
 {
-    if printing.is_err() { 1 } else { 0 }
+    if printed { 0 } else { 1 }
 }

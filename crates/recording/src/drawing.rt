@@ -1,4 +1,6 @@
-ghost use Rattle.std.specs.Prelude.{◌≡◌, ◌++◌, ◌∷◌, [], IfOk};
+ghost use Rattle.std.specs.Prelude.{◌≡◌, ◌++◌, ◌∷◌, ℕ, List, [], IfOk, OnOk};
+ghost use Rattle.std.specs.Io.KnownBytes.{Appends};
+ghost use Rattle.sample_picture.specs.Shown.{IsClosed};
 
 use crate::places::Places;
 use daq_reader::{SampleLog, SampleView, Samples};
@@ -53,18 +55,22 @@ impl Drawing {
     }
 
     /// Writes the picture as SVG.
-    pub fn print<W: Write>(&self, out: &mut W) -> io::Result<()> {
-        self.picture.print(out, self.places.axis())
+    pub fn print<W: Write>(&self, out: &mut W) -> io::Result<()>
+        ensures { OnOk result ((text : List ℕ) × IsClosed text
+            × Appends (W.contents out.old) (W.contents out.new) text) }
+    {
+        self.picture.print(out, self.places.axis())?;
+        out.flush()
     }
 }
 
 impl Samples for Drawing {
     ghost handed = { λ a. a };
 
+    ghost kept = { λ _. tt };
+
     /// The sample stands in the row of its list.
-    fn hand(&mut self, place: usize, sample: &SampleView<'_>)
-        ensures { self.new ≡ self.old ++ (place, sample.now.sample) ∷ [] }
-    {
+    fn hand(&mut self, place: usize, sample: &SampleView<'_>) {
         let at = self.places.next(place, sample.stamp());
         self.picture.sample(place, at, sample.overload());
         self.log.note(place, sample);

@@ -111,6 +111,7 @@ pub fn read_frames<I: Read, S: Samples, E: Write + Drop>(
         → ((at : BreakOff) → result ≢ Err (BreaksOff at))
         × OnOk result (AreGivenBack reader.new written (S.handed samples.new)) }
     ensures lists { plans_of reader.new ≡ plans_of reader.old }
+    ensures kept { S.kept samples.new ≡ S.kept samples.old }
 {
     let mut chunk = [0; CHUNK];
     for _ in 0..MAX_READS {
@@ -176,6 +177,7 @@ fn take_whole<S: Samples>(
     ensures long { result ≡ Err (ReadFault.Frame FrameFault.Torn)
         → MAX_FRAME ≤ length piece.new.bytes.items }
     ensures lists { plans_of reader.new ≡ plans_of reader.old }
+    ensures kept { S.kept samples.new ≡ S.kept samples.old }
 {
     let Err(why) = take_frames(piece, reader, samples) else {
         return Ok(());
@@ -210,6 +212,7 @@ fn take_frames<S: Samples>(
     ensures end { OnOk result (piece.new.bytes.items ≡ []) }
     ensures fault { IfErr result (IsFaultOf reader.new (unread_of piece.new)) }
     ensures lists { plans_of reader.new ≡ plans_of reader.old }
+    ensures kept { S.kept samples.new ≡ S.kept samples.old }
 {
     let counter = piece.place.counter();
     let mut unread = Unread::new(&piece.bytes, counter);

@@ -1,12 +1,19 @@
 //! A row of the CSV text: one element of a sample.
-ghost use Rattle.std.specs.Prelude.{◌≡◌, ◌≤◌, length};
-ghost use Rattle.xcp_base.specs.declared.limits.TheConstants.{MAX_ENTRY_SIZE};
-ghost use Rattle.recording.specs.Rows.{unsigned_of};
+ghost use Rattle.std.specs.Prelude.{◌≡◌, ◌≤◌, ◌*◌, length, OnOk};
+ghost use Rattle.std.specs.Fmt.{decimal};
+ghost use Rattle.std.specs.Io.KnownBytes.{Appends};
+ghost use Rattle.csv.specs.Writing.{row_text, text_written};
+ghost use Rattle.hex.specs.Hex.{encode_lower};
+ghost use Rattle.recording.specs.declared.row.TheConstants.{MAX_SIZE};
+ghost use Rattle.recording.specs.Rows.{IsBetweenRows, column_names, if_some, one_or_zero, rfc_4180};
+ghost use Rattle.recording.specs.Rows.{row_fields, unsigned_of};
 
 use csv::{Error, Writer};
 use itoa::Buffer;
 use std::io::Write;
-use xcp_base::limits::MAX_ENTRY_SIZE;
+
+/// No element has more bytes.
+const MAX_SIZE: usize = 255;
 
 /// One element of a sample: the bytes of an entry, and where they come from.
 #[derive(Clone, Copy)]
@@ -28,55 +35,102 @@ pub struct Row<'a> {
 }
 
 /// Writes the names of the columns.
-pub fn write_names<W: Write + Drop>(rows: &mut Writer<W>) -> Result<(), Error> {
-    for name in [
-        "time", "list", "odt", "entry", "address", "size", "hex", "unsigned", "overload",
-    ] {
-        rows.write_field(name.as_bytes())?;
-    }
-    rows.end_record()
+pub fn write_names<W: Write + Drop>(rows: &mut Writer<W>) -> Result<(), Error>
+    requires { IsBetweenRows rows.old }
+    ensures text { OnOk result (Appends (text_written W.contents rows.old)
+        (text_written W.contents rows.new) (row_text rfc_4180 column_names)) }
+    ensures between { OnOk result (IsBetweenRows rows.new) }
+{
+    let names: [&[u8]; 9] = [
+        b"time",
+        b"list",
+        b"odt",
+        b"entry",
+        b"address",
+        b"size",
+        b"hex",
+        b"unsigned",
+        b"overload",
+    ];
+    rows.write_fields(&names)
 }
 
 /// Writes a row.
 pub fn write_row<W: Write + Drop>(rows: &mut Writer<W>, row: Row<'_>) -> Result<(), Error>
-    requires { length row.bytes.now ≤ MAX_ENTRY_SIZE }
+    requires between { IsBetweenRows rows.old }
+    requires size { length row.bytes.now ≤ MAX_SIZE }
+    ensures text { OnOk result (Appends (text_written W.contents rows.old)
+        (text_written W.contents rows.new) (row_text rfc_4180 (row_fields row.entry.time
+        row.entry.list row.entry.odt row.entry.entry row.entry.address row.entry.bytes.now
+        row.entry.overload))) }
+    ensures between { OnOk result (IsBetweenRows rows.new) }
 {
-    write_if_some(rows, row.time.map(|ticks| ticks as u64))?;
-    write_number(rows, row.list as u64)?;
-    write_number(rows, row.odt as u64)?;
-    write_number(rows, row.entry as u64)?;
-    write_number(rows, row.address as u64)?;
-    write_number(rows, row.bytes.len() as u64)?;
-    write_hex(rows, row.bytes)?;
-    write_if_some(rows, unsigned_of(row.bytes))?;
-    write_number(rows, row.overload as u64)?;
-    rows.end_record()
+    let mut ticks = Buffer::new();
+    let mut list = Buffer::new();
+    let mut odt = Buffer::new();
+    let mut entry = Buffer::new();
+    let mut address = Buffer::new();
+    let mut size = Buffer::new();
+    let mut digits = [0; 2 * MAX_SIZE];
+    let mut unsigned = Buffer::new();
+    let fields: [&[u8]; 9] = [
+        if_some(&mut ticks, widened(row.time)),
+        decimal(&mut list, row.list as u64),
+        decimal(&mut odt, row.odt as u64),
+        decimal(&mut entry, row.entry as u64),
+        decimal(&mut address, row.address as u64),
+        decimal(&mut size, row.bytes.len() as u64),
+        hexadecimal(&mut digits, row.bytes),
+        if_some(&mut unsigned, unsigned_of(row.bytes)),
+        one_or_zero(row.overload),
+    ];
+    rows.write_fields(&fields)
 }
 
-/// Writes a number in decimal digits.
-fn write_number<W: Write + Drop>(rows: &mut Writer<W>, number: u64) -> Result<(), Error> {
-    let mut buffer = Buffer::new();
-    rows.write_field(buffer.format(number).as_bytes())
+/// A number in decimal digits.
+fn decimal(buffer: &mut Buffer, number: u64) -> &[u8]
+    ensures { result.now ≡ decimal number }
+{
+    buffer.format(number).as_bytes()
 }
 
-/// Writes a number, or nothing where there is none.
-fn write_if_some<W: Write + Drop>(rows: &mut Writer<W>, number: Option<u64>) -> Result<(), Error> {
+/// A number, or nothing where there is none.
+fn if_some(buffer: &mut Buffer, number: Option<u64>) -> &[u8]
+    ensures { result.now ≡ if_some number }
+{
     match number {
-        Some(number) => write_number(rows, number),
-        None => rows.write_field(b""),
+        Some(number) => decimal(buffer, number),
+        None => b"",
     }
 }
 
-/// Writes bytes in lower-case hexadecimal.
-fn write_hex<W: Write + Drop>(rows: &mut Writer<W>, bytes: &[u8]) -> Result<(), Error>
-    requires { length bytes.now ≤ MAX_ENTRY_SIZE }
+/// The same number, if there is one.
+fn widened(number: Option<u32>) -> Option<u64>
+    ensures { result ≡ number }
 {
-    let mut buffer = [0; 2 * MAX_ENTRY_SIZE as usize];
+    match number {
+        Some(number) => Some(number as u64),
+        None => None,
+    }
+}
+
+/// Bytes in lower-case hexadecimal.
+fn hexadecimal<'b>(buffer: &'b mut [u8], bytes: &[u8]) -> &'b [u8]
+    requires { 2 * length bytes.now ≤ length buffer.old }
+    ensures { result.now ≡ encode_lower bytes.now }
+{
     let text = &mut buffer[..2 * bytes.len()];
     let Ok(()) = hex::encode_to_slice(bytes, text) else {
         unreachable!();
     };
-    rows.write_field(text)
+    text
+}
+
+/// 1 or 0.
+fn one_or_zero(holds: bool) -> &'static [u8]
+    ensures { result.now ≡ one_or_zero holds }
+{
+    if holds { b"1" } else { b"0" }
 }
 
 /// The unsigned number of 1, 2, 4 or 8 bytes, the least significant first.

@@ -1,85 +1,175 @@
-ghost use Rattle.std.specs.Prelude.{◌≡◌, ◌++◌, ◌∷◌, []};
+ghost use Rattle.std.specs.Prelude.{◌≡◌, [], IfOk, OnOk, Some, false, slice_get, true};
+ghost use Rattle.std.specs.Option.{option_copied};
+ghost use Rattle.std.specs.Io.KnownBytes.{Appends};
+ghost use Rattle.csv.specs.Writing.{row_text, text_written};
+ghost use Rattle.copy_plan.specs.Config.{OdtEntry, odt};
+ghost use Rattle.recording.specs.Rows.{IsBetweenRows, column_names, csv_text, entry_text, odt_text};
+ghost use Rattle.recording.specs.Rows.{rfc_4180, sample_text, text_at};
 
 use crate::row::{Row, write_names, write_row};
 use csv::{Error, Terminator, Writer, WriterBuilder};
-use daq_reader::{SampleLog, SampleView, Samples};
-use daq_store::{ListConf, Store};
+use daq_reader::{ListShape, SampleLog, SampleView, Samples};
 use std::io::{self, ErrorKind, Write};
 use std::marker::Model;
+use std::snapshot::Snapshot;
 
 /// Writes each sample that it is handed as rows of CSV, one row an element.
 ///
 /// The text is that of RFC 4180. After the first row that can't be written there is no more.
 #[derive(Drop)]
-pub struct SampleRows<'a, W: Write + Drop> {
-    store: &'a Store,
+pub struct SampleRows<W: Write + Drop> {
+    shapes: Vec<ListShape>,
     rows: Writer<W>,
     failed: bool,
+    start: Snapshot<W>,
     log: SampleLog,
 }
 
-impl<'a, W: Write + Drop> Model for SampleRows<'a, W> {
-    ghost use Rattle.std.specs.Prelude.{ℕ, List};
-    ghost use Rattle.daq_reader.specs.Recorded.{Recorded};
+impl<W: Write + Drop> Model for SampleRows<W> {
+    ghost use Rattle.std.specs.Prelude.{◌≡◌, false};
+    ghost use Rattle.recording.specs.Rows.{HasRows, RowsState};
 
-    ghost Value = { List (ℕ × Recorded) };
+    ghost Value = { RowsState };
 
-    ghost view = { λ a. a.log.samples };
+    ghost view = { λ a. record {
+      plans = a.shapes.items;
+      start = W.contents a.start.value;
+      samples = a.log.samples;
+    } };
+
+    ghost invariant = { λ a. a.failed ≡ false → HasRows W.contents a.shapes.items
+        (W.contents a.start.value) a.log.samples a.rows };
 }
 
-impl<'a, W: Write + Drop> SampleRows<'a, W> {
-    /// Writes the names of the columns; the samples will be those of the lists of a store.
-    pub fn new(store: &'a Store, out: W) -> SampleRows<'a, W>
-        ensures { result ≡ [] }
+impl<W: Write + Drop> SampleRows<W> {
+    /// Writes the names of the columns; the samples will be those of DAQ lists of these shapes.
+    pub fn new(shapes: Vec<ListShape>, out: W) -> SampleRows<W>
+        ensures { result ≡ record {
+          plans = shapes.items;
+          start = W.contents out;
+          samples = [];
+        } }
     {
+        let start = Snapshot::of(&out);
         let mut rows = WriterBuilder::new()
             .terminator(Terminator::CRLF)
             .from_writer(out);
-        let failed = write_names(&mut rows).is_err();
+        let failed = !are_named(&mut rows);
         SampleRows {
-            store,
+            shapes,
             rows,
             failed,
+            start,
             log: SampleLog::new(),
         }
     }
 
-    /// Writes out what is left; refused where that, or a row, can't be written.
-    pub fn finish(self) -> io::Result<()> {
+    /// Writes out what is left, and gives the writer back; refused where that, or a row, can't be
+    /// written.
+    pub fn finish(self) -> io::Result<W>
+        ensures { IfOk result (λ out.
+            Appends self.start (W.contents out) (csv_text self.plans self.samples)) }
+    {
         let SampleRows { rows, failed, .. } = self;
-        let mut rows = rows;
-        if rows.flush().is_err() || failed {
+        if failed {
             return Err(io::Error::from(ErrorKind::Other));
         }
-        Ok(())
-    }
-}
-
-impl<'a, W: Write + Drop> Samples for SampleRows<'a, W> {
-    ghost handed = { λ a. a };
-
-    fn hand(&mut self, place: usize, sample: &SampleView<'_>)
-        ensures handed { self.new ≡ self.old ++ (place, sample.now.sample) ∷ [] }
-    {
-        self.log.note(place, sample);
-        if self.failed {
-            return;
+        match rows.into_inner() {
+            Ok(out) => Ok(out),
+            Err(_) => Err(io::Error::from(ErrorKind::Other)),
         }
-        self.failed = write_sample(&mut self.rows, self.store, sample).is_err();
     }
 }
 
-/// Writes the rows of a sample of a list of a store.
+impl<W: Write + Drop> Samples for SampleRows<W> {
+    ghost use Rattle.recording.specs.Rows.{RowsStart};
+
+    ghost handed = { λ a. a.samples };
+
+    ghost Kept = { RowsStart };
+
+    ghost kept = { λ a. record { plans = a.plans; start = a.start } };
+
+    /// Writes the rows of the sample.
+    fn hand(&mut self, place: usize, sample: &SampleView<'_>) {
+        let shape = shape_at(&self.shapes, place);
+        self.failed = !go_on(self.failed, &mut self.rows, shape, sample);
+        self.log.note(place, sample);
+    }
+}
+
+/// The shape of the list at a place; `None` exactly where there is none.
+fn shape_at(shapes: &[ListShape], place: usize) -> Option<&ListShape>
+    ensures { option_copied result ≡ slice_get shapes.now place }
+{
+    shapes.get(place)
+}
+
+/// Writes the names of the columns, and tells whether they are written.
+fn are_named<W: Write + Drop>(rows: &mut Writer<W>) -> bool
+    requires { IsBetweenRows rows.old }
+    ensures text { result ≡ true → Appends (text_written W.contents rows.old)
+        (text_written W.contents rows.new) (row_text rfc_4180 column_names) }
+    ensures between { result ≡ true → IsBetweenRows rows.new }
+{
+    let Ok(()) = write_names(rows) else {
+        return false;
+    };
+    true
+}
+
+/// Writes the rows of a sample, if none failed before, and tells whether all are written.
+fn go_on<W: Write + Drop>(
+    failed: bool,
+    rows: &mut Writer<W>,
+    shape: Option<&ListShape>,
+    sample: &SampleView<'_>,
+) -> bool
+    requires { failed ≡ false → IsBetweenRows rows.old }
+    ensures before { result ≡ true → failed ≡ false }
+    ensures text { result ≡ true → Appends (text_written W.contents rows.old)
+        (text_written W.contents rows.new) (text_at (option_copied shape.entry) sample.now.sample) }
+    ensures between { result ≡ true → IsBetweenRows rows.new }
+{
+    if failed {
+        return false;
+    }
+    are_written(rows, shape, sample)
+}
+
+/// Writes the rows of a sample, of a list if there is one, and tells whether they are written.
+fn are_written<W: Write + Drop>(
+    rows: &mut Writer<W>,
+    shape: Option<&ListShape>,
+    sample: &SampleView<'_>,
+) -> bool
+    requires { IsBetweenRows rows.old }
+    ensures text { result ≡ true → Appends (text_written W.contents rows.old)
+        (text_written W.contents rows.new) (text_at (option_copied shape.entry) sample.now.sample) }
+    ensures between { result ≡ true → IsBetweenRows rows.new }
+{
+    let Some(shape) = shape else {
+        return true;
+    };
+    let Ok(()) = write_sample(rows, shape, sample) else {
+        return false;
+    };
+    true
+}
+
+/// Writes the rows of a sample of a list.
 fn write_sample<W: Write + Drop>(
     rows: &mut Writer<W>,
-    store: &Store,
+    shape: &ListShape,
     sample: &SampleView<'_>,
-) -> Result<(), Error> {
-    let Some(conf) = store.plan(sample.shape().list() as u16) else {
-        return Ok(());
-    };
-    for k in 0..sample.shape().odts() {
-        write_odt(rows, conf, sample, k)?;
+) -> Result<(), Error>
+    requires { IsBetweenRows rows.old }
+    ensures text { OnOk result (Appends (text_written W.contents rows.old)
+        (text_written W.contents rows.new) (sample_text shape.now sample.now.sample)) }
+    ensures between { OnOk result (IsBetweenRows rows.new) }
+{
+    for k in 0..shape.odts() {
+        write_odt(rows, shape, sample, k)?;
     }
     Ok(())
 }
@@ -87,28 +177,40 @@ fn write_sample<W: Write + Drop>(
 /// Writes the rows of an ODT of a sample.
 fn write_odt<W: Write + Drop>(
     rows: &mut Writer<W>,
-    conf: &ListConf,
+    shape: &ListShape,
     sample: &SampleView<'_>,
     k: usize,
-) -> Result<(), Error> {
-    for e in 0..sample.shape().entries(k) {
-        write_element(rows, conf, sample, k, e)?;
+) -> Result<(), Error>
+    requires { IsBetweenRows rows.old }
+    ensures text { OnOk result (Appends (text_written W.contents rows.old)
+        (text_written W.contents rows.new)
+        (odt_text shape.now sample.now.sample (k, odt shape.now k))) }
+    ensures between { OnOk result (IsBetweenRows rows.new) }
+{
+    for e in 0..shape.entries(k) {
+        write_entry(rows, shape, sample, k, e)?;
     }
     Ok(())
 }
 
-/// Writes the row of entry `e` of ODT `k` of a sample; none where the list has another entry there.
-fn write_element<W: Write + Drop>(
+/// Writes the row of entry `e` of ODT `k` of a sample, if the sample has as many bytes there.
+fn write_entry<W: Write + Drop>(
     rows: &mut Writer<W>,
-    conf: &ListConf,
+    shape: &ListShape,
     sample: &SampleView<'_>,
     k: usize,
     e: usize,
-) -> Result<(), Error> {
-    let Some(bytes) = sample.entry(k, e) else {
+) -> Result<(), Error>
+    requires { IsBetweenRows rows.old }
+    ensures text { (entry : OdtEntry) → slice_get (odt shape.now k) e ≡ Some entry
+        → OnOk result (Appends (text_written W.contents rows.old)
+        (text_written W.contents rows.new) (entry_text shape.now sample.now.sample k (e, entry))) }
+    ensures between { OnOk result (IsBetweenRows rows.new) }
+{
+    let Some((address, size)) = shape.entry(k, e) else {
         return Ok(());
     };
-    let Some((address, size)) = conf.entry(k, e) else {
+    let Some(bytes) = sample.entry(k, e) else {
         return Ok(());
     };
     if bytes.len() != size as usize {
@@ -116,7 +218,7 @@ fn write_element<W: Write + Drop>(
     }
     let row = Row {
         time: sample.stamp(),
-        list: sample.shape().list(),
+        list: shape.list(),
         odt: k,
         entry: e,
         address,

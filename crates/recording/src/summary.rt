@@ -55,13 +55,19 @@ impl Summary {
 }
 
 impl Samples for Summary {
+    ghost use Rattle.std.specs.Prelude.{ℕ};
+
     ghost handed = { λ a. a.samples };
+
+    ghost Kept = { ℕ };
+
+    ghost kept = { λ a. a.lists };
 
     /// Counts the sample for the list at the place; it is counted for none where there is no such
     /// list.
     fn hand(&mut self, place: usize, sample: &SampleView<'_>)
         ensures handed { self.new.samples ≡ self.old.samples ++ (place, sample.now.sample) ∷ [] }
-        ensures lists_stay { self.new.lists ≡ self.old.lists }
+        ensures kept { self.new.lists ≡ self.old.lists }
     {
         count(&mut self.tallies, place, sample.overload(), sample.stamp());
         self.log.note(place, sample);

@@ -10,7 +10,6 @@ mod expected;
 mod frame_lines;
 mod keeping_out;
 mod list_set_text;
-mod lists;
 mod near_key;
 mod place_in_text;
 mod reply_text;

@@ -10,6 +10,7 @@ loop-preserved g c =
       λ qs h. one_read c.loop.reader c.read_frame.new.reader qs (g.S.Samples.handed c.loop.samples) (g.S.Samples.handed c.read_frame.new.samples) c.args.unread.now c.loop.unread c.read_frame.new.unread next.0 (c.loop.invariant.0 qs h) next.1 next.2,
       λ before written h is. one_within written c.loop.reader c.read_frame.new.reader (g.S.Samples.handed c.loop.samples) (g.S.Samples.handed c.read_frame.new.samples) c.loop.unread c.read_frame.new.unread next.0 (c.loop.invariant.1 before written h is) next.1 c.read_frame.ensures.lists next.2,
       c.read_frame.ensures.lists ∙ c.loop.invariant.2,
+      c.read_frame.ensures.kept ∙ c.loop.invariant.3,
     )
 
 -- no frame of a recording of whole samples is refused

@@ -6,7 +6,8 @@ use Rattle.daq_reader.specs.Recording.{IsRecordingOf}
 use Rattle.daq_reader.proofs.RecordingLemmas.{IsWithin}
 use Rattle.daq_reader.proofs.reading.read.Given as goal
 
--- the frames so far were read; of a recording of whole samples, what is left is one; the lists stay
+-- the frames so far were read; of a recording of whole samples, what is left is one; the lists and
+-- what no sample changes stay
 abbrev pub invariant-loop : goal.invariant-loop
 invariant-loop g l =
     ((qs : List (List ℕ)) → Stands l.fn.reader qs (g.S.Samples.handed l.fn.samples)
@@ -16,6 +17,7 @@ invariant-loop g l =
     → IsRecordingOf (plans_of l.fn.reader) written before l.fn.unread
     → IsWithin written l.reader (g.S.Samples.handed l.samples) l.unread)
     × (plans_of l.reader ≡ plans_of l.fn.reader)
+    × (g.S.Samples.kept l.samples ≡ g.S.Samples.kept l.fn.samples)
 
 -- each frame has bytes
 abbrev pub decreases-loop : goal.decreases-loop

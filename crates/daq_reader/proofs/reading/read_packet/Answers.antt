@@ -32,4 +32,4 @@ returns-clause-stands g c = λ qs h.
     let with : StandsWith c.take.new.self (qs ++ c.args.packet.now ∷ []) before (Some c.in-Some.place)
     = subst (λ (o : Option ℕ). StandsWith c.take.new.self (qs ++ c.args.packet.now ∷ []) before o) c.in-Some.is (c.in-Ok.ensures.stands qs before h) in
     let of : AreOf c.in-Some-list.list.now.plan c.in-Some-sample.sample.sample c.in-Some-list.list.now.packets = c.in-Some-sample.ensures.value in
-    subst (λ (gs : List (ℕ × Recorded)). Stands c.take.new.self (qs ++ c.args.packet.now ∷ []) gs) (sym c.hand.ensures) (with c.in-Some-list.list.now c.in-Some-sample.sample.sample (sym c.in-Some-list.ensures) of)
+    subst (λ (gs : List (ℕ × Recorded)). Stands c.take.new.self (qs ++ c.args.packet.now ∷ []) gs) (sym c.hand.ensures.handed) (with c.in-Some-list.list.now c.in-Some-sample.sample.sample (sym c.in-Some-list.ensures) of)

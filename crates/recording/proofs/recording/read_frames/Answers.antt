@@ -11,7 +11,7 @@ use Rattle.recording.proofs.recording.read_frames.Goals as goal
 
 -- before the first piece
 pub loop-init : goal.loop-init
-loop-init g c = (c.requires.stands, search rules, nothing_passed _ _ _ _, refl)
+loop-init g c = (c.requires.stands, search rules, nothing_passed _ _ _ _, refl, refl)
 
 -- the reader and the samples stand after one piece more
 pub loop-preserved : goal.loop-preserved
@@ -20,6 +20,7 @@ loop-preserved g c = (
   c.in_ok-read_more.ensures.room_stays ∙ c.loop.invariant.1,
   read_pass _ _ _ _ _ _ _ _ _ _ c.loop.piece c.take_whole.new.piece (record { bytes = c.read_more.new.held; place = c.take_whole.new.piece.place }) c.loop.invariant.2 c.take_whole.ensures.read c.take_whole.ensures.byte refl c.in_ok-read_more.ensures.appends c.in_ok-read_more.ensures.taken,
   c.take_whole.ensures.lists ∙ c.loop.invariant.3,
+  c.take_whole.ensures.kept ∙ c.loop.invariant.4,
 )
 
 -- a frame is refused

@@ -1,6 +1,11 @@
--- no more places than lists
-use Rattle.std.proofs.Common.{◌≤◌}
+-- the head and the lines of the lists so far were printed
+use Rattle.std.proofs.Common.{◌++◌, take}
+use Rattle.std.specs.Prelude.{flat_map}
+use Rattle.std.specs.Io.KnownBytes.{Appends}
+use Rattle.std.specs.List.{enumerate_from}
+use Rattle.recording.specs.Tables.{head_line, list_line}
 use Rattle.recording.proofs.summary_text.print_summary.Given as goal
 
-abbrev pub invariant-loop-l : goal.invariant-loop-l
-invariant-loop-l g l = l.place ≤ l.l
+abbrev pub invariant-loop-place : goal.invariant-loop-place
+invariant-loop-place g l = Appends (g.W.Write.contents l.fn.out) (g.W.Write.contents l.out)
+    (head_line ++ flat_map (list_line l.summary.samples) (take l.place (enumerate_from 0 l.shapes)))

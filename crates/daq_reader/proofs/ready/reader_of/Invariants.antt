@@ -1,8 +1,8 @@
 -- the lists so far were looked at
 use Rattle.std.proofs.Common.{◌≡◌, []}
 use Rattle.daq_reader.specs.Lists.{Stands}
-use Rattle.recording.specs.Ready.{ready_below}
-use Rattle.recording.proofs.lists.reader_of.Given as goal
+use Rattle.daq_reader.specs.Ready.{ready_below}
+use Rattle.daq_reader.proofs.ready.reader_of.Given as goal
 
 abbrev pub invariant-loop-l : goal.invariant-loop-l
 invariant-loop-l l = (l.reader ≡ ready_below l.store l.l) × Stands l.reader [] []

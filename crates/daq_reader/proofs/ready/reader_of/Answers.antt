@@ -1,7 +1,7 @@
 use Rattle.std.proofs.Common.{ap, ◌∙◌, ◌++◌, ◌∷◌, [], map, filter}
-use Rattle.recording.specs.Ready.{first_reading, shows_ready}
-use Rattle.recording.proofs.ReadyLemmas.{ready-next}
-use Rattle.recording.proofs.lists.reader_of.Goals as goal
+use Rattle.daq_reader.specs.Ready.{first_reading, shows_ready}
+use Rattle.daq_reader.proofs.ReadyLemmas.{ready-next}
+use Rattle.daq_reader.proofs.ready.reader_of.Goals as goal
 
 -- list l is looked at, and added if it is ready
 pub loop-l-preserved : goal.loop-l-preserved

@@ -1,0 +1,25 @@
+use Rattle.std.proofs.Common.{◌≡◌, subst, sym}
+use Rattle.daq_reader.specs.Lists.{plans_of}
+use Rattle.daq_reader.specs.Ready.{ready_lists}
+use Rattle.recording.specs.Shown.{IsShown}
+use Rattle.recording.specs.declared.mode.Mode.TheVariants.{Svg}
+use Rattle.recording.proofs.ShownLemmas.{all_shown, of_ok, of_writer, stand_first}
+use Rattle.recording.proofs.showing.show_picture.Goals as goal
+
+-- no sample was handed over yet
+pub read_frames-outcome-requires : goal.read_frames-outcome-requires
+read_frames-outcome-requires g c = record { stands = stand_first _ _ c.in_ok-reader.ensures.stands c.in_ok-drawing.ensures }
+
+-- where both succeed, the picture has its end
+pub returns : goal.returns
+returns g c =
+    let read = c.read_frames-outcome in
+    let before = g.W.Write.contents c.args.out in
+    let samples = read.new.samples in
+    of_writer c.concluded.result _ _
+    (λ w h.
+    let shown : IsShown Svg (plans_of (ready_lists c.args.store.now)) samples before (g.W.Write.contents c.print-printing.new.out) = of_ok c.print-printing.result _ h.1 c.print-printing.ensures in
+    all_shown Svg _ _ _ _ samples _ _ _ _ before _ c.in_ok-reader.ensures.value c.in_ok-drawing.ensures (of_ok read.result _ h.0 read.ensures.read) read.ensures.lists
+    (of_ok read.result _ h.0 read.ensures.end) (of_ok read.result _ h.0 read.ensures.all) (of_ok read.result _ h.0 read.ensures.whole)
+    (subst (λ x. IsShown Svg (plans_of (ready_lists c.args.store.now)) samples before (g.W.Write.contents x)) (sym h.2) shown))
+    c.concluded.ensures.shown
