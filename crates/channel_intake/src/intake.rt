@@ -93,10 +93,12 @@ impl<T: TakeEnd> Intake<T> {
         requires was_open { (state_of ⟦<SinkOut as Out>⟧ writer.old).closed ≡ false }
         requires within { at ≤ limit }
         requires room { limit + MAX_TEXT ≤ length buffer.old }
-        ensures { StepMeans T.TakeEnd self.old self.new
+        ensures means { StepMeans T.TakeEnd self.old self.new
             (record { writer = state_of ⟦<SinkOut as Out>⟧ writer.old; bytes = buffer.old })
             (record { writer = state_of ⟦<SinkOut as Out>⟧ writer.new; bytes = buffer.new })
             at limit result }
+        ensures stays_open { (state_of ⟦<SinkOut as Out>⟧ writer.new).closed ≡ false }
+        ensures len { length buffer.new ≡ length buffer.old }
     {
         if !self.end.look() {
             return Step::Nothing;

@@ -33,10 +33,12 @@ fn lay_sample(
     requires was_open { (state_of ⟦<SinkOut as Out>⟧ writer.old).closed ≡ false }
     requires within { at ≤ limit }
     requires room { limit + MAX_TEXT ≤ length buffer.old }
-    ensures { LaysSample passes sample.now
+    ensures means { LaysSample passes sample.now
         (record { writer = state_of ⟦<SinkOut as Out>⟧ writer.old; bytes = buffer.old })
         (record { writer = state_of ⟦<SinkOut as Out>⟧ writer.new; bytes = buffer.new })
         at limit result }
+    ensures stays_open { (state_of ⟦<SinkOut as Out>⟧ writer.new).closed ≡ false }
+    ensures len { length buffer.new ≡ length buffer.old }
 {
     let list = sample.list();
     if !passes {
@@ -64,10 +66,12 @@ pub fn lay_first<T: TakeEnd>(
     requires was_open { (state_of ⟦<SinkOut as Out>⟧ writer.old).closed ≡ false }
     requires within { at ≤ limit }
     requires room { limit + MAX_TEXT ≤ length buffer.old }
-    ensures { LaysFirst (T.known end.now) lists.now
+    ensures means { LaysFirst (T.known end.now) lists.now
         (record { writer = state_of ⟦<SinkOut as Out>⟧ writer.old; bytes = buffer.old })
         (record { writer = state_of ⟦<SinkOut as Out>⟧ writer.new; bytes = buffer.new })
         at limit result }
+    ensures stays_open { (state_of ⟦<SinkOut as Out>⟧ writer.new).closed ≡ false }
+    ensures len { length buffer.new ≡ length buffer.old }
 {
     match end.first() {
         Item::Marker(marker) => Step::Marked(marker.list()),

@@ -6,8 +6,8 @@ use Rattle.channel_intake.proofs.StepLemmas.{step-means}
 use Rattle.channel_intake.proofs.intake.Intake.step.Goals as goal
 
 -- what is known then came from the look
-pub returns : goal.returns
-returns g c =
+pub returns-clause-means : goal.returns-clause-means
+returns-clause-means g c =
     let take = g.T.TakeEnd in
     let p : Page = record { writer = state_of out c.args.writer.now; bytes = c.args.buffer.now } in
     let q : Page = record { writer = state_of out c.lay_first-step.new.writer; bytes = c.lay_first-step.new.buffer } in
@@ -18,7 +18,7 @@ returns g c =
     (record { end = c.let_go.new.end; lists = c.note_step.new.lists })
     p q c.args.at c.args.limit step
     (record { lists = refl; received = c.look.ensures.received_stays; known = c.look.ensures.grows; ring = c.look.ensures.ring_stays })
-    c.lay_first-step.ensures
+    c.lay_first-step.ensures.means
     (c.let_go.ensures.takes, c.let_go.ensures.stays)
     c.let_go.ensures.ring_stays
     c.note_step.ensures.notes)
