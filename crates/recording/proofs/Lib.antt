@@ -4,5 +4,7 @@ pub mod PieceLemmas
 pub mod PrintedLemmas
 pub mod RowLemmas
 pub mod ShownLemmas
+pub mod SpotLemmas
 pub mod TallyLemmas
+pub mod TimesLemmas
 pub mod WithinLemmas

@@ -91,10 +91,16 @@ given_other i j gs r h =
     let kept : List (ℕ × Recorded) = filter (λ (s : ℕ × Recorded). s.0 == j) gs in
     ap (map (λ (s : ℕ × Recorded). s.1)) (filter_more (λ (s : ℕ × Recorded). s.0 == j) gs one ∙ ap (λ v. kept ++ (if v then one ∷ [] else [])) (is_other i j h) ∙ append-nil kept)
 
-get_same : {X : Type 0} (xs : List X) (i : ℕ) (x : X) → i < length xs → slice_get (slice_set xs i x) i ≡ Some x
+pub get_same : {X : Type 0} (xs : List X) (i : ℕ) (x : X) → i < length xs → slice_get (slice_set xs i x) i ≡ Some x
 get_same xs i x h = slice_get-get_or (slice_set xs i x) i x (omega (arith, h, length-set xs i x)) ∙ ap Some (get_or-set_same xs i x x h)
 
-get_other : {X : Type 0} (xs : List X) (i j : ℕ) (x : X) → i < length xs → j < length xs → j ≢ i → slice_get (slice_set xs i x) j ≡ slice_get xs j
+-- the same at each place
+pub all_same : {X : Type 0} (n i : ℕ) (x : X) → i < length (replicate n x) → slice_get (replicate n x) i ≡ Some x
+all_same n i x below =
+    let short : i < n = omega (arith, below, length-replicate n x) in
+    slice_get-get_or (replicate n x) i x below ∙ ap Some (get_or-replicate n i x x short)
+
+pub get_other : {X : Type 0} (xs : List X) (i j : ℕ) (x : X) → i < length xs → j < length xs → j ≢ i → slice_get (slice_set xs i x) j ≡ slice_get xs j
 get_other xs i j x h k other =
     slice_get-get_or (slice_set xs i x) j x (omega (arith, k, length-set xs i x)) ∙ ap Some (get_or-set_other xs i j x x other)
     ∙ sym (slice_get-get_or xs j x k)

@@ -1,8 +1,9 @@
-pub mod Axes
 pub mod Faults
 pub mod Messages
 pub mod Pieces
 pub mod Rows
 pub mod Shown
+pub mod Spots
 pub mod Tables
 pub mod Tallies
+pub mod Times

@@ -1,6 +1,7 @@
 -- The CSV text: the names of its columns, and a row for each element of each sample (RFC 4180).
 use Rattle.std.specs.Prelude.{◌≡◌, ◌==◌, ℕ, ◌+◌, ◌*◌, Bool, false, if◌then◌else◌, List, [], ◌∷◌}
-use Rattle.std.specs.Prelude.{◌++◌, length, codes, flat_map, slice_get, Option, Some, None}
+use Rattle.std.specs.Prelude.{◌++◌, length, codes, flat_map, reverse, slice_get}
+use Rattle.std.specs.Prelude.{Option, Some, None}
 use Rattle.std.specs.Fmt.{decimal}
 use Rattle.std.specs.List.{enumerate_from}
 use Rattle.csv.specs.Writing.{default_writer, fields_written, has_written, row_text, text_written}
@@ -12,6 +13,8 @@ use Rattle.hex.specs.Hex.{encode_lower}
 use Rattle.std.specs.Io.KnownBytes.{Appends}
 use Rattle.copy_plan.specs.Config.{ListPlan, OdtEntry}
 use Rattle.daq_reader.specs.Recorded.{Recorded, element}
+use Rattle.recording.specs.Spots.{spot_of}
+use Rattle.recording.specs.declared.spot.Spot.{Spot}
 
 -- a number of bytes, the least significant first
 abbrev pub number_of : List ℕ → ℕ
@@ -42,45 +45,51 @@ one_or_zero holds = if holds then codes "1" else codes "0"
 
 -- the names of the columns
 abbrev pub column_names : List (List ℕ)
-column_names = codes "time" ∷ codes "list" ∷ codes "odt" ∷ codes "entry" ∷ codes "address"
-    ∷ codes "size" ∷ codes "hex" ∷ codes "unsigned" ∷ codes "overload" ∷ []
+column_names = codes "time" ∷ codes "ticks" ∷ codes "list" ∷ codes "sample" ∷ codes "odt"
+    ∷ codes "entry" ∷ codes "address" ∷ codes "size" ∷ codes "hex" ∷ codes "unsigned"
+    ∷ codes "overload" ∷ []
 
--- the fields of a row: of the bytes of entry e of ODT k of a list, which stood at an address
-abbrev pub row_fields : Option ℕ → ℕ → ℕ → ℕ → ℕ → List ℕ → Bool → List (List ℕ)
-row_fields ticks list k e address bytes overload =
-    if_some ticks ∷ decimal list ∷ decimal k ∷ decimal e ∷ decimal address
-    ∷ decimal (length bytes) ∷ encode_lower bytes ∷ if_some (unsigned_of bytes)
+-- the fields of a row: of the bytes of entry e of ODT k of a sample of a list, which stands here and
+-- has these ticks; they stood at an address
+abbrev pub row_fields : Spot → Option ℕ → ℕ → ℕ → ℕ → ℕ → List ℕ → Bool → List (List ℕ)
+row_fields at ticks list k e address bytes overload =
+    if_some at.time ∷ if_some ticks ∷ decimal list ∷ decimal at.number ∷ decimal k ∷ decimal e
+    ∷ decimal address ∷ decimal (length bytes) ∷ encode_lower bytes ∷ if_some (unsigned_of bytes)
     ∷ one_or_zero overload ∷ []
 
 -- the row of entry e of ODT k, if the sample has as many bytes there as the entry
-abbrev pub bytes_text : ListPlan → Recorded → ℕ → ℕ → OdtEntry → Option (List ℕ) → List ℕ
-bytes_text plan r k e entry None = []
-bytes_text plan r k e entry (Some bytes) =
+abbrev pub bytes_text :
+    ListPlan → Spot → Recorded → ℕ → ℕ → OdtEntry → Option (List ℕ) → List ℕ
+bytes_text plan at r k e entry None = []
+bytes_text plan at r k e entry (Some bytes) =
     if length bytes == entry.1
-    then row_text rfc_4180 (row_fields r.stamp plan.list k e entry.0 bytes r.overload) else []
+    then row_text rfc_4180 (row_fields at r.stamp plan.list k e entry.0 bytes r.overload) else []
 
-abbrev pub entry_text : ListPlan → Recorded → ℕ → ℕ × OdtEntry → List ℕ
-entry_text plan r k (e, entry) = bytes_text plan r k e entry (element r k e)
+abbrev pub entry_text : ListPlan → Spot → Recorded → ℕ → ℕ × OdtEntry → List ℕ
+entry_text plan at r k (e, entry) = bytes_text plan at r k e entry (element r k e)
 
 -- the rows of ODT k, entry by entry
-abbrev pub odt_text : ListPlan → Recorded → ℕ × List OdtEntry → List ℕ
-odt_text plan r (k, entries) = flat_map (entry_text plan r k) (enumerate_from 0 entries)
+abbrev pub odt_text : ListPlan → Spot → Recorded → ℕ × List OdtEntry → List ℕ
+odt_text plan at r (k, entries) = flat_map (entry_text plan at r k) (enumerate_from 0 entries)
 
--- the rows of a sample of a list, ODT by ODT
-abbrev pub sample_text : ListPlan → Recorded → List ℕ
-sample_text plan r = flat_map (odt_text plan r) (enumerate_from 0 plan.odts)
+-- the rows of a sample of a list, which stands here, ODT by ODT
+abbrev pub sample_text : ListPlan → Spot → Recorded → List ℕ
+sample_text plan at r = flat_map (odt_text plan at r) (enumerate_from 0 plan.odts)
 
--- the rows of a sample of the list at a place, if there is one
-abbrev pub text_at : Option ListPlan → Recorded → List ℕ
-text_at None r = []
-text_at (Some plan) r = sample_text plan r
+-- the same, if there is a list
+abbrev pub text_at : Option ListPlan → Spot → Recorded → List ℕ
+text_at None at r = []
+text_at (Some plan) at r = sample_text plan at r
 
-abbrev pub rows_of : List ListPlan → ℕ × Recorded → List ℕ
-rows_of plans (place, r) = text_at (slice_get plans place) r
+-- the rows of samples, the newest first: those of the earlier ones, and behind them its own
+abbrev pub rows_of : List ListPlan → List (ℕ × Recorded) → List ℕ
+rows_of plans [] = []
+rows_of plans (s ∷ earlier) =
+    rows_of plans earlier ++ text_at (slice_get plans s.0) (spot_of plans earlier s.0 s.1) s.1
 
 -- the names of the columns, and the rows of each sample, in the order in which they were given back
 abbrev pub csv_text : List ListPlan → List (ℕ × Recorded) → List ℕ
-csv_text plans samples = row_text rfc_4180 column_names ++ flat_map (rows_of plans) samples
+csv_text plans samples = row_text rfc_4180 column_names ++ rows_of plans (reverse samples)
 
 -- a writer of rows stands between two rows
 pub record IsBetweenRows {W : Type 0} (rows : Writer W) : Type 0 where

@@ -16,9 +16,12 @@ mod recording;
 mod row;
 mod sample_rows;
 mod showing;
+mod spot;
+mod spots;
 mod summary;
 mod summary_text;
 mod tally;
+mod times;
 mod words;
 
 pub use break_off::BreakOff;

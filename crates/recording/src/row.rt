@@ -8,6 +8,7 @@ ghost use Rattle.recording.specs.declared.row.TheConstants.{MAX_SIZE};
 ghost use Rattle.recording.specs.Rows.{IsBetweenRows, column_names, if_some, one_or_zero, rfc_4180};
 ghost use Rattle.recording.specs.Rows.{row_fields, unsigned_of};
 
+use crate::spot::Spot;
 use csv::{Error, Writer};
 use itoa::Buffer;
 use std::io::Write;
@@ -18,8 +19,10 @@ const MAX_SIZE: usize = 255;
 /// One element of a sample: the bytes of an entry, and where they come from.
 #[derive(Clone, Copy)]
 pub struct Row<'a> {
-    /// The ticks of the sample's timestamp.
-    pub time: Option<u32>,
+    /// Where the sample stands.
+    pub at: Spot,
+    /// The ticks of its timestamp.
+    pub ticks: Option<u32>,
     /// The DAQ list.
     pub list: u8,
     /// The ODT in the list.
@@ -41,9 +44,11 @@ pub fn write_names<W: Write + Drop>(rows: &mut Writer<W>) -> Result<(), Error>
         (text_written W.contents rows.new) (row_text rfc_4180 column_names)) }
     ensures between { OnOk result (IsBetweenRows rows.new) }
 {
-    let names: [&[u8]; 9] = [
+    let names: [&[u8]; 11] = [
         b"time",
+        b"ticks",
         b"list",
+        b"sample",
         b"odt",
         b"entry",
         b"address",
@@ -60,22 +65,26 @@ pub fn write_row<W: Write + Drop>(rows: &mut Writer<W>, row: Row<'_>) -> Result<
     requires between { IsBetweenRows rows.old }
     requires size { length row.bytes.now ≤ MAX_SIZE }
     ensures text { OnOk result (Appends (text_written W.contents rows.old)
-        (text_written W.contents rows.new) (row_text rfc_4180 (row_fields row.entry.time
-        row.entry.list row.entry.odt row.entry.entry row.entry.address row.entry.bytes.now
-        row.entry.overload))) }
+        (text_written W.contents rows.new) (row_text rfc_4180 (row_fields row.entry.at
+        row.entry.ticks row.entry.list row.entry.odt row.entry.entry row.entry.address
+        row.entry.bytes.now row.entry.overload))) }
     ensures between { OnOk result (IsBetweenRows rows.new) }
 {
+    let mut time = Buffer::new();
     let mut ticks = Buffer::new();
     let mut list = Buffer::new();
+    let mut sample = Buffer::new();
     let mut odt = Buffer::new();
     let mut entry = Buffer::new();
     let mut address = Buffer::new();
     let mut size = Buffer::new();
     let mut digits = [0; 2 * MAX_SIZE];
     let mut unsigned = Buffer::new();
-    let fields: [&[u8]; 9] = [
-        if_some(&mut ticks, widened(row.time)),
+    let fields: [&[u8]; 11] = [
+        if_some(&mut time, row.at.time),
+        if_some(&mut ticks, widened(row.ticks)),
         decimal(&mut list, row.list as u64),
+        decimal(&mut sample, row.at.number),
         decimal(&mut odt, row.odt as u64),
         decimal(&mut entry, row.entry as u64),
         decimal(&mut address, row.address as u64),

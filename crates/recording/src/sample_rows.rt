@@ -7,8 +7,11 @@ ghost use Rattle.recording.specs.Rows.{IsBetweenRows, column_names, csv_text, en
 ghost use Rattle.recording.specs.Rows.{rfc_4180, sample_text, text_at};
 
 use crate::row::{Row, write_names, write_row};
+use crate::spot::Spot;
+use crate::spots::Spots;
 use csv::{Error, Terminator, Writer, WriterBuilder};
 use daq_reader::{ListShape, SampleLog, SampleView, Samples};
+use std::alloc::{AllocError, Global};
 use std::io::{self, ErrorKind, Write};
 use std::marker::Model;
 use std::snapshot::Snapshot;
@@ -19,6 +22,7 @@ use std::snapshot::Snapshot;
 #[derive(Drop)]
 pub struct SampleRows<W: Write + Drop> {
     shapes: Vec<ListShape>,
+    spots: Spots,
     rows: Writer<W>,
     failed: bool,
     start: Snapshot<W>,
@@ -26,8 +30,9 @@ pub struct SampleRows<W: Write + Drop> {
 }
 
 impl<W: Write + Drop> Model for SampleRows<W> {
-    ghost use Rattle.std.specs.Prelude.{◌≡◌, false};
+    ghost use Rattle.std.specs.Prelude.{◌≡◌, false, reverse};
     ghost use Rattle.recording.specs.Rows.{HasRows, RowsState};
+    ghost use Rattle.recording.specs.Spots.{KnowsSpots};
 
     ghost Value = { RowsState };
 
@@ -37,31 +42,35 @@ impl<W: Write + Drop> Model for SampleRows<W> {
       samples = a.log.samples;
     } };
 
-    ghost invariant = { λ a. a.failed ≡ false → HasRows W.contents a.shapes.items
-        (W.contents a.start.value) a.log.samples a.rows };
+    ghost invariant = { λ a. KnowsSpots a.spots a.shapes.items (reverse a.log.samples)
+        × (a.failed ≡ false → HasRows W.contents a.shapes.items
+        (W.contents a.start.value) a.log.samples a.rows) };
 }
 
 impl<W: Write + Drop> SampleRows<W> {
     /// Writes the names of the columns; the samples will be those of DAQ lists of these shapes.
-    pub fn new(shapes: Vec<ListShape>, out: W) -> SampleRows<W>
-        ensures { result ≡ record {
+    /// Want of memory is the only fault.
+    pub fn new(alloc: Global, shapes: Vec<ListShape>, out: W) -> Result<SampleRows<W>, AllocError>
+        ensures { IfOk result (λ rows. rows ≡ record {
           plans = shapes.items;
           start = W.contents out;
           samples = [];
-        } }
+        }) }
     {
+        let spots = Spots::new(alloc, shapes.len())?;
         let start = Snapshot::of(&out);
         let mut rows = WriterBuilder::new()
             .terminator(Terminator::CRLF)
             .from_writer(out);
         let failed = !are_named(&mut rows);
-        SampleRows {
+        Ok(SampleRows {
             shapes,
+            spots,
             rows,
             failed,
             start,
             log: SampleLog::new(),
-        }
+        })
     }
 
     /// Writes out what is left, and gives the writer back; refused where that, or a row, can't be
@@ -93,7 +102,8 @@ impl<W: Write + Drop> Samples for SampleRows<W> {
     /// Writes the rows of the sample.
     fn hand(&mut self, place: usize, sample: &SampleView<'_>) {
         let shape = shape_at(&self.shapes, place);
-        self.failed = !go_on(self.failed, &mut self.rows, shape, sample);
+        let at = self.spots.next(shape, place, sample.stamp());
+        self.failed = !go_on(self.failed, &mut self.rows, shape, sample, at);
         self.log.note(place, sample);
     }
 }
@@ -124,17 +134,19 @@ fn go_on<W: Write + Drop>(
     rows: &mut Writer<W>,
     shape: Option<&ListShape>,
     sample: &SampleView<'_>,
+    at: Spot,
 ) -> bool
     requires { failed ≡ false → IsBetweenRows rows.old }
     ensures before { result ≡ true → failed ≡ false }
     ensures text { result ≡ true → Appends (text_written W.contents rows.old)
-        (text_written W.contents rows.new) (text_at (option_copied shape.entry) sample.now.sample) }
+        (text_written W.contents rows.new) (text_at (option_copied shape.entry) at
+        sample.now.sample) }
     ensures between { result ≡ true → IsBetweenRows rows.new }
 {
     if failed {
         return false;
     }
-    are_written(rows, shape, sample)
+    are_written(rows, shape, sample, at)
 }
 
 /// Writes the rows of a sample, of a list if there is one, and tells whether they are written.
@@ -142,16 +154,18 @@ fn are_written<W: Write + Drop>(
     rows: &mut Writer<W>,
     shape: Option<&ListShape>,
     sample: &SampleView<'_>,
+    at: Spot,
 ) -> bool
     requires { IsBetweenRows rows.old }
     ensures text { result ≡ true → Appends (text_written W.contents rows.old)
-        (text_written W.contents rows.new) (text_at (option_copied shape.entry) sample.now.sample) }
+        (text_written W.contents rows.new) (text_at (option_copied shape.entry) at
+        sample.now.sample) }
     ensures between { result ≡ true → IsBetweenRows rows.new }
 {
     let Some(shape) = shape else {
         return true;
     };
-    let Ok(()) = write_sample(rows, shape, sample) else {
+    let Ok(()) = write_sample(rows, shape, sample, at) else {
         return false;
     };
     true
@@ -162,14 +176,15 @@ fn write_sample<W: Write + Drop>(
     rows: &mut Writer<W>,
     shape: &ListShape,
     sample: &SampleView<'_>,
+    at: Spot,
 ) -> Result<(), Error>
     requires { IsBetweenRows rows.old }
     ensures text { OnOk result (Appends (text_written W.contents rows.old)
-        (text_written W.contents rows.new) (sample_text shape.now sample.now.sample)) }
+        (text_written W.contents rows.new) (sample_text shape.now at sample.now.sample)) }
     ensures between { OnOk result (IsBetweenRows rows.new) }
 {
     for k in 0..shape.odts() {
-        write_odt(rows, shape, sample, k)?;
+        write_odt(rows, shape, sample, at, k)?;
     }
     Ok(())
 }
@@ -179,16 +194,17 @@ fn write_odt<W: Write + Drop>(
     rows: &mut Writer<W>,
     shape: &ListShape,
     sample: &SampleView<'_>,
+    at: Spot,
     k: usize,
 ) -> Result<(), Error>
     requires { IsBetweenRows rows.old }
     ensures text { OnOk result (Appends (text_written W.contents rows.old)
         (text_written W.contents rows.new)
-        (odt_text shape.now sample.now.sample (k, odt shape.now k))) }
+        (odt_text shape.now at sample.now.sample (k, odt shape.now k))) }
     ensures between { OnOk result (IsBetweenRows rows.new) }
 {
     for e in 0..shape.entries(k) {
-        write_entry(rows, shape, sample, k, e)?;
+        write_entry(rows, shape, sample, at, k, e)?;
     }
     Ok(())
 }
@@ -198,13 +214,15 @@ fn write_entry<W: Write + Drop>(
     rows: &mut Writer<W>,
     shape: &ListShape,
     sample: &SampleView<'_>,
+    at: Spot,
     k: usize,
     e: usize,
 ) -> Result<(), Error>
     requires { IsBetweenRows rows.old }
     ensures text { (entry : OdtEntry) → slice_get (odt shape.now k) e ≡ Some entry
         → OnOk result (Appends (text_written W.contents rows.old)
-        (text_written W.contents rows.new) (entry_text shape.now sample.now.sample k (e, entry))) }
+        (text_written W.contents rows.new) (entry_text shape.now at sample.now.sample k
+        (e, entry))) }
     ensures between { OnOk result (IsBetweenRows rows.new) }
 {
     let Some((address, size)) = shape.entry(k, e) else {
@@ -217,7 +235,8 @@ fn write_entry<W: Write + Drop>(
         return Ok(());
     }
     let row = Row {
-        time: sample.stamp(),
+        at,
+        ticks: sample.stamp(),
         list: shape.list(),
         odt: k,
         entry: e,

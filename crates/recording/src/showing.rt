@@ -78,7 +78,7 @@ fn show_rows<I: Read, W: Write + Drop, E: Write + Drop>(
         (W.contents out) (W.contents after))) }
 {
     let mut reader = reader_of(alloc, store)?;
-    let mut rows = SampleRows::new(shapes_of(alloc, store)?, out);
+    let mut rows = SampleRows::new(alloc, shapes_of(alloc, store)?, out)?;
     let outcome = read_frames(input, piece, &mut reader, &mut rows, messages);
     messages.end_progress();
     match rows.finish() {

@@ -55,7 +55,7 @@ fn command<'a>(alloc: Global) -> Result<Command<'a>, AllocError> {
         .long("csv")
         .action(ArgAction::SetTrue)
         .conflicts_with("summary")?
-        .help("Print CSV with a row for each element of each sample");
+        .help("Print CSV with a row for each element of each sample, with its time and number");
     let svg = Arg::new(alloc, "svg")
         .long("svg")
         .action(ArgAction::SetTrue)

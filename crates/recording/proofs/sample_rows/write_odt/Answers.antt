@@ -15,14 +15,14 @@ pub loop-e-init : goal.loop-e-init
 loop-e-init g c = (
   c.requires,
   subst (λ t. Appends (text_written g.W.Write.contents c.args.rows.now) (text_written g.W.Write.contents c.args.rows.now) t)
-      (sym (enumerated_none (entry_text c.args.shape.now c.args.sample.now.sample c.args.k) (odt c.args.shape.now c.args.k))) (Appends-nil _),
+      (sym (enumerated_none (entry_text c.args.shape.now c.args.at c.args.sample.now.sample c.args.k) (odt c.args.shape.now c.args.k))) (Appends-nil _),
 )
 
 -- the row of one entry more
 pub loop-e-preserved : goal.loop-e-preserved
 loop-e-preserved g c =
     let plan = c.args.shape.now in
-    let f = entry_text plan c.args.sample.now.sample c.args.k in
+    let f = entry_text plan c.args.at c.args.sample.now.sample c.args.k in
     let es = odt plan c.args.k in
     let e = c.loop-e.e in
     let within : e < length es = omega (arith, c.loop-e-test.true, c.entries-e-end.ensures) in
@@ -39,7 +39,7 @@ loop-e-preserved g c =
 pub returns-clause-text : goal.returns-clause-text
 returns-clause-text g c =
     let plan = c.args.shape.now in
-    let f = entry_text plan c.args.sample.now.sample c.args.k in
+    let f = entry_text plan c.args.at c.args.sample.now.sample c.args.k in
     let all : length (odt plan c.args.k) ≤ c.loop-e.e = omega (arith, c.loop-e-test.false, c.entries-e-end.ensures) in
     subst (λ t. Appends (text_written g.W.Write.contents c.args.rows.now) (text_written g.W.Write.contents c.loop-e.rows) t)
     (enumerated_all f (odt plan c.args.k) c.loop-e.e all) c.loop-e.invariant.1

@@ -11,4 +11,4 @@ use Rattle.recording.proofs.sample_rows.write_odt.Given as goal
 abbrev pub invariant-loop-e : goal.invariant-loop-e
 invariant-loop-e g l = IsBetweenRows l.rows
     × Appends (text_written g.W.Write.contents l.fn.rows) (text_written g.W.Write.contents l.rows)
-    (flat_map (entry_text l.shape l.sample.sample l.k) (take l.e (enumerate_from 0 (odt l.shape l.k))))
+    (flat_map (entry_text l.shape l.at l.sample.sample l.k) (take l.e (enumerate_from 0 (odt l.shape l.k))))

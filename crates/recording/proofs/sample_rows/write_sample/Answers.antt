@@ -15,14 +15,14 @@ pub loop-k-init : goal.loop-k-init
 loop-k-init g c = (
   c.requires,
   subst (λ t. Appends (text_written g.W.Write.contents c.args.rows.now) (text_written g.W.Write.contents c.args.rows.now) t)
-      (sym (enumerated_none (odt_text c.args.shape.now c.args.sample.now.sample) c.args.shape.now.odts)) (Appends-nil _),
+      (sym (enumerated_none (odt_text c.args.shape.now c.args.at c.args.sample.now.sample) c.args.shape.now.odts)) (Appends-nil _),
 )
 
 -- the rows of one ODT more
 pub loop-k-preserved : goal.loop-k-preserved
 loop-k-preserved g c =
     let plan = c.args.shape.now in
-    let f = odt_text plan c.args.sample.now.sample in
+    let f = odt_text plan c.args.at c.args.sample.now.sample in
     let k = c.loop-k.k in
     let within : k < length plan.odts = omega (arith, c.loop-k-test.true, c.odts-k-end.ensures.value) in
     let more = enumerated_more f plan.odts k (odt plan k) (slice_get-get_or plan.odts k [] within) in (
@@ -35,7 +35,7 @@ loop-k-preserved g c =
 pub returns-clause-text : goal.returns-clause-text
 returns-clause-text g c =
     let plan = c.args.shape.now in
-    let f = odt_text plan c.args.sample.now.sample in
+    let f = odt_text plan c.args.at c.args.sample.now.sample in
     let all : length plan.odts ≤ c.loop-k.k = omega (arith, c.loop-k-test.false, c.odts-k-end.ensures.value) in
     subst (λ t. Appends (text_written g.W.Write.contents c.args.rows.now) (text_written g.W.Write.contents c.loop-k.rows) t)
     (enumerated_all f plan.odts c.loop-k.k all) c.loop-k.invariant.1

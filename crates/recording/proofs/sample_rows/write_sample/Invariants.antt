@@ -10,4 +10,4 @@ use Rattle.recording.proofs.sample_rows.write_sample.Given as goal
 abbrev pub invariant-loop-k : goal.invariant-loop-k
 invariant-loop-k g l = IsBetweenRows l.rows
     × Appends (text_written g.W.Write.contents l.fn.rows) (text_written g.W.Write.contents l.rows)
-    (flat_map (odt_text l.shape l.sample.sample) (take l.k (enumerate_from 0 l.shape.odts)))
+    (flat_map (odt_text l.shape l.at l.sample.sample) (take l.k (enumerate_from 0 l.shape.odts)))

@@ -10,7 +10,7 @@ use Rattle.recording.proofs.showing.show_rows.Goals as goal
 
 -- no sample was handed over yet
 pub read_frames-outcome-requires : goal.read_frames-outcome-requires
-read_frames-outcome-requires g c = record { stands = stand_first _ _ c.in_ok-reader.ensures.stands (ap (λ r. r.samples) c.new-rows.ensures) }
+read_frames-outcome-requires g c = record { stands = stand_first _ _ c.in_ok-reader.ensures.stands (ap (λ r. r.samples) c.in_ok-rows.ensures) }
 
 -- where both succeed, the CSV is that of the samples that were read
 pub returns-in-Ok : goal.returns-in-Ok
@@ -22,12 +22,12 @@ returns-in-Ok g c =
     of_writer c.concluded.result _ _
     (λ w h.
     let kept = read.ensures.kept in
-    let start : rows.start ≡ before = ap (λ k. k.start) kept ∙ ap (λ r. r.start) c.new-rows.ensures in
-    let of : rows.plans ≡ plans = ap (λ k. k.plans) kept ∙ ap (λ r. r.plans) c.new-rows.ensures ∙ c.in_ok-shapes_of.ensures in
+    let start : rows.start ≡ before = ap (λ k. k.start) kept ∙ ap (λ r. r.start) c.in_ok-rows.ensures in
+    let of : rows.plans ≡ plans = ap (λ k. k.plans) kept ∙ ap (λ r. r.plans) c.in_ok-rows.ensures ∙ c.in_ok-shapes_of.ensures in
     let text : Appends rows.start (g.W.Write.contents c.in-Ok.out) (csv_text rows.plans rows.samples) = c.in-Ok.ensures in
     let flushed : Appends rows.start (g.W.Write.contents c.flush-printing.new.self) (csv_text rows.plans rows.samples) = Appends-kept _ _ _ _ text c.flush-printing.ensures.bytes in
     let shown = subst (λ x. Appends x (g.W.Write.contents c.flush-printing.new.self) (csv_text plans rows.samples)) start (subst (λ ps. Appends rows.start (g.W.Write.contents c.flush-printing.new.self) (csv_text ps rows.samples)) of flushed) in
-    all_shown Csv _ _ _ _ rows.samples _ _ _ _ before _ c.in_ok-reader.ensures.value (ap (λ r. r.samples) c.new-rows.ensures) (of_ok read.result _ h.0 read.ensures.read) read.ensures.lists
+    all_shown Csv _ _ _ _ rows.samples _ _ _ _ before _ c.in_ok-reader.ensures.value (ap (λ r. r.samples) c.in_ok-rows.ensures) (of_ok read.result _ h.0 read.ensures.read) read.ensures.lists
     (of_ok read.result _ h.0 read.ensures.end) (of_ok read.result _ h.0 read.ensures.all) (of_ok read.result _ h.0 read.ensures.whole)
     (subst (λ x. Appends before (g.W.Write.contents x) (csv_text plans rows.samples)) (sym h.2) shown))
     c.concluded.ensures.shown
