@@ -1,0 +1,55 @@
+-- What a hand-out answers.
+use Rattle.std.proofs.Common.{◌≡◌, Bool, true, false, true≢false, [], ◌∷◌, ◌++◌, Option, Some, None, Result, Ok, Err, inl, refl, sym, ap, ◌∙◌, subst}
+use Rattle.std.specs.Prelude.{IfErr}
+use Rattle.sampler.specs.State.{SamplerState}
+use Rattle.tasks.specs.Links.{AnswersHandOut, AwayState, EndsNewest, EndsUnordered, HandsOut, LinkState, first_refusal, just_out, one_before}
+use Rattle.tasks.specs.Tasks.{HeldState}
+use Rattle.tasks.specs.declared.fault.HandFault.{HandFault}
+use Rattle.tasks.specs.declared.fault.HandFault.TheVariants.{Busy, Memory, NotEnded}
+
+-- where it is refused, with something weaker known of that
+pub err-with : {A B : Type 0} {P Q : B → Type 0} → ((e : B) → P e → Q e) → (r : Result A B) → IfErr r P → IfErr r Q
+err-with f (Ok x) is = is
+err-with f (Err e) is = f e is
+
+pub refused-none : (a b : Bool) → a ≡ false → b ≡ false → first_refusal a b ≡ None
+refused-none true b x y = absurd (true≢false x)
+refused-none false true x y = absurd (true≢false y)
+refused-none false false x y = refl
+
+is_busy : HandFault → Bool
+is_busy NotEnded = false
+is_busy Busy = true
+is_busy Memory = false
+
+-- refused by the place alone
+pub answers-busy : {S : Type 0} (first : Option HandFault) (r : Result Unit (HandFault × SamplerState S))
+    → first ≡ None → IfErr r (λ e. e.0 ≡ Busy) → AnswersHandOut first r
+unfolding is_busy
+answers-busy (Some fault) r none busy = absurd (true≢false (ap (λ (o : Option HandFault). is_there o) none)) where
+  is_there : Option HandFault → Bool
+  is_there None = false
+  is_there (Some f) = true
+answers-busy None (Ok x) none busy = tt
+answers-busy None (Err e) none busy = λ is. true≢false (sym (ap is_busy busy) ∙ ap is_busy is)
+
+-- the newest was taken back
+pub taken-back : {S : Type 0} (v a b : LinkState S) (h : HeldState S) → v ≡ a → b.older ≡ v.older → b.put ≡ v.put
+    → b.taken_back ≡ v.taken_back ++ h ∷ [] → EndsUnordered v.newer b.newer → EndsNewest a b
+taken-back v a b h same older put taken ends =
+    subst (λ (x : LinkState _). EndsNewest x b) same (record { older = older; put = put; way = inl (h, taken, ends) })
+
+-- a sampler went into the place, and is the newest
+pub put-in : {S : Type 0} (v a b : LinkState S) (h : HeldState S) (n : AwayState S) → v ≡ a → h.orders.received ≡ []
+    → b.put ≡ v.put ++ h ∷ [] → b.taken_back ≡ v.taken_back → b.newer ≡ Some n → n ≡ just_out h.sampler
+    → b.older ≡ one_before v.older v.newer → HandsOut a b h.sampler
+put-in v a b h n same none put taken newer is older =
+    subst (λ (x : LinkState _). HandsOut x b h.sampler) same (record {
+      handed = h;
+      sampler = refl;
+      no_order = none;
+      put = put;
+      taken_back = taken;
+      newer = newer ∙ ap (λ (x : AwayState _). Some x) is;
+      older = older;
+    })

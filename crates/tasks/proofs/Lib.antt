@@ -1,0 +1,7 @@
+pub mod DeedLemmas
+pub mod HandLemmas
+pub mod NeedLemmas
+pub mod RunningLemmas
+pub mod SendLemmas
+pub mod TurnLemmas
+pub mod WayLemmas

@@ -1,0 +1,172 @@
+-- The slave's side of a task (own).
+use Rattle.std.specs.Prelude.{◌≡◌, ◌≢◌, ℕ, ◌+◌, ◌≤◌, ◌⊎◌, Bool, true, false, ◌&&◌, ◌||◌, not, nat_eq}
+use Rattle.std.specs.Prelude.{List, [], ◌∷◌, ◌++◌, length, Option, Some, None, Result, Ok, Err}
+use Rattle.std.specs.Option.{is_some}
+use Rattle.channel_ring.specs.declared.ends.SendEnd.{Ghosts as SendGhosts}
+use Rattle.channel_ring.specs.declared.ends.RingEnd.{Ghosts as EndGhosts}
+use Rattle.sampler.specs.Past.{Past}
+use Rattle.sampler.specs.Standing.{EndStandsAfter, StandsAfter}
+use Rattle.sampler.specs.State.{SamplerEndState, SamplerState, joined, runs_in}
+use Rattle.tasks.specs.Deeds.{Deed, orders_in, past_after}
+use Rattle.tasks.specs.Needs.{places_for}
+use Rattle.tasks.specs.Tasks.{HeldState}
+use Rattle.tasks.specs.declared.fault.HandFault.{HandFault}
+use Rattle.tasks.specs.declared.fault.HandFault.TheVariants.{Busy, NotEnded}
+use Rattle.tasks.specs.declared.order.Order.{Order}
+use Rattle.tasks.specs.declared.order.Order.TheVariants as order
+use Rattle.tasks.specs.declared.orders.TheConstants.{MAX_ORDERS}
+
+-- a sampler that was handed out, as it was then; the orders that were sent behind it; how many
+-- places for orders are known to be free; and whether its measurement has ended
+pub record AwayState (S : Type 0) : Type 0 where
+  pub sampler : SamplerState S
+  pub orders : List Order
+  pub free : ℕ
+  pub ended : Bool
+
+-- the samplers that were put into the place and those that were taken back out of it; and the two
+-- that may be out: the one before the last, and the last
+pub record LinkState (S : Type 0) : Type 0 where
+  pub put : List (HeldState S)
+  pub taken_back : List (HeldState S)
+  pub older : Option (AwayState S)
+  pub newer : Option (AwayState S)
+
+-- whether list l runs behind an order, where it ran so before
+abbrev pub runs_behind : Order → Bool → ℕ → Bool
+runs_behind (order.Start k) before l = before || nat_eq k l
+runs_behind (order.Stop k) before l = before && not (nat_eq k l)
+runs_behind order.End before l = before
+
+-- whether list l runs by orders: by the last start or stop of it, or as before where there is none
+abbrev pub runs_by : List Order → Bool → ℕ → Bool
+runs_by [] before l = before
+runs_by (o ∷ os) before l = runs_by os (runs_behind o before l) l
+
+abbrev pub is_end : Order → Bool
+is_end (order.Start l) = false
+is_end (order.Stop l) = false
+is_end order.End = true
+
+-- a set without list l
+abbrev pub without : ℕ → (ℕ → Bool) → ℕ → Bool
+without l set k = set k && not (nat_eq l k)
+
+-- the first of the refusals that a link tells of: the measurement takes orders; two are out
+abbrev pub first_refusal : Bool → Bool → Option HandFault
+first_refusal true two = Some NotEnded
+first_refusal false true = Some Busy
+first_refusal false false = None
+
+module _ {S : Type 0} where
+  -- whether list l runs by the orders that were sent to a sampler that is out
+  abbrev pub runs_of : AwayState S → ℕ → Bool
+  runs_of a l = runs_by a.orders (runs_in a.sampler l) l
+
+  -- it takes orders, and starts of these lists find places, with the stops of all lists that then
+  -- run and an order to end
+  pub record HasPlacesFor (a : AwayState S) (lists : ℕ → Bool) : Type 0 where
+    pub takes_orders : a.ended ≡ false
+    pub places : places_for (runs_of a) lists ≤ a.free
+
+  -- a look at the ring of orders: places that are known to be free stay known
+  pub record LooksAtOrders (a b : AwayState S) : Type 0 where
+    pub rest : b ≡ record a { free = b.free }
+    pub grows : a.free ≤ b.free
+
+  -- an order was sent
+  pub record SendsOrder (a b : AwayState S) (o : Order) : Type 0 where
+    pub sampler : b.sampler ≡ a.sampler
+    pub orders : b.orders ≡ a.orders ++ o ∷ []
+    pub spent : a.free ≡ b.free + 1
+    pub ended : b.ended ≡ is_end o
+
+  -- the newest takes orders
+  abbrev pub takes_orders : Option (AwayState S) → Bool
+  takes_orders None = false
+  takes_orders (Some a) = not a.ended
+
+  -- the newest takes orders, and list l runs by those that were sent
+  abbrev pub is_running : Option (AwayState S) → ℕ → Bool
+  is_running None l = false
+  is_running (Some a) l = not a.ended && runs_of a l
+
+  -- the newest has places for starts of these lists
+  abbrev pub CanStart : Option (AwayState S) → (ℕ → Bool) → Type 0
+  CanStart None lists = ⊥
+  CanStart (Some a) lists = HasPlacesFor a lists
+
+  -- an order was sent to the newest
+  abbrev pub SendsToNewest : Option (AwayState S) → Option (AwayState S) → Order → Type 0
+  SendsToNewest (Some a) (Some b) o = SendsOrder a b o
+  SendsToNewest _ _ o = ⊥
+
+  -- a look at the orders of the newest
+  abbrev pub LooksAtNewest : Option (AwayState S) → Option (AwayState S) → Type 0
+  LooksAtNewest None None = Unit {0}
+  LooksAtNewest (Some a) (Some b) = LooksAtOrders a b
+  LooksAtNewest _ _ = ⊥
+
+  -- the newest ended with no order
+  abbrev pub EndsUnordered : Option (AwayState S) → Option (AwayState S) → Type 0
+  EndsUnordered (Some a) (Some b) = b ≡ record a { ended = true }
+  EndsUnordered _ _ = ⊥
+
+  -- the measurement ended: its sampler was taken back out of the place, or an order to end was sent
+  pub record EndsNewest (a b : LinkState S) : Type 0 where
+    pub older : b.older ≡ a.older
+    pub put : b.put ≡ a.put
+    pub way :
+        ((h : HeldState S) × (b.taken_back ≡ a.taken_back ++ h ∷ [])
+        × EndsUnordered a.newer b.newer)
+        ⊎ ((b.taken_back ≡ a.taken_back) × SendsToNewest a.newer b.newer order.End)
+
+  -- the one that is the older once another is handed out
+  abbrev pub one_before : Option (AwayState S) → Option (AwayState S) → Option (AwayState S)
+  one_before older None = older
+  one_before older (Some newer) = Some newer
+
+  -- a sampler that was just handed out
+  abbrev pub just_out : SamplerState S → AwayState S
+  just_out s = record { sampler = s; orders = []; free = MAX_ORDERS + 1; ended = false }
+
+  -- a sampler was handed out
+  pub record HandsOut (a b : LinkState S) (s : SamplerState S) : Type 0 where
+    pub handed : HeldState S
+    pub sampler : handed.sampler ≡ s
+    pub no_order : handed.orders.received ≡ []
+    pub put : b.put ≡ a.put ++ handed ∷ []
+    pub taken_back : b.taken_back ≡ a.taken_back
+    pub newer : b.newer ≡ Some (just_out s)
+    pub older : b.older ≡ one_before a.older a.newer
+
+  -- why no sampler can be handed out: the measurement has not ended, or else two are out
+  abbrev pub hand_refusal : LinkState S → Option HandFault
+  hand_refusal l =
+      first_refusal (takes_orders l.newer) (is_some l.older && is_some l.newer)
+
+  -- what a hand-out answers where it is refused so; where it isn't, the task may be at the place, or
+  -- there may be no memory
+  abbrev pub AnswersHandOut :
+      Option HandFault → Result Unit (HandFault × SamplerState S) → Type 0
+  AnswersHandOut (Some fault) (Ok done) = ⊥
+  AnswersHandOut (Some fault) (Err e) = e.0 ≡ fault
+  AnswersHandOut None (Ok done) = Unit {0}
+  AnswersHandOut None (Err e) = e.0 ≢ NotEnded
+
+-- this came back of a sampler that was handed out: what is left of it, after deeds whose orders are
+-- those that were sent, in their order, but for the last `left` of them
+pub record CameBack {S E : Type 0} (send : SendGhosts S E) (ring : EndGhosts E) (a : AwayState S)
+    (e : SamplerEndState E) (left : ℕ)
+    : Type 0 where
+  pub channel : e.channel ≡ a.sampler.channel
+  pub plans : e.plans ≡ a.sampler.plans
+  pub capacity : e.capacity ≡ send.capacity a.sampler.end
+  pub same_ring : ring.ring e.end ≡ send.ring a.sampler.end
+  pub deeds : List Deed
+  pub rest : List Order
+  pub obeyed : orders_in deeds ++ rest ≡ a.orders
+  pub many : length rest ≡ left
+  pub stands :
+      (past : Past) → StandsAfter send ring a.sampler past
+      → EndStandsAfter (joined ring e) (past_after past deeds)

@@ -1,0 +1,15 @@
+use thiserror::Error;
+
+/// Why a sampler was not handed out. The link is unchanged.
+#[derive(Clone, Copy, Debug, PartialEq, Eq, Error)]
+pub enum HandFault {
+    /// The measurement that was handed out last has not ended.
+    #[error("the measurement has not ended")]
+    NotEnded,
+    /// Two are out, or the task was at the place just then.
+    #[error("the task has not given back the one before")]
+    Busy,
+    /// There was no memory.
+    #[error("out of memory")]
+    Memory,
+}

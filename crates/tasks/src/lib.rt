@@ -1,0 +1,26 @@
+//! Samplers on their way to the threads of tasks, and back: each task has one event channel, whose
+//! measurements come and go.
+#![tactic(auto)]
+
+mod apart;
+mod away;
+mod coming;
+mod fault;
+mod handed;
+mod link;
+mod obeyed;
+mod order;
+mod orders;
+mod place;
+mod returns;
+mod running;
+mod task;
+mod task_end;
+
+pub use apart::finish_apart;
+pub use fault::HandFault;
+pub use link::TaskLink;
+pub use order::Order;
+pub use orders::MAX_ORDERS;
+pub use task::Task;
+pub use task_end::TaskEnd;

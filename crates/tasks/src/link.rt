@@ -1,0 +1,343 @@
+use crate::away::Away;
+use crate::fault::HandFault;
+use crate::handed::Handed;
+use crate::orders::order_ring;
+use crate::place::{Place, new_place};
+use crate::returns::Returns;
+use crate::task::Task;
+use channel_ring::SendEnd;
+use rtrb::RingBuffer;
+use sampler::{Sampler, SamplerEnd};
+use std::alloc::{AllocError, Global};
+use std::marker::Model;
+
+/// The slave's side of a task.
+///
+/// At most two samplers are out: one that the task holds, and the newest. Nothing here waits for the
+/// task.
+#[derive(Drop)]
+pub struct TaskLink<S: SendEnd> {
+    place: Place<Handed<S>>,
+    older: Option<Away<S>>,
+    newer: Option<Away<S>>,
+}
+
+impl<S: SendEnd> Model for TaskLink<S> {
+    ghost use Rattle.tasks.specs.Links.{LinkState};
+
+    ghost Value = { LinkState S };
+
+    ghost view = { λ l. record {
+      put = l.place.put;
+      taken_back = l.place.taken;
+      older = l.older;
+      newer = l.newer;
+    } };
+}
+
+ghost use Rattle.std.specs.Prelude.{◌≡◌, ℕ, ◌<◌, ◌&&◌, Bool, [], None, Some, true, false};
+ghost use Rattle.std.specs.Prelude.{IfErr, IfOk, IfSome, IsNone, IsSome, OnErr, OnOk};
+ghost use Rattle.std.specs.Option.{is_some};
+ghost use Rattle.xcp_base.specs.declared.limits.TheConstants.{MAX_LISTS};
+ghost use Rattle.xcp_base.specs.Lists.{has_list};
+ghost use Rattle.tasks.specs.Links.{AnswersHandOut, AwayState, CameBack, CanStart};
+ghost use Rattle.tasks.specs.Links.{EndsNewest, EndsUnordered, HandsOut, LooksAtNewest};
+ghost use Rattle.tasks.specs.Links.{SendsToNewest, hand_refusal, is_running, just_out};
+ghost use Rattle.tasks.specs.Links.{one_before, takes_orders, without};
+ghost use Rattle.tasks.specs.declared.order.Order.TheVariants.{Start, Stop, End};
+
+/// A sampler to be handed out, and what the slave keeps of it; or it comes back, if there is no
+/// memory.
+fn ready<S: SendEnd>(alloc: Global, sampler: Sampler<S>) -> Result<(Handed<S>, Away<S>), Sampler<S>>
+    ensures away { IfOk result (λ made. made.1 ≡ just_out sampler) }
+    ensures handed { IfOk result (λ made. made.0.sampler ≡ sampler) }
+    ensures no_order { IfOk result (λ made. made.0.orders.received ≡ []) }
+    ensures back { IfErr result (λ back. back ≡ sampler) }
+{
+    let Ok((orders, take)) = order_ring(alloc) else {
+        return Err(sampler);
+    };
+    let Ok((producer, consumer)) = RingBuffer::with_protocol::<Global, Returns>(alloc, 1) else {
+        return Err(sampler);
+    };
+    let running = sampler.running();
+    let (handed, coming) = Handed::over(producer, consumer, sampler, take);
+    let away = Away {
+        orders,
+        coming,
+        running,
+        ended: false,
+    };
+    Ok((handed, away))
+}
+
+/// Whether the newest takes orders.
+fn newest_takes_orders<S: SendEnd>(newer: &Option<Away<S>>) -> bool
+    ensures { result ≡ takes_orders newer.now }
+{
+    match newer {
+        Some(away) => away.takes_orders(),
+        None => false,
+    }
+}
+
+/// Whether two are out.
+fn are_two_out<S: SendEnd>(older: &Option<Away<S>>, newer: &Option<Away<S>>) -> bool
+    ensures { result ≡ (is_some older.now && is_some newer.now) }
+{
+    older.is_some() && newer.is_some()
+}
+
+/// The set of the lists that run by the orders sent to the newest.
+fn running_of<S: SendEnd>(newer: &Option<Away<S>>) -> u16
+    ensures { (l : ℕ) → l < MAX_LISTS → has_list result l ≡ is_running newer.now l }
+{
+    match newer {
+        Some(away) => away.running(),
+        None => 0,
+    }
+}
+
+/// Whether starts of these lists find places at the newest.
+fn newest_can_start<S: SendEnd>(newer: &mut Option<Away<S>>, lists: u16) -> bool
+    ensures yes { result ≡ true → CanStart newer.new (has_list lists) }
+    ensures no { result ≡ false → ¬ CanStart newer.new (has_list lists) }
+    ensures looked { LooksAtNewest newer.old newer.new }
+{
+    match newer {
+        Some(away) => away.can_start(lists),
+        None => false,
+    }
+}
+
+/// Sends a start to the newest.
+fn start_of<S: SendEnd>(newer: &mut Option<Away<S>>, l: u8)
+    requires below { l < MAX_LISTS }
+    requires checked { (lists : ℕ → Bool) × (lists l ≡ true) × CanStart newer.old lists }
+    ensures sends { SendsToNewest newer.old newer.new (Start l) }
+    ensures others { (lists : ℕ → Bool) → lists l ≡ true → CanStart newer.old lists
+        → CanStart newer.new (without l lists) }
+{
+    if let Some(away) = newer {
+        away.start(l);
+    }
+}
+
+/// Sends a stop to the newest.
+fn stop_of<S: SendEnd>(newer: &mut Option<Away<S>>, l: u8)
+    requires below { l < MAX_LISTS }
+    requires runs { is_running newer.old l ≡ true }
+    ensures { SendsToNewest newer.old newer.new (Stop l) }
+{
+    if let Some(away) = newer {
+        away.stop(l);
+    }
+}
+
+/// Sends an order to end to the newest.
+fn end_of<S: SendEnd>(newer: &mut Option<Away<S>>)
+    requires takes_orders { takes_orders newer.old ≡ true }
+    ensures { SendsToNewest newer.old newer.new End }
+{
+    if let Some(away) = newer {
+        away.end();
+    }
+}
+
+/// Ends the newest without an order.
+fn end_unordered<S: SendEnd>(newer: &mut Option<Away<S>>)
+    requires takes_orders { takes_orders newer.old ≡ true }
+    ensures { EndsUnordered newer.old newer.new }
+{
+    if let Some(away) = newer {
+        away.end_unordered();
+    }
+}
+
+/// Keeps another one, before which the newest is the older.
+fn keep<S: SendEnd>(older: &mut Option<Away<S>>, newer: &mut Option<Away<S>>, away: Away<S>)
+    ensures newer { newer.new ≡ Some away }
+    ensures older { older.new ≡ one_before older.old newer.old }
+{
+    if let Some(before) = newer.replace(away) {
+        *older = Some(before);
+    }
+}
+
+/// What came back of a sampler that is out, which stays where it is.
+fn found_of<S: SendEnd>(away: &mut Option<Away<S>>) -> Option<(SamplerEnd<S::End>, usize)>
+    ensures back { IfSome result (λ back. (a : AwayState S) × (away.old ≡ Some a)
+        × CameBack S.SendEnd S.End.RingEnd a back.0 back.1) }
+    ensures looked { LooksAtNewest away.old away.new }
+{
+    match away {
+        Some(away) => away.take(),
+        None => None,
+    }
+}
+
+/// What came back of a sampler that is out, of which nothing is kept then.
+fn back_of<S: SendEnd>(away: &mut Option<Away<S>>) -> Option<(SamplerEnd<S::End>, usize)>
+    ensures back { IfSome result (λ back. (a : AwayState S) × (away.old ≡ Some a)
+        × CameBack S.SendEnd S.End.RingEnd a back.0 back.1) }
+    ensures some { IsSome result → away.new ≡ None }
+    ensures none { IsNone result → LooksAtNewest away.old away.new }
+{
+    let back = found_of(away)?;
+    *away = None;
+    Some(back)
+}
+
+impl<S: SendEnd> TaskLink<S> {
+    /// A task, and the slave's side of it.
+    pub fn new(alloc: Global) -> Result<(TaskLink<S>, Task<S>), AllocError>
+        ensures link { IfOk result (λ made.
+            made.0 ≡ record { put = []; taken_back = []; older = None; newer = None }) }
+        ensures task { IfOk result (λ made. made.1 ≡ record { came = []; held = None }) }
+    {
+        let (place, coming) = new_place(alloc)?;
+        let link = TaskLink {
+            place,
+            older: None,
+            newer: None,
+        };
+        let task = Task { coming, held: None };
+        Ok((link, task))
+    }
+
+    /// Hands the sampler of a new measurement out, with rings of its own for its orders and its way
+    /// back.
+    ///
+    /// Refused, in this order: with `NotEnded`, if the measurement before it takes orders; with
+    /// `Busy`, if two are out, or if the task was at the place just then; with `Memory`. Then the
+    /// sampler comes back, and nothing has changed.
+    pub fn hand_out(
+        &mut self,
+        alloc: Global,
+        sampler: Sampler<S>,
+    ) -> Result<(), (HandFault, Sampler<S>)>
+        ensures answer { AnswersHandOut (hand_refusal self.old) result }
+        ensures ok { OnOk result (HandsOut self.old self.new sampler) }
+        ensures back { IfErr result (λ e. e.1 ≡ sampler) }
+        ensures err { OnErr result (self.new ≡ self.old) }
+    {
+        if newest_takes_orders(&self.newer) {
+            return Err((HandFault::NotEnded, sampler));
+        }
+        if are_two_out(&self.older, &self.newer) {
+            return Err((HandFault::Busy, sampler));
+        }
+        match ready(alloc, sampler) {
+            Ok((handed, away)) => self.put(handed, away),
+            Err(sampler) => Err((HandFault::Memory, sampler)),
+        }
+    }
+
+    /// Puts a sampler into the place, and keeps what the slave keeps of it.
+    fn put(&mut self, handed: Handed<S>, away: Away<S>) -> Result<(), (HandFault, Sampler<S>)>
+        requires one { away ≡ just_out handed.sampler }
+        requires no_order { handed.orders.received ≡ [] }
+        ensures ok { OnOk result (HandsOut self.old self.new handed.sampler) }
+        ensures busy { IfErr result (λ e. e.0 ≡ HandFault.Busy) }
+        ensures back { IfErr result (λ e. e.1 ≡ handed.sampler) }
+        ensures err { OnErr result (self.new ≡ self.old) }
+    {
+        if let Err(handed) = self.place.put(handed) {
+            return Err((HandFault::Busy, handed.into_sampler()));
+        }
+        keep(&mut self.older, &mut self.newer, away);
+        Ok(())
+    }
+
+    /// Whether the sampler that was handed out last takes orders: it is out, and its measurement has
+    /// not ended.
+    pub fn takes_orders(&self) -> bool
+        ensures { result ≡ takes_orders self.now.newer }
+    {
+        newest_takes_orders(&self.newer)
+    }
+
+    /// The set of the DAQ lists that run by the orders that were sent to it.
+    pub fn running(&self) -> u16
+        ensures { (l : ℕ) → l < MAX_LISTS → has_list result l ≡ is_running self.now.newer l }
+    {
+        running_of(&self.newer)
+    }
+
+    /// Looks at the ring of its orders, and tells whether starts of all these lists find places, with
+    /// the stops of all lists that then run and an order to end: then at most `MAX_ORDERS` starts and
+    /// stops wait.
+    pub fn can_start(&mut self, lists: u16) -> bool
+        ensures yes { result ≡ true → CanStart self.new.newer (has_list lists) }
+        ensures no { result ≡ false → ¬ CanStart self.new.newer (has_list lists) }
+        ensures looked { LooksAtNewest self.old.newer self.new.newer }
+        ensures rest_stays { self.new ≡ record self.old { newer = self.new.newer } }
+    {
+        newest_can_start(&mut self.newer, lists)
+    }
+
+    /// Sends the start of a list that was checked by `can_start`, alone or with others, which then
+    /// still find places. It takes no memory.
+    pub fn start(&mut self, l: u8)
+        requires below { l < MAX_LISTS }
+        requires checked { (lists : ℕ → Bool) × (lists l ≡ true) × CanStart self.old.newer lists }
+        ensures sends { SendsToNewest self.old.newer self.new.newer (Start l) }
+        ensures others { (lists : ℕ → Bool) → lists l ≡ true → CanStart self.old.newer lists
+            → CanStart self.new.newer (without l lists) }
+        ensures rest_stays { self.new ≡ record self.old { newer = self.new.newer } }
+    {
+        start_of(&mut self.newer, l);
+    }
+
+    /// Sends the stop of a list that runs. It always finds a place, and takes no memory.
+    pub fn stop(&mut self, l: u8)
+        requires below { l < MAX_LISTS }
+        requires runs { is_running self.old.newer l ≡ true }
+        ensures sends { SendsToNewest self.old.newer self.new.newer (Stop l) }
+        ensures rest_stays { self.new ≡ record self.old { newer = self.new.newer } }
+    {
+        stop_of(&mut self.newer, l);
+    }
+
+    /// Ends the measurement of the sampler that was handed out last, which takes no orders from then
+    /// on. If the task has not fetched it, it is taken back and finished at once; else an order to
+    /// end is sent, which always finds a place. If it takes no orders, nothing changes.
+    pub fn end(&mut self)
+        ensures none { takes_orders self.old.newer ≡ false → self.new ≡ self.old }
+        ensures ends { takes_orders self.old.newer ≡ true → EndsNewest self.old self.new }
+    {
+        if !newest_takes_orders(&self.newer) {
+            return;
+        }
+        match self.place.take() {
+            Some(handed) => {
+                handed.finish();
+                end_unordered(&mut self.newer);
+            }
+            None => end_of(&mut self.newer),
+        }
+    }
+
+    /// What came back of the older sampler, with the number of orders that were not carried out.
+    pub fn take_older(&mut self) -> Option<(SamplerEnd<S::End>, usize)>
+        ensures back { IfSome result (λ back. (a : AwayState S) × (self.old.older ≡ Some a)
+            × CameBack S.SendEnd S.End.RingEnd a back.0 back.1) }
+        ensures some { IsSome result → self.new.older ≡ None }
+        ensures none { IsNone result → LooksAtNewest self.old.older self.new.older }
+        ensures rest_stays { self.new ≡ record self.old { older = self.new.older } }
+    {
+        back_of(&mut self.older)
+    }
+
+    /// What came back of the sampler that was handed out last, with the number of orders that were
+    /// not carried out.
+    pub fn take_newer(&mut self) -> Option<(SamplerEnd<S::End>, usize)>
+        ensures back { IfSome result (λ back. (a : AwayState S) × (self.old.newer ≡ Some a)
+            × CameBack S.SendEnd S.End.RingEnd a back.0 back.1) }
+        ensures some { IsSome result → self.new.newer ≡ None }
+        ensures none { IsNone result → LooksAtNewest self.old.newer self.new.newer }
+        ensures rest_stays { self.new ≡ record self.old { newer = self.new.newer } }
+    {
+        back_of(&mut self.newer)
+    }
+}
