@@ -81,7 +81,7 @@ enum {
     NG_BAD_CAPS = 6,        /* not one capacity per channel, or one out of its limits */
     NG_NOTHING_RUNNING = 7, /* no DAQ list of the store runs */
     NG_NO_SAMPLER = 8,      /* all samplers of the engine were handed out */
-    NG_WRONG_IMAGE = 9,     /* the image has not the length of the store's images */
+    NG_WRONG_IMAGE = 9,     /* the image does not have the length of the store's images */
     NG_SPENT = 10,          /* 2^59 triggers, or 2^62 items, were taken */
     NG_NOT_OF_CHANNEL = 11, /* the DAQ list isn't one of the sampler's */
     NG_RUNNING = 12,        /* the DAQ list runs already */

@@ -46,6 +46,25 @@ impl ListReader {
         }
     }
 
+    /// The shape of the list.
+    pub fn shape(&self) -> &ListShape
+        ensures { result.now ≡ self.now.plan }
+    {
+        &self.shape
+    }
+
+    /// The ODT whose packet is expected next.
+    pub fn next_odt(&self) -> usize
+        ensures value { result ≡ length (under_way self.now) }
+        ensures below { result < length self.now.plan.odts }
+    {
+        let taken = self.packets.len();
+        if taken == self.shape.odts() {
+            return 0;
+        }
+        taken
+    }
+
     /// Takes the next packet of the list, and answers whether a sample is whole with it.
     ///
     /// A packet is taken exactly where it and those that wait begin the packets of some sample of
@@ -63,7 +82,7 @@ impl ListReader {
             fault_of self.old.plan (length (under_way self.old)) packet.now ≡ Some fault) }
         ensures err { OnErr result (self.new ≡ self.old) }
     {
-        let k = self.awaited();
+        let k = self.next_odt();
         if let Some(fault) = self.fault(k, packet) {
             return Err(fault);
         }
@@ -108,19 +127,7 @@ impl ListReader {
         })
     }
 
-    /// The ODT whose packet is awaited.
-    fn awaited(&self) -> usize
-        ensures value { result ≡ length (under_way self.now) }
-        ensures below { result < length self.now.plan.odts }
-    {
-        let taken = self.packets.len();
-        if taken == self.shape.odts() {
-            return 0;
-        }
-        taken
-    }
-
-    /// What is wrong with a packet where that of ODT `k` is awaited.
+    /// What is wrong with a packet if that of ODT `k` is expected.
     fn fault(&self, k: usize, packet: &[u8]) -> Option<PacketFault>
         requires { k < length self.now.plan.odts }
         ensures fault { result ≡ fault_of self.now.plan k packet.now }

@@ -42,7 +42,7 @@ impl Model for ListShape {
 
 impl ListShape {
     /// The shape of a ready DAQ list, whose PIDs begin with FIRST_PID, which is 0 with a relative
-    /// ODT number; images have `image_len` bytes. Want of memory is the only fault.
+    /// ODT number; images have `image_len` bytes. Lack of memory is the only fault.
     pub fn of(
         alloc: Global,
         list: u8,
@@ -125,6 +125,23 @@ impl ListShape {
         Some((slot.address, slot.size))
     }
 
+    /// The PID of an ODT without the overload indication.
+    pub fn pid(&self, k: usize) -> u8
+        requires { k < length self.now.odts }
+        ensures value { result ≡ self.now.first_pid + k }
+        ensures limit { result < 128 }
+    {
+        self.first_pid + k as u8
+    }
+
+    /// The bytes of the packet of an ODT.
+    pub fn packet_len(&self, k: usize) -> usize
+        requires { k < length self.now.odts }
+        ensures { result ≡ len_of self.now k }
+    {
+        self.head_len(k) + self.odts[k].len()
+    }
+
     /// Whether the identification field of a packet names the list.
     pub(crate) fn names(&self, packet: &[u8]) -> bool
         requires field { field_len self.now.form.id ≤ length packet.now }
@@ -163,7 +180,7 @@ impl ListShape {
         Some((self.head_len(k) + slot.start, slot.size as usize))
     }
 
-    /// What is wrong with a packet where that of ODT `k` is awaited.
+    /// What is wrong with a packet if that of ODT `k` is expected.
     pub(crate) fn fault(&self, k: usize, packet: &[u8]) -> Option<PacketFault>
         requires { k < length self.now.odts }
         ensures { result ≡ fault_of self.now k packet.now }
@@ -183,21 +200,13 @@ impl ListShape {
         None
     }
 
-    /// The bytes of the packet of an ODT.
-    fn packet_len(&self, k: usize) -> usize
-        requires { k < length self.now.odts }
-        ensures { result ≡ len_of self.now k }
-    {
-        self.head_len(k) + self.odts[k].len()
-    }
-
     /// Whether a packet has the PID of ODT `k`, in ODT 0 with or without the overload indication.
     fn is_pid(&self, k: usize, packet: &[u8]) -> bool
         requires odt { k < length self.now.odts }
         requires some { 0 < length packet.now }
         ensures { result ≡ is_pid self.now k packet.now }
     {
-        let pid = self.first_pid + k as u8;
+        let pid = self.pid(k);
         if packet[0] == pid {
             return true;
         }

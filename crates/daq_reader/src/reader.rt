@@ -40,7 +40,7 @@ impl Reader {
         }
     }
 
-    /// One more list, before its first packet. Want of memory is the only fault.
+    /// One more list, before its first packet. Lack of memory is the only fault.
     pub fn add(&mut self, shape: ListShape) -> Result<(), AllocError>
         ensures ok { OnOk result
             (self.new ≡ self.old ++ record { plan = shape; packets = [] } ∷ []) }

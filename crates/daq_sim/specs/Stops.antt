@@ -24,14 +24,14 @@ IsNoRun text (bad.BadSetup place) = IsOutcome text (bad_setup place)
 IsNoRun text (bad.BadStep place) = IsOutcome text (bad_step place)
 IsNoRun text bad.Memory = ⊥
 
--- a text stops for this: it can't be read, or is no run; of want of memory nothing is said
+-- a text stops for this: it can't be read, or is no run; of lack of memory nothing is said
 abbrev pub StopsText : List ℕ → TextFault → Type 0
 StopsText text none.Unreadable = ⊤
 StopsText text (none.Run fault) = IsNoRun text fault
 StopsText text none.Memory = ⊤
 
 -- a run was begun with a writer that had taken nothing, and this is what stands at its fault; of
--- want of memory nothing is said
+-- lack of memory nothing is said
 abbrev pub StopsRun : Bool → RunData → SimFault → Type 0
 StopsRun threads run Memory = ⊤
 StopsRun false run fault = (written : OutState) × StandsAtFault run nothing_written written fault

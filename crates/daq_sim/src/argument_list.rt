@@ -6,7 +6,7 @@ use std::rt::Env;
 
 /// The words behind the program's name.
 ///
-/// Refused where a word isn't UTF-8; want of memory is `Memory`.
+/// Refused where a word isn't UTF-8; lack of memory is `Memory`.
 pub fn arguments<R: AllocGlobal + Env>(rt: &R) -> Result<Vec<String>, ArgumentsFault> {
     let words = env::args(rt).map_err(|error| fault_of(&error))?;
     words

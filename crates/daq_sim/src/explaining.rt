@@ -66,10 +66,10 @@ fn run_of<R: Files, I: Read + Drop>(
 {
     let mut input = input;
     let Some(path) = path else {
-        return Ok(run_from(alloc, "standard input", &mut input, why)?);
+        return Ok(run_or_why(alloc, "standard input", &mut input, why)?);
     };
     match fs::open(rt, path) {
-        Ok(mut file) => Ok(run_from(alloc, path, &mut file, why)?),
+        Ok(mut file) => Ok(run_or_why(alloc, path, &mut file, why)?),
         Err(error) => {
             let fault = ProgramFault::Unreadable.or_memory(&error);
             why.tell_file(path, error);
@@ -78,8 +78,9 @@ fn run_of<R: Files, I: Read + Drop>(
     }
 }
 
-/// Reads a run, from a text that is read to its end.
-fn run_from<I: Read>(
+/// Reads a run, from a text that has this name and is read to its end. Behind a fault `why` has the
+/// reason.
+pub fn run_or_why<I: Read>(
     alloc: Global,
     name: &str,
     input: &mut I,

@@ -31,7 +31,7 @@ pub enum ProgramFault {
 impl ProgramFault {
     ghost use Rattle.daq_sim.specs.Faults.{status_of, want_of_memory};
 
-    /// Want of memory, wherever it was met.
+    /// Lack of memory, wherever it was met.
     pub const MEMORY: ProgramFault = ProgramFault::Sim(SimFault::Memory);
 
     /// The status that the program ends with.
@@ -44,7 +44,7 @@ impl ProgramFault {
         }
     }
 
-    /// This fault, or want of memory where that is what the system answered.
+    /// This fault, or lack of memory if that is what the system answered.
     pub fn or_memory(self, error: &io::Error) -> ProgramFault
         ensures memory { error_kind error.now ≡ ErrorKind.OutOfMemory → result ≡ want_of_memory }
         ensures other { error_kind error.now ≢ ErrorKind.OutOfMemory → result ≡ self }

@@ -51,7 +51,7 @@ pub fn text_from<I: Read>(alloc: Global, input: &mut I) -> Result<String, TextFa
 /// Reads until so many bytes are there, or to the end, if that comes first.
 ///
 /// Refused where a read fails, but for an interruption, which counts as a read of no byte; where
-/// there would be more than `MAX_TEXT` bytes, or `MAX_READS` reads don't do; want of memory is
+/// there would be more than `MAX_TEXT` bytes, or `MAX_READS` reads don't do; lack of memory is
 /// `Memory`.
 pub fn front_from<I: Read>(alloc: Global, input: &mut I, len: usize) -> Result<Vec<u8>, TextFault>
     ensures taken { IfOk result (λ bytes.
@@ -77,7 +77,7 @@ pub fn front_from<I: Read>(alloc: Global, input: &mut I, len: usize) -> Result<V
 /// Makes one read, appends what it gave, and tells whether it met the end.
 ///
 /// An interruption counts as a read of no byte. Refused where a read fails, and where there would
-/// be more than `MAX_TEXT` bytes; want of memory is `Memory`.
+/// be more than `MAX_TEXT` bytes; lack of memory is `Memory`.
 pub fn is_read_to_end<I: Read>(
     input: &mut I,
     chunk: &mut [u8],

@@ -21,7 +21,7 @@ pub enum TextFault {
 }
 
 impl TextFault {
-    /// This fault, or want of memory where that is what the system answered.
+    /// This fault, or lack of memory if that is what the system answered.
     pub fn or_memory(self, error: &io::Error) -> TextFault
         ensures memory { error_kind error.now ≡ ErrorKind.OutOfMemory → result ≡ TextFault.Memory }
         ensures other { error_kind error.now ≢ ErrorKind.OutOfMemory → result ≡ self }

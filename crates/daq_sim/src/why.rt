@@ -3,8 +3,8 @@ use run_story::{set_up_story, why_no_run};
 use std::alloc::Global;
 use std::fmt::Display;
 
-/// What standard error is told behind the line of a fault, where that is wanted. If memory for it
-/// is refused it is told nothing.
+/// What standard error is told behind the line of a fault, if that is wanted. If memory for it is
+/// refused, it is told nothing.
 #[derive(Drop)]
 pub struct Why {
     alloc: Global,
@@ -13,13 +13,18 @@ pub struct Why {
 }
 
 impl Why {
-    /// Nothing yet. It is wanted exactly where a word asks for it, whatever the other words are.
+    /// Nothing yet. It is wanted exactly if a word asks for it, whatever the other words are.
     pub fn new(alloc: Global, words: &[String]) -> Why {
         Why {
             alloc,
             is_wanted: words.iter().any(|word| word.as_str() == "--explain"),
             text: String::new(alloc),
         }
+    }
+
+    /// Whether it is wanted.
+    pub fn is_wanted(&self) -> bool {
+        self.is_wanted
     }
 
     /// What is told.
@@ -43,6 +48,9 @@ impl Why {
 
     /// Tells why the text of a name is no run.
     pub fn tell_text(&mut self, name: &str, text: &str, fault: RunFault) {
+        if !self.is_wanted {
+            return;
+        }
         if let Ok(why) = why_no_run(self.alloc, name, text, fault) {
             self.tell(why.as_str());
         }

@@ -12,11 +12,11 @@ use Rattle.recording.specs.declared.program_fault.ProgramFault.TheVariants.{Unre
 use Rattle.recording.specs.declared.reason.Reason.{Reason}
 use Rattle.recording.specs.declared.reason.Reason.TheVariants.{Read}
 
--- want of memory, wherever it was met
+-- lack of memory, wherever it was met
 abbrev pub want_of_memory : ProgramFault
 want_of_memory = Text Memory
 
--- a recording isn't read: want of memory, or else it can't be read
+-- a recording isn't read: lack of memory, or else it can't be read
 abbrev pub fault_of_recording : TextFault → ProgramFault
 fault_of_recording Memory = want_of_memory
 fault_of_recording _ = Unreadable
@@ -29,7 +29,7 @@ breaks_off place why = BreaksOff (record { place = place; why = why })
 abbrev pub torn : Reason
 torn = Read (Frame Torn)
 
--- 1 for a recording that was read in part or is of another run, and for want of memory; 2 for what
+-- 1 for a recording that was read in part or is of another run, and for lack of memory; 2 for what
 -- is wrong with words or files
 abbrev pub status_of : ProgramFault → ℕ
 status_of (Text Memory) = 1

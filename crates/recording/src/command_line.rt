@@ -1,6 +1,7 @@
 //! The program: from its words to its status.
 ghost use Rattle.std.specs.Prelude.{◌≡◌, ◌≤◌, ◌↔◌, IfOk, true};
 
+use crate::explaining::{Recorded, explain_samples, tell_replies};
 use crate::messages::Messages;
 use crate::program_fault::ProgramFault;
 use crate::recording::pass_replies;
@@ -8,12 +9,12 @@ use crate::showing::show_samples;
 use crate::words::{Asked, Words, read_words};
 use clap::Error;
 use daq_run::set_up;
-use daq_sim::{TextFault, run_from};
+use daq_sim::{TextFault, Why, run_or_why};
 use frame_writer::VecOut;
 use run_file::Run;
 use std::alloc::Global;
 use std::fs;
-use std::io::{self, BufWriter, Write};
+use std::io::{BufWriter, Read, Write};
 use std::rt::Files;
 
 /// The program over its words, without its name, its standard output and standard error. It answers
@@ -27,7 +28,7 @@ pub fn program<R: Files, W: Write + Drop, E: Write + Drop>(
 ) -> u8
     ensures { result ≤ 2 }
 {
-    let mut messages = Messages::new(err);
+    let mut messages = Messages::new(err, Why::new(alloc, words));
     let answer = match BufWriter::new(alloc, out) {
         Ok(out) => answer(rt, alloc, words, out, &mut messages),
         Err(_) => Err(ProgramFault::MEMORY),
@@ -51,7 +52,7 @@ fn answer<R: Files, W: Write + Drop, E: Write + Drop>(
 ) -> Result<u8, ProgramFault>
     ensures { IfOk result (λ status. status ≤ 1) }
 {
-    match read_words(alloc, words)? {
+    match read_words(alloc, words, &mut messages.why)? {
         Asked::Help(text) => Ok(print_help(out, text)),
         Asked::Recording(words) => show(rt, alloc, words, out, messages),
     }
@@ -76,33 +77,69 @@ fn show<R: Files, W: Write + Drop, E: Write + Drop>(
 ) -> Result<u8, ProgramFault>
     ensures { IfOk result (λ status. status ≤ 1) }
 {
-    let run = run_of(rt, alloc, words.run)?;
+    let run = run_of(rt, alloc, words.run, &mut messages.why)?;
     let Ok((store, writer)) = set_up(alloc, &run, VecOut::new(alloc)) else {
         return Err(ProgramFault::MEMORY);
     };
     let replies = writer.into_out();
-    let frames = run.setup().len();
     if words.progress {
         messages.want_progress();
     }
     let mut file = match fs::open(rt, words.frames) {
         Ok(file) => file,
         Err(error) => {
-            return Err(ProgramFault::of_recording(TextFault::Unreadable.or_memory(&error)));
+            let fault = TextFault::Unreadable.or_memory(&error);
+            messages.why.tell_file(words.frames, error);
+            return Err(ProgramFault::of_recording(fault));
         }
     };
-    let mut piece = pass_replies(alloc, &mut file, replies.bytes(), frames)?;
-    let shown = show_samples(
-        alloc, &store, words.mode, &mut file, &mut piece, out, messages,
-    )?;
+    let recorded = Recorded {
+        name: words.frames,
+        run: &run,
+        replies: replies.bytes(),
+        store: &store,
+    };
+    show_file(rt, alloc, words, &recorded, &mut file, out, messages)
+}
+
+/// Reads the file of a recording, and prints its samples.
+fn show_file<R: Files, I: Read, W: Write + Drop, E: Write + Drop>(
+    rt: &R,
+    alloc: Global,
+    words: Words<'_>,
+    recorded: &Recorded<'_>,
+    file: &mut I,
+    out: W,
+    messages: &mut Messages<E>,
+) -> Result<u8, ProgramFault>
+    ensures { IfOk result (λ status. status ≤ 1) }
+{
+    let frames = recorded.run.setup().len();
+    let mut piece = match pass_replies(alloc, file, recorded.replies, frames) {
+        Ok(piece) => piece,
+        Err(fault) => {
+            tell_replies(rt, alloc, recorded, fault, &mut messages.why);
+            return Err(fault);
+        }
+    };
+    let store = recorded.store;
+    let shown = if words.explain {
+        explain_samples(alloc, recorded, file, &mut piece, out, messages)?
+    } else {
+        show_samples(alloc, store, words.mode, file, &mut piece, out, messages)?
+    };
     Ok(status_of(shown.is_some()))
 }
 
-/// The run of a file.
-fn run_of<R: Files>(rt: &R, alloc: Global, path: &str) -> Result<Run, ProgramFault> {
+/// The run of a file. Behind a fault `why` has the reason.
+fn run_of<R: Files>(rt: &R, alloc: Global, path: &str, why: &mut Why) -> Result<Run, ProgramFault> {
     match fs::open(rt, path) {
-        Ok(mut file) => Ok(run_from(alloc, &mut file)?),
-        Err(error) => Err(ProgramFault::Text(TextFault::Unreadable.or_memory(&error))),
+        Ok(mut file) => Ok(run_or_why(alloc, path, &mut file, why)?),
+        Err(error) => {
+            let fault = TextFault::Unreadable.or_memory(&error);
+            why.tell_file(path, error);
+            Err(ProgramFault::Text(fault))
+        }
     }
 }
 

@@ -31,7 +31,7 @@ impl Model for Drawing {
 }
 
 impl Drawing {
-    /// A picture of no sample. Want of memory is the only fault.
+    /// A picture of no sample. Lack of memory is the only fault.
     pub fn new(alloc: Global, store: &Store) -> Result<Drawing, AllocError>
         ensures { IfOk result (λ drawing. drawing ≡ []) }
     {

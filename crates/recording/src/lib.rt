@@ -1,10 +1,11 @@
 //! The program `xcpread`, generic over its files and streams: the samples of a recording, read back
-//! by the run file that it was made of, as a table, as CSV or as a picture.
+//! by the run file that it was made of, as a table, as CSV, as a picture or in words.
 #![tactic(auto)]
 
 mod break_off;
 mod command_line;
 mod drawing;
+mod explaining;
 mod messages;
 mod mode;
 mod piece;
@@ -14,6 +15,7 @@ mod program_fault;
 mod reason;
 mod recording;
 mod row;
+mod sample_lines;
 mod sample_rows;
 mod showing;
 mod spot;

@@ -2,26 +2,31 @@ ghost use Rattle.std.specs.Prelude.{◌≡◌};
 ghost use Rattle.recording.specs.Messages.{is_next_step};
 
 use crate::program_fault::ProgramFault;
+use daq_sim::Why;
 use std::io::Write;
 
 /// So many bytes of a recording are read between two notes of its progress.
 const STEP: u64 = 10_000_000;
 
-/// What standard error is told: how far a recording is read, where that is wanted, and a fault.
+/// What standard error is told: how far a recording is read, if that is wanted, and a fault with its
+/// reason.
 #[derive(Drop)]
 pub struct Messages<E: Write + Drop> {
     err: E,
     tells_progress: bool,
     told: u64,
+    /// The reason of the fault that is still to be told.
+    pub why: Why,
 }
 
 impl<E: Write + Drop> Messages<E> {
     /// Nothing is told yet, and progress isn't wanted.
-    pub fn new(err: E) -> Messages<E> {
+    pub fn new(err: E, why: Why) -> Messages<E> {
         Messages {
             err,
             tells_progress: false,
             told: 0,
+            why,
         }
     }
 
@@ -48,9 +53,10 @@ impl<E: Write + Drop> Messages<E> {
         }
     }
 
-    /// Tells a fault, in a line of its own.
+    /// Tells a fault, in a line of its own, and its reason behind it.
     pub fn tell_fault(&mut self, fault: ProgramFault) {
         let _ = writeln!(self.err, "{fault}");
+        let _ = self.err.write_all(self.why.text().as_bytes());
     }
 }
 

@@ -14,7 +14,7 @@ pub struct Places {
 }
 
 impl Places {
-    /// Before the first sample of so many lists. Want of memory is the only fault.
+    /// Before the first sample of so many lists. Lack of memory is the only fault.
     pub fn new(
         alloc: Global,
         axis: Axis,

@@ -30,7 +30,7 @@ impl ProgramFault {
     ghost use Rattle.std.specs.Prelude.{◌≡◌};
     ghost use Rattle.recording.specs.Faults.{fault_of_recording, status_of};
 
-    /// Want of memory, wherever it was met.
+    /// Lack of memory, wherever it was met.
     pub const MEMORY: ProgramFault = ProgramFault::Text(TextFault::Memory);
 
     /// Why a recording isn't read, by the fault of reading a text.

@@ -116,9 +116,9 @@ fn show_picture<I: Read, W: Write + Drop, E: Write + Drop>(
 }
 
 /// What comes of a recording that was read, or breaks off, and of what was printed of it: where it
-/// breaks off, that is the fault; else want of memory is one, and the writer is given back exactly
-/// where all was printed.
-fn concluded<W: Drop>(
+/// breaks off, that is the fault; else lack of memory is one, and the writer is given back exactly
+/// if all was printed.
+pub fn concluded<W: Drop>(
     outcome: Result<(), ProgramFault>,
     printing: io::Result<()>,
     out: W,

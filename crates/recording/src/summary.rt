@@ -31,7 +31,7 @@ impl Model for Summary {
 }
 
 impl Summary {
-    /// No samples of so many lists. Want of memory is the only fault.
+    /// No samples of so many lists. Lack of memory is the only fault.
     pub fn new(alloc: Global, lists: usize) -> Result<Summary, AllocError>
         ensures lists { IfOk result (λ summary. summary.lists ≡ lists) }
         ensures samples { IfOk result (λ summary. summary.samples ≡ []) }

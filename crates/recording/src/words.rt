@@ -7,6 +7,7 @@ use crate::mode::Mode;
 use crate::program_fault::ProgramFault;
 use clap::error::ErrorKind;
 use clap::{Arg, ArgAction, ArgMatches, Command, Error};
+use daq_sim::Why;
 use std::alloc::{AllocError, Global};
 
 /// What the command line asks for.
@@ -29,10 +30,16 @@ pub struct Words<'a> {
     pub frames: &'a str,
     /// Whether standard error is told how far it is read.
     pub progress: bool,
+    /// Whether its replies and frames are printed in words, before a table.
+    pub explain: bool,
 }
 
 /// Reads the words behind the program's name.
-pub fn read_words<'a>(alloc: Global, words: &'a [String]) -> Result<Asked<'a>, ProgramFault>
+pub fn read_words<'a>(
+    alloc: Global,
+    words: &'a [String],
+    why: &mut Why,
+) -> Result<Asked<'a>, ProgramFault>
     ensures { IfErr result (λ fault. (fault ≡ CommandLine) ⊎ (fault ≡ want_of_memory)) }
 {
     match command(alloc)?.try_get_matches_from(words) {
@@ -40,7 +47,10 @@ pub fn read_words<'a>(alloc: Global, words: &'a [String]) -> Result<Asked<'a>, P
         Err(error) => match error.kind() {
             ErrorKind::DisplayHelp => Ok(Asked::Help(error)),
             ErrorKind::OutOfMemory => Err(ProgramFault::MEMORY),
-            _ => Err(ProgramFault::CommandLine),
+            _ => {
+                why.tell(error);
+                Err(ProgramFault::CommandLine)
+            }
         },
     }
 }
@@ -62,6 +72,13 @@ fn command<'a>(alloc: Global) -> Result<Command<'a>, AllocError> {
         .conflicts_with("summary")?
         .conflicts_with("csv")?
         .help("Print a picture with a row for each DAQ list, as SVG");
+    let explain = Arg::new(alloc, "explain")
+        .long("explain")
+        .action(ArgAction::SetTrue)
+        .conflicts_with("summary")?
+        .conflicts_with("csv")?
+        .conflicts_with("svg")?
+        .help("Print each reply and frame in words, then a table, and the reason behind a fault");
     let progress = Arg::new(alloc, "progress")
         .long("progress")
         .action(ArgAction::SetTrue)
@@ -82,6 +99,7 @@ fn command<'a>(alloc: Global) -> Result<Command<'a>, AllocError> {
         .arg(summary)?
         .arg(csv)?
         .arg(svg)?
+        .arg(explain)?
         .arg(progress)?
         .arg(run)?
         .arg(frames)
@@ -102,6 +120,7 @@ fn recording_of<'a>(matches: &ArgMatches<'a>) -> Result<Asked<'a>, ProgramFault>
         run,
         frames,
         progress: matches.get_flag("progress"),
+        explain: matches.get_flag("explain"),
     }))
 }
 

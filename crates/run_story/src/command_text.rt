@@ -45,10 +45,13 @@ fn write_command<W: fmt::Write>(f: &mut fmt::Formatter<W>, command: Command) -> 
             channel,
             prescaler,
             priority,
-        } => write!(
-            f,
-            "SET_DAQ_LIST_MODE mode 0x{mode:02x}, list {list}, channel {channel}, prescaler {prescaler}, priority {priority}"
-        ),
+        } => {
+            write!(f, "SET_DAQ_LIST_MODE mode 0x{mode:02x}, list {list}, ")?;
+            write!(
+                f,
+                "channel {channel}, prescaler {prescaler}, priority {priority}"
+            )
+        }
         Command::StartStopDaqList { mode, list } => {
             write!(f, "START_STOP_DAQ_LIST mode {mode}, list {list}")
         }

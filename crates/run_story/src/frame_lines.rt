@@ -66,7 +66,11 @@ impl Samples for FrameLines {
 
 /// Writes a line for each frame of a sample, of which the first has this counter, and answers the
 /// counter behind them.
-fn write_sample(text: &mut String, first: u16, sample: &SampleView<'_>) -> Result<u16, AllocError> {
+pub fn write_sample(
+    text: &mut String,
+    first: u16,
+    sample: &SampleView<'_>,
+) -> Result<u16, AllocError> {
     let mut counter = first;
     for k in 0..sample.shape().odts() {
         write_frame(text, counter, sample, k)?;

@@ -1,8 +1,9 @@
 //! What became of a run, told line by line: its command packets with their replies, its steps with
-//! what came of each, and its frames; or why a text is no run.
+//! what came of each, and its frames; or why a text is no run, or a recording isn't read.
 #![tactic(auto)]
 
 mod bad_run;
+mod broken;
 mod byte_text;
 mod came_text;
 mod command_text;
@@ -11,13 +12,19 @@ mod frame_lines;
 mod keeping_out;
 mod list_set_text;
 mod near_key;
+mod other_run;
 mod place_in_text;
 mod reply_text;
 mod step_log;
 mod step_text;
+mod stop;
 mod story;
 
 pub use bad_run::why_no_run;
+pub use broken::why_broken;
+pub use frame_lines::write_sample;
 pub use keeping_out::KeepingOut;
+pub use other_run::why_other_run;
 pub use step_log::StepLog;
+pub use stop::Stop;
 pub use story::{set_up_story, story_of};

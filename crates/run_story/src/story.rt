@@ -45,13 +45,22 @@ fn write_replies(
     unread: &mut Unread<'_>,
 ) -> Result<(), AllocError> {
     for i in 0..packets.len() {
-        let packet = packets[i].as_slice();
-        let bytes = ByteText { bytes: packet };
-        let command = CommandText { packet };
-        write!(text, "packet {i} ({bytes}) {command}: ")?;
-        write_reply(text, unread)?;
+        write_packet(text, i, packets[i].as_slice(), unread)?;
     }
     Ok(())
+}
+
+/// Writes the line of a command packet, with the reply that was written next.
+pub fn write_packet(
+    text: &mut String,
+    i: usize,
+    packet: &[u8],
+    unread: &mut Unread<'_>,
+) -> Result<(), AllocError> {
+    let bytes = ByteText { bytes: packet };
+    let command = CommandText { packet };
+    write!(text, "packet {i} ({bytes}) {command}: ")?;
+    write_reply(text, unread)
 }
 
 /// Writes the reply that was written next.
