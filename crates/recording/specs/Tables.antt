@@ -1,5 +1,5 @@
 -- The table that is printed of the samples of DAQ lists (own). Each line ends with a line feed.
-use Rattle.std.specs.Prelude.{ℕ, ◌-◌, ◌^◌, false, List, [], ◌∷◌, ◌++◌, codes, flat_map}
+use Rattle.std.specs.Prelude.{ℕ, ◌-◌, ◌^◌, false, List, [], ◌++◌, codes, flat_map}
 use Rattle.std.specs.Prelude.{Option, Some, None}
 use Rattle.std.specs.Fmt.{decimal, format_spec, padded_integral}
 use Rattle.std.specs.List.{enumerate_from}

@@ -1,4 +1,4 @@
-use Rattle.std.proofs.Common.{◌≡◌, ◌≢◌, subst, sym}
+use Rattle.std.proofs.Common.{◌≢◌, subst, sym}
 use Rattle.std.specs.Io.KnownBytes.{Appends}
 use Rattle.csv.specs.Writing.{row_text, text_written}
 use Rattle.csv.specs.declared.writer.QuoteStyle.TheVariants as style

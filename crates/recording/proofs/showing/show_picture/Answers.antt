@@ -1,4 +1,4 @@
-use Rattle.std.proofs.Common.{◌≡◌, subst, sym}
+use Rattle.std.proofs.Common.{subst, sym}
 use Rattle.daq_reader.specs.Lists.{plans_of}
 use Rattle.daq_reader.specs.Ready.{ready_lists}
 use Rattle.recording.specs.Shown.{IsShown}

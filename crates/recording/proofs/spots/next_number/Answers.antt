@@ -1,4 +1,4 @@
-use Rattle.std.proofs.Common.{◌≡◌, ◌<◌, ◌∙◌, Some, ap, length, rules, slice_get, sym}
+use Rattle.std.proofs.Common.{◌≡◌, ◌∙◌, Some, ap, slice_get, sym}
 use Rattle.std.proofs.lemmas.Option.{slice_get-get_or}
 use Rattle.recording.proofs.SpotLemmas.{is_number, numbers_more}
 use Rattle.recording.proofs.spots.next_number.Goals as goal

@@ -1,4 +1,3 @@
-use Rattle.std.proofs.Common.{rules}
 use Rattle.std.proofs.KnownBytes.{Appends-kept}
 use Rattle.recording.proofs.sample_rows.SampleRows.finish.Goals as goal
 

@@ -1,4 +1,4 @@
-use Rattle.std.proofs.Common.{◌≡◌, ◌∙◌, ℕ, List, Option, arith, rules, slice_get, subst, sym}
+use Rattle.std.proofs.Common.{ℕ, List, Option, arith, subst, sym}
 use Rattle.std.specs.Prelude.{reverse}
 use Rattle.std.specs.Io.KnownBytes.{Appends}
 use Rattle.csv.specs.Writing.{text_written}
@@ -28,9 +28,12 @@ invariant_of-self g c =
     let earlier = reverse at.log.samples in
     let knows = c.next-at.ensures.knows at.shapes.items earlier r c.self.invariant.0 of c.stamp.ensures in
     let known = subst (λ (ss : List (ℕ × Recorded)). KnowsSpots c.next-at.new.self at.shapes.items ss) (sym (reverse-push at.log.samples (c.args.place, r))) knows in
-    rw c.note.ensures (known, λ ok.
-    let went = went_on c.go_on.result ok in
-    let has = c.self.invariant.1 (c.go_on.ensures.before went) in
-    let text = subst (λ (o : Option ListPlan). Appends (text_written g.W.Write.contents at.rows) (text_written g.W.Write.contents c.go_on.new.rows) (text_at o c.next-at.result r)) of (c.go_on.ensures.text went) in
-    rows_more g.W.Write.contents at.shapes.items (g.W.Write.contents at.start.value) at.log.samples c.args.place r c.next-at.result at.rows c.go_on.new.rows has
-    (λ plan there. c.next-at.ensures.spot at.shapes.items plan earlier r c.self.invariant.0 of there c.stamp.ensures) text (c.go_on.ensures.between went))
+    rw c.note.ensures (
+      known,
+      λ ok.
+          let went = went_on c.go_on.result ok in
+          let has = c.self.invariant.1 (c.go_on.ensures.before went) in
+          let text = subst (λ (o : Option ListPlan). Appends (text_written g.W.Write.contents at.rows) (text_written g.W.Write.contents c.go_on.new.rows) (text_at o c.next-at.result r)) of (c.go_on.ensures.text went) in
+          rows_more g.W.Write.contents at.shapes.items (g.W.Write.contents at.start.value) at.log.samples c.args.place r c.next-at.result at.rows c.go_on.new.rows has
+          (λ plan there. c.next-at.ensures.spot at.shapes.items plan earlier r c.self.invariant.0 of there c.stamp.ensures) text (c.go_on.ensures.between went),
+    )

@@ -1,4 +1,4 @@
-use Rattle.std.proofs.Common.{◌≡◌, ◌∙◌, ℕ, Option, Some, ap, refl, rules, subst, sym}
+use Rattle.std.proofs.Common.{◌≡◌, ◌∙◌, ℕ, Option, ap, refl, subst, sym}
 use Rattle.copy_plan.specs.Config.{ListPlan}
 use Rattle.xcp_base.specs.declared.stamp_size.StampSize.{StampSize}
 use Rattle.recording.specs.Times.{KnowsLast, stands_of, stands_with, time_at}
@@ -26,7 +26,7 @@ returns-clause-spot c = λ plans plan earlier r knows of there stamp.
     let size : c.form.result.stamp ≡ plan.form.stamp = ap (λ f. f.stamp) c.form.ensures ∙ ap (λ (p : ListPlan). p.form.stamp) same in
     let before = stands_of plans earlier in
     let time = c.next-time.ensures.time before knows.times
-        ∙ ap (λ z. time_at z c.args.place before c.args.stamp) size ∙ ap (λ o. time_at plan.form.stamp c.args.place before o) stamp in
+    ∙ ap (λ z. time_at z c.args.place before c.args.stamp) size ∙ ap (λ o. time_at plan.form.stamp c.args.place before o) stamp in
     is_spot plans plan earlier c.args.place c.next_number-number.result c.next-time.result r there (c.next_number-number.ensures.number earlier knows.numbers) time
 
 pub returns-clause-knows : goal.returns-clause-knows
@@ -37,5 +37,5 @@ returns-clause-knows c = λ plans earlier r knows of stamp.
     let before = stands_of plans earlier in
     let now = c.next-time.new.self in
     let times = subst (λ (o : Option ℕ). KnowsLast now (stands_with plan.form.stamp c.args.place before o)) stamp
-        (subst (λ (z : StampSize). KnowsLast now (stands_with z c.args.place before c.args.stamp)) size (c.next-time.ensures.knows before knows.times)) in
+    (subst (λ (z : StampSize). KnowsLast now (stands_with z c.args.place before c.args.stamp)) size (c.next-time.ensures.knows before knows.times)) in
     knows_sample c.args.self.now _ plans plan earlier c.args.place r knows (sym some) c.next_number-number.ensures.lists c.next-time.ensures.lists (c.next_number-number.ensures.numbers earlier r knows.numbers) times

@@ -1,4 +1,4 @@
-use Rattle.std.proofs.Common.{◌≡◌, ◌<◌, List, None, Option, Some, length, refl, slice_get, subst, sym}
+use Rattle.std.proofs.Common.{◌≡◌, ◌<◌, List, Option, Some, length, refl, slice_get, subst, sym}
 use Rattle.recording.specs.declared.times.Stand.{Stand}
 use Rattle.recording.proofs.TimesLemmas.{none_known, none_yet}
 use Rattle.recording.proofs.times.Times.new.Goals as goal

@@ -1,7 +1,6 @@
-use Rattle.std.proofs.Common.{◌≡◌, ◌<◌, ◌∙◌, ℕ, List, Some, ap, length, refl, rules, slice_get, sym}
+use Rattle.std.proofs.Common.{◌≡◌, ◌∙◌, Some, ap, refl, slice_get, sym}
 use Rattle.std.proofs.lemmas.Option.{slice_get-get_or}
-use Rattle.recording.specs.Times.{KnowsLast, time_of}
-use Rattle.recording.specs.declared.times.Stand.{Stand}
+use Rattle.recording.specs.Times.{time_of}
 use Rattle.recording.proofs.TimesLemmas.{is_time, knows_more}
 use Rattle.recording.proofs.times.Times.next.Goals as goal
 
