@@ -8,8 +8,8 @@ use std::io::Write;
 /// So many bytes of a recording are read between two notes of its progress.
 const STEP: u64 = 10_000_000;
 
-/// What standard error is told: how far a recording is read, if that is wanted, and a fault with its
-/// reason.
+/// What standard error is told: how far a recording is read, if that is wanted, and a fault with
+/// its reason.
 #[derive(Drop)]
 pub struct Messages<E: Write + Drop> {
     err: E,
