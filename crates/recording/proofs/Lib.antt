@@ -3,6 +3,7 @@ pub mod PassLemmas
 pub mod PieceLemmas
 pub mod PrintedLemmas
 pub mod RowLemmas
+pub mod RunFileLemmas
 pub mod ShownLemmas
 pub mod SpotLemmas
 pub mod TallyLemmas

@@ -6,6 +6,7 @@ mod break_off;
 mod command_line;
 mod drawing;
 mod explaining;
+pub mod laws;
 mod messages;
 mod mode;
 mod piece;

@@ -1,0 +1,16 @@
+//! What follows from the definitions: the contract of a function that does nothing.
+ghost use Rattle.recording.specs.RunFiles.{RunFilesAreRead, RunFilesInThreadsAreRead};
+
+/// What `xcpdaq --out` wrote of a run whose writer didn't fail is read back, in one thread and in
+/// threads: it begins with the replies to the set-up, and what a piece behind them and the rest of
+/// the input have is a recording for the ready lists of the store that the set-up leaves.
+///
+/// So `pass_replies` passes the replies, by its clause `passed`, and `read_frames` hands over of
+/// each list just the first samples that its event channel accepted, and all of them after a drain,
+/// by its clause `given`.
+pub fn what_a_run_wrote_is_read()
+    ensures in_one_thread { RunFilesAreRead }
+    ensures in_threads { RunFilesInThreadsAreRead }
+{
+    read_back::laws::what_a_run_wrote_is_read_back();
+}
