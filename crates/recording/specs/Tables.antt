@@ -10,7 +10,8 @@ use Rattle.daq_reader.specs.Recorded.{Recorded}
 use Rattle.recording.specs.Tallies.{tally_of}
 use Rattle.recording.specs.declared.tally.Tally.{Tally}
 
--- digits with spaces before them, up to a width, as the standard library aligns a number to the right
+-- digits with spaces before them, up to a width, as the standard library aligns a number to the
+-- right
 abbrev pub right_aligned : ℕ → List ℕ → List ℕ
 right_aligned width digits =
     padded_integral (format_spec 32 3 0 width (2 ^ 64 - 1)) false [] digits

@@ -50,8 +50,8 @@ fn show_table<I: Read, W: Write + Drop, E: Write + Drop>(
     out: W,
     messages: &mut Messages<E>,
 ) -> Result<Option<W>, ProgramFault>
-    ensures { IfOk result (λ shown. IfSome shown (λ after. ShowsAll Mode.Summary (ready_lists store.now)
-        (I.remaining input.old) (I.remaining input.new) piece.old piece.new
+    ensures { IfOk result (λ shown. IfSome shown (λ after. ShowsAll Mode.Summary
+        (ready_lists store.now) (I.remaining input.old) (I.remaining input.new) piece.old piece.new
         (W.contents out) (W.contents after))) }
 {
     let mut out = out;
