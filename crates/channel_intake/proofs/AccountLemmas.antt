@@ -17,30 +17,10 @@ use Rattle.sampler.specs.declared.counts.ListCounts.{ListCounts}
 use Rattle.daq_engine.specs.Inner.Lines.{line}
 use Rattle.daq_engine.specs.Order.{items_of}
 use Rattle.daq_engine.specs.Overload.{decided_of}
-use Rattle.daq_engine.proofs.AccountLemmas.{accepted_are_sent}
+use Rattle.daq_engine.proofs.AccountLemmas.{accepted_are_sent, accepted_or_dropped, due_count}
 use Rattle.daq_engine.proofs.PidLemmas.{all-indexed}
 use Rattle.channel_intake.specs.Accounts.{HasPlans, IsLineOf}
 use Rattle.channel_intake.specs.Deeds.{Deed, Started, Stopped, Took, passed, passes, taken}
-
--- of the pairs of a list, each was accepted or dropped
-pub sum_of_decisions : (pairs : List Decided) → count_by (λ (pair : Decided). pair.1) pairs + count_by (λ (pair : Decided). not pair.1) pairs ≡ length pairs
-sum_of_decisions [] = refl
-sum_of_decisions ((p, true) ∷ pairs) =
-    omega (arith, sum_of_decisions pairs, sum_by-cons (λ (pair : Decided). cond pair.1 1 0) (p, true) pairs, sum_by-cons (λ (pair : Decided). cond (not pair.1) 1 0) (p, true) pairs)
-sum_of_decisions ((p, false) ∷ pairs) =
-    omega (arith, sum_of_decisions pairs, sum_by-cons (λ (pair : Decided). cond pair.1 1 0) (p, false) pairs, sum_by-cons (λ (pair : Decided). cond (not pair.1) 1 0) (p, false) pairs)
-
--- the pairs of a list, beside their decisions, are as many as without
-pub pairs-counted : (l : ℕ) (xs : List (ℕ × ℕ)) (ds : List Bool) → length ds ≡ length xs → length (pairs_of l (zip xs ds)) ≡ count_by (λ (pair : ℕ × ℕ). nat_eq pair.1 l) xs
-pairs-counted l [] ds same = refl
-pairs-counted l (x ∷ xs) [] same = absurd (omega (arith, same))
-pairs-counted l (x ∷ xs) (b ∷ ds) same =
-    let more = pairs-counted l xs ds (omega (arith, same)) in
-    elim (nat_eq x.1 l) as (λ m. length (cond m ((x, b) ∷ pairs_of l (zip xs ds)) (pairs_of l (zip xs ds))) ≡ cond m 1 0 + count_by (λ (pair : ℕ × ℕ). nat_eq pair.1 l) xs) [
-      | true ↦ omega (arith, more)
-      | false ↦ omega (arith, more)
-    ]
-    ∙ sym (sum_by-cons (λ (pair : ℕ × ℕ). cond (nat_eq pair.1 l) 1 0) x xs)
 
 -- no more samples of a list were written than were taken
 pub written-le-taken : (l : ℕ) (deeds : List Deed) → count_of l (passed deeds) ≤ count_of l (samples (taken deeds))
@@ -76,11 +56,11 @@ line-stands past deeds l plans decided_all front =
     let few = written-le-sent l deeds (items_of past) front in
     record {
       of_list = refl;
-      due_is = pairs-counted l (due past.opening past.history) past.decisions decided_all;
+      due_is = due_count l (due past.opening past.history) past.decisions decided_all;
       dropped = refl;
       written = refl;
       left = omega (arith, accepted, few);
-      adds_up = omega (arith, accepted, few, sum_of_decisions pairs);
+      adds_up = omega (arith, accepted, few, accepted_or_dropped pairs);
     }
 
 some_of : (b : Bool) (a x : ListCounts) → (if b then Some x else None) ≡ Some a → a ≡ x

@@ -1,4 +1,3 @@
 pub mod Asked
-pub mod Opened
 pub mod Settled
 pub mod Lines

@@ -8,7 +8,7 @@ ghost use Rattle.transmitter.specs.Written.{transmission, writer_of};
 ghost use Rattle.daq_engine.specs.Openings.{AreOpened, CanOpen, CanOpenOver, IsPaired};
 ghost use Rattle.daq_engine.specs.Openings.{fit_caps, fit_caps_of, is_byte_cap, refusal_of};
 ghost use Rattle.daq_engine.specs.Openings.{some_list_runs};
-ghost use Rattle.daq_engine.specs.Inner.Opened.{IsOpenedAt, AreOpenedTo};
+ghost use Rattle.daq_engine.specs.Opened.{IsOpenedAt, AreOpenedTo};
 
 use crate::channel_plans::{plans_of, running_of};
 use crate::open_fault::OpenFault;
@@ -155,9 +155,10 @@ fn any_runs(store: &Store) -> bool
     (0..store.lists()).any(|l| store.running(l))
 }
 
-/// The sampler of an event channel of the store, and the take end of its ring, which has `cap`
-/// places.
-fn sampler_of<R: Ring>(
+/// The sampler of one event channel of a store, and the take end of its ring, which has `cap` places.
+///
+/// It has the DAQ lists of the channel that are ready, and of these run those that run in the store.
+pub fn open_channel<R: Ring>(
     alloc: Global,
     store: &Store,
     c: u8,
@@ -196,7 +197,7 @@ fn samplers_of<R: Ring>(
     let mut samplers = Vec::with_capacity(alloc, channels as usize)?;
     let mut ends = Vec::with_capacity(alloc, channels as usize)?;
     for c in 0..channels {
-        let (sampler, take) = sampler_of::<R>(alloc, store, c, caps[c as usize])?;
+        let (sampler, take) = open_channel::<R>(alloc, store, c, caps[c as usize])?;
         samplers.push_reserved(sampler);
         ends.push_reserved(take);
     }
