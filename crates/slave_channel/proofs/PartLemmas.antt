@@ -1,0 +1,141 @@
+-- Parts of measurements that go out, change and come back.
+use Rattle.std.proofs.Common.{◌≡◌, ℕ, List, [], ◌∷◌, ◌++◌, All, length, refl, sym, ap, ◌∙◌, subst, Bool, true, false}
+use Rattle.std.specs.Prelude.{slice_get, slice_index_or, Option, Some, None}
+use Rattle.std.specs.Option.{is_some}
+use mathlib.Core.List.{IsPrefix}
+use Rattle.std.proofs.lemmas.Option.{get_or_from_slice_get, none-some, slice_get_within}
+use Rattle.copy_plan.specs.Config.{IsPlan, ListPlan}
+use Rattle.channel_ring.specs.declared.ends.SendEnd.{Ghosts as SendGhosts}
+use Rattle.channel_ring.specs.declared.ends.RingEnd.{Ghosts as EndGhosts}
+use Rattle.channel_ring.specs.declared.ends.TakeEnd.{Ghosts as TakeGhosts}
+use Rattle.sampler.specs.History.{Event, Start, Stop}
+use Rattle.sampler.specs.Past.{Past, first_past}
+use Rattle.sampler.specs.Refusals.{running_at, start_refusal, stop_refusal}
+use Rattle.sampler.specs.Standing.{EndStandsAfter}
+use Rattle.sampler.specs.State.{JoinedEnd, SamplerEndState, SamplerState, joined}
+use Rattle.transmitter.specs.Items.{samples}
+use Rattle.daq_engine.specs.Order.{items_of}
+use Rattle.daq_engine.specs.Overload.{HasMarks}
+use Rattle.daq_engine.proofs.OverloadLemmas.{marks-stand}
+use Rattle.daq_engine.proofs.PidLemmas.{all-indexed}
+use Rattle.channel_intake.specs.Accounts.{HasPlans}
+use Rattle.channel_intake.specs.Deeds.{Deed as IntakeDeed, taken}
+use Rattle.channel_intake.specs.Intakes.{IntakeState, StandsAfter}
+use Rattle.tasks.specs.Deeds.{Deed, Obeyed, Took, past_after, past_after_deed, unless_refused}
+use Rattle.tasks.specs.Links.{AwayState, CameBack}
+use Rattle.tasks.specs.declared.order.Order.TheVariants as order
+use Rattle.daq_store.specs.Standing.{StoreState}
+use Rattle.daq_engine.specs.Opened.{IsOpenedAt}
+use Rattle.sampler.specs.History.{Opening}
+use Rattle.tasks.specs.Links.{HandsOut, LinkState, SendsToNewest}
+use Rattle.tasks.specs.declared.order.Order.{Order}
+use Rattle.slave_channel.specs.Channels.{ChannelState, FinishedState, Fits, IsBack, IsBackOf, IsFinished, IsPastOf, IsShareOf, Opens, ShareState, part_before}
+use Rattle.slave_channel.specs.Inner.{ComesOf, EndStays, FinishesAs}
+
+-- no deed changes what a channel was opened with
+keeps-opening : (refused : Bool) (past : Past) (event : Event) → (unless_refused refused past event).opening ≡ past.opening
+keeps-opening true past event = refl
+keeps-opening false past event = refl
+
+deed-opening : (past : Past) (d : Deed) → (past_after_deed past d).opening ≡ past.opening
+deed-opening past (Took taken image stamp) = refl
+deed-opening past (Obeyed (order.Start l)) = keeps-opening (is_some (start_refusal (running_at past l))) past (Start l)
+deed-opening past (Obeyed (order.Stop l)) = keeps-opening (is_some (stop_refusal (running_at past l))) past (Stop l)
+deed-opening past (Obeyed order.End) = refl
+
+pub opening-after : (past : Past) (ds : List Deed) → (past_after past ds).opening ≡ past.opening
+opening-after past [] = refl
+opening-after past (d ∷ ds) = opening-after (past_after_deed past d) ds ∙ deed-opening past d
+
+-- the plans of an opening are plans, each at its place
+pub plans-at : (plans : List ListPlan) → All IsPlan plans → (i : ℕ) (plan : ListPlan) → slice_get plans i ≡ Some plan → IsPlan plan
+plans-at plans all i plan there = subst IsPlan (get_or_from_slice_get plans i plan plan there) (all i plan (slice_get_within plans i plan there))
+
+-- the part stays the sampler's while its ring stays
+pub share-stays : {S E T F : Type 0} (send : SendGhosts S E) (ring : EndGhosts E) (take : TakeGhosts T F) (sampler : SamplerState S) (s t : ShareState T)
+    → IsShareOf send ring take sampler s → take.ring t.intake.end ≡ take.ring s.intake.end → IsShareOf send ring take sampler t
+share-stays send ring take sampler s t is same = record { one_ring = same ∙ is.one_ring; opening = is.opening; plans = is.plans; stands = is.stands }
+
+pub fits-changed : {S E T F : Type 0} (send : SendGhosts S E) (ring : EndGhosts E) (take : TakeGhosts T F) (o : Option (AwayState S)) (a b : Option (ShareState T))
+    → Fits send ring take o a → EndStays a b → Fits send ring take o b
+fits-changed send ring take None None None fits stays = fits
+fits-changed send ring take None None (Some t) fits stays = elim stays [ ]
+fits-changed send ring take None (Some s) b fits stays = elim fits [ ]
+fits-changed send ring take (Some x) None b fits stays = elim fits [ ]
+fits-changed send ring take (Some x) (Some s) None fits stays = elim stays [ ]
+fits-changed send ring take (Some x) (Some s) (Some t) fits stays = share-stays send ring take x.sampler s t fits (ap take.ring stays)
+
+-- and while orders are sent to it
+pub fits-ordered : {S E T F : Type 0} (send : SendGhosts S E) (ring : EndGhosts E) (take : TakeGhosts T F) (ordered : Order) (o p : Option (AwayState S)) (a b : Option (ShareState T))
+    → Fits send ring take o a → SendsToNewest o p ordered → EndStays a b → Fits send ring take p b
+fits-ordered send ring take ordered None p a b fits sends stays = elim sends [ ]
+fits-ordered send ring take ordered (Some x) None a b fits sends stays = elim sends [ ]
+fits-ordered send ring take ordered (Some x) (Some y) None b fits sends stays = elim fits [ ]
+fits-ordered send ring take ordered (Some x) (Some y) (Some s) None fits sends stays = elim stays [ ]
+fits-ordered send ring take ordered (Some x) (Some y) (Some s) (Some t) fits sends stays =
+    subst (λ sampler. IsShareOf send ring take sampler t) (sym sends.sampler) (share-stays send ring take x.sampler s t fits (ap take.ring stays))
+
+-- what is left of a sampler is that of its part
+pub comes-of : {S E T F : Type 0} (send : SendGhosts S E) (ring : EndGhosts E) (take : TakeGhosts T F) (a : AwayState S) (o : Option (AwayState S)) (part : Option (ShareState T)) (end : SamplerEndState E) (left : ℕ)
+    → o ≡ Some a → Fits send ring take o part → CameBack send ring a end left → ComesOf ring take part end
+comes-of send ring take a None part end left is fits came = absurd (none-some a is)
+comes-of send ring take a (Some x) None end left is fits came = elim fits [ ]
+comes-of send ring take a (Some x) (Some s) end left is fits came =
+    let mine : IsShareOf send ring take a.sampler s = subst (λ (y : AwayState _). IsShareOf send ring take y.sampler s) (inner a x is) fits in
+    let past = past_after (first_past mine.opening) came.deeds in
+    let opened = opening-after (first_past mine.opening) came.deeds in
+    (
+      came.same_ring ∙ sym mine.one_ring,
+      (past, came.stands (first_past mine.opening) mine.stands, λ i plan there. plans-at mine.opening.plans mine.plans i plan (ap (λ op. slice_get op.plans i) (sym opened) ∙ there)),
+    ) where
+      inner : {X : Type 0} (y x : X) → Some x ≡ Some y → x ≡ y
+      inner y x e = cc
+
+-- finished, with all that was sent known
+pub finished : {E T F : Type 0} (ring : EndGhosts E) (take : TakeGhosts T F) (before end : SamplerEndState E) (f : FinishedState E T)
+    → f.end ≡ end → joined ring end ≡ joined ring before → take.received f.intake.end ++ take.known f.intake.end ≡ ring.all_sent end.end
+    → ((past : Past) × EndStandsAfter (joined ring before) past × HasPlans past) → IsFinished ring take f
+finished ring take before end f is same all (past, stands, plans) =
+    let joins : joined ring f.end ≡ joined ring before = ap (joined ring) is ∙ same in
+    let now : EndStandsAfter (joined ring f.end) past = subst (λ j. EndStandsAfter j past) (sym joins) stands in
+    let front : (deeds : List IntakeDeed) → StandsAfter take f.intake deeds → IsPrefix (taken deeds) (items_of past) =
+    λ deeds there. (take.known f.intake.end, ap (λ xs. xs ++ take.known f.intake.end) (sym there.received) ∙ all ∙ ap (λ (e : SamplerEndState _). ring.all_sent e.end) (sym is) ∙ now.sent) in
+    (
+      past,
+      record {
+        stands = now;
+        plans = plans;
+        front = front;
+        marks = λ deeds there. marks-stand past (taken deeds) (all-indexed IsPlan past.opening.plans plans) (front deeds there);
+      },
+    )
+
+-- the part came back
+pub is-back : {S E T F : Type 0} (send : SendGhosts S E) (ring : EndGhosts E) (take : TakeGhosts T F) (a : AwayState S) (o : Option (AwayState S)) (part : Option (ShareState T)) (end : SamplerEndState E) (left : ℕ)
+    (f : FinishedState E T) → o ≡ Some a → CameBack send ring a end left → FinishesAs ring take part end f → IsBackOf send ring take o part f
+is-back send ring take a None part end left f is came done = absurd (none-some a is)
+is-back send ring take a (Some x) None end left f is came done = elim done [ ]
+is-back send ring take a (Some x) (Some s) end left f is came done =
+    subst (λ (y : AwayState _). IsBack send ring take y s f) (inner a x is)
+    (record { number = done.0; follows = done.1; end = end; left = left; same = done.2; came = came }) where
+      inner : {X : Type 0} (y x : X) → Some x ≡ Some y → y ≡ x
+      inner y x e = cc
+
+-- a part was opened
+pub opens : {S E T F : Type 0} (send : SendGhosts S E) (ring : EndGhosts E) (take : TakeGhosts T F) (a : ChannelState S T) (was now : LinkState S) (older newer older_now newer_now : Option (ShareState T)) (s : StoreState) (c cap number : ℕ)
+    (sampler : SamplerState S) (end : T) (intake : IntakeState T) → record { link = was; older = older; newer = newer } ≡ a → ((opening : Opening) × IsOpenedAt send ring take s c cap sampler end opening)
+    → HandsOut was now sampler → newer_now ≡ Some (record { number = number; intake = intake }) → older_now ≡ part_before older newer → StandsAfter take intake [] → intake.end ≡ end
+    → Opens send ring take a (record { link = now; older = older_now; newer = newer_now }) s c cap number
+opens send ring take a was now older newer older_now newer_now s c cap number sampler end intake is opened handed one before stands same =
+    subst (λ x. Opens send ring take x (record { link = now; older = older_now; newer = newer_now }) s c cap number) is
+    (record {
+      sampler = sampler;
+      share = record { number = number; intake = intake };
+      opening = opened.0;
+      opened = subst (λ e. IsOpenedAt send ring take s c cap sampler e opened.0) (sym same) opened.1;
+      handed = handed;
+      newer = one;
+      number_is = refl;
+      stands = stands;
+      older = before;
+    })

@@ -1,0 +1,133 @@
+-- The slave's side of an event channel: the measurements whose samplers are out, and those that came
+-- back (own).
+use Rattle.std.specs.Prelude.{◌≡◌, ◌≢◌, ℕ, ◌⊎◌, List, [], All, Option, Some, None}
+use mathlib.Core.List.{IsPrefix}
+use Rattle.copy_plan.specs.Config.{IsPlan}
+use Rattle.channel_ring.specs.declared.ends.SendEnd.{Ghosts as SendGhosts}
+use Rattle.channel_ring.specs.declared.ends.RingEnd.{Ghosts as EndGhosts}
+use Rattle.channel_ring.specs.declared.ends.TakeEnd.{Ghosts as TakeGhosts}
+use Rattle.sampler.specs.History.{Opening}
+use Rattle.sampler.specs.Past.{Past, first_past}
+use Rattle.sampler.specs.Standing.{EndStandsAfter, StandsAfter as SamplerStandsAfter}
+use Rattle.sampler.specs.State.{SamplerEndState, SamplerState, joined}
+use Rattle.transmitter.specs.Items.{samples}
+use Rattle.daq_engine.specs.Order.{items_of}
+use Rattle.daq_engine.specs.Overload.{HasMarks}
+use Rattle.daq_engine.specs.declared.report.ListReport.{ListReport}
+use Rattle.channel_intake.specs.Accounts.{HasPlans, IsLineOf}
+use Rattle.channel_intake.specs.Deeds.{Deed, taken}
+use Rattle.channel_intake.specs.Intakes.{IntakeState, StandsAfter}
+use Rattle.channel_intake.specs.Intakes.{GoesOn}
+use Rattle.daq_store.specs.Standing.{StoreState}
+use Rattle.daq_engine.specs.Opened.{IsOpenedAt}
+use Rattle.tasks.specs.Links.{AwayState, CameBack, HandsOut, LinkState, SendsToNewest}
+use Rattle.tasks.specs.declared.order.Order.{Order}
+
+-- an event channel's part of a measurement: the measurement's number, and the intake of its ring
+pub record ShareState (T : Type 0) : Type 0 where
+  pub number : ℕ
+  pub intake : IntakeState T
+
+-- the link to the task, and the parts of the two measurements whose samplers may be out: the one
+-- before the last, and the last
+pub record ChannelState (S T : Type 0) : Type 0 where
+  pub link : LinkState S
+  pub older : Option (ShareState T)
+  pub newer : Option (ShareState T)
+
+-- such a part once what is left of its sampler is back
+pub record FinishedState (E T : Type 0) : Type 0 where
+  pub number : ℕ
+  pub end : SamplerEndState E
+  pub intake : IntakeState T
+
+-- two intakes of one ring; whatever the one stands after, the other does too
+pub record Follows {T F : Type 0} (take : TakeGhosts T F) (a b : IntakeState T) : Type 0 where
+  pub ring : take.ring b.end ≡ take.ring a.end
+  pub stands : (deeds : List Deed) → StandsAfter take a deeds → StandsAfter take b deeds
+
+module _ {E T F : Type 0} (ring : EndGhosts E) (take : TakeGhosts T F) where
+  -- the sampler came to this past: whatever its intake stands after, what it took is the first of
+  -- the items that were sent, and the samples among these are marked exactly behind drops
+  pub record IsPastOf (f : FinishedState E T) (past : Past) : Type 0 where
+    pub stands : EndStandsAfter (joined ring f.end) past
+    pub plans : HasPlans past
+    pub front :
+        (deeds : List Deed) → StandsAfter take f.intake deeds
+        → IsPrefix (taken deeds) (items_of past)
+    pub marks :
+        (deeds : List Deed) → StandsAfter take f.intake deeds
+        → HasMarks past (samples (taken deeds))
+
+  abbrev pub IsFinished : FinishedState E T → Type 0
+  IsFinished f = (past : Past) × IsPastOf f past
+
+  -- the line of list l in the account: due = written + dropped + left
+  abbrev pub HasLine : FinishedState E T → ℕ → ListReport → Type 0
+  HasLine f l line =
+      (past : Past) × IsPastOf f past
+      × ((deeds : List Deed) → StandsAfter take f.intake deeds → IsLineOf past deeds l line)
+
+module _ {S E T F : Type 0} (send : SendGhosts S E) (ring : EndGhosts E) (take : TakeGhosts T F) where
+  -- the sampler that went out stood after nothing; the intake is of its ring
+  pub record IsShareOf (sampler : SamplerState S) (s : ShareState T) : Type 0 where
+    pub one_ring : take.ring s.intake.end ≡ send.ring sampler.end
+    pub opening : Opening
+    pub plans : All IsPlan opening.plans
+    pub stands : SamplerStandsAfter send ring sampler (first_past opening)
+
+  -- a sampler is out exactly where a part of a measurement is kept, and it is that one's
+  abbrev pub Fits : Option (AwayState S) → Option (ShareState T) → Type 0
+  Fits None None = Unit {0}
+  Fits (Some a) (Some s) = IsShareOf a.sampler s
+  Fits _ _ = ⊥
+
+  -- what is left of the sampler of this part came back
+  pub record IsBack (a : AwayState S) (s : ShareState T) (f : FinishedState E T) : Type 0 where
+    pub number : f.number ≡ s.number
+    pub follows : Follows take s.intake f.intake
+    pub end : SamplerEndState E
+    pub left : ℕ
+    pub same : joined ring f.end ≡ joined ring end
+    pub came : CameBack send ring a end left
+
+  abbrev pub IsBackOf :
+      Option (AwayState S) → Option (ShareState T) → FinishedState E T → Type 0
+  IsBackOf (Some a) (Some s) f = IsBack a s f
+  IsBackOf _ _ f = ⊥
+
+-- the part that is the older once another is opened
+abbrev pub part_before :
+    {T : Type 0} → Option (ShareState T) → Option (ShareState T) → Option (ShareState T)
+part_before older None = older
+part_before older (Some newer) = Some newer
+
+-- a part of a measurement was opened over a store: its sampler went out, opened as the store has the
+-- event channel; nothing was ordered of its lists, and nothing was taken
+pub record Opens {S E T F : Type 0} (send : SendGhosts S E) (ring : EndGhosts E)
+    (take : TakeGhosts T F) (a b : ChannelState S T) (s : StoreState) (c cap number : ℕ)
+    : Type 0 where
+  pub sampler : SamplerState S
+  pub share : ShareState T
+  pub opening : Opening
+  pub opened : IsOpenedAt send ring take s c cap sampler share.intake.end opening
+  pub handed : HandsOut a.link b.link sampler
+  pub newer : b.newer ≡ Some share
+  pub number_is : share.number ≡ number
+  pub stands : StandsAfter take share.intake []
+  pub older : b.older ≡ part_before a.older a.newer
+
+module _ {T F : Type 0} (take : TakeGhosts T F) where
+  -- the newest part goes on with this deed
+  abbrev pub NewestGoesOn : Option (ShareState T) → Option (ShareState T) → Deed → Type 0
+  NewestGoesOn (Some s) (Some t) deed =
+      (t.number ≡ s.number) × GoesOn take s.intake t.intake deed
+  NewestGoesOn _ _ deed = ⊥
+
+  -- an order went to the task, and the intake was told of it
+  pub record Orders {S : Type 0} (a b : ChannelState S T) (o : Order) (deed : Deed)
+      : Type 0 where
+    pub sends : SendsToNewest a.link.newer b.link.newer o
+    pub link : b.link ≡ record a.link { newer = b.link.newer }
+    pub older : b.older ≡ a.older
+    pub newer : NewestGoesOn a.newer b.newer deed

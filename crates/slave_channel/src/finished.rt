@@ -1,0 +1,51 @@
+use channel_intake::Intake;
+use channel_ring::{SendEnd, TakeEnd};
+use daq_engine::{ListReport, Ring};
+use sampler::SamplerEnd;
+use std::marker::Model;
+use xcp_base::limits::MAX_LISTS;
+
+/// An event channel's part of a measurement that has ended, with what is left of its sampler: what
+/// became of the samples of each of its DAQ lists.
+#[derive(Drop)]
+pub struct Finished<R: Ring> {
+    pub(crate) number: u64,
+    pub(crate) end: SamplerEnd<<R::Send as SendEnd>::End>,
+    pub(crate) intake: Intake<R::Take>,
+}
+
+impl<R: Ring> Model for Finished<R> {
+    ghost use Rattle.slave_channel.specs.Channels.{FinishedState, IsFinished};
+
+    ghost Value = { FinishedState R.Send.End R.Take };
+
+    ghost view = { λ f. record { number = f.number; end = f.end; intake = f.intake } };
+
+    ghost invariant = { λ f. IsFinished R.Send.End.RingEnd R.Take.TakeEnd
+        (record { number = f.number; end = f.end; intake = f.intake }) };
+}
+
+impl<R: Ring> Finished<R> {
+    ghost use Rattle.std.specs.Prelude.{◌≡◌, ◌<◌, IfSome, IsNone, None};
+    ghost use Rattle.xcp_base.specs.declared.limits.TheConstants.{MAX_LISTS};
+    ghost use Rattle.sampler.specs.State.{counts_at};
+    ghost use Rattle.slave_channel.specs.Channels.{HasLine};
+
+    /// The measurement's number.
+    pub fn number(&self) -> u64
+        ensures { result ≡ self.now.number }
+    {
+        self.number
+    }
+
+    /// What became of the samples of a DAQ list, if it is of the event channel. What was taken off
+    /// the ring and not written is left, like what wasn't taken.
+    pub fn line(&self, l: u8) -> Option<ListReport>
+        requires list { l < MAX_LISTS }
+        ensures none { IsNone result → counts_at self.now.end l ≡ None }
+        ensures line { IfSome result
+            (HasLine R.Send.End.RingEnd R.Take.TakeEnd self.now l) }
+    {
+        self.intake.line(&self.end, l)
+    }
+}

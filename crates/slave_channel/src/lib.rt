@@ -1,0 +1,9 @@
+//! The slave's side of one event channel: measurements come and go there, while its task runs (own).
+#![tactic(auto)]
+
+mod channel;
+mod finished;
+mod share;
+
+pub use channel::Channel;
+pub use finished::Finished;

@@ -1,0 +1,18 @@
+use channel_intake::Intake;
+use std::marker::Model;
+
+/// An event channel's part of a measurement: the measurement's number, and the intake of the
+/// channel's ring.
+#[derive(Drop)]
+pub struct Share<T> {
+    pub(crate) number: u64,
+    pub(crate) intake: Intake<T>,
+}
+
+impl<T> Model for Share<T> {
+    ghost use Rattle.slave_channel.specs.Channels.{ShareState};
+
+    ghost Value = { ShareState T };
+
+    ghost view = { λ s. record { number = s.number; intake = s.intake } };
+}
