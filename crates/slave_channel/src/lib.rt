@@ -3,6 +3,7 @@
 
 mod channel;
 mod finished;
+mod ordering;
 mod share;
 
 pub use channel::Channel;

@@ -1,0 +1,85 @@
+//! Orders of one command about many DAQ lists.
+ghost use Rattle.std.specs.Prelude.{◌≡◌, ◌≢◌, ℕ, ◌+◌, ◌<◌, ◌≤◌, ◌&&◌, Bool, true, false};
+ghost use Rattle.xcp_base.specs.declared.limits.TheConstants.{MAX_LISTS};
+ghost use Rattle.xcp_base.specs.Lists.{has_list};
+ghost use Rattle.channel_intake.specs.Deeds.{Started, Stopped};
+ghost use Rattle.tasks.specs.Links.{CanStart, LooksAtNewest, is_running};
+ghost use Rattle.tasks.specs.declared.order.Order.TheVariants.{Start, Stop};
+ghost use Rattle.slave_channel.specs.Ordering.{OrdersAll, from_on, one_if};
+ghost use Rattle.slave_channel.specs.Ordering.{starts_noted, starts_sent, stops_noted, stops_sent};
+
+use crate::channel::Channel;
+use daq_engine::Ring;
+use xcp_base::has_list;
+use xcp_base::limits::MAX_LISTS;
+
+/// Whether a list is in both sets.
+fn is_in_both(a: u16, b: u16, l: u8) -> bool
+    requires below { l < MAX_LISTS }
+    ensures { result ≡ (has_list a l && has_list b l) }
+{
+    has_list(a, l) && has_list(b, l)
+}
+
+impl<R: Ring> Channel<R> {
+    /// Orders the starts of these DAQ lists if all find places, and tells whether they do; else
+    /// none is ordered. It takes no memory.
+    pub fn start_all(&mut self, lists: u16) -> bool
+        ensures yes { result ≡ true → OrdersAll R.Take.TakeEnd self.old self.new
+            (starts_sent (has_list lists) MAX_LISTS) (starts_noted (has_list lists) MAX_LISTS) }
+        ensures no { result ≡ false → ¬ CanStart self.new.link.newer (has_list lists) }
+        ensures looked { result ≡ false
+            → LooksAtNewest self.old.link.newer self.new.link.newer
+            × (self.new ≡ record self.old {
+                link = record self.old.link { newer = self.new.link.newer };
+            }) }
+    {
+        if !self.can_start(lists) {
+            return false;
+        }
+        for l in 0..MAX_LISTS as u8 {
+            self.start_one(lists, l);
+        }
+        true
+    }
+
+    /// Orders the stops of those of these DAQ lists that run. They always find places, and take no
+    /// memory.
+    pub fn stop_all(&mut self, lists: u16)
+        ensures orders { OrdersAll R.Take.TakeEnd self.old self.new
+            (stops_sent (λ l. has_list lists l && is_running self.old.link.newer l) MAX_LISTS)
+            (stops_noted (λ l. has_list lists l && is_running self.old.link.newer l) MAX_LISTS) }
+    {
+        let running = self.running();
+        for l in 0..MAX_LISTS as u8 {
+            self.stop_one(is_in_both(lists, running, l), l);
+        }
+    }
+
+    /// Orders the start of a list, if it is among these; those behind it can still be started.
+    fn start_one(&mut self, lists: u16, l: u8)
+        requires below { l < MAX_LISTS }
+        requires checked { CanStart self.old.link.newer (from_on l (has_list lists)) }
+        ensures orders { OrdersAll R.Take.TakeEnd self.old self.new
+            (one_if (has_list lists l) (Start l)) (one_if (has_list lists l) (Started l)) }
+        ensures behind { CanStart self.new.link.newer (from_on (l + 1) (has_list lists)) }
+    {
+        if has_list(lists, l) {
+            self.start(l);
+        }
+    }
+
+    /// Orders the stop of a list, if it is wanted.
+    fn stop_one(&mut self, wanted: bool, l: u8)
+        requires below { l < MAX_LISTS }
+        requires runs { wanted ≡ true → is_running self.old.link.newer l ≡ true }
+        ensures orders { OrdersAll R.Take.TakeEnd self.old self.new
+            (one_if wanted (Stop l)) (one_if wanted (Stopped l)) }
+        ensures others { (k : ℕ) → k ≢ l
+            → is_running self.new.link.newer k ≡ is_running self.old.link.newer k }
+    {
+        if wanted {
+            self.stop(l);
+        }
+    }
+}
