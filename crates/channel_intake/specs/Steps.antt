@@ -20,8 +20,9 @@ pub record Page : Type 0 where
   pub bytes : List ℕ
 
 -- the frames of a sample were written, and stand in the buffer from `at` to `end`; behind them
--- nothing changed
+-- nothing changed. A sample has a packet at least
 pub record LaysOut (a b : Page) (s : SampleParts) (at end limit : ℕ) : Type 0 where
+  pub some : 0 < length s.packets
   pub writer : b.writer ≡ after_text a.writer s.packets
   pub front : first end b.bytes ≡ first at a.bytes ++ text a.writer.counter s.packets
   pub end_is : end ≡ at + length (text a.writer.counter s.packets)

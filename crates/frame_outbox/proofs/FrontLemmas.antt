@@ -4,6 +4,11 @@ use Rattle.std.specs.Prelude.{slice_get, Some}
 use Rattle.std.proofs.lemmas.List.Sums.{count_by_more_no, count_by_more_yes, sum_by-append, sum_by-take-drop, sum_by-take-le, sum_by_more}
 use Rattle.std.proofs.lemmas.List.{take-append-le}
 use Rattle.std.proofs.lemmas.Option.{get_or_from_slice_get, slice_get_within}
+use Rattle.std.proofs.Common.{zero, suc, ◌*◌, ◌<◌}
+use Rattle.std.proofs.lemmas.List.Sums.{sum_by-cons}
+use Rattle.frame_writer.specs.Frame.{frame, text}
+use Rattle.std.proofs.Common.{length-append}
+use Rattle.frame_outbox.specs.Inner.{AreLong}
 use Rattle.frame_outbox.specs.declared.unit.Origin.{Origin}
 use Rattle.frame_outbox.specs.Units.{how_many, same_origin}
 use Rattle.circular_buffer.specs.Buffer.{keep_last}
@@ -52,3 +57,22 @@ take-push units u k there = take-append-le k units (u ∷ []) there
 -- what is left behind the first units has the rest of the bytes
 pub behind-bytes : (units : List Unit) (k : ℕ) → bytes_in (take k units) + bytes_in (drop k units) ≡ bytes_in units
 behind-bytes units k = sum_by-take-drop (λ (u : Unit). u.len) units k
+
+-- so they are fewer than find room
+pub long-bytes : (units : List Unit) → AreLong units → 4 * length units ≤ bytes_in units
+long-bytes [] long = omega arith
+long-bytes (u ∷ us) long = omega (arith, long.0, long-bytes us long.1, sum_by-cons (λ (v : Unit). v.len) u us)
+
+pub long-push : (units : List Unit) (u : Unit) → AreLong units → 4 ≤ u.len → AreLong (units ++ u ∷ [])
+long-push [] u long is = (is, tt)
+long-push (v ∷ vs) u long is = (long.0, long-push vs u long.1 is)
+
+pub long-drop : (k : ℕ) (units : List Unit) → AreLong units → AreLong (drop k units)
+long-drop zero units long = long
+long-drop (suc k) [] long = tt
+long-drop (suc k) (u ∷ us) long = long-drop k us long.1
+
+-- some packets have a frame at least
+pub some-frames : (n : ℕ) (qs : List (List ℕ)) → 0 < length qs → 4 ≤ length (text n qs)
+some-frames n [] some = absurd (omega (arith, some))
+some-frames n (q ∷ qs) some = omega (arith, length-append (frame n q) (text (n + 1) qs))

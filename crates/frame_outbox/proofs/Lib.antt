@@ -1,2 +1,3 @@
 pub mod LaidLemmas
 pub mod FrontLemmas
+pub mod TakingLemmas

@@ -1,3 +1,4 @@
 pub mod Units
 pub mod Outboxes
+pub mod Taking
 pub mod Inner

@@ -5,6 +5,7 @@
 mod front;
 mod limits;
 mod outbox;
+mod taking;
 mod unit;
 
 pub use limits::{MAX_REPLIES, PAGE};

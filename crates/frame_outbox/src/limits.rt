@@ -17,5 +17,6 @@ pub(crate) const MOST: usize = PAGE + MAX_REPLIES * MAX_REPLY;
 /// The room for it, with that of the longest sample behind it.
 pub(crate) const ROOM: usize = MOST + MAX_TEXT;
 
-/// The most replies and samples that wait: more than find room.
-pub(crate) const MAX_UNITS: usize = 512;
+/// The most replies and samples that wait: more than find room, since each has a frame of at least
+/// four bytes.
+pub(crate) const MAX_UNITS: usize = 640;

@@ -14,10 +14,10 @@ use xcp_base::Packets;
 /// Contracts speak of what was laid out: what was sent of it, and what waits.
 #[derive(Drop)]
 pub struct Outbox {
-    writer: FrameWriter<SinkOut>,
-    page: [u8; ROOM],
-    end: usize,
-    units: HeapCircularBuffer<Unit>,
+    pub(crate) writer: FrameWriter<SinkOut>,
+    pub(crate) page: [u8; ROOM],
+    pub(crate) end: usize,
+    pub(crate) units: HeapCircularBuffer<Unit>,
     shown: Front,
 }
 
@@ -98,6 +98,7 @@ impl Outbox {
 
     /// Lays packets out behind all that waits.
     fn lay(&mut self, origin: Origin, packets: &Packets)
+        requires some { 0 < length packets.now }
         requires room { length self.old.waits + length (text 0 packets.now) ≤ MOST }
         requires units { length self.old.units < MAX_UNITS }
         ensures lays_out { LaysOut self.old self.new

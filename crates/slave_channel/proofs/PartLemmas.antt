@@ -83,8 +83,7 @@ comes-of send ring take a (Some x) None end left is fits came = elim fits [ ]
 comes-of send ring take a (Some x) (Some s) end left is fits came =
     let mine : IsShareOf send ring take a.sampler s = subst (λ (y : AwayState _). IsShareOf send ring take y.sampler s) (inner a x is) fits in
     let past = past_after (first_past mine.opening) came.deeds in
-    let opened = opening-after (first_past mine.opening) came.deeds in
-    (
+    let opened = opening-after (first_past mine.opening) came.deeds in (
       came.same_ring ∙ sym mine.one_ring,
       (past, came.stands (first_past mine.opening) mine.stands, λ i plan there. plans-at mine.opening.plans mine.plans i plan (ap (λ op. slice_get op.plans i) (sym opened) ∙ there)),
     ) where
@@ -99,8 +98,7 @@ finished ring take before end f is same all (past, stands, plans) =
     let joins : joined ring f.end ≡ joined ring before = ap (joined ring) is ∙ same in
     let now : EndStandsAfter (joined ring f.end) past = subst (λ j. EndStandsAfter j past) (sym joins) stands in
     let front : (deeds : List IntakeDeed) → StandsAfter take f.intake deeds → IsPrefix (taken deeds) (items_of past) =
-    λ deeds there. (take.known f.intake.end, ap (λ xs. xs ++ take.known f.intake.end) (sym there.received) ∙ all ∙ ap (λ (e : SamplerEndState _). ring.all_sent e.end) (sym is) ∙ now.sent) in
-    (
+    λ deeds there. (take.known f.intake.end, ap (λ xs. xs ++ take.known f.intake.end) (sym there.received) ∙ all ∙ ap (λ (e : SamplerEndState _). ring.all_sent e.end) (sym is) ∙ now.sent) in (
       past,
       record {
         stands = now;

@@ -103,9 +103,9 @@ impl<R: Ring> Channel<R> {
     /// The slave's side of an event channel, and its task. No measurement is there.
     pub fn new(alloc: Global) -> Result<(Channel<R>, Task<R::Send>), AllocError>
         ensures channel { IfOk result (λ made. made.0 ≡ record {
-            link = record { put = []; taken_back = []; older = None; newer = None };
-            older = None;
-            newer = None;
+          link = record { put = []; taken_back = []; older = None; newer = None };
+          older = None;
+          newer = None;
         }) }
         ensures task { IfOk result (λ made. made.1 ≡ record { came = []; held = None }) }
     {
@@ -173,7 +173,7 @@ impl<R: Ring> Channel<R> {
         ensures no { result ≡ false → ¬ CanStart self.new.link.newer (has_list lists) }
         ensures looked { LooksAtNewest self.old.link.newer self.new.link.newer }
         ensures rest_stays { self.new ≡ record self.old {
-            link = record self.old.link { newer = self.new.link.newer };
+          link = record self.old.link { newer = self.new.link.newer };
         } }
     {
         self.link.can_start(lists)

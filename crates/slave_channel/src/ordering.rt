@@ -31,7 +31,7 @@ impl<R: Ring> Channel<R> {
         ensures looked { result ≡ false
             → LooksAtNewest self.old.link.newer self.new.link.newer
             × (self.new ≡ record self.old {
-                link = record self.old.link { newer = self.new.link.newer };
+              link = record self.old.link { newer = self.new.link.newer };
             }) }
     {
         if !self.can_start(lists) {

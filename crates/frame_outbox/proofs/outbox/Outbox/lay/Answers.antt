@@ -5,10 +5,11 @@ use Rattle.frame_writer.specs.Frame.{text}
 use Rattle.frame_writer.specs.Writing.{state_of}
 use Rattle.frame_writer.specs.contracts.sink_out.SinkOutOut.TheImpl.{ghosts as out}
 use Rattle.frame_outbox.specs.Outboxes.{OutboxState, StandsAfter}
+use Rattle.frame_outbox.specs.Inner.{AreLong}
 use Rattle.frame_outbox.specs.Units.{bytes_in}
 use Rattle.frame_outbox.specs.declared.limits.TheConstants.{MAX_UNITS, MOST}
 use Rattle.frame_outbox.specs.declared.unit.Unit.{Unit}
-use Rattle.frame_outbox.proofs.FrontLemmas.{bytes-push, keep-all, take-push}
+use Rattle.frame_outbox.proofs.FrontLemmas.{bytes-push, keep-all, long-push, some-frames, take-push}
 use Rattle.frame_outbox.proofs.LaidLemmas.{lays_out}
 use Rattle.frame_outbox.proofs.outbox.Outbox.lay.Goals as goal
 
@@ -33,6 +34,7 @@ invariant_of-self c =
         bytes = ap bytes_in items ∙ bytes-push was.units.items u ∙ omega (arith, box.bytes, sent.end);
         capacity = ap (λ b. b.capacity) c.push_back.ensures.items ∙ box.capacity;
         few = omega (arith, few, ap length items, length-append was.units.items (u ∷ []));
+        long = subst AreLong (sym items) (long-push was.units.items u box.long (omega (arith, some-frames was.writer.counter qs c.requires.some, sent.end)));
         there = omega (arith, box.there, ap length items, length-append was.units.items (u ∷ []));
         front = box.front ∙ ap bytes_in (sym (take-push was.units.items u was.shown.count box.there) ∙ ap (take was.shown.count) (sym items));
       },

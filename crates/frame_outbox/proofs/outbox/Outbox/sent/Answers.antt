@@ -7,7 +7,8 @@ use Rattle.frame_writer.specs.contracts.sink_out.SinkOutOut.TheImpl.{ghosts as o
 use Rattle.circular_buffer.specs.Buffer.{keep_last}
 use Rattle.frame_outbox.specs.Outboxes.{OutboxState, StandsAfter}
 use Rattle.frame_outbox.specs.Units.{bytes_in}
-use Rattle.frame_outbox.proofs.FrontLemmas.{behind-bytes, front-le, keep-behind}
+use Rattle.frame_outbox.proofs.FrontLemmas.{behind-bytes, front-le, keep-behind, long-drop}
+use Rattle.frame_outbox.specs.Inner.{AreLong}
 use Rattle.frame_outbox.proofs.LaidLemmas.{sends}
 use Rattle.frame_outbox.proofs.outbox.Outbox.sent.Goals as goal
 
@@ -28,6 +29,7 @@ invariant_of-self c =
         bytes = ap bytes_in left ∙ omega (arith, behind-bytes units count, box.bytes, box.front);
         capacity = ap (λ b. b.capacity) c.truncate_front.ensures ∙ box.capacity;
         few = omega (arith, ap length left, length-drop count units, box.few);
+        long = subst AreLong (sym left) (long-drop count units box.long);
         there = omega arith;
         front = refl;
       },

@@ -1,0 +1,36 @@
+-- An item of an event channel's ring is taken: a sample that passes is laid out (own).
+use Rattle.std.specs.Prelude.{◌≡◌, ℕ, ◌+◌, ◌<◌, List, [], ◌∷◌, length}
+use mathlib.Core.List.{IsPrefix}
+use Rattle.xcp_base.specs.Samples.{MarkParts, SampleParts}
+use Rattle.xcp_base.specs.declared.item.Item.TheVariants.{Marker, Sample}
+use Rattle.channel_ring.specs.declared.ends.TakeEnd.{Ghosts as TakeGhosts}
+use Rattle.channel_intake.specs.Intakes.{IntakeState, OnlyLooked}
+use Rattle.channel_intake.specs.Steps.{IsHeldBack, Passes, Takes}
+use Rattle.channel_intake.specs.declared.step.Step.{Step}
+use Rattle.channel_intake.specs.declared.step.Step.TheVariants.{Full, Marked, Nothing, Skipped}
+use Rattle.channel_intake.specs.declared.step.Step.TheVariants.{Wrote}
+use Rattle.frame_writer.specs.Frame.{text}
+use Rattle.frame_outbox.specs.Outboxes.{LaysOut, OutboxState}
+use Rattle.frame_outbox.specs.declared.limits.TheConstants.{PAGE}
+use Rattle.frame_outbox.specs.declared.unit.Origin.TheVariants as origin
+
+-- the frames of a sample would end behind the page
+abbrev pub HasNoRoom : OutboxState → SampleParts → Type 0
+HasNoRoom o s = PAGE < length o.waits + length (text 0 s.packets)
+
+module _ {T E : Type 0} (take : TakeGhosts T E) where
+  -- what became of the next item: it is let go, or laid out as a sample of measurement m
+  abbrev pub TakesItem :
+      IntakeState T → IntakeState T → OutboxState → OutboxState → ℕ → Step → Type 0
+  TakesItem a b o p m Nothing = OnlyLooked take a b × (take.known b.end ≡ []) × (p ≡ o)
+  TakesItem a b o p m Full =
+      (s : SampleParts) × OnlyLooked take a b × IsPrefix (Sample s ∷ []) (take.known b.end)
+      × Passes take a s.list × HasNoRoom o s × (p ≡ o)
+  TakesItem a b o p m (Marked l) =
+      (x : MarkParts) × Takes take a b (Marker x) × (l ≡ x.list) × (p ≡ o)
+  TakesItem a b o p m (Skipped l) =
+      (s : SampleParts) × Takes take a b (Sample s) × (l ≡ s.list) × IsHeldBack take a s.list
+      × (p ≡ o)
+  TakesItem a b o p m (Wrote l end) =
+      (s : SampleParts) × Takes take a b (Sample s) × (l ≡ s.list) × Passes take a s.list
+      × LaysOut o p (record { origin = origin.Sample m l; packets = s.packets })
