@@ -2,4 +2,5 @@ pub mod PlaceLemmas
 pub mod ProfileLemmas
 pub mod ReplyLemmas
 pub mod FoldLemmas
+pub mod ListSetLemmas
 mod StandardFacts

@@ -5,10 +5,12 @@ mod cto;
 mod event_channel;
 mod exchange;
 pub mod laws;
+mod list_sets;
 mod looks;
 mod profile;
 mod request;
 mod session;
+mod starts;
 mod writes;
 
 pub use cto::Cto;
