@@ -3,4 +3,5 @@ pub mod ProfileLemmas
 pub mod ReplyLemmas
 pub mod FoldLemmas
 pub mod ListSetLemmas
+pub mod StartLemmas
 mod StandardFacts
