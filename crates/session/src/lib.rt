@@ -8,6 +8,7 @@ pub mod laws;
 mod list_sets;
 mod looks;
 mod profile;
+mod readers;
 mod request;
 mod session;
 mod starts;

@@ -1,4 +1,4 @@
-//! Which DAQ lists run, and which a packet starts.
+//! Which DAQ lists a packet starts.
 ghost use Rattle.std.specs.Prelude.{◌≡◌, ℕ, ◌<◌, ◌&&◌, ◌==◌, not, List};
 ghost use Rattle.xcp_base.specs.Lists.{has_list};
 ghost use Rattle.daq_store.specs.Answer.{selects_unready};
@@ -7,7 +7,7 @@ ghost use Rattle.daq_store.specs.Standing.{StoreStandsAfter};
 ghost use Rattle.daq_store.specs.Shape.{list_count};
 ghost use Rattle.session.specs.Past.{Past};
 ghost use Rattle.session.specs.Standing.{SessionStandsAfter};
-ghost use Rattle.session.specs.Starts.{call_starts, is_startable, runs, starts};
+ghost use Rattle.session.specs.Starts.{call_starts, is_startable, starts};
 
 use crate::list_sets;
 use crate::request::{self, Request};
@@ -18,14 +18,6 @@ use xcp_base::limits::MAX_LISTS;
 use xcp_base::with_list_if;
 
 impl Session {
-    /// The set of the DAQ lists that run.
-    pub fn running(&self) -> u16
-        ensures value { (past : Past) → SessionStandsAfter self.now past
-            → (l : ℕ) → l < MAX_LISTS → has_list result l ≡ runs past l }
-    {
-        list_sets::running_of(&self.store)
-    }
-
     /// The set of the DAQ lists that this packet would start if it came now: they don't run before
     /// it, and run behind it.
     pub fn starts_of(&self, packet: &[u8]) -> u16
