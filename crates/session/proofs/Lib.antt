@@ -4,4 +4,5 @@ pub mod ReplyLemmas
 pub mod FoldLemmas
 pub mod ListSetLemmas
 pub mod StartLemmas
+pub mod SetUpLemmas
 mod StandardFacts

@@ -6,5 +6,6 @@ pub mod Replies
 pub mod Exchanges
 pub mod Standing
 pub mod Starts
+pub mod SetUps
 pub mod Folds
 pub mod Laws

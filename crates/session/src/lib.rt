@@ -7,10 +7,13 @@ mod exchange;
 pub mod laws;
 mod list_sets;
 mod looks;
+mod mode_set_up;
+mod odt_set_up;
 mod profile;
 mod readers;
 mod request;
 mod session;
+mod set_up;
 mod starts;
 mod writes;
 
@@ -20,3 +23,4 @@ pub use exchange::{Arrived, answer_all};
 pub use profile::{Profile, ProfileFault, RingKind};
 pub use request::Request;
 pub use session::Session;
+pub use set_up::SetUp;
