@@ -5,5 +5,7 @@ pub mod Past
 pub mod Replies
 pub mod Exchanges
 pub mod Standing
+pub mod Starts
+pub mod SetUps
 pub mod Folds
 pub mod Laws

@@ -25,7 +25,7 @@ use xcp_base::limits::{MAX_CTO, MAX_LISTS, MAX_NAME};
 #[derive(Drop)]
 pub struct Session {
     pub(crate) profile: Profile,
-    connected: bool,
+    pub(crate) connected: bool,
     text: Option<ArrayVec<u8, MAX_NAME>>,
     pub(crate) store: Store,
 }
