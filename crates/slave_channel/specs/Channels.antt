@@ -20,6 +20,10 @@ use Rattle.channel_intake.specs.Intakes.{IntakeState, StandsAfter}
 use Rattle.channel_intake.specs.Intakes.{GoesOn}
 use Rattle.daq_store.specs.Standing.{StoreState}
 use Rattle.daq_engine.specs.Opened.{IsOpenedAt}
+use Rattle.channel_intake.specs.declared.step.Step.{Step}
+use Rattle.channel_intake.specs.declared.step.Step.TheVariants.{Nothing}
+use Rattle.frame_outbox.specs.Outboxes.{OutboxState}
+use Rattle.frame_outbox.specs.Taking.{TakesItem}
 use Rattle.tasks.specs.Links.{AwayState, CameBack, HandsOut, LinkState, SendsToNewest}
 use Rattle.tasks.specs.declared.order.Order.{Order}
 
@@ -131,3 +135,11 @@ module _ {T F : Type 0} (take : TakeGhosts T F) where
     pub link : b.link ≡ record a.link { newer = b.link.newer }
     pub older : b.older ≡ a.older
     pub newer : NewestGoesOn a.newer b.newer deed
+
+  -- what became of the next item of a part's ring; where there is no part, nothing changes
+  abbrev pub TakesOf :
+      Option (ShareState T) → Option (ShareState T) → OutboxState → OutboxState → Step → Type 0
+  TakesOf None None o p step = (step ≡ Nothing) × (p ≡ o)
+  TakesOf (Some s) (Some t) o p step =
+      (t.number ≡ s.number) × TakesItem take s.intake t.intake o p s.number step
+  TakesOf _ _ o p step = ⊥

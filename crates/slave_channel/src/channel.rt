@@ -18,8 +18,8 @@ use xcp_base::limits::MAX_LISTS;
 #[derive(Drop)]
 pub struct Channel<R: Ring> {
     link: TaskLink<R::Send>,
-    older: Option<Share<R::Take>>,
-    newer: Option<Share<R::Take>>,
+    pub(crate) older: Option<Share<R::Take>>,
+    pub(crate) newer: Option<Share<R::Take>>,
 }
 
 impl<R: Ring> Model for Channel<R> {

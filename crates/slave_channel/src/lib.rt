@@ -5,6 +5,7 @@ mod channel;
 mod finished;
 mod ordering;
 mod share;
+mod taking;
 
 pub use channel::Channel;
 pub use finished::Finished;
