@@ -1,4 +1,5 @@
 pub mod Units
 pub mod Outboxes
 pub mod Taking
+pub mod Putting
 pub mod Inner

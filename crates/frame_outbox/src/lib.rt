@@ -5,9 +5,11 @@
 mod front;
 mod limits;
 mod outbox;
+mod putting;
 mod taking;
 mod unit;
 
 pub use limits::{MAX_REPLIES, PAGE};
 pub use outbox::Outbox;
+pub use putting::PutFault;
 pub use unit::{Origin, Unit};

@@ -18,7 +18,7 @@ pub struct Outbox {
     pub(crate) page: [u8; ROOM],
     pub(crate) end: usize,
     pub(crate) units: HeapCircularBuffer<Unit>,
-    shown: Front,
+    pub(crate) shown: Front,
 }
 
 impl Model for Outbox {
