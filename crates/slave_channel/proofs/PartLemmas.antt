@@ -29,11 +29,7 @@ use Rattle.daq_engine.specs.Opened.{IsOpenedAt}
 use Rattle.sampler.specs.History.{Opening}
 use Rattle.tasks.specs.Links.{HandsOut, LinkState, SendsToNewest}
 use Rattle.tasks.specs.declared.order.Order.{Order}
-use Rattle.slave_channel.specs.Channels.{ChannelState, FinishedState, Fits, IsBack, IsBackOf, IsFinished, IsPastOf, IsShareOf, Opens, ShareState, TakesOf, part_before}
-use Rattle.channel_intake.specs.declared.step.Step.{Step}
-use Rattle.channel_intake.specs.declared.step.Step.TheVariants.{Full, Marked, Nothing, Skipped, Wrote}
-use Rattle.frame_outbox.specs.Outboxes.{OutboxState}
-use Rattle.frame_outbox.specs.Taking.{TakesItem}
+use Rattle.slave_channel.specs.Channels.{ChannelState, FinishedState, Fits, IsBack, IsBackOf, IsFinished, IsPastOf, IsShareOf, Opens, ShareState, part_before}
 use Rattle.slave_channel.specs.Inner.{ComesOf, EndStays, FinishesAs}
 
 -- no deed changes what a channel was opened with
@@ -141,20 +137,3 @@ opens send ring take a was now older newer older_now newer_now s c cap number sa
       stands = stands;
       older = before;
     })
-
--- an item that is taken leaves the ring the same
-ring-stays : {T F : Type 0} (take : TakeGhosts T F) (a b : IntakeState T) (o p : OutboxState) (m : ℕ) (step : Step) → TakesItem take a b o p m step → take.ring b.end ≡ take.ring a.end
-ring-stays take a b o p m Nothing (looked, _) = looked.ring
-ring-stays take a b o p m Full (s, looked, _) = looked.ring
-ring-stays take a b o p m (Marked l) (x, takes, _) = takes.ring
-ring-stays take a b o p m (Skipped l) (s, takes, _) = takes.ring
-ring-stays take a b o p m (Wrote l end) (s, takes, _) = takes.ring
-
-pub fits-taken : {S E T F : Type 0} (send : SendGhosts S E) (ring : EndGhosts E) (take : TakeGhosts T F) (x : Option (AwayState S)) (a b : Option (ShareState T)) (o p : OutboxState) (step : Step)
-    → Fits send ring take x a → TakesOf take a b o p step → Fits send ring take x b
-fits-taken send ring take None None None o p step fits takes = fits
-fits-taken send ring take None None (Some t) o p step fits takes = elim takes [ ]
-fits-taken send ring take None (Some s) b o p step fits takes = elim fits [ ]
-fits-taken send ring take (Some x) None b o p step fits takes = elim fits [ ]
-fits-taken send ring take (Some x) (Some s) None o p step fits takes = elim takes [ ]
-fits-taken send ring take (Some x) (Some s) (Some t) o p step fits takes = share-stays send ring take x.sampler s t fits (ring-stays take s.intake t.intake o p s.number step takes.1)
