@@ -1,14 +1,14 @@
 -- Orders of one command, one behind another.
-use Rattle.std.proofs.Common.{◌≡◌, ◌≢◌, ℕ, zero, suc, ◌+◌, ◌<◌, ◌≤◌, Bool, true, false, ◌&&◌, ◌||◌, not, nat_lt, nat_eq, List, [], ◌∷◌, ◌++◌, length, refl, sym, ap, ◌∙◌, subst, arith, append_assoc, append-nil, length-append, ◌⊎◌, inl, inr}
+use Rattle.std.proofs.Common.{◌≡◌, ◌≢◌, ℕ, zero, suc, ◌+◌, ◌<◌, ◌≤◌, Bool, true, false, ◌&&◌, ◌||◌, not, nat_lt, nat_eq, List, [], ◌∷◌, ◌++◌, refl, sym, ap, ◌∙◌, subst, arith, append_assoc, append-nil, length-append, ◌⊎◌, inl, inr}
 use Rattle.std.specs.Prelude.{Option, Some, None}
 use Rattle.std.proofs.lemmas.Bool.{false≢true}
 use Rattle.std.proofs.lemmas.Bool.Decides.{eqb_tells, leb_tells}
-use Rattle.xcp_base.specs.declared.limits.TheConstants.{MAX_LISTS, MAX_TAKEN}
+use Rattle.xcp_base.specs.declared.limits.TheConstants.{MAX_LISTS}
 use Rattle.channel_ring.specs.declared.ends.TakeEnd.{Ghosts as TakeGhosts}
 use Rattle.channel_intake.specs.Deeds.{Deed, Started, Stopped}
 use Rattle.channel_intake.specs.Intakes.{StandsAfter}
-use Rattle.tasks.specs.Links.{AwayState, CanStart, HasPlacesFor, LinkState, LooksAtNewest, SendsToNewest, is_end, is_running, runs_of, without}
-use Rattle.tasks.specs.Needs.{how_many, places_for}
+use Rattle.tasks.specs.Links.{AwayState, CanStart, LinkState, LooksAtNewest, SendsToNewest, is_end, is_running, runs_of, without}
+use Rattle.tasks.specs.Needs.{places_for}
 use Rattle.tasks.specs.declared.order.Order.{Order}
 use Rattle.tasks.specs.declared.order.Order.TheVariants.{Start, Stop}
 use Rattle.tasks.proofs.NeedLemmas.{how_many-same}
@@ -239,3 +239,7 @@ stops_noted-next set n = sym (ap (stops_noted set) (plus-one n))
 -- the same orders
 pub orders-same : {S T F : Type 0} (take : TakeGhosts T F) (a b : ChannelState S T) (os ps : List Order) (ds es : List Deed) → os ≡ ps → ds ≡ es → OrdersAll take a b os ds → OrdersAll take a b ps es
 orders-same take a b os ps ds es o d is = subst (λ xs. OrdersAll take a b xs es) o (subst (λ ys. OrdersAll take a b os ys) d is)
+
+-- orders behind a look, which ordered nothing
+pub orders-after-look : {S T F : Type 0} (take : TakeGhosts T F) (a b c : ChannelState S T) (os : List Order) (ds : List Deed) → OrdersAll take a b [] [] → OrdersAll take b c os ds → OrdersAll take a c os ds
+orders-after-look take a b c os ds looked is = orders-same take a c ([] ++ os) os (ds ++ []) ds refl (append-nil ds) (orders-more take a b c [] os [] ds looked is)

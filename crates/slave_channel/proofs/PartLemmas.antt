@@ -1,6 +1,6 @@
 -- Parts of measurements that go out, change and come back.
-use Rattle.std.proofs.Common.{◌≡◌, ℕ, List, [], ◌∷◌, ◌++◌, All, length, refl, sym, ap, ◌∙◌, subst, Bool, true, false}
-use Rattle.std.specs.Prelude.{slice_get, slice_index_or, Option, Some, None}
+use Rattle.std.proofs.Common.{◌≡◌, ℕ, List, [], ◌∷◌, ◌++◌, All, refl, sym, ap, ◌∙◌, subst, Bool, true, false}
+use Rattle.std.specs.Prelude.{slice_get, Option, Some, None}
 use Rattle.std.specs.Option.{is_some}
 use mathlib.Core.List.{IsPrefix}
 use Rattle.std.proofs.lemmas.Option.{get_or_from_slice_get, none-some, slice_get_within}
@@ -12,10 +12,8 @@ use Rattle.sampler.specs.History.{Event, Start, Stop}
 use Rattle.sampler.specs.Past.{Past, first_past}
 use Rattle.sampler.specs.Refusals.{running_at, start_refusal, stop_refusal}
 use Rattle.sampler.specs.Standing.{EndStandsAfter}
-use Rattle.sampler.specs.State.{JoinedEnd, SamplerEndState, SamplerState, joined}
-use Rattle.transmitter.specs.Items.{samples}
+use Rattle.sampler.specs.State.{SamplerEndState, SamplerState, joined}
 use Rattle.daq_engine.specs.Order.{items_of}
-use Rattle.daq_engine.specs.Overload.{HasMarks}
 use Rattle.daq_engine.proofs.OverloadLemmas.{marks-stand}
 use Rattle.daq_engine.proofs.PidLemmas.{all-indexed}
 use Rattle.channel_intake.specs.Accounts.{HasPlans}
@@ -29,7 +27,7 @@ use Rattle.daq_engine.specs.Opened.{IsOpenedAt}
 use Rattle.sampler.specs.History.{Opening}
 use Rattle.tasks.specs.Links.{HandsOut, LinkState, SendsToNewest}
 use Rattle.tasks.specs.declared.order.Order.{Order}
-use Rattle.slave_channel.specs.Channels.{ChannelState, FinishedState, Fits, IsBack, IsBackOf, IsFinished, IsPastOf, IsShareOf, Opens, ShareState, part_before}
+use Rattle.slave_channel.specs.Channels.{ChannelState, FinishedState, Fits, IsBack, IsBackOf, IsFinished, IsShareOf, Opens, ShareState, part_before}
 use Rattle.slave_channel.specs.Inner.{ComesOf, EndStays, FinishesAs}
 
 -- no deed changes what a channel was opened with

@@ -1,6 +1,6 @@
 -- The slave's side of an event channel: the measurements whose samplers are out, and those that came
 -- back (own).
-use Rattle.std.specs.Prelude.{◌≡◌, ◌≢◌, ℕ, ◌⊎◌, List, [], All, Option, Some, None}
+use Rattle.std.specs.Prelude.{◌≡◌, ℕ, List, [], All, Option, Some, None}
 use mathlib.Core.List.{IsPrefix}
 use Rattle.copy_plan.specs.Config.{IsPlan}
 use Rattle.channel_ring.specs.declared.ends.SendEnd.{Ghosts as SendGhosts}

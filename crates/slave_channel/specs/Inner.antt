@@ -1,7 +1,5 @@
 -- What no public clause cites: a part of a measurement is changed or finished.
-use Rattle.std.specs.Prelude.{◌≡◌, All, Option, Some, None}
-use Rattle.copy_plan.specs.Config.{IsPlan}
-use Rattle.channel_ring.specs.declared.ends.SendEnd.{Ghosts as SendGhosts}
+use Rattle.std.specs.Prelude.{◌≡◌, Option, Some, None}
 use Rattle.channel_ring.specs.declared.ends.RingEnd.{Ghosts as EndGhosts}
 use Rattle.channel_ring.specs.declared.ends.TakeEnd.{Ghosts as TakeGhosts}
 use Rattle.sampler.specs.Past.{Past}

@@ -37,10 +37,19 @@ impl<R: Ring> Channel<R> {
         if !self.can_start(lists) {
             return false;
         }
+        self.start_checked(lists);
+        true
+    }
+
+    /// Orders the starts of these DAQ lists, which were checked by `can_start`. It takes no memory.
+    pub fn start_checked(&mut self, lists: u16)
+        requires checked { CanStart self.old.link.newer (has_list lists) }
+        ensures orders { OrdersAll R.Take.TakeEnd self.old self.new
+            (starts_sent (has_list lists) MAX_LISTS) (starts_noted (has_list lists) MAX_LISTS) }
+    {
         for l in 0..MAX_LISTS as u8 {
             self.start_one(lists, l);
         }
-        true
     }
 
     /// Orders the stops of those of these DAQ lists that run. They always find places, and take no

@@ -1,28 +1,7 @@
-use Rattle.std.proofs.Common.{◌≡◌, ap, arith}
-use Rattle.xcp_base.specs.declared.limits.TheConstants.{MAX_LISTS}
-use Rattle.slave_channel.specs.Ordering.{starts_noted, starts_sent}
-use Rattle.xcp_base.specs.Lists.{has_list}
-use Rattle.slave_channel.proofs.OrderingLemmas.{can-same, from-zero, looked-at, orders-more, orders-same, starts_noted-next, starts_sent-next}
+use Rattle.slave_channel.proofs.OrderingLemmas.{looked-at, orders-after-look}
 use Rattle.slave_channel.proofs.channel.Channel.start_all.Goals as goal
 
-pub loop-l-init : goal.loop-l-init
-loop-l-init g c = record {
-  orders = looked-at g.R.Take.TakeEnd _ _ c.can_start.ensures.looked c.can_start.ensures.rest_stays;
-  behind = can-same _ _ _ (from-zero (has_list c.args.lists)) (c.can_start.ensures.yes c.if-not-can_start.false);
-}
-
-pub loop-l-preserved : goal.loop-l-preserved
-loop-l-preserved g c =
-    let set = has_list c.args.lists in
-    record {
-      orders =
-          orders-same g.R.Take.TakeEnd _ _ _ _ _ _ (starts_sent-next set c.loop-l.l) (starts_noted-next set c.loop-l.l)
-          (orders-more g.R.Take.TakeEnd _ _ _ _ _ _ _ c.loop-l.invariant.orders c.start_one.ensures.orders);
-      behind = c.start_one.ensures.behind;
-    }
-
+-- the look orders nothing
 pub returns-clause-yes : goal.returns-clause-yes
 returns-clause-yes g c = λ _.
-    let set = has_list c.args.lists in
-    let all : c.loop-l.l ≡ MAX_LISTS = omega (arith, c.loop-l-test.false) in
-    orders-same g.R.Take.TakeEnd _ _ _ _ _ _ (ap (starts_sent set) all) (ap (starts_noted set) all) c.loop-l.invariant.orders
+    orders-after-look g.R.Take.TakeEnd _ _ _ _ _ (looked-at g.R.Take.TakeEnd _ _ c.can_start.ensures.looked c.can_start.ensures.rest_stays) c.start_checked.ensures.orders

@@ -1,4 +1,4 @@
-use Rattle.std.proofs.Common.{◌≡◌, ℕ, ◌≤◌, ◌<◌, ◌&&◌, true}
+use Rattle.std.proofs.Common.{◌≡◌, ℕ, ◌≤◌, ◌<◌, ◌&&◌}
 use Rattle.xcp_base.specs.Lists.{has_list}
 use Rattle.xcp_base.specs.declared.limits.TheConstants.{MAX_LISTS}
 use Rattle.tasks.specs.Links.{is_running}

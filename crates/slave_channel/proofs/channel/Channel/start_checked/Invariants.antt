@@ -1,7 +1,7 @@
 use Rattle.xcp_base.specs.Lists.{has_list}
 use Rattle.tasks.specs.Links.{CanStart}
 use Rattle.slave_channel.specs.Ordering.{OrdersAll, from_on, starts_noted, starts_sent}
-use Rattle.slave_channel.proofs.channel.Channel.start_all.Given as goal
+use Rattle.slave_channel.proofs.channel.Channel.start_checked.Given as goal
 
 -- the starts so far were ordered, and those behind them find places
 abbrev pub invariant-loop-l : goal.invariant-loop-l
