@@ -1,0 +1,108 @@
+-- What a call did at one event channel, as the clauses have it of all.
+use Rattle.std.proofs.Common.{◌≡◌, ◌≢◌, ℕ, ◌<◌, ◌≤◌, inl, inr, List, length, set, get_or, Some, None, Option, refl, sym, subst, ◌∙◌, arith}
+use Rattle.std.specs.Prelude.{slice_get}
+use Rattle.std.proofs.lemmas.Bool.Decides.{eqb_tells}
+use Rattle.std.proofs.lemmas.Option.{same_Some, slice_get-get_or, slice_get_within}
+use Rattle.xcp_base.specs.Lists.{has_list}
+use Rattle.xcp_base.specs.declared.limits.TheConstants.{MAX_LISTS}
+use Rattle.channel_ring.specs.declared.ends.SendEnd.{Ghosts as SendGhosts}
+use Rattle.channel_ring.specs.declared.ends.RingEnd.{Ghosts as EndGhosts}
+use Rattle.channel_ring.specs.declared.ends.TakeEnd.{Ghosts as TakeGhosts}
+use Rattle.daq_store.specs.Standing.{StoreState}
+use Rattle.tasks.specs.Links.{AwayState, CanStart, LooksAtNewest}
+use Rattle.slave_channel.specs.Channels.{ChannelState}
+use Rattle.slave_channel.specs.Ordering.{starts_noted, starts_sent}
+use Rattle.slave_channel.proofs.OrderingLemmas.{looked-at, orders-after-look}
+use Rattle.slave_channels.specs.Calls.{CanStartAll, HasNoPlaces, Looks, OpenedAndEnded, OpensAt, OpensIfAny, StartsAt}
+use Rattle.slave_channels.specs.Each.{IsEach}
+use Rattle.slave_channels.specs.Inner.{EndsAt, IsFront}
+use Rattle.slave_channels.proofs.EachLemmas.{each-twice, front-map, front-next, front-rest, front-twice, get-set_same, read_at}
+
+-- what holds of the number that was read holds of the number there
+pub at-place : (P : ℕ → Type 0) (xs : List ℕ) (c : ℕ) → c < length xs → P (get_or xs c 0) → (y : ℕ) → slice_get xs c ≡ Some y → P y
+at-place P xs c here holds y at = subst P (same_Some (get_or xs c 0) y (sym (slice_get-get_or xs c 0 here) ∙ at)) holds
+
+newest-same : {S : Type 0} (o : Option (AwayState S)) → LooksAtNewest o o
+newest-same None = tt
+newest-same (Some a) = record { rest = refl; grows = omega arith }
+
+module _ {S T : Type 0} where
+  -- a look found places there, if it has lists
+  abbrev pub FindsPlaces : List ℕ → ℕ → ChannelState S T → ChannelState S T → Type 0
+  FindsPlaces lists c a b =
+      Looks a b × ((set : ℕ) → slice_get lists c ≡ Some set → set ≢ 0 → CanStart b.link.newer (has_list set))
+
+  -- what is as it was is as after a look
+  pub looks-same : (a : ChannelState S T) → Looks a a
+  looks-same a = record { newer = newest-same a.link.newer; rest = refl }
+
+  -- a look at one channel more
+  pub finds-places : (lists : List ℕ) (c : ℕ) (old new : ChannelState S T) → c < length lists → Looks old new
+      → (get_or lists c 0 ≢ 0 → CanStart new.link.newer (has_list (get_or lists c 0))) → FindsPlaces lists c old new
+  finds-places lists c old new here looks can = (looks, at-place (λ n. n ≢ 0 → CanStart new.link.newer (has_list n)) lists c here can)
+
+  -- all channels were looked at
+  pub all-looked : (lists : List ℕ) (n : ℕ) (xs ys : List (ChannelState S T)) → IsFront (FindsPlaces lists) n xs ys → IsEach (λ c. Looks) xs ys
+  all-looked lists n xs ys front = front-rest (λ c. Looks) n xs ys (λ k a. looks-same a) (front-map (FindsPlaces lists) (λ c. Looks) n xs ys (λ k a b both. both.0) front)
+
+  pub all-find : (lists : List ℕ) (n : ℕ) (xs ys : List (ChannelState S T)) → IsFront (FindsPlaces lists) n xs ys → length xs ≤ n → CanStartAll lists ys
+  all-find lists n xs ys front all c set b at now some =
+      let inside = slice_get_within ys c b now in
+      let a = get_or xs c b in
+      let was : slice_get xs c ≡ Some a = slice_get-get_or xs c b (omega (arith, inside, front.as_many)) in
+      (front.front c a b (omega (arith, inside, front.as_many, all)) was now).1 set at some
+
+  -- a look at the last of them
+  pub last-looked : (lists : List ℕ) (c : ℕ) (xs ys : List (ChannelState S T)) (old new : ChannelState S T) → old ≡ get_or ys c old → c < length ys
+      → IsFront (FindsPlaces lists) c xs ys → Looks old new → IsEach (λ c. Looks) xs (set ys c new)
+  last-looked lists c xs ys old new is here front looks =
+      front-rest (λ c. Looks) _ xs (set ys c new) (λ k a. looks-same a)
+      (front-next (λ c. Looks) c xs ys old new is here (front-map (FindsPlaces lists) (λ c. Looks) c xs ys (λ k a b both. both.0) front) looks)
+
+  -- there are no places there
+  pub no-places : (lists : List ℕ) (c : ℕ) (ys : List (ChannelState S T)) (new : ChannelState S T) → c < length lists → c < length ys
+      → get_or lists c 0 ≢ 0 → ¬ CanStart new.link.newer (has_list (get_or lists c 0)) → HasNoPlaces lists (set ys c new)
+  no-places lists c ys new here inside any cannot = record {
+    channel = c;
+    set = get_or lists c 0;
+    state = new;
+    lists_are = slice_get-get_or lists c 0 here;
+    some = any;
+    state_is = get-set_same ys c new inside;
+    cannot = cannot;
+  }
+
+  -- what was checked of a channel before the others were started
+  pub still-can : (lists : List ℕ) (c : ℕ) (xs ys : List (ChannelState S T)) (old : ChannelState S T) (R : ℕ → ChannelState S T → ChannelState S T → Type 0) → c < length lists
+      → old ≡ get_or ys c old → c < length ys → IsFront R c xs ys → CanStartAll lists xs → get_or lists c 0 ≢ 0 → CanStart old.link.newer (has_list (get_or lists c 0))
+  still-can lists c xs ys old R here was inside front can any =
+      can c (get_or lists c 0) old (slice_get-get_or lists c 0 here) (sym (front.rest c (omega arith)) ∙ read_at ys c old was inside) any
+
+module _ {S E T F : Type 0} (send : SendGhosts S E) (ring : EndGhosts E) (take : TakeGhosts T F) (store : StoreState) (number : ℕ) (caps lists : List ℕ) where
+  -- those that were opened have ended again
+  pub opened-ended : (c : ℕ) (xs ys zs ws : List (ChannelState S T)) → zs ≡ ys
+      → IsFront (OpensAt send ring take store number caps lists) c xs ys → IsFront (EndsAt lists) c zs ws → IsEach (OpenedAndEnded send ring take store number caps lists) xs ws
+  opened-ended c xs ys zs ws same opened ended =
+      front-twice (OpensAt send ring take store number caps lists) (EndsAt lists) (OpenedAndEnded send ring take store number caps lists) c xs ys ws both (λ k a cap set cap_at set_at. inl refl)
+      opened (subst (λ us. IsFront (EndsAt lists) c us ws) same ended) where
+        both : (k : ℕ) (a m b : ChannelState S T) → OpensAt send ring take store number caps lists k a m → EndsAt lists k m b → OpenedAndEnded send ring take store number caps lists k a b
+        both k a m b opens ends cap set cap_at set_at =
+            let one = opens cap set cap_at set_at in
+            let two = ends set set_at in
+            elim (eqb_tells set 0) [
+              | inl w ↦ inl (two.0 w.1 ∙ one.0 w.1)
+              | inr w ↦ inr (w.1, (m, one.1 w.1, two.1 w.1))
+            ]
+
+  -- one was opened
+  pub opens-at : (c : ℕ) → c < length caps → c < length lists → (a b : ChannelState S T) → OpensIfAny send ring take store number c (get_or caps c 0) (get_or lists c 0) a b
+      → OpensAt send ring take store number caps lists c a b
+  opens-at c in_caps in_lists a b opens cap set cap_at set_at =
+      at-place (λ n. OpensIfAny send ring take store number c n set a b) caps c in_caps
+      (at-place (λ n. OpensIfAny send ring take store number c (get_or caps c 0) n a b) lists c in_lists opens set set_at) cap cap_at
+
+-- what was started behind a look
+pub started-after-look : {S T F : Type 0} (take : TakeGhosts T F) (lists : List ℕ) (xs ys zs : List (ChannelState S T)) → IsEach (λ c. Looks) xs ys → IsEach (StartsAt take lists) ys zs → IsEach (StartsAt take lists) xs zs
+started-after-look take lists xs ys zs looked started =
+    each-twice (λ c. Looks) (StartsAt take lists) (StartsAt take lists) xs ys zs
+    (λ k a m b look starts set at. orders-after-look take a m b (starts_sent (has_list set) MAX_LISTS) (starts_noted (has_list set) MAX_LISTS) (looked-at take a m look.newer look.rest) (starts set at)) looked started

@@ -1,0 +1,39 @@
+use Rattle.std.proofs.Common.{◌≡◌, ◌<◌, ◌≤◌, length, ap, arith}
+use Rattle.slave_channels.proofs.EachLemmas.{front-next}
+use Rattle.slave_channels.proofs.CallLemmas.{FindsPlaces, all-find, all-looked, finds-places, last-looked, no-places}
+use Rattle.slave_channels.proofs.channels.Channels.can_start.Goals as goal
+
+-- there are none at this channel
+pub returns-then-not-can_start_one-clause-no : goal.returns-then-not-can_start_one-clause-no
+returns-then-not-can_start_one-clause-no g c = λ _.
+    let view : length c.self.inside.all.items ≡ length c.args.self.now = ap length c.self.view_is in
+    let here : c.loop-c.c < length c.args.self.now = omega (arith, c.loop-c-test.true, c.loop-c.auto.c-end, c.len-c-end.ensures, c.self.inside.all.ok.0, view) in
+    no-places c.args.lists.now c.loop-c.c c.loop-c.self-inside.all.items c.can_start_one.new.channel (omega (arith, here, c.requires.lists)) (omega (arith, here, c.loop-c.invariant.as_many))
+    (c.can_start_one.ensures.some c.if-not-can_start_one.true) (c.can_start_one.ensures.no c.if-not-can_start_one.true)
+
+-- and the channels behind it are as they were
+pub returns-then-not-can_start_one-clause-looked : goal.returns-then-not-can_start_one-clause-looked
+returns-then-not-can_start_one-clause-looked g c =
+    let view : length c.self.inside.all.items ≡ length c.args.self.now = ap length c.self.view_is in
+    let here : c.loop-c.c < length c.args.self.now = omega (arith, c.loop-c-test.true, c.loop-c.auto.c-end, c.len-c-end.ensures, c.self.inside.all.ok.0, view) in
+    last-looked c.args.lists.now c.loop-c.c _ c.loop-c.self-inside.all.items c.index_mut.result.now c.can_start_one.new.channel c.index_mut.ensures.value (omega (arith, here, c.loop-c.invariant.as_many))
+    c.loop-c.invariant c.can_start_one.ensures.looked
+
+-- one channel more
+pub loop-c-preserved : goal.loop-c-preserved
+loop-c-preserved g c =
+    let view : length c.self.inside.all.items ≡ length c.args.self.now = ap length c.self.view_is in
+    let here : c.loop-c.c < length c.args.self.now = omega (arith, c.loop-c-test.true, c.loop-c.auto.c-end, c.len-c-end.ensures, c.self.inside.all.ok.0, view) in
+    front-next (FindsPlaces c.args.lists.now) c.loop-c.c _ _ c.index_mut.result.now c.can_start_one.new.channel c.index_mut.ensures.value (omega (arith, here, c.loop-c.invariant.as_many)) c.loop-c.invariant
+    (finds-places c.args.lists.now c.loop-c.c c.index_mut.result.now c.can_start_one.new.channel (omega (arith, here, c.requires.lists)) c.can_start_one.ensures.looked
+    (c.can_start_one.ensures.yes c.if-not-can_start_one.false))
+
+-- these are all
+pub returns-clause-yes : goal.returns-clause-yes
+returns-clause-yes g c = λ _.
+    let view : length c.self.inside.all.items ≡ length c.args.self.now = ap length c.self.view_is in
+    let all : length c.args.self.now ≤ c.loop-c.c = omega (arith, c.loop-c-test.false, c.loop-c.auto.c-end, c.len-c-end.ensures, c.self.inside.all.ok.0, view) in
+    all-find c.args.lists.now c.loop-c.c c.args.self.now c.loop-c.self-inside.all.items c.loop-c.invariant all
+
+pub returns-clause-looked : goal.returns-clause-looked
+returns-clause-looked g c = all-looked c.args.lists.now c.loop-c.c c.args.self.now c.loop-c.self-inside.all.items c.loop-c.invariant

@@ -1,0 +1,20 @@
+use Rattle.std.proofs.Common.{◌≡◌, ◌<◌, ◌≢◌, arith, length, subst}
+use Rattle.slave_channels.specs.Calls.{Ends}
+use Rattle.slave_channels.specs.Inner.{EndsAt, IsFront}
+use Rattle.slave_channels.proofs.EachLemmas.{front-next}
+use Rattle.slave_channels.proofs.CallLemmas.{at-place}
+use Rattle.slave_channels.proofs.channels.Channels.end_below.Goals as goal
+
+-- one channel more
+pub loop-c-preserved : goal.loop-c-preserved
+loop-c-preserved g c =
+    let here : c.loop-c.c < length c.args.self.now = omega (arith, c.loop-c-test.true, c.requires.below) in
+    front-next (EndsAt c.args.lists.now) c.loop-c.c _ _ c.index_mut.result.now c.end_if_any.new.channel c.index_mut.ensures.value (omega (arith, here, c.loop-c.invariant.as_many)) c.loop-c.invariant
+    (at-place (λ n. (n ≡ 0 → c.end_if_any.new.channel ≡ c.index_mut.result.now) × (n ≢ 0 → Ends c.index_mut.result.now c.end_if_any.new.channel)) c.args.lists.now c.loop-c.c (omega (arith, here, c.requires.lists))
+    (c.end_if_any.ensures.none, c.end_if_any.ensures.ends))
+
+-- these are the first n
+pub returns : goal.returns
+returns g c =
+    let all : c.loop-c.c ≡ c.args.n = omega (arith, c.loop-c-test.false) in
+    record { ends = subst (λ k. IsFront (EndsAt c.args.lists.now) k c.args.self.now c.loop-c.self-inside.all.items) all c.loop-c.invariant }

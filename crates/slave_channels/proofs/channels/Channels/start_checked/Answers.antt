@@ -1,0 +1,20 @@
+use Rattle.std.proofs.Common.{◌≡◌, ◌<◌, ◌≤◌, length, ap, arith}
+use Rattle.slave_channels.specs.Calls.{Starts, StartsAt}
+use Rattle.slave_channels.proofs.EachLemmas.{front-all, front-next}
+use Rattle.slave_channels.proofs.CallLemmas.{at-place}
+use Rattle.slave_channels.proofs.channels.Channels.start_checked.Goals as goal
+
+-- one channel more
+pub loop-c-preserved : goal.loop-c-preserved
+loop-c-preserved g c =
+    let view : length c.self.inside.all.items ≡ length c.args.self.now = ap length c.self.view_is in
+    let here : c.loop-c.c < length c.args.self.now = omega (arith, c.loop-c-test.true, c.loop-c.auto.c-end, c.len-c-end.ensures, c.self.inside.all.ok.0, view) in
+    front-next (StartsAt g.R.Take.TakeEnd c.args.lists.now) c.loop-c.c _ _ c.index_mut.result.now c.start_one.new.channel c.index_mut.ensures.value (omega (arith, here, c.loop-c.invariant.as_many)) c.loop-c.invariant
+    (at-place (λ n. Starts g.R.Take.TakeEnd n c.index_mut.result.now c.start_one.new.channel) c.args.lists.now c.loop-c.c (omega (arith, here, c.requires.lists)) c.start_one.ensures.starts)
+
+-- these are all
+pub returns : goal.returns
+returns g c =
+    let view : length c.self.inside.all.items ≡ length c.args.self.now = ap length c.self.view_is in
+    let all : length c.args.self.now ≤ c.loop-c.c = omega (arith, c.loop-c-test.false, c.loop-c.auto.c-end, c.len-c-end.ensures, c.self.inside.all.ok.0, view) in
+    record { starts = front-all (StartsAt g.R.Take.TakeEnd c.args.lists.now) c.loop-c.c _ _ c.loop-c.invariant all }

@@ -1,0 +1,19 @@
+use Rattle.std.proofs.Common.{◌≡◌, ◌<◌, ◌≤◌, length, ap, arith}
+use Rattle.slave_channels.specs.Calls.{StopsAll}
+use Rattle.slave_channels.proofs.EachLemmas.{front-all, front-next}
+use Rattle.slave_channels.proofs.channels.Channels.stop_all.Goals as goal
+
+-- one channel more
+pub loop-c-preserved : goal.loop-c-preserved
+loop-c-preserved g c =
+    let view : length c.self.inside.all.items ≡ length c.args.self.now = ap length c.self.view_is in
+    let here : c.loop-c.c < length c.loop-c.self-inside.all.items =
+    omega (arith, c.loop-c-test.true, c.loop-c.auto.c-end, c.len-c-end.ensures, c.self.inside.all.ok.0, c.loop-c.invariant.as_many, view) in
+    front-next (λ k. StopsAll g.R.Take.TakeEnd c.args.lists) c.loop-c.c _ _ c.index_mut.result.now c.stop_all.new.self c.index_mut.ensures.value here c.loop-c.invariant c.stop_all.ensures.orders
+
+-- these are all
+pub returns : goal.returns
+returns g c =
+    let view : length c.self.inside.all.items ≡ length c.args.self.now = ap length c.self.view_is in
+    let all : length c.args.self.now ≤ c.loop-c.c = omega (arith, c.loop-c-test.false, c.loop-c.auto.c-end, c.len-c-end.ensures, c.self.inside.all.ok.0, view) in
+    record { orders = front-all (λ k. StopsAll g.R.Take.TakeEnd c.args.lists) c.loop-c.c _ _ c.loop-c.invariant all }

@@ -1,0 +1,130 @@
+-- What the calls of one measurement do at each of its event channels (own).
+use Rattle.std.specs.Prelude.{◌≡◌, ◌≢◌, ℕ, ◌⊎◌, ◌&&◌, true, false, List, [], Option, None, Some}
+use Rattle.std.specs.Prelude.{IfSome, IsNone, IsSome, slice_get}
+use Rattle.xcp_base.specs.Lists.{has_list}
+use Rattle.xcp_base.specs.declared.limits.TheConstants.{MAX_LISTS}
+use Rattle.channel_ring.specs.declared.ends.SendEnd.{Ghosts as SendGhosts}
+use Rattle.channel_ring.specs.declared.ends.RingEnd.{Ghosts as EndGhosts}
+use Rattle.channel_ring.specs.declared.ends.TakeEnd.{Ghosts as TakeGhosts}
+use Rattle.channel_intake.specs.declared.step.Step.{Step}
+use Rattle.daq_store.specs.Standing.{StoreState}
+use Rattle.frame_outbox.specs.Outboxes.{OutboxState}
+use Rattle.tasks.specs.Links.{CanStart, EndsNewest, LooksAtNewest, is_running, takes_orders}
+use Rattle.tasks.specs.Tasks.{TaskState}
+use Rattle.slave_channel.specs.Channels.{ChannelState, FinishedState, IsBackOf, Opens, TakesOf}
+use Rattle.slave_channel.specs.Ordering.{OrdersAll, starts_noted, starts_sent}
+use Rattle.slave_channel.specs.Ordering.{stops_noted, stops_sent}
+
+-- an event channel with no measurement
+abbrev pub no_measurement : {S T : Type 0} → ChannelState S T
+no_measurement = record {
+  link = record { put = []; taken_back = []; older = None; newer = None };
+  older = None;
+  newer = None;
+}
+
+-- a task to which no sampler came
+abbrev pub no_sampler : {S : Type 0} → TaskState S
+no_sampler = record { came = []; held = None }
+
+module _ {S T : Type 0} where
+  -- the measurement that is there ended, if one is
+  pub record Ends (a b : ChannelState S T) : Type 0 where
+    pub none : takes_orders a.link.newer ≡ false → b ≡ a
+    pub ends : takes_orders a.link.newer ≡ true → EndsNewest a.link b.link
+    pub parts : b ≡ record a { link = b.link }
+
+  -- a look at the orders of the newest
+  pub record Looks (a b : ChannelState S T) : Type 0 where
+    pub newer : LooksAtNewest a.link.newer b.link.newer
+    pub rest : b ≡ record a { link = record a.link { newer = b.link.newer } }
+
+  -- starts of the lists at each event channel find places, where they are any
+  abbrev pub CanStartAll : List ℕ → List (ChannelState S T) → Type 0
+  CanStartAll lists now =
+      (c set : ℕ) (b : ChannelState S T)
+      → slice_get lists c ≡ Some set → slice_get now c ≡ Some b → set ≢ 0
+      → CanStart b.link.newer (has_list set)
+
+  -- at an event channel with some lists their starts find no places
+  pub record HasNoPlaces (lists : List ℕ) (now : List (ChannelState S T)) : Type 0 where
+    pub channel : ℕ
+    pub set : ℕ
+    pub state : ChannelState S T
+    pub lists_are : slice_get lists channel ≡ Some set
+    pub some : set ≢ 0
+    pub state_is : slice_get now channel ≡ Some state
+    pub cannot : ¬ CanStart state.link.newer (has_list set)
+
+module _ {S T F : Type 0} (take : TakeGhosts T F) where
+  -- the starts of these lists were ordered
+  abbrev pub Starts : ℕ → ChannelState S T → ChannelState S T → Type 0
+  Starts set a b =
+      OrdersAll take a b
+      (starts_sent (has_list set) MAX_LISTS) (starts_noted (has_list set) MAX_LISTS)
+
+  -- the starts of the lists of event channel c were ordered there
+  abbrev pub StartsAt : List ℕ → ℕ → ChannelState S T → ChannelState S T → Type 0
+  StartsAt lists c a b = (set : ℕ) → slice_get lists c ≡ Some set → Starts set a b
+
+  -- the stops of those of the lists that run were ordered
+  abbrev pub StopsAll : ℕ → ChannelState S T → ChannelState S T → Type 0
+  StopsAll lists a b =
+      OrdersAll take a b
+      (stops_sent (λ l. has_list lists l && is_running a.link.newer l) MAX_LISTS)
+      (stops_noted (λ l. has_list lists l && is_running a.link.newer l) MAX_LISTS)
+
+  -- what became of the next item of the newest measurement's ring; the rest is as it was
+  pub record TakesFromNewer (o p : OutboxState) (step : Step) (a b : ChannelState S T)
+      : Type 0 where
+    pub takes : TakesOf take a.newer b.newer o p step
+    pub rest : b ≡ record a { newer = b.newer }
+
+  -- the same of the measurement before it
+  pub record TakesFromOlder (o p : OutboxState) (step : Step) (a b : ChannelState S T)
+      : Type 0 where
+    pub takes : TakesOf take a.older b.older o p step
+    pub rest : b ≡ record a { older = b.older }
+
+module _ {S E T F : Type 0} (send : SendGhosts S E) (ring : EndGhosts E)
+    (take : TakeGhosts T F) where
+  -- a part of a measurement was opened, if there are lists of it
+  abbrev pub OpensIfAny :
+      StoreState → ℕ → ℕ → ℕ → ℕ → ChannelState S T → ChannelState S T → Type 0
+  OpensIfAny store number c cap set a b =
+      (set ≡ 0 → b ≡ a) × (set ≢ 0 → Opens send ring take a b store c cap number)
+
+  module _ (store : StoreState) (number : ℕ) (caps lists : List ℕ) where
+    -- so at event channel c, whose ring has caps[c] places and whose lists are lists[c]
+    abbrev pub OpensAt : ℕ → ChannelState S T → ChannelState S T → Type 0
+    OpensAt c a b =
+        (cap set : ℕ) → slice_get caps c ≡ Some cap → slice_get lists c ≡ Some set
+        → OpensIfAny store number c cap set a b
+
+    -- nothing changed there; or it has lists of the measurement, which was opened and ended again
+    abbrev pub OpenedAndEnded : ℕ → ChannelState S T → ChannelState S T → Type 0
+    OpenedAndEnded c a b =
+        (cap set : ℕ) → slice_get caps c ≡ Some cap → slice_get lists c ≡ Some set
+        → (b ≡ a)
+        ⊎ ((set ≢ 0) × ((m : ChannelState S T)
+        × Opens send ring take a m store c cap number × Ends m b))
+
+  -- what came back of the measurement before the last; the rest is as it was
+  pub record GivesBackOlder (answer : Option (FinishedState E T)) (a b : ChannelState S T)
+      : Type 0 where
+    pub back : IfSome answer (IsBackOf send ring take a.link.older a.older)
+    pub some : IsSome answer → (b.link.older ≡ None) × (b.older ≡ None)
+    pub none :
+        IsNone answer → (b.older ≡ a.older) × LooksAtNewest a.link.older b.link.older
+    pub rest :
+        (b.link ≡ record a.link { older = b.link.older }) × (b.newer ≡ a.newer)
+
+  -- the same of the last
+  pub record GivesBackNewer (answer : Option (FinishedState E T)) (a b : ChannelState S T)
+      : Type 0 where
+    pub back : IfSome answer (IsBackOf send ring take a.link.newer a.newer)
+    pub some : IsSome answer → (b.link.newer ≡ None) × (b.newer ≡ None)
+    pub none :
+        IsNone answer → (b.newer ≡ a.newer) × LooksAtNewest a.link.newer b.link.newer
+    pub rest :
+        (b.link ≡ record a.link { newer = b.link.newer }) × (b.older ≡ a.older)

@@ -1,0 +1,21 @@
+-- What no public clause cites: the first elements of a list changed; the parts of a measurement
+-- that was opened in part end.
+use Rattle.std.specs.Prelude.{◌≡◌, ◌≢◌, ℕ, ◌<◌, ◌≤◌, List, length, slice_get, Some}
+use Rattle.slave_channel.specs.Channels.{ChannelState}
+use Rattle.slave_channels.specs.Calls.{Ends}
+
+module _ {A : Type 0} where
+  -- each of the first n elements, with its place, became one so, and the others are as they were
+  pub record IsFront (R : ℕ → A → A → Type 0) (n : ℕ) (old now : List A) : Type 0 where
+    pub as_many : length now ≡ length old
+    pub front :
+        (k : ℕ) (a b : A) → k < n → slice_get old k ≡ Some a → slice_get now k ≡ Some b
+        → R k a b
+    pub rest : (k : ℕ) → n ≤ k → slice_get now k ≡ slice_get old k
+
+module _ {S T : Type 0} where
+  -- the measurement ended at event channel c, if it has lists there
+  abbrev pub EndsAt : List ℕ → ℕ → ChannelState S T → ChannelState S T → Type 0
+  EndsAt lists c a b =
+      (set : ℕ) → slice_get lists c ≡ Some set
+      → (set ≡ 0 → b ≡ a) × (set ≢ 0 → Ends a b)

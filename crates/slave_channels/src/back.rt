@@ -1,0 +1,28 @@
+//! What came back of the measurements at one event channel.
+ghost use Rattle.std.specs.Prelude.{◌<◌, length};
+ghost use Rattle.slave_channels.specs.Calls.{GivesBackNewer, GivesBackOlder};
+ghost use Rattle.slave_channels.specs.Each.{IsOnlyAt};
+
+use crate::channels::Channels;
+use daq_engine::Ring;
+use slave_channel::Finished;
+
+impl<R: Ring> Channels<R> {
+    /// What came back of the measurement before the last at event channel `c`.
+    pub fn take_older(&mut self, c: usize) -> Option<Finished<R>>
+        requires channel { c < length self.old }
+        ensures back { IsOnlyAt (GivesBackOlder
+            R.Send.SendEnd R.Send.End.RingEnd R.Take.TakeEnd result) c self.old self.new }
+    {
+        self.all[c].take_older()
+    }
+
+    /// What came back of the last measurement at event channel `c`.
+    pub fn take_newer(&mut self, c: usize) -> Option<Finished<R>>
+        requires channel { c < length self.old }
+        ensures back { IsOnlyAt (GivesBackNewer
+            R.Send.SendEnd R.Send.End.RingEnd R.Take.TakeEnd result) c self.old self.new }
+    {
+        self.all[c].take_newer()
+    }
+}

@@ -1,0 +1,53 @@
+use daq_engine::Ring;
+use slave_channel::Channel;
+use std::alloc::{AllocError, Global};
+use std::marker::Model;
+use tasks::Task;
+
+/// The slave's side of each event channel, in their order.
+#[derive(Drop)]
+pub struct Channels<R: Ring> {
+    pub(crate) all: Vec<Channel<R>>,
+}
+
+impl<R: Ring> Model for Channels<R> {
+    ghost use Rattle.std.specs.Prelude.{List, length, ◌≤◌};
+    ghost use Rattle.xcp_base.specs.declared.limits.TheConstants.{MAX_CHANNELS};
+    ghost use Rattle.slave_channel.specs.Channels.{ChannelState};
+
+    ghost Value = { List (ChannelState R.Send R.Take) };
+
+    ghost view = { λ c. c.all.items };
+
+    ghost invariant = { λ c. length c.all.items ≤ MAX_CHANNELS };
+}
+
+ghost use Rattle.std.specs.Prelude.{◌≡◌, ◌≤◌, IfOk, length, replicate};
+ghost use Rattle.xcp_base.specs.declared.limits.TheConstants.{MAX_CHANNELS};
+ghost use Rattle.slave_channels.specs.Calls.{no_measurement, no_sampler};
+
+impl<R: Ring> Channels<R> {
+    /// The slave's side of so many event channels, and their tasks. No measurement is there.
+    pub fn new(alloc: Global, count: usize) -> Result<(Channels<R>, Vec<Task<R::Send>>), AllocError>
+        requires few { count ≤ MAX_CHANNELS }
+        ensures channels { IfOk result (λ made. made.0 ≡ replicate count no_measurement) }
+        ensures tasks { IfOk result (λ made. made.1.items ≡ replicate count no_sampler) }
+    {
+        let mut all = Vec::with_capacity(alloc, count)?;
+        let mut tasks = Vec::with_capacity(alloc, count)?;
+        for c in 0..count {
+            let (channel, task) = Channel::<R>::new(alloc)?;
+            all.push_reserved(channel);
+            tasks.push_reserved(task);
+        }
+        Ok((Channels { all }, tasks))
+    }
+
+    /// The number of event channels.
+    pub fn len(&self) -> usize
+        ensures value { result ≡ length self.now }
+        ensures limit { result ≤ MAX_CHANNELS }
+    {
+        self.all.len()
+    }
+}

@@ -1,0 +1,37 @@
+//! A measurement is stopped or ended at all event channels.
+ghost use Rattle.std.specs.Prelude.{◌≡◌};
+ghost use Rattle.slave_channels.specs.Calls.{Ends, StopsAll};
+ghost use Rattle.slave_channels.specs.Each.{IsEach};
+
+use crate::channels::Channels;
+use daq_engine::Ring;
+use slave_channel::Channel;
+
+/// Ends the measurement that is there at an event channel, if one is.
+pub(crate) fn end_one<R: Ring>(channel: &mut Channel<R>)
+    ensures ends { Ends channel.old channel.new }
+{
+    channel.end();
+}
+
+impl<R: Ring> Channels<R> {
+    /// Orders, at each event channel, the stops of those of these DAQ lists that run. They always
+    /// find places, and take no memory.
+    pub fn stop_all(&mut self, lists: u16)
+        ensures orders { IsEach (λ c. StopsAll R.Take.TakeEnd lists) self.old self.new }
+    {
+        for c in 0..self.all.len() {
+            self.all[c].stop_all(lists);
+        }
+    }
+
+    /// Ends the measurement that is there at each event channel, if one is: each task gives back
+    /// what is left of its sampler, as soon as it looks.
+    pub fn end(&mut self)
+        ensures ends { IsEach (λ c. Ends) self.old self.new }
+    {
+        for c in 0..self.all.len() {
+            end_one(&mut self.all[c]);
+        }
+    }
+}

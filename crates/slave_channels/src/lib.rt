@@ -1,0 +1,12 @@
+//! The slave's side of all event channels: a measurement is opened, started, stopped and ended at
+//! all channels that have lists of it (own).
+#![tactic(auto)]
+
+mod back;
+mod channels;
+mod ending;
+mod opening;
+mod starting;
+mod taking;
+
+pub use channels::Channels;

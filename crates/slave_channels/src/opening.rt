@@ -1,0 +1,108 @@
+//! A measurement is opened at all event channels that have lists of it, or at none.
+ghost use Rattle.std.specs.Prelude.{◌≡◌, ◌≢◌, ◌<◌, ◌≤◌, OnErr, OnOk, length};
+ghost use Rattle.xcp_base.specs.declared.limits.TheConstants.{MAX_CHANNELS};
+ghost use Rattle.slave_channels.specs.Calls.{Ends, OpenedAndEnded, OpensAt, OpensIfAny};
+ghost use Rattle.slave_channels.specs.Each.{IsEach, IsOnlyAt};
+ghost use Rattle.slave_channels.specs.Inner.{EndsAt, IsFront};
+
+use crate::channels::Channels;
+use crate::ending::end_one;
+use daq_engine::Ring;
+use daq_store::Store;
+use slave_channel::Channel;
+use std::alloc::Global;
+use tasks::HandFault;
+
+/// Opens an event channel's part of a measurement, if it has lists of it.
+fn open_one<R: Ring>(
+    channel: &mut Channel<R>,
+    alloc: Global,
+    store: &Store,
+    c: u8,
+    cap: usize,
+    set: u16,
+    number: u64,
+) -> Result<(), HandFault>
+    requires channel { c < MAX_CHANNELS }
+    ensures ok { OnOk result (OpensIfAny R.Send.SendEnd R.Send.End.RingEnd R.Take.TakeEnd
+        store.now number c cap set channel.old channel.new) }
+    ensures err { OnErr result (channel.new ≡ channel.old) }
+{
+    if set == 0 {
+        return Ok(());
+    }
+    channel.open(alloc, store, c, cap, number)
+}
+
+/// Ends an event channel's part of a measurement, if it has lists of it.
+fn end_if_any<R: Ring>(channel: &mut Channel<R>, set: u16)
+    ensures none { set ≡ 0 → channel.new ≡ channel.old }
+    ensures ends { set ≢ 0 → Ends channel.old channel.new }
+{
+    if set != 0 {
+        end_one(channel);
+    }
+}
+
+impl<R: Ring> Channels<R> {
+    /// Opens a measurement over a store: its part at each event channel `c` whose set `lists[c]` of
+    /// lists is not empty, with a ring of `caps[c]` places.
+    ///
+    /// Refused as `Channel::open` refuses the first of them that can't be opened. Then those before
+    /// it have ended again, and the others are as they were.
+    pub fn open(
+        &mut self,
+        alloc: Global,
+        store: &Store,
+        caps: &[usize],
+        lists: &[u16],
+        number: u64,
+    ) -> Result<(), HandFault>
+        requires caps { length caps.now ≡ length self.old }
+        requires lists { length lists.now ≡ length self.old }
+        ensures ok { OnOk result (IsEach (OpensAt
+            R.Send.SendEnd R.Send.End.RingEnd R.Take.TakeEnd
+            store.now number caps.now lists.now) self.old self.new) }
+        ensures err { OnErr result (IsEach (OpenedAndEnded
+            R.Send.SendEnd R.Send.End.RingEnd R.Take.TakeEnd
+            store.now number caps.now lists.now) self.old self.new) }
+    {
+        for c in 0..self.len() {
+            if let Err(fault) = self.open_at(alloc, store, c, caps[c], lists[c], number) {
+                self.end_below(lists, c);
+                return Err(fault);
+            }
+        }
+        Ok(())
+    }
+
+    /// Opens the part of a measurement at one event channel, if it has lists of it.
+    fn open_at(
+        &mut self,
+        alloc: Global,
+        store: &Store,
+        c: usize,
+        cap: usize,
+        set: u16,
+        number: u64,
+    ) -> Result<(), HandFault>
+        requires channel { c < length self.old }
+        ensures ok { OnOk result (IsOnlyAt (OpensIfAny
+            R.Send.SendEnd R.Send.End.RingEnd R.Take.TakeEnd
+            store.now number c cap set) c self.old self.new) }
+        ensures err { OnErr result (self.new ≡ self.old) }
+    {
+        open_one(&mut self.all[c], alloc, store, c as u8, cap, set, number)
+    }
+
+    /// Ends the measurement at those of the first `n` event channels that have lists of it.
+    fn end_below(&mut self, lists: &[u16], n: usize)
+        requires lists { length lists.now ≡ length self.old }
+        requires below { n ≤ length self.old }
+        ensures ends { IsFront (EndsAt lists.now) n self.old self.new }
+    {
+        for c in 0..n {
+            end_if_any(&mut self.all[c], lists[c]);
+        }
+    }
+}

@@ -1,0 +1,78 @@
+//! DAQ lists of a measurement are started at all event channels, or none.
+ghost use Rattle.std.specs.Prelude.{◌≡◌, ◌≢◌, length, true, false};
+ghost use Rattle.xcp_base.specs.Lists.{has_list};
+ghost use Rattle.tasks.specs.Links.{CanStart};
+ghost use Rattle.slave_channels.specs.Calls.{CanStartAll, HasNoPlaces, Looks, Starts, StartsAt};
+ghost use Rattle.slave_channels.specs.Each.{IsEach};
+
+use crate::channels::Channels;
+use daq_engine::Ring;
+use slave_channel::Channel;
+
+/// Whether starts of these lists find places at an event channel, if they are any.
+fn can_start_one<R: Ring>(channel: &mut Channel<R>, set: u16) -> bool
+    ensures yes { result ≡ true → set ≢ 0 → CanStart channel.new.link.newer (has_list set) }
+    ensures some { result ≡ false → set ≢ 0 }
+    ensures no { result ≡ false → ¬ CanStart channel.new.link.newer (has_list set) }
+    ensures looked { Looks channel.old channel.new }
+{
+    if set == 0 {
+        return true;
+    }
+    channel.can_start(set)
+}
+
+/// Orders the starts of these lists at an event channel, if they are any.
+fn start_one<R: Ring>(channel: &mut Channel<R>, set: u16)
+    requires checked { set ≢ 0 → CanStart channel.old.link.newer (has_list set) }
+    ensures starts { Starts R.Take.TakeEnd set channel.old channel.new }
+{
+    if set != 0 {
+        channel.start_checked(set);
+    }
+}
+
+impl<R: Ring> Channels<R> {
+    /// Whether starts of the lists `lists[c]` find places at the task of each event channel `c`,
+    /// with the stops of all lists that then run and an order to end. An empty set asks for none.
+    pub fn can_start(&mut self, lists: &[u16]) -> bool
+        requires lists { length lists.now ≡ length self.old }
+        ensures yes { result ≡ true → CanStartAll lists.now self.new }
+        ensures no { result ≡ false → HasNoPlaces lists.now self.new }
+        ensures looked { IsEach (λ c. Looks) self.old self.new }
+    {
+        for c in 0..self.all.len() {
+            if !can_start_one(&mut self.all[c], lists[c]) {
+                return false;
+            }
+        }
+        true
+    }
+
+    /// Orders the starts of the lists `lists[c]` at each event channel `c` if all find places, and
+    /// tells whether they do; else none is ordered at any channel. It takes no memory.
+    pub fn start_all(&mut self, lists: &[u16]) -> bool
+        requires lists { length lists.now ≡ length self.old }
+        ensures yes { result ≡ true
+            → IsEach (StartsAt R.Take.TakeEnd lists.now) self.old self.new }
+        ensures no { result ≡ false → HasNoPlaces lists.now self.new }
+        ensures looked { result ≡ false → IsEach (λ c. Looks) self.old self.new }
+    {
+        if !self.can_start(lists) {
+            return false;
+        }
+        self.start_checked(lists);
+        true
+    }
+
+    /// Orders the starts of the lists `lists[c]` at each event channel `c`, which were checked.
+    pub fn start_checked(&mut self, lists: &[u16])
+        requires lists { length lists.now ≡ length self.old }
+        requires checked { CanStartAll lists.now self.old }
+        ensures starts { IsEach (StartsAt R.Take.TakeEnd lists.now) self.old self.new }
+    {
+        for c in 0..self.all.len() {
+            start_one(&mut self.all[c], lists[c]);
+        }
+    }
+}

@@ -1,0 +1,32 @@
+//! The items of one event channel's rings are taken.
+ghost use Rattle.std.specs.Prelude.{◌≡◌, ◌<◌, length};
+ghost use Rattle.slave_channels.specs.Calls.{TakesFromNewer, TakesFromOlder};
+ghost use Rattle.slave_channels.specs.Each.{IsOnlyAt};
+
+use crate::channels::Channels;
+use channel_intake::Step;
+use daq_engine::Ring;
+use frame_outbox::Outbox;
+
+impl<R: Ring> Channels<R> {
+    /// Takes the next item of the newest measurement's ring at event channel `c`, if one is there,
+    /// and lays a sample of a DAQ list that runs out. It takes no memory.
+    pub fn take(&mut self, c: usize, outbox: &mut Outbox) -> Step
+        requires channel { c < length self.old }
+        ensures takes { IsOnlyAt
+            (TakesFromNewer R.Take.TakeEnd outbox.old outbox.new result) c self.old self.new }
+        ensures shown_stays { outbox.new.shown ≡ outbox.old.shown }
+    {
+        self.all[c].take(outbox)
+    }
+
+    /// The same of the measurement before it.
+    pub fn take_from_older(&mut self, c: usize, outbox: &mut Outbox) -> Step
+        requires channel { c < length self.old }
+        ensures takes { IsOnlyAt
+            (TakesFromOlder R.Take.TakeEnd outbox.old outbox.new result) c self.old self.new }
+        ensures shown_stays { outbox.new.shown ≡ outbox.old.shown }
+    {
+        self.all[c].take_from_older(outbox)
+    }
+}
