@@ -1,0 +1,169 @@
+-- What a slave stands after once a packet was heard, or the transport was lost.
+use Rattle.std.proofs.Common.{◌≡◌, ℕ, ◌<◌, ◌≤◌, Bool, true, false, ◌&&◌, not, if◌then◌else◌, List, [], ◌∷◌, ◌++◌, append-nil, length, length-append, drop, take as first, refl, sym, ap, ◌∙◌, subst, arith}
+use Rattle.std.specs.Prelude.{Option, Some, None}
+use Rattle.xcp_base.specs.Lists.{has_list}
+use Rattle.xcp_base.specs.declared.limits.TheConstants.{MAX_LISTS}
+use Rattle.channel_ring.specs.declared.ends.TakeEnd.{Ghosts as TakeGhosts}
+use Rattle.daq_store.specs.Replies.{Allocates}
+use Rattle.daq_store.specs.declared.command.Command.{Command}
+use Rattle.daq_store.specs.declared.command.Command.TheVariants.{FreeDaq, AllocDaq, AllocOdt, AllocOdtEntry, SetDaqPtr, WriteDaq, SetDaqListMode, StartStopDaqList, StartStopSynch, ClearDaqList, ReadDaq}
+use Rattle.session.proofs.ListSetLemmas.{empty_has_none}
+use Rattle.session.proofs.StartLemmas.{StartsNoList, other_call}
+use Rattle.session.specs.Exchanges.{Exchange, MayBeOut, past_after_greeting, past_after_packet, past_after_read, past_behind, reply_in}
+use Rattle.session.specs.Past.{Past, new_past}
+use Rattle.session.specs.Profiles.{lists_of}
+use Rattle.session.specs.Requests.{request}
+use Rattle.session.specs.Standing.{Exchanges, SessionStandsAfter, SessionState}
+use Rattle.session.specs.Starts.{is_on, runs, starts}
+use Rattle.session.specs.declared.profile.Profile.{Profile}
+use Rattle.frame_outbox.specs.Outboxes.{Laid, LaysOut, OutboxState}
+use Rattle.frame_outbox.specs.Outboxes.{StandsAfter as OutboxStandsAfter}
+use Rattle.slave.specs.Hearing.{GoesBy}
+use Rattle.slave.specs.Inner.{Answers, LaysReply, Settles}
+use Rattle.slave.specs.Log.{Heard, HungUp, laid, past_of, reply_laid, sent_of}
+use Rattle.slave.specs.Standing.{SlaveState}
+use Rattle.slave.proofs.SettlingLemmas.{settled}
+use Rattle.slave.proofs.StandingLemmas.{starts-no-list}
+use Rattle.std.proofs.lemmas.List.{drop-append-le, take-append-le}
+
+-- an allocation starts no list
+allocates-plain : (call : Command) → Allocates call → StartsNoList call
+allocates-plain FreeDaq h = elim h [ ]
+allocates-plain (AllocDaq n) h = tt
+allocates-plain (AllocOdt m n) h = tt
+allocates-plain (AllocOdtEntry m k n) h = tt
+allocates-plain (SetDaqPtr m k e) h = elim h [ ]
+allocates-plain (WriteDaq bit size ext addr) h = elim h [ ]
+allocates-plain (SetDaqListMode mode m channel prescaler priority) h = elim h [ ]
+allocates-plain (StartStopDaqList mode m) h = elim h [ ]
+allocates-plain (StartStopSynch mode) h = elim h [ ]
+allocates-plain (ClearDaqList m) h = elim h [ ]
+allocates-plain ReadDaq h = elim h [ ]
+
+out-starts-none : (d : Profile) (past : Past) (packet : List ℕ) (l : ℕ) → MayBeOut d past packet → starts d past packet l ≡ false
+out-starts-none d past packet l out =
+    ap (λ b. not (runs past l) && runs (if b then past_after_read d past packet (request d.base packet) else past_after_greeting past (request d.base packet)) l) out.connected
+    ∙ ap (λ r. not (runs past l) && runs (past_after_read d past packet r) l) out.read
+    ∙ other_call (lists_of d) past.calls out.call l (allocates-plain out.call out.allocates)
+
+not-and : (a : Bool) → (not a && a) ≡ false
+not-and true = refl
+not-and false = refl
+
+and_false : (b : Bool) → (b && false) ≡ false
+and_false true = refl
+and_false false = refl
+
+-- an exchange starts what its packet starts
+exchange-starts : (d : Profile) (past : Past) (x : Exchange) (b : Bool) → x.out_of_memory ≡ b → (b ≡ true → MayBeOut d past x.packet) → (l : ℕ)
+    → (not (runs past l) && runs (past_behind d past x) l) ≡ starts d past x.packet l
+exchange-starts d past x true is out l =
+    ap (λ b. not (runs past l) && runs (if b then past else past_after_packet d past x.packet) l) is ∙ not-and (runs past l) ∙ sym (out-starts-none d past x.packet l (out refl))
+exchange-starts d past x false is out l = ap (λ b. not (runs past l) && runs (if b then past else past_after_packet d past x.packet) l) is
+
+-- what was laid out stands behind all that waited
+pub more-laid : (o p : OutboxState) (x : Laid) (k : ℕ) (xs : List Laid) → LaysOut o p x → k ≤ length xs
+    → OutboxStandsAfter o (first k xs) (drop k xs) → OutboxStandsAfter p (first k (xs ++ x ∷ [])) (drop k (xs ++ x ∷ []))
+more-laid o p x k xs lays within stands =
+    subst (λ ys. OutboxStandsAfter p ys (drop k (xs ++ x ∷ []))) (sym (take-append-le k xs (x ∷ []) within))
+    (subst (λ ys. OutboxStandsAfter p (first k xs) ys) (sym (drop-append-le k xs (x ∷ []) within)) (lays (first k xs) (drop k xs) stands))
+
+-- a reply stands behind all that waited
+pub reply-laid : (o p : OutboxState) (reply : Option (List ℕ)) (k : ℕ) (xs : List Laid) → LaysReply o p reply → k ≤ length xs
+    → OutboxStandsAfter o (first k xs) (drop k xs) → OutboxStandsAfter p (first k (xs ++ reply_laid reply)) (drop k (xs ++ reply_laid reply))
+reply-laid o p None k xs lays within stands =
+    subst (λ ys. OutboxStandsAfter p (first k ys) (drop k ys)) (sym (append-nil xs)) (subst (λ z. OutboxStandsAfter z (first k xs) (drop k xs)) (sym lays) stands)
+reply-laid o p (Some packet) k xs lays within stands = more-laid o p _ k xs lays within stands
+
+module _ {S T F : Type 0} (take : TakeGhosts T F) where
+  -- a packet was answered
+  pub answered : (a b : SlaveState S T) (packet : List ℕ) (clock before now : ℕ) (reply : Option (List ℕ))
+      → Exchanges a.session b.session packet clock reply → b.session.profile ≡ a.session.profile
+      → ((past : Past) → SessionStandsAfter a.session past → (l : ℕ) → l < MAX_LISTS → has_list before l ≡ runs past l)
+      → ((past : Past) → SessionStandsAfter b.session past → (l : ℕ) → l < MAX_LISTS → has_list now l ≡ runs past l)
+      → Settles take a.channels b.channels before now → LaysReply a.outbox b.outbox reply → b.number ≡ a.number
+      → Answers take a b packet clock
+  answered a b packet clock before now reply exchanges profile was is settles lays number =
+      let x : Exchange = record { packet = packet; clock = clock; out_of_memory = exchanges.out_of_memory } in
+      let d = a.session.profile in
+      record {
+        exchange = x;
+        packet_is = refl;
+        clock_is = refl;
+        goes = λ log lists few tie has.
+            let past = past_of d log in
+            let (said, behind) = exchanges.answers past has.session in
+            let out = λ (h : exchanges.out_of_memory ≡ true). exchanges.only_where h past has.session in
+            let both = settled take d (Heard x) log lists before now a.channels b.channels few (record { deeds = λ m c. refl; none_opened = refl }) (out, has.is_log)
+            (λ c l below. ap (λ b. b && is_on d past c l) (exchange-starts d past x exchanges.out_of_memory refl out l ∙ sym (tie l below)))
+            (was past has.session) (is (past_behind d past x) behind) settles has.channels in
+            record {
+              has = record {
+                few = omega (arith, few);
+                is_log = (out, has.is_log);
+                sent = omega (arith, has.sent, length-append (laid d log) (reply_laid (reply_in d past x)));
+                profile = profile;
+                session = behind;
+                outbox =
+                    subst (λ r. OutboxStandsAfter b.outbox (first (sent_of log) (laid d log ++ reply_laid r)) (drop (sent_of log) (laid d log ++ reply_laid r))) said
+                    (reply-laid a.outbox b.outbox reply (sent_of log) (laid d log) lays has.sent has.outbox);
+                channels = λ c ch at. (both c ch at).0;
+                number = number ∙ has.number;
+              };
+              ended = λ none c ch at. (both c ch at).1 none;
+            };
+      }
+
+  -- the transport was lost
+  pub hung-up : (a b : SlaveState S T) (before : ℕ) → SessionStandsAfter b.session new_past → b.session.profile ≡ a.session.profile
+      → ((past : Past) → SessionStandsAfter a.session past → (l : ℕ) → l < MAX_LISTS → has_list before l ≡ runs past l)
+      → Settles take a.channels b.channels before 0 → b.outbox ≡ a.outbox → b.number ≡ a.number
+      → GoesBy take a b (HungUp ∷ [])
+  hung-up a b before fresh profile was settles outbox number = λ log few stands.
+      let d = a.session.profile in
+      let past = past_of d log in
+      let has = starts-no-list take d a log 0 (λ l below. empty_has_none l) stands.has in
+      let none : (l : ℕ) → runs new_past l ≡ false = λ l. and_false _ in
+      let both = settled take d HungUp log 0 before 0 a.channels b.channels (omega (arith, few)) (record { deeds = λ m c. refl; none_opened = refl }) has.is_log
+      (λ c l below. ap (λ b. (not (runs past l) && b) && is_on d past c l) (none l) ∙ ap (λ b. b && is_on d past c l) (and_false (not (runs past l))) ∙ sym (ap (λ b. b && is_on d past c l) (empty_has_none l)))
+      (was past has.session) (λ l below. empty_has_none l ∙ sym (none l)) settles has.channels in
+      record {
+        has = record {
+          few = omega (arith, few);
+          is_log = has.is_log;
+          sent = omega (arith, has.sent, length-append (laid d log) []);
+          profile = profile;
+          session = fresh;
+          outbox = subst (λ o. OutboxStandsAfter o (first (sent_of log) (laid d log ++ [])) (drop (sent_of log) (laid d log ++ []))) (sym outbox) (reply-laid a.outbox a.outbox None (sent_of log) (laid d log) refl has.sent has.outbox);
+          channels = λ c ch at. (both c ch at).0;
+          number = number ∙ has.number;
+        };
+        ended = λ quiet c ch at. (both c ch at).1 quiet;
+      }
+
+  -- the same, step by step
+  pub answered-by : (v w t b : SlaveState S T) (s : SessionState) (packet : List ℕ) (clock before now : ℕ) (reply : Option (List ℕ)) → w ≡ v
+      → Exchanges w.session s packet clock reply → s.profile ≡ w.session.profile
+      → ((past : Past) → SessionStandsAfter w.session past → (l : ℕ) → l < MAX_LISTS → has_list before l ≡ runs past l)
+      → ((past : Past) → SessionStandsAfter s past → (l : ℕ) → l < MAX_LISTS → has_list now l ≡ runs past l)
+      → Settles take w.channels t.channels before now → t ≡ record w { session = s; channels = t.channels }
+      → LaysReply t.outbox b.outbox reply → b ≡ record t { outbox = b.outbox } → Answers take v b packet clock
+  answered-by v w t b s packet clock before now reply same exchanges profile was is settles rest lays last =
+      let session : b.session ≡ s = ap (λ (x : SlaveState S T). x.session) last ∙ ap (λ (x : SlaveState S T). x.session) rest in
+      let channels : b.channels ≡ t.channels = ap (λ (x : SlaveState S T). x.channels) last in
+      let outbox : t.outbox ≡ w.outbox = ap (λ (x : SlaveState S T). x.outbox) rest in
+      let number : b.number ≡ w.number = ap (λ (x : SlaveState S T). x.number) last ∙ ap (λ (x : SlaveState S T). x.number) rest in
+      subst (λ (x : SlaveState S T). Answers take x b packet clock) same
+      (answered w b packet clock before now reply (subst (λ x. Exchanges w.session x packet clock reply) (sym session) exchanges)
+      (ap (λ (x : SessionState). x.profile) session ∙ profile) was
+      (subst (λ x. (past : Past) → SessionStandsAfter x past → (l : ℕ) → l < MAX_LISTS → has_list now l ≡ runs past l) (sym session) is)
+      (subst (λ xs. Settles take w.channels xs before now) (sym channels) settles) (subst (λ o. LaysReply o b.outbox reply) outbox lays) number)
+
+  pub hung-up-by : (v w t : SlaveState S T) (s : SessionState) (before : ℕ) → w ≡ v → SessionStandsAfter s new_past → s.profile ≡ w.session.profile
+      → ((past : Past) → SessionStandsAfter w.session past → (l : ℕ) → l < MAX_LISTS → has_list before l ≡ runs past l)
+      → Settles take w.channels t.channels before 0 → t ≡ record w { session = s; channels = t.channels } → GoesBy take v t (HungUp ∷ [])
+  hung-up-by v w t s before same fresh profile was settles rest =
+      let session : t.session ≡ s = ap (λ (x : SlaveState S T). x.session) rest in
+      subst (λ (x : SlaveState S T). GoesBy take x t (HungUp ∷ [])) same
+      (hung-up w t before (subst (λ x. SessionStandsAfter x new_past) (sym session) fresh) (ap (λ (x : SessionState). x.profile) session ∙ profile) was settles
+      (ap (λ (x : SlaveState S T). x.outbox) rest) (ap (λ (x : SlaveState S T). x.number) rest))

@@ -1,0 +1,56 @@
+-- A slave that was just opened.
+use Rattle.std.proofs.Common.{◌≡◌, ℕ, zero, suc, List, [], replicate, slice_get, refl, sym, ap, ◌∙◌, subst, arith}
+use Rattle.std.specs.Prelude.{Some, None}
+use Rattle.channel_ring.specs.declared.ends.TakeEnd.{Ghosts as TakeGhosts}
+use Rattle.daq_store.specs.Configuration.{Configuration}
+use Rattle.session.specs.Past.{new_past}
+use Rattle.session.specs.Standing.{SessionStandsAfter, SessionState}
+use Rattle.session.specs.declared.profile.Profile.{Profile}
+use Rattle.frame_outbox.specs.Outboxes.{OutboxState}
+use Rattle.frame_outbox.specs.Outboxes.{StandsAfter as OutboxStandsAfter}
+use Rattle.tasks.specs.Links.{takes_orders}
+use Rattle.slave_channel.specs.Channels.{ChannelState}
+use Rattle.slave_channels.specs.Calls.{no_measurement}
+use Rattle.slave.specs.Log.{deeds_of}
+use Rattle.slave.specs.Standing.{ChannelHas, SlaveStandsAfter}
+
+none_some : {X : Type 0} (x : X) → None ≡ Some x → ⊥
+none_some x e = cc
+
+some_same : {X : Type 0} (x y : X) → Some x ≡ Some y → y ≡ x
+some_same x y e = cc
+
+each-is : {X : Type 0} (n : ℕ) (x y : X) (c : ℕ) → slice_get (replicate n x) c ≡ Some y → y ≡ x
+each-is zero x y c at = absurd (none_some y at)
+each-is (suc n) x y zero at = some_same x y at
+each-is (suc n) x y (suc c) at = each-is n x y c at
+
+module _ {S T F : Type 0} (take : TakeGhosts T F) where
+  nothing-there : (d : Profile) (c : ℕ) → ChannelHas take {S = S} 0 (λ m. deeds_of d m c []) no_measurement
+  nothing-there d c = record {
+    newer = λ p is. absurd (none_some p is);
+    older = λ p is. absurd (none_some p is);
+    order = λ p q is at. absurd (none_some p is);
+    newest = λ on p is. absurd (none_some p is);
+    running = λ l below. refl;
+  }
+
+  -- it stands after nothing
+  pub new-stands : (d : Profile) (s : SessionState) (o : OutboxState) (channels : List (ChannelState S T)) (plan : List Configuration) (n : ℕ) → s.profile ≡ d → SessionStandsAfter s new_past → OutboxStandsAfter o [] []
+      → channels ≡ replicate n no_measurement
+      → SlaveStandsAfter take d (record { session = s; outbox = o; channels = channels; plan = plan; number = 0 }) []
+  new-stands d s o channels plan n profile session outbox all =
+      let is : (c : ℕ) (ch : ChannelState S T) → slice_get channels c ≡ Some ch → ch ≡ no_measurement = λ c ch at. each-is n no_measurement ch c (ap (λ xs. slice_get xs c) (sym all) ∙ at) in
+      record {
+        has = record {
+          few = omega arith;
+          is_log = tt;
+          sent = omega arith;
+          profile = profile;
+          session = session;
+          outbox = outbox;
+          channels = λ c ch at. subst (λ x. ChannelHas take 0 (λ m. deeds_of d m c []) x) (sym (is c ch at)) (nothing-there d c);
+          number = refl;
+        };
+        ended = λ none c ch at. ap (λ (x : ChannelState S T). takes_orders x.link.newer) (is c ch at);
+      }

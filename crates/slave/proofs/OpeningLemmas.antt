@@ -1,0 +1,109 @@
+-- A measurement is opened at an event channel.
+use Rattle.std.proofs.Common.{◌≡◌, ◌≢◌, ℕ, ◌+◌, ◌-◌, ◌<◌, Bool, true, false, ◌&&◌, List, [], refl, sym, ap, ◌∙◌, subst, arith, ◌⊎◌, inl, inr}
+use Rattle.std.specs.Prelude.{Option, Some, None}
+use Rattle.std.proofs.lemmas.Bool.Decides.{eqb_tells}
+use Rattle.xcp_base.specs.declared.limits.TheConstants.{MAX_LISTS}
+use Rattle.channel_ring.specs.declared.ends.SendEnd.{Ghosts as SendGhosts}
+use Rattle.channel_ring.specs.declared.ends.RingEnd.{Ghosts as EndGhosts}
+use Rattle.channel_ring.specs.declared.ends.TakeEnd.{Ghosts as TakeGhosts}
+use Rattle.channel_intake.specs.Deeds.{Deed}
+use Rattle.channel_intake.specs.Deeds.{runs as runs_there}
+use Rattle.channel_intake.specs.Intakes.{StandsAfter}
+use Rattle.daq_store.specs.Standing.{StoreState, shows_running}
+use Rattle.sampler.specs.History.{Opening, is_list_of, runs_after}
+use Rattle.sampler.specs.Past.{first_past}
+use Rattle.sampler.specs.State.{SamplerState, runs_in}
+use Rattle.sampler.proofs.Readers.{sampler-runs}
+use Rattle.daq_engine.specs.Opened.{IsOpenedAt}
+use Rattle.tasks.specs.Links.{is_running, takes_orders}
+use Rattle.slave_channel.specs.Channels.{ChannelState, Opens, ShareState, part_before}
+use Rattle.slave_channels.specs.Calls.{Ends, OpensIfAny}
+use Rattle.slave.specs.Standing.{ChannelHas}
+use Rattle.slave.proofs.ChannelLemmas.{channel-ends, channel-more, takes-ended}
+
+and_false : (b : Bool) → (b && false) ≡ false
+and_false true = refl
+and_false false = refl
+
+part-before : {T : Type 0} (older newer : Option (ShareState T)) (p : ShareState T) → part_before older newer ≡ Some p → (older ≡ Some p) ⊎ (newer ≡ Some p)
+part-before older None p is = inl is
+part-before older (Some q) p is = inr is
+
+module _ {S E T F : Type 0} (send : SendGhosts S E) (ring : EndGhosts E) (take : TakeGhosts T F) where
+  -- of a sampler that was just opened no list runs, where none runs in the store
+  opened-runs : (s : StoreState) (c cap : ℕ) (sampler : SamplerState S) (end : T) (opening : Opening) → IsOpenedAt send ring take s c cap sampler end opening
+      → (l : ℕ) → shows_running s l ≡ false → runs_in sampler l ≡ false
+  unfolding runs_after
+  opened-runs s c cap sampler end opening is l none =
+      sampler-runs send ring sampler (first_past opening) l is.stands
+      ∙ ap (λ b. is_list_of opening l && b) (is.of_store.running l ∙ ap (λ b. is_list_of opening l && b) none ∙ and_false (is_list_of opening l))
+      ∙ and_false (is_list_of opening l)
+
+  -- a part of measurement n is opened, of which nothing was done so far, where no list runs
+  pub channel-opens : (n : ℕ) (f : ℕ → List Deed) (a b : ChannelState S T) (s : StoreState) (c cap : ℕ) → Opens send ring take a b s c cap n → f n ≡ []
+      → ((l : ℕ) → l < MAX_LISTS → shows_running s l ≡ false) → ChannelHas take n f a → ChannelHas take (n + 1) f b
+  channel-opens n f a b s c cap opens none quiet has =
+      let share = opens.share in
+      let is-share : (p : ShareState T) → b.newer ≡ Some p → p ≡ share = λ p is. some_inj p share (sym is ∙ opens.newer) in
+      record {
+        newer = λ p is.
+            let same = is-share p is in
+            record {
+              there = omega (arith, ap (λ (x : ShareState T). x.number) same, opens.number_is);
+              stands =
+                  subst (λ (x : ShareState T). StandsAfter take x.intake (f x.number)) (sym same)
+                  (subst (StandsAfter take share.intake) (sym (ap f opens.number_is ∙ none)) opens.stands);
+            };
+        older = λ p is.
+            elim (part-before a.older a.newer p (sym opens.older ∙ is)) [
+              | inl was ↦
+                  let (part, less) = has.older p was in
+                  (record { there = omega (arith, part.there); stands = part.stands }, omega (arith, less))
+              | inr was ↦
+                  let part = has.newer p was in
+                  (record { there = omega (arith, part.there); stands = part.stands }, omega (arith, part.there))
+            ];
+        order = λ p q is at.
+            let last = ap (λ (x : ShareState T). x.number) (is-share q at) ∙ opens.number_is in
+            elim (part-before a.older a.newer p (sym opens.older ∙ is)) [
+              | inl was ↦ omega (arith, (has.older p was).1, last)
+              | inr was ↦ omega (arith, (has.newer p was).there, last)
+            ];
+        newest = λ takes p is. ap (λ k. k + 1) (ap (λ (x : ShareState T). x.number) (is-share p is) ∙ opens.number_is);
+        running = λ l below.
+            ap (λ o. is_running o l) opens.handed.newer ∙ opened-runs s c cap opens.sampler share.intake.end opens.opening opens.opened l (quiet l below)
+            ∙ sym (ap (λ ds. runs_there ds l) (ap f (back n) ∙ none));
+      } where
+        some_inj : {X : Type 0} (x y : X) → Some x ≡ Some y → x ≡ y
+        some_inj x y e = cc
+
+        back : (n : ℕ) → n + 1 - 1 ≡ n
+        back n = omega arith
+
+  -- the same, if there are lists of it
+  pub channel-opens-if : (n : ℕ) (f : ℕ → List Deed) (a b : ChannelState S T) (s : StoreState) (c cap set : ℕ) → OpensIfAny send ring take s n c cap set a b → f n ≡ []
+      → takes_orders a.link.newer ≡ false → ((l : ℕ) → l < MAX_LISTS → shows_running s l ≡ false) → ChannelHas take n f a → ChannelHas take (n + 1) f b
+  channel-opens-if n f a b s c cap set opens none off quiet has =
+      elim (eqb_tells set 0) [
+        | inl w ↦ subst (ChannelHas take (n + 1) f) (sym (opens.0 w.1)) (channel-more take n f a off none has)
+        | inr w ↦ channel-opens n f a b s c cap (opens.1 w.1) none quiet has
+      ]
+
+  -- the same, where it ends at once
+  pub channel-in-vain : (n : ℕ) (f : ℕ → List Deed) (a b : ChannelState S T) (s : StoreState) (c cap set : ℕ)
+      → ((b ≡ a) ⊎ ((set ≢ 0) × ((m : ChannelState S T) × Opens send ring take a m s c cap n × Ends m b)))
+      → f n ≡ [] → takes_orders a.link.newer ≡ false → ((l : ℕ) → l < MAX_LISTS → shows_running s l ≡ false) → ChannelHas take n f a
+      → ChannelHas take (n + 1) f b × (takes_orders b.link.newer ≡ false)
+  channel-in-vain n f a b s c cap set was none off quiet has =
+      elim was [
+        | inl same ↦ (
+          subst (ChannelHas take (n + 1) f) (sym same) (channel-more take n f a off none has),
+          ap (λ (x : ChannelState S T). takes_orders x.link.newer) same ∙ off,
+        )
+        | inr w ↦ (
+          channel-ends take (n + 1) f w.1.0 b w.1.2 (λ l below. ap (λ ds. runs_there ds l) (ap f (back n) ∙ none)) (channel-opens n f a w.1.0 s c cap w.1.1 none quiet has),
+          takes-ended take w.1.0 b w.1.2,
+        )
+      ] where
+        back : (n : ℕ) → n + 1 - 1 ≡ n
+        back n = omega arith

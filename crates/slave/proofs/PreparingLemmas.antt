@@ -1,0 +1,199 @@
+-- What a slave stands after once lists were started, or were not.
+use Rattle.std.proofs.Common.{◌≡◌, ℕ, zero, suc, ◌+◌, ◌-◌, ◌*◌, ◌%◌, ◌<◌, ◌≤◌, Bool, true, false, List, [], ◌∷◌, length, get_or, drop, take as first, slice_get, refl, sym, ap, ◌∙◌, subst, arith, inl, inr}
+use Rattle.std.specs.Prelude.{Some, IfErr, OnErr, OnOk, Result, Ok, Err}
+use Rattle.std.proofs.lemmas.List.{length-take}
+use Rattle.std.proofs.lemmas.Bool.{false≢true}
+use Rattle.xcp_base.specs.Lists.{has_list}
+use Rattle.xcp_base.specs.declared.err_code.ErrCode.{ErrCode}
+use Rattle.xcp_base.specs.declared.limits.TheConstants.{MAX_LISTS, MAX_TAKEN}
+use Rattle.channel_ring.specs.declared.ends.SendEnd.{Ghosts as SendGhosts}
+use Rattle.channel_ring.specs.declared.ends.RingEnd.{Ghosts as EndGhosts}
+use Rattle.channel_ring.specs.declared.ends.TakeEnd.{Ghosts as TakeGhosts}
+use Rattle.daq_store.specs.Standing.{StoreState}
+use Rattle.session.specs.Standing.{SessionStandsAfter, SessionState}
+use Rattle.session.specs.declared.profile.Profile.{Profile}
+use Rattle.frame_outbox.specs.Outboxes.{StandsAfter as OutboxStandsAfter}
+use Rattle.slave_channel.specs.Channels.{ChannelState}
+use Rattle.slave_channels.specs.Calls.{CanStartAll, Ends, Looks, OpensAt, OpenedAndEnded, StartsAt}
+use Rattle.slave_channels.specs.Each.{IsEach}
+use Rattle.slave.specs.Hearing.{IsStartRefusal}
+use Rattle.slave.specs.Inner.{AreSets, Idle, LooksAtAll, OpensAll, OpensInVain, OpensNone, Prepares, SlaveStarted, StartsInVain, StartsLists}
+use Rattle.slave.specs.Log.{Act, Opened, deeds_of, laid, opened, past_of, sent_of}
+use Rattle.slave.specs.Standing.{NoneRuns, SlaveHas, SlaveStandsAfter, SlaveState}
+use Rattle.slave.proofs.ChannelLemmas.{channel-ends, takes-ended}
+use Rattle.slave.proofs.LogLemmas.{ties}
+use Rattle.slave.proofs.StandingLemmas.{looks-at-all, looks-ended, opens-all, opens-in-vain, starts-all, starts-no-list, was-there}
+
+front-get : (n : ℕ) (xs : List ℕ) (c x : ℕ) → slice_get (first n xs) c ≡ Some x → slice_get xs c ≡ Some x
+front-get zero xs c x at = absurd (nothing at) where
+  nothing : slice_get (first zero xs) c ≡ Some x → ⊥
+  nothing at = cc
+front-get (suc n) [] c x at = at
+front-get (suc n) (y ∷ xs) zero x at = at
+front-get (suc n) (y ∷ xs) (suc c) x at = front-get n xs c x at
+
+-- the first sets are sets
+pub are-front : (s : SessionState) (lists : ℕ) (sets : List ℕ) (n : ℕ) → AreSets s lists sets → AreSets s lists (first n sets)
+are-front s lists sets n are = λ past stands c set at. are past stands c set (front-get n sets c set at)
+
+pub front-many : (n k m : ℕ) (xs : List ℕ) → n ≡ k → length xs ≡ m → k ≤ m → length (first n xs) ≡ k
+front-many n k m xs same many few = length-take n xs ∙ omega (arith, same, many, few)
+
+pub on-ok : {A B : Type 0} (r : Result A B) (P Q : Type 0) → (P → Q) → OnOk r P → OnOk r Q
+on-ok (Ok x) P Q f p = f p
+on-ok (Err e) P Q f p = p
+
+pub on-err : {A B : Type 0} (r : Result A B) (P Q : Type 0) → (P → Q) → OnErr r P → OnErr r Q
+on-err (Ok x) P Q f p = p
+on-err (Err e) P Q f p = f p
+
+pub if-err : {A B : Type 0} (r : Result A B) (P R : B → Type 0) (Q : Type 0) → IfErr r P → OnErr r Q → ((e : B) → P e → Q → R e) → IfErr r R
+if-err (Ok x) P R Q p q f = p
+if-err (Err e) P R Q p q f = f e p q
+
+is-false : (b : Bool) → (b ≡ true → ⊥) → b ≡ false
+is-false true never = absurd (never refl)
+is-false false never = refl
+
+module _ {S T : Type 0} where
+  pub looks-of : (v w : SlaveState S T) (x : List (ChannelState S T)) → w ≡ v → IsEach (λ c. Looks) w.channels x → LooksAtAll v (record w { channels = x })
+  looks-of v w x same looked = subst (λ (u : SlaveState S T). IsEach (λ c. Looks) u.channels x → LooksAtAll v (record u { channels = x })) (sym same) (λ l. record { channels = l; rest = refl }) looked
+
+module _ {S T F : Type 0} (take : TakeGhosts T F) where
+  pub starts-of : (v w : SlaveState S T) (m x : List (ChannelState S T)) (lists : ℕ) (sets : List ℕ) → w ≡ v → IsEach (λ c. Looks) w.channels m
+      → AreSets w.session lists sets → length sets ≡ length m → CanStartAll sets m → IsEach (StartsAt take sets) m x
+      → StartsLists take v (record w { channels = x }) lists
+  starts-of v w m x lists sets same looked are as_many can starts =
+      subst (λ (u : SlaveState S T). IsEach (λ c. Looks) u.channels m → AreSets u.session lists sets → StartsLists take v (record u { channels = x }) lists) (sym same)
+      (λ l a. record {
+        looked = record v { channels = m };
+        looks = record { channels = l; rest = refl };
+        sets = sets;
+        are = a;
+        as_many = as_many;
+        can = can;
+        starts = starts;
+        rest = refl;
+      }) looked are
+
+  -- each measurement ends, where no list runs
+  pub ends-all : (d : Profile) (a b : SlaveState S T) (log : List Act) → IsEach (λ c. Ends) a.channels b.channels → b ≡ record a { channels = b.channels } → NoneRuns (past_of d log)
+      → SlaveHas take d a log → SlaveStandsAfter take d b log
+  ends-all d a b log ends rest none has =
+      let session : b.session ≡ a.session = ap (λ (s : SlaveState S T). s.session) rest in
+      let outbox : b.outbox ≡ a.outbox = ap (λ (s : SlaveState S T). s.outbox) rest in
+      record {
+        has = record {
+          few = has.few;
+          is_log = has.is_log;
+          sent = has.sent;
+          profile = ap (λ (s : SessionState). s.profile) session ∙ has.profile;
+          session = subst (λ s. SessionStandsAfter s (past_of d log)) (sym session) has.session;
+          outbox = subst (λ o. OutboxStandsAfter o (first (sent_of log) (laid d log)) (drop (sent_of log) (laid d log))) (sym outbox) has.outbox;
+          channels = λ c ch at.
+              let old = get_or a.channels c ch in
+              let was = was-there a.channels b.channels c ch ends.as_many at in
+              channel-ends take (opened log) (λ m. deeds_of d m c log) old ch (ends.each c old ch was at)
+              (λ l below. is-false _ (λ runs_so. false≢true (sym (none l below) ∙ (ties d log has.is_log (opened log - 1) c l below runs_so).1)))
+              (has.channels c old was);
+          number = ap (λ (s : SlaveState S T). s.number) rest ∙ has.number;
+        };
+        ended = λ quiet c ch at.
+            let old = get_or a.channels c ch in
+            let was = was-there a.channels b.channels c ch ends.as_many at in
+            takes-ended take old ch (ends.each c old ch was at);
+      }
+
+  started-behind : (d : Profile) (a b : SlaveState S T) (log : List Act) (lists : ℕ) → 32 * (1 + length log) ≤ MAX_TAKEN → StartsLists take a b lists → SlaveHas take d a log → SlaveStarted take d b log lists
+  started-behind d a b log lists few s has =
+      starts-all take d s.looked b log lists s.sets few
+      (subst (λ x. AreSets x lists s.sets) (sym (ap (λ (z : SlaveState S T). z.session) s.looks.rest)) s.are) s.as_many s.can s.starts s.rest
+      (looks-at-all take d a s.looked log s.looks has)
+
+  -- lists of the measurement that is there are started
+  pub starts-prepare : (a b : SlaveState S T) (lists : ℕ) → StartsLists take a b lists → Prepares take a b lists
+  starts-prepare a b lists s = record {
+    opening = [];
+    may_open = inl refl;
+    goes = λ log few stands. started-behind a.session.profile a b log lists (omega (arith, few)) s stands.has;
+  }
+
+  pub none-prepare : (a : SlaveState S T) (lists : ℕ) → ((l : ℕ) → l < MAX_LISTS → has_list lists l ≡ false) → Prepares take a a lists
+  none-prepare a lists none = record {
+    opening = [];
+    may_open = inl refl;
+    goes = λ log few stands. starts-no-list take a.session.profile a log lists none stands.has;
+  }
+
+  -- lists are not started
+  pub looks-in-vain : (a b : SlaveState S T) (code : ErrCode) → IsStartRefusal code → LooksAtAll a b → StartsInVain take a b code
+  looks-in-vain a b code is looks = record {
+    is = is;
+    opening = [];
+    may_open = inl refl;
+    goes = λ log few stands. record {
+      has = looks-at-all take a.session.profile a b log looks stands.has;
+      ended = looks-ended take (past_of a.session.profile log) a b looks stands.ended;
+    };
+  }
+
+  pub unchanged-in-vain : (a b : SlaveState S T) (code : ErrCode) → IsStartRefusal code → b ≡ a → StartsInVain take a b code
+  unchanged-in-vain a b code is same = record {
+    is = is;
+    opening = [];
+    may_open = inl refl;
+    goes = λ log few stands. subst (λ s. SlaveStandsAfter take a.session.profile s log) (sym same) stands;
+  }
+
+module _ {S E T F : Type 0} (send : SendGhosts S E) (ring : EndGhosts E) (take : TakeGhosts T F) where
+  pub opens-of : (v w : SlaveState S T) (x : List (ChannelState S T)) (store : StoreState) (caps sets : List ℕ) → w ≡ v → store ≡ w.session.store → length caps ≡ length w.channels → length sets ≡ length w.channels
+      → IsEach (OpensAt send ring take store w.number caps sets) w.channels x
+      → OpensAll send ring take v (record w { channels = x; number = (w.number + 1) % 18446744073709551616 })
+  opens-of v w x store caps sets same st many_caps many_sets opens =
+      subst (λ (u : SlaveState S T). length caps ≡ length u.channels → length sets ≡ length u.channels → IsEach (OpensAt send ring take u.session.store u.number caps sets) u.channels x
+      → OpensAll send ring take v (record u { channels = x; number = (u.number + 1) % 18446744073709551616 })) (sym same)
+      (λ p q o. record { caps = caps; sets = sets; as_many_caps = p; as_many_sets = q; channels = o; rest = record { session = refl; outbox = refl; number = refl } }) many_caps many_sets (subst (λ z. IsEach (OpensAt send ring take z w.number caps sets) w.channels x) st opens)
+
+  pub vain-of : (v w : SlaveState S T) (x : List (ChannelState S T)) (store : StoreState) (caps sets : List ℕ) → w ≡ v → store ≡ w.session.store → length caps ≡ length w.channels → length sets ≡ length w.channels
+      → IsEach (OpenedAndEnded send ring take store w.number caps sets) w.channels x
+      → OpensInVain send ring take v (record w { channels = x; number = (w.number + 1) % 18446744073709551616 })
+  vain-of v w x store caps sets same st many_caps many_sets opens =
+      subst (λ (u : SlaveState S T). length caps ≡ length u.channels → length sets ≡ length u.channels → IsEach (OpenedAndEnded send ring take u.session.store u.number caps sets) u.channels x
+      → OpensInVain send ring take v (record u { channels = x; number = (u.number + 1) % 18446744073709551616 })) (sym same)
+      (λ p q o. record { caps = caps; sets = sets; as_many_caps = p; as_many_sets = q; channels = o; rest = record { session = refl; outbox = refl; number = refl } }) many_caps many_sets (subst (λ z. IsEach (OpenedAndEnded send ring take z w.number caps sets) w.channels x) st opens)
+
+  -- lists of a measurement that was opened are started
+  pub opens-prepare : (a m b : SlaveState S T) (lists : ℕ) → OpensAll send ring take a m → Idle a.session → StartsLists take m b lists → Prepares take a b lists
+  opens-prepare a m b lists opens idle s = record {
+    opening = Opened ∷ [];
+    may_open = inr refl;
+    goes = λ log few stands.
+        let d = a.session.profile in
+        started-behind take d m b (Opened ∷ log) lists (omega (arith, few)) s
+        (opens-all send ring take d a m log (omega (arith, few)) (idle (past_of d log) stands.has.session) stands opens);
+  }
+
+  pub none-in-vain : (a b : SlaveState S T) (code : ErrCode) → IsStartRefusal code → Idle a.session → OpensNone send ring take a b → StartsInVain take a b code
+  none-in-vain a b code is idle opens =
+      elim opens [
+        | inl same ↦ unchanged-in-vain take a b code is same
+        | inr vain ↦ record {
+          is = is;
+          opening = Opened ∷ [];
+          may_open = inr refl;
+          goes = λ log few stands. opens-in-vain send ring take a.session.profile a b log (omega (arith, few)) (idle (past_of a.session.profile log) stands.has.session) stands vain;
+        }
+      ]
+
+  pub ended-in-vain : (a m k b : SlaveState S T) (code : ErrCode) → IsStartRefusal code → Idle a.session → OpensAll send ring take a m → LooksAtAll m k
+      → IsEach (λ c. Ends) k.channels b.channels → b ≡ record k { channels = b.channels } → StartsInVain take a b code
+  ended-in-vain a m k b code is idle opens looks ends rest = record {
+    is = is;
+    opening = Opened ∷ [];
+    may_open = inr refl;
+    goes = λ log few stands.
+        let d = a.session.profile in
+        let none = idle (past_of d log) stands.has.session in
+        ends-all take d k b (Opened ∷ log) ends rest none
+        (looks-at-all take d m k (Opened ∷ log) looks (opens-all send ring take d a m log (omega (arith, few)) none stands opens));
+  }

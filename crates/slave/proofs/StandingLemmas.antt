@@ -1,0 +1,196 @@
+-- What a slave stands after once a measurement is opened, and once lists are started.
+use Rattle.std.proofs.Common.{◌≡◌, ◌≢◌, ℕ, ◌+◌, ◌*◌, ◌%◌, ◌<◌, ◌≤◌, Bool, true, false, ◌&&◌, not, nat_eq, if◌then◌else◌, List, [], ◌∷◌, ◌++◌, append-nil, length, get_or, drop, take as first, slice_get, refl, sym, ap, ◌∙◌, subst, arith, ◌⊎◌, inl}
+use Rattle.std.specs.Prelude.{Option, Some, None}
+use Rattle.std.proofs.lemmas.Bool.{false≢true}
+use Rattle.std.proofs.lemmas.List.Sums.{count_by-le-length}
+use Rattle.std.proofs.lemmas.Option.{slice_get-get_or, slice_get_within}
+use Rattle.xcp_base.specs.Lists.{has_list}
+use Rattle.xcp_base.specs.declared.limits.TheConstants.{MAX_LISTS, MAX_TAKEN}
+use Rattle.channel_ring.specs.declared.ends.SendEnd.{Ghosts as SendGhosts}
+use Rattle.channel_ring.specs.declared.ends.RingEnd.{Ghosts as EndGhosts}
+use Rattle.channel_ring.specs.declared.ends.TakeEnd.{Ghosts as TakeGhosts}
+use Rattle.daq_store.proofs.StandingLemmas.{active_stands}
+use Rattle.daq_store.specs.Standing.{shows_running}
+use Rattle.session.proofs.ListSetLemmas.{empty_has_none}
+use Rattle.session.specs.Past.{Past}
+use Rattle.session.specs.Standing.{SessionStandsAfter, SessionState}
+use Rattle.session.specs.Starts.{is_on}
+use Rattle.session.specs.declared.profile.Profile.{Profile}
+use Rattle.channel_intake.specs.Deeds.{Deed}
+use Rattle.frame_outbox.specs.Outboxes.{Laid}
+use Rattle.frame_outbox.specs.Outboxes.{StandsAfter as OutboxStandsAfter}
+use Rattle.tasks.specs.Links.{AwayState, CanStart, takes_orders}
+use Rattle.slave_channel.specs.Channels.{ChannelState, Opens}
+use Rattle.slave_channel.specs.Ordering.{starts_noted, starts_sent}
+use Rattle.slave_channels.specs.Calls.{CanStartAll, Ends, OpensIfAny, StartsAt}
+use Rattle.slave_channels.specs.Each.{IsEach}
+use Rattle.slave.specs.Inner.{AreSets, LooksAtAll, OpensAll, OpensBeside, OpensInVain, SlaveStarted, started}
+use Rattle.slave.specs.Log.{Act, Opened, deeds_of, is_opening, laid, opened, past_of, sent_of}
+use Rattle.slave.specs.Standing.{ChannelHas, HasEnded, NoneRuns, SlaveHas, SlaveStandsAfter, SlaveState}
+use Rattle.slave.proofs.ChannelLemmas.{channel-looks, channel-ordered, channel-same, takes-looked}
+use Rattle.slave.proofs.DeedLemmas.{deeds-few, deeds-none, opened-more, starts-few}
+use Rattle.slave.proofs.OpeningLemmas.{channel-in-vain, channel-opens-if}
+use Rattle.slave.proofs.OrderLemmas.{starts-none, starts-same, starts-set}
+
+-- what an element was
+pub was-there : {X : Type 0} (old now : List X) (c : ℕ) (b : X) → length now ≡ length old → slice_get now c ≡ Some b → slice_get old c ≡ Some (get_or old c b)
+was-there old now c b as_many at = slice_get-get_or old c b (omega (arith, slice_get_within now c b at, as_many))
+
+pub there-is : (xs : List ℕ) (n c : ℕ) → length xs ≡ n → c < n → slice_get xs c ≡ Some (get_or xs c 0)
+there-is xs n c as_many below = slice_get-get_or xs c 0 (omega (arith, as_many, below))
+
+few-opened : (log : List Act) → opened log ≤ length log
+few-opened log = count_by-le-length is_opening log
+
+one-more : (n k : ℕ) → n ≤ k → 32 * (1 + k) ≤ MAX_TAKEN → (n + 1) % 18446744073709551616 ≡ n + 1
+one-more n k least few = omega (arith, least, few)
+
+same-outbox : {S T : Type 0} (d : Profile) (a b : SlaveState S T) (log : List Act) → b.outbox ≡ a.outbox
+    → OutboxStandsAfter a.outbox (first (sent_of log) (laid d log)) (drop (sent_of log) (laid d log))
+    → OutboxStandsAfter b.outbox (first (sent_of log) (laid d log ++ [])) (drop (sent_of log) (laid d log ++ []))
+same-outbox d a b log same stands =
+    subst (λ xs. OutboxStandsAfter b.outbox (first (sent_of log) xs) (drop (sent_of log) xs)) (sym (append-nil (laid d log)))
+    (subst (λ o. OutboxStandsAfter o (first (sent_of log) (laid d log)) (drop (sent_of log) (laid d log))) (sym same) stands)
+
+none-shown : (s : SessionState) (past : Past) → SessionStandsAfter s past → NoneRuns past → (l : ℕ) → l < MAX_LISTS → shows_running s.store l ≡ false
+none-shown s past stands none l below = sym (active_stands s.store past.calls l stands.store) ∙ none l below
+
+module _ {S E T F : Type 0} (send : SendGhosts S E) (ring : EndGhosts E) (take : TakeGhosts T F) where
+  opened-rest : (d : Profile) (a b : SlaveState S T) (log : List Act) → 32 * (1 + length log) ≤ MAX_TAKEN → NoneRuns (past_of d log) → SlaveHas take d a log → OpensBeside a b
+      → ((c : ℕ) (ch : ChannelState S T) → slice_get b.channels c ≡ Some ch → ChannelHas take (opened log + 1) (λ m. deeds_of d m c log) ch)
+      → SlaveHas take d b (Opened ∷ log)
+  opened-rest d a b log few none has rest channels = record {
+    few = omega (arith, few);
+    is_log = (none, has.is_log);
+    sent = subst (λ (xs : List Laid). sent_of log ≤ length xs) (sym (append-nil (laid d log))) has.sent;
+    profile = ap (λ (s : SessionState). s.profile) rest.session ∙ has.profile;
+    session = subst (λ s. SessionStandsAfter s (past_of d log)) (sym rest.session) has.session;
+    outbox = same-outbox d a b log rest.outbox has.outbox;
+    channels = λ c ch at. subst (λ n. ChannelHas take n (λ m. deeds_of d m c log) ch) (omega (arith, opened-more log)) (channels c ch at);
+    number = rest.number ∙ ap (λ n. (n + 1) % 18446744073709551616) has.number ∙ one-more (opened log) (length log) (few-opened log) few ∙ omega (arith, opened-more log);
+  }
+
+  -- a measurement is opened
+  pub opens-all : (d : Profile) (a b : SlaveState S T) (log : List Act) → 32 * (1 + length log) ≤ MAX_TAKEN → NoneRuns (past_of d log) → SlaveStandsAfter take d a log → OpensAll send ring take a b → SlaveHas take d b (Opened ∷ log)
+  opens-all d a b log few none stands opens =
+      opened-rest d a b log few none stands.has opens.rest
+      (λ c ch at.
+      let old = get_or a.channels c ch in
+      let was = was-there a.channels b.channels c ch opens.channels.as_many at in
+      let below = slice_get_within a.channels c old was in
+      let one = opens.channels.each c old ch was at (get_or opens.caps c 0) (get_or opens.sets c 0) (there-is opens.caps (length a.channels) c opens.as_many_caps below) (there-is opens.sets (length a.channels) c opens.as_many_sets below) in
+      channel-opens-if send ring take (opened log) (λ m. deeds_of d m c log) old ch a.session.store c (get_or opens.caps c 0) (get_or opens.sets c 0)
+      (subst (λ n. OpensIfAny send ring take a.session.store n c (get_or opens.caps c 0) (get_or opens.sets c 0) old ch) stands.has.number one)
+      (deeds-none d (opened log) c log stands.has.is_log (omega arith)) (stands.ended none c old was) (none-shown a.session (past_of d log) stands.has.session none) (stands.has.channels c old was))
+
+  -- a measurement is opened in vain: it ends at once
+  pub opens-in-vain : (d : Profile) (a b : SlaveState S T) (log : List Act) → 32 * (1 + length log) ≤ MAX_TAKEN → NoneRuns (past_of d log) → SlaveStandsAfter take d a log → OpensInVain send ring take a b → SlaveStandsAfter take d b (Opened ∷ log)
+  opens-in-vain d a b log few none stands opens =
+      let both : (c : ℕ) (ch : ChannelState S T) → slice_get b.channels c ≡ Some ch → ChannelHas take (opened log + 1) (λ m. deeds_of d m c log) ch × (takes_orders ch.link.newer ≡ false) =
+      λ c ch at.
+      let old = get_or a.channels c ch in
+      let was = was-there a.channels b.channels c ch opens.channels.as_many at in
+      let below = slice_get_within a.channels c old was in
+      let cap_c = get_or opens.caps c 0 in
+      let set_c = get_or opens.sets c 0 in
+      let one = opens.channels.each c old ch was at cap_c set_c (there-is opens.caps (length a.channels) c opens.as_many_caps below) (there-is opens.sets (length a.channels) c opens.as_many_sets below) in
+      channel-in-vain send ring take (opened log) (λ m. deeds_of d m c log) old ch a.session.store c cap_c set_c
+      (subst (λ n. (ch ≡ old) ⊎ ((set_c ≢ 0) × ((m : ChannelState S T) × Opens send ring take old m a.session.store c cap_c n × Ends m ch))) stands.has.number one)
+      (deeds-none d (opened log) c log stands.has.is_log (omega arith)) (stands.ended none c old was) (none-shown a.session (past_of d log) stands.has.session none) (stands.has.channels c old was)
+      in
+      record {
+        has = opened-rest d a b log few none stands.has opens.rest (λ c ch at. (both c ch at).0);
+        ended = λ quiet c ch at. (both c ch at).1;
+      }
+
+has-some : (set l : ℕ) → has_list set l ≡ true → set ≢ 0
+has-some set l is = λ none. false≢true (sym (empty_has_none l) ∙ ap (λ s. has_list s l) (sym none) ∙ is)
+
+module _ {S T F : Type 0} (take : TakeGhosts T F) where
+  -- orders are looked at
+  pub looks-at-all : (d : Profile) (a b : SlaveState S T) (log : List Act) → LooksAtAll a b → SlaveHas take d a log → SlaveHas take d b log
+  looks-at-all d a b log looks has =
+      let session : b.session ≡ a.session = ap (λ (s : SlaveState S T). s.session) looks.rest in
+      let outbox : b.outbox ≡ a.outbox = ap (λ (s : SlaveState S T). s.outbox) looks.rest in
+      record {
+        few = has.few;
+        is_log = has.is_log;
+        sent = has.sent;
+        profile = ap (λ (s : SessionState). s.profile) session ∙ has.profile;
+        session = subst (λ s. SessionStandsAfter s (past_of d log)) (sym session) has.session;
+        outbox = subst (λ o. OutboxStandsAfter o (first (sent_of log) (laid d log)) (drop (sent_of log) (laid d log))) (sym outbox) has.outbox;
+        channels = λ c ch at.
+            let old = get_or a.channels c ch in
+            let was = was-there a.channels b.channels c ch looks.channels.as_many at in
+            channel-looks take (opened log) (λ m. deeds_of d m c log) old ch (looks.channels.each c old ch was at) (has.channels c old was);
+        number = ap (λ (s : SlaveState S T). s.number) looks.rest ∙ has.number;
+      }
+
+  pub looks-ended : (past : Past) (a b : SlaveState S T) → LooksAtAll a b → HasEnded a past → HasEnded b past
+  looks-ended past a b looks ended = λ none c ch at.
+      let old = get_or a.channels c ch in
+      let was = was-there a.channels b.channels c ch looks.channels.as_many at in
+      takes-looked take old ch (looks.channels.each c old ch was at) ∙ ended none c old was
+
+  -- a channel whose starts were checked takes orders, if there are some
+  can-takes : (a : Option (AwayState S)) (p : ℕ → Bool) → CanStart a p → takes_orders a ≡ true
+  can-takes None p can = elim can [ ]
+  can-takes (Some x) p can = ap not can.takes_orders
+
+  -- lists are started whose starts were checked
+  pub starts-all : (d : Profile) (a b : SlaveState S T) (log : List Act) (lists : ℕ) (sets : List ℕ) → 32 * (1 + length log) ≤ MAX_TAKEN
+      → AreSets a.session lists sets → length sets ≡ length a.channels → CanStartAll sets a.channels
+      → IsEach (StartsAt take sets) a.channels b.channels → b ≡ record a { channels = b.channels }
+      → SlaveHas take d a log → SlaveStarted take d b log lists
+  starts-all d a b log lists sets few are as_many can starts rest has =
+      let session : b.session ≡ a.session = ap (λ (s : SlaveState S T). s.session) rest in
+      let outbox : b.outbox ≡ a.outbox = ap (λ (s : SlaveState S T). s.outbox) rest in
+      record {
+        few = has.few;
+        is_log = has.is_log;
+        sent = has.sent;
+        profile = ap (λ (s : SessionState). s.profile) session ∙ has.profile;
+        session = subst (λ s. SessionStandsAfter s (past_of d log)) (sym session) has.session;
+        outbox = subst (λ o. OutboxStandsAfter o (first (sent_of log) (laid d log)) (drop (sent_of log) (laid d log))) (sym outbox) has.outbox;
+        channels = λ c ch at.
+            let old = get_or a.channels c ch in
+            let was = was-there a.channels b.channels c ch starts.as_many at in
+            let set = get_or sets c 0 in
+            let there = there-is sets (length a.channels) c as_many (slice_get_within a.channels c old was) in
+            let wanted = λ (l : ℕ). has_list lists l && is_on d (past_of d log) c l in
+            let same : (l : ℕ) → l < MAX_LISTS → has_list set l ≡ wanted l =
+            λ l below. are (past_of d log) has.session c set there l below ∙ ap (λ p. has_list lists l && is_on p (past_of d log) c l) has.profile in
+            let takes : (l : ℕ) → has_list set l ≡ true → takes_orders old.link.newer ≡ true =
+            λ l is. can-takes old.link.newer (has_list set) (can c set old there was (has-some set l is)) in
+            let ds = starts_noted (has_list set) MAX_LISTS in
+            channel-same take (opened log) _ (started d log lists c)
+            (λ m. ap (λ xs. if nat_eq (m + 1) (opened log) then xs ++ deeds_of d m c log else deeds_of d m c log) (starts-same MAX_LISTS (has_list set) wanted same)) ch
+            (channel-ordered take (opened log) (λ m. deeds_of d m c log) old ch (starts_sent (has_list set) MAX_LISTS) ds (has_list set) true (starts-set (has_list set))
+            (λ off. starts-none MAX_LISTS (has_list set) (λ l below. is-false (has_list set l) (λ is. false≢true (sym off ∙ takes l is))))
+            (λ l below is. inl (takes l is))
+            (λ m. omega (arith, deeds-few d m c log, starts-few (has_list set) MAX_LISTS, few))
+            (starts.each c old ch was at set there) (has.channels c old was));
+        number = ap (λ (s : SlaveState S T). s.number) rest ∙ has.number;
+      } where
+        is-false : (b : Bool) → (b ≡ true → ⊥) → b ≡ false
+        is-false true never = absurd (never refl)
+        is-false false never = refl
+
+  -- no list is started
+  pub starts-no-list : (d : Profile) (a : SlaveState S T) (log : List Act) (lists : ℕ) → ((l : ℕ) → l < MAX_LISTS → has_list lists l ≡ false) → SlaveHas take d a log → SlaveStarted take d a log lists
+  starts-no-list d a log lists none has = record {
+    few = has.few;
+    is_log = has.is_log;
+    sent = has.sent;
+    profile = has.profile;
+    session = has.session;
+    outbox = has.outbox;
+    channels = λ c ch at.
+        channel-same take (opened log) (λ m. deeds_of d m c log) (started d log lists c)
+        (λ m. sym (ap (λ xs. if nat_eq (m + 1) (opened log) then xs ++ deeds_of d m c log else deeds_of d m c log) (starts-none MAX_LISTS _ (λ l below. ap (λ b. b && is_on d (past_of d log) c l) (none l below)))
+        ∙ either (nat_eq (m + 1) (opened log)) (deeds_of d m c log))) ch (has.channels c ch at);
+    number = has.number;
+  } where
+    either : (b : Bool) (xs : List Deed) → (if b then [] ++ xs else xs) ≡ xs
+    either true xs = refl
+    either false xs = refl

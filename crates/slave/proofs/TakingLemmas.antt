@@ -1,0 +1,383 @@
+-- What a slave stands after once an item was taken.
+use Rattle.std.proofs.Common.{◌≡◌, ◌≢◌, ℕ, zero, suc, ◌+◌, ◌-◌, ◌<◌, ◌≤◌, Bool, true, false, ◌&&◌, nat_eq, if◌then◌else◌, List, [], ◌∷◌, ◌++◌, append-nil, length, length-append, drop, take as first, slice_get, refl, sym, ap, ◌∙◌, subst, arith, inl, inr}
+use Rattle.std.specs.Prelude.{Option, Some, None}
+use Rattle.std.proofs.lemmas.Bool.Decides.{eqb_tells}
+use Rattle.xcp_base.specs.declared.item.Item.{Item}
+use Rattle.xcp_base.specs.declared.item.Item.TheVariants.{Marker, Sample}
+use Rattle.channel_ring.specs.declared.ends.TakeEnd.{Ghosts as TakeGhosts}
+use Rattle.session.specs.Past.{Past}
+use Rattle.session.specs.Standing.{SessionStandsAfter, SessionState}
+use Rattle.channel_intake.specs.Deeds.{Deed, passes}
+use Rattle.channel_intake.specs.Deeds.{Took as TookItem}
+use Rattle.channel_intake.specs.Deeds.{runs as runs_there}
+use Rattle.channel_intake.specs.Intakes.{IntakeState, OnlyLooked, StandsAfter}
+use Rattle.channel_intake.specs.Steps.{Takes}
+use Rattle.channel_intake.specs.declared.step.Step.{Step}
+use Rattle.channel_intake.specs.declared.step.Step.TheVariants.{Full, Marked, Nothing, Skipped, Wrote}
+use Rattle.frame_outbox.specs.Outboxes.{Laid, LaysOut, OutboxState}
+use Rattle.frame_outbox.specs.Outboxes.{StandsAfter as OutboxStandsAfter}
+use Rattle.frame_outbox.specs.Taking.{TakesItem}
+use Rattle.tasks.specs.Links.{LinkState, is_running, takes_orders}
+use Rattle.slave_channel.specs.Channels.{ChannelState, ShareState, TakesOf}
+use Rattle.slave_channels.specs.Calls.{TakesFromNewer, TakesFromOlder}
+use Rattle.slave_channels.specs.Each.{IsOnlyAt}
+use Rattle.slave.specs.Hearing.{GoesBy}
+use Rattle.slave.specs.Log.{Act, Took, deeds_of, laid, laid_by, opened, past_of, sample_laid, sent_of}
+use Rattle.slave.specs.Standing.{ChannelHas, HasEnded, SlaveStandsAfter, SlaveState}
+use Rattle.slave.specs.Taking.{TakesItems, is_take}
+use Rattle.slave.proofs.AnsweringLemmas.{more-laid}
+use Rattle.slave.proofs.ChannelLemmas.{channel-same}
+use Rattle.frame_outbox.specs.declared.unit.Origin.TheVariants as origin
+use Rattle.std.specs.List.{list_all}
+use Rattle.std.proofs.lemmas.List.Folds.{list_all-append}
+use Rattle.slave.proofs.DeedLemmas.{deeds-few}
+use Rattle.slave.proofs.HearingLemmas.{assoc}
+
+some_inj : {X : Type 0} (x y : X) → Some x ≡ Some y → x ≡ y
+some_inj x y e = cc
+
+none_some : {X : Type 0} (x : X) → None ≡ Some x → ⊥
+none_some x e = cc
+
+-- the deeds of another measurement, or of another event channel, and those of this one
+took-here : (n c : ℕ) (x : Deed) (ds : List Deed) → (if nat_eq n n && nat_eq c c then x ∷ ds else ds) ≡ x ∷ ds
+took-here n c x ds = ap (λ b. if b && nat_eq c c then x ∷ ds else ds) (same n) ∙ ap (λ b. if b then x ∷ ds else ds) (same c) where
+  same : (k : ℕ) → nat_eq k k ≡ true
+  same k =
+      elim (eqb_tells k k) [
+        | inl w ↦ w.0
+        | inr w ↦ absurd (w.1 refl)
+      ]
+
+took-else : (n m k c : ℕ) (x : Deed) (ds : List Deed) → (n ≡ m → k ≡ c → ⊥) → (if nat_eq n m && nat_eq k c then x ∷ ds else ds) ≡ ds
+took-else n m k c x ds other =
+    elim (eqb_tells n m) [
+      | inl w ↦ ap (λ b. if b && nat_eq k c then x ∷ ds else ds) w.0 ∙ elim (eqb_tells k c) [
+        | inl v ↦ absurd (other w.1 v.1)
+        | inr v ↦ ap (λ b. if b then x ∷ ds else ds) v.0
+      ]
+      | inr w ↦ ap (λ b. if b && nat_eq k c then x ∷ ds else ds) w.0
+    ]
+
+took-runs : (b : Bool) (l : ℕ) (ds : List Deed) (x : Item) → runs_there (if b then TookItem x ∷ ds else ds) l ≡ runs_there ds l
+took-runs true l ds x = refl
+took-runs false l ds x = refl
+
+module _ {T F : Type 0} (take : TakeGhosts T F) where
+  looked-stands : (a b : IntakeState T) → OnlyLooked take a b → (deeds : List Deed) → StandsAfter take a deeds → StandsAfter take b deeds
+  looked-stands a b looked deeds stands = record {
+    few = stands.few;
+    received = looked.received ∙ stands.received;
+    lists = λ l below. ap (λ xs. slice_get xs l) looked.lists ∙ stands.lists l below;
+  }
+
+-- how a taken item changes what was done: an item of the newer part's ring, or none
+module _ {S T F : Type 0} (take : TakeGhosts T F) where
+  -- the newer part is another, which stands after what was done
+  channel-taken : (n : ℕ) (f g : ℕ → List Deed) (a b : ChannelState S T) (s t : ShareState T) → a.newer ≡ Some s → b ≡ record a { newer = b.newer } → b.newer ≡ Some t → t.number ≡ s.number
+      → StandsAfter take t.intake (g s.number) → ((m : ℕ) → m ≢ s.number → g m ≡ f m) → ((m l : ℕ) → runs_there (g m) l ≡ runs_there (f m) l)
+      → ChannelHas take n f a → ChannelHas take n g b
+  channel-taken n f g a b s t was rest is same stands others runs has =
+      let older : b.older ≡ a.older = ap (λ (x : ChannelState S T). x.older) rest in
+      let link = ap (λ (x : ChannelState S T). x.link) rest in
+      let number : (q : ShareState T) → b.newer ≡ Some q → q.number ≡ s.number = λ q at. ap (λ (x : ShareState T). x.number) (some_inj q t (sym at ∙ is)) ∙ same in
+      record {
+        newer = λ q at. record {
+          there = omega (arith, (has.newer s was).there, number q at);
+          stands = subst (λ (x : ShareState T). StandsAfter take x.intake (g x.number)) (some_inj t q (sym is ∙ at)) (subst (λ k. StandsAfter take t.intake (g k)) (sym same) stands);
+        };
+        older = λ p at.
+            let (part, less) = has.older p (sym older ∙ at) in
+            let before = has.order p s (sym older ∙ at) was in
+            (record { there = part.there; stands = subst (StandsAfter take p.intake) (sym (others p.number (λ e. omega (arith, e, before)))) part.stands }, less);
+        order = λ p q at last. omega (arith, has.order p s (sym older ∙ at) was, number q last);
+        newest = λ on q at. ap (λ k. k + 1) (number q at) ∙ has.newest (ap (λ (x : LinkState S). takes_orders x.newer) (sym link) ∙ on) s was;
+        running = λ l below. ap (λ (x : LinkState S). is_running x.newer l) link ∙ has.running l below ∙ sym (runs (n - 1) l);
+      }
+
+  -- the older part is another, which stands after what was done
+  channel-taken-older : (n : ℕ) (f g : ℕ → List Deed) (a b : ChannelState S T) (s t : ShareState T) → a.older ≡ Some s → b ≡ record a { older = b.older } → b.older ≡ Some t → t.number ≡ s.number
+      → StandsAfter take t.intake (g s.number) → ((m : ℕ) → m ≢ s.number → g m ≡ f m) → ((m l : ℕ) → runs_there (g m) l ≡ runs_there (f m) l)
+      → ChannelHas take n f a → ChannelHas take n g b
+  channel-taken-older n f g a b s t was rest is same stands others runs has =
+      let newer : b.newer ≡ a.newer = ap (λ (x : ChannelState S T). x.newer) rest in
+      let link = ap (λ (x : ChannelState S T). x.link) rest in
+      let number : (q : ShareState T) → b.older ≡ Some q → q.number ≡ s.number = λ q at. ap (λ (x : ShareState T). x.number) (some_inj q t (sym at ∙ is)) ∙ same in
+      record {
+        newer = λ q at.
+            let part = has.newer q (sym newer ∙ at) in
+            let behind = has.order s q was (sym newer ∙ at) in
+            record { there = part.there; stands = subst (StandsAfter take q.intake) (sym (others q.number (λ e. omega (arith, e, behind)))) part.stands };
+        older = λ q at.
+            let (part, less) = has.older s was in (
+              record {
+                there = omega (arith, part.there, number q at);
+                stands = subst (λ (x : ShareState T). StandsAfter take x.intake (g x.number)) (some_inj t q (sym is ∙ at)) (subst (λ k. StandsAfter take t.intake (g k)) (sym same) stands);
+              },
+              omega (arith, less, number q at),
+            );
+        order = λ p q at last. omega (arith, has.order s q was (sym newer ∙ last), number p at);
+        newest = λ on q at. has.newest (ap (λ (x : LinkState S). takes_orders x.newer) (sym link) ∙ on) q (sym newer ∙ at);
+        running = λ l below. ap (λ (x : LinkState S). is_running x.newer l) link ∙ has.running l below ∙ sym (runs (n - 1) l);
+      }
+
+  -- where one event channel changed, and what waits
+  pub record ChangesAt (a b : SlaveState S T) (c : ℕ) (x y : ChannelState S T) : Type 0 where
+    pub was : slice_get a.channels c ≡ Some x
+    pub is : slice_get b.channels c ≡ Some y
+    pub others : (k : ℕ) → k ≢ c → slice_get b.channels k ≡ slice_get a.channels k
+    pub quiet : takes_orders x.link.newer ≡ false → takes_orders y.link.newer ≡ false
+    pub session : b.session ≡ a.session
+    pub number : b.number ≡ a.number
+
+  -- what waits behind an act, where what was there stands so
+  abbrev pub LaysBehind : SlaveState S T → SlaveState S T → Act → ℕ → IntakeState T → Type 0
+  LaysBehind a b act c i =
+      (log : List Act) → ((m : ℕ) (x : Item) → act ≡ Took m c x → StandsAfter take i (deeds_of a.session.profile m c log)) → sent_of log ≤ length (laid a.session.profile log)
+      → OutboxStandsAfter a.outbox (first (sent_of log) (laid a.session.profile log)) (drop (sent_of log) (laid a.session.profile log))
+      → OutboxStandsAfter b.outbox (first (sent_of log) (laid a.session.profile log ++ laid_by a.session.profile act log))
+      (drop (sent_of log) (laid a.session.profile log ++ laid_by a.session.profile act log))
+
+  -- the channels behind a change at one of them
+  channels-changed : (n : ℕ) (f g : ℕ → ℕ → List Deed) (a b : SlaveState S T) (c : ℕ) (x y : ChannelState S T) → ChangesAt a b c x y
+      → ((k m : ℕ) → k ≢ c → g k m ≡ f k m) → ChannelHas take n (g c) y
+      → ((k : ℕ) (ch : ChannelState S T) → slice_get a.channels k ≡ Some ch → ChannelHas take n (f k) ch)
+      → (k : ℕ) (ch : ChannelState S T) → slice_get b.channels k ≡ Some ch → ChannelHas take n (g k) ch
+  channels-changed n f g a b c x y changes same here has k ch at =
+      elim (eqb_tells k c) [
+        | inl w ↦
+            let is-y : y ≡ ch = some_inj y ch (sym changes.is ∙ ap (slice_get b.channels) (sym w.1) ∙ at) in
+            subst (λ (z : ChannelState S T). ChannelHas take n (g k) z) is-y (subst (λ j. ChannelHas take n (g j) y) (sym w.1) here)
+        | inr w ↦ channel-same take n (f k) (g k) (λ m. sym (same k m w.1)) ch (has k ch (sym (changes.others k w.1) ∙ at))
+      ]
+
+  ended-changed : (a b : SlaveState S T) (c : ℕ) (x y : ChannelState S T) (past : Past) → ChangesAt a b c x y → HasEnded a past → HasEnded b past
+  ended-changed a b c x y past changes ended = λ none k ch at.
+      elim (eqb_tells k c) [
+        | inl w ↦
+            let is-y : y ≡ ch = some_inj y ch (sym changes.is ∙ ap (slice_get b.channels) (sym w.1) ∙ at) in
+            ap (λ (z : ChannelState S T). takes_orders z.link.newer) (sym is-y) ∙ changes.quiet (ended none c x changes.was)
+        | inr w ↦ ended none k ch (sym (changes.others k w.1) ∙ at)
+      ]
+
+  -- the part with number m at an event channel, whose intake i is then j
+  pub record IsPart (x y : ChannelState S T) (m : ℕ) (i j : IntakeState T) : Type 0 where
+    pub part : (n : ℕ) (f : ℕ → List Deed) → ChannelHas take n f x → (m < n) × StandsAfter take i (f m)
+    pub goes :
+        (n : ℕ) (f g : ℕ → List Deed) → StandsAfter take j (g m) → ((k : ℕ) → k ≢ m → g k ≡ f k) → ((k l : ℕ) → runs_there (g k) l ≡ runs_there (f k) l)
+        → ChannelHas take n f x → ChannelHas take n g y
+
+  newer-part : (x y : ChannelState S T) (s t : ShareState T) → x.newer ≡ Some s → y ≡ record x { newer = y.newer } → y.newer ≡ Some t → t.number ≡ s.number → IsPart x y s.number s.intake t.intake
+  newer-part x y s t was rest is same = record {
+    part = λ n f has. ((has.newer s was).there, (has.newer s was).stands);
+    goes = λ n f g stands others runs has. channel-taken n f g x y s t was rest is same stands others runs has;
+  }
+
+  older-part : (x y : ChannelState S T) (s t : ShareState T) → x.older ≡ Some s → y ≡ record x { older = y.older } → y.older ≡ Some t → t.number ≡ s.number → IsPart x y s.number s.intake t.intake
+  older-part x y s t was rest is same = record {
+    part = λ n f has. ((has.older s was).0.there, (has.older s was).0.stands);
+    goes = λ n f g stands others runs has. channel-taken-older n f g x y s t was rest is same stands others runs has;
+  }
+
+  -- an item of a part was taken
+  pub took-item : (a b : SlaveState S T) (c : ℕ) (x y : ChannelState S T) (m : ℕ) (i j : IntakeState T) (item : Item) → ChangesAt a b c x y → IsPart x y m i j
+      → Takes take i j item → LaysBehind a b (Took m c item) c i → GoesBy take a b (Took m c item ∷ [])
+  took-item a b c x y m i j item changes part takes lays = λ log few stands.
+      let d = a.session.profile in
+      let n = opened log in
+      let ds = deeds_of d m c log in
+      let has = stands.has in
+      let (there, before) = part.part n (λ k. deeds_of d k c log) (has.channels c x changes.was) in
+      let after = takes.goes_on ds (omega (arith, deeds-few d m c log, few)) before in
+      let here : ChannelHas take n (λ k. deeds_of d k c (Took m c item ∷ log)) y =
+      part.goes n (λ k. deeds_of d k c log) (λ k. deeds_of d k c (Took m c item ∷ log))
+      (subst (StandsAfter take j) (sym (took-here m c (TookItem item) ds)) after)
+      (λ k other. took-else m k c c (TookItem item) (deeds_of d k c log) (λ e z. other (sym e)))
+      (λ k l. took-runs (nat_eq m k && nat_eq c c) l (deeds_of d k c log) item) (has.channels c x changes.was) in
+      record {
+        has = record {
+          few = omega (arith, few);
+          is_log = (there, has.is_log);
+          sent = omega (arith, has.sent, length-append (laid d log) (laid_by d (Took m c item) log));
+          profile = ap (λ (z : SessionState). z.profile) changes.session;
+          session = subst (λ z. SessionStandsAfter z (past_of d log)) (sym changes.session) has.session;
+          outbox = lays log (λ k z e. subst (λ q. StandsAfter take i (deeds_of d q c log)) (number_of e) before) has.sent has.outbox;
+          channels = channels-changed n (λ k q. deeds_of d q k log) (λ k q. deeds_of d q k (Took m c item ∷ log)) a b c x y changes
+              (λ k q other. took-else m q c k (TookItem item) (deeds_of d q k log) (λ e z. other (sym z))) here has.channels;
+          number = changes.number ∙ has.number;
+        };
+        ended = ended-changed a b c x y (past_of d log) changes stands.ended;
+      } where
+        number_of : {k : ℕ} {z : Item} → Took m c item ≡ Took k c z → m ≡ k
+        number_of e = cc
+
+  -- nothing was taken
+  pub took-none : (a b : SlaveState S T) (c : ℕ) (x y : ChannelState S T) (P : Type 0) → ChangesAt a b c x y → b.outbox ≡ a.outbox
+      → ((log : List Act) → SlaveStandsAfter take a.session.profile a log → P) → ((n : ℕ) (f : ℕ → List Deed) → P → ChannelHas take n f x → ChannelHas take n f y) → GoesBy take a b []
+  took-none a b c x y P changes outbox known same = λ log few stands.
+      let d = a.session.profile in
+      let has = stands.has in
+      record {
+        has = record {
+          few = has.few;
+          is_log = has.is_log;
+          sent = has.sent;
+          profile = ap (λ (z : SessionState). z.profile) changes.session;
+          session = subst (λ z. SessionStandsAfter z (past_of d log)) (sym changes.session) has.session;
+          outbox = subst (λ o. OutboxStandsAfter o (first (sent_of log) (laid d log)) (drop (sent_of log) (laid d log))) (sym outbox) has.outbox;
+          channels = channels-changed (opened log) (λ k m. deeds_of d m k log) (λ k m. deeds_of d m k log) a b c x y changes (λ k m other. refl)
+              (same (opened log) (λ m. deeds_of d m c log) (known log stands) (has.channels c x changes.was)) has.channels;
+          number = changes.number ∙ has.number;
+        };
+        ended = ended-changed a b c x y (past_of d log) changes stands.ended;
+      }
+
+  -- what waits stays as it is where nothing is laid out, and gains a sample where one passes
+  lays-none : (a b : SlaveState S T) (act : Act) (c : ℕ) (i : IntakeState T) → b.outbox ≡ a.outbox
+      → ((log : List Act) → ((m : ℕ) (x : Item) → act ≡ Took m c x → StandsAfter take i (deeds_of a.session.profile m c log)) → laid_by a.session.profile act log ≡ []) → LaysBehind a b act c i
+  lays-none a b act c i same none = λ log there few stands.
+      let d = a.session.profile in
+      let all : laid d log ++ laid_by d act log ≡ laid d log = ap (λ xs. laid d log ++ xs) (none log there) ∙ append-nil (laid d log) in
+      subst (λ xs. OutboxStandsAfter b.outbox (first (sent_of log) xs) (drop (sent_of log) xs)) (sym all)
+      (subst (λ o. OutboxStandsAfter o (first (sent_of log) (laid d log)) (drop (sent_of log) (laid d log))) (sym same) stands)
+
+  lays-one : (a b : SlaveState S T) (act : Act) (c : ℕ) (i : IntakeState T) (y : Laid) → LaysOut a.outbox b.outbox y
+      → ((log : List Act) → ((m : ℕ) (x : Item) → act ≡ Took m c x → StandsAfter take i (deeds_of a.session.profile m c log)) → laid_by a.session.profile act log ≡ y ∷ []) → LaysBehind a b act c i
+  lays-one a b act c i y lays one = λ log there few stands.
+      let d = a.session.profile in
+      subst (λ xs. OutboxStandsAfter b.outbox (first (sent_of log) (laid d log ++ xs)) (drop (sent_of log) (laid d log ++ xs))) (sym (one log there))
+      (more-laid a.outbox b.outbox y (sent_of log) (laid d log) lays few stands)
+
+  -- by what became of the next item
+  taken-step : (a b : SlaveState S T) (c : ℕ) (x y : ChannelState S T) (m : ℕ) (i j : IntakeState T) → ChangesAt a b c x y → length b.channels ≡ length a.channels → IsPart x y m i j
+      → (step : Step) → TakesItem take i j a.outbox b.outbox m step → TakesItems take a b
+  taken-step a b c x y m i j changes many part Nothing (looked, known, out) = record {
+    acts = [];
+    are = refl;
+    session = changes.session;
+    as_many = many;
+    goes = took-none a b c x y (Unit {0}) changes out (λ log z. tt) (λ n f u has. part.goes n f f (looked-stands take i j looked (f m) (part.part n f has).1) (λ k o. refl) (λ k l. refl) has);
+  }
+  taken-step a b c x y m i j changes many part Full (p, looked, known, passes, room, out) = record {
+    acts = [];
+    are = refl;
+    session = changes.session;
+    as_many = many;
+    goes = took-none a b c x y (Unit {0}) changes out (λ log z. tt) (λ n f u has. part.goes n f f (looked-stands take i j looked (f m) (part.part n f has).1) (λ k o. refl) (λ k l. refl) has);
+  }
+  taken-step a b c x y m i j changes many part (Marked l) (mark, takes, list, out) = record {
+    acts = Took m c (Marker mark) ∷ [];
+    are = refl;
+    session = changes.session;
+    as_many = many;
+    goes = took-item a b c x y m i j (Marker mark) changes part takes (lays-none a b (Took m c (Marker mark)) c i out (λ log there. refl));
+  }
+  taken-step a b c x y m i j changes many part (Skipped l) (p, takes, list, held, out) = record {
+    acts = Took m c (Sample p) ∷ [];
+    are = refl;
+    session = changes.session;
+    as_many = many;
+    goes = took-item a b c x y m i j (Sample p) changes part takes
+        (lays-none a b (Took m c (Sample p)) c i out
+        (λ log there. ap (λ z. sample_laid z m p) (held (deeds_of a.session.profile m c log) (there m (Sample p) refl))));
+  }
+  taken-step a b c x y m i j changes many part (Wrote l end) (p, takes, list, passes, lays) = record {
+    acts = Took m c (Sample p) ∷ [];
+    are = refl;
+    session = changes.session;
+    as_many = many;
+    goes = took-item a b c x y m i j (Sample p) changes part takes
+        (lays-one a b (Took m c (Sample p)) c i (record { origin = origin.Sample m p.list; packets = p.packets })
+        (subst (λ k. LaysOut a.outbox b.outbox (record { origin = origin.Sample m k; packets = p.packets })) list lays)
+        (λ log there. ap (λ z. sample_laid z m p) (passes (deeds_of a.session.profile m c log) (there m (Sample p) refl))));
+  }
+
+  -- of the newer part, and of the older, if they are there
+  taken-newer : (a b : SlaveState S T) (c : ℕ) (x y : ChannelState S T) (step : Step) → ChangesAt a b c x y → length b.channels ≡ length a.channels → y ≡ record x { newer = y.newer }
+      → (u v : Option (ShareState T)) → x.newer ≡ u → y.newer ≡ v → TakesOf take u v a.outbox b.outbox step → TakesItems take a b
+  taken-newer a b c x y step changes many rest None None was is (none, out) = record {
+    acts = [];
+    are = refl;
+    session = changes.session;
+    as_many = many;
+    goes = took-none a b c x y (Unit {0}) changes out (λ log z. tt) (λ n f u has. subst (ChannelHas take n f) (sym (rest ∙ ap (λ z. record x { newer = z }) (is ∙ sym was))) has);
+  }
+  taken-newer a b c x y step changes many rest None (Some t) was is takes = elim takes [ ]
+  taken-newer a b c x y step changes many rest (Some s) None was is takes = elim takes [ ]
+  taken-newer a b c x y step changes many rest (Some s) (Some t) was is (same, takes) = taken-step a b c x y s.number s.intake t.intake changes many (newer-part x y s t was rest is same) step takes
+
+  taken-older : (a b : SlaveState S T) (c : ℕ) (x y : ChannelState S T) (step : Step) → ChangesAt a b c x y → length b.channels ≡ length a.channels → y ≡ record x { older = y.older }
+      → (u v : Option (ShareState T)) → x.older ≡ u → y.older ≡ v → TakesOf take u v a.outbox b.outbox step → TakesItems take a b
+  taken-older a b c x y step changes many rest None None was is (none, out) = record {
+    acts = [];
+    are = refl;
+    session = changes.session;
+    as_many = many;
+    goes = took-none a b c x y (Unit {0}) changes out (λ log z. tt) (λ n f u has. subst (ChannelHas take n f) (sym (rest ∙ ap (λ z. record x { older = z }) (is ∙ sym was))) has);
+  }
+  taken-older a b c x y step changes many rest None (Some t) was is takes = elim takes [ ]
+  taken-older a b c x y step changes many rest (Some s) None was is takes = elim takes [ ]
+  taken-older a b c x y step changes many rest (Some s) (Some t) was is (same, takes) = taken-step a b c x y s.number s.intake t.intake changes many (older-part x y s t was rest is same) step takes
+
+pub some-at : {X : Type 0} (xs : List X) (c : ℕ) → c < length xs → (x : X) × (slice_get xs c ≡ Some x)
+some-at [] c below = absurd (omega (arith, below))
+some-at (x ∷ xs) zero below = (x, refl)
+some-at (x ∷ xs) (suc c) below = some-at xs c (omega (arith, below))
+
+module _ {S T F : Type 0} (take : TakeGhosts T F) where
+  -- the next item of the newest measurement at an event channel was taken, if there was one
+  pub took-one : (v w : SlaveState S T) (xs : List (ChannelState S T)) (o : OutboxState) (c : ℕ) (step : Step) → w ≡ v → c < length w.channels
+      → IsOnlyAt (TakesFromNewer take w.outbox o step) c w.channels xs → TakesItems take v (record w { outbox = o; channels = xs })
+  took-one v w xs o c step same below only =
+      let (x, was) = some-at w.channels c below in
+      let (y, is) = some-at xs c (omega (arith, below, only.as_many)) in
+      let one = only.here x y was is in
+      let b : SlaveState S T = record w { outbox = o; channels = xs } in
+      let changes : ChangesAt take w b c x y = record {
+        was = was;
+        is = is;
+        others = only.others;
+        quiet = λ off. ap (λ (z : ChannelState S T). takes_orders z.link.newer) one.rest ∙ off;
+        session = refl;
+        number = refl;
+      } in
+      subst (λ (z : SlaveState S T). TakesItems take z b) same
+      (taken-newer take w b c x y step changes only.as_many one.rest x.newer y.newer refl refl one.takes)
+
+  -- the next item of the measurement before it was taken, if there was one
+  pub took-older : (v w : SlaveState S T) (xs : List (ChannelState S T)) (o : OutboxState) (c : ℕ) (step : Step) → w ≡ v → c < length w.channels
+      → IsOnlyAt (TakesFromOlder take w.outbox o step) c w.channels xs → TakesItems take v (record w { outbox = o; channels = xs })
+  took-older v w xs o c step same below only =
+      let (x, was) = some-at w.channels c below in
+      let (y, is) = some-at xs c (omega (arith, below, only.as_many)) in
+      let one = only.here x y was is in
+      let b : SlaveState S T = record w { outbox = o; channels = xs } in
+      let changes : ChangesAt take w b c x y = record {
+        was = was;
+        is = is;
+        others = only.others;
+        quiet = λ off. ap (λ (z : ChannelState S T). takes_orders z.link.newer) one.rest ∙ off;
+        session = refl;
+        number = refl;
+      } in
+      subst (λ (z : SlaveState S T). TakesItems take z b) same
+      (taken-older take w b c x y step changes only.as_many one.rest x.older y.older refl refl one.takes)
+
+  pub takes-nothing : (a : SlaveState S T) → TakesItems take a a
+  takes-nothing a = record { acts = []; are = refl; session = refl; as_many = refl; goes = λ log few stands. stands }
+
+  -- items were taken, and then others
+  pub takes-more : (a m b : SlaveState S T) → TakesItems take a m → TakesItems take m b → TakesItems take a b
+  takes-more a m b one two = record {
+    acts = two.acts ++ one.acts;
+    are = list_all-append is_take two.acts one.acts ∙ ap (λ z. z && list_all is_take one.acts) two.are ∙ one.are;
+    session = two.session ∙ one.session;
+    as_many = two.as_many ∙ one.as_many;
+    goes = λ log few stands.
+        let split = length-append two.acts one.acts in
+        let profile = ap (λ (s : SessionState). s.profile) one.session in
+        let first_stands = one.goes log (omega (arith, few, split)) stands in
+        subst (λ xs. SlaveStandsAfter take a.session.profile b xs) (sym (assoc two.acts one.acts log))
+        (subst (λ p. SlaveStandsAfter take p b (two.acts ++ (one.acts ++ log))) profile
+        (two.goes (one.acts ++ log) (omega (arith, few, split, length-append one.acts log)) (subst (λ p. SlaveStandsAfter take p m (one.acts ++ log)) (sym profile) first_stands)));
+  }

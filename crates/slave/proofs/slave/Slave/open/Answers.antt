@@ -1,0 +1,19 @@
+use Rattle.std.proofs.Common.{◌≡◌, length, ap, ◌∙◌, arith}
+use Rattle.std.proofs.lemmas.List.{length-replicate}
+use Rattle.slave.proofs.NewLemmas.{new-stands}
+use Rattle.slave.proofs.slave.Slave.open.Goals as goal
+
+pub invariant_of-slave : goal.invariant_of-slave
+invariant_of-slave g c =
+    let many : length c.in-Ok-new-2.channels ≡ c.len.result = ap length c.in-Ok-new-2.ensures.channels ∙ length-replicate c.len.result _ in
+    omega (arith, many, c.len.ensures)
+
+pub returns-clause-stands : goal.returns-clause-stands
+returns-clause-stands g c =
+    new-stands g.R.Take.TakeEnd c.args.profile c.in-Ok-open.session c.in-Ok-new.outbox c.in-Ok-new-2.channels c.none.result _ c.in-Ok-open.ensures.profile c.in-Ok-open.ensures.fresh c.in-Ok-new.ensures.stands
+    c.in-Ok-new-2.ensures.channels
+
+pub returns-clause-channels : goal.returns-clause-channels
+returns-clause-channels g c =
+    let many : length c.in-Ok-new-2.channels ≡ c.len.result = ap length c.in-Ok-new-2.ensures.channels ∙ length-replicate c.len.result _ in
+    omega (arith, many, c.len.ensures, c.in-Ok.ensures.many, ap length c.deref.ensures.value)

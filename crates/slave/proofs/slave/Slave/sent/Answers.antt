@@ -1,0 +1,6 @@
+use Rattle.std.proofs.Common.{refl}
+use Rattle.slave.proofs.SendingLemmas.{sent-of}
+use Rattle.slave.proofs.slave.Slave.sent.Goals as goal
+
+pub returns-clause-sends : goal.returns-clause-sends
+returns-clause-sends g c = sent-of g.R.Take.TakeEnd c.args.self.now _ c.sent.new.self _ c.self.view_is refl c.sent.ensures.stands

@@ -1,0 +1,10 @@
+use Rattle.std.proofs.Common.{◌<◌, length, ap, subst, sym}
+use Rattle.slave.proofs.FinishingLemmas.{gives-older}
+use Rattle.slave.proofs.slave.Slave.take_older.Goals as goal
+
+pub returns : goal.returns
+returns g c = record {
+  back =
+      gives-older g.R.Send.SendEnd g.R.Send.End.RingEnd g.R.Take.TakeEnd c.args.self.now _ c.take_older.new.self c.args.c c.take_older.result c.self.view_is
+      (subst (λ xs. c.args.c < length xs) (sym (ap (λ s. s.channels) c.self.view_is)) c.requires.channel) c.take_older.ensures.back;
+}

@@ -1,0 +1,152 @@
+-- What no public clause cites: parts of what a slave does with a packet.
+use Rattle.std.specs.Prelude.{◌≡◌, ℕ, ◌+◌, ◌*◌, ◌%◌, ◌<◌, ◌≤◌, ◌⊎◌, ◌&&◌, not, Bool, true, false}
+use Rattle.std.specs.Prelude.{List, [], ◌∷◌}
+use Rattle.std.specs.Prelude.{◌++◌, length, slice_get, if◌then◌else◌, Option, Some, None}
+use Rattle.xcp_base.specs.Lists.{has_list}
+use Rattle.xcp_base.specs.declared.err_code.ErrCode.{ErrCode}
+use Rattle.xcp_base.specs.declared.limits.TheConstants.{MAX_LISTS, MAX_TAKEN}
+use Rattle.channel_ring.specs.declared.ends.SendEnd.{Ghosts as SendGhosts}
+use Rattle.channel_ring.specs.declared.ends.RingEnd.{Ghosts as EndGhosts}
+use Rattle.channel_ring.specs.declared.ends.TakeEnd.{Ghosts as TakeGhosts}
+use Rattle.session.specs.Past.{Past}
+use Rattle.session.specs.Standing.{SessionStandsAfter, SessionState}
+use Rattle.session.specs.Exchanges.{Exchange}
+use Rattle.session.specs.Starts.{is_on, starts}
+use Rattle.session.specs.declared.profile.Profile.{Profile}
+use Rattle.channel_intake.specs.Deeds.{Deed}
+use Rattle.frame_outbox.specs.Outboxes.{LaysOut, OutboxState}
+use Rattle.frame_outbox.specs.declared.unit.Origin.TheVariants as origin
+use Rattle.slave_channel.specs.Channels.{ChannelState}
+use Rattle.slave_channel.specs.Ordering.{starts_noted}
+use Rattle.slave_channels.specs.Calls.{CanStartAll, Ends, Looks, OpensAt, OpenedAndEnded}
+use Rattle.slave_channels.specs.Calls.{StartsAt, StopsAll}
+use Rattle.slave_channels.specs.Each.{IsEach}
+use Rattle.slave.specs.Hearing.{GoesBy, IsStartRefusal, MayOpen}
+use Rattle.slave.specs.Log.{Act, Heard, deeds_of, is_newest, past_of}
+use Rattle.slave.specs.Standing.{NoneRuns, SlaveStandsAfter, SlaveState, StandsBy}
+
+-- those of the lists that are ready, and whose modes name event channel c: so at each place of the
+-- sets
+abbrev pub AreSets : SessionState → ℕ → List ℕ → Type 0
+AreSets s lists sets =
+    (past : Past) → SessionStandsAfter s past
+    → (c set : ℕ) → slice_get sets c ≡ Some set
+    → (l : ℕ) → l < MAX_LISTS
+    → has_list set l ≡ (has_list lists l && is_on s.profile past c l)
+
+-- those of the lists whose modes name event channel c were started there, beside what was done so
+-- far
+abbrev pub started : Profile → List Act → ℕ → ℕ → ℕ → List Deed
+started d log lists c m =
+    if is_newest m log
+    then
+    starts_noted (λ l. has_list lists l && is_on d (past_of d log) c l) MAX_LISTS
+    ++ deeds_of d m c log
+    else deeds_of d m c log
+
+-- a reply is laid out, if there is one
+abbrev pub LaysReply : OutboxState → OutboxState → Option (List ℕ) → Type 0
+LaysReply a b None = b ≡ a
+LaysReply a b (Some packet) =
+    LaysOut a b (record { origin = origin.Reply; packets = packet ∷ [] })
+
+-- no list runs
+abbrev pub Idle : SessionState → Type 0
+Idle s = (past : Past) → SessionStandsAfter s past → NoneRuns past
+
+module _ {S T : Type 0} where
+  -- the orders of the tasks were looked at
+  pub record LooksAtAll (a b : SlaveState S T) : Type 0 where
+    pub channels : IsEach (λ c. Looks) a.channels b.channels
+    pub rest : b ≡ record a { channels = b.channels }
+
+  -- beside the event channels, one measurement more was opened
+  pub record OpensBeside (a b : SlaveState S T) : Type 0 where
+    pub session : b.session ≡ a.session
+    pub outbox : b.outbox ≡ a.outbox
+    pub number : b.number ≡ (a.number + 1) % 18446744073709551616
+
+module _ {S T F : Type 0} (take : TakeGhosts T F) where
+  -- the lists were started
+  abbrev pub SlaveStarted : Profile → SlaveState S T → List Act → ℕ → Type 0
+  SlaveStarted d s log lists = StandsBy take (started d log lists) d s log
+
+  -- the lists that ran before and don't now were stopped where they run; and where none runs now,
+  -- each measurement ended
+  pub record Settles (a b : List (ChannelState S T)) (before now : ℕ) : Type 0 where
+    pub lists : ℕ
+    pub are :
+        (l : ℕ) → l < MAX_LISTS → has_list lists l ≡ (has_list before l && not (has_list now l))
+    pub ends : Bool
+    pub yes : ends ≡ true → (l : ℕ) → l < MAX_LISTS → has_list now l ≡ false
+    pub always : ((l : ℕ) → l < MAX_LISTS → has_list now l ≡ false) → ends ≡ true
+    pub stopped : List (ChannelState S T)
+    pub stops : IsEach (λ c. StopsAll take lists) a stopped
+    pub goes_on : ends ≡ false → b ≡ stopped
+    pub ends_all : ends ≡ true → IsEach (λ c. Ends) stopped b
+
+  -- starts of the lists were ordered
+  pub record StartsLists (a b : SlaveState S T) (lists : ℕ) : Type 0 where
+    pub looked : SlaveState S T
+    pub looks : LooksAtAll a looked
+    pub sets : List ℕ
+    pub are : AreSets a.session lists sets
+    pub as_many : length sets ≡ length looked.channels
+    pub can : CanStartAll sets looked.channels
+    pub starts : IsEach (StartsAt take sets) looked.channels b.channels
+    pub rest : b ≡ record looked { channels = b.channels }
+
+  -- lists were started, in a measurement that may have been opened
+  pub record Prepares (a b : SlaveState S T) (lists : ℕ) : Type 0 where
+    pub opening : List Act
+    pub may_open : MayOpen opening
+    pub goes :
+        (log : List Act) → 32 * (1 + length opening + length log) ≤ MAX_TAKEN
+        → SlaveStandsAfter take a.session.profile a log
+        → SlaveStarted a.session.profile b (opening ++ log) lists
+
+  -- lists were not started; a measurement may have been opened, and ended at once
+  pub record StartsInVain (a b : SlaveState S T) (code : ErrCode) : Type 0 where
+    pub is : IsStartRefusal code
+    pub opening : List Act
+    pub may_open : MayOpen opening
+    pub goes : GoesBy take a b opening
+
+  -- a packet was answered whose lists were started
+  pub record Answers (a b : SlaveState S T) (packet : List ℕ) (clock : ℕ) : Type 0 where
+    pub exchange : Exchange
+    pub packet_is : exchange.packet ≡ packet
+    pub clock_is : exchange.clock ≡ clock
+    pub goes :
+        (log : List Act) (lists : ℕ) → 32 * (1 + length log) ≤ MAX_TAKEN
+        → ((l : ℕ) → l < MAX_LISTS
+        → has_list lists l ≡ starts a.session.profile (past_of a.session.profile log) packet l)
+        → SlaveStarted a.session.profile a log lists
+        → SlaveStandsAfter take a.session.profile b (Heard exchange ∷ log)
+
+module _ {S E T F : Type 0} (send : SendGhosts S E) (ring : EndGhosts E) (take : TakeGhosts T F)
+  where
+    -- a measurement was opened at all event channels
+    pub record OpensAll (a b : SlaveState S T) : Type 0 where
+      pub caps : List ℕ
+      pub sets : List ℕ
+      pub as_many_caps : length caps ≡ length a.channels
+      pub as_many_sets : length sets ≡ length a.channels
+      pub channels :
+          IsEach (OpensAt send ring take a.session.store a.number caps sets) a.channels b.channels
+      pub rest : OpensBeside a b
+
+    -- the same, where it ended at once
+    pub record OpensInVain (a b : SlaveState S T) : Type 0 where
+      pub caps : List ℕ
+      pub sets : List ℕ
+      pub as_many_caps : length caps ≡ length a.channels
+      pub as_many_sets : length sets ≡ length a.channels
+      pub channels :
+          IsEach (OpenedAndEnded send ring take a.session.store a.number caps sets)
+          a.channels b.channels
+      pub rest : OpensBeside a b
+
+    -- a measurement was not opened, or in vain
+    abbrev pub OpensNone : SlaveState S T → SlaveState S T → Type 0
+    OpensNone a b = (b ≡ a) ⊎ OpensInVain a b

@@ -1,0 +1,16 @@
+-- What follows from the definitions (own).
+use Rattle.std.specs.Prelude.{◌≡◌, ℕ, ◌+◌, ◌<◌, true, List}
+use Rattle.xcp_base.specs.declared.limits.TheConstants.{MAX_LISTS}
+use Rattle.session.specs.Starts.{runs}
+use Rattle.session.specs.declared.profile.Profile.{Profile}
+use Rattle.channel_intake.specs.Deeds.{passes}
+use Rattle.slave.specs.Log.{Act, deeds_of, opened, past_of}
+use Rattle.slave.specs.Standing.{IsLog}
+
+-- a sample that is laid out is of the newest measurement, and its list runs: so it stands behind
+-- the reply to the start of the list, and before that to its stop
+abbrev pub NothingOutsideARun : Type 0
+NothingOutsideARun =
+    (d : Profile) (log : List Act) → IsLog d log
+    → (m c l : ℕ) → l < MAX_LISTS → passes (deeds_of d m c log) l ≡ true
+    → (m + 1 ≡ opened log) × (runs (past_of d log) l ≡ true)

@@ -1,0 +1,140 @@
+-- What a slave did, and what follows of it: the past of its session, what was done at each event
+-- channel, and the frames that were laid out (own).
+use Rattle.std.specs.Prelude.{ℕ, ◌+◌, Bool, true, false, ◌&&◌, not, nat_eq, if◌then◌else◌}
+use Rattle.std.specs.Prelude.{List, [], ◌∷◌, ◌++◌, count_by, sum_by, Option, Some, None, Err}
+use Rattle.xcp_base.specs.Samples.{SampleParts}
+use Rattle.xcp_base.specs.declared.err_code.ErrCode.{ErrCode}
+use Rattle.xcp_base.specs.declared.item.Item.{Item}
+use Rattle.xcp_base.specs.declared.item.Item.TheVariants.{Marker, Sample}
+use Rattle.xcp_base.specs.declared.limits.TheConstants.{MAX_LISTS}
+use Rattle.session.specs.Exchanges.{Exchange, past_behind, reply_in}
+use Rattle.session.specs.Fields.{packet_of}
+use Rattle.session.specs.Past.{Past, new_past}
+use Rattle.session.specs.Starts.{is_on, runs}
+use Rattle.session.specs.declared.profile.Profile.{Profile}
+use Rattle.channel_intake.specs.Deeds.{Deed, passes}
+use Rattle.channel_intake.specs.Deeds.{Took as TookItem}
+use Rattle.channel_intake.specs.Deeds.{runs as runs_there}
+use Rattle.frame_outbox.specs.Outboxes.{Laid}
+use Rattle.frame_outbox.specs.declared.unit.Origin.TheVariants as origin
+use Rattle.slave_channel.specs.Ordering.{starts_noted, stops_noted}
+
+-- a packet was answered by the session; a start was refused by the slave, with an error code, and
+-- changed nothing; a measurement was opened; an item was taken off the ring that event channel c
+-- has in measurement m; so many of the replies and samples that waited were sent, the oldest first;
+-- or the transport was lost
+pub data Act : Type 0 where
+  Heard : (x : Exchange) → Act
+  Refused : (packet : List ℕ) (code : ErrCode) → Act
+  Opened : Act
+  Took : (m c : ℕ) (x : Item) → Act
+  Sent : (n : ℕ) → Act
+  HungUp : Act
+
+-- In each definition below the log has the acts so far, the newest first.
+
+abbrev pub is_opening : Act → Bool
+is_opening (Heard x) = false
+is_opening (Refused packet code) = false
+is_opening Opened = true
+is_opening (Took m c x) = false
+is_opening (Sent n) = false
+is_opening HungUp = false
+
+abbrev pub sent_by : Act → ℕ
+sent_by (Heard x) = 0
+sent_by (Refused packet code) = 0
+sent_by Opened = 0
+sent_by (Took m c x) = 0
+sent_by (Sent n) = n
+sent_by HungUp = 0
+
+-- how many measurements were opened: the newest has the number before this one
+abbrev pub opened : List Act → ℕ
+opened log = count_by is_opening log
+
+-- how many of the replies and samples that were laid out were sent
+abbrev pub sent_of : List Act → ℕ
+sent_of log = sum_by sent_by log
+
+-- the session's past behind an act
+abbrev pub past_by : Profile → Act → Past → Past
+past_by d (Heard x) past = past_behind d past x
+past_by d (Refused packet code) past = past
+past_by d Opened past = past
+past_by d (Took m c x) past = past
+past_by d (Sent n) past = past
+past_by d HungUp past = new_past
+
+abbrev pub past_of : Profile → List Act → Past
+past_of d [] = new_past
+past_of d (act ∷ log) = past_by d act (past_of d log)
+
+-- list l runs behind the act and not before it; and the other way round
+abbrev pub starts_at : Profile → Act → List Act → ℕ → Bool
+starts_at d act log l = not (runs (past_of d log) l) && runs (past_of d (act ∷ log)) l
+
+abbrev pub stops_at : Profile → Act → List Act → ℕ → Bool
+stops_at d act log l = runs (past_of d log) l && not (runs (past_of d (act ∷ log)) l)
+
+-- the lists that an act starts whose mode names event channel c
+abbrev pub starts_on : Profile → ℕ → Act → List Act → ℕ → Bool
+starts_on d c act log l = starts_at d act log l && is_on d (past_of d log) c l
+
+-- of an event channel's part of the newest measurement, where these are its deeds so far: they and
+-- the starts of its lists; and the stops of those that then run
+abbrev pub with_starts : Profile → ℕ → Act → List Act → List Deed → List Deed
+with_starts d c act log deeds = starts_noted (starts_on d c act log) MAX_LISTS ++ deeds
+
+abbrev pub with_stops : Profile → Act → List Act → List Deed → List Deed
+with_stops d act log deeds =
+    stops_noted (λ l. stops_at d act log l && runs_there deeds l) MAX_LISTS ++ deeds
+
+abbrev pub ordered_by : Profile → ℕ → Act → List Act → List Deed → List Deed
+ordered_by d c act log deeds = with_stops d act log (with_starts d c act log deeds)
+
+-- measurement m is the newest
+abbrev pub is_newest : ℕ → List Act → Bool
+is_newest m log = nat_eq (m + 1) (opened log)
+
+-- what was done with the ring that event channel c has in measurement m: the orders of the acts
+-- while the measurement was the newest, and the items that were taken
+abbrev pub deeds_of : Profile → ℕ → ℕ → List Act → List Deed
+deeds_of d m c [] = []
+deeds_of d m c (Heard x ∷ log) =
+    if is_newest m log then ordered_by d c (Heard x) log (deeds_of d m c log)
+    else deeds_of d m c log
+deeds_of d m c (Refused packet code ∷ log) = deeds_of d m c log
+deeds_of d m c (Opened ∷ log) = deeds_of d m c log
+deeds_of d m c (Took n k x ∷ log) =
+    if nat_eq n m && nat_eq k c then TookItem x ∷ deeds_of d m c log else deeds_of d m c log
+deeds_of d m c (Sent n ∷ log) = deeds_of d m c log
+deeds_of d m c (HungUp ∷ log) =
+    if is_newest m log then ordered_by d c HungUp log (deeds_of d m c log)
+    else deeds_of d m c log
+
+-- a reply, if there is one
+abbrev pub reply_laid : Option (List ℕ) → List Laid
+reply_laid None = []
+reply_laid (Some packet) = record { origin = origin.Reply; packets = packet ∷ [] } ∷ []
+
+-- a sample of measurement m, if it passes
+abbrev pub sample_laid : Bool → ℕ → SampleParts → List Laid
+sample_laid false m s = []
+sample_laid true m s = record { origin = origin.Sample m s.list; packets = s.packets } ∷ []
+
+-- what an act lays out: a reply, or a sample whose list runs there and that is not from before a
+-- stop of it
+abbrev pub laid_by : Profile → Act → List Act → List Laid
+laid_by d (Heard x) log = reply_laid (reply_in d (past_of d log) x)
+laid_by d (Refused packet code) log = reply_laid (Some (packet_of (Err code)))
+laid_by d Opened log = []
+laid_by d (Took m c (Sample s)) log = sample_laid (passes (deeds_of d m c log) s.list) m s
+laid_by d (Took m c (Marker k)) log = []
+laid_by d (Sent n) log = []
+laid_by d HungUp log = []
+
+-- the replies and samples that were laid out, oldest first
+abbrev pub laid : Profile → List Act → List Laid
+laid d [] = []
+laid d (act ∷ log) = laid d log ++ laid_by d act log

@@ -1,0 +1,24 @@
+-- What a slave does with the items of its rings (own).
+use Rattle.std.specs.Prelude.{◌≡◌, Bool, true, false, List, length}
+use Rattle.std.specs.List.{list_all}
+use Rattle.channel_ring.specs.declared.ends.TakeEnd.{Ghosts as TakeGhosts}
+use Rattle.slave.specs.Hearing.{GoesBy}
+use Rattle.slave.specs.Log.{Act, Heard, HungUp, Opened, Refused, Sent, Took}
+use Rattle.slave.specs.Standing.{SlaveState}
+
+abbrev pub is_take : Act → Bool
+is_take (Heard x) = false
+is_take (Refused packet code) = false
+is_take Opened = false
+is_take (Took m c x) = true
+is_take (Sent n) = false
+is_take HungUp = false
+
+module _ {S T F : Type 0} (take : TakeGhosts T F) where
+  -- items were taken, if there were some
+  pub record TakesItems (a b : SlaveState S T) : Type 0 where
+    pub acts : List Act
+    pub are : list_all is_take acts ≡ true
+    pub session : b.session ≡ a.session
+    pub as_many : length b.channels ≡ length a.channels
+    pub goes : GoesBy take a b acts

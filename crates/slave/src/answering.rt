@@ -1,0 +1,70 @@
+//! A packet is answered: the lists that it stops are stopped, and the reply is laid out.
+ghost use Rattle.std.specs.Prelude.{◌≡◌, [], ◌∷◌, true, Err, Some};
+ghost use Rattle.frame_outbox.specs.Outboxes.{has_room};
+ghost use Rattle.session.specs.Fields.{packet_of};
+ghost use Rattle.slave.specs.Hearing.{GoesBy};
+ghost use Rattle.slave.specs.Inner.{Answers, LaysReply, Settles};
+ghost use Rattle.slave.specs.Log.{HungUp};
+
+use crate::sets::{but, is_empty};
+use crate::slave::Slave;
+use daq_engine::Ring;
+use session::Cto;
+use xcp_base::ErrCode;
+
+impl<R: Ring> Slave<R> {
+    /// Answers a packet whose lists were started.
+    pub(crate) fn answer(&mut self, packet: &[u8], clock: u32)
+        requires room { has_room self.old.outbox ≡ true }
+        ensures answers { Answers R.Take.TakeEnd self.old self.new packet.now clock }
+        ensures profile_stays { self.new.session.profile ≡ self.old.session.profile }
+    {
+        let before = self.session.running();
+        let reply = self.session.answer(packet, clock);
+        let now = self.session.running();
+        self.settle(before, now);
+        self.lay(reply);
+    }
+
+    /// Lays the refusal of a start out.
+    pub(crate) fn refuse(&mut self, code: ErrCode)
+        requires room { has_room self.old.outbox ≡ true }
+        ensures lays { LaysReply self.old.outbox self.new.outbox (Some (packet_of (Err code))) }
+        ensures rest_stays { self.new ≡ record self.old { outbox = self.new.outbox } }
+    {
+        let _ = self.outbox.reply(&[0xFE, code.byte()]);
+    }
+
+    /// Stops the lists that ran before and don't now, and ends the measurement where none runs.
+    fn settle(&mut self, before: u16, now: u16)
+        ensures settles { Settles R.Take.TakeEnd self.old.channels self.new.channels before now }
+        ensures rest_stays { self.new ≡ record self.old { channels = self.new.channels } }
+    {
+        self.channels.stop_all(but(before, now));
+        if is_empty(now) {
+            self.channels.end();
+        }
+    }
+
+    /// Lays a reply out, if there is one.
+    fn lay(&mut self, reply: Option<Cto>)
+        requires room { has_room self.old.outbox ≡ true }
+        ensures lays { LaysReply self.old.outbox self.new.outbox reply }
+        ensures rest_stays { self.new ≡ record self.old { outbox = self.new.outbox } }
+    {
+        if let Some(reply) = reply {
+            let _ = self.outbox.reply(reply.as_slice());
+        }
+    }
+
+    /// The transport was lost: all DAQ lists stop and are given up, and no master is connected. So
+    /// it is after DISCONNECT, but nothing is replied. What waits to be sent waits on.
+    pub fn hang_up(&mut self)
+        ensures hangs_up { GoesBy R.Take.TakeEnd self.old self.new (HungUp ∷ []) }
+        ensures profile_stays { self.new.session.profile ≡ self.old.session.profile }
+    {
+        let before = self.session.running();
+        self.session.hang_up();
+        self.settle(before, 0);
+    }
+}

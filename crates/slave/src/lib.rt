@@ -1,0 +1,16 @@
+//! An XCP slave: a master connects to it, and starts and stops measurements while tasks run (own).
+#![tactic(auto)]
+
+mod answering;
+mod finishing;
+mod hearing;
+pub mod laws;
+mod opening;
+mod plan;
+mod sending;
+mod sets;
+mod slave;
+mod starting;
+
+pub use opening::OpenFault;
+pub use slave::Slave;

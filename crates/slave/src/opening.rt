@@ -1,0 +1,89 @@
+ghost use Rattle.std.specs.Prelude.{◌≡◌, [], IfOk, OnOk, None, Some, length, replicate};
+ghost use Rattle.session.specs.Profiles.{profile_fault};
+ghost use Rattle.slave.specs.Standing.{SlaveStandsAfter};
+ghost use Rattle.slave_channels.specs.Calls.{no_sampler};
+
+use crate::plan::Plan;
+use crate::slave::Slave;
+use daq_engine::Ring;
+use frame_outbox::Outbox;
+use session::{EventChannel, Profile, ProfileFault, Session};
+use slave_channels::Channels;
+use std::alloc::{AllocError, Global};
+use tasks::Task;
+use thiserror::Error;
+
+/// Why a slave was not opened.
+#[derive(Clone, Copy, Debug, PartialEq, Eq, Error)]
+pub enum OpenFault {
+    /// The profile is out of a limit.
+    #[error("{0}")]
+    Profile(ProfileFault),
+    /// A ring of this kind may not have one of the capacities: the profile names another kind.
+    #[error("a ring of this kind may not have one of the capacities")]
+    Capacity,
+    /// There is no memory.
+    #[error("there is no memory")]
+    Memory,
+}
+
+/// The capacities of event channels.
+fn capacities(alloc: Global, events: &[EventChannel]) -> Result<Vec<usize>, AllocError>
+    ensures many { IfOk result (λ caps. length caps.items ≡ length events.now) }
+{
+    let mut caps = Vec::new(alloc);
+    for c in 0..events.len() {
+        caps.push(events[c].capacity)?;
+    }
+    Ok(caps)
+}
+
+impl<R: Ring> Slave<R> {
+    /// A slave with this profile, and the tasks of its event channels, in their order. No master is
+    /// connected, there is no DAQ list, and nothing waits.
+    ///
+    /// Refused with `Profile` if the profile is out of a limit, with the first of them; else with
+    /// `Capacity` if a ring of this kind may not have one of the capacities; or, before or behind
+    /// that, with `Memory` if there is no memory.
+    pub fn open(
+        alloc: Global,
+        profile: Profile,
+    ) -> Result<(Slave<R>, Vec<Task<R::Send>>), OpenFault>
+        ensures within { OnOk result (profile_fault profile ≡ None) }
+        ensures profile { IfOk result (λ made. made.0.session.profile ≡ profile) }
+        ensures stands { IfOk result
+            (λ made. SlaveStandsAfter R.Take.TakeEnd profile made.0 []) }
+        ensures channels { IfOk result
+            (λ made. length made.0.channels ≡ length profile.events.items) }
+        ensures tasks { IfOk result
+            (λ made. made.1.items ≡ replicate (length profile.events.items) no_sampler) }
+    {
+        if let Some(fault) = profile.fault() {
+            return Err(OpenFault::Profile(fault));
+        }
+        let Ok(caps) = capacities(alloc, &profile.events) else {
+            return Err(OpenFault::Memory);
+        };
+        if !caps.iter().all(|&cap| R::is_cap(cap)) {
+            return Err(OpenFault::Capacity);
+        }
+        let Ok(session) = Session::open(alloc, profile) else {
+            unreachable!()
+        };
+        let Ok(outbox) = Outbox::new(alloc) else {
+            return Err(OpenFault::Memory);
+        };
+        let Ok((channels, tasks)) = Channels::new(alloc, caps.len()) else {
+            return Err(OpenFault::Memory);
+        };
+        let slave = Slave {
+            session,
+            outbox,
+            channels,
+            caps,
+            plan: Plan::none(alloc),
+            number: 0,
+        };
+        Ok((slave, tasks))
+    }
+}

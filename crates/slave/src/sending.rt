@@ -1,0 +1,110 @@
+//! Items are taken off the rings, and what waits is sent.
+ghost use Rattle.std.specs.Prelude.{◌≡◌, ◌<◌, [], ◌∷◌, min, length, drop, OnErr, OnOk};
+ghost use Rattle.std.specs.Prelude.{take as first};
+ghost use Rattle.frame_outbox.specs.Outboxes.{Shows};
+ghost use Rattle.frame_outbox.specs.Putting.{Hands};
+ghost use Rattle.frame_writer.specs.Shown.{shown};
+ghost use Rattle.slave.specs.Hearing.{GoesBy};
+ghost use Rattle.slave.specs.Log.{Sent};
+ghost use Rattle.slave.specs.Taking.{TakesItems};
+
+use crate::slave::Slave;
+use channel_intake::Step;
+use daq_engine::Ring;
+use frame_outbox::PutFault;
+use frame_writer::Out;
+
+/// The most items that are taken off one ring in a row.
+const MOST_ITEMS: usize = 1024;
+
+impl<R: Ring> Slave<R> {
+    /// Takes items of all event channels, ring by ring, and lays those samples out whose DAQ list
+    /// runs, as long as their frames end within the page. What the rings of measurements before the
+    /// last still hold is let go, so that their tasks' stops find room. It takes no memory.
+    pub fn take(&mut self)
+        ensures takes { TakesItems R.Take.TakeEnd self.old self.new }
+    {
+        for c in 0..self.channels.len() {
+            self.take_from_newer(c);
+            self.take_from_older(c);
+        }
+    }
+
+    /// Takes items of the newest measurement at event channel `c`.
+    fn take_from_newer(&mut self, c: usize)
+        requires channel { c < length self.old.channels }
+        ensures takes { TakesItems R.Take.TakeEnd self.old self.new }
+    {
+        for _ in 0..MOST_ITEMS {
+            if let Step::Nothing | Step::Full = self.take_one(c) {
+                break;
+            }
+        }
+    }
+
+    /// Takes items of the measurement before the last at event channel `c`.
+    fn take_from_older(&mut self, c: usize)
+        requires channel { c < length self.old.channels }
+        ensures takes { TakesItems R.Take.TakeEnd self.old self.new }
+    {
+        for _ in 0..MOST_ITEMS {
+            if let Step::Nothing | Step::Full = self.take_one_older(c) {
+                break;
+            }
+        }
+    }
+
+    /// Takes the next item of the newest measurement at event channel `c`, if there is one.
+    fn take_one(&mut self, c: usize) -> Step
+        requires channel { c < length self.old.channels }
+        ensures takes { TakesItems R.Take.TakeEnd self.old self.new }
+    {
+        self.channels.take(c, &mut self.outbox)
+    }
+
+    /// The same of the measurement before it.
+    fn take_one_older(&mut self, c: usize) -> Step
+        requires channel { c < length self.old.channels }
+        ensures takes { TakesItems R.Take.TakeEnd self.old self.new }
+    {
+        self.channels.take_from_older(c, &mut self.outbox)
+    }
+
+    /// Copies as many whole replies and samples as find room to the front of a buffer, in the order
+    /// in which they were laid out, and answers how many bytes these are. They still wait: the next
+    /// peek begins with the same, unless `sent` comes between.
+    pub fn peek(&mut self, buffer: &mut [u8]) -> usize
+        ensures shows { Shows self.old.outbox (length buffer.old) self.new.outbox.shown result }
+        ensures bytes { first result buffer.new ≡ first result self.old.outbox.waits }
+        ensures behind { drop result buffer.new ≡ drop result buffer.old }
+        ensures stays { GoesBy R.Take.TakeEnd self.old self.new [] }
+        ensures profile_stays { self.new.session.profile ≡ self.old.session.profile }
+    {
+        self.outbox.peek(buffer)
+    }
+
+    /// What the last peek showed was sent, and waits no more.
+    pub fn sent(&mut self)
+        ensures sends { GoesBy R.Take.TakeEnd self.old self.new
+            (Sent (min self.old.outbox.shown (length self.old.outbox.units)) ∷ []) }
+        ensures none_shown { self.new.outbox.shown ≡ 0 }
+        ensures profile_stays { self.new.session.profile ≡ self.old.session.profile }
+    {
+        self.outbox.sent();
+    }
+
+    /// Hands all that waits to a writer in one call, the oldest first. If the writer takes all of
+    /// it, it was sent, and nothing waits. If nothing waits, the writer isn't called.
+    ///
+    /// Refused with `Failed` if the writer fails, and with `Cut` if it takes a part of the bytes
+    /// or none: then the slave is unchanged, and what the writer took may break off within a frame.
+    pub fn put<O: Out>(&mut self, out: &mut O) -> Result<(), PutFault>
+        ensures hands { Hands (shown O.Out out.old) (shown O.Out out.new)
+            self.old.outbox.waits result }
+        ensures ok { OnOk result (GoesBy R.Take.TakeEnd self.old self.new
+            (Sent (length self.old.outbox.units) ∷ [])) }
+        ensures err { OnErr result (self.new ≡ self.old) }
+    {
+        self.outbox.put(out)
+    }
+}

@@ -1,0 +1,37 @@
+use crate::plan::Plan;
+use daq_engine::Ring;
+use frame_outbox::Outbox;
+use session::Session;
+use slave_channels::Channels;
+use std::marker::Model;
+
+/// The transmitter's thread of an XCP slave: the session with its master, the event channels, and
+/// the frames that wait to be sent.
+///
+/// Contracts speak of a slave by its log, what it did so far: it *stands after* it.
+#[derive(Drop)]
+pub struct Slave<R: Ring> {
+    pub(crate) session: Session,
+    pub(crate) outbox: Outbox,
+    pub(crate) channels: Channels<R>,
+    pub(crate) caps: Vec<usize>,
+    pub(crate) plan: Plan,
+    pub(crate) number: u64,
+}
+
+impl<R: Ring> Model for Slave<R> {
+    ghost use Rattle.std.specs.Prelude.{◌≡◌, length};
+    ghost use Rattle.slave.specs.Standing.{SlaveState};
+
+    ghost Value = { SlaveState R.Send R.Take };
+
+    ghost view = { λ s. record {
+      session = s.session;
+      outbox = s.outbox;
+      channels = s.channels;
+      plan = s.plan;
+      number = s.number;
+    } };
+
+    ghost invariant = { λ s. length s.caps.items ≡ length s.channels };
+}

@@ -1,0 +1,139 @@
+//! Lists are started, in a measurement that is opened where none is there.
+ghost use Rattle.std.specs.Prelude.{◌≡◌, ℕ, ◌<◌, IfErr, OnErr, OnOk, length, true};
+ghost use Rattle.xcp_base.specs.Lists.{has_list};
+ghost use Rattle.xcp_base.specs.declared.limits.TheConstants.{MAX_CHANNELS, MAX_LISTS};
+ghost use Rattle.slave.specs.Hearing.{IsStartRefusal};
+ghost use Rattle.slave.specs.Inner.{AreSets, Idle, LooksAtAll, OpensAll, OpensInVain, OpensNone};
+ghost use Rattle.slave.specs.Inner.{Prepares, StartsInVain, StartsLists};
+
+use crate::plan::Plan;
+use crate::sets::{common, is_empty};
+use crate::slave::Slave;
+use daq_engine::Ring;
+use std::alloc::Global;
+use tasks::HandFault;
+use xcp_base::ErrCode;
+use xcp_base::limits::MAX_CHANNELS;
+
+/// The set of all lists.
+const ALL: u16 = 0xFFFF;
+
+/// What a start is refused with where a measurement can't be opened.
+fn code_of(fault: HandFault) -> ErrCode
+    ensures { IsStartRefusal result }
+{
+    match fault {
+        HandFault::Memory => ErrCode::MemoryOverflow,
+        _ => ErrCode::CmdBusy,
+    }
+}
+
+impl<R: Ring> Slave<R> {
+    /// Orders the starts of these lists, if they are any, in a measurement that is opened if none is
+    /// there.
+    pub(crate) fn prepare(&mut self, alloc: Global, lists: u16) -> Result<(), ErrCode>
+        ensures ok { OnOk result (Prepares R.Take.TakeEnd self.old self.new lists) }
+        ensures err { IfErr result (StartsInVain R.Take.TakeEnd self.old self.new) }
+        ensures some { OnErr result
+            ((l : ℕ) × (l < MAX_LISTS) × (has_list lists l ≡ true)) }
+        ensures session_stays { self.new.session ≡ self.old.session }
+        ensures outbox_stays { self.new.outbox ≡ self.old.outbox }
+    {
+        if is_empty(lists) {
+            return Ok(());
+        }
+        if self.is_idle() {
+            return self.start_new(alloc, lists);
+        }
+        if !self.plan.stands(self.session.store(), lists) {
+            return Err(ErrCode::Sequence);
+        }
+        self.start(lists)
+    }
+
+    /// Whether no list runs.
+    pub(crate) fn is_idle(&self) -> bool
+        ensures { result ≡ true → Idle self.now.session }
+    {
+        is_empty(self.session.running())
+    }
+
+    /// Opens a measurement, and orders the starts of these lists. Where that isn't possible it ends
+    /// again.
+    fn start_new(&mut self, alloc: Global, lists: u16) -> Result<(), ErrCode>
+        requires idle { Idle self.old.session }
+        ensures ok { OnOk result (Prepares R.Take.TakeEnd self.old self.new lists) }
+        ensures err { IfErr result (StartsInVain R.Take.TakeEnd self.old self.new) }
+        ensures session_stays { self.new.session ≡ self.old.session }
+        ensures outbox_stays { self.new.outbox ≡ self.old.outbox }
+    {
+        if let Err(code) = self.open_measurement(alloc) {
+            return Err(code);
+        }
+        if let Err(code) = self.start(lists) {
+            self.channels.end();
+            return Err(code);
+        }
+        Ok(())
+    }
+
+    /// Opens a measurement of all lists that are ready.
+    fn open_measurement(&mut self, alloc: Global) -> Result<(), ErrCode>
+        ensures ok { OnOk result (OpensAll
+            R.Send.SendEnd R.Send.End.RingEnd R.Take.TakeEnd self.old self.new) }
+        ensures code { IfErr result IsStartRefusal }
+        ensures err { OnErr result (OpensNone
+            R.Send.SendEnd R.Send.End.RingEnd R.Take.TakeEnd self.old self.new) }
+    {
+        let Ok(plan) = Plan::of(alloc, self.session.store()) else {
+            return Err(ErrCode::MemoryOverflow);
+        };
+        if let Err(fault) = self.open_channels(alloc) {
+            return Err(code_of(fault));
+        }
+        self.plan = plan;
+        Ok(())
+    }
+
+    /// Opens the parts of a measurement at all event channels.
+    fn open_channels(&mut self, alloc: Global) -> Result<(), HandFault>
+        ensures ok { OnOk result (OpensAll
+            R.Send.SendEnd R.Send.End.RingEnd R.Take.TakeEnd self.old self.new) }
+        ensures err { OnErr result (OpensInVain
+            R.Send.SendEnd R.Send.End.RingEnd R.Take.TakeEnd self.old self.new) }
+    {
+        let sets = self.sets_of(ALL);
+        let lists = &sets[..self.channels.len()];
+        let number = self.number;
+        self.number = number.wrapping_add(1);
+        self.channels
+            .open(alloc, self.session.store(), &self.caps, lists, number)
+    }
+
+    /// Orders the starts of these lists, if all find places.
+    fn start(&mut self, lists: u16) -> Result<(), ErrCode>
+        ensures ok { OnOk result (StartsLists R.Take.TakeEnd self.old self.new lists) }
+        ensures code { IfErr result IsStartRefusal }
+        ensures err { OnErr result (LooksAtAll self.old self.new) }
+    {
+        let sets = self.sets_of(lists);
+        let sets = &sets[..self.channels.len()];
+        if !self.channels.can_start(sets) {
+            return Err(ErrCode::CmdBusy);
+        }
+        self.channels.start_checked(sets);
+        Ok(())
+    }
+
+    /// Those of the lists that are ready, by the event channel that their modes name.
+    fn sets_of(&self, lists: u16) -> [u16; MAX_CHANNELS as usize]
+        ensures sets { AreSets self.now.session lists result }
+        ensures many { length result ≡ MAX_CHANNELS }
+    {
+        let mut sets = [0; MAX_CHANNELS as usize];
+        for c in 0..MAX_CHANNELS as usize {
+            sets[c] = common(lists, self.session.lists_on(c as u8));
+        }
+        sets
+    }
+}
