@@ -1,12 +1,11 @@
 -- The line of a list in the account.
-use Rattle.std.proofs.Common.{◌≡◌, ℕ, ◌+◌, ◌-◌, ◌≤◌, Bool, true, false, not, cond, nat_eq, List, [], ◌∷◌, ◌++◌, length, refl, sym, ap, ◌∙◌, subst, arith}
-use Rattle.std.specs.Prelude.{count_by, zip, if◌then◌else◌, Option, Some, None}
+use Rattle.std.proofs.Common.{◌≡◌, ℕ, ◌-◌, ◌≤◌, Bool, true, false, List, [], ◌∷◌, ◌++◌, length, refl, sym, ap, ◌∙◌, subst, arith}
+use Rattle.std.specs.Prelude.{if◌then◌else◌, Option, Some, None}
 use mathlib.Core.List.{IsPrefix}
-use Rattle.std.proofs.lemmas.List.Sums.{sum_by-cons}
 use Rattle.std.proofs.lemmas.Option.{none-some}
 use Rattle.xcp_base.specs.declared.item.Item.{Item}
 use Rattle.xcp_base.specs.declared.item.Item.TheVariants.{Marker, Sample}
-use Rattle.sampler.specs.Decisions.{Decided, pairs_of}
+use Rattle.sampler.specs.Decisions.{pairs_of}
 use Rattle.transmitter.specs.Items.{count_of, samples}
 use Rattle.transmitter.proofs.TakenLemmas.{count_of-append, samples-append}
 use Rattle.copy_plan.specs.Config.{IsPlan}

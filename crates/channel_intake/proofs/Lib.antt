@@ -2,3 +2,4 @@ pub mod DeedLemmas
 pub mod StepLemmas
 pub mod StopLemmas
 pub mod AccountLemmas
+pub mod AbsentLemmas

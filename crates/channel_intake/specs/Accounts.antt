@@ -28,3 +28,7 @@ pub record IsLineOf (past : Past) (deeds : List Deed) (l : ℕ) (line : ListRepo
   pub written : line.written ≡ count_of l (passed deeds)
   pub left : line.left + count_of l (passed deeds) ≡ count_of l (samples (items_of past))
   pub adds_up : line.due ≡ line.written + line.dropped + line.left
+
+-- the line of a list that the event channel doesn't have
+abbrev pub no_line : ℕ → ListReport
+no_line l = record { list = l; due = 0; written = 0; dropped = 0; left = 0 }

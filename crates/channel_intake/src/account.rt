@@ -15,7 +15,7 @@ impl<T: TakeEnd> Intake<T> {
     ghost use Rattle.transmitter.specs.Items.{samples};
     ghost use Rattle.daq_engine.specs.Order.{items_of};
     ghost use Rattle.daq_engine.specs.Overload.{HasMarks};
-    ghost use Rattle.channel_intake.specs.Accounts.{HasPlans, IsLineOf};
+    ghost use Rattle.channel_intake.specs.Accounts.{HasPlans, IsLineOf, no_line};
     ghost use Rattle.channel_intake.specs.Deeds.{Deed, taken};
     ghost use Rattle.channel_intake.specs.Intakes.{StandsAfter};
 
@@ -50,6 +50,12 @@ impl<T: TakeEnd> Intake<T> {
     pub fn line(&self, end: &SamplerEnd<T::End>, l: u8) -> Option<ListReport>
         requires list { l < MAX_LISTS }
         ensures none { IsNone result → counts_at end.now l ≡ None }
+        // none of its samples was due then, so its line would be of zeros
+        ensures nothing { IsNone result → (past : Past) (deeds : List Deed)
+            → StandsAfter T.TakeEnd self.now deeds
+            → EndStandsAfter (joined T.End.RingEnd end.now) past
+            → HasPlans past → IsPrefix (taken deeds) (items_of past)
+            → IsLineOf past deeds l (no_line l) }
         ensures line { IfSome result (λ line. (past : Past) (deeds : List Deed)
             → StandsAfter T.TakeEnd self.now deeds
             → EndStandsAfter (joined T.End.RingEnd end.now) past

@@ -63,14 +63,16 @@ module _ {E T F : Type 0} (ring : EndGhosts E) (take : TakeGhosts T F) where
         (deeds : List Deed) → StandsAfter take f.intake deeds
         → HasMarks past (samples (taken deeds))
 
+  -- there is such a past
   abbrev pub IsFinished : FinishedState E T → Type 0
   IsFinished f = (past : Past) × IsPastOf f past
 
-  -- the line of list l in the account: due = written + dropped + left
+  -- the line of list l in the account, whichever past the sampler came to: due = written + dropped
+  -- + left
   abbrev pub HasLine : FinishedState E T → ℕ → ListReport → Type 0
   HasLine f l line =
-      (past : Past) × IsPastOf f past
-      × ((deeds : List Deed) → StandsAfter take f.intake deeds → IsLineOf past deeds l line)
+      (past : Past) (deeds : List Deed) → IsPastOf f past → StandsAfter take f.intake deeds
+      → IsLineOf past deeds l line
 
 module _ {S E T F : Type 0} (send : SendGhosts S E) (ring : EndGhosts E) (take : TakeGhosts T F) where
   -- the sampler that went out stood after nothing; the intake is of its ring

@@ -29,11 +29,14 @@ impl<R: Ring> Finished<R> {
     ghost use Rattle.std.specs.Prelude.{◌≡◌, ◌<◌, IfSome, IsNone, None};
     ghost use Rattle.xcp_base.specs.declared.limits.TheConstants.{MAX_LISTS};
     ghost use Rattle.sampler.specs.State.{counts_at};
-    ghost use Rattle.slave_channel.specs.Channels.{HasLine};
+    ghost use Rattle.channel_intake.specs.Accounts.{no_line};
+    ghost use Rattle.slave_channel.specs.Channels.{HasLine, IsFinished};
 
     /// The measurement's number.
     pub fn number(&self) -> u64
-        ensures { result ≡ self.now.number }
+        ensures number { result ≡ self.now.number }
+        // what is left of the sampler says which past it came to
+        ensures finished { IsFinished R.Send.End.RingEnd R.Take.TakeEnd self.now }
     {
         self.number
     }
@@ -43,6 +46,9 @@ impl<R: Ring> Finished<R> {
     pub fn line(&self, l: u8) -> Option<ListReport>
         requires list { l < MAX_LISTS }
         ensures none { IsNone result → counts_at self.now.end l ≡ None }
+        // none of its samples was due then, so its line would be of zeros
+        ensures nothing { IsNone result
+            → HasLine R.Send.End.RingEnd R.Take.TakeEnd self.now l (no_line l) }
         ensures line { IfSome result
             (HasLine R.Send.End.RingEnd R.Take.TakeEnd self.now l) }
     {

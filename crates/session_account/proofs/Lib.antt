@@ -1,0 +1,3 @@
+pub mod TotalsLemmas
+pub mod AddingLemmas
+pub mod SumLemmas
