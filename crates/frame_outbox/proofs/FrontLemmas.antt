@@ -1,6 +1,6 @@
 -- The first of some units, and their bytes.
 use Rattle.std.proofs.Common.{◌≡◌, ℕ, ◌+◌, ◌-◌, ◌≤◌, List, [], ◌∷◌, ◌++◌, length, take, drop, arith, ◌∙◌, ap, sym, Bool, true, false, refl}
-use Rattle.std.specs.Prelude.{slice_get, Some}
+use Rattle.std.specs.Prelude.{count_by, slice_get, Some}
 use Rattle.std.proofs.lemmas.List.Sums.{count_by_more_no, count_by_more_yes, sum_by-append, sum_by-take-drop, sum_by-take-le, sum_by_more}
 use Rattle.std.proofs.lemmas.List.{take-append-le}
 use Rattle.std.proofs.lemmas.Option.{get_or_from_slice_get, slice_get_within}
@@ -9,8 +9,6 @@ use Rattle.std.proofs.lemmas.List.Sums.{sum_by-cons}
 use Rattle.frame_writer.specs.Frame.{frame, text}
 use Rattle.std.proofs.Common.{length-append}
 use Rattle.frame_outbox.specs.Inner.{AreLong}
-use Rattle.frame_outbox.specs.declared.unit.Origin.{Origin}
-use Rattle.frame_outbox.specs.Units.{how_many, same_origin}
 use Rattle.circular_buffer.specs.Buffer.{keep_last}
 use Rattle.frame_outbox.specs.Units.{bytes_in}
 use Rattle.frame_outbox.specs.declared.unit.Unit.{Unit}
@@ -25,15 +23,14 @@ front-more units i u there =
     sum_by_more (λ (v : Unit). v.len) units i u (slice_get_within units i u there)
     ∙ ap (λ (v : Unit). bytes_in (take i units) + v.len) (get_or_from_slice_get units i u u there)
 
--- one more or none
-pub more-of : (origin : Origin) (units : List Unit) (i n : ℕ) (u : Unit) (b : Bool) → slice_get units i ≡ Some u → b ≡ same_origin u.origin origin → (b ≡ true → n ≡ 1) → (b ≡ false → n ≡ 0) → how_many origin (take (i + 1) units) ≡ how_many origin (take i units) + n
-more-of origin units i n u true there is one none =
-    count_by_more_yes (λ (v : Unit). same_origin v.origin origin) units i u (slice_get_within units i u there)
-    (ap (λ (v : Unit). same_origin v.origin origin) (get_or_from_slice_get units i u u there) ∙ sym is)
-    ∙ ap (λ k. how_many origin (take i units) + k) (sym (one refl))
-more-of origin units i n u false there is one none =
-    count_by_more_no (λ (v : Unit). same_origin v.origin origin) units i u (slice_get_within units i u there)
-    (ap (λ (v : Unit). same_origin v.origin origin) (get_or_from_slice_get units i u u there) ∙ sym is)
+-- one more or none of those that pass a test
+pub more-by : (test : Unit → Bool) (units : List Unit) (i n : ℕ) (u : Unit) (b : Bool) → slice_get units i ≡ Some u → b ≡ test u → (b ≡ true → n ≡ 1) → (b ≡ false → n ≡ 0)
+    → count_by test (take (i + 1) units) ≡ count_by test (take i units) + n
+more-by test units i n u true there is one none =
+    count_by_more_yes test units i u (slice_get_within units i u there) (ap test (get_or_from_slice_get units i u u there) ∙ sym is)
+    ∙ ap (λ k. count_by test (take i units) + k) (sym (one refl))
+more-by test units i n u false there is one none =
+    count_by_more_no test units i u (slice_get_within units i u there) (ap test (get_or_from_slice_get units i u u there) ∙ sym is)
     ∙ omega (arith, none refl)
 
 -- nothing falls off units that find room

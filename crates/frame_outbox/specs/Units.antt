@@ -17,3 +17,11 @@ how_many origin units = count_by (λ (u : Unit). same_origin u.origin origin) un
 -- how many bytes units have
 abbrev pub bytes_in : List Unit → ℕ
 bytes_in units = sum_by (λ (u : Unit). u.len) units
+
+-- how many of some units are samples of list l, of whichever measurement
+abbrev pub is_sample_of : ℕ → Origin → Bool
+is_sample_of l Reply = false
+is_sample_of l (Sample m k) = nat_eq k l
+
+abbrev pub samples_of : ℕ → List Unit → ℕ
+samples_of l units = count_by (λ (u : Unit). is_sample_of l u.origin) units

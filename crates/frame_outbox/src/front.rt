@@ -1,6 +1,6 @@
 //! The first of some units.
 ghost use Rattle.std.specs.Prelude.{◌≡◌, ◌+◌, ◌<◌, ◌≤◌, ◌⊎◌, true, false, length, take};
-ghost use Rattle.frame_outbox.specs.Units.{bytes_in, how_many};
+ghost use Rattle.frame_outbox.specs.Units.{bytes_in, how_many, samples_of};
 ghost use Rattle.frame_outbox.specs.declared.limits.TheConstants.{MOST};
 
 use crate::unit::{Origin, Unit};
@@ -57,6 +57,20 @@ pub fn how_many(units: &HeapCircularBuffer<Unit>, origin: Origin) -> usize
             unreachable!()
         };
         count += one_if(unit.is_of(origin));
+    }
+    count
+}
+
+/// How many of the units are samples of this DAQ list.
+pub fn samples_of(units: &HeapCircularBuffer<Unit>, list: u8) -> usize
+    ensures { result ≡ samples_of list units.now.items }
+{
+    let mut count = 0;
+    for i in 0..units.len() {
+        let Some(unit) = units.get(i) else {
+            unreachable!()
+        };
+        count += one_if(unit.is_sample_of(list));
     }
     count
 }

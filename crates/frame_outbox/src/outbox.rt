@@ -1,6 +1,6 @@
 ghost use Rattle.std.specs.Prelude.{◌≡◌, ◌<◌, ◌≤◌, IfOk};
 
-use crate::front::{Front, front_of, how_many};
+use crate::front::{Front, front_of, how_many, samples_of};
 use crate::limits::{MAX_REPLIES, MAX_REPLY, MAX_UNITS, MOST, ROOM};
 use crate::unit::{Origin, Unit};
 use circular_buffer::HeapCircularBuffer;
@@ -50,7 +50,7 @@ impl Outbox {
     ghost use Rattle.frame_writer.specs.Frame.{text};
     ghost use Rattle.frame_outbox.specs.Outboxes.{Laid, LaysOut, Shows, StandsAfter};
     ghost use Rattle.frame_outbox.specs.Outboxes.{has_room, packets_in};
-    ghost use Rattle.frame_outbox.specs.Units.{how_many};
+    ghost use Rattle.frame_outbox.specs.Units.{how_many, samples_of};
     ghost use Rattle.frame_outbox.specs.declared.limits.TheConstants.{MAX_UNITS, MOST};
 
     /// An outbox in which nothing waits. Its first frame has CTR 0 (own).
@@ -146,5 +146,12 @@ impl Outbox {
         ensures { result ≡ how_many (Origin.Sample measurement list) self.now.units }
     {
         how_many(&self.units, Origin::Sample(measurement, list))
+    }
+
+    /// How many of the samples of a DAQ list wait, of whichever measurement.
+    pub fn waiting_of(&self, list: u8) -> usize
+        ensures { result ≡ samples_of list self.now.units }
+    {
+        samples_of(&self.units, list)
     }
 }

@@ -1,5 +1,5 @@
 ghost use Rattle.std.specs.Prelude.{◌≡◌};
-ghost use Rattle.frame_outbox.specs.Units.{same_origin};
+ghost use Rattle.frame_outbox.specs.Units.{is_sample_of, same_origin};
 
 /// Where frames are from.
 #[derive(Clone, Copy, Debug, PartialEq, Eq)]
@@ -28,6 +28,16 @@ impl Unit {
             (Origin::Reply, Origin::Reply) => true,
             (Origin::Sample(m, l), Origin::Sample(n, k)) => m == n && l == k,
             _ => false,
+        }
+    }
+
+    /// Whether it is a sample of this DAQ list.
+    pub fn is_sample_of(&self, list: u8) -> bool
+        ensures { result ≡ is_sample_of list self.now.origin }
+    {
+        match self.origin {
+            Origin::Reply => false,
+            Origin::Sample(_, l) => l == list,
         }
     }
 }

@@ -2,6 +2,7 @@
 ghost use Rattle.std.specs.Prelude.{◌≡◌, ℕ, ◌<◌};
 ghost use Rattle.xcp_base.specs.Lists.{has_list};
 ghost use Rattle.session.specs.Past.{Past};
+ghost use Rattle.session.specs.Profiles.{lists_of};
 ghost use Rattle.session.specs.Standing.{SessionStandsAfter};
 ghost use Rattle.session.specs.Starts.{is_on, runs, shows_on};
 
@@ -14,6 +15,7 @@ impl Session {
     /// The DAQ lists, as they are set.
     pub fn store(&self) -> &Store
         ensures value { result.now ≡ self.now.store }
+        ensures profile { result.now.profile ≡ lists_of self.now.profile }
     {
         &self.store
     }

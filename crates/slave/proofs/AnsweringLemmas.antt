@@ -20,9 +20,10 @@ use Rattle.frame_outbox.specs.Outboxes.{Laid, LaysOut, OutboxState}
 use Rattle.frame_outbox.specs.Outboxes.{StandsAfter as OutboxStandsAfter}
 use Rattle.slave.specs.Hearing.{GoesBy}
 use Rattle.slave.specs.Inner.{Answers, LaysReply, Settles}
-use Rattle.slave.specs.Log.{Heard, HungUp, laid, past_of, reply_laid, sent_of}
+use Rattle.session_account.specs.Accounts.{AccountStandsAfter}
+use Rattle.slave.specs.Log.{Heard, HungUp, entries_of, is_back, laid, past_of, reply_laid, sent_of}
 use Rattle.slave.specs.Standing.{SlaveState}
-use Rattle.slave.proofs.SettlingLemmas.{settled}
+use Rattle.slave.proofs.SettlingLemmas.{settled, settled-out}
 use Rattle.slave.proofs.StandingLemmas.{starts-no-list}
 use Rattle.std.proofs.lemmas.List.{drop-append-le, take-append-le}
 
@@ -81,26 +82,26 @@ module _ {S T F : Type 0} (take : TakeGhosts T F) where
       → Exchanges a.session b.session packet clock reply → b.session.profile ≡ a.session.profile
       → ((past : Past) → SessionStandsAfter a.session past → (l : ℕ) → l < MAX_LISTS → has_list before l ≡ runs past l)
       → ((past : Past) → SessionStandsAfter b.session past → (l : ℕ) → l < MAX_LISTS → has_list now l ≡ runs past l)
-      → Settles take a.channels b.channels before now → LaysReply a.outbox b.outbox reply → b.number ≡ a.number
+      → Settles take a.channels b.channels before now → LaysReply a.outbox b.outbox reply → b.plan ≡ a.plan → b.account ≡ a.account → b.number ≡ a.number
       → Answers take a b packet clock
-  answered a b packet clock before now reply exchanges profile was is settles lays number =
+  answered a b packet clock before now reply exchanges profile was is settles lays plan account number =
       let x : Exchange = record { packet = packet; clock = clock; out_of_memory = exchanges.out_of_memory } in
       let d = a.session.profile in
       record {
         exchange = x;
         packet_is = refl;
         clock_is = refl;
-        goes = λ log lists few tie has.
+        goes = λ log lists few tie well has.
             let past = past_of d log in
             let (said, behind) = exchanges.answers past has.session in
             let out = λ (h : exchanges.out_of_memory ≡ true). exchanges.only_where h past has.session in
-            let both = settled take d (Heard x) log lists before now a.channels b.channels few (record { deeds = λ m c. refl; none_opened = refl }) (out, has.is_log)
+            let both = settled take d (Heard x) log lists before now a.channels b.channels few (record { deeds = λ m c. refl; none_opened = refl }) (out, well, has.is_log)
             (λ c l below. ap (λ b. b && is_on d past c l) (exchange-starts d past x exchanges.out_of_memory refl out l ∙ sym (tie l below)))
             (was past has.session) (is (past_behind d past x) behind) settles has.channels in
             record {
               has = record {
                 few = omega (arith, few);
-                is_log = (out, has.is_log);
+                is_log = (out, well, has.is_log);
                 sent = omega (arith, has.sent, length-append (laid d log) (reply_laid (reply_in d past x)));
                 profile = profile;
                 session = behind;
@@ -108,6 +109,9 @@ module _ {S T F : Type 0} (take : TakeGhosts T F) where
                     subst (λ r. OutboxStandsAfter b.outbox (first (sent_of log) (laid d log ++ reply_laid r)) (drop (sent_of log) (laid d log ++ reply_laid r))) said
                     (reply-laid a.outbox b.outbox reply (sent_of log) (laid d log) lays has.sent has.outbox);
                 channels = λ c ch at. (both c ch at).0;
+                out = settled-out take a.channels b.channels before now (λ c m. is_back m c log) settles has.out;
+                plan = plan ∙ has.plan;
+                account = subst (λ z. AccountStandsAfter z (entries_of d log) (λ l. 0)) (sym account) has.account;
                 number = number ∙ has.number;
               };
               ended = λ none c ch at. (both c ch at).1 none;
@@ -117,9 +121,9 @@ module _ {S T F : Type 0} (take : TakeGhosts T F) where
   -- the transport was lost
   pub hung-up : (a b : SlaveState S T) (before : ℕ) → SessionStandsAfter b.session new_past → b.session.profile ≡ a.session.profile
       → ((past : Past) → SessionStandsAfter a.session past → (l : ℕ) → l < MAX_LISTS → has_list before l ≡ runs past l)
-      → Settles take a.channels b.channels before 0 → b.outbox ≡ a.outbox → b.number ≡ a.number
+      → Settles take a.channels b.channels before 0 → b.outbox ≡ a.outbox → b.plan ≡ a.plan → b.account ≡ a.account → b.number ≡ a.number
       → GoesBy take a b (HungUp ∷ [])
-  hung-up a b before fresh profile was settles outbox number = λ log few stands.
+  hung-up a b before fresh profile was settles outbox plan account number = λ log few stands.
       let d = a.session.profile in
       let past = past_of d log in
       let has = starts-no-list take d a log 0 (λ l below. empty_has_none l) stands.has in
@@ -136,6 +140,9 @@ module _ {S T F : Type 0} (take : TakeGhosts T F) where
           session = fresh;
           outbox = subst (λ o. OutboxStandsAfter o (first (sent_of log) (laid d log ++ [])) (drop (sent_of log) (laid d log ++ []))) (sym outbox) (reply-laid a.outbox a.outbox None (sent_of log) (laid d log) refl has.sent has.outbox);
           channels = λ c ch at. (both c ch at).0;
+          out = settled-out take a.channels b.channels before 0 (λ c m. is_back m c log) settles stands.has.out;
+          plan = plan ∙ has.plan;
+          account = subst (λ z. AccountStandsAfter z (entries_of d log) (λ l. 0)) (sym account) has.account;
           number = number ∙ has.number;
         };
         ended = λ quiet c ch at. (both c ch at).1 quiet;
@@ -152,12 +159,14 @@ module _ {S T F : Type 0} (take : TakeGhosts T F) where
       let session : b.session ≡ s = ap (λ (x : SlaveState S T). x.session) last ∙ ap (λ (x : SlaveState S T). x.session) rest in
       let channels : b.channels ≡ t.channels = ap (λ (x : SlaveState S T). x.channels) last in
       let outbox : t.outbox ≡ w.outbox = ap (λ (x : SlaveState S T). x.outbox) rest in
+      let plan : b.plan ≡ w.plan = ap (λ (x : SlaveState S T). x.plan) last ∙ ap (λ (x : SlaveState S T). x.plan) rest in
+      let account : b.account ≡ w.account = ap (λ (x : SlaveState S T). x.account) last ∙ ap (λ (x : SlaveState S T). x.account) rest in
       let number : b.number ≡ w.number = ap (λ (x : SlaveState S T). x.number) last ∙ ap (λ (x : SlaveState S T). x.number) rest in
       subst (λ (x : SlaveState S T). Answers take x b packet clock) same
       (answered w b packet clock before now reply (subst (λ x. Exchanges w.session x packet clock reply) (sym session) exchanges)
       (ap (λ (x : SessionState). x.profile) session ∙ profile) was
       (subst (λ x. (past : Past) → SessionStandsAfter x past → (l : ℕ) → l < MAX_LISTS → has_list now l ≡ runs past l) (sym session) is)
-      (subst (λ xs. Settles take w.channels xs before now) (sym channels) settles) (subst (λ o. LaysReply o b.outbox reply) outbox lays) number)
+      (subst (λ xs. Settles take w.channels xs before now) (sym channels) settles) (subst (λ o. LaysReply o b.outbox reply) outbox lays) plan account number)
 
   pub hung-up-by : (v w t : SlaveState S T) (s : SessionState) (before : ℕ) → w ≡ v → SessionStandsAfter s new_past → s.profile ≡ w.session.profile
       → ((past : Past) → SessionStandsAfter w.session past → (l : ℕ) → l < MAX_LISTS → has_list before l ≡ runs past l)
@@ -166,4 +175,4 @@ module _ {S T F : Type 0} (take : TakeGhosts T F) where
       let session : t.session ≡ s = ap (λ (x : SlaveState S T). x.session) rest in
       subst (λ (x : SlaveState S T). GoesBy take x t (HungUp ∷ [])) same
       (hung-up w t before (subst (λ x. SessionStandsAfter x new_past) (sym session) fresh) (ap (λ (x : SessionState). x.profile) session ∙ profile) was settles
-      (ap (λ (x : SlaveState S T). x.outbox) rest) (ap (λ (x : SlaveState S T). x.number) rest))
+      (ap (λ (x : SlaveState S T). x.outbox) rest) (ap (λ (x : SlaveState S T). x.plan) rest) (ap (λ (x : SlaveState S T). x.account) rest) (ap (λ (x : SlaveState S T). x.number) rest))

@@ -1,5 +1,5 @@
 -- How much was done with the rings of a slave.
-use Rattle.std.proofs.Common.{◌≡◌, ℕ, zero, suc, ◌+◌, ◌*◌, ◌<◌, ◌≤◌, Bool, true, false, ◌&&◌, nat_eq, if◌then◌else◌, List, [], ◌∷◌, length, refl, ap, ◌∙◌, arith, length-append, inl, inr}
+use Rattle.std.proofs.Common.{◌≡◌, ℕ, zero, suc, ◌+◌, ◌*◌, ◌<◌, ◌≤◌, Bool, true, false, ◌&&◌, ◌||◌, nat_eq, if◌then◌else◌, List, [], ◌∷◌, length, refl, ap, ◌∙◌, arith, length-append, inl, inr}
 use Rattle.std.proofs.lemmas.List.Sums.{sum_by-cons}
 use Rattle.std.proofs.lemmas.Bool.Decides.{eqb_tells}
 use Rattle.xcp_base.specs.declared.limits.TheConstants.{MAX_LISTS}
@@ -8,7 +8,7 @@ use Rattle.channel_intake.specs.Deeds.{Deed, Started, Stopped}
 use Rattle.channel_intake.specs.Deeds.{Took as TookItem}
 use Rattle.channel_intake.specs.Deeds.{runs as runs_there}
 use Rattle.slave_channel.specs.Ordering.{one_if, starts_noted, stops_noted}
-use Rattle.slave.specs.Log.{Act, Heard, HungUp, Opened, Refused, Sent, Took, deeds_of, is_newest, is_opening, opened, ordered_by, starts_on, stops_at, with_starts}
+use Rattle.slave.specs.Log.{Act, CameBack, Heard, HungUp, Opened, Refused, Sent, Took, deeds_of, is_back, is_newest, is_opening, opened, ordered_by, starts_on, stops_at, with_starts}
 use Rattle.slave.specs.Standing.{IsLog}
 
 one-few : {X : Type 0} (b : Bool) (x : X) → length (one_if b x) ≤ 1
@@ -44,6 +44,7 @@ deeds-few d m c (Opened ∷ log) = omega (arith, deeds-few d m c log)
 deeds-few d m c (Took n k x ∷ log) =
     let before = deeds-few d m c log in
     if-few (nat_eq n m && nat_eq k c) (TookItem x ∷ deeds_of d m c log) (deeds_of d m c log) _ (omega (arith, before)) (omega (arith, before))
+deeds-few d m c (CameBack n k past ∷ log) = omega (arith, deeds-few d m c log)
 deeds-few d m c (Sent n ∷ log) = omega (arith, deeds-few d m c log)
 deeds-few d m c (HungUp ∷ log) =
     let before = deeds-few d m c log in
@@ -70,11 +71,23 @@ not-taken n m k c less =
 pub deeds-none : (d : Profile) (m c : ℕ) (log : List Act) → IsLog d log → opened log ≤ m → deeds_of d m c log ≡ []
 deeds-none d m c [] is least = refl
 deeds-none d m c (Heard x ∷ log) is least =
-    ap (λ b. if b then ordered_by d c (Heard x) log (deeds_of d m c log) else deeds_of d m c log) (not-newest m log least) ∙ deeds-none d m c log is.1 least
-deeds-none d m c (Refused packet code ∷ log) is least = deeds-none d m c log is.1 least
+    ap (λ b. if b then ordered_by d c (Heard x) log (deeds_of d m c log) else deeds_of d m c log) (not-newest m log least) ∙ deeds-none d m c log is.2 least
+deeds-none d m c (Refused packet code ∷ log) is least = deeds-none d m c log is.2 least
 deeds-none d m c (Opened ∷ log) is least = deeds-none d m c log is.1 (omega (arith, least, opened-more log))
 deeds-none d m c (Took n k x ∷ log) is least =
-    ap (λ b. if b then TookItem x ∷ deeds_of d m c log else deeds_of d m c log) (not-taken n m k c (omega (arith, is.0, least))) ∙ deeds-none d m c log is.1 least
+    ap (λ b. if b then TookItem x ∷ deeds_of d m c log else deeds_of d m c log) (not-taken n m k c (omega (arith, is.0, least))) ∙ deeds-none d m c log is.2 least
+deeds-none d m c (CameBack n k past ∷ log) is least = deeds-none d m c log is.1 least
 deeds-none d m c (Sent n ∷ log) is least = deeds-none d m c log is least
 deeds-none d m c (HungUp ∷ log) is least =
     ap (λ b. if b then ordered_by d c HungUp log (deeds_of d m c log) else deeds_of d m c log) (not-newest m log least) ∙ deeds-none d m c log is least
+
+-- nothing came back of a measurement that was not opened
+pub back-none : (d : Profile) (m c : ℕ) (log : List Act) → IsLog d log → opened log ≤ m → is_back m c log ≡ false
+back-none d m c [] is least = refl
+back-none d m c (Heard x ∷ log) is least = back-none d m c log is.2 least
+back-none d m c (Refused packet code ∷ log) is least = back-none d m c log is.2 least
+back-none d m c (Opened ∷ log) is least = back-none d m c log is.1 (omega (arith, least, opened-more log))
+back-none d m c (Took n k x ∷ log) is least = back-none d m c log is.2 least
+back-none d m c (CameBack n k past ∷ log) is least = ap (λ b. b || is_back m c log) (not-taken n m k c (omega (arith, is.0.there, least))) ∙ back-none d m c log is.1 least
+back-none d m c (Sent n ∷ log) is least = back-none d m c log is least
+back-none d m c (HungUp ∷ log) is least = back-none d m c log is least

@@ -1,6 +1,11 @@
 -- What a slave stands after once something came back.
-use Rattle.std.proofs.Common.{◌≡◌, ℕ, ◌<◌, false, ◌&&◌, List, length, refl, sym, ap, ◌∙◌, subst, arith}
-use Rattle.std.specs.Prelude.{Option, Some, None, IfSome}
+use Rattle.std.proofs.Common.{◌≡◌, ℕ, ◌<◌, Bool, true, false, ◌&&◌, ◌||◌, nat_eq, List, [], ◌∷◌, append-nil, length, length-append, drop, take as first, refl, sym, ap, ◌∙◌, subst, arith, inl, inr}
+use Rattle.std.specs.Prelude.{Option, Some, None, IfSome, IsNone, IsSome}
+use Rattle.std.proofs.lemmas.Bool.Decides.{eqb_tells}
+use Rattle.sampler.specs.Past.{Past as SamplerPast}
+use Rattle.session.specs.Standing.{SessionStandsAfter, SessionState}
+use Rattle.frame_outbox.specs.Outboxes.{StandsAfter as OutboxStandsAfter}
+use Rattle.slave.specs.Hearing.{GoesBy}
 use Rattle.std.proofs.lemmas.Bool.{false≢true}
 use Rattle.channel_ring.specs.declared.ends.SendEnd.{Ghosts as SendGhosts}
 use Rattle.channel_ring.specs.declared.ends.RingEnd.{Ghosts as EndGhosts}
@@ -12,16 +17,21 @@ use Rattle.slave_channel.specs.Channels.{ChannelState, FinishedState, IsBackOf, 
 use Rattle.slave_channels.specs.Calls.{GivesBackNewer, GivesBackOlder}
 use Rattle.slave_channels.specs.Each.{IsOnlyAt}
 use Rattle.slave.specs.Finishing.{GivesBack, IsFinishedOf}
-use Rattle.slave.specs.Inner.{Idle}
-use Rattle.slave.specs.Log.{deeds_of, past_of}
-use Rattle.slave.specs.Standing.{ChannelHas, SlaveState}
-use Rattle.slave.proofs.TakingLemmas.{ChangesAt, some-at, took-none}
+use Rattle.session_account.specs.Accounts.{AccountStandsAfter}
+use Rattle.session_account.specs.declared.totals.Totals.{Totals}
+use Rattle.slave.specs.Inner.{Idle, Notes}
+use Rattle.slave.specs.Log.{Act, CameBack, deeds_of, entries_of, is_back, laid, opened, past_of, sent_of}
+use Rattle.slave.specs.Standing.{ChannelHas, ComesBack, IsOut, SlaveStandsAfter, SlaveState, number_of}
+use Rattle.slave.proofs.TakingLemmas.{ChangesAt, channels-changed, ended-changed, out-changed, some-at, took-none}
 
 none_some : {X : Type 0} (x : X) → None ≡ Some x → ⊥
 none_some x e = cc
 
 some_same : {X : Type 0} (x y : X) → Some x ≡ Some y → x ≡ y
 some_same x y e = cc
+
+is-some : {X : Type 0} (o : Option X) (x : X) → o ≡ Some x → IsSome o
+is-some o x at = subst (λ z. IsSome z) (sym at) refl
 
 told : {X : Type 0} (P : X → Type 0) (o : Option X) → ((x : X) → o ≡ Some x → P x) → IfSome o P
 told P None each = tt
@@ -30,6 +40,30 @@ told P (Some x) each = each x refl
 if-some : {X : Type 0} (P : X → Type 0) (o : Option X) (x : X) → IfSome o P → o ≡ Some x → P x
 if-some P None x all is = absurd (none_some x is)
 if-some P (Some y) x all is = subst P (some_same y x is) all
+
+-- a part by its number
+part-of : {T : Type 0} (o : Option (ShareState T)) (k : ℕ) → number_of o ≡ Some k → (p : ShareState T) × (o ≡ Some p) × (p.number ≡ k)
+part-of None k is = absurd (none_some k is)
+part-of (Some p) k is = (p, refl, some_same p.number k is)
+
+-- of another measurement, and at another event channel, it is as before
+other-back : (m k c : ℕ) (b : Bool) → (m ≡ k → ⊥) → b ≡ false → ((nat_eq m k && nat_eq c c) || b) ≡ false
+other-back m k c b other is =
+    elim (eqb_tells m k) [
+      | inl w ↦ absurd (other w.1)
+      | inr w ↦ ap (λ e. (e && nat_eq c c) || b) w.0 ∙ is
+    ]
+
+and_false : (b : Bool) → (b && false) ≡ false
+and_false true = refl
+and_false false = refl
+
+elsewhere : (m q c k : ℕ) (b : Bool) → (c ≡ k → ⊥) → ((nat_eq m q && nat_eq c k) || b) ≡ b
+elsewhere m q c k b other =
+    elim (eqb_tells c k) [
+      | inl w ↦ absurd (other w.1)
+      | inr w ↦ ap (λ e. (nat_eq m q && e) || b) w.0 ∙ ap (λ e. e || b) (and_false (nat_eq m q))
+    ]
 
 module _ {S T F : Type 0} (take : TakeGhosts T F) where
   quiet-runs : (a : Option (AwayState S)) (l : ℕ) → takes_orders a ≡ false → is_running a l ≡ false
@@ -58,7 +92,69 @@ module _ {S T F : Type 0} (take : TakeGhosts T F) where
     running = λ l below. quiet-runs y.link.newer l off ∙ sym (quiet-runs x.link.newer l was) ∙ has.running l below;
   }
 
+  -- a part came back, and the others did not
+  out-without-older : (n : ℕ) (f : ℕ → List Deed) (x y : ChannelState S T) (s : ShareState T) (c : ℕ) (back : ℕ → Bool) → x.older ≡ Some s → y.older ≡ None → y.newer ≡ x.newer
+      → ChannelHas take n f x → IsOut back x → IsOut (λ k. (nat_eq s.number k && nat_eq c c) || back k) y
+  out-without-older n f x y s c back was gone newer has out = record {
+    newer = λ k at.
+        let (q, there, number) = part-of x.newer k (ap (λ (o : Option (ShareState T)). number_of o) (sym newer) ∙ at) in
+        other-back s.number k c (back k) (λ e. omega (arith, has.order s q was there, number, e)) (out.newer k (ap (λ (o : Option (ShareState T)). number_of o) (sym newer) ∙ at));
+    older = λ k at. absurd (none_some k (sym (ap (λ (o : Option (ShareState T)). number_of o) gone) ∙ at));
+  }
+
+  out-without-newer : (n : ℕ) (f : ℕ → List Deed) (x y : ChannelState S T) (s : ShareState T) (c : ℕ) (back : ℕ → Bool) → x.newer ≡ Some s → y.newer ≡ None → y.older ≡ x.older
+      → ChannelHas take n f x → IsOut back x → IsOut (λ k. (nat_eq s.number k && nat_eq c c) || back k) y
+  out-without-newer n f x y s c back was gone older has out = record {
+    newer = λ k at. absurd (none_some k (sym (ap (λ (o : Option (ShareState T)). number_of o) gone) ∙ at));
+    older = λ k at.
+        let (q, there, number) = part-of x.older k (ap (λ (o : Option (ShareState T)). number_of o) (sym older) ∙ at) in
+        other-back s.number k c (back k) (λ e. omega (arith, has.order q s there was, number, e)) (out.older k (ap (λ (o : Option (ShareState T)). number_of o) (sym older) ∙ at));
+  }
+
+  -- what is left of the sampler of a part came back
+  came-back : (a b : SlaveState S T) (c m : ℕ) (x y : ChannelState S T) (past : SamplerPast) → ChangesAt take a b c x y → b.outbox ≡ a.outbox
+      → ((log : List Act) → SlaveStandsAfter take a.session.profile a log → AccountStandsAfter b.account (record { past = past; deeds = deeds_of a.session.profile m c log } ∷ entries_of a.session.profile log) (λ l. 0)
+      × ComesBack a.session.profile log m c past
+      × ChannelHas take (opened log) (λ q. deeds_of a.session.profile q c log) y × IsOut (λ q. (nat_eq m q && nat_eq c c) || is_back q c log) y)
+      → GoesBy take a b (CameBack m c past ∷ [])
+  came-back a b c m x y past changes outbox known = λ log few stands.
+      let d = a.session.profile in
+      let has = stands.has in
+      let (account, comes, here, out) = known log stands in
+      record {
+        has = record {
+          few = omega (arith, few);
+          is_log = (comes, has.is_log);
+          sent = omega (arith, has.sent, length-append (laid d log) []);
+          profile = ap (λ (z : SessionState). z.profile) changes.session;
+          session = subst (λ z. SessionStandsAfter z (past_of d log)) (sym changes.session) has.session;
+          outbox =
+              subst (λ xs. OutboxStandsAfter b.outbox (first (sent_of log) xs) (drop (sent_of log) xs)) (sym (append-nil (laid d log)))
+              (subst (λ o. OutboxStandsAfter o (first (sent_of log) (laid d log)) (drop (sent_of log) (laid d log))) (sym outbox) has.outbox);
+          channels = channels-changed take (opened log) (λ k q. deeds_of d q k log) (λ k q. deeds_of d q k log) a b c x y changes (λ k q other. refl) here has.channels;
+          out = out-changed take (λ k q. is_back q k log) (λ k q. is_back q k (CameBack m c past ∷ log)) a b c x y changes (λ k q other. elsewhere m q c k (is_back q k log) (λ e. other (sym e))) out has.out;
+          plan = changes.plan ∙ has.plan;
+          account = account;
+          number = changes.number ∙ has.number;
+        };
+        ended = ended-changed take a b c x y (past_of d log) changes stands.ended;
+      }
+
 module _ {S E T F : Type 0} (send : SendGhosts S E) (ring : EndGhosts E) (take : TakeGhosts T F) where
+  -- what the account gained
+  note-none : (a b : List Totals) (answer : Option (FinishedState E T)) → Notes ring take a b answer → IsNone answer → b ≡ a
+  note-none a b None notes nothing = notes
+  note-none a b (Some f) notes nothing = absurd (false≢true (sym nothing))
+
+  note-some : (a b : List Totals) (answer : Option (FinishedState E T)) (f : FinishedState E T) → Notes ring take a b answer → answer ≡ Some f → Notes ring take a b (Some f)
+  note-some a b answer f notes at = subst (λ z. Notes ring take a b z) at notes
+
+  -- what came back is of a part that was kept
+  back-part : (o : Option (AwayState S)) (p : Option (ShareState T)) (f : FinishedState E T) → IsBackOf send ring take o p f → (s : ShareState T) × (p ≡ Some s) × (f.number ≡ s.number)
+  back-part None p f back = elim back [ ]
+  back-part (Some a) None f back = elim back [ ]
+  back-part (Some a) (Some s) f back = (s, refl, back.number)
+
   -- the intake of what came back goes on from that of its part
   back-stands : (o : Option (AwayState S)) (p : Option (ShareState T)) (f : FinishedState E T) → IsBackOf send ring take o p f → (deeds : ℕ → List Deed)
       → ((s : ShareState T) → p ≡ Some s → StandsAfter take s.intake (deeds s.number)) → StandsAfter take f.intake (deeds f.number)
@@ -84,36 +180,95 @@ module _ {S E T F : Type 0} (send : SendGhosts S E) (ring : EndGhosts E) (take :
   newer-off x y None gives off = looks-off x.link.newer y.link.newer (gives.none refl).1 off
   newer-off x y (Some f) gives off = ap takes_orders (gives.some refl).0
 
-  pub gives-older : (v w : SlaveState S T) (xs : List (ChannelState S T)) (c : ℕ) (answer : Option (FinishedState E T)) → w ≡ v → c < length w.channels
-      → IsOnlyAt (GivesBackOlder send ring take answer) c w.channels xs → GivesBack take v (record w { channels = xs }) c answer
-  gives-older v w xs c answer same below only =
+  pub gives-older : (v w : SlaveState S T) (xs : List (ChannelState S T)) (account : List Totals) (c : ℕ) (answer : Option (FinishedState E T)) → w ≡ v → Notes ring take w.account account answer → c < length w.channels
+      → IsOnlyAt (GivesBackOlder send ring take answer) c w.channels xs → GivesBack take ring v (record w { channels = xs; account = account }) c answer
+  gives-older v w xs account c answer same notes below only =
       let (x, was) = some-at w.channels c below in
       let (y, is) = some-at xs c (omega (arith, below, only.as_many)) in
       let one = only.here x y was is in
-      let b : SlaveState S T = record w { channels = xs } in
+      let d = w.session.profile in
+      let b : SlaveState S T = record w { channels = xs; account = account } in
       let link : y.link.newer ≡ x.link.newer = ap (λ (l : LinkState S). l.newer) one.rest.0 in
-      let changes : ChangesAt take w b c x y = record { was = was; is = is; others = only.others; quiet = λ off. ap takes_orders link ∙ off; session = refl; number = refl } in
-      subst (λ (z : SlaveState S T). GivesBack take z b c answer) same
+      let changes : ChangesAt take w b c x y = record { was = was; is = is; others = only.others; quiet = λ off. ap takes_orders link ∙ off; session = refl; plan = refl; number = refl } in
+      let back = λ (f : FinishedState E T) (at : answer ≡ Some f). if-some (IsBackOf send ring take x.link.older x.older) answer f one.back at in
+      let intake = λ (f : FinishedState E T) (at : answer ≡ Some f) (log : List Act) (stands : SlaveStandsAfter take d w log).
+      back-stands x.link.older x.older f (back f at) (λ m. deeds_of d m c log) (λ s there. ((stands.has.channels c x was).older s there).0.stands) in
+      subst (λ (z : SlaveState S T). GivesBack take ring z b c answer) same
       (record {
         session = refl;
+        outbox = refl;
         as_many = only.as_many;
-        goes = took-none take w b c x y (Unit {0}) changes refl (λ log z. tt) (λ n f u has. channel-without-older take n f x y (older-gone x y answer one) one.rest.1 link has);
-        finished = told (IsFinishedOf take w c) answer (λ f at log stands. back-stands x.link.older x.older f (if-some (IsBackOf send ring take x.link.older x.older) answer f one.back at) (λ m. deeds_of w.session.profile m c log) (λ s at. ((stands.has.channels c x was).older s at).0.stands));
+        none = λ nothing.
+            took-none take w b c x y (Unit {0}) changes (record { newer = ap (λ (o : Option (ShareState T)). number_of o) one.rest.1; older = ap (λ (o : Option (ShareState T)). number_of o) (one.none nothing).0 }) refl (note-none w.account account answer notes nothing) (λ log z. tt)
+            (λ n f u has. channel-without-older take n f x y (older-gone x y answer one) one.rest.1 link has);
+        some = told _ answer
+            (λ f at past is_past.
+            let (s, there, number) = back-part x.link.older x.older f (back f at) in
+            came-back take w b c f.number x y past changes refl
+            (λ log stands.
+            let has = stands.has.channels c x was in
+            let part = has.older s there in
+            let out = stands.has.out c x was in
+            let of_part : number_of x.older ≡ Some f.number = ap (λ (o : Option (ShareState T)). number_of o) there ∙ ap Some (sym number) in (
+              note-some w.account account answer f notes at (record { past = past; deeds = deeds_of d f.number c log }) is_past (intake f at log stands) (entries_of d log) (λ l. 0) stands.has.account,
+              record {
+                there = omega (arith, part.0.there, number);
+                once = out.older f.number of_part;
+                over = λ e. absurd (omega (arith, e, part.1, number));
+                plans = is_past.plans;
+                front = is_past.front (deeds_of d f.number c log) (intake f at log stands);
+                marks = is_past.marks (deeds_of d f.number c log) (intake f at log stands);
+              },
+              channel-without-older take (opened log) (λ m. deeds_of d m c log) x y (older-gone x y answer one) one.rest.1 link has,
+              subst (λ k. IsOut (λ q. (nat_eq k q && nat_eq c c) || is_back q c log) y) (sym number)
+                  (out-without-older take (opened log) (λ m. deeds_of d m c log) x y s c (λ q. is_back q c log) there (one.some (is-some answer f at)).1 one.rest.1 has out),
+            )));
+        finished = told (IsFinishedOf take w c) answer (λ f at log stands. intake f at log stands);
       })
 
-  pub gives-newer : (v w : SlaveState S T) (xs : List (ChannelState S T)) (c : ℕ) (answer : Option (FinishedState E T)) → w ≡ v → Idle w.session → c < length w.channels
-      → IsOnlyAt (GivesBackNewer send ring take answer) c w.channels xs → GivesBack take v (record w { channels = xs }) c answer
-  gives-newer v w xs c answer same idle below only =
+  pub gives-newer : (v w : SlaveState S T) (xs : List (ChannelState S T)) (account : List Totals) (c : ℕ) (answer : Option (FinishedState E T)) → w ≡ v → Notes ring take w.account account answer → Idle w.session → c < length w.channels
+      → IsOnlyAt (GivesBackNewer send ring take answer) c w.channels xs → GivesBack take ring v (record w { channels = xs; account = account }) c answer
+  gives-newer v w xs account c answer same notes idle below only =
       let (x, was) = some-at w.channels c below in
       let (y, is) = some-at xs c (omega (arith, below, only.as_many)) in
       let one = only.here x y was is in
-      let b : SlaveState S T = record w { channels = xs } in
-      let changes : ChangesAt take w b c x y = record { was = was; is = is; others = only.others; quiet = λ off. newer-off x y answer one off; session = refl; number = refl } in
-      subst (λ (z : SlaveState S T). GivesBack take z b c answer) same
+      let d = w.session.profile in
+      let b : SlaveState S T = record w { channels = xs; account = account } in
+      let changes : ChangesAt take w b c x y = record { was = was; is = is; others = only.others; quiet = λ off. newer-off x y answer one off; session = refl; plan = refl; number = refl } in
+      let back = λ (f : FinishedState E T) (at : answer ≡ Some f). if-some (IsBackOf send ring take x.link.newer x.newer) answer f one.back at in
+      let intake = λ (f : FinishedState E T) (at : answer ≡ Some f) (log : List Act) (stands : SlaveStandsAfter take d w log).
+      back-stands x.link.newer x.newer f (back f at) (λ m. deeds_of d m c log) (λ s there. ((stands.has.channels c x was).newer s there).stands) in
+      let ended = λ (log : List Act) (stands : SlaveStandsAfter take d w log). stands.ended (idle (past_of d log) stands.has.session) c x was in
+      subst (λ (z : SlaveState S T). GivesBack take ring z b c answer) same
       (record {
         session = refl;
+        outbox = refl;
         as_many = only.as_many;
-        goes = took-none take w b c x y (takes_orders x.link.newer ≡ false) changes refl (λ log stands. stands.ended (idle (past_of w.session.profile log) stands.has.session) c x was)
+        none = λ nothing.
+            took-none take w b c x y (takes_orders x.link.newer ≡ false) changes (record { newer = ap (λ (o : Option (ShareState T)). number_of o) (one.none nothing).0; older = ap (λ (o : Option (ShareState T)). number_of o) one.rest.1 }) refl (note-none w.account account answer notes nothing) ended
             (λ n f off has. channel-without-newer take n f x y off (newer-off x y answer one off) (newer-gone x y answer one) one.rest.1 has);
-        finished = told (IsFinishedOf take w c) answer (λ f at log stands. back-stands x.link.newer x.newer f (if-some (IsBackOf send ring take x.link.newer x.newer) answer f one.back at) (λ m. deeds_of w.session.profile m c log) (λ s there. ((stands.has.channels c x was).newer s there).stands));
+        some = told _ answer
+            (λ f at past is_past.
+            let (s, there, number) = back-part x.link.newer x.newer f (back f at) in
+            came-back take w b c f.number x y past changes refl
+            (λ log stands.
+            let has = stands.has.channels c x was in
+            let part = has.newer s there in
+            let out = stands.has.out c x was in
+            let off = ended log stands in
+            let of_part : number_of x.newer ≡ Some f.number = ap (λ (o : Option (ShareState T)). number_of o) there ∙ ap Some (sym number) in (
+              note-some w.account account answer f notes at (record { past = past; deeds = deeds_of d f.number c log }) is_past (intake f at log stands) (entries_of d log) (λ l. 0) stands.has.account,
+              record {
+                there = omega (arith, part.there, number);
+                once = out.newer f.number of_part;
+                over = λ e. idle (past_of d log) stands.has.session;
+                plans = is_past.plans;
+                front = is_past.front (deeds_of d f.number c log) (intake f at log stands);
+                marks = is_past.marks (deeds_of d f.number c log) (intake f at log stands);
+              },
+              channel-without-newer take (opened log) (λ m. deeds_of d m c log) x y off (newer-off x y answer one off) (newer-gone x y answer one) one.rest.1 has,
+              subst (λ k. IsOut (λ q. (nat_eq k q && nat_eq c c) || is_back q c log) y) (sym number)
+                  (out-without-newer take (opened log) (λ m. deeds_of d m c log) x y s c (λ q. is_back q c log) there (one.some (is-some answer f at)).1 one.rest.1 has out),
+            )));
+        finished = told (IsFinishedOf take w c) answer (λ f at log stands. intake f at log stands);
       })

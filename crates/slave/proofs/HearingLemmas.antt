@@ -1,5 +1,5 @@
 -- What a slave stands after once a packet was heard.
-use Rattle.std.proofs.Common.{◌≡◌, ℕ, ◌<◌, true, List, [], ◌∷◌, ◌++◌, length-append, slice_get, refl, sym, ap, ◌∙◌, subst, arith, inl, inr, Err}
+use Rattle.std.proofs.Common.{◌≡◌, ℕ, ◌<◌, List, [], ◌∷◌, ◌++◌, length-append, slice_get, refl, sym, ap, ◌∙◌, subst, arith, inl, inr, Err}
 use Rattle.std.specs.Prelude.{Some}
 use Rattle.xcp_base.specs.Lists.{has_list}
 use Rattle.xcp_base.specs.declared.err_code.ErrCode.{ErrCode}
@@ -10,14 +10,33 @@ use Rattle.session.specs.Past.{Past}
 use Rattle.session.specs.Standing.{SessionStandsAfter, SessionState}
 use Rattle.session.specs.Starts.{starts}
 use Rattle.slave.specs.Hearing.{Hears}
-use Rattle.slave.specs.Inner.{Answers, LaysReply, Prepares, SlaveStarted, StartsInVain}
-use Rattle.slave.specs.Log.{Act, Heard, Refused, laid, past_of, reply_laid, sent_of}
-use Rattle.slave.specs.Standing.{SlaveStandsAfter, SlaveState}
+use Rattle.session.specs.declared.profile.Profile.{Profile}
+use Rattle.slave.specs.Inner.{Answers, AreAsOpened, HasOther, IsOfOne, LaysReply, Prepares, SlaveStarted, StartsInVain}
+use Rattle.session_account.specs.Accounts.{AccountStandsAfter}
+use Rattle.slave.specs.Log.{Act, Heard, Refused, entries_of, laid, past_of, reply_laid, sent_of}
+use Rattle.slave.specs.Standing.{SlaveStandsAfter, SlaveState, StartsOther, StartsWell}
 use Rattle.slave.proofs.AnsweringLemmas.{reply-laid}
+use Rattle.slave.proofs.StartLemmas.{starts-list}
 
 pub assoc : (a b c : List Act) → (a ++ b) ++ c ≡ a ++ (b ++ c)
 assoc [] b c = refl
 assoc (x ∷ a) b c = ap (λ xs. x ∷ xs) (assoc a b c)
+
+-- lists that the packet starts, by their set
+starts-well : (d : Profile) (log : List Act) (packet : List ℕ) (lists : ℕ) → ((l : ℕ) → l < MAX_LISTS → has_list lists l ≡ starts d (past_of d log) packet l)
+    → IsOfOne d log lists → AreAsOpened d log lists → StartsWell d log packet
+starts-well d log packet lists are one opened = record {
+  as_opened = λ l below is. opened l below (are l below ∙ is) (starts-list d (past_of d log) packet l is);
+  in_one = λ some none. one (some.0, some.1, are some.0 some.1 ∙ some.2) none;
+}
+
+other-starts : (d : Profile) (log : List Act) (packet : List ℕ) (lists : ℕ) → ((l : ℕ) → l < MAX_LISTS → has_list lists l ≡ starts d (past_of d log) packet l)
+    → HasOther d log lists → StartsOther d log packet
+other-starts d log packet lists are has = record { list = has.list; below = has.below; starts_it = sym (are has.list has.below) ∙ has.one; other = has.other; some = has.some }
+
+starts-other : (d : Profile) (log : List Act) (packet : List ℕ) (lists : ℕ) → ((l : ℕ) → l < MAX_LISTS → has_list lists l ≡ starts d (past_of d log) packet l)
+    → StartsOther d log packet → HasOther d log lists
+starts-other d log packet lists are has = record { list = has.list; below = has.below; one = are has.list has.below ∙ has.starts_it; other = has.other; some = has.some }
 
 module _ {S T F : Type 0} (take : TakeGhosts T F) where
   -- a packet whose lists were started was answered
@@ -32,6 +51,11 @@ module _ {S T F : Type 0} (take : TakeGhosts T F) where
         opening = prepares.opening;
         is = inl (answers.exchange, refl, answers.packet_is, answers.clock_is);
         may_open = prepares.may_open;
+        for_a_start = λ log stands.
+            elim prepares.for_some [
+              | inl none ↦ inl none
+              | inr some ↦ inr (some.0, some.1, sym (are (past_of d log) stands.has.session some.0 some.1) ∙ some.2)
+            ];
         goes = λ log few stands.
             let before = prepares.opening ++ log in
             let has = prepares.goes log (omega (arith, few)) stands in
@@ -40,15 +64,17 @@ module _ {S T F : Type 0} (take : TakeGhosts T F) where
             (λ l below.
             are (past_of d before) (subst (λ s. SessionStandsAfter s (past_of d before)) same has.session) l below
             ∙ ap (λ p. starts p (past_of p before) packet l) (sym profile))
+            (subst (λ p. StartsWell p before packet) (sym profile)
+            (starts-well d before packet lists (λ l below. are (past_of d before) (subst (λ s. SessionStandsAfter s (past_of d before)) same has.session) l below)
+            (prepares.in_one log (omega (arith, few)) stands) (prepares.as_opened log (omega (arith, few)) stands)))
             (subst (λ p. SlaveStarted take p k before lists) (sym profile) has));
       }
 
   -- a start was refused
-  pub refused : (a k b : SlaveState S T) (lists l : ℕ) (packet : List ℕ) (clock : ℕ) (code : ErrCode) → StartsInVain take a k code → k.session ≡ a.session
+  pub refused : (a k b : SlaveState S T) (lists : ℕ) (packet : List ℕ) (clock : ℕ) (code : ErrCode) → StartsInVain take a k lists code → k.session ≡ a.session
       → ((past : Past) → SessionStandsAfter a.session past → (l : ℕ) → l < MAX_LISTS → has_list lists l ≡ starts a.session.profile past packet l)
-      → l < MAX_LISTS → has_list lists l ≡ true
       → LaysReply k.outbox b.outbox (Some (packet_of (Err code))) → b ≡ record k { outbox = b.outbox } → Hears take a b packet clock
-  refused a k b lists l packet clock code vain same are below some lays rest =
+  refused a k b lists packet clock code vain same are lays rest =
       let d = a.session.profile in
       let session : b.session ≡ k.session = ap (λ (s : SlaveState S T). s.session) rest in
       let channels : b.channels ≡ k.channels = ap (λ (s : SlaveState S T). s.channels) rest in
@@ -57,20 +83,33 @@ module _ {S T F : Type 0} (take : TakeGhosts T F) where
         opening = vain.opening;
         is = inr (code, refl, vain.is);
         may_open = vain.may_open;
+        for_a_start = λ log stands. inr (vain.some.0, vain.some.1, sym (are (past_of d log) stands.has.session vain.some.0 vain.some.1) ∙ vain.some.2);
         goes = λ log few stands.
             let before = vain.opening ++ log in
             let was = vain.goes log (omega (arith, few)) stands in
             let has = was.has in
+            let tie : (l : ℕ) → l < MAX_LISTS → has_list lists l ≡ starts d (past_of d before) packet l =
+            λ l below. are (past_of d before) (subst (λ s. SessionStandsAfter s (past_of d before)) same has.session) l below in
             let reply = Some (packet_of (Err code)) in
             record {
               has = record {
                 few = omega (arith, few, length-append vain.opening log);
-                is_log = ((l, below, sym (are (past_of d before) (subst (λ s. SessionStandsAfter s (past_of d before)) same has.session) l below) ∙ some), has.is_log);
+                is_log = (
+                  (vain.some.0, vain.some.1, sym (tie vain.some.0 vain.some.1) ∙ vain.some.2),
+                  (
+                    λ is. other-starts d before packet lists tie ((vain.sequence log (omega (arith, few)) stands).0 is),
+                    λ other. (vain.sequence log (omega (arith, few)) stands).1 (starts-other d before packet lists tie other),
+                  ),
+                  has.is_log,
+                );
                 sent = omega (arith, has.sent, length-append (laid d before) (reply_laid reply));
                 profile = ap (λ (s : SessionState). s.profile) (session ∙ same);
                 session = subst (λ s. SessionStandsAfter s (past_of d before)) (sym session) has.session;
                 outbox = reply-laid k.outbox b.outbox reply (sent_of before) (laid d before) lays has.sent has.outbox;
                 channels = λ c ch at. has.channels c ch (ap (λ xs. slice_get xs c) (sym channels) ∙ at);
+                out = λ c ch at. has.out c ch (ap (λ xs. slice_get xs c) (sym channels) ∙ at);
+                plan = ap (λ (s : SlaveState S T). s.plan) rest ∙ has.plan;
+                account = subst (λ x. AccountStandsAfter x (entries_of d before) (λ l. 0)) (sym (ap (λ (s : SlaveState S T). s.account) rest)) has.account;
                 number = ap (λ (s : SlaveState S T). s.number) rest ∙ has.number;
               };
               ended = λ none c ch at. was.ended none c ch (ap (λ xs. slice_get xs c) (sym channels) ∙ at);

@@ -1,4 +1,8 @@
 pub mod RunLemmas
+pub mod OutLemmas
+pub mod StartLemmas
+pub mod CollectingLemmas
+pub mod ClosingLemmas
 pub mod LogLemmas
 pub mod ChannelLemmas
 pub mod OpeningLemmas

@@ -1,5 +1,5 @@
 -- A slave that was just opened.
-use Rattle.std.proofs.Common.{◌≡◌, ℕ, zero, suc, List, [], replicate, slice_get, refl, sym, ap, ◌∙◌, subst, arith}
+use Rattle.std.proofs.Common.{◌≡◌, ℕ, zero, suc, List, [], replicate, slice_get, refl, sym, ap, ◌∙◌, subst, arith, false}
 use Rattle.std.specs.Prelude.{Some, None}
 use Rattle.channel_ring.specs.declared.ends.TakeEnd.{Ghosts as TakeGhosts}
 use Rattle.daq_store.specs.Configuration.{Configuration}
@@ -12,7 +12,9 @@ use Rattle.tasks.specs.Links.{takes_orders}
 use Rattle.slave_channel.specs.Channels.{ChannelState}
 use Rattle.slave_channels.specs.Calls.{no_measurement}
 use Rattle.slave.specs.Log.{deeds_of}
-use Rattle.slave.specs.Standing.{ChannelHas, SlaveStandsAfter}
+use Rattle.session_account.specs.Accounts.{AccountStandsAfter}
+use Rattle.session_account.specs.declared.totals.Totals.{Totals}
+use Rattle.slave.specs.Standing.{ChannelHas, IsOut, SlaveStandsAfter}
 
 none_some : {X : Type 0} (x : X) → None ≡ Some x → ⊥
 none_some x e = cc
@@ -35,11 +37,14 @@ module _ {S T F : Type 0} (take : TakeGhosts T F) where
     running = λ l below. refl;
   }
 
+  nothing-out : IsOut {S = S} {T = T} (λ m. false) no_measurement
+  nothing-out = record { newer = λ m at. refl; older = λ m at. refl }
+
   -- it stands after nothing
-  pub new-stands : (d : Profile) (s : SessionState) (o : OutboxState) (channels : List (ChannelState S T)) (plan : List Configuration) (n : ℕ) → s.profile ≡ d → SessionStandsAfter s new_past → OutboxStandsAfter o [] []
+  pub new-stands : (d : Profile) (s : SessionState) (o : OutboxState) (channels : List (ChannelState S T)) (plan : List Configuration) (account : List Totals) (n : ℕ) → AccountStandsAfter account [] (λ l. 0) → plan ≡ [] → s.profile ≡ d → SessionStandsAfter s new_past → OutboxStandsAfter o [] []
       → channels ≡ replicate n no_measurement
-      → SlaveStandsAfter take d (record { session = s; outbox = o; channels = channels; plan = plan; number = 0 }) []
-  new-stands d s o channels plan n profile session outbox all =
+      → SlaveStandsAfter take d (record { session = s; outbox = o; channels = channels; plan = plan; number = 0; account = account }) []
+  new-stands d s o channels plan account n fresh none profile session outbox all =
       let is : (c : ℕ) (ch : ChannelState S T) → slice_get channels c ≡ Some ch → ch ≡ no_measurement = λ c ch at. each-is n no_measurement ch c (ap (λ xs. slice_get xs c) (sym all) ∙ at) in
       record {
         has = record {
@@ -50,6 +55,9 @@ module _ {S T F : Type 0} (take : TakeGhosts T F) where
           session = session;
           outbox = outbox;
           channels = λ c ch at. subst (λ x. ChannelHas take 0 (λ m. deeds_of d m c []) x) (sym (is c ch at)) (nothing-there d c);
+          out = λ c ch at. subst (λ x. IsOut (λ m. false) x) (sym (is c ch at)) nothing-out;
+          plan = none;
+          account = fresh;
           number = refl;
         };
         ended = λ none c ch at. ap (λ (x : ChannelState S T). takes_orders x.link.newer) (is c ch at);

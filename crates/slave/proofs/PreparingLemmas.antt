@@ -13,16 +13,22 @@ use Rattle.daq_store.specs.Standing.{StoreState}
 use Rattle.session.specs.Standing.{SessionStandsAfter, SessionState}
 use Rattle.session.specs.declared.profile.Profile.{Profile}
 use Rattle.frame_outbox.specs.Outboxes.{StandsAfter as OutboxStandsAfter}
+use Rattle.session_account.specs.Accounts.{AccountStandsAfter}
 use Rattle.slave_channel.specs.Channels.{ChannelState}
 use Rattle.slave_channels.specs.Calls.{CanStartAll, Ends, Looks, OpensAt, OpenedAndEnded, StartsAt}
 use Rattle.slave_channels.specs.Each.{IsEach}
-use Rattle.slave.specs.Hearing.{IsStartRefusal}
-use Rattle.slave.specs.Inner.{AreSets, Idle, LooksAtAll, OpensAll, OpensInVain, OpensNone, Prepares, SlaveStarted, StartsInVain, StartsLists}
-use Rattle.slave.specs.Log.{Act, Opened, deeds_of, laid, opened, past_of, sent_of}
+use Rattle.slave.specs.Hearing.{MayOpen}
+use Rattle.slave.specs.Plans.{IsSame, plan_of}
+use Rattle.slave.proofs.PlanLemmas.{as-opened, is-same, just-opened}
+use Rattle.session.specs.Profiles.{lists_of}
+use Rattle.xcp_base.specs.declared.err_code.ErrCode.TheVariants.{CmdBusy, MemoryOverflow, Sequence}
+use Rattle.slave.specs.Inner.{AreSets, Busy, HasSome, Idle, IsPlaceRefusal, LooksAtAll, OpensAll, OpensInVain, OpensNone, Prepares, SlaveStarted, StartsInVain, StartsLists}
+use Rattle.slave.specs.Log.{Act, Opened, deeds_of, entries_of, is_back, laid, opened, past_of, sent_of}
 use Rattle.slave.specs.Standing.{NoneRuns, SlaveHas, SlaveStandsAfter, SlaveState}
 use Rattle.slave.proofs.ChannelLemmas.{channel-ends, takes-ended}
 use Rattle.slave.proofs.LogLemmas.{ties}
-use Rattle.slave.proofs.StandingLemmas.{looks-at-all, looks-ended, opens-all, opens-in-vain, starts-all, starts-no-list, was-there}
+use Rattle.slave.proofs.StandingLemmas.{looks-at-all, looks-ended, opens-all, opens-in-vain, starts-all, starts-no-list}
+use Rattle.slave.proofs.OutLemmas.{keeps-ends, out-each, was-there}
 
 front-get : (n : ℕ) (xs : List ℕ) (c x : ℕ) → slice_get (first n xs) c ≡ Some x → slice_get xs c ≡ Some x
 front-get zero xs c x at = absurd (nothing at) where
@@ -51,9 +57,32 @@ pub if-err : {A B : Type 0} (r : Result A B) (P R : B → Type 0) (Q : Type 0) �
 if-err (Ok x) P R Q p q f = p
 if-err (Err e) P R Q p q f = f e p q
 
+pub if-err-so : {A B : Type 0} (r : Result A B) (P Q : B → Type 0) → ((e : B) → P e → Q e) → IfErr r P → IfErr r Q
+if-err-so (Ok x) P Q f p = p
+if-err-so (Err e) P Q f p = f e p
+
 is-false : (b : Bool) → (b ≡ true → ⊥) → b ≡ false
 is-false true never = absurd (never refl)
 is-false false never = refl
+
+-- nothing, and one measurement
+nothing-opened : MayOpen []
+nothing-opened = record { are = refl; one = omega arith }
+
+one-opened : MayOpen (Opened ∷ [])
+one-opened = record { are = refl; one = omega arith }
+
+place-code : (code : ErrCode) → IsPlaceRefusal code → code ≡ Sequence → ⊥
+place-code code is e =
+    elim is [
+      | inl w ↦ busy (sym w ∙ e)
+      | inr w ↦ memory (sym w ∙ e)
+    ] where
+      busy : CmdBusy ≡ Sequence → ⊥
+      busy z = cc
+
+      memory : MemoryOverflow ≡ Sequence → ⊥
+      memory z = cc
 
 module _ {S T : Type 0} where
   pub looks-of : (v w : SlaveState S T) (x : List (ChannelState S T)) → w ≡ v → IsEach (λ c. Looks) w.channels x → LooksAtAll v (record w { channels = x })
@@ -96,6 +125,9 @@ module _ {S T F : Type 0} (take : TakeGhosts T F) where
               channel-ends take (opened log) (λ m. deeds_of d m c log) old ch (ends.each c old ch was at)
               (λ l below. is-false _ (λ runs_so. false≢true (sym (none l below) ∙ (ties d log has.is_log (opened log - 1) c l below runs_so).1)))
               (has.channels c old was);
+          out = out-each (λ c. Ends) a.channels b.channels (λ c m. is_back m c log) ends (λ c x y e. keeps-ends x y e) has.out;
+          plan = ap (λ (s : SlaveState S T). s.plan) rest ∙ has.plan;
+          account = subst (λ x. AccountStandsAfter x (entries_of d log) (λ l. 0)) (sym (ap (λ (s : SlaveState S T). s.account) rest)) has.account;
           number = ap (λ (s : SlaveState S T). s.number) rest ∙ has.number;
         };
         ended = λ quiet c ch at.
@@ -111,86 +143,130 @@ module _ {S T F : Type 0} (take : TakeGhosts T F) where
       (looks-at-all take d a s.looked log s.looks has)
 
   -- lists of the measurement that is there are started
-  pub starts-prepare : (a b : SlaveState S T) (lists : ℕ) → StartsLists take a b lists → Prepares take a b lists
-  starts-prepare a b lists s = record {
+  pub starts-prepare : (a b : SlaveState S T) (lists : ℕ) → StartsLists take a b lists → Busy a.session → a.session.store.profile ≡ lists_of a.session.profile
+      → ((l : ℕ) → l < MAX_LISTS → has_list lists l ≡ true → IsSame a.plan a.session.store l) → Prepares take a b lists
+  starts-prepare a b lists s busy profile same = record {
     opening = [];
-    may_open = inl refl;
+    may_open = nothing-opened;
+    for_some = inl refl;
+    in_one = λ log few stands some none. absurd (busy (past_of a.session.profile log) stands.has.session none);
+    as_opened = λ log few stands l below one there. as-opened a.session.profile a.session a.plan log l profile stands.has.session stands.has.plan (same l below one);
     goes = λ log few stands. started-behind a.session.profile a b log lists (omega (arith, few)) s stands.has;
   }
 
   pub none-prepare : (a : SlaveState S T) (lists : ℕ) → ((l : ℕ) → l < MAX_LISTS → has_list lists l ≡ false) → Prepares take a a lists
   none-prepare a lists none = record {
     opening = [];
-    may_open = inl refl;
+    may_open = nothing-opened;
+    for_some = inl refl;
+    in_one = λ log few stands some quiet. absurd (false≢true (sym (none some.0 some.1) ∙ some.2));
+    as_opened = λ log few stands l below one there. absurd (false≢true (sym (none l below) ∙ one));
     goes = λ log few stands. starts-no-list take a.session.profile a log lists none stands.has;
   }
 
-  -- lists are not started
-  pub looks-in-vain : (a b : SlaveState S T) (code : ErrCode) → IsStartRefusal code → LooksAtAll a b → StartsInVain take a b code
-  looks-in-vain a b code is looks = record {
-    is = is;
+  -- lists are not started, since there is no place for the orders
+  pub looks-in-vain : (a b : SlaveState S T) (lists : ℕ) (code : ErrCode) → IsPlaceRefusal code → LooksAtAll a b → HasSome lists → a.session.store.profile ≡ lists_of a.session.profile
+      → ((l : ℕ) → l < MAX_LISTS → has_list lists l ≡ true → IsSame a.plan a.session.store l) → StartsInVain take a b lists code
+  looks-in-vain a b lists code is looks some profile same = record {
+    is = inr is;
+    some = some;
     opening = [];
-    may_open = inl refl;
+    may_open = nothing-opened;
+    sequence = λ log few stands. (
+      λ e. absurd (place-code code is e),
+      λ other. absurd (other.other (as-opened a.session.profile a.session a.plan log other.list profile stands.has.session stands.has.plan (same other.list other.below other.one))),
+    );
     goes = λ log few stands. record {
       has = looks-at-all take a.session.profile a b log looks stands.has;
       ended = looks-ended take (past_of a.session.profile log) a b looks stands.ended;
     };
   }
 
-  pub unchanged-in-vain : (a b : SlaveState S T) (code : ErrCode) → IsStartRefusal code → b ≡ a → StartsInVain take a b code
-  unchanged-in-vain a b code is same = record {
-    is = is;
+  -- or since one of them does not stand as it did
+  pub other-in-vain : (a : SlaveState S T) (lists l : ℕ) → Busy a.session → a.session.store.profile ≡ lists_of a.session.profile
+      → l < MAX_LISTS → has_list lists l ≡ true → ¬ IsSame a.plan a.session.store l → StartsInVain take a a lists Sequence
+  other-in-vain a lists l busy profile below one other = record {
+    is = inl refl;
+    some = (l, below, one);
     opening = [];
-    may_open = inl refl;
+    may_open = nothing-opened;
+    sequence = λ log few stands. (
+      λ e. record {
+        list = l;
+        below = below;
+        one = one;
+        other = λ opened. other (is-same a.session.profile a.session a.plan log l profile stands.has.session stands.has.plan opened);
+        some = busy (past_of a.session.profile log) stands.has.session;
+      },
+      λ has. refl,
+    );
+    goes = λ log few stands. stands;
+  }
+
+  -- or since no measurement is opened
+  pub unchanged-in-vain : (a b : SlaveState S T) (lists : ℕ) (code : ErrCode) → IsPlaceRefusal code → Idle a.session → HasSome lists → b ≡ a → StartsInVain take a b lists code
+  unchanged-in-vain a b lists code is idle some same = record {
+    is = inr is;
+    some = some;
+    opening = [];
+    may_open = nothing-opened;
+    sequence = λ log few stands. (λ e. absurd (place-code code is e), λ other. absurd (other.some (idle (past_of a.session.profile log) stands.has.session)));
     goes = λ log few stands. subst (λ s. SlaveStandsAfter take a.session.profile s log) (sym same) stands;
   }
 
 module _ {S E T F : Type 0} (send : SendGhosts S E) (ring : EndGhosts E) (take : TakeGhosts T F) where
-  pub opens-of : (v w : SlaveState S T) (x : List (ChannelState S T)) (store : StoreState) (caps sets : List ℕ) → w ≡ v → store ≡ w.session.store → length caps ≡ length w.channels → length sets ≡ length w.channels
+  pub opens-of : (v w : SlaveState S T) (x : List (ChannelState S T)) (store : StoreState) (caps sets : List ℕ) → w ≡ v → store ≡ w.session.store → w.plan ≡ plan_of w.session.store → w.session.store.profile ≡ lists_of w.session.profile → length caps ≡ length w.channels → length sets ≡ length w.channels
       → IsEach (OpensAt send ring take store w.number caps sets) w.channels x
       → OpensAll send ring take v (record w { channels = x; number = (w.number + 1) % 18446744073709551616 })
-  opens-of v w x store caps sets same st many_caps many_sets opens =
-      subst (λ (u : SlaveState S T). length caps ≡ length u.channels → length sets ≡ length u.channels → IsEach (OpensAt send ring take u.session.store u.number caps sets) u.channels x
+  opens-of v w x store caps sets same st plan lists many_caps many_sets opens =
+      subst (λ (u : SlaveState S T). u.plan ≡ plan_of u.session.store → u.session.store.profile ≡ lists_of u.session.profile → length caps ≡ length u.channels → length sets ≡ length u.channels → IsEach (OpensAt send ring take u.session.store u.number caps sets) u.channels x
       → OpensAll send ring take v (record u { channels = x; number = (u.number + 1) % 18446744073709551616 })) (sym same)
-      (λ p q o. record { caps = caps; sets = sets; as_many_caps = p; as_many_sets = q; channels = o; rest = record { session = refl; outbox = refl; number = refl } }) many_caps many_sets (subst (λ z. IsEach (OpensAt send ring take z w.number caps sets) w.channels x) st opens)
+      (λ k f p q o. record { caps = caps; sets = sets; as_many_caps = p; as_many_sets = q; channels = o; rest = record { session = refl; outbox = refl; plan = k; lists = f; account = refl; number = refl } }) plan lists many_caps many_sets (subst (λ z. IsEach (OpensAt send ring take z w.number caps sets) w.channels x) st opens)
 
-  pub vain-of : (v w : SlaveState S T) (x : List (ChannelState S T)) (store : StoreState) (caps sets : List ℕ) → w ≡ v → store ≡ w.session.store → length caps ≡ length w.channels → length sets ≡ length w.channels
+  pub vain-of : (v w : SlaveState S T) (x : List (ChannelState S T)) (store : StoreState) (caps sets : List ℕ) → w ≡ v → store ≡ w.session.store → w.plan ≡ plan_of w.session.store → w.session.store.profile ≡ lists_of w.session.profile → length caps ≡ length w.channels → length sets ≡ length w.channels
       → IsEach (OpenedAndEnded send ring take store w.number caps sets) w.channels x
       → OpensInVain send ring take v (record w { channels = x; number = (w.number + 1) % 18446744073709551616 })
-  vain-of v w x store caps sets same st many_caps many_sets opens =
-      subst (λ (u : SlaveState S T). length caps ≡ length u.channels → length sets ≡ length u.channels → IsEach (OpenedAndEnded send ring take u.session.store u.number caps sets) u.channels x
+  vain-of v w x store caps sets same st plan lists many_caps many_sets opens =
+      subst (λ (u : SlaveState S T). u.plan ≡ plan_of u.session.store → u.session.store.profile ≡ lists_of u.session.profile → length caps ≡ length u.channels → length sets ≡ length u.channels → IsEach (OpenedAndEnded send ring take u.session.store u.number caps sets) u.channels x
       → OpensInVain send ring take v (record u { channels = x; number = (u.number + 1) % 18446744073709551616 })) (sym same)
-      (λ p q o. record { caps = caps; sets = sets; as_many_caps = p; as_many_sets = q; channels = o; rest = record { session = refl; outbox = refl; number = refl } }) many_caps many_sets (subst (λ z. IsEach (OpenedAndEnded send ring take z w.number caps sets) w.channels x) st opens)
+      (λ k f p q o. record { caps = caps; sets = sets; as_many_caps = p; as_many_sets = q; channels = o; rest = record { session = refl; outbox = refl; plan = k; lists = f; account = refl; number = refl } }) plan lists many_caps many_sets (subst (λ z. IsEach (OpenedAndEnded send ring take z w.number caps sets) w.channels x) st opens)
 
   -- lists of a measurement that was opened are started
-  pub opens-prepare : (a m b : SlaveState S T) (lists : ℕ) → OpensAll send ring take a m → Idle a.session → StartsLists take m b lists → Prepares take a b lists
-  opens-prepare a m b lists opens idle s = record {
+  pub opens-prepare : (a m b : SlaveState S T) (lists : ℕ) → OpensAll send ring take a m → Idle a.session → HasSome lists → StartsLists take m b lists → Prepares take a b lists
+  opens-prepare a m b lists opens idle some s = record {
     opening = Opened ∷ [];
-    may_open = inr refl;
+    may_open = one-opened;
+    for_some = inr some;
+    in_one = λ log few stands any none. tt;
+    as_opened = λ log few stands l below one there. just-opened a.session.profile log l there;
     goes = λ log few stands.
         let d = a.session.profile in
         started-behind take d m b (Opened ∷ log) lists (omega (arith, few)) s
         (opens-all send ring take d a m log (omega (arith, few)) (idle (past_of d log) stands.has.session) stands opens);
   }
 
-  pub none-in-vain : (a b : SlaveState S T) (code : ErrCode) → IsStartRefusal code → Idle a.session → OpensNone send ring take a b → StartsInVain take a b code
-  none-in-vain a b code is idle opens =
+  pub none-in-vain : (a b : SlaveState S T) (lists : ℕ) (code : ErrCode) → IsPlaceRefusal code → Idle a.session → HasSome lists → OpensNone send ring take a b → StartsInVain take a b lists code
+  none-in-vain a b lists code is idle some opens =
       elim opens [
-        | inl same ↦ unchanged-in-vain take a b code is same
+        | inl same ↦ unchanged-in-vain take a b lists code is idle some same
         | inr vain ↦ record {
-          is = is;
+          is = inr is;
+          some = some;
           opening = Opened ∷ [];
-          may_open = inr refl;
+          may_open = one-opened;
+          sequence = λ log few stands. (λ e. absurd (place-code code is e), λ other. absurd (other.some (idle (past_of a.session.profile log) stands.has.session)));
           goes = λ log few stands. opens-in-vain send ring take a.session.profile a b log (omega (arith, few)) (idle (past_of a.session.profile log) stands.has.session) stands vain;
         }
       ]
 
-  pub ended-in-vain : (a m k b : SlaveState S T) (code : ErrCode) → IsStartRefusal code → Idle a.session → OpensAll send ring take a m → LooksAtAll m k
-      → IsEach (λ c. Ends) k.channels b.channels → b ≡ record k { channels = b.channels } → StartsInVain take a b code
-  ended-in-vain a m k b code is idle opens looks ends rest = record {
-    is = is;
+  pub ended-in-vain : (a m k b : SlaveState S T) (lists : ℕ) (code : ErrCode) → IsPlaceRefusal code → Idle a.session → HasSome lists → OpensAll send ring take a m → LooksAtAll m k
+      → IsEach (λ c. Ends) k.channels b.channels → b ≡ record k { channels = b.channels } → StartsInVain take a b lists code
+  ended-in-vain a m k b lists code is idle some opens looks ends rest = record {
+    is = inr is;
+    some = some;
     opening = Opened ∷ [];
-    may_open = inr refl;
+    may_open = one-opened;
+    sequence = λ log few stands. (λ e. absurd (place-code code is e), λ other. absurd (other.some (idle (past_of a.session.profile log) stands.has.session)));
     goes = λ log few stands.
         let d = a.session.profile in
         let none = idle (past_of d log) stands.has.session in

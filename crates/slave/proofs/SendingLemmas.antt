@@ -8,7 +8,8 @@ use Rattle.session.specs.Standing.{SessionStandsAfter, SessionState}
 use Rattle.frame_outbox.specs.Outboxes.{Laid, OutboxState, unit_of}
 use Rattle.frame_outbox.specs.Outboxes.{StandsAfter as OutboxStandsAfter}
 use Rattle.slave.specs.Hearing.{GoesBy}
-use Rattle.slave.specs.Log.{Act, Sent, laid, past_of, sent_by, sent_of}
+use Rattle.slave.specs.Log.{Act, Sent, laid, past_of, sent_by, sent_of, entries_of}
+use Rattle.session_account.specs.Accounts.{AccountStandsAfter}
 use Rattle.slave.specs.Standing.{SlaveState}
 
 take-none : {X : Type 0} (n : ℕ) → first {A = X} n [] ≡ []
@@ -83,6 +84,9 @@ module _ {S T F : Type 0} (take : TakeGhosts T F) where
           session = subst (λ s. SessionStandsAfter s (past_of d log)) (sym session) has.session;
           outbox = subst (λ ys. OutboxStandsAfter b.outbox ys (drop (sent_of (Sent n ∷ log)) (xs ++ []))) sent_is (subst (λ ys. OutboxStandsAfter b.outbox (first k xs ++ first shown waits) ys) left_is moved);
           channels = λ c ch at. has.channels c ch (ap (λ zs. slice_get zs c) (sym channels) ∙ at);
+          out = λ c ch at. has.out c ch (ap (λ zs. slice_get zs c) (sym channels) ∙ at);
+          plan = ap (λ (s : SlaveState S T). s.plan) rest ∙ has.plan;
+          account = subst (λ x. AccountStandsAfter x (entries_of d log) (λ l. 0)) (sym (ap (λ (s : SlaveState S T). s.account) rest)) has.account;
           number = ap (λ (s : SlaveState S T). s.number) rest ∙ has.number;
         };
         ended = λ none c ch at. stands.ended none c ch (ap (λ zs. slice_get zs c) (sym channels) ∙ at);
@@ -105,6 +109,9 @@ module _ {S T F : Type 0} (take : TakeGhosts T F) where
           outbox = subst (λ o. OutboxStandsAfter o (first (sent_of log) (laid d log)) (drop (sent_of log) (laid d log))) (sym same)
               (record { contents = has.outbox.contents; counter = has.outbox.counter; waiting = has.outbox.waiting; units = has.outbox.units });
           channels = λ c ch at. has.channels c ch (ap (λ zs. slice_get zs c) (sym channels) ∙ at);
+          out = λ c ch at. has.out c ch (ap (λ zs. slice_get zs c) (sym channels) ∙ at);
+          plan = ap (λ (s : SlaveState S T). s.plan) rest ∙ has.plan;
+          account = subst (λ x. AccountStandsAfter x (entries_of d log) (λ l. 0)) (sym (ap (λ (s : SlaveState S T). s.account) rest)) has.account;
           number = ap (λ (s : SlaveState S T). s.number) rest ∙ has.number;
         };
         ended = λ none c ch at. stands.ended none c ch (ap (λ zs. slice_get zs c) (sym channels) ∙ at);

@@ -14,15 +14,15 @@ use Rattle.tasks.specs.Links.{AwayState, is_running, runs_of, takes_orders}
 use Rattle.slave_channel.specs.Channels.{ChannelState}
 use Rattle.slave_channel.specs.Ordering.{starts_noted, stops_noted, stops_sent}
 use Rattle.slave_channel.proofs.OrderingLemmas.{stops_noted-same}
-use Rattle.slave_channels.specs.Calls.{StopsAll}
+use Rattle.slave_channels.specs.Calls.{Ends, StopsAll}
 use Rattle.slave.specs.Inner.{Settles, started}
 use Rattle.slave.specs.Log.{Act, deeds_of, is_newest, opened, ordered_by, past_of, starts_on, stops_at, with_starts}
-use Rattle.slave.specs.Standing.{ChannelHas, IsLog, NoneRuns}
+use Rattle.slave.specs.Standing.{ChannelHas, IsLog, IsOut, NoneRuns}
 use Rattle.slave.proofs.ChannelLemmas.{channel-ends, channel-ordered, channel-same, newest_with, takes-ended}
 use Rattle.slave.proofs.DeedLemmas.{deeds-few, starts-few, stops-few}
 use Rattle.slave.proofs.LogLemmas.{ties}
 use Rattle.slave.proofs.OrderLemmas.{starts-same, stops-none, stops-set}
-use Rattle.slave.proofs.StandingLemmas.{was-there}
+use Rattle.slave.proofs.OutLemmas.{keeps-ends, keeps-orders, out-each, was-there}
 
 -- an act by which lists are ordered
 pub record Orders (d : Profile) (act : Act) (log : List Act) : Type 0 where
@@ -152,4 +152,15 @@ module _ {S T F : Type 0} (take : TakeGhosts T F) where
           stopped ch (ap (λ zs. slice_get zs c) (sym (settles.goes_on off)) ∙ at),
           λ quiet_now. absurd (false≢true (sym off ∙ settles.always (λ l below. is l below ∙ quiet_now l below))),
         )
+      ]
+
+  -- what is kept is the same
+  pub settled-out : (xs ys : List (ChannelState S T)) (before now : ℕ) (back : ℕ → ℕ → Bool) → Settles take xs ys before now
+      → ((c : ℕ) (ch : ChannelState S T) → slice_get xs c ≡ Some ch → IsOut (back c) ch)
+      → (c : ℕ) (ch : ChannelState S T) → slice_get ys c ≡ Some ch → IsOut (back c) ch
+  settled-out xs ys before now back settles is c ch at =
+      let stopped = out-each (λ k. StopsAll take settles.lists) xs settles.stopped back settles.stops (λ k x y orders. keeps-orders take x y _ _ orders) is in
+      elim (is-bool settles.ends) [
+        | inl on ↦ out-each (λ k. Ends) settles.stopped ys back (settles.ends_all on) (λ k x y ends. keeps-ends x y ends) stopped c ch at
+        | inr off ↦ stopped c ch (ap (λ zs. slice_get zs c) (sym (settles.goes_on off)) ∙ at)
       ]

@@ -13,6 +13,7 @@ use Rattle.daq_store.proofs.StandingLemmas.{active_stands}
 use Rattle.daq_store.specs.Standing.{shows_running}
 use Rattle.session.proofs.ListSetLemmas.{empty_has_none}
 use Rattle.session.specs.Past.{Past}
+use Rattle.session.specs.Profiles.{lists_of}
 use Rattle.session.specs.Standing.{SessionStandsAfter, SessionState}
 use Rattle.session.specs.Starts.{is_on}
 use Rattle.session.specs.declared.profile.Profile.{Profile}
@@ -20,21 +21,20 @@ use Rattle.channel_intake.specs.Deeds.{Deed}
 use Rattle.frame_outbox.specs.Outboxes.{Laid}
 use Rattle.frame_outbox.specs.Outboxes.{StandsAfter as OutboxStandsAfter}
 use Rattle.tasks.specs.Links.{AwayState, CanStart, takes_orders}
+use Rattle.session_account.specs.Accounts.{AccountStandsAfter}
 use Rattle.slave_channel.specs.Channels.{ChannelState, Opens}
 use Rattle.slave_channel.specs.Ordering.{starts_noted, starts_sent}
-use Rattle.slave_channels.specs.Calls.{CanStartAll, Ends, OpensIfAny, StartsAt}
+use Rattle.slave_channels.specs.Calls.{CanStartAll, Ends, Looks, OpensIfAny, StartsAt}
 use Rattle.slave_channels.specs.Each.{IsEach}
 use Rattle.slave.specs.Inner.{AreSets, LooksAtAll, OpensAll, OpensBeside, OpensInVain, SlaveStarted, started}
-use Rattle.slave.specs.Log.{Act, Opened, deeds_of, is_opening, laid, opened, past_of, sent_of}
-use Rattle.slave.specs.Standing.{ChannelHas, HasEnded, NoneRuns, SlaveHas, SlaveStandsAfter, SlaveState}
+use Rattle.slave.specs.Log.{Act, Opened, deeds_of, entries_of, is_back, is_opening, laid, opened, past_of, sent_of}
+use Rattle.slave.specs.Standing.{ChannelHas, HasEnded, IsOut, NoneRuns, SlaveHas, SlaveStandsAfter, SlaveState}
 use Rattle.slave.proofs.ChannelLemmas.{channel-looks, channel-ordered, channel-same, takes-looked}
-use Rattle.slave.proofs.DeedLemmas.{deeds-few, deeds-none, opened-more, starts-few}
+use Rattle.slave.proofs.DeedLemmas.{back-none, deeds-few, deeds-none, opened-more, starts-few}
+use Rattle.slave.proofs.PlanLemmas.{plan-by}
 use Rattle.slave.proofs.OpeningLemmas.{channel-in-vain, channel-opens-if}
+use Rattle.slave.proofs.OutLemmas.{keeps-looks, keeps-orders, out-each, out-in-vain, out-kept, out-opens-if, was-there}
 use Rattle.slave.proofs.OrderLemmas.{starts-none, starts-same, starts-set}
-
--- what an element was
-pub was-there : {X : Type 0} (old now : List X) (c : ℕ) (b : X) → length now ≡ length old → slice_get now c ≡ Some b → slice_get old c ≡ Some (get_or old c b)
-was-there old now c b as_many at = slice_get-get_or old c b (omega (arith, slice_get_within now c b at, as_many))
 
 pub there-is : (xs : List ℕ) (n c : ℕ) → length xs ≡ n → c < n → slice_get xs c ≡ Some (get_or xs c 0)
 there-is xs n c as_many below = slice_get-get_or xs c 0 (omega (arith, as_many, below))
@@ -57,7 +57,7 @@ none-shown s past stands none l below = sym (active_stands s.store past.calls l 
 
 module _ {S E T F : Type 0} (send : SendGhosts S E) (ring : EndGhosts E) (take : TakeGhosts T F) where
   opened-rest : (d : Profile) (a b : SlaveState S T) (log : List Act) → 32 * (1 + length log) ≤ MAX_TAKEN → NoneRuns (past_of d log) → SlaveHas take d a log → OpensBeside a b
-      → ((c : ℕ) (ch : ChannelState S T) → slice_get b.channels c ≡ Some ch → ChannelHas take (opened log + 1) (λ m. deeds_of d m c log) ch)
+      → ((c : ℕ) (ch : ChannelState S T) → slice_get b.channels c ≡ Some ch → ChannelHas take (opened log + 1) (λ m. deeds_of d m c log) ch × IsOut (λ m. is_back m c log) ch)
       → SlaveHas take d b (Opened ∷ log)
   opened-rest d a b log few none has rest channels = record {
     few = omega (arith, few);
@@ -66,7 +66,10 @@ module _ {S E T F : Type 0} (send : SendGhosts S E) (ring : EndGhosts E) (take :
     profile = ap (λ (s : SessionState). s.profile) rest.session ∙ has.profile;
     session = subst (λ s. SessionStandsAfter s (past_of d log)) (sym rest.session) has.session;
     outbox = same-outbox d a b log rest.outbox has.outbox;
-    channels = λ c ch at. subst (λ n. ChannelHas take n (λ m. deeds_of d m c log) ch) (omega (arith, opened-more log)) (channels c ch at);
+    channels = λ c ch at. subst (λ n. ChannelHas take n (λ m. deeds_of d m c log) ch) (omega (arith, opened-more log)) (channels c ch at).0;
+    out = λ c ch at. (channels c ch at).1;
+    plan = rest.plan ∙ plan-by d a.session (past_of d log) (rest.lists ∙ ap lists_of has.profile) has.session;
+    account = subst (λ x. AccountStandsAfter x (entries_of d log) (λ l. 0)) (sym rest.account) has.account;
     number = rest.number ∙ ap (λ n. (n + 1) % 18446744073709551616) has.number ∙ one-more (opened log) (length log) (few-opened log) few ∙ omega (arith, opened-more log);
   }
 
@@ -79,14 +82,18 @@ module _ {S E T F : Type 0} (send : SendGhosts S E) (ring : EndGhosts E) (take :
       let was = was-there a.channels b.channels c ch opens.channels.as_many at in
       let below = slice_get_within a.channels c old was in
       let one = opens.channels.each c old ch was at (get_or opens.caps c 0) (get_or opens.sets c 0) (there-is opens.caps (length a.channels) c opens.as_many_caps below) (there-is opens.sets (length a.channels) c opens.as_many_sets below) in
-      channel-opens-if send ring take (opened log) (λ m. deeds_of d m c log) old ch a.session.store c (get_or opens.caps c 0) (get_or opens.sets c 0)
-      (subst (λ n. OpensIfAny send ring take a.session.store n c (get_or opens.caps c 0) (get_or opens.sets c 0) old ch) stands.has.number one)
-      (deeds-none d (opened log) c log stands.has.is_log (omega arith)) (stands.ended none c old was) (none-shown a.session (past_of d log) stands.has.session none) (stands.has.channels c old was))
+      let here = subst (λ n. OpensIfAny send ring take a.session.store n c (get_or opens.caps c 0) (get_or opens.sets c 0) old ch) stands.has.number one in (
+        channel-opens-if send ring take (opened log) (λ m. deeds_of d m c log) old ch a.session.store c (get_or opens.caps c 0) (get_or opens.sets c 0) here
+            (deeds-none d (opened log) c log stands.has.is_log (omega arith)) (stands.ended none c old was) (none-shown a.session (past_of d log) stands.has.session none) (stands.has.channels c old was),
+        out-opens-if send ring take (λ m. is_back m c log) old ch a.session.store (opened log) c (get_or opens.caps c 0) (get_or opens.sets c 0) here
+            (back-none d (opened log) c log stands.has.is_log (omega arith)) (stands.has.out c old was),
+      ))
 
   -- a measurement is opened in vain: it ends at once
   pub opens-in-vain : (d : Profile) (a b : SlaveState S T) (log : List Act) → 32 * (1 + length log) ≤ MAX_TAKEN → NoneRuns (past_of d log) → SlaveStandsAfter take d a log → OpensInVain send ring take a b → SlaveStandsAfter take d b (Opened ∷ log)
   opens-in-vain d a b log few none stands opens =
-      let both : (c : ℕ) (ch : ChannelState S T) → slice_get b.channels c ≡ Some ch → ChannelHas take (opened log + 1) (λ m. deeds_of d m c log) ch × (takes_orders ch.link.newer ≡ false) =
+      let both : (c : ℕ) (ch : ChannelState S T) → slice_get b.channels c ≡ Some ch
+      → (ChannelHas take (opened log + 1) (λ m. deeds_of d m c log) ch × (takes_orders ch.link.newer ≡ false)) × IsOut (λ m. is_back m c log) ch =
       λ c ch at.
       let old = get_or a.channels c ch in
       let was = was-there a.channels b.channels c ch opens.channels.as_many at in
@@ -94,13 +101,16 @@ module _ {S E T F : Type 0} (send : SendGhosts S E) (ring : EndGhosts E) (take :
       let cap_c = get_or opens.caps c 0 in
       let set_c = get_or opens.sets c 0 in
       let one = opens.channels.each c old ch was at cap_c set_c (there-is opens.caps (length a.channels) c opens.as_many_caps below) (there-is opens.sets (length a.channels) c opens.as_many_sets below) in
-      channel-in-vain send ring take (opened log) (λ m. deeds_of d m c log) old ch a.session.store c cap_c set_c
-      (subst (λ n. (ch ≡ old) ⊎ ((set_c ≢ 0) × ((m : ChannelState S T) × Opens send ring take old m a.session.store c cap_c n × Ends m ch))) stands.has.number one)
-      (deeds-none d (opened log) c log stands.has.is_log (omega arith)) (stands.ended none c old was) (none-shown a.session (past_of d log) stands.has.session none) (stands.has.channels c old was)
+      let here = subst (λ n. (ch ≡ old) ⊎ ((set_c ≢ 0) × ((m : ChannelState S T) × Opens send ring take old m a.session.store c cap_c n × Ends m ch))) stands.has.number one in (
+        channel-in-vain send ring take (opened log) (λ m. deeds_of d m c log) old ch a.session.store c cap_c set_c here
+            (deeds-none d (opened log) c log stands.has.is_log (omega arith)) (stands.ended none c old was) (none-shown a.session (past_of d log) stands.has.session none) (stands.has.channels c old was),
+        out-in-vain send ring take (λ m. is_back m c log) old ch a.session.store (opened log) c cap_c set_c here
+            (back-none d (opened log) c log stands.has.is_log (omega arith)) (stands.has.out c old was),
+      )
       in
       record {
-        has = opened-rest d a b log few none stands.has opens.rest (λ c ch at. (both c ch at).0);
-        ended = λ quiet c ch at. (both c ch at).1;
+        has = opened-rest d a b log few none stands.has opens.rest (λ c ch at. let each = both c ch at in (each.0.0, each.1));
+        ended = λ quiet c ch at. (both c ch at).0.1;
       }
 
 has-some : (set l : ℕ) → has_list set l ≡ true → set ≢ 0
@@ -123,6 +133,9 @@ module _ {S T F : Type 0} (take : TakeGhosts T F) where
             let old = get_or a.channels c ch in
             let was = was-there a.channels b.channels c ch looks.channels.as_many at in
             channel-looks take (opened log) (λ m. deeds_of d m c log) old ch (looks.channels.each c old ch was at) (has.channels c old was);
+        out = out-each (λ c. Looks) a.channels b.channels (λ c m. is_back m c log) looks.channels (λ c x y l. keeps-looks x y l) has.out;
+        plan = ap (λ (s : SlaveState S T). s.plan) looks.rest ∙ has.plan;
+        account = subst (λ x. AccountStandsAfter x (entries_of d log) (λ l. 0)) (sym (ap (λ (s : SlaveState S T). s.account) looks.rest)) has.account;
         number = ap (λ (s : SlaveState S T). s.number) looks.rest ∙ has.number;
       }
 
@@ -170,6 +183,14 @@ module _ {S T F : Type 0} (take : TakeGhosts T F) where
             (λ l below is. inl (takes l is))
             (λ m. omega (arith, deeds-few d m c log, starts-few (has_list set) MAX_LISTS, few))
             (starts.each c old ch was at set there) (has.channels c old was));
+        out = λ c ch at.
+            let old = get_or a.channels c ch in
+            let was = was-there a.channels b.channels c ch starts.as_many at in
+            let set = get_or sets c 0 in
+            let there = there-is sets (length a.channels) c as_many (slice_get_within a.channels c old was) in
+            out-kept (λ m. is_back m c log) old ch (keeps-orders take old ch _ _ (starts.each c old ch was at set there)) (has.out c old was);
+        plan = ap (λ (s : SlaveState S T). s.plan) rest ∙ has.plan;
+        account = subst (λ x. AccountStandsAfter x (entries_of d log) (λ l. 0)) (sym (ap (λ (s : SlaveState S T). s.account) rest)) has.account;
         number = ap (λ (s : SlaveState S T). s.number) rest ∙ has.number;
       } where
         is-false : (b : Bool) → (b ≡ true → ⊥) → b ≡ false
@@ -189,6 +210,9 @@ module _ {S T F : Type 0} (take : TakeGhosts T F) where
         channel-same take (opened log) (λ m. deeds_of d m c log) (started d log lists c)
         (λ m. sym (ap (λ xs. if nat_eq (m + 1) (opened log) then xs ++ deeds_of d m c log else deeds_of d m c log) (starts-none MAX_LISTS _ (λ l below. ap (λ b. b && is_on d (past_of d log) c l) (none l below)))
         ∙ either (nat_eq (m + 1) (opened log)) (deeds_of d m c log))) ch (has.channels c ch at);
+    out = has.out;
+    plan = has.plan;
+    account = has.account;
     number = has.number;
   } where
     either : (b : Bool) (xs : List Deed) → (if b then [] ++ xs else xs) ≡ xs

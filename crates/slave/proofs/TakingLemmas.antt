@@ -20,10 +20,12 @@ use Rattle.frame_outbox.specs.Taking.{TakesItem}
 use Rattle.tasks.specs.Links.{LinkState, is_running, takes_orders}
 use Rattle.slave_channel.specs.Channels.{ChannelState, ShareState, TakesOf}
 use Rattle.slave_channels.specs.Calls.{TakesFromNewer, TakesFromOlder}
+use Rattle.session_account.specs.Accounts.{AccountStandsAfter}
 use Rattle.slave_channels.specs.Each.{IsOnlyAt}
 use Rattle.slave.specs.Hearing.{GoesBy}
-use Rattle.slave.specs.Log.{Act, Took, deeds_of, laid, laid_by, opened, past_of, sample_laid, sent_of}
-use Rattle.slave.specs.Standing.{ChannelHas, HasEnded, SlaveStandsAfter, SlaveState}
+use Rattle.slave.specs.Log.{Act, Took, deeds_of, entries_of, is_back, laid, laid_by, opened, past_of, sample_laid, sent_of}
+use Rattle.slave.specs.Standing.{ChannelHas, HasEnded, IsOut, SlaveStandsAfter, SlaveState, number_of}
+use Rattle.slave.proofs.OutLemmas.{KeepsParts, keeps-same, out-kept}
 use Rattle.slave.specs.Taking.{TakesItems, is_take}
 use Rattle.slave.proofs.AnsweringLemmas.{more-laid}
 use Rattle.slave.proofs.ChannelLemmas.{channel-same}
@@ -128,6 +130,7 @@ module _ {S T F : Type 0} (take : TakeGhosts T F) where
     pub others : (k : ℕ) → k ≢ c → slice_get b.channels k ≡ slice_get a.channels k
     pub quiet : takes_orders x.link.newer ≡ false → takes_orders y.link.newer ≡ false
     pub session : b.session ≡ a.session
+    pub plan : b.plan ≡ a.plan
     pub number : b.number ≡ a.number
 
   -- what waits behind an act, where what was there stands so
@@ -139,7 +142,7 @@ module _ {S T F : Type 0} (take : TakeGhosts T F) where
       (drop (sent_of log) (laid a.session.profile log ++ laid_by a.session.profile act log))
 
   -- the channels behind a change at one of them
-  channels-changed : (n : ℕ) (f g : ℕ → ℕ → List Deed) (a b : SlaveState S T) (c : ℕ) (x y : ChannelState S T) → ChangesAt a b c x y
+  pub channels-changed : (n : ℕ) (f g : ℕ → ℕ → List Deed) (a b : SlaveState S T) (c : ℕ) (x y : ChannelState S T) → ChangesAt a b c x y
       → ((k m : ℕ) → k ≢ c → g k m ≡ f k m) → ChannelHas take n (g c) y
       → ((k : ℕ) (ch : ChannelState S T) → slice_get a.channels k ≡ Some ch → ChannelHas take n (f k) ch)
       → (k : ℕ) (ch : ChannelState S T) → slice_get b.channels k ≡ Some ch → ChannelHas take n (g k) ch
@@ -151,7 +154,7 @@ module _ {S T F : Type 0} (take : TakeGhosts T F) where
         | inr w ↦ channel-same take n (f k) (g k) (λ m. sym (same k m w.1)) ch (has k ch (sym (changes.others k w.1) ∙ at))
       ]
 
-  ended-changed : (a b : SlaveState S T) (c : ℕ) (x y : ChannelState S T) (past : Past) → ChangesAt a b c x y → HasEnded a past → HasEnded b past
+  pub ended-changed : (a b : SlaveState S T) (c : ℕ) (x y : ChannelState S T) (past : Past) → ChangesAt a b c x y → HasEnded a past → HasEnded b past
   ended-changed a b c x y past changes ended = λ none k ch at.
       elim (eqb_tells k c) [
         | inl w ↦
@@ -166,23 +169,50 @@ module _ {S T F : Type 0} (take : TakeGhosts T F) where
     pub goes :
         (n : ℕ) (f g : ℕ → List Deed) → StandsAfter take j (g m) → ((k : ℕ) → k ≢ m → g k ≡ f k) → ((k l : ℕ) → runs_there (g k) l ≡ runs_there (f k) l)
         → ChannelHas take n f x → ChannelHas take n g y
+    pub keeps : KeepsParts x y
+    pub out : (back : ℕ → Bool) → IsOut back x → back m ≡ false
 
   newer-part : (x y : ChannelState S T) (s t : ShareState T) → x.newer ≡ Some s → y ≡ record x { newer = y.newer } → y.newer ≡ Some t → t.number ≡ s.number → IsPart x y s.number s.intake t.intake
   newer-part x y s t was rest is same = record {
     part = λ n f has. ((has.newer s was).there, (has.newer s was).stands);
     goes = λ n f g stands others runs has. channel-taken n f g x y s t was rest is same stands others runs has;
+    keeps = record {
+      newer = ap (λ (o : Option (ShareState T)). number_of o) is ∙ ap Some same ∙ sym (ap (λ (o : Option (ShareState T)). number_of o) was);
+      older = ap (λ (z : ChannelState S T). number_of z.older) rest;
+    };
+    out = λ back out. out.newer s.number (ap (λ (o : Option (ShareState T)). number_of o) was);
   }
 
   older-part : (x y : ChannelState S T) (s t : ShareState T) → x.older ≡ Some s → y ≡ record x { older = y.older } → y.older ≡ Some t → t.number ≡ s.number → IsPart x y s.number s.intake t.intake
   older-part x y s t was rest is same = record {
     part = λ n f has. ((has.older s was).0.there, (has.older s was).0.stands);
     goes = λ n f g stands others runs has. channel-taken-older n f g x y s t was rest is same stands others runs has;
+    keeps = record {
+      newer = ap (λ (z : ChannelState S T). number_of z.newer) rest;
+      older = ap (λ (o : Option (ShareState T)). number_of o) is ∙ ap Some same ∙ sym (ap (λ (o : Option (ShareState T)). number_of o) was);
+    };
+    out = λ back out. out.older s.number (ap (λ (o : Option (ShareState T)). number_of o) was);
   }
 
+  -- what is kept behind a change at one of the event channels
+  pub out-changed : (was now : ℕ → ℕ → Bool) (a b : SlaveState S T) (c : ℕ) (x y : ChannelState S T) → ChangesAt a b c x y
+      → ((k m : ℕ) → k ≢ c → now k m ≡ was k m) → IsOut (now c) y
+      → ((k : ℕ) (ch : ChannelState S T) → slice_get a.channels k ≡ Some ch → IsOut (was k) ch)
+      → (k : ℕ) (ch : ChannelState S T) → slice_get b.channels k ≡ Some ch → IsOut (now k) ch
+  out-changed was now a b c x y changes same here has k ch at =
+      elim (eqb_tells k c) [
+        | inl w ↦
+            let is-y : y ≡ ch = some_inj y ch (sym changes.is ∙ ap (slice_get b.channels) (sym w.1) ∙ at) in
+            subst (λ (z : ChannelState S T). IsOut (now k) z) is-y (subst (λ j. IsOut (now j) y) (sym w.1) here)
+        | inr w ↦
+            let before = has k ch (sym (changes.others k w.1) ∙ at) in
+            record { newer = λ m is. same k m w.1 ∙ before.newer m is; older = λ m is. same k m w.1 ∙ before.older m is }
+      ]
+
   -- an item of a part was taken
-  pub took-item : (a b : SlaveState S T) (c : ℕ) (x y : ChannelState S T) (m : ℕ) (i j : IntakeState T) (item : Item) → ChangesAt a b c x y → IsPart x y m i j
+  pub took-item : (a b : SlaveState S T) (c : ℕ) (x y : ChannelState S T) (m : ℕ) (i j : IntakeState T) (item : Item) → ChangesAt a b c x y → b.account ≡ a.account → IsPart x y m i j
       → Takes take i j item → LaysBehind a b (Took m c item) c i → GoesBy take a b (Took m c item ∷ [])
-  took-item a b c x y m i j item changes part takes lays = λ log few stands.
+  took-item a b c x y m i j item changes account part takes lays = λ log few stands.
       let d = a.session.profile in
       let n = opened log in
       let ds = deeds_of d m c log in
@@ -197,13 +227,16 @@ module _ {S T F : Type 0} (take : TakeGhosts T F) where
       record {
         has = record {
           few = omega (arith, few);
-          is_log = (there, has.is_log);
+          is_log = (there, part.out (λ k. is_back k c log) (has.out c x changes.was), has.is_log);
           sent = omega (arith, has.sent, length-append (laid d log) (laid_by d (Took m c item) log));
           profile = ap (λ (z : SessionState). z.profile) changes.session;
           session = subst (λ z. SessionStandsAfter z (past_of d log)) (sym changes.session) has.session;
           outbox = lays log (λ k z e. subst (λ q. StandsAfter take i (deeds_of d q c log)) (number_of e) before) has.sent has.outbox;
           channels = channels-changed n (λ k q. deeds_of d q k log) (λ k q. deeds_of d q k (Took m c item ∷ log)) a b c x y changes
               (λ k q other. took-else m q c k (TookItem item) (deeds_of d q k log) (λ e z. other (sym z))) here has.channels;
+          out = out-changed (λ k q. is_back q k log) (λ k q. is_back q k log) a b c x y changes (λ k q other. refl) (out-kept (λ q. is_back q c log) x y part.keeps (has.out c x changes.was)) has.out;
+          plan = changes.plan ∙ has.plan;
+          account = subst (λ z. AccountStandsAfter z (entries_of d log) (λ l. 0)) (sym account) has.account;
           number = changes.number ∙ has.number;
         };
         ended = ended-changed a b c x y (past_of d log) changes stands.ended;
@@ -212,9 +245,9 @@ module _ {S T F : Type 0} (take : TakeGhosts T F) where
         number_of e = cc
 
   -- nothing was taken
-  pub took-none : (a b : SlaveState S T) (c : ℕ) (x y : ChannelState S T) (P : Type 0) → ChangesAt a b c x y → b.outbox ≡ a.outbox
+  pub took-none : (a b : SlaveState S T) (c : ℕ) (x y : ChannelState S T) (P : Type 0) → ChangesAt a b c x y → KeepsParts x y → b.outbox ≡ a.outbox → b.account ≡ a.account
       → ((log : List Act) → SlaveStandsAfter take a.session.profile a log → P) → ((n : ℕ) (f : ℕ → List Deed) → P → ChannelHas take n f x → ChannelHas take n f y) → GoesBy take a b []
-  took-none a b c x y P changes outbox known same = λ log few stands.
+  took-none a b c x y P changes keeps outbox account known same = λ log few stands.
       let d = a.session.profile in
       let has = stands.has in
       record {
@@ -227,6 +260,9 @@ module _ {S T F : Type 0} (take : TakeGhosts T F) where
           outbox = subst (λ o. OutboxStandsAfter o (first (sent_of log) (laid d log)) (drop (sent_of log) (laid d log))) (sym outbox) has.outbox;
           channels = channels-changed (opened log) (λ k m. deeds_of d m k log) (λ k m. deeds_of d m k log) a b c x y changes (λ k m other. refl)
               (same (opened log) (λ m. deeds_of d m c log) (known log stands) (has.channels c x changes.was)) has.channels;
+          out = out-changed (λ k q. is_back q k log) (λ k q. is_back q k log) a b c x y changes (λ k q other. refl) (out-kept (λ q. is_back q c log) x y keeps (has.out c x changes.was)) has.out;
+          plan = changes.plan ∙ has.plan;
+          account = subst (λ z. AccountStandsAfter z (entries_of d log) (λ l. 0)) (sym account) has.account;
           number = changes.number ∙ has.number;
         };
         ended = ended-changed a b c x y (past_of d log) changes stands.ended;
@@ -249,75 +285,79 @@ module _ {S T F : Type 0} (take : TakeGhosts T F) where
       (more-laid a.outbox b.outbox y (sent_of log) (laid d log) lays few stands)
 
   -- by what became of the next item
-  taken-step : (a b : SlaveState S T) (c : ℕ) (x y : ChannelState S T) (m : ℕ) (i j : IntakeState T) → ChangesAt a b c x y → length b.channels ≡ length a.channels → IsPart x y m i j
+  taken-step : (a b : SlaveState S T) (c : ℕ) (x y : ChannelState S T) (m : ℕ) (i j : IntakeState T) → ChangesAt a b c x y → b.account ≡ a.account → length b.channels ≡ length a.channels → IsPart x y m i j
       → (step : Step) → TakesItem take i j a.outbox b.outbox m step → TakesItems take a b
-  taken-step a b c x y m i j changes many part Nothing (looked, known, out) = record {
+  taken-step a b c x y m i j changes account many part Nothing (looked, known, out) = record {
     acts = [];
     are = refl;
     session = changes.session;
     as_many = many;
-    goes = took-none a b c x y (Unit {0}) changes out (λ log z. tt) (λ n f u has. part.goes n f f (looked-stands take i j looked (f m) (part.part n f has).1) (λ k o. refl) (λ k l. refl) has);
+    goes = took-none a b c x y (Unit {0}) changes part.keeps out account (λ log z. tt) (λ n f u has. part.goes n f f (looked-stands take i j looked (f m) (part.part n f has).1) (λ k o. refl) (λ k l. refl) has);
   }
-  taken-step a b c x y m i j changes many part Full (p, looked, known, passes, room, out) = record {
+  taken-step a b c x y m i j changes account many part Full (p, looked, known, passes, room, out) = record {
     acts = [];
     are = refl;
     session = changes.session;
     as_many = many;
-    goes = took-none a b c x y (Unit {0}) changes out (λ log z. tt) (λ n f u has. part.goes n f f (looked-stands take i j looked (f m) (part.part n f has).1) (λ k o. refl) (λ k l. refl) has);
+    goes = took-none a b c x y (Unit {0}) changes part.keeps out account (λ log z. tt) (λ n f u has. part.goes n f f (looked-stands take i j looked (f m) (part.part n f has).1) (λ k o. refl) (λ k l. refl) has);
   }
-  taken-step a b c x y m i j changes many part (Marked l) (mark, takes, list, out) = record {
+  taken-step a b c x y m i j changes account many part (Marked l) (mark, takes, list, out) = record {
     acts = Took m c (Marker mark) ∷ [];
     are = refl;
     session = changes.session;
     as_many = many;
-    goes = took-item a b c x y m i j (Marker mark) changes part takes (lays-none a b (Took m c (Marker mark)) c i out (λ log there. refl));
+    goes = took-item a b c x y m i j (Marker mark) changes account part takes (lays-none a b (Took m c (Marker mark)) c i out (λ log there. refl));
   }
-  taken-step a b c x y m i j changes many part (Skipped l) (p, takes, list, held, out) = record {
+  taken-step a b c x y m i j changes account many part (Skipped l) (p, takes, list, held, out) = record {
     acts = Took m c (Sample p) ∷ [];
     are = refl;
     session = changes.session;
     as_many = many;
-    goes = took-item a b c x y m i j (Sample p) changes part takes
+    goes = took-item a b c x y m i j (Sample p) changes account part takes
         (lays-none a b (Took m c (Sample p)) c i out
         (λ log there. ap (λ z. sample_laid z m p) (held (deeds_of a.session.profile m c log) (there m (Sample p) refl))));
   }
-  taken-step a b c x y m i j changes many part (Wrote l end) (p, takes, list, passes, lays) = record {
+  taken-step a b c x y m i j changes account many part (Wrote l end) (p, takes, list, passes, lays) = record {
     acts = Took m c (Sample p) ∷ [];
     are = refl;
     session = changes.session;
     as_many = many;
-    goes = took-item a b c x y m i j (Sample p) changes part takes
+    goes = took-item a b c x y m i j (Sample p) changes account part takes
         (lays-one a b (Took m c (Sample p)) c i (record { origin = origin.Sample m p.list; packets = p.packets })
         (subst (λ k. LaysOut a.outbox b.outbox (record { origin = origin.Sample m k; packets = p.packets })) list lays)
         (λ log there. ap (λ z. sample_laid z m p) (passes (deeds_of a.session.profile m c log) (there m (Sample p) refl))));
   }
 
   -- of the newer part, and of the older, if they are there
-  taken-newer : (a b : SlaveState S T) (c : ℕ) (x y : ChannelState S T) (step : Step) → ChangesAt a b c x y → length b.channels ≡ length a.channels → y ≡ record x { newer = y.newer }
+  taken-newer : (a b : SlaveState S T) (c : ℕ) (x y : ChannelState S T) (step : Step) → ChangesAt a b c x y → b.account ≡ a.account → length b.channels ≡ length a.channels → y ≡ record x { newer = y.newer }
       → (u v : Option (ShareState T)) → x.newer ≡ u → y.newer ≡ v → TakesOf take u v a.outbox b.outbox step → TakesItems take a b
-  taken-newer a b c x y step changes many rest None None was is (none, out) = record {
+  taken-newer a b c x y step changes account many rest None None was is (none, out) = record {
     acts = [];
     are = refl;
     session = changes.session;
     as_many = many;
-    goes = took-none a b c x y (Unit {0}) changes out (λ log z. tt) (λ n f u has. subst (ChannelHas take n f) (sym (rest ∙ ap (λ z. record x { newer = z }) (is ∙ sym was))) has);
+    goes =
+        let same : y ≡ x = rest ∙ ap (λ z. record x { newer = z }) (is ∙ sym was) in
+        took-none a b c x y (Unit {0}) changes (keeps-same x y same) out account (λ log z. tt) (λ n f u has. subst (ChannelHas take n f) (sym same) has);
   }
-  taken-newer a b c x y step changes many rest None (Some t) was is takes = elim takes [ ]
-  taken-newer a b c x y step changes many rest (Some s) None was is takes = elim takes [ ]
-  taken-newer a b c x y step changes many rest (Some s) (Some t) was is (same, takes) = taken-step a b c x y s.number s.intake t.intake changes many (newer-part x y s t was rest is same) step takes
+  taken-newer a b c x y step changes account many rest None (Some t) was is takes = elim takes [ ]
+  taken-newer a b c x y step changes account many rest (Some s) None was is takes = elim takes [ ]
+  taken-newer a b c x y step changes account many rest (Some s) (Some t) was is (same, takes) = taken-step a b c x y s.number s.intake t.intake changes account many (newer-part x y s t was rest is same) step takes
 
-  taken-older : (a b : SlaveState S T) (c : ℕ) (x y : ChannelState S T) (step : Step) → ChangesAt a b c x y → length b.channels ≡ length a.channels → y ≡ record x { older = y.older }
+  taken-older : (a b : SlaveState S T) (c : ℕ) (x y : ChannelState S T) (step : Step) → ChangesAt a b c x y → b.account ≡ a.account → length b.channels ≡ length a.channels → y ≡ record x { older = y.older }
       → (u v : Option (ShareState T)) → x.older ≡ u → y.older ≡ v → TakesOf take u v a.outbox b.outbox step → TakesItems take a b
-  taken-older a b c x y step changes many rest None None was is (none, out) = record {
+  taken-older a b c x y step changes account many rest None None was is (none, out) = record {
     acts = [];
     are = refl;
     session = changes.session;
     as_many = many;
-    goes = took-none a b c x y (Unit {0}) changes out (λ log z. tt) (λ n f u has. subst (ChannelHas take n f) (sym (rest ∙ ap (λ z. record x { older = z }) (is ∙ sym was))) has);
+    goes =
+        let same : y ≡ x = rest ∙ ap (λ z. record x { older = z }) (is ∙ sym was) in
+        took-none a b c x y (Unit {0}) changes (keeps-same x y same) out account (λ log z. tt) (λ n f u has. subst (ChannelHas take n f) (sym same) has);
   }
-  taken-older a b c x y step changes many rest None (Some t) was is takes = elim takes [ ]
-  taken-older a b c x y step changes many rest (Some s) None was is takes = elim takes [ ]
-  taken-older a b c x y step changes many rest (Some s) (Some t) was is (same, takes) = taken-step a b c x y s.number s.intake t.intake changes many (older-part x y s t was rest is same) step takes
+  taken-older a b c x y step changes account many rest None (Some t) was is takes = elim takes [ ]
+  taken-older a b c x y step changes account many rest (Some s) None was is takes = elim takes [ ]
+  taken-older a b c x y step changes account many rest (Some s) (Some t) was is (same, takes) = taken-step a b c x y s.number s.intake t.intake changes account many (older-part x y s t was rest is same) step takes
 
 pub some-at : {X : Type 0} (xs : List X) (c : ℕ) → c < length xs → (x : X) × (slice_get xs c ≡ Some x)
 some-at [] c below = absurd (omega (arith, below))
@@ -339,10 +379,11 @@ module _ {S T F : Type 0} (take : TakeGhosts T F) where
         others = only.others;
         quiet = λ off. ap (λ (z : ChannelState S T). takes_orders z.link.newer) one.rest ∙ off;
         session = refl;
+        plan = refl;
         number = refl;
       } in
       subst (λ (z : SlaveState S T). TakesItems take z b) same
-      (taken-newer take w b c x y step changes only.as_many one.rest x.newer y.newer refl refl one.takes)
+      (taken-newer take w b c x y step changes refl only.as_many one.rest x.newer y.newer refl refl one.takes)
 
   -- the next item of the measurement before it was taken, if there was one
   pub took-older : (v w : SlaveState S T) (xs : List (ChannelState S T)) (o : OutboxState) (c : ℕ) (step : Step) → w ≡ v → c < length w.channels
@@ -358,10 +399,11 @@ module _ {S T F : Type 0} (take : TakeGhosts T F) where
         others = only.others;
         quiet = λ off. ap (λ (z : ChannelState S T). takes_orders z.link.newer) one.rest ∙ off;
         session = refl;
+        plan = refl;
         number = refl;
       } in
       subst (λ (z : SlaveState S T). TakesItems take z b) same
-      (taken-older take w b c x y step changes only.as_many one.rest x.older y.older refl refl one.takes)
+      (taken-older take w b c x y step changes refl only.as_many one.rest x.older y.older refl refl one.takes)
 
   pub takes-nothing : (a : SlaveState S T) → TakesItems take a a
   takes-nothing a = record { acts = []; are = refl; session = refl; as_many = refl; goes = λ log few stands. stands }

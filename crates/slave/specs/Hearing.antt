@@ -1,21 +1,35 @@
 -- What a slave does with a packet of its master (own).
-use Rattle.std.specs.Prelude.{◌≡◌, ℕ, ◌+◌, ◌*◌, ◌≤◌, ◌⊎◌, List, [], ◌∷◌, ◌++◌, length}
+use Rattle.std.specs.Prelude.{◌≡◌, ℕ, ◌+◌, ◌*◌, ◌≤◌, ◌⊎◌, Bool, true, false}
+use Rattle.std.specs.Prelude.{List, [], ◌∷◌, ◌++◌, length}
+use Rattle.std.specs.List.{list_all}
 use Rattle.xcp_base.specs.declared.err_code.ErrCode.{ErrCode}
 use Rattle.xcp_base.specs.declared.err_code.ErrCode.TheVariants.{CmdBusy, MemoryOverflow, Sequence}
 use Rattle.xcp_base.specs.declared.limits.TheConstants.{MAX_TAKEN}
 use Rattle.channel_ring.specs.declared.ends.TakeEnd.{Ghosts as TakeGhosts}
 use Rattle.session.specs.Exchanges.{Exchange}
-use Rattle.slave.specs.Log.{Act, Heard, Opened, Refused}
-use Rattle.slave.specs.Standing.{SlaveStandsAfter, SlaveState}
+use Rattle.slave.specs.Log.{Act, CameBack, Heard, HungUp, Opened, Refused, Sent, Took}
+use Rattle.slave.specs.Log.{opened, past_of}
+use Rattle.slave.specs.Standing.{IsStart, SlaveStandsAfter, SlaveState}
 
 -- a start was refused because a list doesn't stand as it did where the measurement was opened,
 -- because a task has no place for the orders, or for want of memory
 abbrev pub IsStartRefusal : ErrCode → Type 0
 IsStartRefusal code = (code ≡ Sequence) ⊎ ((code ≡ CmdBusy) ⊎ (code ≡ MemoryOverflow))
 
--- nothing, or a measurement was opened
-abbrev pub MayOpen : List Act → Type 0
-MayOpen acts = (acts ≡ []) ⊎ (acts ≡ Opened ∷ [])
+-- what may be done before a start: what is left of samplers comes back, and a measurement is opened
+abbrev pub is_before : Act → Bool
+is_before (Heard x) = false
+is_before (Refused packet code) = false
+is_before Opened = true
+is_before (Took m c x) = false
+is_before (CameBack m c past) = true
+is_before (Sent n) = false
+is_before HungUp = false
+
+-- at most one measurement is opened
+pub record MayOpen (acts : List Act) : Type 0 where
+  pub are : list_all is_before acts ≡ true
+  pub one : opened acts ≤ 1
 
 -- the packet was answered, or refused; and before that a measurement may have been opened
 abbrev pub IsHearing : List ℕ → ℕ → Act → Type 0
@@ -31,10 +45,13 @@ module _ {S T F : Type 0} (take : TakeGhosts T F) where
       → SlaveStandsAfter take a.session.profile a log
       → SlaveStandsAfter take a.session.profile b (acts ++ log)
 
-  -- a packet was heard
+  -- a packet was heard; before that a measurement may have been opened, if it is a start
   pub record Hears (a b : SlaveState S T) (packet : List ℕ) (clock : ℕ) : Type 0 where
     pub act : Act
     pub opening : List Act
     pub is : IsHearing packet clock act
     pub may_open : MayOpen opening
+    pub for_a_start :
+        (log : List Act) → SlaveStandsAfter take a.session.profile a log
+        → (opening ≡ []) ⊎ IsStart a.session.profile (past_of a.session.profile log) packet
     pub goes : GoesBy a b (act ∷ opening)

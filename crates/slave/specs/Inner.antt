@@ -1,7 +1,10 @@
 -- What no public clause cites: parts of what a slave does with a packet.
 use Rattle.std.specs.Prelude.{◌≡◌, ℕ, ◌+◌, ◌*◌, ◌%◌, ◌<◌, ◌≤◌, ◌⊎◌, ◌&&◌, not, Bool, true, false}
 use Rattle.std.specs.Prelude.{List, [], ◌∷◌}
-use Rattle.std.specs.Prelude.{◌++◌, length, slice_get, if◌then◌else◌, Option, Some, None}
+use Rattle.std.specs.Prelude.{◌++◌, ◌↔◌, length, slice_get, if◌then◌else◌, Option, Some, None}
+use Rattle.std.specs.List.{list_all}
+use Rattle.xcp_base.specs.declared.err_code.ErrCode.TheVariants.{CmdBusy, MemoryOverflow, Sequence}
+use Rattle.daq_store.specs.Shape.{is_list}
 use Rattle.xcp_base.specs.Lists.{has_list}
 use Rattle.xcp_base.specs.declared.err_code.ErrCode.{ErrCode}
 use Rattle.xcp_base.specs.declared.limits.TheConstants.{MAX_LISTS, MAX_TAKEN}
@@ -9,6 +12,7 @@ use Rattle.channel_ring.specs.declared.ends.SendEnd.{Ghosts as SendGhosts}
 use Rattle.channel_ring.specs.declared.ends.RingEnd.{Ghosts as EndGhosts}
 use Rattle.channel_ring.specs.declared.ends.TakeEnd.{Ghosts as TakeGhosts}
 use Rattle.session.specs.Past.{Past}
+use Rattle.session.specs.Profiles.{lists_of}
 use Rattle.session.specs.Standing.{SessionStandsAfter, SessionState}
 use Rattle.session.specs.Exchanges.{Exchange}
 use Rattle.session.specs.Starts.{is_on, starts}
@@ -16,14 +20,20 @@ use Rattle.session.specs.declared.profile.Profile.{Profile}
 use Rattle.channel_intake.specs.Deeds.{Deed}
 use Rattle.frame_outbox.specs.Outboxes.{LaysOut, OutboxState}
 use Rattle.frame_outbox.specs.declared.unit.Origin.TheVariants as origin
-use Rattle.slave_channel.specs.Channels.{ChannelState}
+use Rattle.channel_intake.specs.Intakes.{StandsAfter as IntakeStandsAfter}
+use Rattle.session_account.specs.Accounts.{AccountStandsAfter, Entry}
+use Rattle.session_account.specs.declared.totals.Totals.{Totals}
+use Rattle.slave_channel.specs.Channels.{ChannelState, FinishedState, IsPastOf}
 use Rattle.slave_channel.specs.Ordering.{starts_noted}
 use Rattle.slave_channels.specs.Calls.{CanStartAll, Ends, Looks, OpensAt, OpenedAndEnded}
 use Rattle.slave_channels.specs.Calls.{StartsAt, StopsAll}
 use Rattle.slave_channels.specs.Each.{IsEach}
 use Rattle.slave.specs.Hearing.{GoesBy, IsStartRefusal, MayOpen}
-use Rattle.slave.specs.Log.{Act, Heard, deeds_of, is_newest, past_of}
-use Rattle.slave.specs.Standing.{NoneRuns, SlaveStandsAfter, SlaveState, StandsBy}
+use Rattle.slave.specs.Log.{Act, Heard}
+use Rattle.slave.specs.Log.{deeds_of, is_newest, is_return, past_of}
+use Rattle.slave.specs.Plans.{IsAsOpened, plan_of}
+use Rattle.slave.specs.Standing.{JustOpened, NoneRuns, SlaveStandsAfter, SlaveState, StandsBy}
+use Rattle.slave.specs.Standing.{StartsWell}
 
 -- those of the lists that are ready, and whose modes name event channel c: so at each place of the
 -- sets
@@ -50,9 +60,38 @@ LaysReply a b None = b ≡ a
 LaysReply a b (Some packet) =
     LaysOut a b (record { origin = origin.Reply; packets = packet ∷ [] })
 
--- no list runs
+-- a list is one of these
+abbrev pub HasSome : ℕ → Type 0
+HasSome lists = (l : ℕ) × (l < MAX_LISTS) × (has_list lists l ≡ true)
+
+-- where lists run, one of these doesn't stand as it did where the newest measurement was opened
+pub record HasOther (d : Profile) (log : List Act) (lists : ℕ) : Type 0 where
+  pub list : ℕ
+  pub below : list < MAX_LISTS
+  pub one : has_list lists list ≡ true
+  pub other : ¬ IsAsOpened d log list
+  pub some : ¬ NoneRuns (past_of d log)
+
+-- where no list runs, the lists are started in a measurement that was just opened
+abbrev pub IsOfOne : Profile → List Act → ℕ → Type 0
+IsOfOne d log lists = HasSome lists → NoneRuns (past_of d log) → JustOpened log
+
+-- the lists that are there stand as they did where the newest measurement was opened
+abbrev pub AreAsOpened : Profile → List Act → ℕ → Type 0
+AreAsOpened d log lists =
+    (l : ℕ) → l < MAX_LISTS → has_list lists l ≡ true → is_list (past_of d log).calls l ≡ true
+    → IsAsOpened d log l
+
+-- no list runs; and some list runs
 abbrev pub Idle : SessionState → Type 0
 Idle s = (past : Past) → SessionStandsAfter s past → NoneRuns past
+
+abbrev pub Busy : SessionState → Type 0
+Busy s = (past : Past) → SessionStandsAfter s past → ¬ NoneRuns past
+
+-- a task has no place for the orders, or there is no memory
+abbrev pub IsPlaceRefusal : ErrCode → Type 0
+IsPlaceRefusal code = (code ≡ CmdBusy) ⊎ (code ≡ MemoryOverflow)
 
 module _ {S T : Type 0} where
   -- the orders of the tasks were looked at
@@ -64,6 +103,9 @@ module _ {S T : Type 0} where
   pub record OpensBeside (a b : SlaveState S T) : Type 0 where
     pub session : b.session ≡ a.session
     pub outbox : b.outbox ≡ a.outbox
+    pub plan : b.plan ≡ plan_of a.session.store
+    pub lists : a.session.store.profile ≡ lists_of a.session.profile
+    pub account : b.account ≡ a.account
     pub number : b.number ≡ (a.number + 1) % 18446744073709551616
 
 module _ {S T F : Type 0} (take : TakeGhosts T F) where
@@ -96,20 +138,43 @@ module _ {S T F : Type 0} (take : TakeGhosts T F) where
     pub starts : IsEach (StartsAt take sets) looked.channels b.channels
     pub rest : b ≡ record looked { channels = b.channels }
 
+  -- what came back was taken back, at all event channels
+  pub record Collects (a b : SlaveState S T) : Type 0 where
+    pub session : b.session ≡ a.session
+    pub outbox : b.outbox ≡ a.outbox
+    pub as_many : length b.channels ≡ length a.channels
+    pub acts : List Act
+    pub are : list_all is_return acts ≡ true
+    pub goes : GoesBy take a b acts
+
   -- lists were started, in a measurement that may have been opened
   pub record Prepares (a b : SlaveState S T) (lists : ℕ) : Type 0 where
     pub opening : List Act
     pub may_open : MayOpen opening
+    pub for_some : (opening ≡ []) ⊎ HasSome lists
+    pub in_one :
+        (log : List Act) → 32 * (1 + length opening + length log) ≤ MAX_TAKEN
+        → SlaveStandsAfter take a.session.profile a log
+        → IsOfOne a.session.profile (opening ++ log) lists
+    pub as_opened :
+        (log : List Act) → 32 * (1 + length opening + length log) ≤ MAX_TAKEN
+        → SlaveStandsAfter take a.session.profile a log
+        → AreAsOpened a.session.profile (opening ++ log) lists
     pub goes :
         (log : List Act) → 32 * (1 + length opening + length log) ≤ MAX_TAKEN
         → SlaveStandsAfter take a.session.profile a log
         → SlaveStarted a.session.profile b (opening ++ log) lists
 
   -- lists were not started; a measurement may have been opened, and ended at once
-  pub record StartsInVain (a b : SlaveState S T) (code : ErrCode) : Type 0 where
+  pub record StartsInVain (a b : SlaveState S T) (lists : ℕ) (code : ErrCode) : Type 0 where
     pub is : IsStartRefusal code
+    pub some : HasSome lists
     pub opening : List Act
     pub may_open : MayOpen opening
+    pub sequence :
+        (log : List Act) → 32 * (1 + length opening + length log) ≤ MAX_TAKEN
+        → SlaveStandsAfter take a.session.profile a log
+        → (code ≡ Sequence) ↔ HasOther a.session.profile (opening ++ log) lists
     pub goes : GoesBy take a b opening
 
   -- a packet was answered whose lists were started
@@ -121,8 +186,19 @@ module _ {S T F : Type 0} (take : TakeGhosts T F) where
         (log : List Act) (lists : ℕ) → 32 * (1 + length log) ≤ MAX_TAKEN
         → ((l : ℕ) → l < MAX_LISTS
         → has_list lists l ≡ starts a.session.profile (past_of a.session.profile log) packet l)
+        → StartsWell a.session.profile log packet
         → SlaveStarted a.session.profile a log lists
         → SlaveStandsAfter take a.session.profile b (Heard exchange ∷ log)
+
+module _ {E T F : Type 0} (ring : EndGhosts E) (take : TakeGhosts T F) where
+  -- a part that came back was added to an account, if there is one
+  abbrev pub Notes : List Totals → List Totals → Option (FinishedState E T) → Type 0
+  Notes a b None = b ≡ a
+  Notes a b (Some f) =
+      (entry : Entry) → IsPastOf ring take f entry.past
+      → IntakeStandsAfter take f.intake entry.deeds
+      → (entries : List Entry) (unsent : ℕ → ℕ) → AccountStandsAfter a entries unsent
+      → AccountStandsAfter b (entry ∷ entries) unsent
 
 module _ {S E T F : Type 0} (send : SendGhosts S E) (ring : EndGhosts E) (take : TakeGhosts T F)
   where

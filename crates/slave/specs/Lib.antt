@@ -4,5 +4,6 @@ pub mod Standing
 pub mod Hearing
 pub mod Taking
 pub mod Finishing
+pub mod Closing
 pub mod Laws
 pub mod Inner

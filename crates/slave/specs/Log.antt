@@ -1,6 +1,6 @@
 -- What a slave did, and what follows of it: the past of its session, what was done at each event
 -- channel, and the frames that were laid out (own).
-use Rattle.std.specs.Prelude.{ℕ, ◌+◌, Bool, true, false, ◌&&◌, not, nat_eq, if◌then◌else◌}
+use Rattle.std.specs.Prelude.{ℕ, ◌+◌, Bool, true, false, ◌&&◌, ◌||◌, not, nat_eq, if◌then◌else◌}
 use Rattle.std.specs.Prelude.{List, [], ◌∷◌, ◌++◌, count_by, sum_by, Option, Some, None, Err}
 use Rattle.xcp_base.specs.Samples.{SampleParts}
 use Rattle.xcp_base.specs.declared.err_code.ErrCode.{ErrCode}
@@ -12,22 +12,26 @@ use Rattle.session.specs.Fields.{packet_of}
 use Rattle.session.specs.Past.{Past, new_past}
 use Rattle.session.specs.Starts.{is_on, runs}
 use Rattle.session.specs.declared.profile.Profile.{Profile}
+use Rattle.sampler.specs.Past.{Past as SamplerPast}
 use Rattle.channel_intake.specs.Deeds.{Deed, passes}
 use Rattle.channel_intake.specs.Deeds.{Took as TookItem}
 use Rattle.channel_intake.specs.Deeds.{runs as runs_there}
 use Rattle.frame_outbox.specs.Outboxes.{Laid}
 use Rattle.frame_outbox.specs.declared.unit.Origin.TheVariants as origin
 use Rattle.slave_channel.specs.Ordering.{starts_noted, stops_noted}
+use Rattle.session_account.specs.Accounts.{Entry}
 
 -- a packet was answered by the session; a start was refused by the slave, with an error code, and
 -- changed nothing; a measurement was opened; an item was taken off the ring that event channel c
--- has in measurement m; so many of the replies and samples that waited were sent, the oldest first;
--- or the transport was lost
+-- has in measurement m; what was left of the sampler that event channel c had in measurement m came
+-- back, and this is the sampler's past; so many of the replies and samples that waited were sent,
+-- the oldest first; or the transport was lost
 pub data Act : Type 0 where
   Heard : (x : Exchange) → Act
   Refused : (packet : List ℕ) (code : ErrCode) → Act
   Opened : Act
   Took : (m c : ℕ) (x : Item) → Act
+  CameBack : (m c : ℕ) (past : SamplerPast) → Act
   Sent : (n : ℕ) → Act
   HungUp : Act
 
@@ -38,14 +42,26 @@ is_opening (Heard x) = false
 is_opening (Refused packet code) = false
 is_opening Opened = true
 is_opening (Took m c x) = false
+is_opening (CameBack m c past) = false
 is_opening (Sent n) = false
 is_opening HungUp = false
+
+-- something came back
+abbrev pub is_return : Act → Bool
+is_return (Heard x) = false
+is_return (Refused packet code) = false
+is_return Opened = false
+is_return (Took m c x) = false
+is_return (CameBack m c past) = true
+is_return (Sent n) = false
+is_return HungUp = false
 
 abbrev pub sent_by : Act → ℕ
 sent_by (Heard x) = 0
 sent_by (Refused packet code) = 0
 sent_by Opened = 0
 sent_by (Took m c x) = 0
+sent_by (CameBack m c past) = 0
 sent_by (Sent n) = n
 sent_by HungUp = 0
 
@@ -63,6 +79,7 @@ past_by d (Heard x) past = past_behind d past x
 past_by d (Refused packet code) past = past
 past_by d Opened past = past
 past_by d (Took m c x) past = past
+past_by d (CameBack m c p) past = past
 past_by d (Sent n) past = past
 past_by d HungUp past = new_past
 
@@ -108,6 +125,7 @@ deeds_of d m c (Refused packet code ∷ log) = deeds_of d m c log
 deeds_of d m c (Opened ∷ log) = deeds_of d m c log
 deeds_of d m c (Took n k x ∷ log) =
     if nat_eq n m && nat_eq k c then TookItem x ∷ deeds_of d m c log else deeds_of d m c log
+deeds_of d m c (CameBack n k past ∷ log) = deeds_of d m c log
 deeds_of d m c (Sent n ∷ log) = deeds_of d m c log
 deeds_of d m c (HungUp ∷ log) =
     if is_newest m log then ordered_by d c HungUp log (deeds_of d m c log)
@@ -131,6 +149,7 @@ laid_by d (Refused packet code) log = reply_laid (Some (packet_of (Err code)))
 laid_by d Opened log = []
 laid_by d (Took m c (Sample s)) log = sample_laid (passes (deeds_of d m c log) s.list) m s
 laid_by d (Took m c (Marker k)) log = []
+laid_by d (CameBack m c past) log = []
 laid_by d (Sent n) log = []
 laid_by d HungUp log = []
 
@@ -138,3 +157,27 @@ laid_by d HungUp log = []
 abbrev pub laid : Profile → List Act → List Laid
 laid d [] = []
 laid d (act ∷ log) = laid d log ++ laid_by d act log
+
+-- whether what was left of the sampler that event channel c had in measurement m came back
+abbrev pub is_back : ℕ → ℕ → List Act → Bool
+is_back m c [] = false
+is_back m c (Heard x ∷ log) = is_back m c log
+is_back m c (Refused packet code ∷ log) = is_back m c log
+is_back m c (Opened ∷ log) = is_back m c log
+is_back m c (Took n k x ∷ log) = is_back m c log
+is_back m c (CameBack n k past ∷ log) = (nat_eq n m && nat_eq k c) || is_back m c log
+is_back m c (Sent n ∷ log) = is_back m c log
+is_back m c (HungUp ∷ log) = is_back m c log
+
+-- the parts of measurements that came back, with what had been done with their rings, the newest
+-- first
+abbrev pub entries_of : Profile → List Act → List Entry
+entries_of d [] = []
+entries_of d (Heard x ∷ log) = entries_of d log
+entries_of d (Refused packet code ∷ log) = entries_of d log
+entries_of d (Opened ∷ log) = entries_of d log
+entries_of d (Took m c x ∷ log) = entries_of d log
+entries_of d (CameBack m c past ∷ log) =
+    record { past = past; deeds = deeds_of d m c log } ∷ entries_of d log
+entries_of d (Sent n ∷ log) = entries_of d log
+entries_of d (HungUp ∷ log) = entries_of d log

@@ -1,8 +1,11 @@
 -- What contracts see of a slave, and what it stands after (own).
-use Rattle.std.specs.Prelude.{◌≡◌, ℕ, ◌+◌, ◌-◌, ◌*◌, ◌<◌, ◌≤◌, true, false}
+use Rattle.std.specs.Prelude.{◌≡◌, ℕ, ◌+◌, ◌-◌, ◌*◌, ◌<◌, ◌≤◌, ◌↔◌, Bool, true, false}
 use Rattle.std.specs.Prelude.{List, [], ◌∷◌}
-use Rattle.std.specs.Prelude.{drop, length, slice_get, Some}
+use Rattle.std.specs.Prelude.{drop, length, slice_get, Option, Some, None}
 use Rattle.std.specs.Prelude.{take as first}
+use mathlib.Core.List.{IsPrefix}
+use Rattle.xcp_base.specs.declared.err_code.ErrCode.{ErrCode}
+use Rattle.xcp_base.specs.declared.err_code.ErrCode.TheVariants.{Sequence}
 use Rattle.xcp_base.specs.declared.limits.TheConstants.{MAX_LISTS, MAX_TAKEN}
 use Rattle.channel_ring.specs.declared.ends.TakeEnd.{Ghosts as TakeGhosts}
 use Rattle.daq_store.specs.Configuration.{Configuration}
@@ -18,17 +21,28 @@ use Rattle.frame_outbox.specs.Outboxes.{OutboxState}
 use Rattle.frame_outbox.specs.Outboxes.{StandsAfter as OutboxStandsAfter}
 use Rattle.tasks.specs.Links.{is_running, takes_orders}
 use Rattle.slave_channel.specs.Channels.{ChannelState, ShareState}
-use Rattle.slave.specs.Log.{Act, Heard, HungUp, Opened, Refused, Sent, Took}
-use Rattle.slave.specs.Log.{deeds_of, laid, opened, past_of, sent_of}
+use Rattle.sampler.specs.Past.{Past as SamplerPast}
+use Rattle.channel_intake.specs.Accounts.{HasPlans}
+use Rattle.channel_intake.specs.Deeds.{taken}
+use Rattle.daq_engine.specs.Order.{items_of}
+use Rattle.daq_engine.specs.Overload.{HasMarks}
+use Rattle.transmitter.specs.Items.{samples}
+use Rattle.slave.specs.Log.{Act, CameBack, Heard, HungUp, Opened, Refused, Sent, Took}
+use Rattle.slave.specs.Log.{deeds_of, entries_of, is_back, laid, opened, past_of, sent_of}
+use Rattle.session_account.specs.Accounts.{AccountStandsAfter}
+use Rattle.session_account.specs.declared.totals.Totals.{Totals}
+use Rattle.slave.specs.Plans.{IsAsOpened, plan_at}
 
 -- the session with the master, the frames that were laid out, the event channels, how the DAQ lists
--- were set up where the newest measurement was opened, and how many measurements were opened
+-- were set up where the newest measurement was opened, how many measurements were opened, and the
+-- account of what came back
 pub record SlaveState (S T : Type 0) : Type 0 where
   pub session : SessionState
   pub outbox : OutboxState
   pub channels : List (ChannelState S T)
   pub plan : List Configuration
   pub number : ℕ
+  pub account : List Totals
 
 -- no list runs
 abbrev pub NoneRuns : Past → Type 0
@@ -38,20 +52,75 @@ NoneRuns past = (l : ℕ) → l < MAX_LISTS → runs past l ≡ false
 abbrev pub IsStart : Profile → Past → List ℕ → Type 0
 IsStart d past packet = (l : ℕ) × (l < MAX_LISTS) × (starts d past packet l ≡ true)
 
+-- the newest act opened a measurement
+abbrev pub JustOpened : List Act → Type 0
+JustOpened [] = ⊥
+JustOpened (Heard x ∷ log) = ⊥
+JustOpened (Refused packet code ∷ log) = ⊥
+JustOpened (Opened ∷ log) = Unit {0}
+JustOpened (Took m c x ∷ log) = ⊥
+JustOpened (CameBack m c past ∷ log) = ⊥
+JustOpened (Sent n ∷ log) = ⊥
+JustOpened (HungUp ∷ log) = ⊥
+
+-- a list that the packet starts stands as it did where the newest measurement was opened; and where
+-- no list runs, that was just before
+pub record StartsWell (d : Profile) (log : List Act) (packet : List ℕ) : Type 0 where
+  pub as_opened :
+      (l : ℕ) → l < MAX_LISTS → starts d (past_of d log) packet l ≡ true → IsAsOpened d log l
+  pub in_one : IsStart d (past_of d log) packet → NoneRuns (past_of d log) → JustOpened log
+
+-- where lists run, the packet would start one that doesn't stand as it did where the newest
+-- measurement was opened
+pub record StartsOther (d : Profile) (log : List Act) (packet : List ℕ) : Type 0 where
+  pub list : ℕ
+  pub below : list < MAX_LISTS
+  pub starts_it : starts d (past_of d log) packet list ≡ true
+  pub other : ¬ IsAsOpened d log list
+  pub some : ¬ NoneRuns (past_of d log)
+
+-- ERR_SEQUENCE is the answer to such a packet, and to no other start
+abbrev pub IsSequenceIfOther : Profile → List Act → List ℕ → ErrCode → Type 0
+IsSequenceIfOther d log packet code = (code ≡ Sequence) ↔ StartsOther d log packet
+
+-- what is left of the sampler that event channel c had in measurement m comes back once, of the
+-- newest measurement only where no list runs; what was taken of its ring are the first of the items
+-- that the sampler sent, and the samples among these are marked exactly behind drops
+pub record ComesBack (d : Profile) (log : List Act) (m c : ℕ) (past : SamplerPast) : Type 0 where
+  pub there : m < opened log
+  pub once : is_back m c log ≡ false
+  pub over : m + 1 ≡ opened log → NoneRuns (past_of d log)
+  pub plans : HasPlans past
+  pub front : IsPrefix (taken (deeds_of d m c log)) (items_of past)
+  pub marks : HasMarks past (samples (taken (deeds_of d m c log)))
+
 -- in a slave's log there may be no memory only for an allocation that else is accepted; starts
--- alone are refused; a measurement is opened only where no list runs; and items are those of measurements
--- that were opened
+-- alone are refused; a measurement is opened only where no list runs; items are those of
+-- measurements that were opened, and that did not come back
 abbrev pub IsLog : Profile → List Act → Type 0
 IsLog d [] = Unit {0}
 IsLog d (Heard x ∷ log) =
-    (x.out_of_memory ≡ true → MayBeOut d (past_of d log) x.packet) × IsLog d log
-IsLog d (Refused packet code ∷ log) = IsStart d (past_of d log) packet × IsLog d log
+    (x.out_of_memory ≡ true → MayBeOut d (past_of d log) x.packet)
+    × StartsWell d log x.packet × IsLog d log
+IsLog d (Refused packet code ∷ log) =
+    IsStart d (past_of d log) packet × IsSequenceIfOther d log packet code × IsLog d log
 IsLog d (Opened ∷ log) = NoneRuns (past_of d log) × IsLog d log
-IsLog d (Took m c x ∷ log) = (m < opened log) × IsLog d log
+IsLog d (Took m c x ∷ log) = (m < opened log) × (is_back m c log ≡ false) × IsLog d log
+IsLog d (CameBack m c past ∷ log) = ComesBack d log m c past × IsLog d log
 IsLog d (Sent n ∷ log) = IsLog d log
 IsLog d (HungUp ∷ log) = IsLog d log
 
+-- the number of a part, if it is there
+abbrev pub number_of : {T : Type 0} → Option (ShareState T) → Option ℕ
+number_of None = None
+number_of (Some p) = Some p.number
+
 module _ {S T : Type 0} where
+  -- what is kept of an event channel did not come back
+  pub record IsOut (back : ℕ → Bool) (ch : ChannelState S T) : Type 0 where
+    pub newer : (m : ℕ) → number_of ch.newer ≡ Some m → back m ≡ false
+    pub older : (m : ℕ) → number_of ch.older ≡ Some m → back m ≡ false
+
   -- where no list runs, each measurement has ended
   abbrev pub HasEnded : SlaveState S T → Past → Type 0
   HasEnded s past =
@@ -66,8 +135,8 @@ module _ {T F : Type 0} (take : TakeGhosts T F) where
     pub stands : IntakeStandsAfter take p.intake (deeds p.number)
 
   -- an event channel, where n measurements were opened and so much was done there in each: its
-  -- parts stand after that, only that of the newest takes orders, and of its lists run those that run by
-  -- the orders
+  -- parts stand after that, only that of the newest takes orders, and of its lists run those that
+  -- run by the orders
   pub record ChannelHas {S : Type 0} (n : ℕ) (deeds : ℕ → List Deed) (ch : ChannelState S T)
       : Type 0 where
     pub newer : (p : ShareState T) → ch.newer ≡ Some p → PartHas n deeds p
@@ -96,7 +165,12 @@ module _ {T F : Type 0} (take : TakeGhosts T F) where
     pub channels :
         (c : ℕ) (ch : ChannelState S T) → slice_get s.channels c ≡ Some ch
         → ChannelHas (opened log) (deeds c) ch
+    pub out :
+        (c : ℕ) (ch : ChannelState S T) → slice_get s.channels c ≡ Some ch
+        → IsOut (λ m. is_back m c log) ch
+    pub plan : s.plan ≡ plan_at d log
     pub number : s.number ≡ opened log
+    pub account : AccountStandsAfter s.account (entries_of d log) (λ l. 0)
 
   abbrev pub SlaveHas : {S : Type 0} → Profile → SlaveState S T → List Act → Type 0
   SlaveHas d s log = StandsBy (λ c m. deeds_of d m c log) d s log

@@ -3,7 +3,7 @@ use Rattle.std.specs.Prelude.{◌≡◌, Bool, true, false, List, length}
 use Rattle.std.specs.List.{list_all}
 use Rattle.channel_ring.specs.declared.ends.TakeEnd.{Ghosts as TakeGhosts}
 use Rattle.slave.specs.Hearing.{GoesBy}
-use Rattle.slave.specs.Log.{Act, Heard, HungUp, Opened, Refused, Sent, Took}
+use Rattle.slave.specs.Log.{Act, CameBack, Heard, HungUp, Opened, Refused, Sent, Took}
 use Rattle.slave.specs.Standing.{SlaveState}
 
 abbrev pub is_take : Act → Bool
@@ -11,6 +11,7 @@ is_take (Heard x) = false
 is_take (Refused packet code) = false
 is_take Opened = false
 is_take (Took m c x) = true
+is_take (CameBack m c past) = false
 is_take (Sent n) = false
 is_take HungUp = false
 

@@ -8,6 +8,13 @@ use daq_engine::Ring;
 use std::alloc::Global;
 
 impl<R: Ring> Slave<R> {
+    /// Whether there is room for one more reply.
+    pub fn has_room(&self) -> bool
+        ensures { result ≡ has_room self.now.outbox }
+    {
+        self.outbox.has_room()
+    }
+
     /// Hears a packet of the master, which came at this clock, and lays the reply out, if there is
     /// one; and tells whether there was room for a reply. If there is none, the packet isn't heard.
     ///
@@ -22,7 +29,7 @@ impl<R: Ring> Slave<R> {
             → Hears R.Take.TakeEnd self.old self.new packet.now clock }
         ensures profile_stays { self.new.session.profile ≡ self.old.session.profile }
     {
-        if !self.outbox.has_room() {
+        if !self.has_room() {
             return false;
         }
         let lists = self.session.starts_of(packet);

@@ -2,6 +2,7 @@
 #![tactic(auto)]
 
 mod answering;
+mod closing;
 mod finishing;
 mod hearing;
 pub mod laws;

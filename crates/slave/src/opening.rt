@@ -8,6 +8,7 @@ use crate::slave::Slave;
 use daq_engine::Ring;
 use frame_outbox::Outbox;
 use session::{EventChannel, Profile, ProfileFault, Session};
+use session_account::Account;
 use slave_channels::Channels;
 use std::alloc::{AllocError, Global};
 use tasks::Task;
@@ -83,6 +84,7 @@ impl<R: Ring> Slave<R> {
             caps,
             plan: Plan::none(alloc),
             number: 0,
+            account: Account::new(),
         };
         Ok((slave, tasks))
     }

@@ -2,6 +2,7 @@ use crate::plan::Plan;
 use daq_engine::Ring;
 use frame_outbox::Outbox;
 use session::Session;
+use session_account::Account;
 use slave_channels::Channels;
 use std::marker::Model;
 
@@ -17,6 +18,7 @@ pub struct Slave<R: Ring> {
     pub(crate) caps: Vec<usize>,
     pub(crate) plan: Plan,
     pub(crate) number: u64,
+    pub(crate) account: Account,
 }
 
 impl<R: Ring> Model for Slave<R> {
@@ -31,6 +33,7 @@ impl<R: Ring> Model for Slave<R> {
       channels = s.channels;
       plan = s.plan;
       number = s.number;
+      account = s.account;
     } };
 
     ghost invariant = { λ s. length s.caps.items ≡ length s.channels };

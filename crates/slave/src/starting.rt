@@ -1,10 +1,11 @@
 //! Lists are started, in a measurement that is opened where none is there.
-ghost use Rattle.std.specs.Prelude.{◌≡◌, ℕ, ◌<◌, IfErr, OnErr, OnOk, length, true};
+ghost use Rattle.std.specs.Prelude.{◌≡◌, ℕ, ◌<◌, IfErr, OnErr, OnOk, length, true, false};
 ghost use Rattle.xcp_base.specs.Lists.{has_list};
 ghost use Rattle.xcp_base.specs.declared.limits.TheConstants.{MAX_CHANNELS, MAX_LISTS};
-ghost use Rattle.slave.specs.Hearing.{IsStartRefusal};
-ghost use Rattle.slave.specs.Inner.{AreSets, Idle, LooksAtAll, OpensAll, OpensInVain, OpensNone};
-ghost use Rattle.slave.specs.Inner.{Prepares, StartsInVain, StartsLists};
+ghost use Rattle.slave.specs.Inner.{AreSets, Busy, HasSome, Idle, IsPlaceRefusal, LooksAtAll};
+ghost use Rattle.slave.specs.Inner.{OpensAll, OpensInVain, OpensNone, Prepares};
+ghost use Rattle.slave.specs.Inner.{StartsInVain, StartsLists};
+ghost use Rattle.slave.specs.Plans.{plan_of};
 
 use crate::plan::Plan;
 use crate::sets::{common, is_empty};
@@ -20,7 +21,7 @@ const ALL: u16 = 0xFFFF;
 
 /// What a start is refused with where a measurement can't be opened.
 fn code_of(fault: HandFault) -> ErrCode
-    ensures { IsStartRefusal result }
+    ensures { IsPlaceRefusal result }
 {
     match fault {
         HandFault::Memory => ErrCode::MemoryOverflow,
@@ -29,13 +30,11 @@ fn code_of(fault: HandFault) -> ErrCode
 }
 
 impl<R: Ring> Slave<R> {
-    /// Orders the starts of these lists, if they are any, in a measurement that is opened if none is
-    /// there.
+    /// Orders the starts of these lists, if they are any, in a measurement that is opened if none
+    /// is there.
     pub(crate) fn prepare(&mut self, alloc: Global, lists: u16) -> Result<(), ErrCode>
         ensures ok { OnOk result (Prepares R.Take.TakeEnd self.old self.new lists) }
-        ensures err { IfErr result (StartsInVain R.Take.TakeEnd self.old self.new) }
-        ensures some { OnErr result
-            ((l : ℕ) × (l < MAX_LISTS) × (has_list lists l ≡ true)) }
+        ensures err { IfErr result (StartsInVain R.Take.TakeEnd self.old self.new lists) }
         ensures session_stays { self.new.session ≡ self.old.session }
         ensures outbox_stays { self.new.outbox ≡ self.old.outbox }
     {
@@ -43,7 +42,7 @@ impl<R: Ring> Slave<R> {
             return Ok(());
         }
         if self.is_idle() {
-            return self.start_new(alloc, lists);
+            return self.start_anew(alloc, lists);
         }
         if !self.plan.stands(self.session.store(), lists) {
             return Err(ErrCode::Sequence);
@@ -53,17 +52,32 @@ impl<R: Ring> Slave<R> {
 
     /// Whether no list runs.
     pub(crate) fn is_idle(&self) -> bool
-        ensures { result ≡ true → Idle self.now.session }
+        ensures idle { result ≡ true → Idle self.now.session }
+        ensures busy { result ≡ false → Busy self.now.session }
     {
         is_empty(self.session.running())
+    }
+
+    /// Starts these lists in a new measurement, once what came back of those before was taken back.
+    fn start_anew(&mut self, alloc: Global, lists: u16) -> Result<(), ErrCode>
+        requires idle { Idle self.old.session }
+        requires some { HasSome lists }
+        ensures ok { OnOk result (Prepares R.Take.TakeEnd self.old self.new lists) }
+        ensures err { IfErr result (StartsInVain R.Take.TakeEnd self.old self.new lists) }
+        ensures session_stays { self.new.session ≡ self.old.session }
+        ensures outbox_stays { self.new.outbox ≡ self.old.outbox }
+    {
+        self.collect();
+        self.start_new(alloc, lists)
     }
 
     /// Opens a measurement, and orders the starts of these lists. Where that isn't possible it ends
     /// again.
     fn start_new(&mut self, alloc: Global, lists: u16) -> Result<(), ErrCode>
         requires idle { Idle self.old.session }
+        requires some { HasSome lists }
         ensures ok { OnOk result (Prepares R.Take.TakeEnd self.old self.new lists) }
-        ensures err { IfErr result (StartsInVain R.Take.TakeEnd self.old self.new) }
+        ensures err { IfErr result (StartsInVain R.Take.TakeEnd self.old self.new lists) }
         ensures session_stays { self.new.session ≡ self.old.session }
         ensures outbox_stays { self.new.outbox ≡ self.old.outbox }
     {
@@ -81,22 +95,23 @@ impl<R: Ring> Slave<R> {
     fn open_measurement(&mut self, alloc: Global) -> Result<(), ErrCode>
         ensures ok { OnOk result (OpensAll
             R.Send.SendEnd R.Send.End.RingEnd R.Take.TakeEnd self.old self.new) }
-        ensures code { IfErr result IsStartRefusal }
+        ensures code { IfErr result IsPlaceRefusal }
         ensures err { OnErr result (OpensNone
             R.Send.SendEnd R.Send.End.RingEnd R.Take.TakeEnd self.old self.new) }
     {
         let Ok(plan) = Plan::of(alloc, self.session.store()) else {
             return Err(ErrCode::MemoryOverflow);
         };
+        self.plan = plan;
         if let Err(fault) = self.open_channels(alloc) {
             return Err(code_of(fault));
         }
-        self.plan = plan;
         Ok(())
     }
 
     /// Opens the parts of a measurement at all event channels.
     fn open_channels(&mut self, alloc: Global) -> Result<(), HandFault>
+        requires plan { self.old.plan ≡ plan_of self.old.session.store }
         ensures ok { OnOk result (OpensAll
             R.Send.SendEnd R.Send.End.RingEnd R.Take.TakeEnd self.old self.new) }
         ensures err { OnErr result (OpensInVain
@@ -113,7 +128,7 @@ impl<R: Ring> Slave<R> {
     /// Orders the starts of these lists, if all find places.
     fn start(&mut self, lists: u16) -> Result<(), ErrCode>
         ensures ok { OnOk result (StartsLists R.Take.TakeEnd self.old self.new lists) }
-        ensures code { IfErr result IsStartRefusal }
+        ensures code { IfErr result IsPlaceRefusal }
         ensures err { OnErr result (LooksAtAll self.old self.new) }
     {
         let sets = self.sets_of(lists);

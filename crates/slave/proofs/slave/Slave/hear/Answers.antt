@@ -14,7 +14,6 @@ returns-in-Ok-clause-heard g c = λ done.
 pub returns-in-Err-clause-heard : goal.returns-in-Err-clause-heard
 returns-in-Err-clause-heard g c = λ done.
     let view = ap (λ s. s.session) c.self.view_is in
-    let some = c.in-Err.ensures.some in
-    refused g.R.Take.TakeEnd c.args.self.now c.prepare.new.self c.refuse.new.self c.starts_of-lists.result some.0 c.args.packet.now c.args.clock c.in-Err.code c.in-Err.ensures.err c.prepare.ensures.session_stays
+    refused g.R.Take.TakeEnd c.args.self.now c.prepare.new.self c.refuse.new.self c.starts_of-lists.result c.args.packet.now c.args.clock c.in-Err.code c.in-Err.ensures.err c.prepare.ensures.session_stays
     (λ past stands l below. c.starts_of-lists.ensures.value past (subst (λ s. SessionStandsAfter s past) (sym view) stands) l below ∙ ap (λ s. starts s.profile past c.args.packet.now l) view)
-    some.1 some.2 c.refuse.ensures.lays c.refuse.ensures.rest_stays
+    c.refuse.ensures.lays c.refuse.ensures.rest_stays

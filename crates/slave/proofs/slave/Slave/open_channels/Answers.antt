@@ -1,4 +1,5 @@
-use Rattle.std.proofs.Common.{length, ap, ◌∙◌, arith}
+use Rattle.std.proofs.Common.{◌≡◌, length, ap, ◌∙◌, subst, sym, arith}
+use Rattle.slave.specs.Plans.{plan_of}
 use Rattle.slave.proofs.PreparingLemmas.{front-many, on-err, on-ok, opens-of, vain-of}
 use Rattle.slave.proofs.slave.Slave.open_channels.Goals as goal
 
@@ -6,7 +7,8 @@ pub returns-clause-ok : goal.returns-clause-ok
 returns-clause-ok g c =
     on-ok c.open.result _ _
     (λ opens.
-    opens-of g.R.Send.SendEnd g.R.Send.End.RingEnd g.R.Take.TakeEnd c.args.self.now _ c.open.new.self _ _ _ c.self.view_is c.store.ensures.value (ap length c.deref.ensures.value ∙ c.self.invariant)
+    opens-of g.R.Send.SendEnd g.R.Send.End.RingEnd g.R.Take.TakeEnd c.args.self.now _ c.open.new.self _ _ _ c.self.view_is c.store.ensures.value
+    (subst (λ s. s.plan ≡ plan_of s.session.store) (sym c.self.view_is) c.requires.plan) (ap (λ s. s.profile) (sym c.store.ensures.value) ∙ c.store.ensures.profile) (ap length c.deref.ensures.value ∙ c.self.invariant)
     (front-many c.len.result _ _ c.sets_of-sets.result c.len.ensures.value c.sets_of-sets.ensures.many (omega (arith, c.len.ensures.value, c.len.ensures.limit))) opens)
     c.open.ensures.ok
 
@@ -14,6 +16,7 @@ pub returns-clause-err : goal.returns-clause-err
 returns-clause-err g c =
     on-err c.open.result _ _
     (λ opens.
-    vain-of g.R.Send.SendEnd g.R.Send.End.RingEnd g.R.Take.TakeEnd c.args.self.now _ c.open.new.self _ _ _ c.self.view_is c.store.ensures.value (ap length c.deref.ensures.value ∙ c.self.invariant)
+    vain-of g.R.Send.SendEnd g.R.Send.End.RingEnd g.R.Take.TakeEnd c.args.self.now _ c.open.new.self _ _ _ c.self.view_is c.store.ensures.value
+    (subst (λ s. s.plan ≡ plan_of s.session.store) (sym c.self.view_is) c.requires.plan) (ap (λ s. s.profile) (sym c.store.ensures.value) ∙ c.store.ensures.profile) (ap length c.deref.ensures.value ∙ c.self.invariant)
     (front-many c.len.result _ _ c.sets_of-sets.result c.len.ensures.value c.sets_of-sets.ensures.many (omega (arith, c.len.ensures.value, c.len.ensures.limit))) opens)
     c.open.ensures.err

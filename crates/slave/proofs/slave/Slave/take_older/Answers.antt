@@ -5,6 +5,6 @@ use Rattle.slave.proofs.slave.Slave.take_older.Goals as goal
 pub returns : goal.returns
 returns g c = record {
   back =
-      gives-older g.R.Send.SendEnd g.R.Send.End.RingEnd g.R.Take.TakeEnd c.args.self.now _ c.take_older.new.self c.args.c c.take_older.result c.self.view_is
-      (subst (λ xs. c.args.c < length xs) (sym (ap (λ s. s.channels) c.self.view_is)) c.requires.channel) c.take_older.ensures.back;
+      gives-older g.R.Send.SendEnd g.R.Send.End.RingEnd g.R.Take.TakeEnd c.args.self.now _ c.take_older-part.new.self c.note.new.account c.args.c c.take_older-part.result c.self.view_is c.note.ensures
+      (subst (λ xs. c.args.c < length xs) (sym (ap (λ s. s.channels) c.self.view_is)) c.requires.channel) c.take_older-part.ensures.back;
 }

@@ -1,0 +1,96 @@
+-- The account of a slave that is closed.
+use Rattle.std.proofs.Common.{◌≡◌, ◌≢◌, ℕ, suc, ◌+◌, ◌<◌, ◌≤◌, true, false, nat_lt, if◌then◌else◌, List, [], ◌∷◌, ◌++◌, map, drop, refl, sym, ap, ◌∙◌, subst, arith, inl, inr}
+use Rattle.std.specs.Prelude.{count_by}
+use Rattle.std.proofs.lemmas.Bool.Decides.{eqb_tells, leb_tells}
+use Rattle.std.proofs.lemmas.List.Sums.{sum_by-cons}
+use Rattle.xcp_base.specs.declared.limits.TheConstants.{MAX_LISTS}
+use Rattle.channel_ring.specs.declared.ends.TakeEnd.{Ghosts as TakeGhosts}
+use Rattle.frame_outbox.specs.Outboxes.{Laid, unit_of}
+use Rattle.frame_outbox.specs.Units.{is_sample_of, samples_of}
+use Rattle.frame_outbox.specs.declared.unit.Unit.{Unit}
+use Rattle.session_account.specs.Accounts.{AccountStandsAfter, AreTotals, Entry, more_unsent}
+use Rattle.session_account.specs.declared.totals.Totals.{Totals}
+use Rattle.slave.specs.Closing.{Closes, unsent_of}
+use Rattle.slave.specs.Hearing.{GoesBy}
+use Rattle.slave.specs.Inner.{Collects}
+use Rattle.slave.specs.Log.{HungUp, entries_of, laid, sent_of}
+use Rattle.slave.specs.Standing.{SlaveStandsAfter, SlaveState}
+
+-- an account stands by the numbers of its lists alone
+pub same-unsent : (account : List Totals) (entries : List Entry) (f g : ℕ → ℕ) → ((l : ℕ) → l < MAX_LISTS → f l ≡ g l) → AccountStandsAfter account entries f → AccountStandsAfter account entries g
+same-unsent account entries f g same stands = record {
+  entries_are = stands.entries_are;
+  lists = λ l below.
+      let (totals, at, are) = stands.lists l below in
+      (totals, at, subst (λ n. AreTotals entries n l totals) (same l below) are);
+}
+
+-- the lists so far
+abbrev pub so_far : ℕ → (ℕ → ℕ) → ℕ → ℕ
+so_far n f l = if nat_lt l n then f l else 0
+
+lt_yes : (l n : ℕ) → l < n → nat_lt l n ≡ true
+lt_yes l n below = elim (leb_tells (suc l) n) [ inl t ↦ t.0 | inr t ↦ absurd (omega (arith, below, t.1)) ]
+
+lt_no : (l n : ℕ) → n ≤ l → nat_lt l n ≡ false
+lt_no l n least = elim (leb_tells (suc l) n) [ inl t ↦ absurd (omega (arith, least, t.1)) | inr t ↦ t.0 ]
+
+so-far-here : (n : ℕ) (f : ℕ → ℕ) (l : ℕ) → l < n → so_far n f l ≡ f l
+so-far-here n f l below = ap (λ b. if b then f l else 0) (lt_yes l n below)
+
+so-far-not : (n : ℕ) (f : ℕ → ℕ) (l : ℕ) → n ≤ l → so_far n f l ≡ 0
+so-far-not n f l least = ap (λ b. if b then f l else 0) (lt_no l n least)
+
+pub so-far-none : (f : ℕ → ℕ) (l : ℕ) → so_far 0 f l ≡ 0
+so-far-none f l = so-far-not 0 f l (omega arith)
+
+pub so-far-all : (n : ℕ) (f : ℕ → ℕ) (l : ℕ) → l < n → so_far n f l ≡ f l
+so-far-all n f l below = so-far-here n f l below
+
+-- one list more
+pub so-far-more : (n : ℕ) (f : ℕ → ℕ) (l : ℕ) → more_unsent n (f n) (so_far n f) l ≡ so_far (n + 1) f l
+so-far-more n f l =
+    elim (eqb_tells l n) [
+      | inl w ↦
+          ap (λ b. if b then so_far n f l + f n else so_far n f l) w.0
+          ∙ ap (λ k. k + f n) (so-far-not n f l (omega (arith, w.1))) ∙ omega arith ∙ ap f (sym w.1) ∙ sym (so-far-here (n + 1) f l (omega (arith, w.1)))
+      | inr w ↦
+          ap (λ b. if b then so_far n f l + f n else so_far n f l) w.0
+          ∙ elim (leb_tells (suc l) n) [
+            | inl t ↦ so-far-here n f l (omega (arith, t.1)) ∙ sym (so-far-here (n + 1) f l (omega (arith, t.1)))
+            | inr t ↦ so-far-not n f l (omega (arith, t.1)) ∙ sym (so-far-not (n + 1) f l (past l n w.1 (omega (arith, t.1))))
+          ]
+    ] where
+      past : (l n : ℕ) → l ≢ n → n ≤ l → n + 1 ≤ l
+      past l n other least =
+          elim (leb_tells (n + 1) l) [
+            | inl t ↦ t.1
+            | inr t ↦ absurd (other (omega (arith, least, t.1)))
+          ]
+
+-- the samples that wait, as units and as they were laid out
+waiting-of : (l : ℕ) (xs : List Laid) → samples_of l (map unit_of xs) ≡ count_by (λ (x : Laid). is_sample_of l x.origin) xs
+waiting-of l [] = refl
+waiting-of l (x ∷ xs) =
+    sum_by-cons (λ (u : Unit). if is_sample_of l u.origin then 1 else 0) (unit_of x) (map unit_of xs)
+    ∙ ap (λ n. (if is_sample_of l x.origin then 1 else 0) + n) (waiting-of l xs)
+    ∙ sym (sum_by-cons (λ (y : Laid). if is_sample_of l y.origin then 1 else 0) x xs)
+
+module _ {S T F : Type 0} (take : TakeGhosts T F) where
+  pub closes : (a h b : SlaveState S T) (account : List Totals) → GoesBy take a h (HungUp ∷ []) → h.session.profile ≡ a.session.profile → Collects take h b
+      → ((entries : List Entry) → AccountStandsAfter b.account entries (λ l. 0) → AccountStandsAfter account entries (λ l. samples_of l b.outbox.units)) → Closes take a account
+  closes a h b account hangs profile collects leaves = record {
+    last = collects.acts;
+    are = collects.are;
+    stands = λ log few stands.
+        let d = a.session.profile in
+        let all = collects.acts ++ HungUp ∷ log in
+        let between = subst (λ p. SlaveStandsAfter take p h (HungUp ∷ log)) (sym profile) (hangs log (omega (arith, few)) stands) in
+        let behind = subst (λ p. SlaveStandsAfter take p b all) profile (collects.goes (HungUp ∷ log) (omega (arith, few)) between) in
+        let has = behind.has in (
+          has.is_log,
+          same-unsent account (entries_of d all) (λ l. samples_of l b.outbox.units) (unsent_of d all)
+              (λ l below. ap (samples_of l) has.outbox.units ∙ waiting-of l (drop (sent_of all) (laid d all)))
+              (leaves (entries_of d all) has.account),
+        );
+  }

@@ -1,0 +1,137 @@
+-- What a slave stands after once all that came back was taken back.
+use Rattle.std.proofs.Common.{◌≡◌, ℕ, ◌+◌, ◌*◌, ◌≤◌, ◌↔◌, true, ◌&&◌, if◌then◌else◌, List, [], ◌∷◌, ◌++◌, length, length-append, refl, sym, ap, ◌∙◌, subst, arith, inr}
+use Rattle.std.specs.Prelude.{Option, Some, None, IfSome}
+use Rattle.std.specs.List.{list_all}
+use Rattle.std.proofs.lemmas.Bool.{false≢true}
+use Rattle.std.proofs.lemmas.List.Folds.{list_all-append}
+use Rattle.std.proofs.lemmas.List.Sums.{sum_by-append, sum_by-cons}
+use Rattle.xcp_base.specs.declared.err_code.ErrCode.{ErrCode}
+use Rattle.xcp_base.specs.declared.err_code.ErrCode.TheVariants.{Sequence}
+use Rattle.xcp_base.specs.declared.limits.TheConstants.{MAX_TAKEN}
+use Rattle.session.specs.declared.profile.Profile.{Profile}
+use Rattle.channel_ring.specs.declared.ends.RingEnd.{Ghosts as EndGhosts}
+use Rattle.channel_ring.specs.declared.ends.TakeEnd.{Ghosts as TakeGhosts}
+use Rattle.session.specs.Standing.{SessionState}
+use Rattle.slave_channel.specs.Channels.{FinishedState, IsFinished}
+use Rattle.slave.specs.Finishing.{GivesBack}
+use Rattle.slave.specs.Hearing.{MayOpen, is_before}
+use Rattle.slave.specs.Inner.{AreAsOpened, Collects, HasOther, HasSome, IsOfOne, Prepares, SlaveStarted, StartsInVain}
+use Rattle.slave.specs.Log.{Act, CameBack, Heard, HungUp, Opened, Refused, Sent, Took, is_opening, is_return, opened}
+use Rattle.slave.specs.Standing.{SlaveStandsAfter, SlaveState}
+use Rattle.slave.proofs.HearingLemmas.{assoc}
+
+-- what comes back opens nothing
+before-return : (acts : List Act) → list_all is_return acts ≡ true → list_all is_before acts ≡ true
+before-return [] are = refl
+before-return (CameBack m c past ∷ acts) are = before-return acts are
+before-return (Heard x ∷ acts) are = absurd (false≢true are)
+before-return (Refused packet code ∷ acts) are = absurd (false≢true are)
+before-return (Opened ∷ acts) are = absurd (false≢true are)
+before-return (Took m c x ∷ acts) are = absurd (false≢true are)
+before-return (Sent n ∷ acts) are = absurd (false≢true are)
+before-return (HungUp ∷ acts) are = absurd (false≢true are)
+
+none-opened : (acts : List Act) → list_all is_return acts ≡ true → opened acts ≡ 0
+none-opened [] are = refl
+none-opened (CameBack m c past ∷ acts) are = omega (arith, sum_by-cons (λ a. if is_opening a then 1 else 0) (CameBack m c past) acts, none-opened acts are)
+none-opened (Heard x ∷ acts) are = absurd (false≢true are)
+none-opened (Refused packet code ∷ acts) are = absurd (false≢true are)
+none-opened (Opened ∷ acts) are = absurd (false≢true are)
+none-opened (Took m c x ∷ acts) are = absurd (false≢true are)
+none-opened (Sent n ∷ acts) are = absurd (false≢true are)
+none-opened (HungUp ∷ acts) are = absurd (false≢true are)
+
+may-open-behind : (opening acts : List Act) → MayOpen opening → list_all is_return acts ≡ true → MayOpen (opening ++ acts)
+may-open-behind opening acts may are = record {
+  are = list_all-append is_before opening acts ∙ ap (λ b. b && list_all is_before acts) may.are ∙ before-return acts are;
+  one = omega (arith, sum_by-append (λ a. if is_opening a then 1 else 0) opening acts, may.one, none-opened acts are);
+}
+
+module _ {S T F : Type 0} (take : TakeGhosts T F) where
+  pub collects-nothing : (a : SlaveState S T) → Collects take a a
+  collects-nothing a = record { session = refl; outbox = refl; as_many = refl; acts = []; are = refl; goes = λ log few stands. stands }
+
+  -- what came back at one event channel, if something did
+  collects-some : {E : Type 0} (ring : EndGhosts E) (a b : SlaveState S T) (c : ℕ) (answer : Option (FinishedState E T)) → GivesBack take ring a b c answer → IfSome answer (IsFinished ring take) → Collects take a b
+  collects-some ring a b c None gives whole = record { session = gives.session; outbox = gives.outbox; as_many = gives.as_many; acts = []; are = refl; goes = gives.none refl }
+  collects-some ring a b c (Some f) gives whole = record {
+    session = gives.session;
+    outbox = gives.outbox;
+    as_many = gives.as_many;
+    acts = CameBack f.number c whole.0 ∷ [];
+    are = refl;
+    goes = gives.some whole.0 whole.1;
+  }
+
+  pub collects-more : (a m b : SlaveState S T) → Collects take a m → Collects take m b → Collects take a b
+  collects-more a m b one two = record {
+    session = two.session ∙ one.session;
+    outbox = two.outbox ∙ one.outbox;
+    as_many = two.as_many ∙ one.as_many;
+    acts = two.acts ++ one.acts;
+    are = list_all-append is_return two.acts one.acts ∙ ap (λ z. z && list_all is_return one.acts) two.are ∙ one.are;
+    goes = λ log few stands.
+        let split = length-append two.acts one.acts in
+        let profile = ap (λ (s : SessionState). s.profile) one.session in
+        let between = one.goes log (omega (arith, few, split)) stands in
+        subst (λ xs. SlaveStandsAfter take a.session.profile b xs) (sym (assoc two.acts one.acts log))
+        (subst (λ p. SlaveStandsAfter take p b (two.acts ++ (one.acts ++ log))) profile
+        (two.goes (one.acts ++ log) (omega (arith, few, split, length-append one.acts log)) (subst (λ p. SlaveStandsAfter take p m (one.acts ++ log)) (sym profile) between)));
+  }
+
+  pub collects-one : {E : Type 0} (ring : EndGhosts E) (a b : SlaveState S T) (c : ℕ) (answer : Option (FinishedState E T)) → GivesBack take ring a b c answer → IfSome answer (IsFinished ring take) → Collects take a b
+  collects-one ring a b c answer gives whole = collects-some ring a b c answer gives whole
+
+  -- a log in which what came back stands behind a measurement that was opened
+  pub record Between (a m : SlaveState S T) (acts opening : List Act) (log : List Act) : Type 1 where
+    pub stands : SlaveStandsAfter take m.session.profile m (acts ++ log)
+    pub few : 32 * (1 + length opening + length (acts ++ log)) ≤ MAX_TAKEN
+    pub lead : (P : Profile → List Act → Type 0) → P m.session.profile (opening ++ (acts ++ log)) → P a.session.profile ((opening ++ acts) ++ log)
+
+  between : (a m : SlaveState S T) (opening : List Act) (log : List Act) (collects : Collects take a m) → 32 * (1 + length (opening ++ collects.acts) + length log) ≤ MAX_TAKEN
+      → SlaveStandsAfter take a.session.profile a log → Between a m collects.acts opening log
+  between a m opening log collects few stands =
+      let acts = collects.acts in
+      let split = length-append opening acts in
+      let same : m.session.profile ≡ a.session.profile = ap (λ (s : SessionState). s.profile) collects.session in
+      record {
+        stands = subst (λ p. SlaveStandsAfter take p m (acts ++ log)) (sym same) (collects.goes log (omega (arith, few, split)) stands);
+        few = omega (arith, few, split, length-append acts log);
+        lead = λ P p. subst (λ xs. P a.session.profile xs) (sym (assoc opening acts log)) (subst (λ q. P q (opening ++ (acts ++ log))) same p);
+      }
+
+  -- lists are started once what came back was taken back
+  pub collected-prepare : (a m b : SlaveState S T) (lists : ℕ) → Collects take a m → HasSome lists → Prepares take m b lists → Prepares take a b lists
+  collected-prepare a m b lists collects some p = record {
+    opening = p.opening ++ collects.acts;
+    may_open = may-open-behind p.opening collects.acts p.may_open collects.are;
+    for_some = inr some;
+    in_one = λ log few stands.
+        let way = between a m p.opening log collects few stands in
+        way.lead (λ q xs. IsOfOne q xs lists) (p.in_one (collects.acts ++ log) way.few way.stands);
+    as_opened = λ log few stands.
+        let way = between a m p.opening log collects few stands in
+        way.lead (λ q xs. AreAsOpened q xs lists) (p.as_opened (collects.acts ++ log) way.few way.stands);
+    goes = λ log few stands.
+        let way = between a m p.opening log collects few stands in
+        way.lead (λ q xs. SlaveStarted take q b xs lists) (p.goes (collects.acts ++ log) way.few way.stands);
+  }
+
+  pub collected-in-vain : (a m b : SlaveState S T) (lists : ℕ) (code : ErrCode) → Collects take a m → StartsInVain take m b lists code → StartsInVain take a b lists code
+  collected-in-vain a m b lists code collects v = record {
+    is = v.is;
+    some = v.some;
+    opening = v.opening ++ collects.acts;
+    may_open = may-open-behind v.opening collects.acts v.may_open collects.are;
+    sequence = λ log few stands.
+        let way = between a m v.opening log collects few stands in
+        way.lead (λ q xs. (code ≡ Sequence) ↔ HasOther q xs lists) (v.sequence (collects.acts ++ log) way.few way.stands);
+    goes = λ log few stands.
+        let acts = collects.acts in
+        let split = length-append v.opening acts in
+        let same : m.session.profile ≡ a.session.profile = ap (λ (s : SessionState). s.profile) collects.session in
+        subst (λ xs. SlaveStandsAfter take a.session.profile b xs) (sym (assoc v.opening acts log))
+        (subst (λ q. SlaveStandsAfter take q b (v.opening ++ (acts ++ log))) same
+        (v.goes (acts ++ log) (omega (arith, few, split, length-append acts log))
+        (subst (λ p. SlaveStandsAfter take p m (acts ++ log)) (sym same) (collects.goes log (omega (arith, few, split)) stands))));
+  }

@@ -1,0 +1,61 @@
+//! A slave is closed.
+ghost use Rattle.std.specs.Prelude.{◌≡◌, List};
+ghost use Rattle.frame_outbox.specs.Units.{samples_of};
+ghost use Rattle.session_account.specs.Accounts.{AccountStandsAfter, Entry};
+ghost use Rattle.slave.specs.Closing.{Closes};
+
+use crate::slave::Slave;
+use daq_engine::Ring;
+use frame_outbox::Outbox;
+use session_account::Account;
+use tasks::TaskEnd;
+use xcp_base::limits::MAX_LISTS;
+
+/// Gives back what is left at the places of tasks that were finished.
+fn give_back<S: channel_ring::SendEnd>(ends: Vec<TaskEnd<S>>) {
+    for end in ends {
+        end.give_back();
+    }
+}
+
+/// Counts the samples that wait and are not sent any more as left.
+fn leave(account: &mut Account, outbox: &Outbox)
+    ensures leaves { (entries : List Entry) → AccountStandsAfter account.old entries (λ l. 0)
+        → AccountStandsAfter account.new entries (λ l. samples_of l outbox.now.units) }
+{
+    for l in 0..MAX_LISTS as u8 {
+        account.unsent(l, outbox.waiting_of(l) as u64);
+    }
+}
+
+impl<R: Ring> Slave<R> {
+    /// The account of the session so far: of each DAQ list what was due, written, dropped and left,
+    /// over all parts of measurements that came back. What was laid out counts as written, sent or
+    /// not.
+    pub fn account(&self) -> &Account
+        ensures { result.now ≡ self.now.account }
+    {
+        &self.account
+    }
+
+    /// Closes the slave, and answers the account of the session. All DAQ lists stop, as by
+    /// `hang_up`; what came back of the tasks is taken back; and what waits, and so isn't sent any
+    /// more, counts as left.
+    ///
+    /// The tasks are to be finished before, and what is left of each handed in: of a task that
+    /// wasn't, the measurement that it holds is not in the account.
+    pub fn close(mut self, ends: Vec<TaskEnd<R::Send>>) -> Account
+        ensures closes { Closes R.Take.TakeEnd self result }
+    {
+        self.hang_up();
+        give_back(ends);
+        self.collect();
+        let Slave {
+            mut account,
+            outbox,
+            ..
+        } = self;
+        leave(&mut account, &outbox);
+        account
+    }
+}
