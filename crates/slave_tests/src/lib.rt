@@ -3,6 +3,10 @@
 #![tactic(auto)]
 
 #[cfg(test)]
+mod account;
+#[cfg(test)]
+mod bytes;
+#[cfg(test)]
 mod deeds;
 #[cfg(test)]
 mod exchanges;

@@ -1,7 +1,9 @@
 //! The slave of the worked exchanges, and the task of its event channel.
 use channel_ring::{SampleRing, SendHalf};
 use session::{EventChannel, Profile, RingKind};
+use session_account::Account;
 use slave::Slave;
+use slave_stream::{MasterStream, datagram};
 use std::alloc::{AllocError, Global};
 use std::process::Abort;
 use std::test::Fail;
@@ -67,7 +69,11 @@ fn add_frame(frames: &mut Vec<u8>, counter: u16, packet: &[u8]) -> Result<(), Al
 }
 
 /// The frames of packets, the first with this counter; and the counter behind them.
-fn frames_of(alloc: Global, counter: u16, packets: &[&[u8]]) -> Result<(Vec<u8>, u16), AllocError> {
+pub fn frames_of(
+    alloc: Global,
+    counter: u16,
+    packets: &[&[u8]],
+) -> Result<(Vec<u8>, u16), AllocError> {
     let mut frames = Vec::new(alloc);
     let mut next = counter;
     for packet in packets {
@@ -110,14 +116,27 @@ pub fn sends(
     Ok(())
 }
 
-/// The slave hears a packet of its master, once what came back of two measurements was taken.
+/// The slave hears a packet of its master.
 pub fn hears(rt: &impl Abort, alloc: Global, pair: &mut Pair, packet: &[u8], row: &str) {
-    let _ = pair.slave.take_back(0);
-    let _ = pair.slave.take_back(0);
     assert!(rt;
         pair.slave.hear(alloc, packet, CLOCK),
         "{row}: it isn't heard"
     );
+}
+
+/// Bytes of the master come over a stream: how many of them are taken, if no frame is bad.
+pub fn receives(
+    alloc: Global,
+    pair: &mut Pair,
+    stream: &mut MasterStream,
+    bytes: &[u8],
+) -> Option<usize> {
+    stream.receive(&mut pair.slave, alloc, bytes, CLOCK).ok()
+}
+
+/// A datagram of the master comes: how many bytes of it are taken.
+pub fn hears_datagram(alloc: Global, pair: &mut Pair, bytes: &[u8]) -> usize {
+    datagram(&mut pair.slave, alloc, bytes, CLOCK)
 }
 
 /// The task takes a trigger with this image.
@@ -131,4 +150,25 @@ pub fn triggers(rt: &impl Abort, pair: &mut Pair, image: [u8; 2], row: &str) {
 /// The transport of the slave is lost.
 pub fn hangs_up(pair: &mut Pair) {
     pair.slave.hang_up();
+}
+
+/// What came back of a measurement is taken back.
+pub fn takes_back(rt: &impl Abort, pair: &mut Pair, row: &str) {
+    assert!(rt;
+        pair.slave.take_back(0).is_some(),
+        "{row}: nothing came back"
+    );
+}
+
+/// The account so far.
+pub fn account_of(pair: &Pair) -> &Account {
+    pair.slave.account()
+}
+
+/// The task is finished and the slave closed.
+pub fn closes(alloc: Global, pair: Pair) -> Result<Account, AllocError> {
+    let Pair { slave, task, .. } = pair;
+    let mut ends = Vec::new(alloc);
+    ends.push(task.finish())?;
+    Ok(slave.close(ends))
 }

@@ -1,0 +1,8 @@
+//! A slave hears its master from bytes: those of a stream, in whatever pieces, or of a datagram.
+#![tactic(auto)]
+
+mod datagrams;
+mod stream;
+
+pub use datagrams::datagram;
+pub use stream::MasterStream;
