@@ -15,7 +15,7 @@ pub are_keys-entries : (es : List (String Global × Value)) → list_all (λ k. 
 are_keys-entries [] = refl
 are_keys-entries (e ∷ es) = ap (λ (t : Bool). is_among keys (string_bytes e.0) && t) (are_keys-entries es)
 
-onto-none : {X : Type 0} (o : Option X) → onto o None ≡ None
+pub onto-none : {X : Type 0} (o : Option X) → onto o None ≡ None
 onto-none None = refl
 onto-none (Some x) = refl
 

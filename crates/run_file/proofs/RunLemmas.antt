@@ -57,7 +57,7 @@ packet_read text packet h =
     record { digits = digits; fits = omega (arith, short, twice) }
 
 -- and each text of a packet is one of which the function gives it
-packet_of-IsPacketText : (text packet : List ℕ) → IsPacketText text packet → packet_of text ≡ Some packet
+pub packet_of-IsPacketText : (text packet : List ℕ) → IsPacketText text packet → packet_of text ≡ Some packet
 packet_of-IsPacketText text packet is =
     let twice : length text ≡ 2 * length packet = (decode_of-ok text packet is.digits).2 in
     let short : nat_le (length text) (2 * MAX_COMMAND_LEN) ≡ true =

@@ -48,12 +48,12 @@ pub and_then-some : {X Y : Type 0} (f : X → Option Y) (o : Option X) (y : Y) �
 and_then-some f None y h = cc h
 and_then-some f (Some x) y h = (x, refl, h)
 
-map-some : {X Y : Type 0} (f : X → Y) (o : Option X) (y : Y) → option_map f o ≡ Some y → (x : X) × (o ≡ Some x) × (f x ≡ y)
+pub map-some : {X Y : Type 0} (f : X → Y) (o : Option X) (y : Y) → option_map f o ≡ Some y → (x : X) × (o ≡ Some x) × (f x ≡ y)
 map-some f None y h = cc h
 map-some f (Some x) y h = (x, refl, same_Some (f x) y h)
 
 -- the test of a verb
-same_verb : (word verb : List ℕ) → is_verb word verb ≡ true → word ≡ verb
+pub same_verb : (word verb : List ℕ) → is_verb word verb ≡ true → word ≡ verb
 same_verb word verb h = search (rules, bytes_eq-Decides, h)
 
 pub if_then : {X : Type 0} (t : Bool) (o : Option X) (y : X) → (if t then o else None) ≡ Some y → (t ≡ true) × (o ≡ Some y)

@@ -68,7 +68,7 @@ not_hex_space b h =
       | inr other ↦ ne_eqb b 32 other
     ]
 
-image_one_word : (word image : List ℕ) → IsImage word image → All (λ b. is_space b ≡ false) word
+pub image_one_word : (word image : List ℕ) → IsImage word image → All (λ b. is_space b ≡ false) word
 image_one_word word image i k d l =
     let digits = (decode_of-ok word image i.digits).1 in
     not_hex_space (slice_index_or word k d) (digits k d l)

@@ -49,7 +49,7 @@ pub fn number_at(table: &Table, key: &str, least: usize, most: usize) -> Option<
 }
 
 /// The integer of a value, if it is within bounds.
-fn number_in(value: &Value, least: usize, most: usize) -> Option<usize>
+pub fn number_in(value: &Value, least: usize, most: usize) -> Option<usize>
     ensures value { result ≡ number_in least most (view value.now) }
     ensures within { IfSome result (λ n. (least ≤ n) × (n ≤ most)) }
 {

@@ -17,8 +17,10 @@ mod values;
 mod wording;
 
 pub use bad_key::BadKey;
-pub use keys::is_key;
+pub use keys::{array_at, id_of, is_key, number_at, number_in, ring_of, stamp_of, texts_at};
 pub use ring_kind::RingKind;
 pub use run::Run;
 pub use run_fault::RunFault;
 pub use step::Step;
+pub use texts::{bytes_of, packet_of, text_in};
+pub use wording::{Wording, cut, wording_of};

@@ -76,7 +76,7 @@ fn read_step(steps: &mut StepList, last: u8, text: &str) -> Result<(), StepFault
 }
 
 /// The command packet of a text; none where it is none.
-fn packet_of(alloc: Global, text: &str) -> Result<Option<Vec<u8>>, AllocError>
+pub fn packet_of(alloc: Global, text: &str) -> Result<Option<Vec<u8>>, AllocError>
     ensures { IfOk result (λ packet. option_map vec_items packet ≡ packet_of text.now) }
 {
     if text.len() > 2 * MAX_COMMAND_LEN {
@@ -86,7 +86,7 @@ fn packet_of(alloc: Global, text: &str) -> Result<Option<Vec<u8>>, AllocError>
 }
 
 /// The bytes of a text in hexadecimal; none where it isn't hexadecimal of an even number of digits.
-fn bytes_of(alloc: Global, text: &str) -> Result<Option<Vec<u8>>, AllocError>
+pub fn bytes_of(alloc: Global, text: &str) -> Result<Option<Vec<u8>>, AllocError>
     ensures { IfOk result (λ bytes. option_map vec_items bytes ≡ bytes_of text.now) }
 {
     match hex::decode(alloc, text) {
@@ -97,7 +97,7 @@ fn bytes_of(alloc: Global, text: &str) -> Result<Option<Vec<u8>>, AllocError>
 }
 
 /// The text in a value.
-fn text_in(value: &Value) -> &str
+pub fn text_in(value: &Value) -> &str
     ensures { result.now ≡ text_in value.now }
 {
     match value.as_str() {

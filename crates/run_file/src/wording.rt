@@ -45,7 +45,7 @@ pub fn wording_of(last: u8, text: &str) -> Option<Wording<'_>>
 }
 
 /// A text before and behind its first space.
-fn cut(text: &str) -> Option<(&str, &str)>
+pub fn cut(text: &str) -> Option<(&str, &str)>
     ensures { MatchOption result (words_of text.now ≡ text.now ∷ [])
         (λ parts. words_of text.now ≡ parts.0.now ∷ words_of parts.1.now) }
 {

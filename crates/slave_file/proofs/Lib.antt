@@ -1,0 +1,3 @@
+pub mod LineLaw
+pub mod ItemLemmas
+pub mod FileLemmas

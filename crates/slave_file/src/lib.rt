@@ -1,0 +1,16 @@
+//! Session files: from the text of a TOML document to the profile of a slave and the lines of a
+//! session.
+#![tactic(auto)]
+
+mod events;
+mod file_fault;
+mod keys;
+pub mod limits;
+mod line;
+mod lines;
+mod session_file;
+mod values;
+
+pub use file_fault::FileFault;
+pub use line::Line;
+pub use session_file::SessionFile;

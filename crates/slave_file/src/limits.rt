@@ -1,0 +1,8 @@
+//! The limits of a session file that no other crate has (own).
+
+/// The most lines of a script.
+pub const MAX_LINES: usize = 1_000_000;
+
+/// The greatest capacity that can be written: the greatest integer of a TOML document. Whether a
+/// ring may have it is a limit of the profile.
+pub const MAX_CAPACITY: usize = 0x7FFF_FFFF_FFFF_FFFF;

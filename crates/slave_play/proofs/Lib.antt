@@ -1,0 +1,3 @@
+pub mod ThinnedLemmas
+pub mod LogLemmas
+pub mod PlayLemmas

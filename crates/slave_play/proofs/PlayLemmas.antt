@@ -1,0 +1,199 @@
+-- A slave goes on by what it hears, takes and sends.
+use Rattle.std.proofs.Common.{◌≡◌, ℕ, zero, suc, ◌+◌, ◌*◌, ◌≤◌, List, [], ◌∷◌, ◌++◌, append-nil, length, length-append, take as first, drop, Result, Ok, Err, IfOk, OnOk, refl, sym, ap, ◌∙◌, subst, arith, inl, inr}
+use Rattle.std.proofs.lemmas.List.{length-drop, length-map, take-append-drop}
+use Rattle.std.proofs.lemmas.List.Sums.{sum_by-cons}
+use Rattle.xcp_base.specs.declared.limits.TheConstants.{MAX_TAKEN}
+use Rattle.channel_ring.specs.declared.ends.TakeEnd.{Ghosts as TakeGhosts}
+use Rattle.frame_outbox.specs.Outboxes.{packets_in, unit_of}
+use Rattle.frame_outbox.proofs.LaidLemmas.{packets_in-append}
+use Rattle.frame_writer.specs.Frame.{text}
+use Rattle.frame_writer.proofs.TextLemmas.{text-append}
+use Rattle.session.specs.declared.profile.Profile.{Profile}
+use Rattle.slave.specs.Hearing.{GoesBy, Hears}
+use Rattle.slave.specs.Finishing.{GivesBack}
+use Rattle.slave_channel.specs.Channels.{FinishedState, IsFinished}
+use Rattle.std.specs.Prelude.{Some}
+use Rattle.channel_ring.specs.declared.ends.RingEnd.{Ghosts as EndGhosts}
+use Rattle.slave.specs.Log.{Act, CameBack, Sent, laid, sent_by, sent_of}
+use Rattle.slave.specs.Standing.{SlaveStandsAfter, SlaveState}
+use Rattle.slave.specs.Taking.{TakesItems}
+use Rattle.slave_file.specs.Lines.{LineData, master}
+use Rattle.slave_play.specs.Playing.{Advances, Does, HasPlayed, Sending, StandsIf, heard_by, masters, sending, sent_text}
+use Rattle.slave_play.specs.Thinned.{IsWithout}
+use Rattle.slave_play.proofs.LogLemmas.{heard-append, heard-one, masters-append, takes-nothing, text-stays}
+use Rattle.slave_play.proofs.ThinnedLemmas.{assoc, without-append}
+
+take-whole : {X : Type 0} (n : ℕ) (xs : List X) → length xs ≤ n → first n xs ≡ xs
+take-whole zero [] least = refl
+take-whole (suc n) [] least = refl
+take-whole zero (x ∷ xs) least = absurd (omega (arith, least))
+take-whole (suc n) (x ∷ xs) least = ap (λ ys. x ∷ ys) (take-whole n xs (omega (arith, least)))
+
+pub on_ok : {A E : Type 0} (r : Result A E) {P Q : Type 0} → (P → Q) → OnOk r P → OnOk r Q
+on_ok (Ok a) f p = f p
+on_ok (Err e) f p = tt
+
+pub if_ok : {A E : Type 0} (r : Result A E) {P Q : A → Type 0} → ((x : A) → P x → Q x) → IfOk r P → IfOk r Q
+if_ok (Ok a) f p = f a p
+if_ok (Err e) f p = tt
+
+module _ {S T F : Type 0} (take : TakeGhosts T F) where
+  -- a log of the slave, whatever profile is asked for
+  log-goes : (a b : SlaveState S T) (acts : List Act) → GoesBy take a b acts → (d : Profile) (log : List Act)
+      → 32 * (length acts + length log) ≤ MAX_TAKEN → SlaveStandsAfter take d a log → SlaveStandsAfter take d b (acts ++ log)
+  log-goes a b acts goes d log few stands =
+      let profile : a.session.profile ≡ d = stands.has.profile in
+      subst (λ p. SlaveStandsAfter take p b (acts ++ log)) profile
+      (goes log few (subst (λ p. SlaveStandsAfter take p a log) (sym profile) stands))
+
+  -- acts that send nothing
+  pub silent : (a b : SlaveState S T) (acts : List Act) (sent : List ℕ) (packets : List (List ℕ)) → GoesBy take a b acts → heard_by acts ≡ packets
+      → sent_of acts ≡ 0 → Advances take (sending a sent) (sending b sent) packets
+  silent a b acts sent packets goes heard none = record {
+    acts = acts;
+    heard = heard;
+    goes = λ d log before few.
+        let all = length-append acts log in
+        let so = before (omega (arith, few, all)) in
+        record {
+          stands = log-goes a b acts goes d log (omega (arith, few, all)) so.stands;
+          text_is = so.text_is ∙ sym (text-stays d acts log none so.stands.has.sent);
+        };
+  }
+
+  pub nothing : (a : SlaveState S T) (sent : List ℕ) → Advances take (sending a sent) (sending a sent) []
+  nothing a sent = record { acts = []; heard = refl; goes = λ d log before. before }
+
+  pub hears : (a b : SlaveState S T) (sent packet : List ℕ) (clock : ℕ) → Hears take a b packet clock → Advances take (sending a sent) (sending b sent) (packet ∷ [])
+  hears a b sent packet clock h =
+      let one = heard-one h.act h.opening packet clock h.is h.may_open in
+      silent a b (h.act ∷ h.opening) sent (packet ∷ []) h.goes one.0 one.1
+
+  -- a part of a measurement came back
+  pub came-back : {E : Type 0} (ring : EndGhosts E) (a b : SlaveState S T) (c : ℕ) (sent : List ℕ) (f : FinishedState E T) → GivesBack take ring a b c (Some f) → IsFinished ring take f
+      → Advances take (sending a sent) (sending b sent) []
+  came-back ring a b c sent f gives whole = silent a b (CameBack f.number c whole.0 ∷ []) sent [] (gives.some whole.0 whole.1) refl refl
+
+  pub takes : (a b : SlaveState S T) (sent : List ℕ) → TakesItems take a b → Advances take (sending a sent) (sending b sent) []
+  takes a b sent t =
+      let none = takes-nothing t.acts t.are in
+      silent a b t.acts sent [] t.goes none.0 none.1
+
+  -- all that waits is sent
+  text-puts : (a : SlaveState S T) (d : Profile) (log : List Act) (sent : List ℕ) → SlaveStandsAfter take d a log → sent ≡ sent_text d log
+      → sent ++ a.outbox.waits ≡ sent_text d (Sent (length a.outbox.units) ∷ log)
+  text-puts a d log sent stands so =
+      let k = sent_of log in
+      let xs = laid d log in
+      let n = length a.outbox.units in
+      let box = stands.has.outbox in
+      let units : n ≡ length (drop k xs) = ap length box.units ∙ length-map (drop k xs) unit_of in
+      let left = length-drop k xs in
+      let more : sent_of (Sent n ∷ log) ≡ n + k = sum_by-cons sent_by (Sent n) log in
+      let all : first (sent_of (Sent n ∷ log)) (xs ++ []) ≡ xs =
+      ap (first (sent_of (Sent n ∷ log))) (append-nil xs) ∙ take-whole (sent_of (Sent n ∷ log)) xs (omega (arith, more, units, left)) in
+      let front = packets_in (first k xs) in
+      let behind = packets_in (drop k xs) in
+      let zero_more : length front ≡ 0 + length front = omega arith in
+      ap (λ bs. bs ++ a.outbox.waits) so ∙ ap (λ bs. text 0 front ++ bs) box.waiting
+      ∙ ap (λ m. text 0 front ++ text m behind) zero_more ∙ sym (text-append 0 front behind)
+      ∙ ap (text 0) (sym (packets_in-append (first k xs) (drop k xs))) ∙ ap (λ ys. text 0 (packets_in ys)) (take-append-drop k xs)
+      ∙ ap (λ ys. text 0 (packets_in ys)) (sym all)
+
+  pub puts : (a b : SlaveState S T) (sent more : List ℕ) → more ≡ sent ++ a.outbox.waits → GoesBy take a b (Sent (length a.outbox.units) ∷ [])
+      → Advances take (sending a sent) (sending b more) []
+  puts a b sent more is goes = record {
+    acts = Sent (length a.outbox.units) ∷ [];
+    heard = refl;
+    goes = λ d log before few.
+        let so = before (omega (arith, few)) in
+        record {
+          stands = log-goes a b (Sent (length a.outbox.units) ∷ []) goes d log (omega (arith, few)) so.stands;
+          text_is = is ∙ text-puts a d log sent so.stands so.text_is;
+        };
+  }
+
+  -- one advance behind another
+  pub advances-more : (a m b : Sending S T) (ps qs : List (List ℕ)) → Advances take a m ps → Advances take m b qs → Advances take a b (ps ++ qs)
+  advances-more a m b ps qs one two = record {
+    acts = two.acts ++ one.acts;
+    heard = heard-append two.acts one.acts ∙ ap (λ zs. zs ++ heard_by two.acts) one.heard ∙ ap (λ zs. ps ++ zs) two.heard;
+    goes = λ d log before. subst (StandsIf take d b) (sym (assoc two.acts one.acts log)) (two.goes d (one.acts ++ log) (one.goes d log before));
+  }
+
+  -- lines of no packet, of which none or one is refused
+  pub does-other : (a b : Sending S T) (before after : ℕ) (line : LineData) → masters (line ∷ []) ≡ [] → before ≤ after → after ≤ before + 1
+      → Advances take a b [] → Does take a b before after (line ∷ [])
+  does-other a b before after line none up low advances = record {
+    unheard = 0;
+    packets = [];
+    thinned = subst (λ ps. IsWithout 0 ps []) (sym none) (refl, refl);
+    counted = omega (arith, up);
+    most = low;
+    advances = advances;
+  }
+
+  -- a packet of the master that is heard, and one that is refused
+  pub does-heard : (a b : Sending S T) (n : ℕ) (packet : List ℕ) → Advances take a b (packet ∷ []) → Does take a b n n (master packet ∷ [])
+  does-heard a b n packet advances = record {
+    unheard = 0;
+    packets = packet ∷ [];
+    thinned = inl ([], refl, (refl, refl));
+    counted = omega arith;
+    most = omega arith;
+    advances = advances;
+  }
+
+  pub does-unheard : (a b : Sending S T) (n : ℕ) (packet : List ℕ) → Advances take a b [] → Does take a b n (n + 1) (master packet ∷ [])
+  does-unheard a b n packet advances = record {
+    unheard = 1;
+    packets = [];
+    thinned = inr (0, refl, (refl, refl));
+    counted = omega arith;
+    most = omega arith;
+    advances = advances;
+  }
+
+  -- lines behind lines
+  pub does-more : (a m b : Sending S T) (x y z : ℕ) (xs ys : List LineData) → Does take a m x y xs → Does take m b y z ys → Does take a b x z (xs ++ ys)
+  does-more a m b x y z xs ys one two = record {
+    unheard = one.unheard + two.unheard;
+    packets = one.packets ++ two.packets;
+    thinned = subst (λ ps. IsWithout (one.unheard + two.unheard) ps (one.packets ++ two.packets)) (sym (masters-append xs ys))
+        (without-append one.unheard two.unheard (masters xs) one.packets (masters ys) two.packets one.thinned two.thinned);
+    counted = omega (arith, one.counted, two.counted);
+    most = let both = length-append xs ys in omega (arith, one.most, two.most, both);
+    advances = advances-more a m b one.packets two.packets one.advances two.advances;
+  }
+
+  pub does-nothing : (a : Sending S T) (n : ℕ) → Does take a a n n []
+  does-nothing a n = record {
+    unheard = 0;
+    packets = [];
+    thinned = (refl, refl);
+    counted = omega arith;
+    most = omega arith;
+    advances = record { acts = []; heard = refl; goes = λ d log before. before };
+  }
+
+  -- from a slave that was just opened to its end
+  pub played : (d : Profile) (a m b : Sending S T) (lines : List LineData) (refused : ℕ) → SlaveStandsAfter take d a.slave [] → a.sent ≡ []
+      → Does take a m 0 refused lines → Advances take m b [] → HasPlayed take S d lines refused b.sent
+  played d a m b lines refused stands none does ends =
+      let all = advances-more a m b does.packets [] does.advances ends in
+      let log = all.acts ++ [] in
+      let same : log ≡ all.acts = append-nil all.acts in
+      let heard : does.packets ≡ heard_by log = sym (append-nil does.packets) ∙ sym all.heard ∙ sym (ap heard_by same) in
+      let last : StandsIf take d b log = all.goes d [] (λ few. record { stands = stands; text_is = none }) in
+      record {
+        slave = b.slave;
+        play = record {
+          log = log;
+          unheard = does.unheard;
+          thinned = subst (IsWithout does.unheard (masters lines)) heard does.thinned;
+          counted = omega (arith, does.counted);
+          is_log = λ few. (last few).stands.has.is_log;
+          bytes_are = λ few. (last few).text_is;
+        };
+        stands = λ few. (last few).stands;
+      }

@@ -1,0 +1,52 @@
+use Rattle.std.proofs.Common.{[], ◌∷◌, sym, ap, subst, refl, arith}
+use Rattle.frame_writer.specs.MemoryOuts.{VecOutState}
+use Rattle.slave.specs.Log.{HungUp}
+use Rattle.slave_file.specs.Inner.{line_data}
+use Rattle.slave_play.specs.Playing.{Advances, masters, sending}
+use Rattle.slave_play.proofs.PlayLemmas.{does-other, nothing, on_ok, silent}
+use Rattle.slave_play.proofs.player.Player.line.Goals as goal
+
+-- a trigger changes nothing of the slave
+pub returns-in-Trigger : goal.returns-in-Trigger
+returns-in-Trigger g c =
+    let take = g.R.Take.TakeEnd in
+    let was = c.args.self.now in
+    let now = c.trigger.new.self in
+    record {
+      does = does-other take (sending was.slave was.out.contents) (sending now.slave now.out.contents) was.refused now.refused (line_data c.args.line.now)
+          (ap (λ l. masters (line_data l ∷ [])) c.in-Trigger.is) c.trigger.ensures.counted c.trigger.ensures.most
+          (subst (λ s. Advances take (sending was.slave was.out.contents) (sending s now.out.contents) []) (sym c.trigger.ensures.slave_stays)
+          (subst (λ (o : VecOutState). Advances take (sending was.slave was.out.contents) (sending was.slave o.contents) []) (sym c.trigger.ensures.out_stays)
+          (nothing take was.slave was.out.contents)));
+    }
+
+pub returns-in-Send : goal.returns-in-Send
+returns-in-Send g c =
+    let take = g.R.Take.TakeEnd in
+    let was = c.args.self.now in
+    let now = c.send.new.self in
+    let stays = c.send.ensures.refused_stays in
+    record {
+      does = on_ok c.send.result
+          (does-other take (sending was.slave was.out.contents) (sending now.slave now.out.contents) was.refused now.refused (line_data c.args.line.now)
+          (ap (λ l. masters (line_data l ∷ [])) c.in-Send.is) (omega (arith, stays)) (omega (arith, stays)))
+          c.send.ensures.sends;
+    }
+
+pub returns-in-Lose : goal.returns-in-Lose
+returns-in-Lose g c =
+    let was = c.args.self.now in
+    record {
+      does = does-other g.R.Take.TakeEnd (sending was.slave was.out.contents) (sending c.lose.new.slave was.out.contents) was.refused was.refused (line_data c.args.line.now)
+          (ap (λ l. masters (line_data l ∷ [])) c.in-Lose.is) (omega arith) (omega arith) (c.lose.ensures.shows was.out.contents);
+    }
+
+pub returns-in-HangUp : goal.returns-in-HangUp
+returns-in-HangUp g c =
+    let take = g.R.Take.TakeEnd in
+    let was = c.args.self.now in
+    record {
+      does = does-other take (sending was.slave was.out.contents) (sending c.hang_up.new.self was.out.contents) was.refused was.refused (line_data c.args.line.now)
+          (ap (λ l. masters (line_data l ∷ [])) c.in-HangUp.is) (omega arith) (omega arith)
+          (silent take was.slave c.hang_up.new.self (HungUp ∷ []) was.out.contents [] c.hang_up.ensures.hangs_up refl refl);
+    }

@@ -1,0 +1,14 @@
+use Rattle.std.proofs.Common.{[], refl}
+use Rattle.slave_play.specs.Playing.{sending}
+use Rattle.slave_play.proofs.PlayLemmas.{advances-more, silent, takes}
+use Rattle.slave_play.proofs.transport.lose.Goals as goal
+
+-- items are taken, and what is shown changes nothing
+pub returns : goal.returns
+returns g c =
+    let take = g.R.Take.TakeEnd in
+    record {
+      shows = λ sent. advances-more take (sending c.args.slave.now sent) (sending c.take.new.self sent) (sending c.peek.new.self sent) [] []
+          (takes take c.args.slave.now c.take.new.self sent c.take.ensures.takes)
+          (silent take c.take.new.self c.peek.new.self [] sent [] c.peek.ensures.stays refl refl);
+    }

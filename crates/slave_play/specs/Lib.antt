@@ -1,0 +1,2 @@
+pub mod Thinned
+pub mod Playing

@@ -1,0 +1,93 @@
+-- What a slave does where the lines of a script are played (own).
+use Rattle.std.specs.Prelude.{◌≡◌, ℕ, ◌+◌, ◌*◌, ◌≤◌, List, [], ◌∷◌, ◌++◌, length}
+use Rattle.std.specs.Prelude.{take as first}
+use Rattle.xcp_base.specs.declared.limits.TheConstants.{MAX_TAKEN}
+use Rattle.channel_ring.specs.declared.ends.TakeEnd.{Ghosts as TakeGhosts}
+use Rattle.frame_writer.specs.Frame.{text}
+use Rattle.frame_outbox.specs.Outboxes.{packets_in}
+use Rattle.session.specs.declared.profile.Profile.{Profile}
+use Rattle.slave.specs.Log.{Act, CameBack, Heard, HungUp, Opened, Refused, Sent}
+use Rattle.slave.specs.Log.{Took, laid, sent_of}
+use Rattle.slave.specs.Standing.{IsLog, SlaveStandsAfter, SlaveState}
+use Rattle.slave_file.specs.Lines.{LineData, master, trigger, send, lose, hang_up}
+use Rattle.slave_play.specs.Thinned.{IsWithout}
+
+-- the packets of the lines that are packets of the master
+abbrev pub masters : List LineData → List (List ℕ)
+masters [] = []
+masters (master packet ∷ lines) = packet ∷ masters lines
+masters (trigger c stamp image ∷ lines) = masters lines
+masters (send ∷ lines) = masters lines
+masters (lose ∷ lines) = masters lines
+masters (hang_up ∷ lines) = masters lines
+
+-- the packets that were heard, answered or refused, oldest first
+abbrev pub heard_by : List Act → List (List ℕ)
+heard_by [] = []
+heard_by (Heard x ∷ log) = heard_by log ++ x.packet ∷ []
+heard_by (Refused packet code ∷ log) = heard_by log ++ packet ∷ []
+heard_by (Opened ∷ log) = heard_by log
+heard_by (Took m c x ∷ log) = heard_by log
+heard_by (CameBack m c past ∷ log) = heard_by log
+heard_by (Sent n ∷ log) = heard_by log
+heard_by (HungUp ∷ log) = heard_by log
+
+-- the bytes of the replies and samples that were sent
+abbrev pub sent_text : Profile → List Act → List ℕ
+sent_text d log = text 0 (packets_in (first (sent_of log) (laid d log)))
+
+-- a slave, and the bytes that it sent so far
+pub record Sending (S T : Type 0) : Type 0 where
+  pub slave : SlaveState S T
+  pub sent : List ℕ
+
+module _ {S T : Type 0} where
+  abbrev pub sending : SlaveState S T → List ℕ → Sending S T
+  sending slave sent = record { slave = slave; sent = sent }
+
+module _ {S T F : Type 0} (take : TakeGhosts T F) where
+  -- the slave stands after a log, and what was sent is the text of it
+  pub record StandsSo (d : Profile) (a : Sending S T) (log : List Act) : Type 0 where
+    pub stands : SlaveStandsAfter take d a.slave log
+    pub text_is : a.sent ≡ sent_text d log
+
+  -- a log of no more than 2^57 acts
+  abbrev pub StandsIf : Profile → Sending S T → List Act → Type 0
+  StandsIf d a log = 32 * length log ≤ MAX_TAKEN → StandsSo d a log
+
+  -- these packets were heard, in order, and nothing else
+  pub record Advances (a b : Sending S T) (packets : List (List ℕ)) : Type 0 where
+    pub acts : List Act
+    pub heard : heard_by acts ≡ packets
+    pub goes : (d : Profile) (log : List Act) → StandsIf d a log → StandsIf d b (acts ++ log)
+
+  -- lines were played, where `before` lines had been refused and now `after` are: the packets
+  -- that were heard are those of the master without those that were refused
+  pub record Does (a b : Sending S T) (before after : ℕ) (lines : List LineData) : Type 0 where
+    pub unheard : ℕ
+    pub packets : List (List ℕ)
+    pub thinned : IsWithout unheard (masters lines) packets
+    pub counted : before + unheard ≤ after
+    pub most : after ≤ before + length lines
+    pub advances : Advances a b packets
+
+-- a log of a slave of this profile: it heard the master's packets of these lines, in order, but
+-- those that were refused; and the bytes are those of what it sent, if the log has no more than
+-- 2^57 acts
+pub record IsPlay (d : Profile) (lines : List LineData) (refused : ℕ) (bytes : List ℕ)
+    : Type 0 where
+  pub log : List Act
+  pub unheard : ℕ
+  pub thinned : IsWithout unheard (masters lines) (heard_by log)
+  pub counted : unheard ≤ refused
+  pub is_log : 32 * length log ≤ MAX_TAKEN → IsLog d log
+  pub bytes_are : 32 * length log ≤ MAX_TAKEN → bytes ≡ sent_text d log
+
+module _ {T F : Type 0} (take : TakeGhosts T F) where
+  -- such a log, after which the slave stands
+  pub record HasPlayed (S : Type 0) (d : Profile) (lines : List LineData) (refused : ℕ)
+      (bytes : List ℕ)
+      : Type 0 where
+    pub slave : SlaveState S T
+    pub play : IsPlay d lines refused bytes
+    pub stands : 32 * length play.log ≤ MAX_TAKEN → SlaveStandsAfter take d slave play.log

@@ -1,0 +1,165 @@
+//! A slave, its tasks and its transport, which play lines.
+ghost use Rattle.std.specs.Prelude.{◌≡◌, ◌+◌, ◌<◌, ◌≤◌, ◌∷◌, [], IfOk, OnOk};
+ghost use Rattle.slave.specs.Standing.{SlaveState};
+ghost use Rattle.slave_file.specs.Inner.{line_data};
+ghost use Rattle.slave_file.specs.Lines.{master};
+ghost use Rattle.slave_play.specs.Playing.{Advances, Does, sending};
+
+use crate::parts::Parts;
+use crate::played::Played;
+use crate::transport::{collect, lose, send};
+use channel_ring::SendEnd;
+use daq_engine::Ring;
+use frame_writer::VecOut;
+use slave::Slave;
+use slave_file::Line;
+use std::alloc::{AllocError, Global};
+use tasks::Task;
+
+/// A slave with its tasks, and what came of the lines so far.
+#[derive(Drop)]
+pub struct Player<R: Ring> {
+    pub(crate) slave: Slave<R>,
+    pub(crate) tasks: Vec<Task<R::Send>>,
+    pub(crate) image_len: usize,
+    pub(crate) clock: u32,
+    pub(crate) out: VecOut,
+    pub(crate) ends: Vec<usize>,
+    pub(crate) parts: Parts,
+    pub(crate) refused: u64,
+}
+
+/// The task of an event channel takes a trigger, if there is one and the image has the length that
+/// it has to have; and tells whether it did.
+fn is_taken<S: SendEnd>(
+    tasks: &mut [Task<S>],
+    image_len: usize,
+    channel: u8,
+    image: &[u8],
+    stamp: u32,
+) -> bool {
+    let c = channel as usize;
+    if c >= tasks.len() || image.len() != image_len {
+        return false;
+    }
+    tasks[c].trigger(image, stamp).is_ok()
+}
+
+/// Finishes tasks, and gives back what is left of what they hold.
+fn finish_all<S: SendEnd>(tasks: Vec<Task<S>>) {
+    for task in tasks {
+        task.finish().give_back();
+    }
+}
+
+impl<R: Ring> Player<R> {
+    /// Plays a line.
+    pub(crate) fn line(&mut self, alloc: Global, line: &Line) -> Result<(), AllocError>
+        requires few { self.old.refused < 0xFFFFFFFFFFFFFFFF }
+        ensures does { OnOk result (Does R.Take.TakeEnd
+            (sending self.old.slave self.old.out.contents)
+            (sending self.new.slave self.new.out.contents)
+            self.old.refused self.new.refused (line_data line.now ∷ [])) }
+    {
+        match line {
+            Line::Master(packet) => self.master(alloc, packet),
+            Line::Trigger {
+                channel,
+                stamp,
+                image,
+            } => {
+                self.trigger(*channel, *stamp, image);
+                Ok(())
+            }
+            Line::Send => self.send(),
+            Line::Lose => {
+                lose(&mut self.slave);
+                Ok(())
+            }
+            Line::HangUp => {
+                self.slave.hang_up();
+                Ok(())
+            }
+        }
+    }
+
+    /// A packet of the master comes at the clock of the last trigger. What came back is collected
+    /// before it, for the lines of each measurement.
+    fn master(&mut self, alloc: Global, packet: &[u8]) -> Result<(), AllocError>
+        requires few { self.old.refused < 0xFFFFFFFFFFFFFFFF }
+        ensures does { OnOk result (Does R.Take.TakeEnd
+            (sending self.old.slave self.old.out.contents)
+            (sending self.new.slave self.new.out.contents)
+            self.old.refused self.new.refused (master packet.now ∷ [])) }
+    {
+        collect(&mut self.slave, self.tasks.len(), &mut self.parts)?;
+        if self.slave.hear(alloc, packet, self.clock) {
+            return Ok(());
+        }
+        self.refused += 1;
+        Ok(())
+    }
+
+    /// A task takes a trigger. One that isn't taken is refused, and changes nothing.
+    fn trigger(&mut self, channel: u8, stamp: u32, image: &[u8])
+        requires few { self.old.refused < 0xFFFFFFFFFFFFFFFF }
+        ensures slave_stays { self.new.slave ≡ self.old.slave }
+        ensures out_stays { self.new.out ≡ self.old.out }
+        ensures counted { self.old.refused ≤ self.new.refused }
+        ensures most { self.new.refused ≤ self.old.refused + 1 }
+    {
+        if is_taken(&mut self.tasks, self.image_len, channel, image, stamp) {
+            self.clock = stamp;
+        } else {
+            self.refused += 1;
+        }
+    }
+
+    /// Sends what waits, as one datagram.
+    fn send(&mut self) -> Result<(), AllocError>
+        ensures sends { OnOk result (Advances R.Take.TakeEnd
+            (sending self.old.slave self.old.out.contents)
+            (sending self.new.slave self.new.out.contents) []) }
+        ensures refused_stays { self.new.refused ≡ self.old.refused }
+    {
+        let before = self.out.bytes().len();
+        send(&mut self.slave, &mut self.out)?;
+        let after = self.out.bytes().len();
+        if after > before {
+            self.ends.push(after)?;
+        }
+        Ok(())
+    }
+
+    /// The session ends: the slave hangs up, the tasks finish, all that came back is collected, and
+    /// the slave is closed.
+    pub(crate) fn finish(mut self, alloc: Global) -> Result<Played, AllocError>
+        ensures sent { IfOk result (λ played. played.sent ≡ self.out) }
+        ensures refused { IfOk result (λ played. played.refused ≡ self.refused) }
+        ensures ends { IfOk result (λ played. (s : SlaveState R.Send R.Take)
+            × Advances R.Take.TakeEnd (sending self.slave self.out.contents)
+            (sending s played.sent.contents) []) }
+    {
+        self.slave.hang_up();
+        let Player {
+            mut slave,
+            tasks,
+            image_len: _,
+            clock: _,
+            out,
+            ends,
+            mut parts,
+            refused,
+        } = self;
+        let channels = tasks.len();
+        finish_all(tasks);
+        collect(&mut slave, channels, &mut parts)?;
+        Ok(Played {
+            sent: out,
+            ends,
+            parts,
+            account: slave.close(Vec::new(alloc)),
+            refused,
+        })
+    }
+}

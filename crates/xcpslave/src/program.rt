@@ -1,0 +1,120 @@
+//! The program: from its words and streams to its status.
+ghost use Rattle.std.specs.Prelude.{◌≤◌, IfOk};
+
+use crate::session_fault::SessionFault;
+use crate::session_text::text_of;
+use crate::words::{Asked, read_words};
+use daq_sim::front_from;
+use slave_file::SessionFile;
+use slave_play::play;
+use std::alloc::Global;
+use std::fs;
+use std::io::{self, ErrorKind, Read, Write};
+use std::rt::Files;
+
+/// The program over its words, without its name, its standard input, standard output and standard
+/// error. It answers its status.
+pub fn carry_out<R: Files, I: Read + Drop, W: Write + Drop, E: Write + Drop>(
+    rt: &R,
+    alloc: Global,
+    words: &[String],
+    input: I,
+    out: W,
+    err: E,
+) -> u8
+    ensures { result ≤ 2 }
+{
+    let mut out = out;
+    let mut err = err;
+    match answer(rt, alloc, words, input, &mut out) {
+        Ok(status) => status,
+        Err(fault) => {
+            let _ = writeln!(err, "{fault}");
+            fault.status()
+        }
+    }
+}
+
+/// What the words ask for: the status once that is printed, or the fault that is still to be.
+fn answer<R: Files, I: Read + Drop, W: Write>(
+    rt: &R,
+    alloc: Global,
+    words: &[String],
+    input: I,
+    out: &mut W,
+) -> Result<u8, SessionFault>
+    ensures { IfOk result (λ status. status ≤ 1) }
+{
+    match read_words(alloc, words)? {
+        Asked::Help(text) => Ok(status_of(write!(out, "{text}").and_then(|()| out.flush()))),
+        Asked::Session(path) => {
+            let file = session_of(rt, alloc, path, input)?;
+            print_session(alloc, file, out)
+        }
+    }
+}
+
+/// Plays a session, and prints what came of it.
+fn print_session<W: Write>(
+    alloc: Global,
+    file: SessionFile,
+    out: &mut W,
+) -> Result<u8, SessionFault>
+    ensures { IfOk result (λ status. status ≤ 1) }
+{
+    let played = match play(alloc, file) {
+        Ok(played) => played,
+        Err(fault) => return Err(SessionFault::of_play(fault)),
+    };
+    let Ok(text) = text_of(alloc, &played) else {
+        return Err(SessionFault::Memory);
+    };
+    Ok(status_of(out.write_all(text.as_bytes()).and_then(|()| out.flush())))
+}
+
+/// The status: 1 if the output can't be printed, else 0.
+fn status_of(printing: io::Result<()>) -> u8
+    ensures { result ≤ 1 }
+{
+    if printing.is_err() { 1 } else { 0 }
+}
+
+/// The session of a file, or of standard input where no file is named.
+fn session_of<R: Files, I: Read + Drop>(
+    rt: &R,
+    alloc: Global,
+    path: Option<&str>,
+    input: I,
+) -> Result<SessionFile, SessionFault> {
+    let mut input = input;
+    let Some(path) = path else {
+        return session_from(alloc, &mut input);
+    };
+    match fs::open(rt, path) {
+        Ok(mut file) => session_from(alloc, &mut file),
+        Err(error) => Err(fault_of(&error)),
+    }
+}
+
+/// Why a file isn't opened.
+fn fault_of(error: &io::Error) -> SessionFault {
+    match error.kind() {
+        ErrorKind::OutOfMemory => SessionFault::Memory,
+        _ => SessionFault::Unreadable,
+    }
+}
+
+/// Reads a session, from a text that is read to its end.
+fn session_from<I: Read>(alloc: Global, input: &mut I) -> Result<SessionFile, SessionFault> {
+    let bytes = match front_from(alloc, input, usize::MAX) {
+        Ok(bytes) => bytes,
+        Err(fault) => return Err(SessionFault::of_text(fault)),
+    };
+    let Ok(text) = String::from_utf8(bytes) else {
+        return Err(SessionFault::Unreadable);
+    };
+    match SessionFile::read(alloc, &text) {
+        Ok(file) => Ok(file),
+        Err(fault) => Err(SessionFault::of_file(fault)),
+    }
+}

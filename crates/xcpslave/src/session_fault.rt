@@ -1,0 +1,63 @@
+ghost use Rattle.std.specs.Prelude.{◌≤◌};
+
+use daq_sim::TextFault;
+use session::ProfileFault;
+use slave_file::FileFault;
+use slave_play::PlayFault;
+use thiserror::Error;
+
+/// Why the program stops, as the line that it prints.
+#[derive(Clone, Copy, Debug, PartialEq, Eq, Error)]
+pub enum SessionFault {
+    /// The words are no command line.
+    #[error("xcpslave: bad command line")]
+    CommandLine,
+    /// The text of the session can't be read.
+    #[error("xcpslave: cannot read session")]
+    Unreadable,
+    /// The text is no session.
+    #[error("xcpslave: bad session: {0}")]
+    File(FileFault),
+    /// The profile is out of a limit.
+    #[error("xcpslave: bad profile: {0}")]
+    Profile(ProfileFault),
+    /// Memory was wanting.
+    #[error("xcpslave: want of memory")]
+    Memory,
+}
+
+impl SessionFault {
+    /// The status that the program ends with.
+    pub fn status(self) -> u8
+        ensures { result ≤ 2 }
+    {
+        match self {
+            SessionFault::Memory => 1,
+            _ => 2,
+        }
+    }
+
+    /// The fault of a text that can't be read.
+    pub fn of_text(fault: TextFault) -> SessionFault {
+        match fault {
+            TextFault::Memory => SessionFault::Memory,
+            _ => SessionFault::Unreadable,
+        }
+    }
+
+    /// The fault of a text that is no session.
+    pub fn of_file(fault: FileFault) -> SessionFault {
+        match fault {
+            FileFault::Memory => SessionFault::Memory,
+            _ => SessionFault::File(fault),
+        }
+    }
+
+    /// The fault of a session that isn't played.
+    pub fn of_play(fault: PlayFault) -> SessionFault {
+        match fault {
+            PlayFault::Memory => SessionFault::Memory,
+            PlayFault::Profile(fault) => SessionFault::Profile(fault),
+        }
+    }
+}
