@@ -21,9 +21,9 @@ use Rattle.frame_outbox.specs.Outboxes.{StandsAfter as OutboxStandsAfter}
 use Rattle.slave.specs.Hearing.{GoesBy}
 use Rattle.slave.specs.Inner.{Answers, LaysReply, Settles}
 use Rattle.session_account.specs.Accounts.{AccountStandsAfter}
-use Rattle.slave.specs.Log.{Heard, HungUp, entries_of, is_back, laid, past_of, reply_laid, sent_of}
+use Rattle.slave.specs.Log.{Heard, HungUp, entries_of, is_out, laid, past_of, reply_laid, sent_of}
 use Rattle.slave.specs.Standing.{SlaveState}
-use Rattle.slave.proofs.SettlingLemmas.{settled, settled-out}
+use Rattle.slave.proofs.SettlingLemmas.{settled, settled-many, settled-out}
 use Rattle.slave.proofs.StandingLemmas.{starts-no-list}
 use Rattle.std.proofs.lemmas.List.{drop-append-le, take-append-le}
 
@@ -109,7 +109,8 @@ module _ {S T F : Type 0} (take : TakeGhosts T F) where
                     subst (λ r. OutboxStandsAfter b.outbox (first (sent_of log) (laid d log ++ reply_laid r)) (drop (sent_of log) (laid d log ++ reply_laid r))) said
                     (reply-laid a.outbox b.outbox reply (sent_of log) (laid d log) lays has.sent has.outbox);
                 channels = λ c ch at. (both c ch at).0;
-                out = settled-out take a.channels b.channels before now (λ c m. is_back m c log) settles has.out;
+                out = settled-out take a.channels b.channels before now (λ c m. is_out m c log) settles has.out;
+                many = settled-many take a.channels b.channels before now settles ∙ has.many;
                 plan = plan ∙ has.plan;
                 account = subst (λ z. AccountStandsAfter z (entries_of d log) (λ l. 0)) (sym account) has.account;
                 number = number ∙ has.number;
@@ -140,7 +141,8 @@ module _ {S T F : Type 0} (take : TakeGhosts T F) where
           session = fresh;
           outbox = subst (λ o. OutboxStandsAfter o (first (sent_of log) (laid d log ++ [])) (drop (sent_of log) (laid d log ++ []))) (sym outbox) (reply-laid a.outbox a.outbox None (sent_of log) (laid d log) refl has.sent has.outbox);
           channels = λ c ch at. (both c ch at).0;
-          out = settled-out take a.channels b.channels before 0 (λ c m. is_back m c log) settles stands.has.out;
+          out = settled-out take a.channels b.channels before 0 (λ c m. is_out m c log) settles stands.has.out;
+          many = settled-many take a.channels b.channels before 0 settles ∙ stands.has.many;
           plan = plan ∙ has.plan;
           account = subst (λ z. AccountStandsAfter z (entries_of d log) (λ l. 0)) (sym account) has.account;
           number = number ∙ has.number;

@@ -82,7 +82,7 @@ module _ {T F : Type 0} (take : TakeGhosts T F) where
       × ((deeds : List Deed) → length deeds + length ds ≤ MAX_TAKEN → StandsAfter take p.intake deeds → StandsAfter take z.intake (ds ++ deeds)))
       same (s, refl, goes.0, goes.1)
 
-  goes-none : (a b : Option (ShareState T)) (ds : List Deed) → a ≡ None → GoesOnBy take a b ds → ds ≡ []
+  pub goes-none : (a b : Option (ShareState T)) (ds : List Deed) → a ≡ None → GoesOnBy take a b ds → ds ≡ []
   goes-none None None ds is goes = goes
   goes-none None (Some t) ds is goes = elim goes [ ]
   goes-none (Some s) b ds is goes = absurd (some_none s is) where

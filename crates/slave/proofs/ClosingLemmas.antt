@@ -1,7 +1,10 @@
 -- The account of a slave that is closed.
-use Rattle.std.proofs.Common.{◌≡◌, ◌≢◌, ℕ, suc, ◌+◌, ◌<◌, ◌≤◌, true, false, nat_lt, if◌then◌else◌, List, [], ◌∷◌, ◌++◌, map, drop, refl, sym, ap, ◌∙◌, subst, arith, inl, inr}
-use Rattle.std.specs.Prelude.{count_by}
+use Rattle.std.proofs.Common.{◌≡◌, ◌≢◌, ℕ, suc, ◌+◌, ◌<◌, ◌≤◌, Bool, true, false, ◌&&◌, ◌||◌, not, ◌↔◌, ◌⊎◌, nat_lt, if◌then◌else◌, List, [], ◌∷◌, ◌++◌, map, drop, refl, sym, ap, ◌∙◌, subst, arith, inl, inr}
+use Rattle.std.specs.Prelude.{count_by, Option, Some, None}
+use Rattle.std.specs.Option.{is_some}
+use Rattle.std.proofs.lemmas.Bool.{false≢true}
 use Rattle.std.proofs.lemmas.Bool.Decides.{eqb_tells, leb_tells}
+use Rattle.std.proofs.lemmas.Option.{slice_get_within}
 use Rattle.std.proofs.lemmas.List.Sums.{sum_by-cons}
 use Rattle.xcp_base.specs.declared.limits.TheConstants.{MAX_LISTS}
 use Rattle.channel_ring.specs.declared.ends.TakeEnd.{Ghosts as TakeGhosts}
@@ -10,11 +13,16 @@ use Rattle.frame_outbox.specs.Units.{is_sample_of, samples_of}
 use Rattle.frame_outbox.specs.declared.unit.Unit.{Unit}
 use Rattle.session_account.specs.Accounts.{AccountStandsAfter, AreTotals, Entry, more_unsent}
 use Rattle.session_account.specs.declared.totals.Totals.{Totals}
-use Rattle.slave.specs.Closing.{Closes, unsent_of}
+use Rattle.session.specs.declared.profile.Profile.{Profile}
+use Rattle.slave_channel.specs.Channels.{ShareState}
+use Rattle.slave_channels.specs.Calls.{KeepsNone, KeepsOne}
+use Rattle.slave.specs.Closing.{AllBack, Closes, unsent_of}
 use Rattle.slave.specs.Hearing.{GoesBy}
 use Rattle.slave.specs.Inner.{Collects}
-use Rattle.slave.specs.Log.{HungUp, entries_of, laid, sent_of}
-use Rattle.slave.specs.Standing.{SlaveStandsAfter, SlaveState}
+use Rattle.slave.specs.Log.{Act, HungUp, entries_of, is_back, is_out, laid, sent_of}
+use Rattle.slave.specs.Standing.{SlaveStandsAfter, SlaveState, number_of}
+use Rattle.slave.proofs.DeedLemmas.{out-back, out-part}
+use Rattle.slave.proofs.OutLemmas.{some-at}
 
 -- an account stands by the numbers of its lists alone
 pub same-unsent : (account : List Totals) (entries : List Entry) (f g : ℕ → ℕ) → ((l : ℕ) → l < MAX_LISTS → f l ≡ g l) → AccountStandsAfter account entries f → AccountStandsAfter account entries g
@@ -76,10 +84,73 @@ waiting-of l (x ∷ xs) =
     ∙ ap (λ n. (if is_sample_of l x.origin then 1 else 0) + n) (waiting-of l xs)
     ∙ sym (sum_by-cons (λ (y : Laid). if is_sample_of l y.origin then 1 else 0) x xs)
 
+none_some : {X : Type 0} (x : X) → None ≡ Some x → ⊥
+none_some x e = cc
+
+-- a part that is kept has a number
+numbered : {T : Type 0} (o : Option (ShareState T)) → is_some o ≡ true → (m : ℕ) × (number_of o ≡ Some m)
+numbered None is = absurd (false≢true is)
+numbered (Some p) is = (p.number, refl)
+
+not-numbered : {T : Type 0} (o : Option (ShareState T)) (m : ℕ) → is_some o ≡ false → number_of o ≡ Some m → ⊥
+not-numbered None m is at = none_some m at
+not-numbered (Some p) m is at = false≢true (sym is)
+
+is-bool : (b : Bool) → (b ≡ true) ⊎ (b ≡ false)
+is-bool true = inl refl
+is-bool false = inr refl
+
+or-split : (a b : Bool) → (a || b) ≡ true → (a ≡ true) ⊎ (b ≡ true)
+or-split true b is = inl refl
+or-split false b is = inr is
+
+or-none : (a b : Bool) → (a || b) ≡ false → (a ≡ false) × (b ≡ false)
+or-none true b is = absurd (false≢true (sym is))
+or-none false b is = (refl, is)
+
 module _ {S T F : Type 0} (take : TakeGhosts T F) where
-  pub closes : (a h b : SlaveState S T) (account : List Totals) → GoesBy take a h (HungUp ∷ []) → h.session.profile ≡ a.session.profile → Collects take h b
-      → ((entries : List Entry) → AccountStandsAfter b.account entries (λ l. 0) → AccountStandsAfter account entries (λ l. samples_of l b.outbox.units)) → Closes take a account
-  closes a h b account hangs profile collects leaves = record {
+  -- where no part is kept at an event channel, all came back
+  all-back : (d : Profile) (s : SlaveState S T) (log : List Act) → SlaveStandsAfter take d s log
+      → KeepsNone s.channels → AllBack d log
+  all-back d s log stands none m c within there =
+      elim (is-bool (is_back m c log)) [
+        | inl back ↦ back
+        | inr out ↦
+            let (ch, at) = some-at s.channels c (omega (arith, within, stands.has.many)) in
+            let (older, newer) = or-none (is_some ch.older) (is_some ch.newer) (none c ch at) in
+            absurd (elim ((stands.has.out c ch at).kept m (ap (λ b. b && not (is_back m c log)) there ∙ ap not out)) [
+              | inl w ↦ not-numbered ch.newer m newer w
+              | inr w ↦ not-numbered ch.older m older w
+            ])
+      ]
+
+  -- and where one is kept, one did not
+  not-back : (d : Profile) (s : SlaveState S T) (log : List Act) → SlaveStandsAfter take d s log
+      → KeepsOne s.channels → AllBack d log → ⊥
+  not-back d s log stands (c, (ch, at, is)) all =
+      let (m, out) = some-out in
+      false≢true (sym (out-back m c log out) ∙ all m c (omega (arith, slice_get_within s.channels c ch at, stands.has.many)) (out-part m c log out)) where
+        some-out : (m : ℕ) × (is_out m c log ≡ true)
+        some-out =
+            elim (or-split (is_some ch.older) (is_some ch.newer) is) [
+              | inl w ↦ let (m, at_m) = numbered ch.older w in (m, (stands.has.out c ch at).older m at_m)
+              | inr w ↦ let (m, at_m) = numbered ch.newer w in (m, (stands.has.out c ch at).newer m at_m)
+            ]
+
+  -- so it is told
+  pub told-whole : (d : Profile) (s : SlaveState S T) (log : List Act) (kept : Bool) → SlaveStandsAfter take d s log
+      → (kept ≡ false → KeepsNone s.channels)
+      → (kept ≡ true → KeepsOne s.channels)
+      → (not kept ≡ true) ↔ AllBack d log
+  told-whole d s log false stands none some = (λ e. all-back d s log stands (none refl), λ all. refl)
+  told-whole d s log true stands none some = (λ e. absurd (false≢true e), λ all. absurd (not-back d s log stands (some refl) all))
+
+  pub closes : (a h b : SlaveState S T) (account : List Totals) (kept : Bool) → GoesBy take a h (HungUp ∷ []) → h.session.profile ≡ a.session.profile → Collects take h b
+      → ((entries : List Entry) → AccountStandsAfter b.account entries (λ l. 0) → AccountStandsAfter account entries (λ l. samples_of l b.outbox.units))
+      → (kept ≡ false → KeepsNone b.channels)
+      → (kept ≡ true → KeepsOne b.channels)
+      → Closes take a account (not kept)
+  closes a h b account kept hangs profile collects leaves none some = record {
     last = collects.acts;
     are = collects.are;
     stands = λ log few stands.
@@ -92,5 +163,6 @@ module _ {S T F : Type 0} (take : TakeGhosts T F) where
           same-unsent account (entries_of d all) (λ l. samples_of l b.outbox.units) (unsent_of d all)
               (λ l below. ap (samples_of l) has.outbox.units ∙ waiting-of l (drop (sent_of all) (laid d all)))
               (leaves (entries_of d all) has.account),
+          told-whole d b all kept behind none some,
         );
   }

@@ -15,7 +15,7 @@ use Rattle.session.specs.Standing.{SessionState}
 use Rattle.slave_channel.specs.Channels.{FinishedState, IsFinished}
 use Rattle.slave.specs.Finishing.{GivesBack}
 use Rattle.slave.specs.Hearing.{MayOpen, is_before}
-use Rattle.slave.specs.Inner.{AreAsOpened, Collects, HasOther, HasSome, IsOfOne, Prepares, SlaveStarted, StartsInVain}
+use Rattle.slave.specs.Inner.{AreAsOpened, Collects, HasOther, HasParts, HasSome, IsOfOne, Prepares, SlaveStarted, StartsInVain}
 use Rattle.slave.specs.Log.{Act, CameBack, Heard, HungUp, Opened, Refused, Sent, Took, is_opening, is_return, opened}
 use Rattle.slave.specs.Standing.{SlaveStandsAfter, SlaveState}
 use Rattle.slave.proofs.HearingLemmas.{assoc}
@@ -26,7 +26,7 @@ before-return [] are = refl
 before-return (CameBack m c past ∷ acts) are = before-return acts are
 before-return (Heard x ∷ acts) are = absurd (false≢true are)
 before-return (Refused packet code ∷ acts) are = absurd (false≢true are)
-before-return (Opened ∷ acts) are = absurd (false≢true are)
+before-return (Opened at ∷ acts) are = absurd (false≢true are)
 before-return (Took m c x ∷ acts) are = absurd (false≢true are)
 before-return (Sent n ∷ acts) are = absurd (false≢true are)
 before-return (HungUp ∷ acts) are = absurd (false≢true are)
@@ -36,7 +36,7 @@ none-opened [] are = refl
 none-opened (CameBack m c past ∷ acts) are = omega (arith, sum_by-cons (λ a. if is_opening a then 1 else 0) (CameBack m c past) acts, none-opened acts are)
 none-opened (Heard x ∷ acts) are = absurd (false≢true are)
 none-opened (Refused packet code ∷ acts) are = absurd (false≢true are)
-none-opened (Opened ∷ acts) are = absurd (false≢true are)
+none-opened (Opened at ∷ acts) are = absurd (false≢true are)
 none-opened (Took m c x ∷ acts) are = absurd (false≢true are)
 none-opened (Sent n ∷ acts) are = absurd (false≢true are)
 none-opened (HungUp ∷ acts) are = absurd (false≢true are)
@@ -112,6 +112,9 @@ module _ {S T F : Type 0} (take : TakeGhosts T F) where
     as_opened = λ log few stands.
         let way = between a m p.opening log collects few stands in
         way.lead (λ q xs. AreAsOpened q xs lists) (p.as_opened (collects.acts ++ log) way.few way.stands);
+    has_parts = λ log few stands.
+        let way = between a m p.opening log collects few stands in
+        way.lead (λ q xs. HasParts q xs lists) (p.has_parts (collects.acts ++ log) way.few way.stands);
     goes = λ log few stands.
         let way = between a m p.opening log collects few stands in
         way.lead (λ q xs. SlaveStarted take q b xs lists) (p.goes (collects.acts ++ log) way.few way.stands);

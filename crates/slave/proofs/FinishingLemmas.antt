@@ -1,5 +1,5 @@
 -- What a slave stands after once something came back.
-use Rattle.std.proofs.Common.{◌≡◌, ℕ, ◌<◌, Bool, true, false, ◌&&◌, ◌||◌, nat_eq, List, [], ◌∷◌, append-nil, length, length-append, drop, take as first, refl, sym, ap, ◌∙◌, subst, arith, inl, inr}
+use Rattle.std.proofs.Common.{◌≡◌, ℕ, ◌<◌, Bool, true, false, ◌&&◌, ◌||◌, not, nat_eq, List, [], ◌∷◌, append-nil, length, length-append, drop, take as first, refl, sym, ap, ◌∙◌, subst, arith, inl, inr}
 use Rattle.std.specs.Prelude.{Option, Some, None, IfSome, IsNone, IsSome}
 use Rattle.std.proofs.lemmas.Bool.Decides.{eqb_tells}
 use Rattle.sampler.specs.Past.{Past as SamplerPast}
@@ -20,9 +20,11 @@ use Rattle.slave.specs.Finishing.{GivesBack, IsFinishedOf}
 use Rattle.session_account.specs.Accounts.{AccountStandsAfter}
 use Rattle.session_account.specs.declared.totals.Totals.{Totals}
 use Rattle.slave.specs.Inner.{Idle, Notes}
-use Rattle.slave.specs.Log.{Act, CameBack, deeds_of, entries_of, is_back, laid, opened, past_of, sent_of}
+use Rattle.slave.specs.Log.{Act, CameBack, deeds_of, entries_of, has_part, is_back, is_out, laid, opened, past_of, sent_of}
 use Rattle.slave.specs.Standing.{ChannelHas, ComesBack, IsOut, SlaveStandsAfter, SlaveState, number_of}
-use Rattle.slave.proofs.TakingLemmas.{ChangesAt, channels-changed, ended-changed, out-changed, some-at, took-none}
+use Rattle.slave.proofs.DeedLemmas.{out-back}
+use Rattle.slave.proofs.OutLemmas.{some-at}
+use Rattle.slave.proofs.TakingLemmas.{ChangesAt, channels-changed, ended-changed, out-changed, took-none}
 
 none_some : {X : Type 0} (x : X) → None ≡ Some x → ⊥
 none_some x e = cc
@@ -46,17 +48,29 @@ part-of : {T : Type 0} (o : Option (ShareState T)) (k : ℕ) → number_of o ≡
 part-of None k is = absurd (none_some k is)
 part-of (Some p) k is = (p, refl, some_same p.number k is)
 
--- of another measurement, and at another event channel, it is as before
-other-back : (m k c : ℕ) (b : Bool) → (m ≡ k → ⊥) → b ≡ false → ((nat_eq m k && nat_eq c c) || b) ≡ false
-other-back m k c b other is =
-    elim (eqb_tells m k) [
-      | inl w ↦ absurd (other w.1)
-      | inr w ↦ ap (λ e. (e && nat_eq c c) || b) w.0 ∙ is
-    ]
-
 and_false : (b : Bool) → (b && false) ≡ false
 and_false true = refl
 and_false false = refl
+
+-- of another measurement the same is out
+other-out : (m k c : ℕ) (p b : Bool) → (m ≡ k → ⊥) → (p && not ((nat_eq m k && nat_eq c c) || b)) ≡ (p && not b)
+other-out m k c p b other =
+    elim (eqb_tells m k) [
+      | inl w ↦ absurd (other w.1)
+      | inr w ↦ ap (λ e. p && not ((e && nat_eq c c) || b)) w.0
+    ]
+
+-- what is out is no part that came back
+not-this : (m k c : ℕ) (p b : Bool) → (p && not ((nat_eq m k && nat_eq c c) || b)) ≡ true → m ≡ k → ⊥
+not-this m k c p b there e =
+    elim (eqb_tells m k) [
+      | inl w ↦
+          elim (eqb_tells c c) [
+            | inl v ↦ false≢true (sym (ap (λ x. p && not ((x && nat_eq c c) || b)) w.0 ∙ ap (λ x. p && not ((true && x) || b)) v.0 ∙ and_false p) ∙ there)
+            | inr v ↦ v.1 refl
+          ]
+      | inr w ↦ w.1 e
+    ]
 
 elsewhere : (m q c k : ℕ) (b : Bool) → (c ≡ k → ⊥) → ((nat_eq m q && nat_eq c k) || b) ≡ b
 elsewhere m q c k b other =
@@ -93,29 +107,45 @@ module _ {S T F : Type 0} (take : TakeGhosts T F) where
   }
 
   -- a part came back, and the others did not
-  out-without-older : (n : ℕ) (f : ℕ → List Deed) (x y : ChannelState S T) (s : ShareState T) (c : ℕ) (back : ℕ → Bool) → x.older ≡ Some s → y.older ≡ None → y.newer ≡ x.newer
-      → ChannelHas take n f x → IsOut back x → IsOut (λ k. (nat_eq s.number k && nat_eq c c) || back k) y
-  out-without-older n f x y s c back was gone newer has out = record {
-    newer = λ k at.
-        let (q, there, number) = part-of x.newer k (ap (λ (o : Option (ShareState T)). number_of o) (sym newer) ∙ at) in
-        other-back s.number k c (back k) (λ e. omega (arith, has.order s q was there, number, e)) (out.newer k (ap (λ (o : Option (ShareState T)). number_of o) (sym newer) ∙ at));
-    older = λ k at. absurd (none_some k (sym (ap (λ (o : Option (ShareState T)). number_of o) gone) ∙ at));
-  }
+  out-without-older : (n : ℕ) (f : ℕ → List Deed) (x y : ChannelState S T) (s : ShareState T) (c : ℕ) (part back : ℕ → Bool) → x.older ≡ Some s → y.older ≡ None → y.newer ≡ x.newer
+      → ChannelHas take n f x → IsOut (λ k. part k && not (back k)) x → IsOut (λ k. part k && not ((nat_eq s.number k && nat_eq c c) || back k)) y
+  out-without-older n f x y s c part back was gone newer has out =
+      let same : number_of y.newer ≡ number_of x.newer = ap (λ (o : Option (ShareState T)). number_of o) newer in
+      record {
+        newer = λ k at.
+            let (q, there, number) = part-of x.newer k (sym same ∙ at) in
+            other-out s.number k c (part k) (back k) (λ e. omega (arith, has.order s q was there, number, e)) ∙ out.newer k (sym same ∙ at);
+        older = λ k at. absurd (none_some k (sym (ap (λ (o : Option (ShareState T)). number_of o) gone) ∙ at));
+        kept = λ k there.
+            let other = not-this s.number k c (part k) (back k) there in
+            elim (out.kept k (sym (other-out s.number k c (part k) (back k) other) ∙ there)) [
+              | inl w ↦ inl (same ∙ w)
+              | inr w ↦ absurd (other (some_same s.number k (sym (ap (λ (o : Option (ShareState T)). number_of o) was) ∙ w)))
+            ];
+      }
 
-  out-without-newer : (n : ℕ) (f : ℕ → List Deed) (x y : ChannelState S T) (s : ShareState T) (c : ℕ) (back : ℕ → Bool) → x.newer ≡ Some s → y.newer ≡ None → y.older ≡ x.older
-      → ChannelHas take n f x → IsOut back x → IsOut (λ k. (nat_eq s.number k && nat_eq c c) || back k) y
-  out-without-newer n f x y s c back was gone older has out = record {
-    newer = λ k at. absurd (none_some k (sym (ap (λ (o : Option (ShareState T)). number_of o) gone) ∙ at));
-    older = λ k at.
-        let (q, there, number) = part-of x.older k (ap (λ (o : Option (ShareState T)). number_of o) (sym older) ∙ at) in
-        other-back s.number k c (back k) (λ e. omega (arith, has.order q s there was, number, e)) (out.older k (ap (λ (o : Option (ShareState T)). number_of o) (sym older) ∙ at));
-  }
+  out-without-newer : (n : ℕ) (f : ℕ → List Deed) (x y : ChannelState S T) (s : ShareState T) (c : ℕ) (part back : ℕ → Bool) → x.newer ≡ Some s → y.newer ≡ None → y.older ≡ x.older
+      → ChannelHas take n f x → IsOut (λ k. part k && not (back k)) x → IsOut (λ k. part k && not ((nat_eq s.number k && nat_eq c c) || back k)) y
+  out-without-newer n f x y s c part back was gone older has out =
+      let same : number_of y.older ≡ number_of x.older = ap (λ (o : Option (ShareState T)). number_of o) older in
+      record {
+        newer = λ k at. absurd (none_some k (sym (ap (λ (o : Option (ShareState T)). number_of o) gone) ∙ at));
+        older = λ k at.
+            let (q, there, number) = part-of x.older k (sym same ∙ at) in
+            other-out s.number k c (part k) (back k) (λ e. omega (arith, has.order q s there was, number, e)) ∙ out.older k (sym same ∙ at);
+        kept = λ k there.
+            let other = not-this s.number k c (part k) (back k) there in
+            elim (out.kept k (sym (other-out s.number k c (part k) (back k) other) ∙ there)) [
+              | inl w ↦ absurd (other (some_same s.number k (sym (ap (λ (o : Option (ShareState T)). number_of o) was) ∙ w)))
+              | inr w ↦ inr (same ∙ w)
+            ];
+      }
 
   -- what is left of the sampler of a part came back
   came-back : (a b : SlaveState S T) (c m : ℕ) (x y : ChannelState S T) (past : SamplerPast) → ChangesAt take a b c x y → b.outbox ≡ a.outbox
       → ((log : List Act) → SlaveStandsAfter take a.session.profile a log → AccountStandsAfter b.account (record { past = past; deeds = deeds_of a.session.profile m c log } ∷ entries_of a.session.profile log) (λ l. 0)
       × ComesBack a.session.profile log m c past
-      × ChannelHas take (opened log) (λ q. deeds_of a.session.profile q c log) y × IsOut (λ q. (nat_eq m q && nat_eq c c) || is_back q c log) y)
+      × ChannelHas take (opened log) (λ q. deeds_of a.session.profile q c log) y × IsOut (λ q. is_out q c (CameBack m c past ∷ log)) y)
       → GoesBy take a b (CameBack m c past ∷ [])
   came-back a b c m x y past changes outbox known = λ log few stands.
       let d = a.session.profile in
@@ -132,7 +162,9 @@ module _ {S T F : Type 0} (take : TakeGhosts T F) where
               subst (λ xs. OutboxStandsAfter b.outbox (first (sent_of log) xs) (drop (sent_of log) xs)) (sym (append-nil (laid d log)))
               (subst (λ o. OutboxStandsAfter o (first (sent_of log) (laid d log)) (drop (sent_of log) (laid d log))) (sym outbox) has.outbox);
           channels = channels-changed take (opened log) (λ k q. deeds_of d q k log) (λ k q. deeds_of d q k log) a b c x y changes (λ k q other. refl) here has.channels;
-          out = out-changed take (λ k q. is_back q k log) (λ k q. is_back q k (CameBack m c past ∷ log)) a b c x y changes (λ k q other. elsewhere m q c k (is_back q k log) (λ e. other (sym e))) out has.out;
+          out = out-changed take (λ k q. is_out q k log) (λ k q. is_out q k (CameBack m c past ∷ log)) a b c x y changes
+              (λ k q other. ap (λ e. has_part q k log && not e) (elsewhere m q c k (is_back q k log) (λ e. other (sym e)))) out has.out;
+          many = changes.as_many ∙ has.many;
           plan = changes.plan ∙ has.plan;
           account = account;
           number = changes.number ∙ has.number;
@@ -189,7 +221,7 @@ module _ {S E T F : Type 0} (send : SendGhosts S E) (ring : EndGhosts E) (take :
       let d = w.session.profile in
       let b : SlaveState S T = record w { channels = xs; account = account } in
       let link : y.link.newer ≡ x.link.newer = ap (λ (l : LinkState S). l.newer) one.rest.0 in
-      let changes : ChangesAt take w b c x y = record { was = was; is = is; others = only.others; quiet = λ off. ap takes_orders link ∙ off; session = refl; plan = refl; number = refl } in
+      let changes : ChangesAt take w b c x y = record { was = was; is = is; others = only.others; as_many = only.as_many; quiet = λ off. ap takes_orders link ∙ off; session = refl; plan = refl; number = refl } in
       let back = λ (f : FinishedState E T) (at : answer ≡ Some f). if-some (IsBackOf send ring take x.link.older x.older) answer f one.back at in
       let intake = λ (f : FinishedState E T) (at : answer ≡ Some f) (log : List Act) (stands : SlaveStandsAfter take d w log).
       back-stands x.link.older x.older f (back f at) (λ m. deeds_of d m c log) (λ s there. ((stands.has.channels c x was).older s there).0.stands) in
@@ -213,15 +245,15 @@ module _ {S E T F : Type 0} (send : SendGhosts S E) (ring : EndGhosts E) (take :
               note-some w.account account answer f notes at (record { past = past; deeds = deeds_of d f.number c log }) is_past (intake f at log stands) (entries_of d log) (λ l. 0) stands.has.account,
               record {
                 there = omega (arith, part.0.there, number);
-                once = out.older f.number of_part;
+                once = out-back f.number c log (out.older f.number of_part);
                 over = λ e. absurd (omega (arith, e, part.1, number));
                 plans = is_past.plans;
                 front = is_past.front (deeds_of d f.number c log) (intake f at log stands);
                 marks = is_past.marks (deeds_of d f.number c log) (intake f at log stands);
               },
               channel-without-older take (opened log) (λ m. deeds_of d m c log) x y (older-gone x y answer one) one.rest.1 link has,
-              subst (λ k. IsOut (λ q. (nat_eq k q && nat_eq c c) || is_back q c log) y) (sym number)
-                  (out-without-older take (opened log) (λ m. deeds_of d m c log) x y s c (λ q. is_back q c log) there (one.some (is-some answer f at)).1 one.rest.1 has out),
+              subst (λ k. IsOut (λ q. has_part q c log && not ((nat_eq k q && nat_eq c c) || is_back q c log)) y) (sym number)
+                  (out-without-older take (opened log) (λ m. deeds_of d m c log) x y s c (λ q. has_part q c log) (λ q. is_back q c log) there (one.some (is-some answer f at)).1 one.rest.1 has out),
             )));
         finished = told (IsFinishedOf take w c) answer (λ f at log stands. intake f at log stands);
       })
@@ -234,7 +266,7 @@ module _ {S E T F : Type 0} (send : SendGhosts S E) (ring : EndGhosts E) (take :
       let one = only.here x y was is in
       let d = w.session.profile in
       let b : SlaveState S T = record w { channels = xs; account = account } in
-      let changes : ChangesAt take w b c x y = record { was = was; is = is; others = only.others; quiet = λ off. newer-off x y answer one off; session = refl; plan = refl; number = refl } in
+      let changes : ChangesAt take w b c x y = record { was = was; is = is; others = only.others; as_many = only.as_many; quiet = λ off. newer-off x y answer one off; session = refl; plan = refl; number = refl } in
       let back = λ (f : FinishedState E T) (at : answer ≡ Some f). if-some (IsBackOf send ring take x.link.newer x.newer) answer f one.back at in
       let intake = λ (f : FinishedState E T) (at : answer ≡ Some f) (log : List Act) (stands : SlaveStandsAfter take d w log).
       back-stands x.link.newer x.newer f (back f at) (λ m. deeds_of d m c log) (λ s there. ((stands.has.channels c x was).newer s there).stands) in
@@ -260,15 +292,15 @@ module _ {S E T F : Type 0} (send : SendGhosts S E) (ring : EndGhosts E) (take :
               note-some w.account account answer f notes at (record { past = past; deeds = deeds_of d f.number c log }) is_past (intake f at log stands) (entries_of d log) (λ l. 0) stands.has.account,
               record {
                 there = omega (arith, part.there, number);
-                once = out.newer f.number of_part;
+                once = out-back f.number c log (out.newer f.number of_part);
                 over = λ e. idle (past_of d log) stands.has.session;
                 plans = is_past.plans;
                 front = is_past.front (deeds_of d f.number c log) (intake f at log stands);
                 marks = is_past.marks (deeds_of d f.number c log) (intake f at log stands);
               },
               channel-without-newer take (opened log) (λ m. deeds_of d m c log) x y off (newer-off x y answer one off) (newer-gone x y answer one) one.rest.1 has,
-              subst (λ k. IsOut (λ q. (nat_eq k q && nat_eq c c) || is_back q c log) y) (sym number)
-                  (out-without-newer take (opened log) (λ m. deeds_of d m c log) x y s c (λ q. is_back q c log) there (one.some (is-some answer f at)).1 one.rest.1 has out),
+              subst (λ k. IsOut (λ q. has_part q c log && not ((nat_eq k q && nat_eq c c) || is_back q c log)) y) (sym number)
+                  (out-without-newer take (opened log) (λ m. deeds_of d m c log) x y s c (λ q. has_part q c log) (λ q. is_back q c log) there (one.some (is-some answer f at)).1 one.rest.1 has out),
             )));
         finished = told (IsFinishedOf take w c) answer (λ f at log stands. intake f at log stands);
       })

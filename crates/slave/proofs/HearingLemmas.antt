@@ -1,5 +1,5 @@
 -- What a slave stands after once a packet was heard.
-use Rattle.std.proofs.Common.{◌≡◌, ℕ, ◌<◌, List, [], ◌∷◌, ◌++◌, length-append, slice_get, refl, sym, ap, ◌∙◌, subst, arith, inl, inr, Err}
+use Rattle.std.proofs.Common.{◌≡◌, ℕ, ◌<◌, List, [], ◌∷◌, ◌++◌, length, length-append, slice_get, refl, sym, ap, ◌∙◌, subst, arith, inl, inr, Err}
 use Rattle.std.specs.Prelude.{Some}
 use Rattle.xcp_base.specs.Lists.{has_list}
 use Rattle.xcp_base.specs.declared.err_code.ErrCode.{ErrCode}
@@ -11,7 +11,7 @@ use Rattle.session.specs.Standing.{SessionStandsAfter, SessionState}
 use Rattle.session.specs.Starts.{starts}
 use Rattle.slave.specs.Hearing.{Hears}
 use Rattle.session.specs.declared.profile.Profile.{Profile}
-use Rattle.slave.specs.Inner.{Answers, AreAsOpened, HasOther, IsOfOne, LaysReply, Prepares, SlaveStarted, StartsInVain}
+use Rattle.slave.specs.Inner.{Answers, AreAsOpened, HasOther, HasParts, IsOfOne, LaysReply, Prepares, SlaveStarted, StartsInVain}
 use Rattle.session_account.specs.Accounts.{AccountStandsAfter}
 use Rattle.slave.specs.Log.{Act, Heard, Refused, entries_of, laid, past_of, reply_laid, sent_of}
 use Rattle.slave.specs.Standing.{SlaveStandsAfter, SlaveState, StartsOther, StartsWell}
@@ -24,9 +24,10 @@ assoc (x ∷ a) b c = ap (λ xs. x ∷ xs) (assoc a b c)
 
 -- lists that the packet starts, by their set
 starts-well : (d : Profile) (log : List Act) (packet : List ℕ) (lists : ℕ) → ((l : ℕ) → l < MAX_LISTS → has_list lists l ≡ starts d (past_of d log) packet l)
-    → IsOfOne d log lists → AreAsOpened d log lists → StartsWell d log packet
-starts-well d log packet lists are one opened = record {
+    → IsOfOne d log lists → AreAsOpened d log lists → HasParts d log lists → StartsWell d log packet
+starts-well d log packet lists are one opened parts = record {
   as_opened = λ l below is. opened l below (are l below ∙ is) (starts-list d (past_of d log) packet l is);
+  has_parts = λ c l there below is on. parts c l there below (are l below ∙ is) on;
   in_one = λ some none. one (some.0, some.1, are some.0 some.1 ∙ some.2) none;
 }
 
@@ -66,7 +67,7 @@ module _ {S T F : Type 0} (take : TakeGhosts T F) where
             ∙ ap (λ p. starts p (past_of p before) packet l) (sym profile))
             (subst (λ p. StartsWell p before packet) (sym profile)
             (starts-well d before packet lists (λ l below. are (past_of d before) (subst (λ s. SessionStandsAfter s (past_of d before)) same has.session) l below)
-            (prepares.in_one log (omega (arith, few)) stands) (prepares.as_opened log (omega (arith, few)) stands)))
+            (prepares.in_one log (omega (arith, few)) stands) (prepares.as_opened log (omega (arith, few)) stands) (prepares.has_parts log (omega (arith, few)) stands)))
             (subst (λ p. SlaveStarted take p k before lists) (sym profile) has));
       }
 
@@ -108,6 +109,7 @@ module _ {S T F : Type 0} (take : TakeGhosts T F) where
                 outbox = reply-laid k.outbox b.outbox reply (sent_of before) (laid d before) lays has.sent has.outbox;
                 channels = λ c ch at. has.channels c ch (ap (λ xs. slice_get xs c) (sym channels) ∙ at);
                 out = λ c ch at. has.out c ch (ap (λ xs. slice_get xs c) (sym channels) ∙ at);
+                many = ap length channels ∙ has.many;
                 plan = ap (λ (s : SlaveState S T). s.plan) rest ∙ has.plan;
                 account = subst (λ x. AccountStandsAfter x (entries_of d before) (λ l. 0)) (sym (ap (λ (s : SlaveState S T). s.account) rest)) has.account;
                 number = ap (λ (s : SlaveState S T). s.number) rest ∙ has.number;

@@ -83,7 +83,7 @@ ties d (Heard x ∷ log) is m c l below there =
     let tells = newest-tells m log in
     newest-if d m c l (Heard x) log (is_newest m log) tells.0 tells.1 refl below (ties d log is.2 m c l below) there
 ties d (Refused packet code ∷ log) is m c l below there = ties d log is.2 m c l below there
-ties d (Opened ∷ log) is m c l below there = absurd (false≢true (sym (is.0 l below) ∙ (ties d log is.1 m c l below there).1))
+ties d (Opened at ∷ log) is m c l below there = absurd (false≢true (sym (is.0 l below) ∙ (ties d log is.1 m c l below there).1))
 ties d (Took n k x ∷ log) is m c l below there =
     ties d log is.2 m c l below (sym (took-if (nat_eq n m && nat_eq k c) l (deeds_of d m c log) (TookItem x) refl) ∙ there)
 ties d (CameBack n k past ∷ log) is m c l below there = ties d log is.1 m c l below there

@@ -1,6 +1,8 @@
 -- A slave that was just opened.
-use Rattle.std.proofs.Common.{◌≡◌, ℕ, zero, suc, List, [], replicate, slice_get, refl, sym, ap, ◌∙◌, subst, arith, false}
+use Rattle.std.proofs.Common.{◌≡◌, ℕ, zero, suc, List, [], length, replicate, slice_get, refl, sym, ap, ◌∙◌, subst, arith, false}
 use Rattle.std.specs.Prelude.{Some, None}
+use Rattle.std.proofs.lemmas.Bool.{false≢true}
+use Rattle.std.proofs.lemmas.List.{length-replicate}
 use Rattle.channel_ring.specs.declared.ends.TakeEnd.{Ghosts as TakeGhosts}
 use Rattle.daq_store.specs.Configuration.{Configuration}
 use Rattle.session.specs.Past.{new_past}
@@ -38,13 +40,13 @@ module _ {S T F : Type 0} (take : TakeGhosts T F) where
   }
 
   nothing-out : IsOut {S = S} {T = T} (λ m. false) no_measurement
-  nothing-out = record { newer = λ m at. refl; older = λ m at. refl }
+  nothing-out = record { newer = λ m at. absurd (none_some m at); older = λ m at. absurd (none_some m at); kept = λ m there. absurd (false≢true there) }
 
   -- it stands after nothing
   pub new-stands : (d : Profile) (s : SessionState) (o : OutboxState) (channels : List (ChannelState S T)) (plan : List Configuration) (account : List Totals) (n : ℕ) → AccountStandsAfter account [] (λ l. 0) → plan ≡ [] → s.profile ≡ d → SessionStandsAfter s new_past → OutboxStandsAfter o [] []
-      → channels ≡ replicate n no_measurement
+      → channels ≡ replicate n no_measurement → n ≡ length d.events.items
       → SlaveStandsAfter take d (record { session = s; outbox = o; channels = channels; plan = plan; number = 0; account = account }) []
-  new-stands d s o channels plan account n fresh none profile session outbox all =
+  new-stands d s o channels plan account n fresh none profile session outbox all many =
       let is : (c : ℕ) (ch : ChannelState S T) → slice_get channels c ≡ Some ch → ch ≡ no_measurement = λ c ch at. each-is n no_measurement ch c (ap (λ xs. slice_get xs c) (sym all) ∙ at) in
       record {
         has = record {
@@ -56,6 +58,7 @@ module _ {S T F : Type 0} (take : TakeGhosts T F) where
           outbox = outbox;
           channels = λ c ch at. subst (λ x. ChannelHas take 0 (λ m. deeds_of d m c []) x) (sym (is c ch at)) (nothing-there d c);
           out = λ c ch at. subst (λ x. IsOut (λ m. false) x) (sym (is c ch at)) nothing-out;
+          many = ap length all ∙ length-replicate n no_measurement ∙ many;
           plan = none;
           account = fresh;
           number = refl;

@@ -1,5 +1,5 @@
 -- What is kept of an event channel, by the numbers of its parts.
-use Rattle.std.proofs.Common.{◌≡◌, ◌≢◌, ℕ, Bool, false, List, length, get_or, slice_get, refl, sym, ap, ◌∙◌, subst, arith, ◌⊎◌, inl, inr}
+use Rattle.std.proofs.Common.{◌≡◌, ◌≢◌, ℕ, zero, suc, ◌<◌, Bool, true, false, List, [], ◌∷◌, length, get_or, slice_get, refl, sym, ap, ◌∙◌, subst, arith, ◌⊎◌, inl, inr}
 use Rattle.std.specs.Prelude.{Option, Some, None}
 use Rattle.std.proofs.lemmas.Bool.Decides.{eqb_tells}
 use Rattle.std.proofs.lemmas.Option.{slice_get-get_or, slice_get_within}
@@ -19,6 +19,12 @@ use Rattle.slave.specs.Standing.{IsOut, number_of}
 pub was-there : {X : Type 0} (old now : List X) (c : ℕ) (b : X) → length now ≡ length old → slice_get now c ≡ Some b → slice_get old c ≡ Some (get_or old c b)
 was-there old now c b as_many at = slice_get-get_or old c b (omega (arith, slice_get_within now c b at, as_many))
 
+-- an element that is there
+pub some-at : {X : Type 0} (xs : List X) (c : ℕ) → c < length xs → (x : X) × (slice_get xs c ≡ Some x)
+some-at [] c below = absurd (omega (arith, below))
+some-at (x ∷ xs) zero below = (x, refl)
+some-at (x ∷ xs) (suc c) below = some-at xs c (omega (arith, below))
+
 some_inj : {X : Type 0} (x y : X) → Some x ≡ Some y → x ≡ y
 some_inj x y e = cc
 
@@ -32,10 +38,23 @@ number-before older None m is = inl is
 number-before older (Some q) m is = inr is
 
 module _ {S T : Type 0} where
-  pub out-kept : (back : ℕ → Bool) (a b : ChannelState S T) → KeepsParts a b → IsOut back a → IsOut back b
-  out-kept back a b keeps is = record {
+  pub out-kept : (out : ℕ → Bool) (a b : ChannelState S T) → KeepsParts a b → IsOut out a → IsOut out b
+  out-kept out a b keeps is = record {
     newer = λ m at. is.newer m (sym keeps.newer ∙ at);
     older = λ m at. is.older m (sym keeps.older ∙ at);
+    kept = λ m there.
+        elim (is.kept m there) [
+          | inl w ↦ inl (keeps.newer ∙ w)
+          | inr w ↦ inr (keeps.older ∙ w)
+        ];
+  }
+
+  -- where the same is out
+  pub out-same : (out now : ℕ → Bool) (ch : ChannelState S T) → ((m : ℕ) → now m ≡ out m) → IsOut out ch → IsOut now ch
+  out-same out now ch same is = record {
+    newer = λ m at. same m ∙ is.newer m at;
+    older = λ m at. same m ∙ is.older m at;
+    kept = λ m there. is.kept m (sym (same m) ∙ there);
   }
 
   pub keeps-same : (a b : ChannelState S T) → b ≡ a → KeepsParts a b
@@ -57,14 +76,14 @@ module _ {S T : Type 0} where
   }
 
   -- so at all event channels
-  pub out-each : (R : ℕ → ChannelState S T → ChannelState S T → Type 0) (xs ys : List (ChannelState S T)) (back : ℕ → ℕ → Bool) → IsEach R xs ys
+  pub out-each : (R : ℕ → ChannelState S T → ChannelState S T → Type 0) (xs ys : List (ChannelState S T)) (out : ℕ → ℕ → Bool) → IsEach R xs ys
       → ((c : ℕ) (a b : ChannelState S T) → R c a b → KeepsParts a b)
-      → ((c : ℕ) (ch : ChannelState S T) → slice_get xs c ≡ Some ch → IsOut (back c) ch)
-      → (c : ℕ) (ch : ChannelState S T) → slice_get ys c ≡ Some ch → IsOut (back c) ch
-  out-each R xs ys back each keeps is c ch at =
+      → ((c : ℕ) (ch : ChannelState S T) → slice_get xs c ≡ Some ch → IsOut (out c) ch)
+      → (c : ℕ) (ch : ChannelState S T) → slice_get ys c ≡ Some ch → IsOut (out c) ch
+  out-each R xs ys out each keeps is c ch at =
       let old = get_or xs c ch in
       let was = was-there xs ys c ch each.as_many at in
-      out-kept (back c) old ch (keeps c old ch (each.each c old ch was at)) (is c old was)
+      out-kept (out c) old ch (keeps c old ch (each.each c old ch was at)) (is c old was)
 
 module _ {T F : Type 0} (take : TakeGhosts T F) where
   goes-number : (a b : Option (ShareState T)) (ds : List Deed) → GoesOnBy take a b ds → number_of b ≡ number_of a
@@ -80,32 +99,109 @@ module _ {S T F : Type 0} (take : TakeGhosts T F) where
     older = ap (λ (o : Option (ShareState T)). number_of o) orders.older;
   }
 
-module _ {S E T F : Type 0} (send : SendGhosts S E) (ring : EndGhosts E) (take : TakeGhosts T F) where
-  -- a part is opened of whose measurement nothing came back
-  pub out-opens : (back : ℕ → Bool) (a b : ChannelState S T) (s : StoreState) (c cap n : ℕ) → Opens send ring take a b s c cap n → back n ≡ false → IsOut back a → IsOut back b
-  out-opens back a b s c cap n opens none is = record {
-    newer = λ m at.
-        let number : n ≡ m = sym opens.number_is ∙ some_inj opens.share.number m (sym (ap (λ (o : Option (ShareState T)). number_of o) opens.newer) ∙ at) in
-        ap back (sym number) ∙ none;
-    older = λ m at.
-        elim (number-before a.older a.newer m (sym (ap (λ (o : Option (ShareState T)). number_of o) opens.older) ∙ at)) [
-          | inl w ↦ is.older m w
-          | inr w ↦ is.newer m w
-        ];
-  }
+-- a choice at each place of a list
+abbrev with_first : Bool → (ℕ → Bool) → ℕ → Bool
+with_first b f zero = b
+with_first b f (suc c) = f c
 
-  pub out-opens-if : (back : ℕ → Bool) (a b : ChannelState S T) (s : StoreState) (n c cap set : ℕ) → OpensIfAny send ring take s n c cap set a b → back n ≡ false → IsOut back a → IsOut back b
-  out-opens-if back a b s n c cap set opens none is =
+abbrev is-left : {A B : Type 0} → A ⊎ B → Bool
+is-left (inl a) = true
+is-left (inr b) = false
+
+-- whichever of the two holds at each place, by a list of booleans
+pub record Chosen {X : Type 0} (ys : List X) (P Q : ℕ → X → Type 0) : Type 0 where
+  pub at : ℕ → Bool
+  pub each : (c : ℕ) (x : X) → slice_get ys c ≡ Some x → ((at c ≡ true) × P c x) ⊎ ((at c ≡ false) × Q c x)
+
+one-chosen : {A B : Type 0} (w : A ⊎ B) → ((is-left w ≡ true) × A) ⊎ ((is-left w ≡ false) × B)
+one-chosen (inl a) = inl (refl, a)
+one-chosen (inr b) = inr (refl, b)
+
+pub choose : {X : Type 0} (ys : List X) (P Q : ℕ → X → Type 0) → ((c : ℕ) (x : X) → slice_get ys c ≡ Some x → P c x ⊎ Q c x) → Chosen ys P Q
+choose [] P Q each = record { at = λ c. false; each = λ c x at. absurd (nothing x at) } where
+  nothing : {X : Type 0} (x : X) → None ≡ Some x → ⊥
+  nothing x e = cc
+choose {X} (y ∷ ys) P Q each =
+    let rest = choose ys (λ c. P (suc c)) (λ c. Q (suc c)) (λ c x at. each (suc c) x at) in
+    record { at = with_first (is-left (each 0 y refl)) rest.at; each = all rest } where
+      all : (rest : Chosen ys (λ c. P (suc c)) (λ c. Q (suc c))) (c : ℕ) (x : X) → slice_get (y ∷ ys) c ≡ Some x
+          → ((with_first (is-left (each 0 y refl)) rest.at c ≡ true) × P c x) ⊎ ((with_first (is-left (each 0 y refl)) rest.at c ≡ false) × Q c x)
+      all rest zero x at = subst (λ z. ((is-left (each 0 y refl) ≡ true) × P 0 z) ⊎ ((is-left (each 0 y refl) ≡ false) × Q 0 z)) (some_inj y x at) (one-chosen (each 0 y refl))
+      all rest (suc c) x at = rest.each c x at
+
+-- the part that was kept before is kept behind another, where there was room
+before-kept : {T : Type 0} (older newer : Option (ShareState T)) (m : ℕ) → (older ≡ None) ⊎ (newer ≡ None)
+    → (number_of newer ≡ Some m) ⊎ (number_of older ≡ Some m) → number_of (part_before older newer) ≡ Some m
+before-kept None None m room (inl w) = w
+before-kept None None m room (inr w) = w
+before-kept (Some p) None m room (inl w) = absurd (none_some m w) where
+  none_some : {X : Type 0} (x : X) → None ≡ Some x → ⊥
+  none_some x e = cc
+before-kept (Some p) None m room (inr w) = w
+before-kept None (Some q) m room (inl w) = w
+before-kept None (Some q) m room (inr w) = absurd (none_some m w) where
+  none_some : {X : Type 0} (x : X) → None ≡ Some x → ⊥
+  none_some x e = cc
+before-kept (Some p) (Some q) m (inl e) w = absurd (some_none p e) where
+  some_none : {X : Type 0} (x : X) → Some x ≡ None → ⊥
+  some_none x e = cc
+before-kept (Some p) (Some q) m (inr e) w = absurd (some_none q e) where
+  some_none : {X : Type 0} (x : X) → Some x ≡ None → ⊥
+  some_none x e = cc
+
+module _ {S E T F : Type 0} (send : SendGhosts S E) (ring : EndGhosts E) (take : TakeGhosts T F) where
+  -- a part is opened of a measurement that is out, where nothing was out of it
+  out-opens : (out now : ℕ → Bool) (a b : ChannelState S T) (s : StoreState) (c cap n : ℕ) → Opens send ring take a b s c cap n
+      → now n ≡ true → ((m : ℕ) → m ≢ n → now m ≡ out m) → IsOut out a → IsOut now b
+  out-opens out now a b s c cap n opens here others is =
+      let before = ap (λ (o : Option (ShareState T)). number_of o) opens.older in
+      let last : number_of b.newer ≡ Some n = ap (λ (o : Option (ShareState T)). number_of o) opens.newer ∙ ap Some opens.number_is in
+      let still : (m : ℕ) → out m ≡ true → now m ≡ true =
+      λ m there.
+      elim (eqb_tells m n) [
+        | inl w ↦ ap now w.1 ∙ here
+        | inr w ↦ others m w.1 ∙ there
+      ]
+      in
+      record {
+        newer = λ m at. ap now (sym (some_inj n m (sym last ∙ at))) ∙ here;
+        older = λ m at.
+            still m
+            (elim (number-before a.older a.newer m (sym before ∙ at)) [
+              | inl w ↦ is.older m w
+              | inr w ↦ is.newer m w
+            ]);
+        kept = λ m there.
+            elim (eqb_tells m n) [
+              | inl w ↦ inl (last ∙ ap Some (sym w.1))
+              | inr w ↦ inr (before ∙ before-kept a.older a.newer m opens.room (is.kept m (sym (others m w.1) ∙ there)))
+            ];
+      }
+
+  -- an event channel has a new part, of measurement n; it may have ended since
+  pub record HasNew (s : StoreState) (n c : ℕ) (a b : ChannelState S T) : Type 0 where
+    pub cap : ℕ
+    pub opened : ChannelState S T
+    pub opens : Opens send ring take a opened s c cap n
+    pub keeps : KeepsParts opened b
+
+  pub out-new : (out now : ℕ → Bool) (s : StoreState) (n c : ℕ) (a b : ChannelState S T) → HasNew s n c a b
+      → now n ≡ true → ((m : ℕ) → m ≢ n → now m ≡ out m) → IsOut out a → IsOut now b
+  out-new out now s n c a b new here others is = out-kept now new.opened b new.keeps (out-opens out now a new.opened s c new.cap n new.opens here others is)
+
+  -- so it is where there are lists of the measurement, and else nothing changed
+  pub new-or-same : (s : StoreState) (n c cap set : ℕ) (a b : ChannelState S T) → OpensIfAny send ring take s n c cap set a b → HasNew s n c a b ⊎ (b ≡ a)
+  new-or-same s n c cap set a b opens =
       elim (eqb_tells set 0) [
-        | inl w ↦ subst (IsOut back) (sym (opens.0 w.1)) is
-        | inr w ↦ out-opens back a b s c cap n (opens.1 w.1) none is
+        | inl w ↦ inr (opens.0 w.1)
+        | inr w ↦ inl (record { cap = cap; opened = b; opens = opens.1 w.1; keeps = keeps-same b b refl })
       ]
 
-  pub out-in-vain : (back : ℕ → Bool) (a b : ChannelState S T) (s : StoreState) (n c cap set : ℕ)
+  pub vain-or-same : (s : StoreState) (n c cap set : ℕ) (a b : ChannelState S T)
       → ((b ≡ a) ⊎ ((set ≢ 0) × ((m : ChannelState S T) × Opens send ring take a m s c cap n × Ends m b)))
-      → back n ≡ false → IsOut back a → IsOut back b
-  out-in-vain back a b s n c cap set was none is =
+      → HasNew s n c a b ⊎ (b ≡ a)
+  vain-or-same s n c cap set a b was =
       elim was [
-        | inl same ↦ subst (IsOut back) (sym same) is
-        | inr w ↦ out-kept back w.1.0 b (keeps-ends w.1.0 b w.1.2) (out-opens back a w.1.0 s c cap n w.1.1 none is)
+        | inl same ↦ inr same
+        | inr w ↦ inl (record { cap = cap; opened = w.1.0; opens = w.1.1; keeps = keeps-ends w.1.0 b w.1.2 })
       ]

@@ -1,5 +1,5 @@
 -- How DAQ lists were set up, and one more of the first numbers.
-use Rattle.std.proofs.Common.{◌≡◌, ℕ, zero, suc, ◌+◌, ◌<◌, true, List, [], ◌∷◌, ◌++◌, length, map, slice_get, zero-add, refl, sym, ap, ◌∙◌, arith}
+use Rattle.std.proofs.Common.{◌≡◌, ℕ, zero, suc, ◌+◌, ◌<◌, Bool, true, List, [], ◌∷◌, ◌++◌, length, map, slice_get, zero-add, refl, sym, ap, ◌∙◌, arith}
 use Rattle.std.specs.Prelude.{Some}
 use Rattle.std.proofs.lemmas.List.FromFn.{get_or-map-range_with_len, length-map-range_with_len}
 use Rattle.std.proofs.lemmas.Option.{slice_get-get_or}
@@ -69,8 +69,8 @@ is-same d s plan log l same stands is opened =
     }
 
 -- where a measurement was just opened, each list that is there stands as it did
-pub just-opened : (d : Profile) (log : List Act) (l : ℕ) → is_list (past_of d log).calls l ≡ true → IsAsOpened d (Opened ∷ log) l
-just-opened d log l there =
+pub just-opened : (d : Profile) (at : ℕ → Bool) (log : List Act) (l : ℕ) → is_list (past_of d log).calls l ≡ true → IsAsOpened d (Opened at ∷ log) l
+just-opened d at log l there =
     let past = past_of d log in
     let n = list_count past.calls in
     let below : l < n = below_from l n there in

@@ -22,12 +22,12 @@ use Rattle.slave.specs.Plans.{IsSame, plan_of}
 use Rattle.slave.proofs.PlanLemmas.{as-opened, is-same, just-opened}
 use Rattle.session.specs.Profiles.{lists_of}
 use Rattle.xcp_base.specs.declared.err_code.ErrCode.TheVariants.{CmdBusy, MemoryOverflow, Sequence}
-use Rattle.slave.specs.Inner.{AreSets, Busy, HasSome, Idle, IsPlaceRefusal, LooksAtAll, OpensAll, OpensInVain, OpensNone, Prepares, SlaveStarted, StartsInVain, StartsLists}
-use Rattle.slave.specs.Log.{Act, Opened, deeds_of, entries_of, is_back, laid, opened, past_of, sent_of}
+use Rattle.slave.specs.Inner.{AreSets, Busy, HasParts, HasSome, Idle, IsPlaceRefusal, LooksAtAll, OpensAll, OpensInVain, OpensNone, Prepares, SlaveStarted, StartsInVain, StartsLists}
+use Rattle.slave.specs.Log.{Act, Opened, deeds_of, entries_of, is_out, laid, opened, past_of, sent_of}
 use Rattle.slave.specs.Standing.{NoneRuns, SlaveHas, SlaveStandsAfter, SlaveState}
 use Rattle.slave.proofs.ChannelLemmas.{channel-ends, takes-ended}
 use Rattle.slave.proofs.LogLemmas.{ties}
-use Rattle.slave.proofs.StandingLemmas.{looks-at-all, looks-ended, opens-all, opens-in-vain, starts-all, starts-no-list}
+use Rattle.slave.proofs.StandingLemmas.{looks-at-all, looks-ended, opens-all, opens-in-vain, parts-all, parts-vain, starts-all, starts-no-list, starts-parts}
 use Rattle.slave.proofs.OutLemmas.{keeps-ends, out-each, was-there}
 
 front-get : (n : ℕ) (xs : List ℕ) (c x : ℕ) → slice_get (first n xs) c ≡ Some x → slice_get xs c ≡ Some x
@@ -69,8 +69,8 @@ is-false false never = refl
 nothing-opened : MayOpen []
 nothing-opened = record { are = refl; one = omega arith }
 
-one-opened : MayOpen (Opened ∷ [])
-one-opened = record { are = refl; one = omega arith }
+one-opened : (at : ℕ → Bool) → MayOpen (Opened at ∷ [])
+one-opened at = record { are = refl; one = omega arith }
 
 place-code : (code : ErrCode) → IsPlaceRefusal code → code ≡ Sequence → ⊥
 place-code code is e =
@@ -125,7 +125,8 @@ module _ {S T F : Type 0} (take : TakeGhosts T F) where
               channel-ends take (opened log) (λ m. deeds_of d m c log) old ch (ends.each c old ch was at)
               (λ l below. is-false _ (λ runs_so. false≢true (sym (none l below) ∙ (ties d log has.is_log (opened log - 1) c l below runs_so).1)))
               (has.channels c old was);
-          out = out-each (λ c. Ends) a.channels b.channels (λ c m. is_back m c log) ends (λ c x y e. keeps-ends x y e) has.out;
+          out = out-each (λ c. Ends) a.channels b.channels (λ c m. is_out m c log) ends (λ c x y e. keeps-ends x y e) has.out;
+          many = ends.as_many ∙ has.many;
           plan = ap (λ (s : SlaveState S T). s.plan) rest ∙ has.plan;
           account = subst (λ x. AccountStandsAfter x (entries_of d log) (λ l. 0)) (sym (ap (λ (s : SlaveState S T). s.account) rest)) has.account;
           number = ap (λ (s : SlaveState S T). s.number) rest ∙ has.number;
@@ -142,6 +143,12 @@ module _ {S T F : Type 0} (take : TakeGhosts T F) where
       (subst (λ x. AreSets x lists s.sets) (sym (ap (λ (z : SlaveState S T). z.session) s.looks.rest)) s.are) s.as_many s.can s.starts s.rest
       (looks-at-all take d a s.looked log s.looks has)
 
+  parts-behind : (d : Profile) (a b : SlaveState S T) (log : List Act) (lists : ℕ) → StartsLists take a b lists → SlaveHas take d a log → HasParts d log lists
+  parts-behind d a b log lists s has =
+      starts-parts take d s.looked b.channels log lists s.sets
+      (subst (λ x. AreSets x lists s.sets) (sym (ap (λ (z : SlaveState S T). z.session) s.looks.rest)) s.are) s.as_many s.can s.starts
+      (looks-at-all take d a s.looked log s.looks has)
+
   -- lists of the measurement that is there are started
   pub starts-prepare : (a b : SlaveState S T) (lists : ℕ) → StartsLists take a b lists → Busy a.session → a.session.store.profile ≡ lists_of a.session.profile
       → ((l : ℕ) → l < MAX_LISTS → has_list lists l ≡ true → IsSame a.plan a.session.store l) → Prepares take a b lists
@@ -151,6 +158,7 @@ module _ {S T F : Type 0} (take : TakeGhosts T F) where
     for_some = inl refl;
     in_one = λ log few stands some none. absurd (busy (past_of a.session.profile log) stands.has.session none);
     as_opened = λ log few stands l below one there. as-opened a.session.profile a.session a.plan log l profile stands.has.session stands.has.plan (same l below one);
+    has_parts = λ log few stands. parts-behind a.session.profile a b log lists s stands.has;
     goes = λ log few stands. started-behind a.session.profile a b log lists (omega (arith, few)) s stands.has;
   }
 
@@ -161,6 +169,7 @@ module _ {S T F : Type 0} (take : TakeGhosts T F) where
     for_some = inl refl;
     in_one = λ log few stands some quiet. absurd (false≢true (sym (none some.0 some.1) ∙ some.2));
     as_opened = λ log few stands l below one there. absurd (false≢true (sym (none l below) ∙ one));
+    has_parts = λ log few stands c l within below one on. absurd (false≢true (sym (none l below) ∙ one));
     goes = λ log few stands. starts-no-list take a.session.profile a log lists none stands.has;
   }
 
@@ -234,14 +243,18 @@ module _ {S E T F : Type 0} (send : SendGhosts S E) (ring : EndGhosts E) (take :
   -- lists of a measurement that was opened are started
   pub opens-prepare : (a m b : SlaveState S T) (lists : ℕ) → OpensAll send ring take a m → Idle a.session → HasSome lists → StartsLists take m b lists → Prepares take a b lists
   opens-prepare a m b lists opens idle some s = record {
-    opening = Opened ∷ [];
-    may_open = one-opened;
+    opening = Opened (parts-all send ring take a m opens).at ∷ [];
+    may_open = one-opened (parts-all send ring take a m opens).at;
     for_some = inr some;
     in_one = λ log few stands any none. tt;
-    as_opened = λ log few stands l below one there. just-opened a.session.profile log l there;
+    as_opened = λ log few stands l below one there. just-opened a.session.profile (parts-all send ring take a m opens).at log l there;
+    has_parts = λ log few stands.
+        let d = a.session.profile in
+        parts-behind take d m b (Opened (parts-all send ring take a m opens).at ∷ log) lists s
+        (opens-all send ring take d a m log (omega (arith, few)) (idle (past_of d log) stands.has.session) stands opens);
     goes = λ log few stands.
         let d = a.session.profile in
-        started-behind take d m b (Opened ∷ log) lists (omega (arith, few)) s
+        started-behind take d m b (Opened (parts-all send ring take a m opens).at ∷ log) lists (omega (arith, few)) s
         (opens-all send ring take d a m log (omega (arith, few)) (idle (past_of d log) stands.has.session) stands opens);
   }
 
@@ -252,8 +265,8 @@ module _ {S E T F : Type 0} (send : SendGhosts S E) (ring : EndGhosts E) (take :
         | inr vain ↦ record {
           is = inr is;
           some = some;
-          opening = Opened ∷ [];
-          may_open = one-opened;
+          opening = Opened (parts-vain send ring take a b vain).at ∷ [];
+          may_open = one-opened (parts-vain send ring take a b vain).at;
           sequence = λ log few stands. (λ e. absurd (place-code code is e), λ other. absurd (other.some (idle (past_of a.session.profile log) stands.has.session)));
           goes = λ log few stands. opens-in-vain send ring take a.session.profile a b log (omega (arith, few)) (idle (past_of a.session.profile log) stands.has.session) stands vain;
         }
@@ -264,12 +277,13 @@ module _ {S E T F : Type 0} (send : SendGhosts S E) (ring : EndGhosts E) (take :
   ended-in-vain a m k b lists code is idle some opens looks ends rest = record {
     is = inr is;
     some = some;
-    opening = Opened ∷ [];
-    may_open = one-opened;
+    opening = Opened (parts-all send ring take a m opens).at ∷ [];
+    may_open = one-opened (parts-all send ring take a m opens).at;
     sequence = λ log few stands. (λ e. absurd (place-code code is e), λ other. absurd (other.some (idle (past_of a.session.profile log) stands.has.session)));
     goes = λ log few stands.
         let d = a.session.profile in
         let none = idle (past_of d log) stands.has.session in
-        ends-all take d k b (Opened ∷ log) ends rest none
-        (looks-at-all take d m k (Opened ∷ log) looks (opens-all send ring take d a m log (omega (arith, few)) none stands opens));
+        let at = (parts-all send ring take a m opens).at in
+        ends-all take d k b (Opened at ∷ log) ends rest none
+        (looks-at-all take d m k (Opened at ∷ log) looks (opens-all send ring take d a m log (omega (arith, few)) none stands opens));
   }

@@ -85,6 +85,7 @@ module _ {S T F : Type 0} (take : TakeGhosts T F) where
           outbox = subst (λ ys. OutboxStandsAfter b.outbox ys (drop (sent_of (Sent n ∷ log)) (xs ++ []))) sent_is (subst (λ ys. OutboxStandsAfter b.outbox (first k xs ++ first shown waits) ys) left_is moved);
           channels = λ c ch at. has.channels c ch (ap (λ zs. slice_get zs c) (sym channels) ∙ at);
           out = λ c ch at. has.out c ch (ap (λ zs. slice_get zs c) (sym channels) ∙ at);
+          many = ap length channels ∙ has.many;
           plan = ap (λ (s : SlaveState S T). s.plan) rest ∙ has.plan;
           account = subst (λ x. AccountStandsAfter x (entries_of d log) (λ l. 0)) (sym (ap (λ (s : SlaveState S T). s.account) rest)) has.account;
           number = ap (λ (s : SlaveState S T). s.number) rest ∙ has.number;
@@ -110,6 +111,7 @@ module _ {S T F : Type 0} (take : TakeGhosts T F) where
               (record { contents = has.outbox.contents; counter = has.outbox.counter; waiting = has.outbox.waiting; units = has.outbox.units });
           channels = λ c ch at. has.channels c ch (ap (λ zs. slice_get zs c) (sym channels) ∙ at);
           out = λ c ch at. has.out c ch (ap (λ zs. slice_get zs c) (sym channels) ∙ at);
+          many = ap length channels ∙ has.many;
           plan = ap (λ (s : SlaveState S T). s.plan) rest ∙ has.plan;
           account = subst (λ x. AccountStandsAfter x (entries_of d log) (λ l. 0)) (sym (ap (λ (s : SlaveState S T). s.account) rest)) has.account;
           number = ap (λ (s : SlaveState S T). s.number) rest ∙ has.number;

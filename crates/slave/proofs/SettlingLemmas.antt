@@ -154,13 +154,21 @@ module _ {S T F : Type 0} (take : TakeGhosts T F) where
         )
       ]
 
-  -- what is kept is the same
-  pub settled-out : (xs ys : List (ChannelState S T)) (before now : ℕ) (back : ℕ → ℕ → Bool) → Settles take xs ys before now
-      → ((c : ℕ) (ch : ChannelState S T) → slice_get xs c ≡ Some ch → IsOut (back c) ch)
-      → (c : ℕ) (ch : ChannelState S T) → slice_get ys c ≡ Some ch → IsOut (back c) ch
-  settled-out xs ys before now back settles is c ch at =
-      let stopped = out-each (λ k. StopsAll take settles.lists) xs settles.stopped back settles.stops (λ k x y orders. keeps-orders take x y _ _ orders) is in
+  -- and there are as many event channels
+  pub settled-many : (xs ys : List (ChannelState S T)) (before now : ℕ) → Settles take xs ys before now → length ys ≡ length xs
+  settled-many xs ys before now settles =
       elim (is-bool settles.ends) [
-        | inl on ↦ out-each (λ k. Ends) settles.stopped ys back (settles.ends_all on) (λ k x y ends. keeps-ends x y ends) stopped c ch at
+        | inl on ↦ (settles.ends_all on).as_many ∙ settles.stops.as_many
+        | inr off ↦ ap length (settles.goes_on off) ∙ settles.stops.as_many
+      ]
+
+  -- what is kept is the same
+  pub settled-out : (xs ys : List (ChannelState S T)) (before now : ℕ) (out : ℕ → ℕ → Bool) → Settles take xs ys before now
+      → ((c : ℕ) (ch : ChannelState S T) → slice_get xs c ≡ Some ch → IsOut (out c) ch)
+      → (c : ℕ) (ch : ChannelState S T) → slice_get ys c ≡ Some ch → IsOut (out c) ch
+  settled-out xs ys before now out settles is c ch at =
+      let stopped = out-each (λ k. StopsAll take settles.lists) xs settles.stopped out settles.stops (λ k x y orders. keeps-orders take x y _ _ orders) is in
+      elim (is-bool settles.ends) [
+        | inl on ↦ out-each (λ k. Ends) settles.stopped ys out (settles.ends_all on) (λ k x y ends. keeps-ends x y ends) stopped c ch at
         | inr off ↦ stopped c ch (ap (λ zs. slice_get zs c) (sym (settles.goes_on off)) ∙ at)
       ]

@@ -1,5 +1,5 @@
 -- What a slave stands after once a measurement is opened, and once lists are started.
-use Rattle.std.proofs.Common.{◌≡◌, ◌≢◌, ℕ, ◌+◌, ◌*◌, ◌%◌, ◌<◌, ◌≤◌, Bool, true, false, ◌&&◌, not, nat_eq, if◌then◌else◌, List, [], ◌∷◌, ◌++◌, append-nil, length, get_or, drop, take as first, slice_get, refl, sym, ap, ◌∙◌, subst, arith, ◌⊎◌, inl}
+use Rattle.std.proofs.Common.{◌≡◌, ◌≢◌, ℕ, ◌+◌, ◌*◌, ◌%◌, ◌<◌, ◌≤◌, Bool, true, false, ◌&&◌, not, nat_eq, if◌then◌else◌, List, [], ◌∷◌, ◌++◌, append-nil, length, get_or, drop, take as first, slice_get, refl, sym, ap, ◌∙◌, subst, arith, ◌⊎◌, inl, inr}
 use Rattle.std.specs.Prelude.{Option, Some, None}
 use Rattle.std.proofs.lemmas.Bool.{false≢true}
 use Rattle.std.proofs.lemmas.List.Sums.{count_by-le-length}
@@ -18,22 +18,23 @@ use Rattle.session.specs.Standing.{SessionStandsAfter, SessionState}
 use Rattle.session.specs.Starts.{is_on}
 use Rattle.session.specs.declared.profile.Profile.{Profile}
 use Rattle.channel_intake.specs.Deeds.{Deed}
+use Rattle.channel_intake.specs.Deeds.{runs as runs_there}
 use Rattle.frame_outbox.specs.Outboxes.{Laid}
 use Rattle.frame_outbox.specs.Outboxes.{StandsAfter as OutboxStandsAfter}
 use Rattle.tasks.specs.Links.{AwayState, CanStart, takes_orders}
 use Rattle.session_account.specs.Accounts.{AccountStandsAfter}
-use Rattle.slave_channel.specs.Channels.{ChannelState, Opens}
+use Rattle.slave_channel.specs.Channels.{ChannelState, Opens, ShareState}
 use Rattle.slave_channel.specs.Ordering.{starts_noted, starts_sent}
 use Rattle.slave_channels.specs.Calls.{CanStartAll, Ends, Looks, OpensIfAny, StartsAt}
 use Rattle.slave_channels.specs.Each.{IsEach}
-use Rattle.slave.specs.Inner.{AreSets, LooksAtAll, OpensAll, OpensBeside, OpensInVain, SlaveStarted, started}
-use Rattle.slave.specs.Log.{Act, Opened, deeds_of, entries_of, is_back, is_opening, laid, opened, past_of, sent_of}
-use Rattle.slave.specs.Standing.{ChannelHas, HasEnded, IsOut, NoneRuns, SlaveHas, SlaveStandsAfter, SlaveState}
-use Rattle.slave.proofs.ChannelLemmas.{channel-looks, channel-ordered, channel-same, takes-looked}
-use Rattle.slave.proofs.DeedLemmas.{back-none, deeds-few, deeds-none, opened-more, starts-few}
+use Rattle.slave.specs.Inner.{AreSets, HasParts, LooksAtAll, OpensAll, OpensBeside, OpensInVain, SlaveStarted, started}
+use Rattle.slave.specs.Log.{Act, Opened, deeds_of, entries_of, has_part, is_opening, is_out, laid, opened, past_of, sent_of}
+use Rattle.slave.specs.Standing.{ChannelHas, HasEnded, IsOut, NoneRuns, SlaveHas, SlaveStandsAfter, SlaveState, number_of}
+use Rattle.slave.proofs.ChannelLemmas.{channel-looks, channel-ordered, channel-same, goes-none, takes-looked}
+use Rattle.slave.proofs.DeedLemmas.{deeds-few, deeds-none, opened-more, out-newest, out-no-part, out-other, out-part, starts-few}
 use Rattle.slave.proofs.PlanLemmas.{plan-by}
 use Rattle.slave.proofs.OpeningLemmas.{channel-in-vain, channel-opens-if}
-use Rattle.slave.proofs.OutLemmas.{keeps-looks, keeps-orders, out-each, out-in-vain, out-kept, out-opens-if, was-there}
+use Rattle.slave.proofs.OutLemmas.{Chosen, HasNew, choose, keeps-looks, keeps-orders, new-or-same, out-each, out-kept, out-new, out-same, some-at, vain-or-same, was-there}
 use Rattle.slave.proofs.OrderLemmas.{starts-none, starts-same, starts-set}
 
 pub there-is : (xs : List ℕ) (n c : ℕ) → length xs ≡ n → c < n → slice_get xs c ≡ Some (get_or xs c 0)
@@ -56,44 +57,89 @@ none-shown : (s : SessionState) (past : Past) → SessionStandsAfter s past → 
 none-shown s past stands none l below = sym (active_stands s.store past.calls l stands.store) ∙ none l below
 
 module _ {S E T F : Type 0} (send : SendGhosts S E) (ring : EndGhosts E) (take : TakeGhosts T F) where
-  opened-rest : (d : Profile) (a b : SlaveState S T) (log : List Act) → 32 * (1 + length log) ≤ MAX_TAKEN → NoneRuns (past_of d log) → SlaveHas take d a log → OpensBeside a b
-      → ((c : ℕ) (ch : ChannelState S T) → slice_get b.channels c ≡ Some ch → ChannelHas take (opened log + 1) (λ m. deeds_of d m c log) ch × IsOut (λ m. is_back m c log) ch)
-      → SlaveHas take d b (Opened ∷ log)
-  opened-rest d a b log few none has rest channels = record {
+  opened-rest : (d : Profile) (a b : SlaveState S T) (log : List Act) (at : ℕ → Bool) → 32 * (1 + length log) ≤ MAX_TAKEN → NoneRuns (past_of d log) → SlaveHas take d a log → OpensBeside a b → length b.channels ≡ length a.channels
+      → ((c : ℕ) (ch : ChannelState S T) → slice_get b.channels c ≡ Some ch → ChannelHas take (opened log + 1) (λ m. deeds_of d m c log) ch)
+      → ((c : ℕ) (ch : ChannelState S T) → slice_get b.channels c ≡ Some ch → IsOut (λ m. is_out m c (Opened at ∷ log)) ch)
+      → SlaveHas take d b (Opened at ∷ log)
+  opened-rest d a b log at few none has rest as_many channels out = record {
     few = omega (arith, few);
     is_log = (none, has.is_log);
     sent = subst (λ (xs : List Laid). sent_of log ≤ length xs) (sym (append-nil (laid d log))) has.sent;
     profile = ap (λ (s : SessionState). s.profile) rest.session ∙ has.profile;
     session = subst (λ s. SessionStandsAfter s (past_of d log)) (sym rest.session) has.session;
     outbox = same-outbox d a b log rest.outbox has.outbox;
-    channels = λ c ch at. subst (λ n. ChannelHas take n (λ m. deeds_of d m c log) ch) (omega (arith, opened-more log)) (channels c ch at).0;
-    out = λ c ch at. (channels c ch at).1;
+    channels = λ c ch there. subst (λ n. ChannelHas take n (λ m. deeds_of d m c log) ch) (omega (arith, opened-more at log)) (channels c ch there);
+    out = out;
+    many = as_many ∙ has.many;
     plan = rest.plan ∙ plan-by d a.session (past_of d log) (rest.lists ∙ ap lists_of has.profile) has.session;
     account = subst (λ x. AccountStandsAfter x (entries_of d log) (λ l. 0)) (sym rest.account) has.account;
-    number = rest.number ∙ ap (λ n. (n + 1) % 18446744073709551616) has.number ∙ one-more (opened log) (length log) (few-opened log) few ∙ omega (arith, opened-more log);
+    number = rest.number ∙ ap (λ n. (n + 1) % 18446744073709551616) has.number ∙ one-more (opened log) (length log) (few-opened log) few ∙ omega (arith, opened-more at log);
   }
 
+  -- the event channels with a part of a measurement that is opened, and the others
+  abbrev pub Parts : SlaveState S T → SlaveState S T → Type 0
+  Parts a b = Chosen b.channels (λ c ch. HasNew send ring take a.session.store a.number c (get_or a.channels c ch) ch) (λ c ch. ch ≡ get_or a.channels c ch)
+
+  pub parts-all : (a b : SlaveState S T) → OpensAll send ring take a b → Parts a b
+  parts-all a b opens =
+      choose b.channels (λ c ch. HasNew send ring take a.session.store a.number c (get_or a.channels c ch) ch) (λ c ch. ch ≡ get_or a.channels c ch)
+      (λ c ch at.
+      let old = get_or a.channels c ch in
+      let was = was-there a.channels b.channels c ch opens.channels.as_many at in
+      let below = slice_get_within a.channels c old was in
+      let cap_c = get_or opens.caps c 0 in
+      let set_c = get_or opens.sets c 0 in
+      new-or-same send ring take a.session.store a.number c cap_c set_c old ch
+      (opens.channels.each c old ch was at cap_c set_c (there-is opens.caps (length a.channels) c opens.as_many_caps below) (there-is opens.sets (length a.channels) c opens.as_many_sets below)))
+
+  pub parts-vain : (a b : SlaveState S T) → OpensInVain send ring take a b → Parts a b
+  parts-vain a b opens =
+      choose b.channels (λ c ch. HasNew send ring take a.session.store a.number c (get_or a.channels c ch) ch) (λ c ch. ch ≡ get_or a.channels c ch)
+      (λ c ch at.
+      let old = get_or a.channels c ch in
+      let was = was-there a.channels b.channels c ch opens.channels.as_many at in
+      let below = slice_get_within a.channels c old was in
+      let cap_c = get_or opens.caps c 0 in
+      let set_c = get_or opens.sets c 0 in
+      vain-or-same send ring take a.session.store a.number c cap_c set_c old ch
+      (opens.channels.each c old ch was at cap_c set_c (there-is opens.caps (length a.channels) c opens.as_many_caps below) (there-is opens.sets (length a.channels) c opens.as_many_sets below)))
+
+  -- what is out behind the opening
+  out-opened : (d : Profile) (a b : SlaveState S T) (log : List Act) (parts : Parts a b) → SlaveHas take d a log → length b.channels ≡ length a.channels
+      → (c : ℕ) (ch : ChannelState S T) → slice_get b.channels c ≡ Some ch → IsOut (λ m. is_out m c (Opened parts.at ∷ log)) ch
+  out-opened d a b log parts has as_many c ch at =
+      let old = get_or a.channels c ch in
+      let out = has.out c old (was-there a.channels b.channels c ch as_many at) in
+      let before = λ (m : ℕ). is_out m c log in
+      let now = λ (m : ℕ). is_out m c (Opened parts.at ∷ log) in
+      elim (parts.each c ch at) [
+        | inl w ↦
+            out-new send ring take before now a.session.store (opened log) c old ch (subst (λ n. HasNew send ring take a.session.store n c old ch) has.number w.1)
+            (out-newest d c parts.at log has.is_log ∙ w.0) (λ m other. out-other m c parts.at log other) out
+        | inr w ↦ out-same before now ch (λ m. out-no-part d m c parts.at log has.is_log w.0) (subst (λ (z : ChannelState S T). IsOut before z) (sym w.1) out)
+      ]
+
   -- a measurement is opened
-  pub opens-all : (d : Profile) (a b : SlaveState S T) (log : List Act) → 32 * (1 + length log) ≤ MAX_TAKEN → NoneRuns (past_of d log) → SlaveStandsAfter take d a log → OpensAll send ring take a b → SlaveHas take d b (Opened ∷ log)
+  pub opens-all : (d : Profile) (a b : SlaveState S T) (log : List Act) → 32 * (1 + length log) ≤ MAX_TAKEN → NoneRuns (past_of d log) → SlaveStandsAfter take d a log → (opens : OpensAll send ring take a b)
+      → SlaveHas take d b (Opened (parts-all a b opens).at ∷ log)
   opens-all d a b log few none stands opens =
-      opened-rest d a b log few none stands.has opens.rest
+      opened-rest d a b log (parts-all a b opens).at few none stands.has opens.rest opens.channels.as_many
       (λ c ch at.
       let old = get_or a.channels c ch in
       let was = was-there a.channels b.channels c ch opens.channels.as_many at in
       let below = slice_get_within a.channels c old was in
       let one = opens.channels.each c old ch was at (get_or opens.caps c 0) (get_or opens.sets c 0) (there-is opens.caps (length a.channels) c opens.as_many_caps below) (there-is opens.sets (length a.channels) c opens.as_many_sets below) in
-      let here = subst (λ n. OpensIfAny send ring take a.session.store n c (get_or opens.caps c 0) (get_or opens.sets c 0) old ch) stands.has.number one in (
-        channel-opens-if send ring take (opened log) (λ m. deeds_of d m c log) old ch a.session.store c (get_or opens.caps c 0) (get_or opens.sets c 0) here
-            (deeds-none d (opened log) c log stands.has.is_log (omega arith)) (stands.ended none c old was) (none-shown a.session (past_of d log) stands.has.session none) (stands.has.channels c old was),
-        out-opens-if send ring take (λ m. is_back m c log) old ch a.session.store (opened log) c (get_or opens.caps c 0) (get_or opens.sets c 0) here
-            (back-none d (opened log) c log stands.has.is_log (omega arith)) (stands.has.out c old was),
-      ))
+      let here = subst (λ n. OpensIfAny send ring take a.session.store n c (get_or opens.caps c 0) (get_or opens.sets c 0) old ch) stands.has.number one in
+      channel-opens-if send ring take (opened log) (λ m. deeds_of d m c log) old ch a.session.store c (get_or opens.caps c 0) (get_or opens.sets c 0) here
+      (deeds-none d (opened log) c log stands.has.is_log (omega arith)) (stands.ended none c old was) (none-shown a.session (past_of d log) stands.has.session none) (stands.has.channels c old was))
+      (out-opened d a b log (parts-all a b opens) stands.has opens.channels.as_many)
 
   -- a measurement is opened in vain: it ends at once
-  pub opens-in-vain : (d : Profile) (a b : SlaveState S T) (log : List Act) → 32 * (1 + length log) ≤ MAX_TAKEN → NoneRuns (past_of d log) → SlaveStandsAfter take d a log → OpensInVain send ring take a b → SlaveStandsAfter take d b (Opened ∷ log)
+  pub opens-in-vain : (d : Profile) (a b : SlaveState S T) (log : List Act) → 32 * (1 + length log) ≤ MAX_TAKEN → NoneRuns (past_of d log) → SlaveStandsAfter take d a log → (opens : OpensInVain send ring take a b)
+      → SlaveStandsAfter take d b (Opened (parts-vain a b opens).at ∷ log)
   opens-in-vain d a b log few none stands opens =
       let both : (c : ℕ) (ch : ChannelState S T) → slice_get b.channels c ≡ Some ch
-      → (ChannelHas take (opened log + 1) (λ m. deeds_of d m c log) ch × (takes_orders ch.link.newer ≡ false)) × IsOut (λ m. is_back m c log) ch =
+      → ChannelHas take (opened log + 1) (λ m. deeds_of d m c log) ch × (takes_orders ch.link.newer ≡ false) =
       λ c ch at.
       let old = get_or a.channels c ch in
       let was = was-there a.channels b.channels c ch opens.channels.as_many at in
@@ -101,16 +147,15 @@ module _ {S E T F : Type 0} (send : SendGhosts S E) (ring : EndGhosts E) (take :
       let cap_c = get_or opens.caps c 0 in
       let set_c = get_or opens.sets c 0 in
       let one = opens.channels.each c old ch was at cap_c set_c (there-is opens.caps (length a.channels) c opens.as_many_caps below) (there-is opens.sets (length a.channels) c opens.as_many_sets below) in
-      let here = subst (λ n. (ch ≡ old) ⊎ ((set_c ≢ 0) × ((m : ChannelState S T) × Opens send ring take old m a.session.store c cap_c n × Ends m ch))) stands.has.number one in (
-        channel-in-vain send ring take (opened log) (λ m. deeds_of d m c log) old ch a.session.store c cap_c set_c here
-            (deeds-none d (opened log) c log stands.has.is_log (omega arith)) (stands.ended none c old was) (none-shown a.session (past_of d log) stands.has.session none) (stands.has.channels c old was),
-        out-in-vain send ring take (λ m. is_back m c log) old ch a.session.store (opened log) c cap_c set_c here
-            (back-none d (opened log) c log stands.has.is_log (omega arith)) (stands.has.out c old was),
-      )
+      let here = subst (λ n. (ch ≡ old) ⊎ ((set_c ≢ 0) × ((m : ChannelState S T) × Opens send ring take old m a.session.store c cap_c n × Ends m ch))) stands.has.number one in
+      channel-in-vain send ring take (opened log) (λ m. deeds_of d m c log) old ch a.session.store c cap_c set_c here
+      (deeds-none d (opened log) c log stands.has.is_log (omega arith)) (stands.ended none c old was) (none-shown a.session (past_of d log) stands.has.session none) (stands.has.channels c old was)
       in
       record {
-        has = opened-rest d a b log few none stands.has opens.rest (λ c ch at. let each = both c ch at in (each.0.0, each.1));
-        ended = λ quiet c ch at. (both c ch at).0.1;
+        has =
+            opened-rest d a b log (parts-vain a b opens).at few none stands.has opens.rest opens.channels.as_many (λ c ch at. (both c ch at).0)
+            (out-opened d a b log (parts-vain a b opens) stands.has opens.channels.as_many);
+        ended = λ quiet c ch at. (both c ch at).1;
       }
 
 has-some : (set l : ℕ) → has_list set l ≡ true → set ≢ 0
@@ -133,7 +178,8 @@ module _ {S T F : Type 0} (take : TakeGhosts T F) where
             let old = get_or a.channels c ch in
             let was = was-there a.channels b.channels c ch looks.channels.as_many at in
             channel-looks take (opened log) (λ m. deeds_of d m c log) old ch (looks.channels.each c old ch was at) (has.channels c old was);
-        out = out-each (λ c. Looks) a.channels b.channels (λ c m. is_back m c log) looks.channels (λ c x y l. keeps-looks x y l) has.out;
+        out = out-each (λ c. Looks) a.channels b.channels (λ c m. is_out m c log) looks.channels (λ c x y l. keeps-looks x y l) has.out;
+        many = looks.channels.as_many ∙ has.many;
         plan = ap (λ (s : SlaveState S T). s.plan) looks.rest ∙ has.plan;
         account = subst (λ x. AccountStandsAfter x (entries_of d log) (λ l. 0)) (sym (ap (λ (s : SlaveState S T). s.account) looks.rest)) has.account;
         number = ap (λ (s : SlaveState S T). s.number) looks.rest ∙ has.number;
@@ -188,7 +234,8 @@ module _ {S T F : Type 0} (take : TakeGhosts T F) where
             let was = was-there a.channels b.channels c ch starts.as_many at in
             let set = get_or sets c 0 in
             let there = there-is sets (length a.channels) c as_many (slice_get_within a.channels c old was) in
-            out-kept (λ m. is_back m c log) old ch (keeps-orders take old ch _ _ (starts.each c old ch was at set there)) (has.out c old was);
+            out-kept (λ m. is_out m c log) old ch (keeps-orders take old ch _ _ (starts.each c old ch was at set there)) (has.out c old was);
+        many = starts.as_many ∙ has.many;
         plan = ap (λ (s : SlaveState S T). s.plan) rest ∙ has.plan;
         account = subst (λ x. AccountStandsAfter x (entries_of d log) (λ l. 0)) (sym (ap (λ (s : SlaveState S T). s.account) rest)) has.account;
         number = ap (λ (s : SlaveState S T). s.number) rest ∙ has.number;
@@ -196,6 +243,36 @@ module _ {S T F : Type 0} (take : TakeGhosts T F) where
         is-false : (b : Bool) → (b ≡ true → ⊥) → b ≡ false
         is-false true never = absurd (never refl)
         is-false false never = refl
+
+  -- at an event channel of a list that is started, the newest measurement has a part
+  pub starts-parts : (d : Profile) (a : SlaveState S T) (xs : List (ChannelState S T)) (log : List Act) (lists : ℕ) (sets : List ℕ)
+      → AreSets a.session lists sets → length sets ≡ length a.channels → CanStartAll sets a.channels → IsEach (StartsAt take sets) a.channels xs
+      → SlaveHas take d a log → HasParts d log lists
+  starts-parts d a xs log lists sets are as_many can starts has c l within below one on =
+      let here : c < length a.channels = omega (arith, within, has.many) in
+      let (x, was) = some-at a.channels c here in
+      let (y, is) = some-at xs c (omega (arith, here, starts.as_many)) in
+      let set = get_or sets c 0 in
+      let there = there-is sets (length a.channels) c as_many here in
+      let has_l : has_list set l ≡ true =
+      are (past_of d log) has.session c set there l below ∙ ap (λ p. has_list lists l && is_on p (past_of d log) c l) has.profile ∙ both (has_list lists l) (is_on d (past_of d log) c l) one on in
+      let takes = can-takes x.link.newer (has_list set) (can c set x there was (has-some set l has_l)) in
+      let orders = starts.each c x y was is set there in
+      let (p, newest) = some-part x.newer (λ none. some-noted set l below has_l (goes-none take x.newer y.newer _ none orders.newer)) in
+      let number : p.number + 1 ≡ opened log = (has.channels c x was).newest takes p newest in
+      let kept = (has.out c x was).newer p.number (ap (λ (o : Option (ShareState T)). number_of o) newest) in
+      ap (λ m. has_part m c log) (omega (arith, number)) ∙ out-part p.number c log kept where
+        both : (x y : Bool) → x ≡ true → y ≡ true → (x && y) ≡ true
+        both true true a b = refl
+        both true false a b = b
+        both false y a b = a
+
+        some-part : (o : Option (ShareState T)) → (o ≡ None → ⊥) → (p : ShareState T) × (o ≡ Some p)
+        some-part None never = absurd (never refl)
+        some-part (Some p) never = (p, refl)
+
+        some-noted : (set l : ℕ) → l < MAX_LISTS → has_list set l ≡ true → starts_noted (has_list set) MAX_LISTS ≡ [] → ⊥
+        some-noted set l below is none = false≢true (ap (λ ds. runs_there (ds ++ []) l) (sym none) ∙ (starts-set (has_list set)).noted l [] below is)
 
   -- no list is started
   pub starts-no-list : (d : Profile) (a : SlaveState S T) (log : List Act) (lists : ℕ) → ((l : ℕ) → l < MAX_LISTS → has_list lists l ≡ false) → SlaveHas take d a log → SlaveStarted take d a log lists
@@ -211,6 +288,7 @@ module _ {S T F : Type 0} (take : TakeGhosts T F) where
         (λ m. sym (ap (λ xs. if nat_eq (m + 1) (opened log) then xs ++ deeds_of d m c log else deeds_of d m c log) (starts-none MAX_LISTS _ (λ l below. ap (λ b. b && is_on d (past_of d log) c l) (none l below)))
         ∙ either (nat_eq (m + 1) (opened log)) (deeds_of d m c log))) ch (has.channels c ch at);
     out = has.out;
+    many = has.many;
     plan = has.plan;
     account = has.account;
     number = has.number;

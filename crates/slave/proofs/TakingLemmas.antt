@@ -1,5 +1,5 @@
 -- What a slave stands after once an item was taken.
-use Rattle.std.proofs.Common.{◌≡◌, ◌≢◌, ℕ, zero, suc, ◌+◌, ◌-◌, ◌<◌, ◌≤◌, Bool, true, false, ◌&&◌, nat_eq, if◌then◌else◌, List, [], ◌∷◌, ◌++◌, append-nil, length, length-append, drop, take as first, slice_get, refl, sym, ap, ◌∙◌, subst, arith, inl, inr}
+use Rattle.std.proofs.Common.{◌≡◌, ◌≢◌, ℕ, ◌+◌, ◌-◌, ◌<◌, ◌≤◌, Bool, true, false, ◌&&◌, nat_eq, if◌then◌else◌, List, [], ◌∷◌, ◌++◌, append-nil, length, length-append, drop, take as first, slice_get, refl, sym, ap, ◌∙◌, subst, arith, inl, inr}
 use Rattle.std.specs.Prelude.{Option, Some, None}
 use Rattle.std.proofs.lemmas.Bool.Decides.{eqb_tells}
 use Rattle.xcp_base.specs.declared.item.Item.{Item}
@@ -23,16 +23,16 @@ use Rattle.slave_channels.specs.Calls.{TakesFromNewer, TakesFromOlder}
 use Rattle.session_account.specs.Accounts.{AccountStandsAfter}
 use Rattle.slave_channels.specs.Each.{IsOnlyAt}
 use Rattle.slave.specs.Hearing.{GoesBy}
-use Rattle.slave.specs.Log.{Act, Took, deeds_of, entries_of, is_back, laid, laid_by, opened, past_of, sample_laid, sent_of}
+use Rattle.slave.specs.Log.{Act, Took, deeds_of, entries_of, is_out, laid, laid_by, opened, past_of, sample_laid, sent_of}
 use Rattle.slave.specs.Standing.{ChannelHas, HasEnded, IsOut, SlaveStandsAfter, SlaveState, number_of}
-use Rattle.slave.proofs.OutLemmas.{KeepsParts, keeps-same, out-kept}
+use Rattle.slave.proofs.OutLemmas.{KeepsParts, keeps-same, out-kept, out-same, some-at}
 use Rattle.slave.specs.Taking.{TakesItems, is_take}
 use Rattle.slave.proofs.AnsweringLemmas.{more-laid}
 use Rattle.slave.proofs.ChannelLemmas.{channel-same}
 use Rattle.frame_outbox.specs.declared.unit.Origin.TheVariants as origin
 use Rattle.std.specs.List.{list_all}
 use Rattle.std.proofs.lemmas.List.Folds.{list_all-append}
-use Rattle.slave.proofs.DeedLemmas.{deeds-few}
+use Rattle.slave.proofs.DeedLemmas.{deeds-few, out-back}
 use Rattle.slave.proofs.HearingLemmas.{assoc}
 
 some_inj : {X : Type 0} (x y : X) → Some x ≡ Some y → x ≡ y
@@ -129,6 +129,7 @@ module _ {S T F : Type 0} (take : TakeGhosts T F) where
     pub is : slice_get b.channels c ≡ Some y
     pub others : (k : ℕ) → k ≢ c → slice_get b.channels k ≡ slice_get a.channels k
     pub quiet : takes_orders x.link.newer ≡ false → takes_orders y.link.newer ≡ false
+    pub as_many : length b.channels ≡ length a.channels
     pub session : b.session ≡ a.session
     pub plan : b.plan ≡ a.plan
     pub number : b.number ≡ a.number
@@ -170,7 +171,7 @@ module _ {S T F : Type 0} (take : TakeGhosts T F) where
         (n : ℕ) (f g : ℕ → List Deed) → StandsAfter take j (g m) → ((k : ℕ) → k ≢ m → g k ≡ f k) → ((k l : ℕ) → runs_there (g k) l ≡ runs_there (f k) l)
         → ChannelHas take n f x → ChannelHas take n g y
     pub keeps : KeepsParts x y
-    pub out : (back : ℕ → Bool) → IsOut back x → back m ≡ false
+    pub out : (out : ℕ → Bool) → IsOut out x → out m ≡ true
 
   newer-part : (x y : ChannelState S T) (s t : ShareState T) → x.newer ≡ Some s → y ≡ record x { newer = y.newer } → y.newer ≡ Some t → t.number ≡ s.number → IsPart x y s.number s.intake t.intake
   newer-part x y s t was rest is same = record {
@@ -180,7 +181,7 @@ module _ {S T F : Type 0} (take : TakeGhosts T F) where
       newer = ap (λ (o : Option (ShareState T)). number_of o) is ∙ ap Some same ∙ sym (ap (λ (o : Option (ShareState T)). number_of o) was);
       older = ap (λ (z : ChannelState S T). number_of z.older) rest;
     };
-    out = λ back out. out.newer s.number (ap (λ (o : Option (ShareState T)). number_of o) was);
+    out = λ out is. is.newer s.number (ap (λ (o : Option (ShareState T)). number_of o) was);
   }
 
   older-part : (x y : ChannelState S T) (s t : ShareState T) → x.older ≡ Some s → y ≡ record x { older = y.older } → y.older ≡ Some t → t.number ≡ s.number → IsPart x y s.number s.intake t.intake
@@ -191,7 +192,7 @@ module _ {S T F : Type 0} (take : TakeGhosts T F) where
       newer = ap (λ (z : ChannelState S T). number_of z.newer) rest;
       older = ap (λ (o : Option (ShareState T)). number_of o) is ∙ ap Some same ∙ sym (ap (λ (o : Option (ShareState T)). number_of o) was);
     };
-    out = λ back out. out.older s.number (ap (λ (o : Option (ShareState T)). number_of o) was);
+    out = λ out is. is.older s.number (ap (λ (o : Option (ShareState T)). number_of o) was);
   }
 
   -- what is kept behind a change at one of the event channels
@@ -206,7 +207,7 @@ module _ {S T F : Type 0} (take : TakeGhosts T F) where
             subst (λ (z : ChannelState S T). IsOut (now k) z) is-y (subst (λ j. IsOut (now j) y) (sym w.1) here)
         | inr w ↦
             let before = has k ch (sym (changes.others k w.1) ∙ at) in
-            record { newer = λ m is. same k m w.1 ∙ before.newer m is; older = λ m is. same k m w.1 ∙ before.older m is }
+            out-same (was k) (now k) ch (λ m. same k m w.1) before
       ]
 
   -- an item of a part was taken
@@ -227,14 +228,15 @@ module _ {S T F : Type 0} (take : TakeGhosts T F) where
       record {
         has = record {
           few = omega (arith, few);
-          is_log = (there, part.out (λ k. is_back k c log) (has.out c x changes.was), has.is_log);
+          is_log = (there, out-back m c log (part.out (λ k. is_out k c log) (has.out c x changes.was)), has.is_log);
           sent = omega (arith, has.sent, length-append (laid d log) (laid_by d (Took m c item) log));
           profile = ap (λ (z : SessionState). z.profile) changes.session;
           session = subst (λ z. SessionStandsAfter z (past_of d log)) (sym changes.session) has.session;
           outbox = lays log (λ k z e. subst (λ q. StandsAfter take i (deeds_of d q c log)) (number_of e) before) has.sent has.outbox;
           channels = channels-changed n (λ k q. deeds_of d q k log) (λ k q. deeds_of d q k (Took m c item ∷ log)) a b c x y changes
               (λ k q other. took-else m q c k (TookItem item) (deeds_of d q k log) (λ e z. other (sym z))) here has.channels;
-          out = out-changed (λ k q. is_back q k log) (λ k q. is_back q k log) a b c x y changes (λ k q other. refl) (out-kept (λ q. is_back q c log) x y part.keeps (has.out c x changes.was)) has.out;
+          out = out-changed (λ k q. is_out q k log) (λ k q. is_out q k log) a b c x y changes (λ k q other. refl) (out-kept (λ q. is_out q c log) x y part.keeps (has.out c x changes.was)) has.out;
+          many = changes.as_many ∙ has.many;
           plan = changes.plan ∙ has.plan;
           account = subst (λ z. AccountStandsAfter z (entries_of d log) (λ l. 0)) (sym account) has.account;
           number = changes.number ∙ has.number;
@@ -260,7 +262,8 @@ module _ {S T F : Type 0} (take : TakeGhosts T F) where
           outbox = subst (λ o. OutboxStandsAfter o (first (sent_of log) (laid d log)) (drop (sent_of log) (laid d log))) (sym outbox) has.outbox;
           channels = channels-changed (opened log) (λ k m. deeds_of d m k log) (λ k m. deeds_of d m k log) a b c x y changes (λ k m other. refl)
               (same (opened log) (λ m. deeds_of d m c log) (known log stands) (has.channels c x changes.was)) has.channels;
-          out = out-changed (λ k q. is_back q k log) (λ k q. is_back q k log) a b c x y changes (λ k q other. refl) (out-kept (λ q. is_back q c log) x y keeps (has.out c x changes.was)) has.out;
+          out = out-changed (λ k q. is_out q k log) (λ k q. is_out q k log) a b c x y changes (λ k q other. refl) (out-kept (λ q. is_out q c log) x y keeps (has.out c x changes.was)) has.out;
+          many = changes.as_many ∙ has.many;
           plan = changes.plan ∙ has.plan;
           account = subst (λ z. AccountStandsAfter z (entries_of d log) (λ l. 0)) (sym account) has.account;
           number = changes.number ∙ has.number;
@@ -359,11 +362,6 @@ module _ {S T F : Type 0} (take : TakeGhosts T F) where
   taken-older a b c x y step changes account many rest (Some s) None was is takes = elim takes [ ]
   taken-older a b c x y step changes account many rest (Some s) (Some t) was is (same, takes) = taken-step a b c x y s.number s.intake t.intake changes account many (older-part x y s t was rest is same) step takes
 
-pub some-at : {X : Type 0} (xs : List X) (c : ℕ) → c < length xs → (x : X) × (slice_get xs c ≡ Some x)
-some-at [] c below = absurd (omega (arith, below))
-some-at (x ∷ xs) zero below = (x, refl)
-some-at (x ∷ xs) (suc c) below = some-at xs c (omega (arith, below))
-
 module _ {S T F : Type 0} (take : TakeGhosts T F) where
   -- the next item of the newest measurement at an event channel was taken, if there was one
   pub took-one : (v w : SlaveState S T) (xs : List (ChannelState S T)) (o : OutboxState) (c : ℕ) (step : Step) → w ≡ v → c < length w.channels
@@ -377,6 +375,7 @@ module _ {S T F : Type 0} (take : TakeGhosts T F) where
         was = was;
         is = is;
         others = only.others;
+        as_many = only.as_many;
         quiet = λ off. ap (λ (z : ChannelState S T). takes_orders z.link.newer) one.rest ∙ off;
         session = refl;
         plan = refl;
@@ -397,6 +396,7 @@ module _ {S T F : Type 0} (take : TakeGhosts T F) where
         was = was;
         is = is;
         others = only.others;
+        as_many = only.as_many;
         quiet = λ off. ap (λ (z : ChannelState S T). takes_orders z.link.newer) one.rest ∙ off;
         session = refl;
         plan = refl;

@@ -20,7 +20,7 @@ IsStartRefusal code = (code ≡ Sequence) ⊎ ((code ≡ CmdBusy) ⊎ (code ≡ 
 abbrev pub is_before : Act → Bool
 is_before (Heard x) = false
 is_before (Refused packet code) = false
-is_before Opened = true
+is_before (Opened at) = true
 is_before (Took m c x) = false
 is_before (CameBack m c past) = true
 is_before (Sent n) = false

@@ -1,6 +1,6 @@
 -- What no public clause cites: parts of what a slave does with a packet.
-use Rattle.std.specs.Prelude.{◌≡◌, ℕ, ◌+◌, ◌*◌, ◌%◌, ◌<◌, ◌≤◌, ◌⊎◌, ◌&&◌, not, Bool, true, false}
-use Rattle.std.specs.Prelude.{List, [], ◌∷◌}
+use Rattle.std.specs.Prelude.{◌≡◌, ℕ, ◌+◌, ◌-◌, ◌*◌, ◌%◌, ◌<◌, ◌≤◌, ◌⊎◌, ◌&&◌, not, Bool, true}
+use Rattle.std.specs.Prelude.{false, List, [], ◌∷◌}
 use Rattle.std.specs.Prelude.{◌++◌, ◌↔◌, length, slice_get, if◌then◌else◌, Option, Some, None}
 use Rattle.std.specs.List.{list_all}
 use Rattle.xcp_base.specs.declared.err_code.ErrCode.TheVariants.{CmdBusy, MemoryOverflow, Sequence}
@@ -30,7 +30,7 @@ use Rattle.slave_channels.specs.Calls.{StartsAt, StopsAll}
 use Rattle.slave_channels.specs.Each.{IsEach}
 use Rattle.slave.specs.Hearing.{GoesBy, IsStartRefusal, MayOpen}
 use Rattle.slave.specs.Log.{Act, Heard}
-use Rattle.slave.specs.Log.{deeds_of, is_newest, is_return, past_of}
+use Rattle.slave.specs.Log.{deeds_of, has_part, is_newest, is_return, opened, past_of}
 use Rattle.slave.specs.Plans.{IsAsOpened, plan_of}
 use Rattle.slave.specs.Standing.{JustOpened, NoneRuns, SlaveStandsAfter, SlaveState, StandsBy}
 use Rattle.slave.specs.Standing.{StartsWell}
@@ -81,6 +81,12 @@ abbrev pub AreAsOpened : Profile → List Act → ℕ → Type 0
 AreAsOpened d log lists =
     (l : ℕ) → l < MAX_LISTS → has_list lists l ≡ true → is_list (past_of d log).calls l ≡ true
     → IsAsOpened d log l
+
+-- at the event channels of these lists the newest measurement has a part
+abbrev pub HasParts : Profile → List Act → ℕ → Type 0
+HasParts d log lists =
+    (c l : ℕ) → c < length d.events.items → l < MAX_LISTS → has_list lists l ≡ true
+    → is_on d (past_of d log) c l ≡ true → has_part (opened log - 1) c log ≡ true
 
 -- no list runs; and some list runs
 abbrev pub Idle : SessionState → Type 0
@@ -160,6 +166,10 @@ module _ {S T F : Type 0} (take : TakeGhosts T F) where
         (log : List Act) → 32 * (1 + length opening + length log) ≤ MAX_TAKEN
         → SlaveStandsAfter take a.session.profile a log
         → AreAsOpened a.session.profile (opening ++ log) lists
+    pub has_parts :
+        (log : List Act) → 32 * (1 + length opening + length log) ≤ MAX_TAKEN
+        → SlaveStandsAfter take a.session.profile a log
+        → HasParts a.session.profile (opening ++ log) lists
     pub goes :
         (log : List Act) → 32 * (1 + length opening + length log) ≤ MAX_TAKEN
         → SlaveStandsAfter take a.session.profile a log

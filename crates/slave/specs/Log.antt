@@ -22,14 +22,14 @@ use Rattle.slave_channel.specs.Ordering.{starts_noted, stops_noted}
 use Rattle.session_account.specs.Accounts.{Entry}
 
 -- a packet was answered by the session; a start was refused by the slave, with an error code, and
--- changed nothing; a measurement was opened; an item was taken off the ring that event channel c
--- has in measurement m; what was left of the sampler that event channel c had in measurement m came
--- back, and this is the sampler's past; so many of the replies and samples that waited were sent,
--- the oldest first; or the transport was lost
+-- changed nothing; a measurement was opened, with a part at these event channels; an item was taken
+-- off the ring that event channel c has in measurement m; what was left of the sampler that event
+-- channel c had in measurement m came back, and this is the sampler's past; so many of the replies
+-- and samples that waited were sent, the oldest first; or the transport was lost
 pub data Act : Type 0 where
   Heard : (x : Exchange) → Act
   Refused : (packet : List ℕ) (code : ErrCode) → Act
-  Opened : Act
+  Opened : (at : ℕ → Bool) → Act
   Took : (m c : ℕ) (x : Item) → Act
   CameBack : (m c : ℕ) (past : SamplerPast) → Act
   Sent : (n : ℕ) → Act
@@ -40,7 +40,7 @@ pub data Act : Type 0 where
 abbrev pub is_opening : Act → Bool
 is_opening (Heard x) = false
 is_opening (Refused packet code) = false
-is_opening Opened = true
+is_opening (Opened at) = true
 is_opening (Took m c x) = false
 is_opening (CameBack m c past) = false
 is_opening (Sent n) = false
@@ -50,7 +50,7 @@ is_opening HungUp = false
 abbrev pub is_return : Act → Bool
 is_return (Heard x) = false
 is_return (Refused packet code) = false
-is_return Opened = false
+is_return (Opened at) = false
 is_return (Took m c x) = false
 is_return (CameBack m c past) = true
 is_return (Sent n) = false
@@ -59,7 +59,7 @@ is_return HungUp = false
 abbrev pub sent_by : Act → ℕ
 sent_by (Heard x) = 0
 sent_by (Refused packet code) = 0
-sent_by Opened = 0
+sent_by (Opened at) = 0
 sent_by (Took m c x) = 0
 sent_by (CameBack m c past) = 0
 sent_by (Sent n) = n
@@ -77,7 +77,7 @@ sent_of log = sum_by sent_by log
 abbrev pub past_by : Profile → Act → Past → Past
 past_by d (Heard x) past = past_behind d past x
 past_by d (Refused packet code) past = past
-past_by d Opened past = past
+past_by d (Opened at) past = past
 past_by d (Took m c x) past = past
 past_by d (CameBack m c p) past = past
 past_by d (Sent n) past = past
@@ -122,7 +122,7 @@ deeds_of d m c (Heard x ∷ log) =
     if is_newest m log then ordered_by d c (Heard x) log (deeds_of d m c log)
     else deeds_of d m c log
 deeds_of d m c (Refused packet code ∷ log) = deeds_of d m c log
-deeds_of d m c (Opened ∷ log) = deeds_of d m c log
+deeds_of d m c (Opened at ∷ log) = deeds_of d m c log
 deeds_of d m c (Took n k x ∷ log) =
     if nat_eq n m && nat_eq k c then TookItem x ∷ deeds_of d m c log else deeds_of d m c log
 deeds_of d m c (CameBack n k past ∷ log) = deeds_of d m c log
@@ -146,7 +146,7 @@ sample_laid true m s = record { origin = origin.Sample m s.list; packets = s.pac
 abbrev pub laid_by : Profile → Act → List Act → List Laid
 laid_by d (Heard x) log = reply_laid (reply_in d (past_of d log) x)
 laid_by d (Refused packet code) log = reply_laid (Some (packet_of (Err code)))
-laid_by d Opened log = []
+laid_by d (Opened at) log = []
 laid_by d (Took m c (Sample s)) log = sample_laid (passes (deeds_of d m c log) s.list) m s
 laid_by d (Took m c (Marker k)) log = []
 laid_by d (CameBack m c past) log = []
@@ -163,11 +163,26 @@ abbrev pub is_back : ℕ → ℕ → List Act → Bool
 is_back m c [] = false
 is_back m c (Heard x ∷ log) = is_back m c log
 is_back m c (Refused packet code ∷ log) = is_back m c log
-is_back m c (Opened ∷ log) = is_back m c log
+is_back m c (Opened at ∷ log) = is_back m c log
 is_back m c (Took n k x ∷ log) = is_back m c log
 is_back m c (CameBack n k past ∷ log) = (nat_eq n m && nat_eq k c) || is_back m c log
 is_back m c (Sent n ∷ log) = is_back m c log
 is_back m c (HungUp ∷ log) = is_back m c log
+
+-- whether event channel c has a part of measurement m
+abbrev pub has_part : ℕ → ℕ → List Act → Bool
+has_part m c [] = false
+has_part m c (Heard x ∷ log) = has_part m c log
+has_part m c (Refused packet code ∷ log) = has_part m c log
+has_part m c (Opened at ∷ log) = if nat_eq m (opened log) then at c else has_part m c log
+has_part m c (Took n k x ∷ log) = has_part m c log
+has_part m c (CameBack n k past ∷ log) = has_part m c log
+has_part m c (Sent n ∷ log) = has_part m c log
+has_part m c (HungUp ∷ log) = has_part m c log
+
+-- whether it has one that did not come back
+abbrev pub is_out : ℕ → ℕ → List Act → Bool
+is_out m c log = has_part m c log && not (is_back m c log)
 
 -- the parts of measurements that came back, with what had been done with their rings, the newest
 -- first
@@ -175,7 +190,7 @@ abbrev pub entries_of : Profile → List Act → List Entry
 entries_of d [] = []
 entries_of d (Heard x ∷ log) = entries_of d log
 entries_of d (Refused packet code ∷ log) = entries_of d log
-entries_of d (Opened ∷ log) = entries_of d log
+entries_of d (Opened at ∷ log) = entries_of d log
 entries_of d (Took m c x ∷ log) = entries_of d log
 entries_of d (CameBack m c past ∷ log) =
     record { past = past; deeds = deeds_of d m c log } ∷ entries_of d log

@@ -32,7 +32,7 @@ abbrev pub plan_at : Profile → List Act → List Configuration
 plan_at d [] = []
 plan_at d (Heard x ∷ log) = plan_at d log
 plan_at d (Refused packet code ∷ log) = plan_at d log
-plan_at d (Opened ∷ log) = set_ups d (past_of d log)
+plan_at d (Opened at ∷ log) = set_ups d (past_of d log)
 plan_at d (Took m c x ∷ log) = plan_at d log
 plan_at d (CameBack m c past ∷ log) = plan_at d log
 plan_at d (Sent n ∷ log) = plan_at d log

@@ -1,5 +1,5 @@
 -- What contracts see of a slave, and what it stands after (own).
-use Rattle.std.specs.Prelude.{◌≡◌, ℕ, ◌+◌, ◌-◌, ◌*◌, ◌<◌, ◌≤◌, ◌↔◌, Bool, true, false}
+use Rattle.std.specs.Prelude.{◌≡◌, ℕ, ◌+◌, ◌-◌, ◌*◌, ◌<◌, ◌≤◌, ◌⊎◌, ◌↔◌, Bool, true, false}
 use Rattle.std.specs.Prelude.{List, [], ◌∷◌}
 use Rattle.std.specs.Prelude.{drop, length, slice_get, Option, Some, None}
 use Rattle.std.specs.Prelude.{take as first}
@@ -12,7 +12,7 @@ use Rattle.daq_store.specs.Configuration.{Configuration}
 use Rattle.session.specs.Past.{Past}
 use Rattle.session.specs.Standing.{SessionStandsAfter, SessionState}
 use Rattle.session.specs.Exchanges.{MayBeOut}
-use Rattle.session.specs.Starts.{runs, starts}
+use Rattle.session.specs.Starts.{is_on, runs, starts}
 use Rattle.session.specs.declared.profile.Profile.{Profile}
 use Rattle.channel_intake.specs.Deeds.{Deed}
 use Rattle.channel_intake.specs.Deeds.{runs as runs_there}
@@ -28,7 +28,8 @@ use Rattle.daq_engine.specs.Order.{items_of}
 use Rattle.daq_engine.specs.Overload.{HasMarks}
 use Rattle.transmitter.specs.Items.{samples}
 use Rattle.slave.specs.Log.{Act, CameBack, Heard, HungUp, Opened, Refused, Sent, Took}
-use Rattle.slave.specs.Log.{deeds_of, entries_of, is_back, laid, opened, past_of, sent_of}
+use Rattle.slave.specs.Log.{deeds_of, entries_of, has_part, is_back, is_out, laid, opened}
+use Rattle.slave.specs.Log.{past_of, sent_of}
 use Rattle.session_account.specs.Accounts.{AccountStandsAfter}
 use Rattle.session_account.specs.declared.totals.Totals.{Totals}
 use Rattle.slave.specs.Plans.{IsAsOpened, plan_at}
@@ -57,17 +58,21 @@ abbrev pub JustOpened : List Act → Type 0
 JustOpened [] = ⊥
 JustOpened (Heard x ∷ log) = ⊥
 JustOpened (Refused packet code ∷ log) = ⊥
-JustOpened (Opened ∷ log) = Unit {0}
+JustOpened (Opened at ∷ log) = Unit {0}
 JustOpened (Took m c x ∷ log) = ⊥
 JustOpened (CameBack m c past ∷ log) = ⊥
 JustOpened (Sent n ∷ log) = ⊥
 JustOpened (HungUp ∷ log) = ⊥
 
--- a list that the packet starts stands as it did where the newest measurement was opened; and where
--- no list runs, that was just before
+-- a list that the packet starts stands as it did where the newest measurement was opened, which has
+-- a part at the list's event channel; and where no list runs, it was opened just before
 pub record StartsWell (d : Profile) (log : List Act) (packet : List ℕ) : Type 0 where
   pub as_opened :
       (l : ℕ) → l < MAX_LISTS → starts d (past_of d log) packet l ≡ true → IsAsOpened d log l
+  pub has_parts :
+      (c l : ℕ) → c < length d.events.items → l < MAX_LISTS
+      → starts d (past_of d log) packet l ≡ true → is_on d (past_of d log) c l ≡ true
+      → has_part (opened log - 1) c log ≡ true
   pub in_one : IsStart d (past_of d log) packet → NoneRuns (past_of d log) → JustOpened log
 
 -- where lists run, the packet would start one that doesn't stand as it did where the newest
@@ -104,7 +109,7 @@ IsLog d (Heard x ∷ log) =
     × StartsWell d log x.packet × IsLog d log
 IsLog d (Refused packet code ∷ log) =
     IsStart d (past_of d log) packet × IsSequenceIfOther d log packet code × IsLog d log
-IsLog d (Opened ∷ log) = NoneRuns (past_of d log) × IsLog d log
+IsLog d (Opened at ∷ log) = NoneRuns (past_of d log) × IsLog d log
 IsLog d (Took m c x ∷ log) = (m < opened log) × (is_back m c log ≡ false) × IsLog d log
 IsLog d (CameBack m c past ∷ log) = ComesBack d log m c past × IsLog d log
 IsLog d (Sent n ∷ log) = IsLog d log
@@ -116,10 +121,12 @@ number_of None = None
 number_of (Some p) = Some p.number
 
 module _ {S T : Type 0} where
-  -- what is kept of an event channel did not come back
-  pub record IsOut (back : ℕ → Bool) (ch : ChannelState S T) : Type 0 where
-    pub newer : (m : ℕ) → number_of ch.newer ≡ Some m → back m ≡ false
-    pub older : (m : ℕ) → number_of ch.older ≡ Some m → back m ≡ false
+  -- what is kept of an event channel are its parts of the measurements that are out
+  pub record IsOut (out : ℕ → Bool) (ch : ChannelState S T) : Type 0 where
+    pub newer : (m : ℕ) → number_of ch.newer ≡ Some m → out m ≡ true
+    pub older : (m : ℕ) → number_of ch.older ≡ Some m → out m ≡ true
+    pub kept :
+        (m : ℕ) → out m ≡ true → (number_of ch.newer ≡ Some m) ⊎ (number_of ch.older ≡ Some m)
 
   -- where no list runs, each measurement has ended
   abbrev pub HasEnded : SlaveState S T → Past → Type 0
@@ -167,7 +174,8 @@ module _ {T F : Type 0} (take : TakeGhosts T F) where
         → ChannelHas (opened log) (deeds c) ch
     pub out :
         (c : ℕ) (ch : ChannelState S T) → slice_get s.channels c ≡ Some ch
-        → IsOut (λ m. is_back m c log) ch
+        → IsOut (λ m. is_out m c log) ch
+    pub many : length s.channels ≡ length d.events.items
     pub plan : s.plan ≡ plan_at d log
     pub number : s.number ≡ opened log
     pub account : AccountStandsAfter s.account (entries_of d log) (λ l. 0)

@@ -9,7 +9,7 @@ use Rattle.slave.specs.Standing.{SlaveState}
 abbrev pub is_take : Act → Bool
 is_take (Heard x) = false
 is_take (Refused packet code) = false
-is_take Opened = false
+is_take (Opened at) = false
 is_take (Took m c x) = true
 is_take (CameBack m c past) = false
 is_take (Sent n) = false

@@ -11,6 +11,16 @@ use session_account::Account;
 use tasks::TaskEnd;
 use xcp_base::limits::MAX_LISTS;
 
+/// What a slave leaves.
+#[derive(Drop)]
+pub struct Closed {
+    /// The account of the session.
+    pub account: Account,
+    /// Whether all that was handed to tasks came back, so that each measurement is in the account
+    /// with all of its event channels.
+    pub is_whole: bool,
+}
+
 /// Gives back what is left at the places of tasks that were finished.
 fn give_back<S: channel_ring::SendEnd>(ends: Vec<TaskEnd<S>>) {
     for end in ends {
@@ -43,9 +53,9 @@ impl<R: Ring> Slave<R> {
     /// more, counts as left.
     ///
     /// The tasks are to be finished before, and what is left of each handed in: of a task that
-    /// wasn't, the measurement that it holds is not in the account.
-    pub fn close(mut self, ends: Vec<TaskEnd<R::Send>>) -> Account
-        ensures closes { Closes R.Take.TakeEnd self result }
+    /// wasn't, the measurement that it holds is not in the account, which then isn't whole.
+    pub fn close(mut self, ends: Vec<TaskEnd<R::Send>>) -> Closed
+        ensures closes { Closes R.Take.TakeEnd self result.account result.is_whole }
     {
         self.hang_up();
         give_back(ends);
@@ -53,9 +63,11 @@ impl<R: Ring> Slave<R> {
         let Slave {
             mut account,
             outbox,
+            channels,
             ..
         } = self;
         leave(&mut account, &outbox);
-        account
+        let is_whole = !channels.has_parts();
+        Closed { account, is_whole }
     }
 }

@@ -13,5 +13,6 @@ mod sets;
 mod slave;
 mod starting;
 
+pub use closing::Closed;
 pub use opening::OpenFault;
 pub use slave::Slave;

@@ -1,6 +1,8 @@
 -- Parts of measurements that go out, change and come back.
-use Rattle.std.proofs.Common.{◌≡◌, ℕ, List, [], ◌∷◌, ◌++◌, All, refl, sym, ap, ◌∙◌, subst, Bool, true, false}
-use Rattle.std.specs.Prelude.{slice_get, Option, Some, None}
+use Rattle.std.proofs.Common.{◌≡◌, ℕ, List, [], ◌∷◌, ◌++◌, All, refl, sym, ap, ◌∙◌, subst, Bool, true, false, ◌&&◌, ◌⊎◌, inl, inr}
+use Rattle.std.specs.Prelude.{slice_get, Option, Some, None, Result, Ok, Err, IsOk}
+use Rattle.std.proofs.lemmas.Bool.{false≢true}
+use Rattle.tasks.specs.declared.fault.HandFault.{HandFault}
 use Rattle.std.specs.Option.{is_some}
 use mathlib.Core.List.{IsPrefix}
 use Rattle.std.proofs.lemmas.Option.{get_or_from_slice_get, none-some, slice_get_within}
@@ -25,7 +27,7 @@ use Rattle.tasks.specs.declared.order.Order.TheVariants as order
 use Rattle.daq_store.specs.Standing.{StoreState}
 use Rattle.daq_engine.specs.Opened.{IsOpenedAt}
 use Rattle.sampler.specs.History.{Opening}
-use Rattle.tasks.specs.Links.{HandsOut, LinkState, SendsToNewest}
+use Rattle.tasks.specs.Links.{AnswersHandOut, HandsOut, LinkState, SendsToNewest, first_refusal, hand_refusal, takes_orders}
 use Rattle.tasks.specs.declared.order.Order.{Order}
 use Rattle.slave_channel.specs.Channels.{ChannelState, FinishedState, Fits, IsBack, IsBackOf, IsFinished, IsShareOf, Opens, ShareState, part_before}
 use Rattle.slave_channel.specs.Inner.{ComesOf, EndStays, FinishesAs}
@@ -117,12 +119,35 @@ is-back send ring take a (Some x) (Some s) end left f is came done =
       inner : {X : Type 0} (y x : X) → Some x ≡ Some y → y ≡ x
       inner y x e = cc
 
+-- a hand-out that is done was not refused
+handed : {S : Type 0} (o : Option HandFault) (r : Result Unit (HandFault × SamplerState S)) → IsOk r → AnswersHandOut o r → o ≡ None
+handed None r done answers = refl
+handed (Some fault) (Ok u) done answers = elim answers [ ]
+handed (Some fault) (Err e) done answers = absurd (false≢true done)
+
+refuses-two : (b : Bool) → first_refusal b true ≡ None → ⊥
+refuses-two true e = cc
+refuses-two false e = cc
+
+two-kept : {S E T F : Type 0} (send : SendGhosts S E) (ring : EndGhosts E) (take : TakeGhosts T F) (x y : Option (AwayState S)) (s t : ShareState T)
+    → Fits send ring take x (Some s) → Fits send ring take y (Some t) → first_refusal (takes_orders y) (is_some x && is_some y) ≡ None → ⊥
+two-kept send ring take None y s t old new none = elim old [ ]
+two-kept send ring take (Some a) None s t old new none = elim new [ ]
+two-kept send ring take (Some a) (Some b) s t old new none = refuses-two (takes_orders (Some b)) none
+
+-- where a sampler can be handed out, not two parts are kept
+pub room-of : {S E T F : Type 0} (send : SendGhosts S E) (ring : EndGhosts E) (take : TakeGhosts T F) (l : LinkState S) (older newer : Option (ShareState T)) (r : Result Unit (HandFault × SamplerState S)) → IsOk r
+    → Fits send ring take l.older older → Fits send ring take l.newer newer → AnswersHandOut (hand_refusal l) r → (older ≡ None) ⊎ (newer ≡ None)
+room-of send ring take l None newer r done old new answers = inl refl
+room-of send ring take l (Some s) None r done old new answers = inr refl
+room-of send ring take l (Some s) (Some t) r done old new answers = absurd (two-kept send ring take l.older l.newer s t old new (handed (hand_refusal l) r done answers))
+
 -- a part was opened
 pub opens : {S E T F : Type 0} (send : SendGhosts S E) (ring : EndGhosts E) (take : TakeGhosts T F) (a : ChannelState S T) (was now : LinkState S) (older newer older_now newer_now : Option (ShareState T)) (s : StoreState) (c cap number : ℕ)
     (sampler : SamplerState S) (end : T) (intake : IntakeState T) → record { link = was; older = older; newer = newer } ≡ a → ((opening : Opening) × IsOpenedAt send ring take s c cap sampler end opening)
-    → HandsOut was now sampler → newer_now ≡ Some (record { number = number; intake = intake }) → older_now ≡ part_before older newer → StandsAfter take intake [] → intake.end ≡ end
+    → HandsOut was now sampler → newer_now ≡ Some (record { number = number; intake = intake }) → older_now ≡ part_before older newer → StandsAfter take intake [] → intake.end ≡ end → (older ≡ None) ⊎ (newer ≡ None)
     → Opens send ring take a (record { link = now; older = older_now; newer = newer_now }) s c cap number
-opens send ring take a was now older newer older_now newer_now s c cap number sampler end intake is opened handed one before stands same =
+opens send ring take a was now older newer older_now newer_now s c cap number sampler end intake is opened handed one before stands same room =
     subst (λ x. Opens send ring take x (record { link = now; older = older_now; newer = newer_now }) s c cap number) is
     (record {
       sampler = sampler;
@@ -134,4 +159,5 @@ opens send ring take a was now older newer older_now newer_now s c cap number sa
       number_is = refl;
       stands = stands;
       older = before;
+      room = room;
     })

@@ -1,6 +1,7 @@
--- The slave's side of an event channel: the measurements whose samplers are out, and those that came
--- back (own).
-use Rattle.std.specs.Prelude.{◌≡◌, ℕ, List, [], All, Option, Some, None}
+-- The slave's side of an event channel: the measurements whose samplers are out, and those that
+-- came back (own).
+use Rattle.std.specs.Prelude.{◌≡◌, ◌⊎◌, ◌||◌, ℕ, Bool, List, [], All, Option, Some, None}
+use Rattle.std.specs.Option.{is_some}
 use mathlib.Core.List.{IsPrefix}
 use Rattle.copy_plan.specs.Config.{IsPlan}
 use Rattle.channel_ring.specs.declared.ends.SendEnd.{Ghosts as SendGhosts}
@@ -39,6 +40,10 @@ pub record ChannelState (S T : Type 0) : Type 0 where
   pub older : Option (ShareState T)
   pub newer : Option (ShareState T)
 
+-- a part is kept, of one measurement or the other
+abbrev pub keeps_part : {S T : Type 0} → ChannelState S T → Bool
+keeps_part ch = is_some ch.older || is_some ch.newer
+
 -- such a part once what is left of its sampler is back
 pub record FinishedState (E T : Type 0) : Type 0 where
   pub number : ℕ
@@ -74,7 +79,8 @@ module _ {E T F : Type 0} (ring : EndGhosts E) (take : TakeGhosts T F) where
       (past : Past) (deeds : List Deed) → IsPastOf f past → StandsAfter take f.intake deeds
       → IsLineOf past deeds l line
 
-module _ {S E T F : Type 0} (send : SendGhosts S E) (ring : EndGhosts E) (take : TakeGhosts T F) where
+module _ {S E T F : Type 0} (send : SendGhosts S E) (ring : EndGhosts E)
+    (take : TakeGhosts T F) where
   -- the sampler that went out stood after nothing; the intake is of its ring
   pub record IsShareOf (sampler : SamplerState S) (s : ShareState T) : Type 0 where
     pub one_ring : take.ring s.intake.end ≡ send.ring sampler.end
@@ -108,8 +114,9 @@ abbrev pub part_before :
 part_before older None = older
 part_before older (Some newer) = Some newer
 
--- a part of a measurement was opened over a store: its sampler went out, opened as the store has the
--- event channel; nothing was ordered of its lists, and nothing was taken
+-- a part of a measurement was opened over a store: its sampler went out, opened as the store has
+-- the event channel; nothing was ordered of its lists, and nothing was taken; and no part before it
+-- was forgotten
 pub record Opens {S E T F : Type 0} (send : SendGhosts S E) (ring : EndGhosts E)
     (take : TakeGhosts T F) (a b : ChannelState S T) (s : StoreState) (c cap number : ℕ)
     : Type 0 where
@@ -122,6 +129,7 @@ pub record Opens {S E T F : Type 0} (send : SendGhosts S E) (ring : EndGhosts E)
   pub number_is : share.number ≡ number
   pub stands : StandsAfter take share.intake []
   pub older : b.older ≡ part_before a.older a.newer
+  pub room : (a.older ≡ None) ⊎ (a.newer ≡ None)
 
 module _ {T F : Type 0} (take : TakeGhosts T F) where
   -- the newest part goes on with this deed

@@ -95,7 +95,7 @@ fn finish<R: Ring>(
 }
 
 impl<R: Ring> Channel<R> {
-    ghost use Rattle.slave_channel.specs.Channels.{Opens, Orders, IsBackOf};
+    ghost use Rattle.slave_channel.specs.Channels.{Opens, Orders, IsBackOf, keeps_part};
     ghost use Rattle.tasks.specs.Links.{CanStart, EndsNewest, LooksAtNewest, is_running};
     ghost use Rattle.tasks.specs.Links.{takes_orders, without};
     ghost use Rattle.tasks.specs.declared.order.Order.TheVariants.{Start, Stop};
@@ -156,6 +156,14 @@ impl<R: Ring> Channel<R> {
         ensures { result ≡ takes_orders self.now.link.newer }
     {
         self.link.takes_orders()
+    }
+
+    /// Whether a part of a measurement is kept here: what is left of its sampler was not taken
+    /// back.
+    pub fn has_parts(&self) -> bool
+        ensures { result ≡ keeps_part self.now }
+    {
+        self.older.is_some() || self.newer.is_some()
     }
 
     /// The set of the DAQ lists that run by the orders that were sent.

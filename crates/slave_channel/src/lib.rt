@@ -1,4 +1,5 @@
-//! The slave's side of one event channel: measurements come and go there, while its task runs (own).
+//! The slave's side of one event channel: measurements come and go there, while its task runs
+//! (own).
 #![tactic(auto)]
 
 mod channel;

@@ -21,8 +21,8 @@ fn take_of<T: TakeEnd>(part: &mut Option<Share<T>>, outbox: &mut Outbox) -> Step
 }
 
 impl<R: Ring> Channel<R> {
-    /// Takes the next item of the newest measurement's ring, if one is there, and lays a sample of a
-    /// DAQ list that runs out. It takes no memory.
+    /// Takes the next item of the newest measurement's ring, if one is there, and lays a sample of
+    /// a DAQ list that runs out. It takes no memory.
     pub fn take(&mut self, outbox: &mut Outbox) -> Step
         ensures takes { TakesOf R.Take.TakeEnd self.old.newer self.new.newer
             outbox.old outbox.new result }

@@ -12,6 +12,7 @@ use Rattle.frame_outbox.specs.Outboxes.{OutboxState}
 use Rattle.tasks.specs.Links.{CanStart, EndsNewest, LooksAtNewest, is_running, takes_orders}
 use Rattle.tasks.specs.Tasks.{TaskState}
 use Rattle.slave_channel.specs.Channels.{ChannelState, FinishedState, IsBackOf, Opens, TakesOf}
+use Rattle.slave_channel.specs.Channels.{keeps_part}
 use Rattle.slave_channel.specs.Ordering.{OrdersAll, starts_noted, starts_sent}
 use Rattle.slave_channel.specs.Ordering.{stops_noted, stops_sent}
 
@@ -55,6 +56,15 @@ module _ {S T : Type 0} where
     pub some : set ≢ 0
     pub state_is : slice_get now channel ≡ Some state
     pub cannot : ¬ CanStart state.link.newer (has_list set)
+
+  -- no part of a measurement is kept at any event channel; and one is
+  abbrev pub KeepsNone : List (ChannelState S T) → Type 0
+  KeepsNone now =
+      (c : ℕ) (ch : ChannelState S T) → slice_get now c ≡ Some ch → keeps_part ch ≡ false
+
+  abbrev pub KeepsOne : List (ChannelState S T) → Type 0
+  KeepsOne now =
+      (c : ℕ) × ((ch : ChannelState S T) × (slice_get now c ≡ Some ch) × (keeps_part ch ≡ true))
 
 module _ {S T F : Type 0} (take : TakeGhosts T F) where
   -- the starts of these lists were ordered

@@ -1,7 +1,7 @@
 -- What no public clause cites: the first elements of a list changed; the parts of a measurement
 -- that was opened in part end.
-use Rattle.std.specs.Prelude.{◌≡◌, ◌≢◌, ℕ, ◌<◌, ◌≤◌, List, length, slice_get, Some}
-use Rattle.slave_channel.specs.Channels.{ChannelState}
+use Rattle.std.specs.Prelude.{◌≡◌, ◌≢◌, ℕ, ◌<◌, ◌≤◌, false, List, length, slice_get, Some}
+use Rattle.slave_channel.specs.Channels.{ChannelState, keeps_part}
 use Rattle.slave_channels.specs.Calls.{Ends}
 
 module _ {A : Type 0} where
@@ -19,3 +19,8 @@ module _ {S T : Type 0} where
   EndsAt lists c a b =
       (set : ℕ) → slice_get lists c ≡ Some set
       → (set ≡ 0 → b ≡ a) × (set ≢ 0 → Ends a b)
+
+  -- no part of a measurement is kept at the first n event channels
+  abbrev pub KeepNone : List (ChannelState S T) → ℕ → Type 0
+  KeepNone now n =
+      (c : ℕ) (ch : ChannelState S T) → c < n → slice_get now c ≡ Some ch → keeps_part ch ≡ false

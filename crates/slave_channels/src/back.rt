@@ -1,6 +1,6 @@
 //! What came back of the measurements at one event channel.
-ghost use Rattle.std.specs.Prelude.{◌<◌, length};
-ghost use Rattle.slave_channels.specs.Calls.{GivesBackNewer, GivesBackOlder};
+ghost use Rattle.std.specs.Prelude.{◌≡◌, ◌<◌, length, true, false};
+ghost use Rattle.slave_channels.specs.Calls.{GivesBackNewer, GivesBackOlder, KeepsNone, KeepsOne};
 ghost use Rattle.slave_channels.specs.Each.{IsOnlyAt};
 
 use crate::channels::Channels;
@@ -8,6 +8,20 @@ use daq_engine::Ring;
 use slave_channel::Finished;
 
 impl<R: Ring> Channels<R> {
+    /// Whether a part of a measurement is kept at an event channel: what is left of its sampler was
+    /// not taken back.
+    pub fn has_parts(&self) -> bool
+        ensures none { result ≡ false → KeepsNone self.now }
+        ensures some { result ≡ true → KeepsOne self.now }
+    {
+        for c in 0..self.all.len() {
+            if self.all[c].has_parts() {
+                return true;
+            }
+        }
+        false
+    }
+
     /// What came back of the measurement before the last at event channel `c`.
     pub fn take_older(&mut self, c: usize) -> Option<Finished<R>>
         requires channel { c < length self.old }

@@ -27,7 +27,7 @@ pub heard-append : (acts log : List Act) → heard_by (acts ++ log) ≡ heard_by
 heard-append [] log = sym (append-nil (heard_by log))
 heard-append (Heard x ∷ acts) log = ap (λ xs. xs ++ x.packet ∷ []) (heard-append acts log) ∙ assoc (heard_by log) (heard_by acts) (x.packet ∷ [])
 heard-append (Refused packet code ∷ acts) log = ap (λ xs. xs ++ packet ∷ []) (heard-append acts log) ∙ assoc (heard_by log) (heard_by acts) (packet ∷ [])
-heard-append (Opened ∷ acts) log = heard-append acts log
+heard-append (Opened at ∷ acts) log = heard-append acts log
 heard-append (Took m c x ∷ acts) log = heard-append acts log
 heard-append (CameBack m c past ∷ acts) log = heard-append acts log
 heard-append (Sent n ∷ acts) log = heard-append acts log
@@ -69,7 +69,7 @@ pub takes-nothing : (acts : List Act) → list_all is_take acts ≡ true → (he
 takes-nothing [] are = (refl, refl)
 takes-nothing (Heard x ∷ acts) are = absurd (false≢true are)
 takes-nothing (Refused packet code ∷ acts) are = absurd (false≢true are)
-takes-nothing (Opened ∷ acts) are = absurd (false≢true are)
+takes-nothing (Opened at ∷ acts) are = absurd (false≢true are)
 takes-nothing (Took m c x ∷ acts) are =
     let rest = takes-nothing acts are in
     let cons : sent_of (Took m c x ∷ acts) ≡ 0 + sent_of acts = sum_by-cons sent_by (Took m c x) acts in
@@ -82,9 +82,9 @@ before-nothing : (acts : List Act) → list_all is_before acts ≡ true → (hea
 before-nothing [] are = (refl, refl)
 before-nothing (Heard x ∷ acts) are = absurd (false≢true are)
 before-nothing (Refused packet code ∷ acts) are = absurd (false≢true are)
-before-nothing (Opened ∷ acts) are =
+before-nothing (Opened at ∷ acts) are =
     let rest = before-nothing acts are in
-    let cons : sent_of (Opened ∷ acts) ≡ 0 + sent_of acts = sum_by-cons sent_by Opened acts in
+    let cons : sent_of (Opened at ∷ acts) ≡ 0 + sent_of acts = sum_by-cons sent_by (Opened at) acts in
     (rest.0, omega (arith, cons, rest.1))
 before-nothing (Took m c x ∷ acts) are = absurd (false≢true are)
 before-nothing (CameBack m c past ∷ acts) are =

@@ -23,6 +23,10 @@ use Rattle.slave_play.specs.Thinned.{IsWithout}
 use Rattle.slave_play.proofs.LogLemmas.{heard-append, heard-one, masters-append, takes-nothing, text-stays}
 use Rattle.slave_play.proofs.ThinnedLemmas.{assoc, without-append}
 
+pub if-ok-both : {A B : Type 0} (r : Result A B) (P Q R : A → Type 0) → ((x : A) → P x → Q x → R x) → IfOk r P → IfOk r Q → IfOk r R
+if-ok-both (Ok x) P Q R f p q = f x p q
+if-ok-both (Err e) P Q R f p q = tt
+
 take-whole : {X : Type 0} (n : ℕ) (xs : List X) → length xs ≤ n → first n xs ≡ xs
 take-whole zero [] least = refl
 take-whole (suc n) [] least = refl

@@ -26,7 +26,7 @@ abbrev pub heard_by : List Act → List (List ℕ)
 heard_by [] = []
 heard_by (Heard x ∷ log) = heard_by log ++ x.packet ∷ []
 heard_by (Refused packet code ∷ log) = heard_by log ++ packet ∷ []
-heard_by (Opened ∷ log) = heard_by log
+heard_by (Opened at ∷ log) = heard_by log
 heard_by (Took m c x ∷ log) = heard_by log
 heard_by (CameBack m c past ∷ log) = heard_by log
 heard_by (Sent n ∷ log) = heard_by log

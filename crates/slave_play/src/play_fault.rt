@@ -1,4 +1,5 @@
 use session::ProfileFault;
+use std::alloc::AllocError;
 use thiserror::Error;
 
 /// Why a session was not played to its end.
@@ -10,4 +11,13 @@ pub enum PlayFault {
     /// Memory was wanting.
     #[error("want of memory")]
     Memory,
+    /// What is left of a task did not come back, so the account would not be whole.
+    #[error("what is left of a task did not come back")]
+    PartLost,
+}
+
+impl From<AllocError> for PlayFault {
+    fn from(_: AllocError) -> PlayFault {
+        PlayFault::Memory
+    }
 }

@@ -6,6 +6,7 @@ ghost use Rattle.slave_file.specs.Lines.{master};
 ghost use Rattle.slave_play.specs.Playing.{Advances, Does, sending};
 
 use crate::parts::Parts;
+use crate::play_fault::PlayFault;
 use crate::played::Played;
 use crate::transport::{collect, lose, send};
 use channel_ring::SendEnd;
@@ -133,7 +134,9 @@ impl<R: Ring> Player<R> {
 
     /// The session ends: the slave hangs up, the tasks finish, all that came back is collected, and
     /// the slave is closed.
-    pub(crate) fn finish(mut self, alloc: Global) -> Result<Played, AllocError>
+    ///
+    /// Refused with `PartLost` if something did not come back.
+    pub(crate) fn finish(mut self, alloc: Global) -> Result<Played, PlayFault>
         ensures sent { IfOk result (λ played. played.sent ≡ self.out) }
         ensures refused { IfOk result (λ played. played.refused ≡ self.refused) }
         ensures ends { IfOk result (λ played. (s : SlaveState R.Send R.Take)
@@ -154,11 +157,15 @@ impl<R: Ring> Player<R> {
         let channels = tasks.len();
         finish_all(tasks);
         collect(&mut slave, channels, &mut parts)?;
+        let closed = slave.close(Vec::new(alloc));
+        if !closed.is_whole {
+            return Err(PlayFault::PartLost);
+        }
         Ok(Played {
             sent: out,
             ends,
             parts,
-            account: slave.close(Vec::new(alloc)),
+            account: closed.account,
             refused,
         })
     }

@@ -48,10 +48,7 @@ pub fn play_over<R: Ring>(
     let Ok(()) = play_all(&mut player, alloc, script) else {
         return Err(PlayFault::Memory);
     };
-    match player.finish(alloc) {
-        Ok(played) => Ok(played),
-        Err(_) => Err(PlayFault::Memory),
-    }
+    player.finish(alloc)
 }
 
 /// A slave that was just opened, its tasks, and nothing that came of a line.

@@ -1,7 +1,10 @@
 //! What became of the samples of two measurements.
-use crate::pair::{Pair, account_of, closes, hears, open_pair, sends, shows, takes_back, triggers};
+use crate::pair::{
+    Pair, account_of, closes, closes_early, hears, open_pair, sends, shows, takes_back, triggers,
+};
 use daq_engine::ListReport;
 use session_account::Account;
+use slave::Closed;
 use std::alloc::Global;
 use std::process::Abort;
 use std::test::Fail;
@@ -79,8 +82,24 @@ fn samples_of_all_measurements_are_in_the_account(rt: HostRuntime) -> Result<(),
     let _ = shows(&rt, alloc, &mut pair, &[&[0x00, 0x33, 0x44]], "another")?;
     triggers(&rt, &mut pair, [0x55, 0x66], "the last");
     tells(&rt, account_of(&pair), 2, 1, 1, "it is still out");
-    let account = closes(alloc, pair)?;
+    let Closed { account, is_whole } = closes(alloc, pair)?;
     tells(&rt, &account, 5, 2, 3, "the slave is closed");
+    assert!(&rt; is_whole, "all came back");
     assert!(&rt; account.line(16).is_none(), "a list that there can't be");
+    Ok(())
+}
+
+#[test]
+fn an_account_without_a_task_is_not_whole(rt: HostRuntime) -> Result<(), Fail> {
+    let alloc = rt.alloc();
+    let mut pair = open_pair(alloc)?;
+    for (packet, reply) in SET_UP {
+        answers(&rt, alloc, &mut pair, packet, reply)?;
+    }
+    answers(&rt, alloc, &mut pair, &[0xDE, 1, 0, 0], &[0xFF, 0x00])?;
+    triggers(&rt, &mut pair, [0x11, 0x22], "a sample");
+    let Closed { account, is_whole } = closes_early(alloc, pair);
+    tells(&rt, &account, 0, 0, 0, "its task has the measurement");
+    assert!(&rt; !is_whole, "it did not come back");
     Ok(())
 }

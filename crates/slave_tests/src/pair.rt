@@ -2,7 +2,7 @@
 use channel_ring::{SampleRing, SendHalf};
 use session::{EventChannel, Profile, RingKind};
 use session_account::Account;
-use slave::Slave;
+use slave::{Closed, Slave};
 use slave_stream::{MasterStream, datagram};
 use std::alloc::{AllocError, Global};
 use std::process::Abort;
@@ -160,13 +160,19 @@ pub fn takes_back(rt: &impl Abort, pair: &mut Pair, row: &str) {
     );
 }
 
+/// The slave is closed while its task goes on.
+pub fn closes_early(alloc: Global, pair: Pair) -> Closed {
+    let Pair { slave, .. } = pair;
+    slave.close(Vec::new(alloc))
+}
+
 /// The account so far.
 pub fn account_of(pair: &Pair) -> &Account {
     pair.slave.account()
 }
 
 /// The task is finished and the slave closed.
-pub fn closes(alloc: Global, pair: Pair) -> Result<Account, AllocError> {
+pub fn closes(alloc: Global, pair: Pair) -> Result<Closed, AllocError> {
     let Pair { slave, task, .. } = pair;
     let mut ends = Vec::new(alloc);
     ends.push(task.finish())?;

@@ -24,6 +24,9 @@ pub enum SessionFault {
     /// Memory was wanting.
     #[error("xcpslave: want of memory")]
     Memory,
+    /// What is left of a task did not come back.
+    #[error("xcpslave: what is left of a task did not come back")]
+    PartLost,
 }
 
 impl SessionFault {
@@ -32,7 +35,7 @@ impl SessionFault {
         ensures { result ≤ 2 }
     {
         match self {
-            SessionFault::Memory => 1,
+            SessionFault::Memory | SessionFault::PartLost => 1,
             _ => 2,
         }
     }
@@ -58,6 +61,7 @@ impl SessionFault {
         match fault {
             PlayFault::Memory => SessionFault::Memory,
             PlayFault::Profile(fault) => SessionFault::Profile(fault),
+            PlayFault::PartLost => SessionFault::PartLost,
         }
     }
 }

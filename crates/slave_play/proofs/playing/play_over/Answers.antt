@@ -1,22 +1,25 @@
 use Rattle.std.proofs.Common.{map, sym, subst}
 use Rattle.slave_file.specs.Inner.{line_data}
+use Rattle.slave_play.specs.declared.played.Played.{Played}
 use Rattle.slave_play.specs.Playing.{Does, HasPlayed, sending}
-use Rattle.slave_play.proofs.PlayLemmas.{played}
+use Rattle.slave_play.proofs.PlayLemmas.{if-ok-both, played}
 use Rattle.slave_play.proofs.playing.play_over.Goals as goal
 
 -- from the slave that was opened to its end
-pub returns-in-Ok-finish : goal.returns-in-Ok-finish
-returns-in-Ok-finish g c =
+pub returns : goal.returns
+returns g c =
     let take = g.R.Take.TakeEnd in
     let opened = c.in-Ok.player in
     let last = c.play_all.new.player in
-    let came = c.in-Ok-finish.played in
     let lines = map line_data c.args.script.now in
     let does = subst (λ n. Does take (sending opened.slave opened.out.contents) (sending last.slave last.out.contents) n last.refused lines)
     c.in-Ok.ensures.none_refused c.in-Ok-play_all.ensures.does in
-    let ends = c.in-Ok-finish.ensures.ends in
-    let all = played take c.args.profile (sending opened.slave opened.out.contents) (sending last.slave last.out.contents) (sending ends.0 came.sent.contents)
-    lines last.refused c.in-Ok.ensures.stands c.in-Ok.ensures.none_sent does ends.1 in
     record {
-      played = subst (λ n. HasPlayed take g.row.R-Send.Denot c.args.profile lines n came.sent.contents) (sym c.in-Ok-finish.ensures.refused) all;
+      played =
+          if-ok-both _ _ _ (λ (came : Played). HasPlayed take g.row.R-Send.Denot c.args.profile lines came.refused came.sent.contents)
+          (λ (came : Played) refused ends.
+          subst (λ n. HasPlayed take g.row.R-Send.Denot c.args.profile lines n came.sent.contents) (sym refused)
+          (played take c.args.profile (sending opened.slave opened.out.contents) (sending last.slave last.out.contents) (sending ends.0 came.sent.contents)
+          lines last.refused c.in-Ok.ensures.stands c.in-Ok.ensures.none_sent does ends.1))
+          c.finish.ensures.refused c.finish.ensures.ends;
     }

@@ -11,7 +11,7 @@ invariant_of-slave g c =
 pub returns-clause-stands : goal.returns-clause-stands
 returns-clause-stands g c =
     new-stands g.R.Take.TakeEnd c.args.profile c.in-Ok-open.session c.in-Ok-new.outbox c.in-Ok-new-2.channels c.none.result c.new-3.result _ c.new-3.ensures.stands c.none.ensures c.in-Ok-open.ensures.profile c.in-Ok-open.ensures.fresh c.in-Ok-new.ensures.stands
-    c.in-Ok-new-2.ensures.channels
+    c.in-Ok-new-2.ensures.channels (omega (arith, c.len.ensures, c.in-Ok.ensures.many, ap length c.deref.ensures.value))
 
 pub returns-clause-channels : goal.returns-clause-channels
 returns-clause-channels g c =
