@@ -1,5 +1,5 @@
-//! The tests of tasks: samplers that are handed out and come back, in one thread and in two. As a
-//! library this crate is empty.
+//! The tests of tasks: samplers that are handed out and come back, in one thread. As a library
+//! this crate is empty.
 #![tactic(auto)]
 
 #[cfg(test)]
@@ -10,5 +10,3 @@ mod orders;
 mod same;
 #[cfg(test)]
 mod stores;
-#[cfg(test)]
-mod threads;
