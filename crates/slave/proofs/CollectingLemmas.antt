@@ -6,16 +6,16 @@ use Rattle.std.proofs.lemmas.Bool.{false≢true}
 use Rattle.std.proofs.lemmas.List.Folds.{list_all-append}
 use Rattle.std.proofs.lemmas.List.Sums.{sum_by-append, sum_by-cons}
 use Rattle.xcp_base.specs.declared.err_code.ErrCode.{ErrCode}
-use Rattle.xcp_base.specs.declared.err_code.ErrCode.TheVariants.{Sequence}
+use Rattle.xcp_base.specs.declared.err_code.ErrCode.TheVariants.{CmdBusy, Sequence}
 use Rattle.xcp_base.specs.declared.limits.TheConstants.{MAX_TAKEN}
 use Rattle.session.specs.declared.profile.Profile.{Profile}
 use Rattle.channel_ring.specs.declared.ends.RingEnd.{Ghosts as EndGhosts}
 use Rattle.channel_ring.specs.declared.ends.TakeEnd.{Ghosts as TakeGhosts}
-use Rattle.session.specs.Standing.{SessionState}
+use Rattle.session.specs.Standing.{SessionStandsAfter, SessionState}
 use Rattle.slave_channel.specs.Channels.{FinishedState, IsFinished}
 use Rattle.slave.specs.Finishing.{GivesBack}
 use Rattle.slave.specs.Hearing.{MayOpen, is_before}
-use Rattle.slave.specs.Inner.{AreAsOpened, Collects, HasOther, HasParts, HasSome, IsOfOne, Prepares, SlaveStarted, StartsInVain}
+use Rattle.slave.specs.Inner.{AreAsOpened, Collects, HasOther, HasParts, HasSome, IsOfOne, Prepares, SlaveStarted, StartsInVain, WantsPlaces}
 use Rattle.slave.specs.Log.{Act, CameBack, Heard, HungUp, Opened, Refused, Sent, Took, is_opening, is_return, opened}
 use Rattle.slave.specs.Standing.{SlaveStandsAfter, SlaveState}
 use Rattle.slave.proofs.HearingLemmas.{assoc}
@@ -126,6 +126,10 @@ module _ {S T F : Type 0} (take : TakeGhosts T F) where
     some = v.some;
     opening = v.opening ++ collects.acts;
     may_open = may-open-behind v.opening collects.acts v.may_open collects.are;
+    places = λ past stands run other.
+        let same = collects.session in
+        subst (λ s. (code ≡ CmdBusy) × WantsPlaces s lists b.channels) same
+        (v.places past (subst (λ s. SessionStandsAfter s past) (sym same) stands) run other);
     sequence = λ log few stands.
         let way = between a m v.opening log collects few stands in
         way.lead (λ q xs. (code ≡ Sequence) ↔ HasOther q xs lists) (v.sequence (collects.acts ++ log) way.few way.stands);

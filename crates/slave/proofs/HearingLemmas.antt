@@ -1,5 +1,5 @@
 -- What a slave stands after once a packet was heard.
-use Rattle.std.proofs.Common.{◌≡◌, ℕ, ◌<◌, List, [], ◌∷◌, ◌++◌, length, length-append, slice_get, refl, sym, ap, ◌∙◌, subst, arith, inl, inr, Err}
+use Rattle.std.proofs.Common.{◌≡◌, ℕ, ◌<◌, List, [], ◌∷◌, ◌++◌, ◌&&◌, length, length-append, slice_get, refl, sym, ap, ◌∙◌, subst, arith, inl, inr, Err}
 use Rattle.std.specs.Prelude.{Some}
 use Rattle.xcp_base.specs.Lists.{has_list}
 use Rattle.xcp_base.specs.declared.err_code.ErrCode.{ErrCode}
@@ -8,10 +8,12 @@ use Rattle.channel_ring.specs.declared.ends.TakeEnd.{Ghosts as TakeGhosts}
 use Rattle.session.specs.Fields.{packet_of}
 use Rattle.session.specs.Past.{Past}
 use Rattle.session.specs.Standing.{SessionStandsAfter, SessionState}
-use Rattle.session.specs.Starts.{starts}
-use Rattle.slave.specs.Hearing.{Hears}
+use Rattle.session.specs.Exchanges.{Exchange}
+use Rattle.session.specs.Starts.{is_on, starts}
+use Rattle.slave_channel.specs.Channels.{ChannelState}
+use Rattle.slave.specs.Hearing.{FindsNoPlaces, Hears}
 use Rattle.session.specs.declared.profile.Profile.{Profile}
-use Rattle.slave.specs.Inner.{Answers, AreAsOpened, HasOther, HasParts, IsOfOne, LaysReply, Prepares, SlaveStarted, StartsInVain}
+use Rattle.slave.specs.Inner.{Answers, AreAsOpened, HasOther, HasParts, IsOfOne, LaysReply, Prepares, SlaveStarted, StartsInVain, WantsPlaces}
 use Rattle.session_account.specs.Accounts.{AccountStandsAfter}
 use Rattle.slave.specs.Log.{Act, Heard, Refused, entries_of, laid, past_of, reply_laid, sent_of}
 use Rattle.slave.specs.Standing.{SlaveStandsAfter, SlaveState, StartsOther, StartsWell}
@@ -39,6 +41,28 @@ starts-other : (d : Profile) (log : List Act) (packet : List ℕ) (lists : ℕ) 
     → StartsOther d log packet → HasOther d log lists
 starts-other d log packet lists are has = record { list = has.list; below = has.below; one = are has.list has.below ∙ has.starts_it; other = has.other; some = has.some }
 
+not-refused : (x : Exchange) (packet : List ℕ) (code : ErrCode) → Heard x ≡ Refused packet code → ⊥
+not-refused x packet code is = cc
+
+code-of : (packet : List ℕ) (code named : ErrCode) → Refused packet code ≡ Refused packet named → code ≡ named
+code-of packet code named is = cc
+
+module _ {S T : Type 0} where
+  -- the lists that the packet starts find no places, by their set
+  finds : (a b : SlaveState S T) {now : List (ChannelState S T)} (lists : ℕ) (packet : List ℕ) (past : Past) → WantsPlaces a.session lists now → b.channels ≡ now → SessionStandsAfter a.session past
+      → ((l : ℕ) → l < MAX_LISTS → has_list lists l ≡ starts a.session.profile past packet l) → FindsNoPlaces a.session.profile past packet b
+  finds a b lists packet past wants channels stands are =
+      let none = wants.none in
+      record {
+        channel = none.channel;
+        set = none.set;
+        state = none.state;
+        are = λ l below. wants.are past stands none.channel none.set none.lists_are l below ∙ ap (λ x. x && is_on a.session.profile past none.channel l) (are l below);
+        some = none.some;
+        state_is = ap (λ xs. slice_get xs none.channel) channels ∙ none.state_is;
+        cannot = none.cannot;
+      }
+
 module _ {S T F : Type 0} (take : TakeGhosts T F) where
   -- a packet whose lists were started was answered
   pub heard : (a k b : SlaveState S T) (lists : ℕ) (packet : List ℕ) (clock : ℕ) → Prepares take a k lists → k.session ≡ a.session
@@ -57,6 +81,7 @@ module _ {S T F : Type 0} (take : TakeGhosts T F) where
               | inl none ↦ inl none
               | inr some ↦ inr (some.0, some.1, sym (are (past_of d log) stands.has.session some.0 some.1) ∙ some.2)
             ];
+        places = λ log stands run code is other. absurd (not-refused answers.exchange packet code is);
         goes = λ log few stands.
             let before = prepares.opening ++ log in
             let has = prepares.goes log (omega (arith, few)) stands in
@@ -85,6 +110,11 @@ module _ {S T F : Type 0} (take : TakeGhosts T F) where
         is = inr (code, refl, vain.is);
         may_open = vain.may_open;
         for_a_start = λ log stands. inr (vain.some.0, vain.some.1, sym (are (past_of d log) stands.has.session vain.some.0 vain.some.1) ∙ vain.some.2);
+        places = λ log stands run named is other.
+            let same-code = code-of packet code named is in
+            let past = past_of d log in
+            let found = vain.places past stands.has.session run (λ e. other (sym same-code ∙ e)) in
+            (sym same-code ∙ found.0, finds a b lists packet past found.1 channels stands.has.session (λ l below. are past stands.has.session l below));
         goes = λ log few stands.
             let before = vain.opening ++ log in
             let was = vain.goes log (omega (arith, few)) stands in

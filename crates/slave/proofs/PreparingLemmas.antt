@@ -22,7 +22,7 @@ use Rattle.slave.specs.Plans.{IsSame, plan_of}
 use Rattle.slave.proofs.PlanLemmas.{as-opened, is-same, just-opened}
 use Rattle.session.specs.Profiles.{lists_of}
 use Rattle.xcp_base.specs.declared.err_code.ErrCode.TheVariants.{CmdBusy, MemoryOverflow, Sequence}
-use Rattle.slave.specs.Inner.{AreSets, Busy, HasParts, HasSome, Idle, IsPlaceRefusal, LooksAtAll, OpensAll, OpensInVain, OpensNone, Prepares, SlaveStarted, StartsInVain, StartsLists}
+use Rattle.slave.specs.Inner.{AreSets, Busy, HasParts, HasSome, Idle, IsBusy, IsPlaceRefusal, LooksAtAll, OpensAll, OpensInVain, OpensNone, Prepares, SlaveStarted, StartsInVain, StartsLists}
 use Rattle.slave.specs.Log.{Act, Opened, deeds_of, entries_of, is_out, laid, opened, past_of, sent_of}
 use Rattle.slave.specs.Standing.{NoneRuns, SlaveHas, SlaveStandsAfter, SlaveState}
 use Rattle.slave.proofs.ChannelLemmas.{channel-ends, takes-ended}
@@ -174,15 +174,16 @@ module _ {S T F : Type 0} (take : TakeGhosts T F) where
   }
 
   -- lists are not started, since there is no place for the orders
-  pub looks-in-vain : (a b : SlaveState S T) (lists : ℕ) (code : ErrCode) → IsPlaceRefusal code → LooksAtAll a b → HasSome lists → a.session.store.profile ≡ lists_of a.session.profile
+  pub looks-in-vain : (a b : SlaveState S T) (lists : ℕ) (code : ErrCode) → IsBusy a b lists code → LooksAtAll a b → HasSome lists → a.session.store.profile ≡ lists_of a.session.profile
       → ((l : ℕ) → l < MAX_LISTS → has_list lists l ≡ true → IsSame a.plan a.session.store l) → StartsInVain take a b lists code
   looks-in-vain a b lists code is looks some profile same = record {
-    is = inr is;
+    is = inr (inl is.0);
     some = some;
     opening = [];
     may_open = nothing-opened;
+    places = λ past stands run other. is;
     sequence = λ log few stands. (
-      λ e. absurd (place-code code is e),
+      λ e. absurd (place-code code (inl is.0) e),
       λ other. absurd (other.other (as-opened a.session.profile a.session a.plan log other.list profile stands.has.session stands.has.plan (same other.list other.below other.one))),
     );
     goes = λ log few stands. record {
@@ -199,6 +200,7 @@ module _ {S T F : Type 0} (take : TakeGhosts T F) where
     some = (l, below, one);
     opening = [];
     may_open = nothing-opened;
+    places = λ past stands run other. absurd (other refl);
     sequence = λ log few stands. (
       λ e. record {
         list = l;
@@ -219,6 +221,7 @@ module _ {S T F : Type 0} (take : TakeGhosts T F) where
     some = some;
     opening = [];
     may_open = nothing-opened;
+    places = λ past stands run other. absurd (run (idle past stands));
     sequence = λ log few stands. (λ e. absurd (place-code code is e), λ other. absurd (other.some (idle (past_of a.session.profile log) stands.has.session)));
     goes = λ log few stands. subst (λ s. SlaveStandsAfter take a.session.profile s log) (sym same) stands;
   }
@@ -267,6 +270,7 @@ module _ {S E T F : Type 0} (send : SendGhosts S E) (ring : EndGhosts E) (take :
           some = some;
           opening = Opened (parts-vain send ring take a b vain).at ∷ [];
           may_open = one-opened (parts-vain send ring take a b vain).at;
+          places = λ past stands run other. absurd (run (idle past stands));
           sequence = λ log few stands. (λ e. absurd (place-code code is e), λ other. absurd (other.some (idle (past_of a.session.profile log) stands.has.session)));
           goes = λ log few stands. opens-in-vain send ring take a.session.profile a b log (omega (arith, few)) (idle (past_of a.session.profile log) stands.has.session) stands vain;
         }
@@ -279,6 +283,7 @@ module _ {S E T F : Type 0} (send : SendGhosts S E) (ring : EndGhosts E) (take :
     some = some;
     opening = Opened (parts-all send ring take a m opens).at ∷ [];
     may_open = one-opened (parts-all send ring take a m opens).at;
+    places = λ past stands run other. absurd (run (idle past stands));
     sequence = λ log few stands. (λ e. absurd (place-code code is e), λ other. absurd (other.some (idle (past_of a.session.profile log) stands.has.session)));
     goes = λ log few stands.
         let d = a.session.profile in

@@ -1,15 +1,21 @@
 -- What a slave does with a packet of its master (own).
-use Rattle.std.specs.Prelude.{◌≡◌, ℕ, ◌+◌, ◌*◌, ◌≤◌, ◌⊎◌, Bool, true, false}
-use Rattle.std.specs.Prelude.{List, [], ◌∷◌, ◌++◌, length}
+use Rattle.std.specs.Prelude.{◌≡◌, ◌≢◌, ℕ, ◌+◌, ◌*◌, ◌<◌, ◌≤◌, ◌⊎◌, ◌&&◌, Bool, true, false}
+use Rattle.std.specs.Prelude.{List, [], ◌∷◌, ◌++◌, length, slice_get, Some}
 use Rattle.std.specs.List.{list_all}
 use Rattle.xcp_base.specs.declared.err_code.ErrCode.{ErrCode}
 use Rattle.xcp_base.specs.declared.err_code.ErrCode.TheVariants.{CmdBusy, MemoryOverflow, Sequence}
-use Rattle.xcp_base.specs.declared.limits.TheConstants.{MAX_TAKEN}
+use Rattle.xcp_base.specs.Lists.{has_list}
+use Rattle.xcp_base.specs.declared.limits.TheConstants.{MAX_LISTS, MAX_TAKEN}
 use Rattle.channel_ring.specs.declared.ends.TakeEnd.{Ghosts as TakeGhosts}
 use Rattle.session.specs.Exchanges.{Exchange}
+use Rattle.session.specs.Past.{Past}
+use Rattle.session.specs.Starts.{is_on, starts}
+use Rattle.session.specs.declared.profile.Profile.{Profile}
+use Rattle.tasks.specs.Links.{CanStart}
+use Rattle.slave_channel.specs.Channels.{ChannelState}
 use Rattle.slave.specs.Log.{Act, CameBack, Heard, HungUp, Opened, Refused, Sent, Took}
 use Rattle.slave.specs.Log.{opened, past_of}
-use Rattle.slave.specs.Standing.{IsStart, SlaveStandsAfter, SlaveState}
+use Rattle.slave.specs.Standing.{IsStart, NoneRuns, SlaveStandsAfter, SlaveState}
 
 -- a start was refused because a list doesn't stand as it did where the measurement was opened,
 -- because a task has no place for the orders, or for want of memory
@@ -37,6 +43,21 @@ IsHearing packet clock act =
     ((x : Exchange) × (act ≡ Heard x) × (x.packet ≡ packet) × (x.clock ≡ clock))
     ⊎ ((code : ErrCode) × (act ≡ Refused packet code) × IsStartRefusal code)
 
+module _ {S T : Type 0} where
+  -- at an event channel of lists that the packet starts, their starts find no places at the task,
+  -- with the stops of all lists that then run and an order to end
+  pub record FindsNoPlaces (d : Profile) (past : Past) (packet : List ℕ) (s : SlaveState S T)
+      : Type 0 where
+    pub channel : ℕ
+    pub set : ℕ
+    pub state : ChannelState S T
+    pub are :
+        (l : ℕ) → l < MAX_LISTS
+        → has_list set l ≡ (starts d past packet l && is_on d past channel l)
+    pub some : set ≢ 0
+    pub state_is : slice_get s.channels channel ≡ Some state
+    pub cannot : ¬ CanStart state.link.newer (has_list set)
+
 module _ {S T F : Type 0} (take : TakeGhosts T F) where
   -- whatever the one stands after, short of 2^57 acts, the other stands after that and these acts
   abbrev pub GoesBy : SlaveState S T → SlaveState S T → List Act → Type 0
@@ -45,7 +66,9 @@ module _ {S T F : Type 0} (take : TakeGhosts T F) where
       → SlaveStandsAfter take a.session.profile a log
       → SlaveStandsAfter take a.session.profile b (acts ++ log)
 
-  -- a packet was heard; before that a measurement may have been opened, if it is a start
+  -- a packet was heard; before that a measurement may have been opened, if it is a start; and while
+  -- lists run, a start that isn't refused with ERR_SEQUENCE is refused with ERR_CMD_BUSY, where its
+  -- orders find no places, or else not at all
   pub record Hears (a b : SlaveState S T) (packet : List ℕ) (clock : ℕ) : Type 0 where
     pub act : Act
     pub opening : List Act
@@ -54,4 +77,10 @@ module _ {S T F : Type 0} (take : TakeGhosts T F) where
     pub for_a_start :
         (log : List Act) → SlaveStandsAfter take a.session.profile a log
         → (opening ≡ []) ⊎ IsStart a.session.profile (past_of a.session.profile log) packet
+    pub places :
+        (log : List Act) → SlaveStandsAfter take a.session.profile a log
+        → ¬ NoneRuns (past_of a.session.profile log)
+        → (code : ErrCode) → act ≡ Refused packet code → code ≢ Sequence
+        → (code ≡ CmdBusy)
+        × FindsNoPlaces a.session.profile (past_of a.session.profile log) packet b
     pub goes : GoesBy a b (act ∷ opening)

@@ -1,6 +1,6 @@
 -- What no public clause cites: parts of what a slave does with a packet.
-use Rattle.std.specs.Prelude.{◌≡◌, ℕ, ◌+◌, ◌-◌, ◌*◌, ◌%◌, ◌<◌, ◌≤◌, ◌⊎◌, ◌&&◌, not, Bool, true}
-use Rattle.std.specs.Prelude.{false, List, [], ◌∷◌}
+use Rattle.std.specs.Prelude.{◌≡◌, ◌≢◌, ℕ, ◌+◌, ◌-◌, ◌*◌, ◌%◌, ◌<◌, ◌≤◌, ◌⊎◌, ◌&&◌, not}
+use Rattle.std.specs.Prelude.{Bool, true, false, List, [], ◌∷◌}
 use Rattle.std.specs.Prelude.{◌++◌, ◌↔◌, length, slice_get, if◌then◌else◌, Option, Some, None}
 use Rattle.std.specs.List.{list_all}
 use Rattle.xcp_base.specs.declared.err_code.ErrCode.TheVariants.{CmdBusy, MemoryOverflow, Sequence}
@@ -25,8 +25,8 @@ use Rattle.session_account.specs.Accounts.{AccountStandsAfter, Entry}
 use Rattle.session_account.specs.declared.totals.Totals.{Totals}
 use Rattle.slave_channel.specs.Channels.{ChannelState, FinishedState, IsPastOf}
 use Rattle.slave_channel.specs.Ordering.{starts_noted}
-use Rattle.slave_channels.specs.Calls.{CanStartAll, Ends, Looks, OpensAt, OpenedAndEnded}
-use Rattle.slave_channels.specs.Calls.{StartsAt, StopsAll}
+use Rattle.slave_channels.specs.Calls.{CanStartAll, Ends, HasNoPlaces, Looks, OpensAt}
+use Rattle.slave_channels.specs.Calls.{OpenedAndEnded, StartsAt, StopsAll}
 use Rattle.slave_channels.specs.Each.{IsEach}
 use Rattle.slave.specs.Hearing.{GoesBy, IsStartRefusal, MayOpen}
 use Rattle.slave.specs.Log.{Act, Heard}
@@ -104,6 +104,17 @@ module _ {S T : Type 0} where
   pub record LooksAtAll (a b : SlaveState S T) : Type 0 where
     pub channels : IsEach (λ c. Looks) a.channels b.channels
     pub rest : b ≡ record a { channels = b.channels }
+
+  -- at an event channel starts of the lists find no places
+  pub record WantsPlaces (s : SessionState) (lists : ℕ) (now : List (ChannelState S T))
+      : Type 0 where
+    pub sets : List ℕ
+    pub are : AreSets s lists sets
+    pub none : HasNoPlaces sets now
+
+  -- so starts are refused
+  abbrev pub IsBusy : SlaveState S T → SlaveState S T → ℕ → ErrCode → Type 0
+  IsBusy a b lists code = (code ≡ CmdBusy) × WantsPlaces a.session lists b.channels
 
   -- beside the event channels, one measurement more was opened
   pub record OpensBeside (a b : SlaveState S T) : Type 0 where
@@ -185,6 +196,9 @@ module _ {S T F : Type 0} (take : TakeGhosts T F) where
         (log : List Act) → 32 * (1 + length opening + length log) ≤ MAX_TAKEN
         → SlaveStandsAfter take a.session.profile a log
         → (code ≡ Sequence) ↔ HasOther a.session.profile (opening ++ log) lists
+    pub places :
+        (past : Past) → SessionStandsAfter a.session past → ¬ NoneRuns past → code ≢ Sequence
+        → IsBusy a b lists code
     pub goes : GoesBy take a b opening
 
   -- a packet was answered whose lists were started

@@ -2,7 +2,8 @@
 ghost use Rattle.std.specs.Prelude.{◌≡◌, ℕ, ◌<◌, IfErr, OnErr, OnOk, length, true, false};
 ghost use Rattle.xcp_base.specs.Lists.{has_list};
 ghost use Rattle.xcp_base.specs.declared.limits.TheConstants.{MAX_CHANNELS, MAX_LISTS};
-ghost use Rattle.slave.specs.Inner.{AreSets, Busy, HasSome, Idle, IsPlaceRefusal, LooksAtAll};
+ghost use Rattle.slave.specs.Inner.{AreSets, Busy, HasSome, Idle, IsBusy, IsPlaceRefusal};
+ghost use Rattle.slave.specs.Inner.{LooksAtAll};
 ghost use Rattle.slave.specs.Inner.{OpensAll, OpensInVain, OpensNone, Prepares};
 ghost use Rattle.slave.specs.Inner.{StartsInVain, StartsLists};
 ghost use Rattle.slave.specs.Plans.{plan_of};
@@ -128,7 +129,7 @@ impl<R: Ring> Slave<R> {
     /// Orders the starts of these lists, if all find places.
     fn start(&mut self, lists: u16) -> Result<(), ErrCode>
         ensures ok { OnOk result (StartsLists R.Take.TakeEnd self.old self.new lists) }
-        ensures code { IfErr result IsPlaceRefusal }
+        ensures busy { IfErr result (IsBusy self.old self.new lists) }
         ensures err { OnErr result (LooksAtAll self.old self.new) }
     {
         let sets = self.sets_of(lists);

@@ -29,7 +29,7 @@ pub returns-clause-err : goal.returns-clause-err
 returns-clause-err g c =
     let profile = subst (λ s. s.session.store.profile ≡ lists_of s.session.profile) c.self.view_is (ap (λ s. s.profile) (sym c.store.ensures.value) ∙ c.store.ensures.profile) in
     let some : HasSome c.args.lists = c.is_empty.ensures.some c.if-is_empty.false in
-    if-err c.start.result _ _ _ c.start.ensures.code c.start.ensures.err
+    if-err c.start.result _ _ _ c.start.ensures.busy c.start.ensures.err
     (λ code is looks.
     looks-in-vain g.R.Take.TakeEnd c.args.self.now c.start.new.self c.args.lists code is looks some profile
     (λ l below one.

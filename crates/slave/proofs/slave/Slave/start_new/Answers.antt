@@ -1,4 +1,4 @@
-use Rattle.std.proofs.Common.{ap, subst}
+use Rattle.std.proofs.Common.{ap, subst, inl}
 use Rattle.slave_channels.specs.Calls.{Ends}
 use Rattle.slave_channels.specs.Each.{IsEach}
 use Rattle.slave.specs.Standing.{SlaveState}
@@ -12,7 +12,7 @@ returns-in-Err-clause-err g c =
 
 pub returns-in-Err-start-clause-err : goal.returns-in-Err-start-clause-err
 returns-in-Err-start-clause-err g c =
-    ended-in-vain g.R.Send.SendEnd g.R.Send.End.RingEnd g.R.Take.TakeEnd c.args.self.now c.open_measurement.new.self c.start.new.self _ c.args.lists c.in-Err-start.code c.in-Err-start.ensures.code c.requires.idle
+    ended-in-vain g.R.Send.SendEnd g.R.Send.End.RingEnd g.R.Take.TakeEnd c.args.self.now c.open_measurement.new.self c.start.new.self _ c.args.lists c.in-Err-start.code (inl c.in-Err-start.ensures.busy.0) c.requires.idle
     c.requires.some c.in_default.ensures.ok c.in-Err-start.ensures.err
     (subst (λ xs. IsEach (λ k. Ends) xs c.end.new.self) (ap (λ s. s.channels) c.self.view_is) c.end.ensures.ends) (ap {A = SlaveState g.row.R-Send.Denot g.row.R-Take.Denot} (λ s. record s { channels = c.end.new.self }) c.self.view_is)
 
