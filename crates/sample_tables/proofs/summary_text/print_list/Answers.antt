@@ -21,6 +21,7 @@ returns g c =
     let three = Appends-trans _ _ _ _ _ two c.in_ok-print_count.ensures in
     let four = Appends-trans _ _ _ _ _ three c.in_ok-print_count-2.ensures in
     let five = Appends-trans _ _ _ _ _ four c.in_ok-print_ticks.ensures in
-    Appends-trans _ _ _ _ _ five (Appends-trans _ _ _ _ _ c.in_ok-print_ticks-2.ensures end))
+    let six = Appends-trans _ _ _ _ _ five c.in_ok-print_ticks-2.ensures in
+    Appends-trans _ _ _ _ _ six end)
     c.writeln.ensures.bytes in
     search rules
