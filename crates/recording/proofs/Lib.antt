@@ -1,11 +1,6 @@
 pub mod FrontLemmas
 pub mod PassLemmas
 pub mod PieceLemmas
-pub mod PrintedLemmas
-pub mod RowLemmas
 pub mod RunFileLemmas
 pub mod ShownLemmas
-pub mod SpotLemmas
-pub mod TallyLemmas
-pub mod TimesLemmas
 pub mod WithinLemmas

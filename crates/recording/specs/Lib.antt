@@ -1,10 +1,5 @@
 pub mod Faults
 pub mod Messages
 pub mod Pieces
-pub mod Rows
 pub mod RunFiles
 pub mod Shown
-pub mod Spots
-pub mod Tables
-pub mod Tallies
-pub mod Times

@@ -7,8 +7,8 @@ use Rattle.daq_reader.specs.Lists.{NoneWaits, plans_of}
 use Rattle.daq_reader.specs.Reading.{Reading}
 use Rattle.daq_reader.specs.Recorded.{Recorded}
 use Rattle.recording.specs.Pieces.{Passes}
-use Rattle.recording.specs.Rows.{csv_text}
-use Rattle.recording.specs.Tables.{table_text}
+use Rattle.sample_tables.specs.Rows.{csv_text}
+use Rattle.sample_tables.specs.Tables.{table_text}
 use Rattle.recording.specs.declared.mode.Mode.{Mode}
 use Rattle.recording.specs.declared.mode.Mode.TheVariants.{Csv, Summary, Svg}
 use Rattle.recording.specs.declared.piece.Piece.{Piece}

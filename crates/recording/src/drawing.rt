@@ -2,10 +2,10 @@ ghost use Rattle.std.specs.Prelude.{◌≡◌, ◌++◌, ◌∷◌, ℕ, List, [
 ghost use Rattle.std.specs.Io.KnownBytes.{Appends};
 ghost use Rattle.sample_picture.specs.Shown.{IsClosed};
 
-use crate::places::Places;
 use daq_reader::{SampleLog, SampleView, Samples};
 use daq_store::Store;
 use sample_picture::{Axis, Picture};
+use sample_tables::Places;
 use std::alloc::{AllocError, Global};
 use std::io::{self, Write};
 use std::marker::Model;

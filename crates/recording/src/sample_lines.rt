@@ -1,9 +1,8 @@
 ghost use Rattle.std.specs.Prelude.{◌≡◌, ◌≤◌, length};
 
-use crate::summary::Summary;
-use crate::summary_text::print_summary;
 use daq_reader::{ListShape, SampleView, Samples};
 use run_story::write_sample;
+use sample_tables::{Summary, print_summary};
 use std::alloc::Global;
 use std::io::{self, ErrorKind, Write};
 use std::marker::Model;
@@ -21,7 +20,7 @@ pub struct SampleLines<W: Write + Drop> {
 }
 
 impl<W: Write + Drop> Model for SampleLines<W> {
-    ghost use Rattle.recording.specs.Tallies.{SummaryState};
+    ghost use Rattle.sample_tables.specs.Tallies.{SummaryState};
 
     ghost Value = { SummaryState };
 

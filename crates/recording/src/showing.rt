@@ -11,11 +11,9 @@ use crate::mode::Mode;
 use crate::piece::Piece;
 use crate::program_fault::ProgramFault;
 use crate::recording::read_frames;
-use crate::sample_rows::SampleRows;
-use crate::summary::Summary;
-use crate::summary_text::print_summary;
 use daq_reader::{reader_of, shapes_of};
 use daq_store::Store;
+use sample_tables::{SampleRows, Summary, print_summary};
 use std::alloc::Global;
 use std::io::{self, ErrorKind, Read, Write};
 

@@ -3,7 +3,7 @@ use Rattle.std.specs.Io.KnownBytes.{Appends}
 use Rattle.std.proofs.KnownBytes.{Appends-kept}
 use Rattle.daq_reader.specs.Lists.{plans_of}
 use Rattle.daq_reader.specs.Ready.{ready_lists}
-use Rattle.recording.specs.Rows.{csv_text}
+use Rattle.sample_tables.specs.Rows.{csv_text}
 use Rattle.recording.specs.declared.mode.Mode.TheVariants.{Csv}
 use Rattle.recording.proofs.ShownLemmas.{all_shown, of_ok, of_writer, stand_first}
 use Rattle.recording.proofs.showing.show_rows.Goals as goal

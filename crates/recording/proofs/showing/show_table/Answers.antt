@@ -2,7 +2,7 @@ use Rattle.std.proofs.Common.{◌≡◌, ◌∙◌, arith, subst, sym}
 use Rattle.std.specs.Io.KnownBytes.{Appends}
 use Rattle.daq_reader.specs.Lists.{plans_of}
 use Rattle.daq_reader.specs.Ready.{ready_lists}
-use Rattle.recording.specs.Tables.{table_text}
+use Rattle.sample_tables.specs.Tables.{table_text}
 use Rattle.recording.specs.declared.mode.Mode.TheVariants.{Summary}
 use Rattle.recording.proofs.ShownLemmas.{all_shown, of_ok, of_writer, stand_first}
 use Rattle.recording.proofs.showing.show_table.Goals as goal

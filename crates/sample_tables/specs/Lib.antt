@@ -1,0 +1,5 @@
+pub mod Rows
+pub mod Spots
+pub mod Tables
+pub mod Tallies
+pub mod Times

@@ -1,0 +1,19 @@
+//! The samples that were read off a recording: counted, as a table and as CSV, with their times and
+//! their places on an axis.
+#![tactic(auto)]
+
+mod places;
+mod row;
+mod sample_rows;
+mod spot;
+mod spots;
+mod summary;
+mod summary_text;
+mod tally;
+mod times;
+
+pub use places::Places;
+pub use sample_rows::SampleRows;
+pub use summary::Summary;
+pub use summary_text::print_summary;
+pub use tally::Tally;
