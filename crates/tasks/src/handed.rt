@@ -40,6 +40,7 @@ ghost use Rattle.rtrb.specs.Ring.{IsPair, known_free, received, sent};
 ghost use Rattle.tasks.specs.Tasks.{ObeysNext, TriggersSampler};
 
 /// Carries out the start at the front.
+#[inline(never)]
 fn start<S: SendEnd>(sampler: &mut Sampler<S>, orders: &mut OrderTake, l: u8) -> Obeyed
     requires front { IsPrefix (ToStart l ∷ []) orders.old.known }
     ensures { ObeysNext S.SendEnd S.End.RingEnd sampler.old sampler.new
@@ -59,6 +60,7 @@ fn finds_no_room(stopped: Result<(), StopFault>) -> bool
 }
 
 /// Carries out the stop at the front, unless its marker finds no room.
+#[inline(never)]
 fn stop<S: SendEnd>(sampler: &mut Sampler<S>, orders: &mut OrderTake, l: u8) -> Obeyed
     requires front { IsPrefix (ToStop l ∷ []) orders.old.known }
     ensures { ObeysNext S.SendEnd S.End.RingEnd sampler.old sampler.new

@@ -46,6 +46,7 @@ fn obey_held<S: SendEnd>(held: &mut Option<Handed<S>>) -> Obeyed
 }
 
 /// Gives back what is left of what is held.
+#[inline(never)]
 fn give_back<S: SendEnd>(held: &mut Option<Handed<S>>)
     ensures { held.new ≡ None }
 {
@@ -86,6 +87,10 @@ fn trigger_held<S: SendEnd>(
 
 impl<S: SendEnd> Task<S> {
     /// Takes the next sampler that was handed out, if one is there.
+    ///
+    /// It stands out of line, as does all that a look seldom finds: a trigger then makes no room for
+    /// it on the stack.
+    #[inline(never)]
     fn receive(&mut self) -> bool
         requires none { self.old.held ≡ None }
         ensures some { result ≡ true
