@@ -7,9 +7,8 @@ use crate::opened::opened;
 use crate::same::same;
 use crate::stores::{one_list, two_lists};
 use byte_ring::ByteRing;
-use channel_ring::{RingEnd, SampleRing, SendEnd, TakeEnd};
-use daq_engine::{CloseFault, Ring, close, finish_all};
-use daq_store::Store;
+use channel_ring::{Beside, RingEnd, SampleRing, SendEnd, TakeEnd};
+use daq_engine::{CloseFault, Engine, Ring, close, finish_all};
 use frame_writer::{Out, VecOut};
 use sampler::SamplerEnd;
 use std::alloc::Global;
@@ -20,19 +19,16 @@ use transmitter::Transmitter;
 /// A transmitter that writes into memory.
 type Writing<T> = Transmitter<VecOut<Global>, T>;
 
-/// What is left of samplers that sent into rings of a kind.
-type Left<K> = Vec<SamplerEnd<<<K as Ring>::Send as SendEnd>::End>>;
-
-/// What is left of the samplers of an engine over a store, and the transmitter of their rings.
-fn finished<K: Ring>(
+/// What is left of the samplers of an engine, and the transmitter of their rings.
+fn finished<T: Beside>(
     alloc: Global,
-    store: &Store,
-    caps: &[usize],
-) -> Result<(Left<K>, Writing<K::Take>), Fail>
-    ensures rings { IfOk result (λ r. AreOfRings K.Send.End.RingEnd
-        (transmission ⟦<VecOut<Global> as Out>⟧ K.Take.TakeEnd r.1) r.0.items) }
+    engine: Engine<VecOut<Global>, T>,
+) -> Result<(Vec<SamplerEnd<T::End>>, Writing<T>), Fail>
+where
+    T::Send: SendEnd<End = T::End>,
+    ensures rings { IfOk result (λ r. AreOfRings T.End.RingEnd
+        (transmission ⟦<VecOut<Global> as Out>⟧ T.TakeEnd r.1) r.0.items) }
 {
-    let engine = opened::<K, VecOut<Global>>(alloc, store, caps, VecOut::new(alloc))?;
     let (samplers, transmitter) = engine.into_parts();
     let room = Vec::with_capacity(alloc, samplers.len())?;
     match finish_all(samplers, room) {
@@ -81,8 +77,10 @@ fn closes_with_its_own<K: Ring>(
     cap: usize,
     row: &str,
 ) -> Result<(), Fail> {
-    let (own, transmitter) = finished::<K>(alloc, &one_list(alloc)?, &[cap])?;
-    let (others, _) = finished::<K>(alloc, &two_lists(alloc)?, &[cap, cap])?;
+    let engine = opened::<K, _>(alloc, &one_list(alloc)?, &[cap], VecOut::new(alloc))?;
+    let other = opened::<K, _>(alloc, &two_lists(alloc)?, &[cap, cap], VecOut::new(alloc))?;
+    let (own, transmitter) = finished(alloc, engine)?;
+    let (others, _) = finished(alloc, other)?;
     let (none, transmitter) = refused(alloc, transmitter, Vec::new(alloc))?;
     let (two, transmitter) = refused(alloc, transmitter, others)?;
     let failed = closes(alloc, transmitter, own)?;

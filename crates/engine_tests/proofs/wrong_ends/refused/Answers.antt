@@ -8,6 +8,6 @@ use Rattle.engine_tests.proofs.wrong_ends.refused.Goals as goal
 pub close-requires : goal.close-requires
 close-requires g c = record {
   one_ring = λ are.
-    let long = sym (length-map c.args.ends.items (λ (e : SamplerEndState g.row.T-End.Denot). e.channel)) ∙ ap length are ∙ length-upto 0 _ in
-    absurd (omega (arith, long, c.if-len-rings.false, c.rings.ensures.value, c.len.ensures));
+      let long = sym (length-map c.args.ends.items (λ (e : SamplerEndState g.row.T-End.Denot). e.channel)) ∙ ap length are ∙ length-upto 0 _ in
+      absurd (omega (arith, long, c.if-len-rings.false, c.rings.ensures.value, c.len.ensures));
 }
