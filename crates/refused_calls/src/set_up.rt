@@ -1,6 +1,6 @@
 //! A whole set-up by command packets.
 use crate::answer::{Answer, Failure, check};
-use crate::stores::{StoreView, new_store, view_of};
+use crate::stores::{StoreView, store_of, view_of};
 use daq_store::Store;
 use frame_writer::{FrameWriter, VecOut};
 use linked_list_allocator::LocalHeap;
@@ -49,7 +49,7 @@ fn packets_of(alloc: Global) -> Result<Vec<Vec<u8>>, AllocError> {
 
 /// What a store shows for which these packets were carried out.
 fn view_after(alloc: Global, heap: &LocalHeap, packets: &[Vec<u8>]) -> Result<StoreView, Failure> {
-    let mut store = new_store(alloc, 1)?;
+    let mut store = store_of(alloc, 1, 2, &[])?;
     let mut writer = FrameWriter::new(VecOut::new(heap));
     let answer = carry_all(&mut store, packets, &mut writer);
     check(answer.is_ok(), "the front of the set-up wasn't carried out")?;
@@ -84,7 +84,7 @@ fn once_more(
 pub fn carry_packets(alloc: Global) -> Result<Answer, Failure> {
     let heap = LocalHeap::new(alloc, 8192)?;
     let packets = packets_of(alloc)?;
-    let mut store = new_store(alloc, 1)?;
+    let mut store = store_of(alloc, 1, 2, &[])?;
     let mut writer = FrameWriter::new(VecOut::new(&heap));
     let answer = match carry_all(&mut store, &packets, &mut writer) {
         Ok(()) => Answer::AtOnce,
