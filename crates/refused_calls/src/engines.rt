@@ -114,6 +114,14 @@ fn close_at_last<O: Out + Drop, T: TakeEnd>(
 /// A writer into a heap of its own.
 type Writer<'a> = VecOut<&'a LocalHeap>;
 
+/// Why an engine wasn't opened.
+fn not_opened(fault: OpenFault) -> Failure {
+    match fault {
+        OpenFault::Memory => Failure::Before,
+        _ => Failure::Wrong("it wasn't opened"),
+    }
+}
+
 /// An engine of two event channels, whose rings have so many places.
 fn engine_of<'a>(
     alloc: Global,
@@ -124,8 +132,7 @@ fn engine_of<'a>(
     let writer = FrameWriter::new(VecOut::new(heap));
     match Engine::open(alloc, &store, &[places, places], writer) {
         Ok(engine) => Ok(engine),
-        Err((OpenFault::Memory, _)) => Err(Failure::Before),
-        Err(_) => Err(Failure::Wrong("it wasn't opened")),
+        Err((fault, _)) => Err(not_opened(fault)),
     }
 }
 
@@ -148,21 +155,25 @@ pub fn close_engine(alloc: Global) -> Result<Answer, Failure> {
     Ok(answer)
 }
 
-/// Each call of a run, on both event channels: samples that are accepted and dropped, a stop that
-/// finds room and one that doesn't, a start, calls that are refused, pumps and readers.
+/// Each call of a run on an event channel: samples that are accepted and dropped, a stop that finds
+/// room and one that doesn't, a start, calls that are refused, and readers.
+fn do_calls<O: Out + Drop>(engine: &mut Engine<O, TakeHalf>, c: u8) -> bool {
+    let channel = c as usize;
+    let _ = engine.trigger(channel, &[1, c], 0);
+    let _ = engine.stop(channel, c);
+    let _ = engine.start(channel, c);
+    let _ = engine.trigger(channel, &[2, c], 0);
+    let _ = engine.trigger(channel, &[3, c], 0);
+    let _ = engine.trigger(channel, &[4], 0);
+    let _ = engine.stop(channel, c);
+    let _ = engine.start(channel, 9);
+    engine.counts(channel, c).is_some()
+}
+
+/// The same on both, and a pump.
 fn do_round<O: Out + Drop>(engine: &mut Engine<O, TakeHalf>) -> Result<(), Failure> {
-    for c in 0..2u8 {
-        let channel = c as usize;
-        let _ = engine.trigger(channel, &[1, c], 0);
-        let _ = engine.stop(channel, c);
-        let _ = engine.start(channel, c);
-        let _ = engine.trigger(channel, &[2, c], 0);
-        let _ = engine.trigger(channel, &[3, c], 0);
-        let _ = engine.trigger(channel, &[4], 0);
-        let _ = engine.stop(channel, c);
-        let _ = engine.start(channel, 9);
-        check(engine.counts(channel, c).is_some(), "no counts")?;
-    }
+    check(do_calls(engine, 0), "no counts")?;
+    check(do_calls(engine, 1), "no counts")?;
     check(engine.pump().is_ok(), "a pump was refused")
 }
 

@@ -167,6 +167,20 @@ pub fn carry_run<R: Threads + Wait + Sync>(
     }
 }
 
+/// Carries a run out, whatever it comes to.
+fn carry_any<R: Threads + Wait + Sync>(
+    rt: &R,
+    alloc: Global,
+    run: &Run,
+    heap: &LocalHeap,
+    way: Way,
+) -> Result<(), Failure> {
+    match carried_out(rt, alloc, run, heap, way) {
+        Ok(outcome) => check(!outcome.report.failed, "the writer failed"),
+        Err(_) => Err(Failure::Wrong("it wasn't carried out")),
+    }
+}
+
 /// Reads a run of so many rounds, and carries it out where that is wanted.
 pub fn run_rounds<R: Threads + Wait + Sync>(
     rt: &R,
@@ -175,12 +189,10 @@ pub fn run_rounds<R: Threads + Wait + Sync>(
     way: Option<Way>,
 ) -> Result<(), Failure> {
     let heap = LocalHeap::new(alloc, HEAP)?;
-    let run = run_of(alloc, &text_of(alloc, ROUND, rounds)?)?;
-    let Some(way) = way else {
-        return Ok(());
-    };
-    match carried_out(rt, alloc, &run, &heap, way) {
-        Ok(outcome) => check(!outcome.report.failed, "the writer failed"),
-        Err(_) => Err(Failure::Wrong("it wasn't carried out")),
+    let text = text_of(alloc, ROUND, rounds)?;
+    let run = run_of(alloc, &text)?;
+    match way {
+        Some(way) => carry_any(rt, alloc, &run, &heap, way),
+        None => Ok(()),
     }
 }
