@@ -71,6 +71,33 @@ fn pump_beside(
     )
 }
 
+/// Runs both samplers, each in a thread of its own, and the transmitter beside them.
+fn run_beside(
+    rt: &impl Threads,
+    first: Sampler<SendHalf>,
+    second: Sampler<SendHalf>,
+    transmitter: Transmitter<VecOut<Global>, TakeHalf>,
+) -> (
+    Option<SamplerEnd<SendLeft>>,
+    Option<SamplerEnd<SendLeft>>,
+    Transmitter<VecOut<Global>, TakeHalf>,
+)
+    ensures first { IfSome result.0 (λ end. ⟦<SendLeft as RingEnd>⟧.ring end.end
+        ≡ ⟦<SendHalf as SendEnd>⟧.ring first.end) }
+    ensures second { IfSome result.1 (λ end. ⟦<SendLeft as RingEnd>⟧.ring end.end
+        ≡ ⟦<SendHalf as SendEnd>⟧.ring second.end) }
+    ensures rings { (transmission ⟦<VecOut<Global> as Out>⟧ ⟦<TakeHalf as TakeEnd>⟧ result.2).rings
+        ≡ (transmission ⟦<VecOut<Global> as Out>⟧ ⟦<TakeHalf as TakeEnd>⟧ transmitter).rings }
+{
+    let ended = AtomicUsize::new(0);
+    let (first, (second, transmitter)) = thread::join(
+        rt,
+        || sample_all(first, &ended),
+        || pump_beside(rt, second, transmitter, &ended),
+    );
+    (first, second, transmitter)
+}
+
 /// The two samplers of a store of two event channels, and the transmitter of their rings, which
 /// have 16 places each.
 fn two_of(
@@ -173,12 +200,7 @@ fn compare(rt: &impl Abort, report: &Report, packets: [u64; 2]) {
 fn two_samplers_run_beside_the_transmitter(rt: HostRuntime) -> Result<(), Fail> {
     let store = two_lists(rt.alloc())?;
     let (first, second, transmitter) = two_of(&rt, &store)?;
-    let ended = AtomicUsize::new(0);
-    let (first, (second, transmitter)) = thread::join(
-        &rt,
-        || sample_all(first, &ended),
-        || pump_beside(&rt, second, transmitter, &ended),
-    );
+    let (first, second, transmitter) = run_beside(&rt, first, second, transmitter);
     let (Some(first), Some(second)) = (first, second) else {
         return Err(Fail::from("a sampler that isn't finished"));
     };
