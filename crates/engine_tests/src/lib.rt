@@ -5,15 +5,11 @@
 #[cfg(test)]
 mod broken_writers;
 #[cfg(test)]
-mod examples;
-#[cfg(test)]
 mod opened;
 #[cfg(test)]
 mod opening;
 #[cfg(test)]
 mod same;
-#[cfg(test)]
-mod step;
 #[cfg(test)]
 mod stores;
 #[cfg(test)]

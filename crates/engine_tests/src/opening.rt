@@ -1,6 +1,6 @@
 //! What no clause says: that an engine opens, and comes to each refusal.
 use crate::same::same;
-use crate::stores::{WHOLE, ready_of};
+use crate::stores::one_list;
 use byte_ring::ByteRing;
 use channel_ring::SampleRing;
 use daq_engine::{OpenFault, Ring, open_over};
@@ -69,7 +69,7 @@ fn are_refused<R: Ring>(
     alloc: Global,
     rows: &[(&str, u8, &[usize], OpenFault)],
 ) -> Result<(), Fail> {
-    let mut store = ready_of(alloc, 1, 2, &[WHOLE])?;
+    let mut store = one_list(alloc)?;
     for &(name, mode, caps, fault) in rows {
         store.start_stop(mode, 0)?;
         let shown = refusal::<R>(alloc, &store, caps)?;

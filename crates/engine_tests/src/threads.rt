@@ -5,11 +5,12 @@ ghost use Rattle.transmitter.specs.Written.{transmission};
 use crate::same::same;
 use crate::stores::two_lists;
 use channel_ring::{RingEnd, SendEnd, SendHalf, SendLeft, TakeEnd, TakeHalf};
-use daq_engine::{Report, close, open};
+use daq_engine::{ListReport, Report, close, open};
 use daq_store::Store;
 use frame_writer::{FrameWriter, Out, VecOut, next_frame};
 use sampler::{Sampler, SamplerEnd};
 use std::alloc::Global;
+use std::process::Abort;
 use std::sync::atomic::{AtomicUsize, Ordering};
 use std::test::Fail;
 use std::thread::{self, Threads};
@@ -68,6 +69,33 @@ fn pump_beside(
         || sample_all(sampler, ended),
         || pump_all(transmitter, ended),
     )
+}
+
+/// Runs both samplers, each in a thread of its own, and the transmitter beside them.
+fn run_beside(
+    rt: &impl Threads,
+    first: Sampler<SendHalf>,
+    second: Sampler<SendHalf>,
+    transmitter: Transmitter<VecOut<Global>, TakeHalf>,
+) -> (
+    Option<SamplerEnd<SendLeft>>,
+    Option<SamplerEnd<SendLeft>>,
+    Transmitter<VecOut<Global>, TakeHalf>,
+)
+    ensures first { IfSome result.0 (λ end. ⟦<SendLeft as RingEnd>⟧.ring end.end
+        ≡ ⟦<SendHalf as SendEnd>⟧.ring first.end) }
+    ensures second { IfSome result.1 (λ end. ⟦<SendLeft as RingEnd>⟧.ring end.end
+        ≡ ⟦<SendHalf as SendEnd>⟧.ring second.end) }
+    ensures rings { (transmission ⟦<VecOut<Global> as Out>⟧ ⟦<TakeHalf as TakeEnd>⟧ result.2).rings
+        ≡ (transmission ⟦<VecOut<Global> as Out>⟧ ⟦<TakeHalf as TakeEnd>⟧ transmitter).rings }
+{
+    let ended = AtomicUsize::new(0);
+    let (first, (second, transmitter)) = thread::join(
+        rt,
+        || sample_all(first, &ended),
+        || pump_beside(rt, second, transmitter, &ended),
+    );
+    (first, second, transmitter)
 }
 
 /// The two samplers of a store of two event channels, and the transmitter of their rings, which
@@ -148,39 +176,36 @@ fn packets_of(bytes: &[u8]) -> Option<[u64; 2]> {
     Some(packets)
 }
 
+/// The account of a list whose sampler took a thousand triggers, of which so many were written.
+fn line_of(list: u8, written: u64) -> ListReport {
+    ListReport {
+        list,
+        due: 1000,
+        written,
+        dropped: 1000u64.saturating_sub(written),
+        left: 0,
+    }
+}
+
+/// Compares the account with the frames.
+fn compare(rt: &impl Abort, report: &Report, packets: [u64; 2]) {
+    let row = "1000 triggers each";
+    let wanted = [line_of(0, packets[0]), line_of(1, packets[1])];
+    let lists = report.lists.as_slice();
+    same(rt, lists, wanted.as_slice(), row, "lists");
+    same(rt, report.failed, false, row, "failed");
+}
+
 #[test]
 fn two_samplers_run_beside_the_transmitter(rt: HostRuntime) -> Result<(), Fail> {
     let store = two_lists(rt.alloc())?;
     let (first, second, transmitter) = two_of(&rt, &store)?;
-    let ended = AtomicUsize::new(0);
-    let (first, (second, transmitter)) = thread::join(
-        &rt,
-        || sample_all(first, &ended),
-        || pump_beside(&rt, second, transmitter, &ended),
-    );
-    let first = first.ok_or("a sampler that isn't finished")?;
-    let second = second.ok_or("a sampler that isn't finished")?;
+    let (first, second, transmitter) = run_beside(&rt, first, second, transmitter);
+    let (Some(first), Some(second)) = (first, second) else {
+        return Err(Fail::from("a sampler that isn't finished"));
+    };
     let (report, out) = close_two(rt.alloc(), transmitter, first, second)?;
     let packets = packets_of(out.bytes()).ok_or("other frames")?;
-    let shown = (report.failed, report.lists.len());
-    same(
-        &rt,
-        shown,
-        (false, 2),
-        "1000 triggers each",
-        "failed, lists",
-    );
-    for list in 0..2 {
-        let line = report.lists.get(list).copied().ok_or("no line")?;
-        let all = line.written.saturating_add(line.dropped);
-        let shown = (line.due, line.left, line.written, all);
-        same(
-            &rt,
-            shown,
-            (1000, 0, packets[list], 1000),
-            "1000 triggers each",
-            "a list",
-        );
-    }
+    compare(&rt, &report, packets);
     Ok(())
 }

@@ -57,7 +57,8 @@ fn is_account(report: &Report) -> bool {
         dropped: 0,
         left: 0,
     };
-    report.lists.as_slice() == [first, second].as_slice() && !report.failed
+    let lists = report.lists.as_slice();
+    (lists, report.failed) == ([first, second].as_slice(), false)
 }
 
 /// Three samples of list 0 over a ring of one place, with a pump behind the second.
@@ -66,10 +67,8 @@ fn sample_three<O: Out + Drop>(engine: &mut Engine<O, TakeHalf>) -> Result<(), F
     let second = engine.trigger(0, &[2, 2], 0).is_ok();
     let pumped = engine.pump().is_ok();
     let third = engine.trigger(0, &[3, 3], 0).is_ok();
-    check(
-        first && second && pumped && third,
-        "a call of the run was refused",
-    )
+    let went = [first, second, pumped, third];
+    check(went == [true; 4], "a call of the run was refused")
 }
 
 /// Closes what came back, which is as it was.
@@ -112,16 +111,35 @@ fn close_at_last<O: Out + Drop, T: TakeEnd>(
     }
 }
 
+/// A writer into a heap of its own.
+type Writer<'a> = VecOut<&'a LocalHeap>;
+
+/// Why an engine wasn't opened.
+fn not_opened(fault: OpenFault) -> Failure {
+    match fault {
+        OpenFault::Memory => Failure::Before,
+        _ => Failure::Wrong("it wasn't opened"),
+    }
+}
+
+/// An engine of two event channels, whose rings have so many places.
+fn engine_of<'a>(
+    alloc: Global,
+    heap: &'a LocalHeap,
+    places: usize,
+) -> Result<Engine<Writer<'a>, TakeHalf>, Failure> {
+    let store = two_lists(alloc)?;
+    let writer = FrameWriter::new(VecOut::new(heap));
+    match Engine::open(alloc, &store, &[places, places], writer) {
+        Ok(engine) => Ok(engine),
+        Err((fault, _)) => Err(not_opened(fault)),
+    }
+}
+
 /// The closing of an engine.
 pub fn close_engine(alloc: Global) -> Result<Answer, Failure> {
     let heap = LocalHeap::new(alloc, HEAP)?;
-    let store = two_lists(alloc)?;
-    let writer = FrameWriter::new(VecOut::new(&heap));
-    let mut engine = match Engine::open(alloc, &store, &[1, 1], writer) {
-        Ok(engine) => engine,
-        Err((OpenFault::Memory, _)) => return Err(Failure::Before),
-        Err(_) => return Err(Failure::Wrong("it wasn't opened")),
-    };
+    let mut engine = engine_of(alloc, &heap, 1)?;
     sample_three(&mut engine)?;
     let (samplers, transmitter) = engine.into_parts();
     let room = Vec::with_capacity(alloc, samplers.len())?;
@@ -137,32 +155,32 @@ pub fn close_engine(alloc: Global) -> Result<Answer, Failure> {
     Ok(answer)
 }
 
-/// Each call of a run, on both event channels: samples that are accepted and dropped, a stop that
-/// finds room and one that doesn't, a start, calls that are refused, pumps and readers.
+/// Each call of a run on an event channel: samples that are accepted and dropped, a stop that finds
+/// room and one that doesn't, a start, calls that are refused, and readers.
+fn do_calls<O: Out + Drop>(engine: &mut Engine<O, TakeHalf>, c: u8) -> bool {
+    let channel = c as usize;
+    let _ = engine.trigger(channel, &[1, c], 0);
+    let _ = engine.stop(channel, c);
+    let _ = engine.start(channel, c);
+    let _ = engine.trigger(channel, &[2, c], 0);
+    let _ = engine.trigger(channel, &[3, c], 0);
+    let _ = engine.trigger(channel, &[4], 0);
+    let _ = engine.stop(channel, c);
+    let _ = engine.start(channel, 9);
+    engine.counts(channel, c).is_some()
+}
+
+/// The same on both, and a pump.
 fn do_round<O: Out + Drop>(engine: &mut Engine<O, TakeHalf>) -> Result<(), Failure> {
-    for c in 0..2u8 {
-        let channel = c as usize;
-        let _ = engine.trigger(channel, &[1, c], 0);
-        let _ = engine.stop(channel, c);
-        let _ = engine.start(channel, c);
-        let _ = engine.trigger(channel, &[2, c], 0);
-        let _ = engine.trigger(channel, &[3, c], 0);
-        let _ = engine.trigger(channel, &[4], 0);
-        let _ = engine.stop(channel, c);
-        let _ = engine.start(channel, 9);
-        check(engine.counts(channel, c).is_some(), "no counts")?;
-    }
+    check(do_calls(engine, 0), "no counts")?;
+    check(do_calls(engine, 1), "no counts")?;
     check(engine.pump().is_ok(), "a pump was refused")
 }
 
 /// Opens an engine, makes each call of a run so many times, and closes it after a drain.
 pub fn run_engine(alloc: Global, rounds: usize) -> Result<(), Failure> {
     let heap = LocalHeap::new(alloc, HEAP)?;
-    let store = two_lists(alloc)?;
-    let writer = FrameWriter::new(VecOut::new(&heap));
-    let Ok(mut engine) = Engine::open(alloc, &store, &[2, 2], writer) else {
-        return Err(Failure::Wrong("it wasn't opened"));
-    };
+    let mut engine = engine_of(alloc, &heap, 2)?;
     for _ in 0..rounds {
         do_round(&mut engine)?;
     }

@@ -1,21 +1,126 @@
 //! The three allocations of the store, by its calls and by its commands.
 use crate::answer::{Answer, Failure, check};
-use crate::stores::{StoreView, alloc_two, new_store, view_of, write_list};
+use crate::stores::{StoreView, store_of, view_of};
 use daq_store::command::{self, Command};
 use daq_store::{Refusal, Reply, Store};
 use std::alloc::Global;
 use xcp_base::ErrCode;
 
-/// An allocation, in place of what a store has.
+/// What a store shows after an allocation: lists, FIRST_PID of list 1, the pointer, whether lists 0
+/// and 2 are selected, and whether lists 0 and 1 are ready.
+type After = (u16, Option<u8>, Option<(u16, u8, u8)>, [bool; 2], [bool; 2]);
+
+/// An allocation, in place of what a store has: the commands that lead to this, and what a store
+/// then shows.
 #[derive(Clone, Copy)]
-pub enum Growth {
-    /// Two lists in place of three.
-    Lists,
-    /// Three ODTs of list 0 in place of five.
-    Odts,
-    /// 32 entries in place of the one of list 0, which is ready and selected.
-    Entries,
+pub struct Growth {
+    fill: &'static [Command],
+    allocation: Command,
+    after: After,
 }
+
+/// Two lists in place of three.
+pub const LISTS: Growth = Growth {
+    fill: &[
+        Command::AllocDaq { count: 3 },
+        Command::SetDaqListMode {
+            mode: 0x10,
+            list: 2,
+            channel: 0,
+            prescaler: 7,
+            priority: 9,
+        },
+        Command::StartStopDaqList { mode: 2, list: 2 },
+    ],
+    allocation: Command::AllocDaq { count: 2 },
+    after: (2, Some(0), None, [false, false], [false, false]),
+};
+
+/// Three ODTs of list 0 in place of five.
+pub const ODTS: Growth = Growth {
+    fill: &[
+        Command::AllocDaq { count: 2 },
+        Command::AllocOdt { list: 1, count: 1 },
+        Command::AllocOdt { list: 0, count: 5 },
+        Command::SetDaqListMode {
+            mode: 0,
+            list: 0,
+            channel: 0,
+            prescaler: 1,
+            priority: 0,
+        },
+        Command::StartStopDaqList { mode: 2, list: 0 },
+    ],
+    allocation: Command::AllocOdt { list: 0, count: 3 },
+    after: (2, Some(3), None, [true, false], [false, false]),
+};
+
+/// 32 entries in place of the one of list 0, which is ready and selected.
+pub const ENTRIES: Growth = Growth {
+    fill: &[
+        Command::AllocDaq { count: 2 },
+        Command::AllocOdt { list: 0, count: 1 },
+        Command::AllocOdt { list: 1, count: 1 },
+        Command::AllocOdtEntry {
+            list: 0,
+            odt: 0,
+            count: 1,
+        },
+        Command::AllocOdtEntry {
+            list: 1,
+            odt: 0,
+            count: 1,
+        },
+        Command::SetDaqPtr {
+            list: 0,
+            odt: 0,
+            entry: 0,
+        },
+        Command::WriteDaq {
+            bit: 0xFF,
+            size: 2,
+            ext: 0,
+            addr: 0,
+        },
+        Command::SetDaqListMode {
+            mode: 0,
+            list: 0,
+            channel: 0,
+            prescaler: 1,
+            priority: 0,
+        },
+        Command::SetDaqPtr {
+            list: 1,
+            odt: 0,
+            entry: 0,
+        },
+        Command::WriteDaq {
+            bit: 0xFF,
+            size: 2,
+            ext: 0,
+            addr: 0,
+        },
+        Command::SetDaqListMode {
+            mode: 0,
+            list: 1,
+            channel: 0,
+            prescaler: 1,
+            priority: 0,
+        },
+        Command::StartStopDaqList { mode: 2, list: 0 },
+        Command::SetDaqPtr {
+            list: 1,
+            odt: 0,
+            entry: 0,
+        },
+    ],
+    allocation: Command::AllocOdtEntry {
+        list: 0,
+        odt: 0,
+        count: 32,
+    },
+    after: (2, Some(1), None, [true, false], [false, true]),
+};
 
 /// How an allocation is asked for.
 #[derive(Clone, Copy)]
@@ -24,75 +129,33 @@ pub enum Way {
     Command,
 }
 
-/// The calls that lead to what an allocation replaces.
-fn fill(store: &mut Store, growth: Growth) -> Result<(), Refusal> {
-    match growth {
-        Growth::Lists => {
-            store.alloc_daq(3)?;
-            store.set_mode(0x10, 2, 0, 7, 9)?;
-            store.start_stop(2, 2)?;
-        }
-        Growth::Odts => {
-            store.alloc_daq(2)?;
-            store.alloc_odt(1, 1)?;
-            store.alloc_odt(0, 5)?;
-            store.set_mode(0x00, 0, 0, 1, 0)?;
-            store.start_stop(2, 0)?;
-        }
-        Growth::Entries => {
-            alloc_two(store)?;
-            write_list(store, 0, 0)?;
-            write_list(store, 1, 0)?;
-            store.start_stop(2, 0)?;
-            store.set_ptr(1, 0, 0)?;
-        }
-    }
-    Ok(())
-}
-
-/// What comes of it by a call.
-fn by_call(store: &mut Store, growth: Growth) -> Result<(), Refusal> {
-    match growth {
-        Growth::Lists => store.alloc_daq(2),
-        Growth::Odts => store.alloc_odt(0, 3),
-        Growth::Entries => store.alloc_odt_entry(0, 0, 32),
+/// What comes of it by the store's call.
+fn by_call(store: &mut Store, allocation: Command) -> Result<(), Refusal> {
+    match allocation {
+        Command::AllocDaq { count } => store.alloc_daq(count),
+        Command::AllocOdt { list, count } => store.alloc_odt(list, count),
+        Command::AllocOdtEntry { list, odt, count } => store.alloc_odt_entry(list, odt, count),
+        _ => Err(Refusal::Code(ErrCode::CmdUnknown)),
     }
 }
 
-fn command_of(growth: Growth) -> Command {
-    match growth {
-        Growth::Lists => Command::AllocDaq { count: 2 },
-        Growth::Odts => Command::AllocOdt { list: 0, count: 3 },
-        Growth::Entries => Command::AllocOdtEntry {
-            list: 0,
-            odt: 0,
-            count: 32,
-        },
-    }
-}
-
-/// What comes of it by a command, in the words of the calls.
-fn by_command(store: &mut Store, growth: Growth) -> Result<(), Refusal> {
-    match command::carry_out(store, command_of(growth)) {
+/// What comes of it by the command, in the words of the calls.
+fn by_command(store: &mut Store, allocation: Command) -> Result<(), Refusal> {
+    match command::carry_out(store, allocation) {
         Ok(Reply::Positive) => Ok(()),
-        Ok(Reply::Started { .. } | Reply::Read { .. }) => {
-            Err(Refusal::Code(ErrCode::CmdUnknown))
-        }
-        Ok(Reply::Error(code)) => Err(Refusal::Code(code)),
+        Ok(_) => Err(Refusal::Code(ErrCode::CmdUnknown)),
         Err(_) => Err(Refusal::Memory),
     }
 }
 
-fn grow(store: &mut Store, growth: Growth, way: Way) -> Result<(), Refusal> {
+fn grow(store: &mut Store, growth: &Growth, way: Way) -> Result<(), Refusal> {
     match way {
-        Way::Call => by_call(store, growth),
-        Way::Command => by_command(store, growth),
+        Way::Call => by_call(store, growth.allocation),
+        Way::Command => by_command(store, growth.allocation),
     }
 }
 
-/// What a store shows after the allocation: lists, FIRST_PID of list 1, the pointer, and whether
-/// lists 0 and 2 are selected.
-fn after(store: &Store) -> (u16, Option<u8>, Option<(u16, u8, u8)>, [bool; 2], [bool; 2]) {
+fn after(store: &Store) -> After {
     (
         store.lists(),
         store.first_pid(1),
@@ -102,20 +165,10 @@ fn after(store: &Store) -> (u16, Option<u8>, Option<(u16, u8, u8)>, [bool; 2], [
     )
 }
 
-/// Whether it has done what it was asked for.
-fn is_grown(store: &Store, growth: Growth) -> bool {
-    let wanted = match growth {
-        Growth::Lists => (2, Some(0), None, [false, false], [false, false]),
-        Growth::Odts => (2, Some(3), None, [true, false], [false, false]),
-        Growth::Entries => (2, Some(1), None, [true, false], [false, true]),
-    };
-    after(store) == wanted
-}
-
 /// Makes an allocation again, which left all as it was.
 fn once_more(
     store: &mut Store,
-    growth: Growth,
+    growth: &Growth,
     way: Way,
     before: &StoreView,
 ) -> Result<Answer, Failure> {
@@ -123,21 +176,24 @@ fn once_more(
         view_of(store) == *before,
         "want of memory changed the store",
     )?;
-    let again = grow(store, growth, way);
-    check(again.is_ok(), "with memory it was refused once more")?;
-    Ok(Answer::OnceMore)
+    match grow(store, growth, way) {
+        Ok(()) => Ok(Answer::OnceMore),
+        Err(_) => Err(Failure::Wrong("with memory it was refused once more")),
+    }
 }
 
 /// An allocation of the store.
-pub fn alloc_in_store(alloc: Global, growth: Growth, way: Way) -> Result<Answer, Failure> {
-    let mut store = new_store(alloc, 1)?;
-    fill(&mut store, growth)?;
+pub fn alloc_in_store(alloc: Global, growth: &Growth, way: Way) -> Result<Answer, Failure> {
+    let mut store = store_of(alloc, 1, 2, growth.fill)?;
     let before = view_of(&store);
     let answer = match grow(&mut store, growth, way) {
         Ok(()) => Answer::AtOnce,
         Err(Refusal::Memory) => once_more(&mut store, growth, way, &before)?,
         Err(Refusal::Code(_)) => return Err(Failure::Wrong("another refusal")),
     };
-    check(is_grown(&store, growth), "another store than was asked for")?;
+    check(
+        after(&store) == growth.after,
+        "another store than was asked for",
+    )?;
     Ok(answer)
 }

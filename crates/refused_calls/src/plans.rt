@@ -1,35 +1,66 @@
 //! A copy plan of two ODTs.
-use crate::answer::{Answer, Failure, check};
-use copy_plan::{CopyPlan, PlanFault};
-use daq_store::{Refusal, Store};
+use crate::answer::{Answer, Failure, done};
+use crate::stores::store_of;
+use copy_plan::CopyPlan;
+use daq_store::command::Command;
 use std::alloc::Global;
 
-/// Allocates one list of two ODTs, which have two entries each.
-fn alloc_two_odts(store: &mut Store) -> Result<(), Refusal> {
-    store.alloc_daq(1)?;
-    store.alloc_odt(0, 2)?;
-    store.alloc_odt_entry(0, 0, 2)?;
-    store.alloc_odt_entry(0, 1, 2)
-}
-
-/// Writes their entries, and sets a mode.
-fn write_two_odts(store: &mut Store) -> Result<(), Refusal> {
-    for (odt, entries) in [(0, [(0, 2), (2, 2)]), (1, [(0, 1), (3, 1)])] {
-        store.set_ptr(0, odt, 0)?;
-        for (address, size) in entries {
-            store.write(0xFF, size, 0, address)?;
-        }
-    }
-    store.set_mode(0, 0, 0, 1, 0)
-}
-
-/// What is answered where the plan of list 0 is made, which is there and ready.
-fn made(alloc: Global, store: &Store) -> Result<Result<CopyPlan, PlanFault>, Failure> {
-    let (Some(conf), Some(first_pid)) = (store.plan(0), store.first_pid(0)) else {
-        return Err(Failure::Wrong("the list isn't ready"));
-    };
-    Ok(CopyPlan::of(alloc, 0, conf, first_pid, store.image_len()))
-}
+/// One list of two ODTs, which have two entries each.
+const TWO_ODTS: &[Command] = &[
+    Command::AllocDaq { count: 1 },
+    Command::AllocOdt { list: 0, count: 2 },
+    Command::AllocOdtEntry {
+        list: 0,
+        odt: 0,
+        count: 2,
+    },
+    Command::AllocOdtEntry {
+        list: 0,
+        odt: 1,
+        count: 2,
+    },
+    Command::SetDaqPtr {
+        list: 0,
+        odt: 0,
+        entry: 0,
+    },
+    Command::WriteDaq {
+        bit: 0xFF,
+        size: 2,
+        ext: 0,
+        addr: 0,
+    },
+    Command::WriteDaq {
+        bit: 0xFF,
+        size: 2,
+        ext: 0,
+        addr: 2,
+    },
+    Command::SetDaqPtr {
+        list: 0,
+        odt: 1,
+        entry: 0,
+    },
+    Command::WriteDaq {
+        bit: 0xFF,
+        size: 1,
+        ext: 0,
+        addr: 0,
+    },
+    Command::WriteDaq {
+        bit: 0xFF,
+        size: 1,
+        ext: 0,
+        addr: 3,
+    },
+    Command::SetDaqListMode {
+        mode: 0,
+        list: 0,
+        channel: 0,
+        prescaler: 1,
+        priority: 0,
+    },
+];
 
 /// Whether a plan makes the packets of its list.
 fn is_right(plan: &CopyPlan) -> bool {
@@ -44,18 +75,10 @@ fn is_right(plan: &CopyPlan) -> bool {
 
 /// The plan of a list.
 pub fn make_plan(alloc: Global) -> Result<Answer, Failure> {
-    let Ok(mut store) = Store::new(alloc, 1, 4) else {
-        return Err(Failure::Wrong("a store wasn't made"));
+    let store = store_of(alloc, 1, 4, TWO_ODTS)?;
+    let (Some(conf), Some(first_pid)) = (store.plan(0), store.first_pid(0)) else {
+        return Err(Failure::Wrong("the list isn't ready"));
     };
-    alloc_two_odts(&mut store)?;
-    write_two_odts(&mut store)?;
-    let (plan, answer) = match made(alloc, &store)? {
-        Ok(plan) => (plan, Answer::AtOnce),
-        Err(PlanFault::Memory) => match made(alloc, &store)? {
-            Ok(plan) => (plan, Answer::OnceMore),
-            Err(_) => return Err(Failure::Wrong("with memory it was refused once more")),
-        },
-    };
-    check(is_right(&plan), "other packets")?;
-    Ok(answer)
+    let plan = CopyPlan::of(alloc, 0, conf, first_pid, store.image_len())?;
+    done(is_right(&plan), "other packets")
 }

@@ -1,5 +1,5 @@
 //! Run files, and whole runs in one thread and in threads.
-use crate::answer::{Answer, Failure, check};
+use crate::answer::{Answer, Failure, check, done};
 use daq_engine::{ListReport, Report};
 use daq_run::{NoGate, Outcome, SimFault, run_serial, run_threads};
 use frame_writer::VecOut;
@@ -74,25 +74,18 @@ fn is_right(run: &Run) -> bool {
         run.setup().len(),
         run.steps(),
     );
-    numbers == (2, 2, 14, 3)
-        && run.caps() == [4, 4].as_slice()
-        && run.drain()
-        && run.step(2).is_some()
+    let rest = (run.caps(), run.drain(), run.step(2).is_some());
+    (numbers, rest) == ((2, 2, 14, 3), ([4, 4].as_slice(), true, true))
 }
 
 /// The reading of a run.
 pub fn read_run(alloc: Global) -> Result<Answer, Failure> {
     let text = text_of(alloc, STEPS, 1)?;
-    let (run, answer) = match Run::read(alloc, &text) {
-        Ok(run) => (run, Answer::AtOnce),
-        Err(RunFault::Memory) => match Run::read(alloc, &text) {
-            Ok(run) => (run, Answer::OnceMore),
-            Err(_) => return Err(Failure::Wrong("with memory it was refused once more")),
-        },
-        Err(_) => return Err(Failure::Wrong("another refusal")),
-    };
-    check(is_right(&run), "another run")?;
-    Ok(answer)
+    match Run::read(alloc, &text) {
+        Ok(run) => done(is_right(&run), "another run"),
+        Err(RunFault::Memory) => Err(Failure::Refused),
+        Err(_) => Err(Failure::Wrong("another refusal")),
+    }
 }
 
 /// A writer over a heap of its own.
@@ -139,17 +132,28 @@ fn is_account(report: &Report) -> bool {
         dropped: 0,
         left: 0,
     };
-    report.lists.as_slice() == [first, second].as_slice() && !report.failed
+    let lists = report.lists.as_slice();
+    (lists, report.failed) == ([first, second].as_slice(), false)
 }
 
-/// What the run comes to that all memory is there for.
-fn comes_to(outcome: &Outcome<Writer<'_>>) -> Result<(), Failure> {
-    check(outcome.refused == 1, "other refusals")?;
-    check(is_account(&outcome.report), "another account")?;
-    check(outcome.out.bytes() == FRAMES.as_slice(), "other bytes")
+/// Whether the run comes to what it does with all its memory.
+fn is_whole(outcome: &Outcome<Writer<'_>>) -> bool {
+    let is_right = is_account(&outcome.report);
+    (outcome.refused, is_right, outcome.out.bytes()) == (1, true, FRAMES.as_slice())
 }
 
-/// A run that meets want of memory, and is then carried out.
+/// Why a run wasn't carried out, behind what was written by then.
+fn fault_of(fault: SimFault, way: Way, bytes: &[u8]) -> Failure {
+    if !is_want_of_memory(fault, way) {
+        return Failure::Wrong("another fault");
+    }
+    if !FRAMES.starts_with(bytes) {
+        return Failure::Wrong("other bytes before the fault");
+    }
+    Failure::Refused
+}
+
+/// A run that is carried out.
 pub fn carry_run<R: Threads + Wait + Sync>(
     rt: &R,
     alloc: Global,
@@ -157,22 +161,24 @@ pub fn carry_run<R: Threads + Wait + Sync>(
 ) -> Result<Answer, Failure> {
     let heap = LocalHeap::new(alloc, HEAP)?;
     let run = run_of(alloc, &text_of(alloc, STEPS, 1)?)?;
-    let (outcome, answer) = match carried_out(rt, alloc, &run, &heap, way) {
-        Ok(outcome) => (outcome, Answer::AtOnce),
-        Err((fault, out)) => {
-            check(is_want_of_memory(fault, way), "another fault")?;
-            check(
-                FRAMES.starts_with(out.bytes()),
-                "other bytes before the fault",
-            )?;
-            match carried_out(rt, alloc, &run, &heap, way) {
-                Ok(outcome) => (outcome, Answer::OnceMore),
-                Err(_) => return Err(Failure::Wrong("with memory it was refused once more")),
-            }
-        }
-    };
-    comes_to(&outcome)?;
-    Ok(answer)
+    match carried_out(rt, alloc, &run, &heap, way) {
+        Ok(outcome) => done(is_whole(&outcome), "another account, or other bytes"),
+        Err((fault, out)) => Err(fault_of(fault, way, out.bytes())),
+    }
+}
+
+/// Carries a run out, whatever it comes to.
+fn carry_any<R: Threads + Wait + Sync>(
+    rt: &R,
+    alloc: Global,
+    run: &Run,
+    heap: &LocalHeap,
+    way: Way,
+) -> Result<(), Failure> {
+    match carried_out(rt, alloc, run, heap, way) {
+        Ok(outcome) => check(!outcome.report.failed, "the writer failed"),
+        Err(_) => Err(Failure::Wrong("it wasn't carried out")),
+    }
 }
 
 /// Reads a run of so many rounds, and carries it out where that is wanted.
@@ -183,12 +189,10 @@ pub fn run_rounds<R: Threads + Wait + Sync>(
     way: Option<Way>,
 ) -> Result<(), Failure> {
     let heap = LocalHeap::new(alloc, HEAP)?;
-    let run = run_of(alloc, &text_of(alloc, ROUND, rounds)?)?;
-    let Some(way) = way else {
-        return Ok(());
-    };
-    match carried_out(rt, alloc, &run, &heap, way) {
-        Ok(outcome) => check(!outcome.report.failed, "the writer failed"),
-        Err(_) => Err(Failure::Wrong("it wasn't carried out")),
+    let text = text_of(alloc, ROUND, rounds)?;
+    let run = run_of(alloc, &text)?;
+    match way {
+        Some(way) => carry_any(rt, alloc, &run, &heap, way),
+        None => Ok(()),
     }
 }

@@ -1,6 +1,6 @@
 //! A whole set-up by command packets.
 use crate::answer::{Answer, Failure, check};
-use crate::stores::{StoreView, new_store, view_of};
+use crate::stores::{StoreView, store_of, view_of};
 use daq_store::Store;
 use frame_writer::{FrameWriter, VecOut};
 use linked_list_allocator::LocalHeap;
@@ -9,7 +9,7 @@ use std::alloc::{AllocError, Global};
 
 /// Two DAQ lists, of one ODT and of two, which are selected and then run. List 0 is ready and
 /// selected before list 1 has entries.
-const TWO_LISTS: [&[u8]; 18] = [
+const TWO_LISTS: &[&[u8]] = &[
     &[0xD6],
     &[0xD5, 0, 2, 0],
     &[0xD4, 0, 0, 0, 1],
@@ -38,18 +38,18 @@ const REPLIES: [u8; 92] = [
     15, 0, 0xFF, 2, 0, 16, 0, 0xFF, 1, 1, 0, 17, 0, 0xFF,
 ];
 
-/// The packets, in memory of their own.
-fn packets_of(alloc: Global) -> Result<Vec<Vec<u8>>, AllocError> {
-    let mut packets = Vec::with_capacity(alloc, TWO_LISTS.len())?;
-    for packet in &TWO_LISTS {
-        packets.push(Vec::from_slice(alloc, packet)?)?;
+/// Packets, in memory of their own.
+fn copied(alloc: Global, packets: &[&[u8]]) -> Result<Vec<Vec<u8>>, AllocError> {
+    let mut copies = Vec::with_capacity(alloc, packets.len())?;
+    for packet in packets {
+        copies.push(Vec::from_slice(alloc, packet)?)?;
     }
-    Ok(packets)
+    Ok(copies)
 }
 
 /// What a store shows for which these packets were carried out.
 fn view_after(alloc: Global, heap: &LocalHeap, packets: &[Vec<u8>]) -> Result<StoreView, Failure> {
-    let mut store = new_store(alloc, 1)?;
+    let mut store = store_of(alloc, 1, 2, &[])?;
     let mut writer = FrameWriter::new(VecOut::new(heap));
     let answer = carry_all(&mut store, packets, &mut writer);
     check(answer.is_ok(), "the front of the set-up wasn't carried out")?;
@@ -83,8 +83,8 @@ fn once_more(
 /// A set-up whose replies go to a heap of their own, so that none but the store wants memory.
 pub fn carry_packets(alloc: Global) -> Result<Answer, Failure> {
     let heap = LocalHeap::new(alloc, 8192)?;
-    let packets = packets_of(alloc)?;
-    let mut store = new_store(alloc, 1)?;
+    let packets = copied(alloc, TWO_LISTS)?;
+    let mut store = store_of(alloc, 1, 2, &[])?;
     let mut writer = FrameWriter::new(VecOut::new(&heap));
     let answer = match carry_all(&mut store, &packets, &mut writer) {
         Ok(()) => Answer::AtOnce,

@@ -2,7 +2,7 @@ use denote.Param.Send.{sendable}
 use Rattle.std.proofs.Crossing.{crosses}
 use Rattle.channel_ring.proofs.SendLemmas.{item, ring_end, send_half}
 use Rattle.daq_engine.proofs.SendLemmas.{copy_plan}
-use Rattle.engine_tests.proofs.threads.two_samplers_run_beside_the_transmitter.Goals as goal
+use Rattle.engine_tests.proofs.threads.run_beside.Goals as goal
 
 -- a sampler may go to another thread
 pub join-first-requires-send-F : goal.join-first-requires-send-F
