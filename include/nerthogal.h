@@ -5,7 +5,8 @@
  * while a task for each event channel takes the triggers. Or, without a connection, a store is set
  * up by command packets, and an engine is then opened over the store. It has a sampler for each
  * event channel, which takes the triggers, and a pump, which returns the frames of the samples. At
- * the end you finish the samplers, drain the rings, and close the engine, which returns its account.
+ * the end you finish the samplers, drain the rings, and close the engine, which returns its
+ * account.
  *
  * Link with libnerthogal_c.a, and with liblibc_c.a of the Rattle toolchain, which connects it to
  * the C library's malloc, realloc and free.
@@ -22,11 +23,12 @@
  *
  * Handles
  *   - A handle is a struct that the caller owns. Initialize it with NG_STORE_INIT, NG_ENGINE_INIT,
- *     NG_SAMPLER_INIT, NG_SLAVE_INIT or NG_TASK_INIT. Its fields belong to the library: don't read, write or copy them. You may
- *     move the struct while no call uses it. The old copy is no longer a handle.
+ *     NG_SAMPLER_INIT, NG_SLAVE_INIT or NG_TASK_INIT. Its fields belong to the library: don't read,
+ *     write or copy them. You may move the struct while no call uses it. The old copy is no longer
+ *     a handle.
  *   - A full handle leaks memory unless it is passed to ng_store_free, ng_engine_free,
- *     ng_sampler_free, ng_finish, ng_close, ng_task_finish or ng_slave_close. After that it is empty: it may be freed once more, or
- *     filled again.
+ *     ng_sampler_free, ng_finish, ng_close, ng_task_finish or ng_slave_close. After that it is
+ *     empty: it may be freed once more, or filled again.
  *   - A store may be used, or freed, after an engine was opened over it. An engine and its samplers
  *     may be freed in any order. If a sampler is freed without being finished, its engine can't be
  *     drained or closed, only freed.
@@ -161,7 +163,7 @@ typedef struct {
 /* What a slave is opened with, beside its event channels. */
 typedef struct {
     size_t image_len;           /* bytes of a memory image: 1 to NG_MAX_IMAGE */
-    uint32_t base;              /* the address of its first byte; base + image_len is at most 2^32 */
+    uint32_t base;              /* the address of its first byte: base + image_len <= 2^32 */
     ng_id_kind id;              /* the identification field of each DAQ packet */
     ng_ring ring;               /* the kind of the rings, one ring per event channel */
     uint16_t ticks;             /* so many units are one tick of a timestamp: not 0 */
@@ -401,8 +403,8 @@ ng_status ng_sampler_free(ng_sampler *sampler);
  * master is connected, there is no DAQ list, and nothing waits. Its CTR begins at 0.
  *
  *   NG_IN_USE      *slave isn't empty
- *   NG_BAD_LIMITS  channels is 0 or over NG_MAX_CHANNELS, or a number or a name of the profile or of
- *                  an event channel is out of its limits
+ *   NG_BAD_LIMITS  channels is 0 or over NG_MAX_CHANNELS, or a number or a name of the profile or
+ *                  of an event channel is out of its limits
  *   NG_MEMORY      malloc failed
  *   NG_OK          *slave holds the new slave
  *
@@ -421,31 +423,32 @@ ng_status ng_slave_open(const ng_profile *profile, const ng_event *events, size_
  *   NG_MEMORY      malloc failed; the task may still be handed out
  *   NG_OK          *task holds the task
  *
- * They are checked in this order. Except on NG_OK, nothing changes. Proved: all of this, except that
- * malloc failed, and that the tasks were made in the order of the event channels, which the tests
- * show. Calls malloc three times, but not on the first four statuses; and free on NG_MEMORY. */
+ * They are checked in this order. Except on NG_OK, nothing changes. Proved: all of this, except
+ * that malloc failed, and that the tasks were made in the order of the event channels, which the
+ * tests show. Calls malloc three times, but not on the first four statuses; and free on
+ * NG_MEMORY. */
 ng_status ng_slave_task(ng_slave *slave, uint16_t channel, ng_task *task);
 
-/* Takes bytes of a master's stream, as TCP has it, in whatever pieces they come. Each packet that is
- * whole is answered: its reply waits to be sent. The clock is the one that GET_DAQ_CLOCK tells.
+/* Takes bytes of a master's stream, as TCP has it, in whatever pieces they come. Each packet that
+ * is whole is answered: its reply waits to be sent. The clock is the one that GET_DAQ_CLOCK tells.
  *
  *   NG_EMPTY      *slave is empty
- *   NG_BAD_FRAME  a frame has LEN 0 or over 64, in these bytes or in earlier ones of this stream. The
- *                 packets before it were answered, and the lists stopped as by ng_slave_hang_up. No
- *                 byte is taken any more until ng_slave_hang_up
+ *   NG_BAD_FRAME  a frame has LEN 0 or over 64, in these bytes or in earlier ones of this stream.
+ *                 The packets before it were answered, and the lists stopped as by
+ *                 ng_slave_hang_up. No byte is taken any more until ng_slave_hang_up
  *   NG_OK         the first *taken bytes were taken: all of them, or those up to the end of a frame
  *                 behind which no reply finds room. Pass the others again once replies were sent
  *
  * They are checked in this order. Except on NG_OK, *taken is unchanged. Proved: all of this, which
- * packets were answered, and each reply, from the definitions of the commands and all that the slave
- * did before; but not that malloc or realloc failed if a reply is ERR_MEMORY_OVERFLOW. Calls malloc,
- * realloc and free, for allocations, and where measurements begin and end. */
+ * packets were answered, and each reply, from the definitions of the commands and all that the
+ * slave did before; but not that malloc or realloc failed if a reply is ERR_MEMORY_OVERFLOW. Calls
+ * malloc, realloc and free, for allocations, and where measurements begin and end. */
 ng_status ng_slave_receive(ng_slave *slave, const uint8_t *bytes, size_t len, uint32_t clock,
                            size_t *taken);
 
-/* The same of one datagram, as UDP has it, which holds whole frames. A part of a frame at the end, or
- * a frame with LEN 0 or over 64, drops what is left of the datagram, and nothing else. NG_EMPTY if
- * *slave is empty; then *taken is unchanged. Proved: all of this, as for ng_slave_receive. */
+/* The same of one datagram, as UDP has it, which holds whole frames. A part of a frame at the end,
+ * or a frame with LEN 0 or over 64, drops what is left of the datagram, and nothing else. NG_EMPTY
+ * if *slave is empty; then *taken is unchanged. Proved: all of this, as for ng_slave_receive. */
 ng_status ng_slave_datagram(ng_slave *slave, const uint8_t *bytes, size_t len, uint32_t clock,
                             size_t *taken);
 
@@ -495,16 +498,16 @@ ng_status ng_task_finish(ng_task *task);
  *
  *   NG_EMPTY         *slave is empty
  *   NG_SMALL_BUFFER  lines_cap is below NG_MAX_LISTS
- *   NG_UNFINISHED    a task that was handed out isn't finished, in another thread perhaps; call again
- *                    later
- *   NG_OK            the lines stand in lines[0] to lines[NG_MAX_LISTS - 1], and *whole says whether
- *                    the account has all of each measurement
+ *   NG_UNFINISHED    a task that was handed out isn't finished, in another thread perhaps; call
+ *                    again later
+ *   NG_OK            the lines stand in lines[0] to lines[NG_MAX_LISTS - 1], and *whole says
+ *                    whether the account has all of each measurement
  *
  * They are checked in this order. Except on NG_OK, the slave keeps all that it has, and lines and
- * *whole are unchanged. On NG_OK, the elements of lines after the account are unchanged. Proved: all
- * of this, and each number of the account, from what was sent and from what came back of the tasks;
- * but not that NG_UNFINISHED is returned only if a task isn't finished, which the tests show. Calls
- * free. */
+ * *whole are unchanged. On NG_OK, the elements of lines after the account are unchanged. Proved:
+ * all of this, and each number of the account, from what was sent and from what came back of the
+ * tasks; but not that NG_UNFINISHED is returned only if a task isn't finished, which the tests
+ * show. Calls free. */
 ng_status ng_slave_close(ng_slave *slave, ng_line *lines, size_t lines_cap, bool *whole);
 
 #ifdef __cplusplus

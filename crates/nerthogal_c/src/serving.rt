@@ -13,8 +13,10 @@ use byte_ring::ByteRing;
 use channel_ring::SampleRing;
 use daq_engine::ListReport;
 use handle_calls::{Handle, HeldRing};
-use slave_calls::{EventIn, ProfileIn, close_slave_by, datagram_by, give_task, hang_up_by};
-use slave_calls::{open_slave, peek_by, receive_by, sent_by};
+use slave_calls::{
+    EventIn, ProfileIn, close_slave_by, datagram_by, give_task, hang_up_by, open_slave, peek_by,
+    receive_by, sent_by,
+};
 use std::alloc::Global;
 
 /// Opens a slave with the profile and the event channels that are asked for, in an empty handle.

@@ -29,12 +29,7 @@ fn tell(account: &Account, lines: &mut [ListReport])
 }
 
 /// Closes a slave, and tells its account.
-fn close<R: Ring>(
-    alloc: Global,
-    slave: LendingSlave<R>,
-    lines: &mut [ListReport],
-    whole: &mut bool,
-)
+fn close<R: Ring>(alloc: Global, slave: LendingSlave<R>, lines: &mut [ListReport], whole: &mut bool)
     requires room { MOST_LISTS ≤ length lines.old }
     ensures { TellsAccount R.Take.TakeEnd slave
         (record { lines = lines.old; whole = whole.old })

@@ -89,11 +89,7 @@ fn profile_of(alloc: Global, asked: &ProfileIn, events: &[EventIn]) -> Result<Pr
 }
 
 /// The profile that is asked for, if it is within its limits.
-pub fn good_profile(
-    alloc: Global,
-    asked: &ProfileIn,
-    events: &[EventIn],
-) -> Result<Profile, Status>
+pub fn good_profile(alloc: Global, asked: &ProfileIn, events: &[EventIn]) -> Result<Profile, Status>
     ensures ok { IfOk result (IsGoodProfileOf asked.now events.now) }
     ensures err { IfErr result (RefusesProfile asked.now events.now) }
 {

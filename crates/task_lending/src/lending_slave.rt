@@ -36,10 +36,7 @@ impl<R: Ring> Model for LendingSlave<R> {
 }
 
 /// A slot for each task, in their order.
-fn slots_of<S: SendEnd>(
-    alloc: Global,
-    tasks: Vec<Task<S>>,
-) -> Result<Vec<Slot<S>>, AllocError>
+fn slots_of<S: SendEnd>(alloc: Global, tasks: Vec<Task<S>>) -> Result<Vec<Slot<S>>, AllocError>
     ensures { IfOk result (λ slots. AllHere tasks.items slots.items) }
 {
     let mut slots = Vec::with_capacity(alloc, tasks.len())?;

@@ -24,9 +24,7 @@ pub enum Slot<S: SendEnd> {
 
 /// What came back on a way, once the task has let go of its end. So it is this end that frees the
 /// way, and not the task's.
-fn come_back<S: SendEnd>(
-    way: &mut Consumer<TaskEnd<S>, Global, AnyItems>,
-) -> Option<TaskEnd<S>> {
+fn come_back<S: SendEnd>(way: &mut Consumer<TaskEnd<S>, Global, AnyItems>) -> Option<TaskEnd<S>> {
     if !way.is_abandoned() {
         return None;
     }
