@@ -1,7 +1,7 @@
 -- A slave that lends its tasks, and a task that was handed out, may go to other threads, where the
 -- ends of their rings may. For callers that move them there.
 use denote.RattleType.{RattleType}
-use denote.Param.Send.{IsSend, IsSync, sendable, struct_send, struct_sync, recorded_send, recorded_sync}
+use denote.Param.Send.{IsSend, IsSync, sendable, struct_send, struct_sync, recorded_send, recorded_sync, view_send}
 use denote.Struct.Declared.{shape}
 use denote.Builtin.{unit}
 use Rattle.std.proofs.Crossing.{crosses, frees}
@@ -9,7 +9,10 @@ use Rattle.channel_ring.proofs.SendLemmas.{item, ring_end}
 use Rattle.std.specs.contracts.alloc.Global as Global
 use Rattle.std.specs.contracts.impls.GlobalAllocator.TheImpl.{ghosts as heap_ghosts}
 use Rattle.circular_buffer.proofs.Crosses.{Cells-send, Deed-send}
+use Rattle.circular_buffer.specs.contracts.cells.Cells as Cells
 use Rattle.circular_buffer.specs.contracts.cells.Deed as Deed
+use Rattle.circular_buffer.specs.contracts.heap.HeapCircularBuffer as Buffer
+use Rattle.circular_buffer.specs.contracts.ring.Ring as Ring
 use Rattle.channel_intake.specs.contracts.intake.Intake as Intake
 use Rattle.channel_ring.specs.declared.ends.SendEnd.{Ghosts as SendGhosts}
 use Rattle.channel_ring.specs.declared.ends.RingEnd.{Ghosts as EndGhosts}
@@ -36,6 +39,8 @@ use Rattle.tasks.specs.contracts.away.Away as Away
 use Rattle.tasks.specs.contracts.coming.Coming as Coming
 use Rattle.tasks.specs.contracts.link.TaskLink as TaskLink
 use Rattle.tasks.specs.contracts.place.Place as Place
+use Rattle.tasks.specs.contracts.task.Task as Task
+use Rattle.tasks.specs.contracts.task_end.TaskEnd as TaskEnd
 use Rattle.tasks.proofs.SendLemmas.{task_end_send, task_send}
 use Rattle.atomic_table.specs.declared.shared.TableRule.{Ghosts as RuleGhosts}
 use Rattle.atomic_table.specs.contracts.owned.Table as Table
@@ -86,8 +91,19 @@ session_send = search (sendable, crosses) depth 60 fits 20000
 deed_send : IsSend (Deed.the_row OutUnit.the_row Global.the_row heap_ghosts)
 deed_send = Deed-send OutUnit.the_row Global.the_row heap_ghosts frees
 
+cells_send : IsSend (Cells.the_row OutUnit.the_row)
+cells_send = Cells-send OutUnit.the_row (search (sendable, crosses) depth 40)
+
+ring_send : IsSend (Ring.the_row OutUnit.the_row Global.the_row heap_ghosts)
+ring_send = search (sendable, crosses, cells_send, deed_send) depth 60 fits 20000
+
+buffer_send : IsSend (Buffer.the_field OutUnit.the_row Global.the_row heap_ghosts).row
+buffer_send =
+    let buffer = Buffer.the_type OutUnit.the_row Global.the_row heap_ghosts in
+    view_send _ _ _ _ _ (recorded_send _ _ _ buffer.to_one (struct_send (shape buffer) (ring_send, tt)))
+
 outbox_send : IsSend Outbox.the_row
-outbox_send = search (sendable, crosses, Cells-send, deed_send) depth 60 fits 20000
+outbox_send = search (sendable, crosses, buffer_send) depth 60 fits 20000
 
 plan_send : IsSend Plan.the_row
 plan_send = search (sendable, crosses) depth 60 fits 20000
@@ -115,13 +131,17 @@ module _ (S E : RattleType) (send : SendGhosts S.Denot E.Denot) (ring : EndGhost
   link_send : IsSend (TaskLink.the_row S E send ring)
   link_send = search (sendable, crosses, place_send, handed_send, away_send) depth 60 fits 20000
 
+  task_goes : IsSend (Task.the_row S E send ring)
+  task_goes = task_send S E send ring s_goes e_goes
+
+  end_goes : IsSend (TaskEnd.the_row S E send ring)
+  end_goes = task_end_send S E send ring s_goes e_goes
+
   pub lent_task_send : IsSend (LentTask.the_row S E send ring)
-  lent_task_send =
-      search (sendable, crosses, ring_end, task_send S E send ring s_goes e_goes, task_end_send S E send ring s_goes e_goes) depth 60 fits 20000
+  lent_task_send = search (sendable, crosses, ring_end, task_goes, end_goes) depth 60 fits 20000
 
   slot_send : IsSend (Slot.the_row S E send ring)
-  slot_send =
-      search (sendable, crosses, ring_end, task_send S E send ring s_goes e_goes, task_end_send S E send ring s_goes e_goes) depth 60 fits 20000
+  slot_send = search (sendable, crosses, ring_end, task_goes, end_goes) depth 60 fits 20000
 
 -- over rings of one kind, whose ends may go
 module _ (R S T E : RattleType) (kind : RingGhosts R.Denot S.Denot T.Denot E.Denot) (send : SendGhosts S.Denot E.Denot)

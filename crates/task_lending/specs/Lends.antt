@@ -1,5 +1,5 @@
 -- How tasks are handed out, and come back (own).
-use Rattle.std.specs.Prelude.{◌≡◌, ℕ, ◌≤◌, List, [], length, set, slice_get, false, Some, None}
+use Rattle.std.specs.Prelude.{◌≡◌, ℕ, ◌≤◌, List, [], length, set, slice_get, false, true, Some, None}
 use Rattle.channel_ring.specs.declared.ends.TakeEnd.{Ghosts as TakeGhosts}
 use Rattle.frame_reader.specs.Reading.{ReaderStandsAfter}
 use Rattle.sampler.specs.declared.taken.Taken.{Taken}
@@ -53,7 +53,8 @@ module _ {S T : Type 0} where
   NoneAway s = (c : ℕ) (at : SlotState S) → slice_get s.tasks c ≡ Some at → is_away at ≡ false
 
   abbrev pub SomeAway : LendingSlaveState S T → Type 0
-  SomeAway s = (c : ℕ) × (slice_get s.tasks c ≡ Some away)
+  SomeAway s =
+      (c : ℕ) × ((at : SlotState S) × (slice_get s.tasks c ≡ Some at) × (is_away at ≡ true))
 
 module _ {S T F : Type 0} (take : TakeGhosts T F) where
   -- a slave was opened with this profile: no act stands in its log, no byte came, and all its tasks
