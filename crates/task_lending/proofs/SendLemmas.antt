@@ -1,10 +1,14 @@
 -- A slave that lends its tasks, and a task that was handed out, may go to other threads, where the
 -- ends of their rings may. For callers that move them there.
 use denote.RattleType.{RattleType}
-use denote.Param.Send.{IsSend, IsSync, sendable, struct_send, struct_sync, recorded_send, recorded_sync, view_send}
+use denote.Param.Send.{AllSend, IsSend, IsSync, owning_send, sendable, struct_send, struct_sync, recorded_send, recorded_sync, view_send}
 use denote.Struct.Declared.{shape}
 use denote.Builtin.{unit}
+use denote.Struct.Struct.{exits_of}
+use denote.Struct.Owning.{shape as owned_shape, fields as owned_fields, to}
 use Rattle.std.proofs.Crossing.{crosses, frees}
+use Rattle.std_alloc.proofs.SendSync.{quiet}
+use Rattle.frame_writer.specs.contracts.byte_log.ByteLog as Log
 use Rattle.channel_ring.proofs.SendLemmas.{item, ring_end}
 use Rattle.std.specs.contracts.alloc.Global as Global
 use Rattle.std.specs.contracts.impls.GlobalAllocator.TheImpl.{ghosts as heap_ghosts}
@@ -12,6 +16,7 @@ use Rattle.circular_buffer.proofs.Crosses.{Cells-send, Deed-send}
 use Rattle.circular_buffer.specs.contracts.cells.Cells as Cells
 use Rattle.circular_buffer.specs.contracts.cells.Deed as Deed
 use Rattle.circular_buffer.specs.contracts.heap.HeapCircularBuffer as Buffer
+use Rattle.circular_buffer.specs.contracts.heap.HeapCircularBuffer.TheInside as BufferInside
 use Rattle.circular_buffer.specs.contracts.ring.Ring as Ring
 use Rattle.channel_intake.specs.contracts.intake.Intake as Intake
 use Rattle.channel_ring.specs.declared.ends.SendEnd.{Ghosts as SendGhosts}
@@ -94,16 +99,26 @@ deed_send = Deed-send OutUnit.the_row Global.the_row heap_ghosts frees
 cells_send : IsSend (Cells.the_row OutUnit.the_row)
 cells_send = Cells-send OutUnit.the_row (search (sendable, crosses) depth 40)
 
-ring_send : IsSend (Ring.the_row OutUnit.the_row Global.the_row heap_ghosts)
+ring_send : IsSend (Ring.the_field OutUnit.the_row Global.the_row heap_ghosts).row
 ring_send = search (sendable, crosses, cells_send, deed_send) depth 60 fits 20000
 
-buffer_send : IsSend (Buffer.the_field OutUnit.the_row Global.the_row heap_ghosts).row
-buffer_send =
-    let buffer = Buffer.the_type OutUnit.the_row Global.the_row heap_ghosts in
-    view_send _ _ _ _ _ (recorded_send _ _ _ buffer.to_one (struct_send (shape buffer) (ring_send, tt)))
+inside_send : IsSend (BufferInside.the_row OutUnit.the_row Global.the_row heap_ghosts)
+inside_send =
+    let inside = BufferInside.the_type OutUnit.the_row Global.the_row heap_ghosts in
+    recorded_send _ _ _ inside.to_one (struct_send (shape inside) (ring_send, tt))
+
+buffer_send : IsSend (Buffer.the_row OutUnit.the_row Global.the_row heap_ghosts)
+buffer_send = view_send _ _ _ _ _ inside_send
+
+-- a list of bytes of which none is kept owns nothing
+log_send : IsSend Log.the_row
+log_send =
+    let all : AllSend (owned_fields Log.the_type) = (search sendable, tt) in
+    owning_send Log.the_type all (λ d. tt)
+    (λ k. quiet (to Log.the_type) (exits_of k (owned_fields Log.the_type)) ((struct_send (owned_shape Log.the_type) all).leaving k))
 
 outbox_send : IsSend Outbox.the_row
-outbox_send = search (sendable, crosses, buffer_send) depth 60 fits 20000
+outbox_send = search (sendable, crosses, buffer_send, log_send) depth 60 fits 20000
 
 plan_send : IsSend Plan.the_row
 plan_send = search (sendable, crosses) depth 60 fits 20000
