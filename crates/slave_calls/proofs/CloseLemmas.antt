@@ -1,13 +1,38 @@
 -- How what holds of a slave that is to be closed comes to what the call says.
-use Rattle.std.proofs.Common.{◌≡◌, ◌∙◌, ℕ, Option, Some, length, refl, subst, sym}
-use Rattle.std.specs.Prelude.{Result, Ok, Err, IfErr, OnOk}
+use Rattle.std.proofs.Common.{◌≡◌, ◌∙◌, ℕ, ◌+◌, ◌<◌, List, Option, Some, None, length, set, refl, subst, sym, inl, inr, arith}
+use Rattle.std.specs.Prelude.{Result, Ok, Err, IfErr, OnOk, IsSome, slice_get}
+use Rattle.std.proofs.lemmas.Bool.Decides.{eqb_tells}
+use Rattle.std.proofs.lemmas.List.{length-set}
+use Rattle.daq_engine.specs.declared.report.ListReport.{ListReport}
+use Rattle.session_account.specs.declared.totals.Totals.{Totals}
+use Rattle.slave_channels.proofs.EachLemmas.{get-set_other, get-set_same}
 use Rattle.handle_calls.specs.States.{Bytes, Items}
 use Rattle.handle_calls.specs.declared.content.Content.{Content}
 use Rattle.handle_calls.specs.declared.content.Content.TheVariants as held
 use Rattle.handle_calls.specs.declared.status.Status.{Status}
-use Rattle.slave_calls.specs.Ends.{AccountRoom, ClosesHeld, MayClose, MayCloseHeld, StaysHeld, StaysOpen, TellsAccount}
+use Rattle.slave_calls.specs.Ends.{AccountRoom, ClosesHeld, HasLines, IsLineIn, MayClose, MayCloseHeld, StaysHeld, StaysOpen, TellsAccount}
 use Rattle.slave_calls.specs.OnHandles.{ByteSlave, ItemSlave}
 use Rattle.slave_calls.proofs.OnLemmas.{one-kind, same-byte-slave, same-slave}
+
+pub some-not-none : {A : Type 0} {x : A} → Some x ≡ None → ⊥
+some-not-none is = subst IsSome is refl
+
+-- one line more
+pub lines-more : (account : List Totals) (l : ℕ) (before now : List ListReport) (line : ListReport) → l < length now
+    → IsLineIn account l line → HasLines account l before now → HasLines account (l + 1) before (set now l line)
+lines-more account l before now line there is so_far = record {
+  as_many = length-set now l line ∙ so_far.as_many;
+  lines = λ k below.
+      elim (eqb_tells k l) [
+        | inl w ↦
+            subst (λ j. (x : ListReport) × (slice_get (set now l line) j ≡ Some x) × IsLineIn account j x) (sym w.1)
+            (line, get-set_same now l line there, is)
+        | inr w ↦
+            let old = so_far.lines k (omega (arith, below, w.1)) in
+            (old.0, get-set_other now l k line w.1 ∙ old.1, old.2)
+      ];
+  behind = λ k from. get-set_other now l k line (λ e. omega (arith, e, from)) ∙ so_far.behind k (omega (arith, from));
+}
 
 module _ {content : Content} (room : ℕ) where
   -- a slave that stays open stays held
