@@ -1,6 +1,6 @@
 -- How what holds of a slave that is to be closed comes to what the call says.
 use Rattle.std.proofs.Common.{◌≡◌, ◌∙◌, ℕ, ◌+◌, ◌<◌, List, Option, Some, None, length, set, refl, subst, sym, inl, inr, arith}
-use Rattle.std.specs.Prelude.{Result, Ok, Err, IfErr, OnOk, IsSome, slice_get}
+use Rattle.std.specs.Prelude.{Result, Ok, Err, IfErr, OnOk, slice_get}
 use Rattle.std.proofs.lemmas.Bool.Decides.{eqb_tells}
 use Rattle.std.proofs.lemmas.List.{length-set}
 use Rattle.daq_engine.specs.declared.report.ListReport.{ListReport}
@@ -15,7 +15,7 @@ use Rattle.slave_calls.specs.OnHandles.{ByteSlave, ItemSlave}
 use Rattle.slave_calls.proofs.OnLemmas.{one-kind, same-byte-slave, same-slave}
 
 pub some-not-none : {A : Type 0} {x : A} → Some x ≡ None → ⊥
-some-not-none is = subst IsSome is refl
+some-not-none is = absurd cc
 
 -- one line more
 pub lines-more : (account : List Totals) (l : ℕ) (before now : List ListReport) (line : ListReport) → l < length now
