@@ -97,7 +97,9 @@ static void shows(ng_slave *slave, const char *frames) {
     size_t len = 77;
     memset(buffer, UNWRITTEN, sizeof buffer);
     memset(bytes, UNWRITTEN, sizeof bytes);
+    unsigned long asked = memory_asked;
     want(ng_slave_peek(slave, buffer, sizeof buffer, &len) == NG_OK, "peek");
+    want(asked == memory_asked, "no memory is asked for");
     want(len == unhex(frames, bytes) && memcmp(buffer, bytes, sizeof buffer) == 0, frames);
 }
 
@@ -111,7 +113,9 @@ static void trigger(ng_task *task, const char *image, unsigned due, unsigned acc
     uint8_t bytes[2] = {0};
     ng_taken taken = {0x5555, 0x5555, 0x5555};
     size_t len = unhex(image, bytes);
+    unsigned long asked = memory_asked, held = memory_held;
     want(ng_task_trigger(task, bytes, len, 0, &taken) == NG_OK, image);
+    want(asked == memory_asked && held == memory_held, "no memory is asked for or given back");
     want(taken.due == due && taken.accepted == accepted && taken.dropped == (due & ~accepted),
          "what the trigger did");
 }

@@ -1,6 +1,6 @@
 -- The profile that C asks for (own).
 use Rattle.std.specs.Prelude.{◌≡◌, ◌≢◌, ◌⊎◌, ℕ, ◌==◌, if◌then◌else◌, List, [], ◌∷◌, map}
-use Rattle.std.specs.Prelude.{Option, Some, None, option_map}
+use Rattle.std.specs.Prelude.{Some, None, option_map}
 use Rattle.handle_calls.specs.Kinds.{kind_of, ring_of}
 use Rattle.handle_calls.specs.declared.ring_kind.RingKind.{RingKind as AskedRing}
 use Rattle.handle_calls.specs.declared.ring_kind.RingKind.TheVariants as asked

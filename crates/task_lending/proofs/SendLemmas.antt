@@ -9,7 +9,7 @@ use denote.Struct.Owning.{shape as owned_shape, fields as owned_fields, to}
 use Rattle.std.proofs.Crossing.{crosses, frees}
 use Rattle.std_alloc.proofs.SendSync.{quiet}
 use Rattle.frame_writer.specs.contracts.byte_log.ByteLog as Log
-use Rattle.channel_ring.proofs.SendLemmas.{item, ring_end}
+use Rattle.channel_ring.proofs.SendLemmas.{ring_end}
 use Rattle.std.specs.contracts.alloc.Global as Global
 use Rattle.std.specs.contracts.impls.GlobalAllocator.TheImpl.{ghosts as heap_ghosts}
 use Rattle.circular_buffer.proofs.Crosses.{Cells-send, Deed-send}
@@ -18,13 +18,11 @@ use Rattle.circular_buffer.specs.contracts.cells.Deed as Deed
 use Rattle.circular_buffer.specs.contracts.heap.HeapCircularBuffer as Buffer
 use Rattle.circular_buffer.specs.contracts.heap.HeapCircularBuffer.TheInside as BufferInside
 use Rattle.circular_buffer.specs.contracts.ring.Ring as Ring
-use Rattle.channel_intake.specs.contracts.intake.Intake as Intake
 use Rattle.channel_ring.specs.declared.ends.SendEnd.{Ghosts as SendGhosts}
 use Rattle.channel_ring.specs.declared.ends.RingEnd.{Ghosts as EndGhosts}
 use Rattle.channel_ring.specs.declared.ends.TakeEnd.{Ghosts as TakeGhosts}
 use Rattle.copy_plan.specs.contracts.plan.CopyPlan as CopyPlan
 use Rattle.daq_engine.specs.declared.ring.Ring.{Ghosts as RingGhosts}
-use Rattle.daq_store.specs.contracts.store.Store as Store
 use Rattle.frame_outbox.specs.contracts.outbox.Outbox as Outbox
 use Rattle.frame_outbox.specs.contracts.unit.Unit as OutUnit
 use Rattle.session.specs.contracts.session.Session as Session
@@ -32,7 +30,6 @@ use Rattle.session_account.specs.contracts.account.Account as Account
 use Rattle.slave.specs.contracts.plan.Plan as Plan
 use Rattle.slave.specs.contracts.slave.Slave as Slave
 use Rattle.slave_channel.specs.contracts.channel.Channel as Channel
-use Rattle.slave_channel.specs.contracts.share.Share as Share
 use Rattle.slave_channels.specs.contracts.channels.Channels as Channels
 use Rattle.slave_stream.specs.contracts.stream.MasterStream as MasterStream
 use Rattle.tasks.specs.contracts.order.Order as Order

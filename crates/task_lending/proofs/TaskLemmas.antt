@@ -1,12 +1,11 @@
 -- Tasks that are handed out, taken back and come back, by the slots of a slave.
 use Rattle.std.proofs.lemmas.Bool.Decides.{eqb_tells}
 use Rattle.std.proofs.lemmas.Option.{same_Some, slice_get_within}
-use Rattle.std.proofs.Common.{◌≡◌, ◌≤◌, inr, ℕ, zero, suc, ◌+◌, ◌<◌, Bool, true, false, List, [], ◌∷◌, length, map, set, get_or, Some, refl, sym, ap, subst, ◌∙◌, inl, arith}
+use Rattle.std.proofs.Common.{◌≡◌, ◌≤◌, inr, ℕ, zero, suc, ◌+◌, ◌<◌, true, false, List, [], ◌∷◌, length, map, set, get_or, Some, refl, sym, ap, subst, ◌∙◌, inl, arith}
 use Rattle.std.specs.Prelude.{slice_get, option_map, Result, Ok, Err, IfOk, IfErr, OnOk}
 use Rattle.std.proofs.lemmas.List.{map-set, set-set, length-map}
 use Rattle.slave.specs.Standing.{SlaveState}
 use Rattle.frame_reader.specs.Reading.{ReaderState}
-use Rattle.slave_channels.specs.Each.{IsEach}
 use Rattle.slave_channels.specs.Inner.{IsFront}
 use Rattle.slave_channels.proofs.EachLemmas.{front-next, front-none, front-rest, get-set_same, get-set_other, read_at}
 use Rattle.tasks.specs.Tasks.{TaskState}

@@ -1,5 +1,5 @@
 -- How tasks are handed out, and come back (own).
-use Rattle.std.specs.Prelude.{◌≡◌, ℕ, ◌≤◌, List, [], length, set, slice_get, false, true, Some, None}
+use Rattle.std.specs.Prelude.{◌≡◌, ℕ, ◌≤◌, [], length, set, slice_get, false, true, Some, None}
 use Rattle.channel_ring.specs.declared.ends.TakeEnd.{Ghosts as TakeGhosts}
 use Rattle.frame_reader.specs.Reading.{ReaderStandsAfter}
 use Rattle.sampler.specs.declared.taken.Taken.{Taken}

@@ -1,6 +1,6 @@
 use Rattle.std.proofs.Common.{◌≡◌, ◌∷◌, [], ◌++◌, length, map, sym, ap, ◌∙◌, append_assoc, append-nil, arith, rules}
 use Rattle.std.specs.Vec.Iter.{into_iter_items}
-use Rattle.task_lending.specs.Slots.{in_slot, with_task}
+use Rattle.task_lending.specs.Slots.{with_task}
 use Rattle.task_lending.specs.declared.slot.Slot.TheVariants as slot
 use Rattle.task_lending.proofs.OpenLemmas.{nothing-left, one-slot-more}
 use Rattle.task_lending.proofs.lending_slave.slots_of.Goals as goal

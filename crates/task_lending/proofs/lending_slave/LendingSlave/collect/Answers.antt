@@ -1,4 +1,4 @@
-use Rattle.std.proofs.Common.{◌≡◌, ◌+◌, ◌<◌, ◌≤◌, length, ap, arith, refl}
+use Rattle.std.proofs.Common.{◌+◌, ◌<◌, ◌≤◌, length, ap, arith, refl}
 use Rattle.task_lending.specs.States.{LendingSlaveState}
 use Rattle.task_lending.proofs.TaskLemmas.{collects, front-here, front-more, none-away, none-below, none-more, some-away}
 use Rattle.task_lending.proofs.lending_slave.LendingSlave.collect.Goals as goal
