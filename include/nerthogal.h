@@ -1,9 +1,12 @@
 /* nerthogal.h: the data acquisition half of an XCP slave (ASAM MCD-1 XCP), for C99.
  *
- * A store is set up by a master's command packets. An engine is then opened over the store. It has
- * a sampler for each event channel, which takes the triggers, and a pump, which returns the frames
- * of the samples. At the end you finish the samplers, drain the rings, and close the engine, which
- * returns its account.
+ * There are two ways to use it. A slave answers a master that is connected to it, and starts and
+ * stops measurements as the master says: you pass it the master's bytes and send what it lays out,
+ * while a task for each event channel takes the triggers. Or, without a connection, a store is set
+ * up by command packets, and an engine is then opened over the store. It has a sampler for each
+ * event channel, which takes the triggers, and a pump, which returns the frames of the samples. At
+ * the end you finish the samplers, drain the rings, and close the engine, which returns its
+ * account.
  *
  * Link with libnerthogal_c.a, and with liblibc_c.a of the Rattle toolchain, which connects it to
  * the C library's malloc, realloc and free.
@@ -19,12 +22,13 @@
  *   - A timestamp is a uint32_t in the caller's ticks. The library has no clock.
  *
  * Handles
- *   - A handle is a struct that the caller owns. Initialize it with NG_STORE_INIT, NG_ENGINE_INIT
- *     or NG_SAMPLER_INIT. Its fields belong to the library: don't read, write or copy them. You may
- *     move the struct while no call uses it. The old copy is no longer a handle.
+ *   - A handle is a struct that the caller owns. Initialize it with NG_STORE_INIT, NG_ENGINE_INIT,
+ *     NG_SAMPLER_INIT, NG_SLAVE_INIT or NG_TASK_INIT. Its fields belong to the library: don't read,
+ *     write or copy them. You may move the struct while no call uses it. The old copy is no longer
+ *     a handle.
  *   - A full handle leaks memory unless it is passed to ng_store_free, ng_engine_free,
- *     ng_sampler_free, ng_finish or ng_close. After that it is empty: it may be freed once more, or
- *     filled again.
+ *     ng_sampler_free, ng_finish, ng_close, ng_task_finish or ng_slave_close. After that it is
+ *     empty: it may be freed once more, or filled again.
  *   - A store may be used, or freed, after an engine was opened over it. An engine and its samplers
  *     may be freed in any order. If a sampler is freed without being finished, its engine can't be
  *     drained or closed, only freed.
@@ -41,7 +45,8 @@
  *     two uses are ordered: by a lock, by the start or the join of a thread, or by a sequentially
  *     consistent atomic.
  *   - Calls on different handles may run in different threads at the same time. So each sampler of
- *     an engine may have a thread of its own, while another thread pumps. This needs no lock.
+ *     an engine may have a thread of its own, while another thread pumps; and each task of a slave,
+ *     while another thread hears the master and sends. This needs no lock.
  *   - Don't call from a signal handler, or from the forked child of a process with threads.
  *   - No call waits, takes a lock, starts a thread or calls back. The comment on each call says
  *     when it calls malloc, realloc and free. They must align a block to each power of two up to 16
@@ -68,6 +73,8 @@ extern "C" {
 #define NG_MAX_LISTS 16u        /* DAQ lists, and so the lines of an account */
 #define NG_REPLY_BYTES 8u       /* room that the answer to a command needs */
 #define NG_PUMP_BYTES 4352u     /* room that a pump needs: 8 samples of 8 frames of 4 + 64 bytes */
+#define NG_PEEK_BYTES 544u      /* room that a peek needs: a sample of 8 frames of 4 + 64 bytes */
+#define NG_MAX_NAME 56u         /* bytes of a slave's and of an event channel's name: 0 to 56 */
 
 /* What a call returns: one of the numbers below. */
 typedef uint32_t ng_status;
@@ -87,8 +94,10 @@ enum {
     NG_RUNNING = 12,        /* the DAQ list runs already */
     NG_NOT_RUNNING = 13,    /* the DAQ list doesn't run */
     NG_NO_ROOM = 14,        /* the ring has no room for the stop marker; the list runs on */
-    NG_UNFINISHED = 15,     /* a sampler of the engine wasn't finished */
-    NG_NO_ENGINE = 16       /* the sampler's engine was freed */
+    NG_UNFINISHED = 15,     /* a sampler of the engine, or a task of the slave, wasn't finished */
+    NG_NO_ENGINE = 16,      /* the sampler's engine was freed */
+    NG_NO_TASK = 17,        /* the task of the event channel was handed out before */
+    NG_BAD_FRAME = 18       /* a frame of the stream has LEN 0 or over 64 */
 };
 
 /* The identification field at the front of each DAQ packet of a store: one of the numbers below. */
@@ -128,6 +137,40 @@ typedef struct {
     bool full;
 } ng_sampler;
 #define NG_SAMPLER_INIT { NULL, false }
+
+/* A slave, or none. */
+typedef struct {
+    void *at;
+    bool full;
+} ng_slave;
+#define NG_SLAVE_INIT { NULL, false }
+
+/* The task of an event channel of a slave, or none. */
+typedef struct {
+    void *at;
+    bool full;
+} ng_task;
+#define NG_TASK_INIT { NULL, false }
+
+/* What a slave tells its master of an event channel. A name ends before its first zero byte. */
+typedef struct {
+    size_t capacity;            /* of its ring, within the limits of ng_ring */
+    char name[NG_MAX_NAME + 1]; /* 0 to NG_MAX_NAME bytes of ASCII, 20 to 7E */
+    uint8_t cycle, cycle_unit;  /* of its triggers, in its unit: 0 to 9, for 1 ns, 10 ns, .. 1 s */
+    uint8_t priority;
+} ng_event;
+
+/* What a slave is opened with, beside its event channels. */
+typedef struct {
+    size_t image_len;           /* bytes of a memory image: 1 to NG_MAX_IMAGE */
+    uint32_t base;              /* the address of its first byte: base + image_len <= 2^32 */
+    ng_id_kind id;              /* the identification field of each DAQ packet */
+    ng_ring ring;               /* the kind of the rings, one ring per event channel */
+    uint16_t ticks;             /* so many units are one tick of a timestamp: not 0 */
+    uint8_t unit;               /* of a timestamp: 0 to 9, for 1 ns, 10 ns, .. 1 s */
+    uint8_t stamp_size;         /* bytes of a timestamp: 1, 2 or 4 */
+    char name[NG_MAX_NAME + 1]; /* as that of an event channel */
+} ng_profile;
 
 /* What a trigger did: the lists that were due; of these, the lists whose sample went into the ring,
  * and the lists whose sample found no room and was dropped. */
@@ -353,6 +396,119 @@ ng_status ng_close(ng_engine *engine, ng_line *lines, size_t lines_cap, ng_repor
  * this. Call free. */
 ng_status ng_engine_free(ng_engine *engine);
 ng_status ng_sampler_free(ng_sampler *sampler);
+
+/* ---- a slave that a master connects to */
+
+/* Opens a slave with a profile, and with so many event channels: events[c] is event channel c. No
+ * master is connected, there is no DAQ list, and nothing waits. Its CTR begins at 0.
+ *
+ *   NG_IN_USE      *slave isn't empty
+ *   NG_BAD_LIMITS  channels is 0 or over NG_MAX_CHANNELS, or a number or a name of the profile or
+ *                  of an event channel is out of its limits
+ *   NG_MEMORY      malloc failed
+ *   NG_OK          *slave holds the new slave
+ *
+ * NG_IN_USE is checked first; the next two come in either order. Except on NG_OK, *slave is
+ * unchanged. Proved: all of this, except that malloc failed if NG_MEMORY is returned. Calls malloc,
+ * realloc and free. */
+ng_status ng_slave_open(const ng_profile *profile, const ng_event *events, size_t channels,
+                        ng_slave *slave);
+
+/* Hands out the task of an event channel, once. It may then move to a thread of its own.
+ *
+ *   NG_IN_USE      *task isn't empty
+ *   NG_EMPTY       *slave is empty
+ *   NG_BAD_LIMITS  there is no such event channel
+ *   NG_NO_TASK     its task was handed out before
+ *   NG_MEMORY      malloc failed; the task may still be handed out
+ *   NG_OK          *task holds the task
+ *
+ * They are checked in this order. Except on NG_OK, nothing changes. Proved: all of this, except
+ * that malloc failed, and that the tasks were made in the order of the event channels, which the
+ * tests show. Calls malloc three times, but not on the first four statuses; and free on
+ * NG_MEMORY. */
+ng_status ng_slave_task(ng_slave *slave, uint16_t channel, ng_task *task);
+
+/* Takes bytes of a master's stream, as TCP has it, in whatever pieces they come. Each packet that
+ * is whole is answered: its reply waits to be sent. The clock is the one that GET_DAQ_CLOCK tells.
+ *
+ *   NG_EMPTY      *slave is empty
+ *   NG_BAD_FRAME  a frame has LEN 0 or over 64, in these bytes or in earlier ones of this stream.
+ *                 The packets before it were answered, and the lists stopped as by
+ *                 ng_slave_hang_up. No byte is taken any more until ng_slave_hang_up
+ *   NG_OK         the first *taken bytes were taken: all of them, or those up to the end of a frame
+ *                 behind which no reply finds room. Pass the others again once replies were sent
+ *
+ * They are checked in this order. Except on NG_OK, *taken is unchanged. Proved: all of this, which
+ * packets were answered, and each reply, from the definitions of the commands and all that the
+ * slave did before; but not that malloc or realloc failed if a reply is ERR_MEMORY_OVERFLOW. Calls
+ * malloc, realloc and free, for allocations, and where measurements begin and end. */
+ng_status ng_slave_receive(ng_slave *slave, const uint8_t *bytes, size_t len, uint32_t clock,
+                           size_t *taken);
+
+/* The same of one datagram, as UDP has it, which holds whole frames. A part of a frame at the end,
+ * or a frame with LEN 0 or over 64, drops what is left of the datagram, and nothing else. NG_EMPTY
+ * if *slave is empty; then *taken is unchanged. Proved: all of this, as for ng_slave_receive. */
+ng_status ng_slave_datagram(ng_slave *slave, const uint8_t *bytes, size_t len, uint32_t clock,
+                            size_t *taken);
+
+/* The transport was lost: all DAQ lists stop and are freed, and no master is connected, as after
+ * DISCONNECT; but nothing is replied. What is held of a frame is dropped: the next byte of a stream
+ * is the first of a frame. What waits to be sent waits on. NG_EMPTY if *slave is empty. Proved: all
+ * of this. Calls free. */
+ng_status ng_slave_hang_up(ng_slave *slave);
+
+/* Takes samples off the rings, and lays frames that wait out in buffer[0] to buffer[*len - 1]: as
+ * many replies and samples as find room, whole, the oldest first. They wait on until ng_slave_sent:
+ * the next peek lays out the same first. From frame to frame of a slave the counter rises by one.
+ *
+ *   NG_EMPTY         *slave is empty
+ *   NG_SMALL_BUFFER  buffer_cap is below NG_PEEK_BYTES
+ *   NG_OK            the frames stand in the buffer; *len is 0 if nothing waits
+ *
+ * They are checked in this order. Except on NG_OK, nothing changes. On NG_OK, the bytes after the
+ * first *len are unchanged. A buffer of 1400 bytes fits a datagram. Proved: all of this, and which
+ * frames they are. The tests show that it calls neither malloc nor realloc. */
+ng_status ng_slave_peek(ng_slave *slave, uint8_t *buffer, size_t buffer_cap, size_t *len);
+
+/* What the last ng_slave_peek laid out was sent, and waits no more. NG_EMPTY if *slave is empty.
+ * Proved: all of this. Calls neither malloc nor realloc. */
+ng_status ng_slave_sent(ng_slave *slave);
+
+/* Does what the slave ordered of this task, and then takes a trigger of its event channel, as
+ * ng_trigger does. While there is no measurement nothing is due.
+ *
+ *   NG_EMPTY        *task is empty
+ *   NG_WRONG_IMAGE  in a measurement: image_len isn't that of the profile
+ *   NG_SPENT        in a measurement: 2^59 triggers were taken
+ *   NG_OK           *taken says what it did
+ *
+ * They are checked in this order. Except on NG_OK, *taken is unchanged, and no trigger is taken.
+ * Proved: all of this. The tests show that it calls neither malloc nor realloc nor free. */
+ng_status ng_task_trigger(ng_task *task, const uint8_t *image, size_t image_len, uint32_t stamp,
+                          ng_taken *taken);
+
+/* Finishes a task. What is left of it goes back to its slave, which is still open. *task is then
+ * empty. NG_EMPTY if *task is empty. Proved: all of this. Calls free. */
+ng_status ng_task_finish(ng_task *task);
+
+/* Closes a slave, and returns the account of its session: lines[l] is the line of DAQ list l, over
+ * all measurements, modulo 2^64. All lists stop, as by ng_slave_hang_up. What waits, and so isn't
+ * sent any more, counts as left. *slave is then empty.
+ *
+ *   NG_EMPTY         *slave is empty
+ *   NG_SMALL_BUFFER  lines_cap is below NG_MAX_LISTS
+ *   NG_UNFINISHED    a task that was handed out isn't finished, in another thread perhaps; call
+ *                    again later
+ *   NG_OK            the lines stand in lines[0] to lines[NG_MAX_LISTS - 1], and *whole says
+ *                    whether the account has all of each measurement
+ *
+ * They are checked in this order. Except on NG_OK, the slave keeps all that it has, and lines and
+ * *whole are unchanged. On NG_OK, the elements of lines after the account are unchanged. Proved:
+ * all of this, and each number of the account, from what was sent and from what came back of the
+ * tasks; but not that NG_UNFINISHED is returned only if a task isn't finished, which the tests
+ * show. Calls free. */
+ng_status ng_slave_close(ng_slave *slave, ng_line *lines, size_t lines_cap, bool *whole);
 
 #ifdef __cplusplus
 }

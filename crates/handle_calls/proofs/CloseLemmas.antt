@@ -54,6 +54,10 @@ module _ (items : Items) (bytes : Bytes) where
   closes-items (held.Store s) is may same account = elim may [ ]
   closes-items (held.Sampler s) is may same account = elim may [ ]
   closes-items (held.ByteSampler s) is may same account = elim may [ ]
+  closes-items (held.Slave s) is may same account = elim may [ ]
+  closes-items (held.Task s) is may same account = elim may [ ]
+  closes-items (held.ByteSlave s) is may same account = elim may [ ]
+  closes-items (held.ByteTask s) is may same account = elim may [ ]
 
   pub closes-bytes : {old : Option Content} (content : Content) {now : Content} {engine : ByteEngine} {before after : AccountRoom}
       → old ≡ Some content → MayCloseHeld items bytes content now (length before.lines) → now ≡ held.ByteEngine engine
@@ -69,3 +73,7 @@ module _ (items : Items) (bytes : Bytes) where
   closes-bytes (held.Store s) is may same account = elim may [ ]
   closes-bytes (held.Sampler s) is may same account = elim may [ ]
   closes-bytes (held.ByteSampler s) is may same account = elim may [ ]
+  closes-bytes (held.Slave s) is may same account = elim may [ ]
+  closes-bytes (held.Task s) is may same account = elim may [ ]
+  closes-bytes (held.ByteSlave s) is may same account = elim may [ ]
+  closes-bytes (held.ByteTask s) is may same account = elim may [ ]

@@ -22,3 +22,5 @@ number_of status.NotRunning = 13
 number_of status.NoRoom = 14
 number_of status.Unfinished = 15
 number_of status.NoEngine = 16
+number_of status.NoTask = 17
+number_of status.BadFrame = 18

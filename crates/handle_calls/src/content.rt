@@ -1,8 +1,9 @@
 use crate::engine::Engine;
 use crate::lent::Lent;
-use byte_ring::ByteRing;
-use channel_ring::SampleRing;
+use byte_ring::{ByteRing, ByteSend};
+use channel_ring::{SampleRing, SendHalf};
 use daq_store::Store;
+use task_lending::{LendingSlave, LentTask};
 
 /// What a handle may hold.
 #[derive(Drop)]
@@ -17,4 +18,12 @@ pub enum Content {
     ByteSampler(Lent<ByteRing>),
     /// An engine over rings of bytes.
     ByteEngine(Engine<ByteRing>),
+    /// A slave over rings of items.
+    Slave(LendingSlave<SampleRing>),
+    /// The task of an event channel, over a ring of items.
+    Task(LentTask<SendHalf>),
+    /// A slave over rings of bytes.
+    ByteSlave(LendingSlave<ByteRing>),
+    /// The task of an event channel, over a ring of bytes.
+    ByteTask(LentTask<ByteSend>),
 }

@@ -39,7 +39,7 @@ fn take_back<R: Ring>(engine: &mut Engine<R>, lent: Lent<R>)
 }
 
 /// Puts what is given into an empty handle, or gives it back where memory is wanting.
-fn put_in(alloc: Global, given: Content, handle: &mut Handle) -> Result<(), Content>
+pub fn put_in(alloc: Global, given: Content, handle: &mut Handle) -> Result<(), Content>
     ensures ok { OnOk result (handle.new.held ≡ Some given) }
     ensures back { IfErr result (λ back. back ≡ given) }
     ensures err { OnErr result (handle.new.held ≡ handle.old.held) }

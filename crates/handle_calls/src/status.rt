@@ -34,10 +34,14 @@ pub enum Status {
     NotRunning,
     /// The ring has no room for the stop marker.
     NoRoom,
-    /// A sampler was not finished yet.
+    /// A sampler, or a task, was not finished yet.
     Unfinished,
     /// The sampler's engine was freed.
     NoEngine,
+    /// The task of the event channel was handed out before.
+    NoTask,
+    /// A frame's LEN is 0 or too great.
+    BadFrame,
 }
 
 impl Status {
@@ -63,6 +67,8 @@ impl Status {
             Status::NoRoom => 14,
             Status::Unfinished => 15,
             Status::NoEngine => 16,
+            Status::NoTask => 17,
+            Status::BadFrame => 18,
         }
     }
 }

@@ -42,6 +42,9 @@ use Rattle.channel_ring.specs.declared.ends.RingEnd.{Ghosts as EndGhosts}
 use Rattle.channel_ring.specs.declared.ends.TakeEnd.{Ghosts as TakeGhosts}
 use Rattle.daq_engine.specs.declared.ring.Ring.{Ghosts as RingGhosts}
 use Rattle.frame_writer.specs.contracts.byte_log.ByteLog as Log
+use Rattle.task_lending.proofs.SendLemmas.{lending_slave_send, lent_task_send}
+use Rattle.task_lending.specs.contracts.lending_slave.LendingSlave as LendingSlave
+use Rattle.task_lending.specs.contracts.lent_task.LentTask as LentTask
 use Rattle.handle_calls.specs.contracts.coming_back.ComingBack as ComingBack
 use Rattle.handle_calls.specs.contracts.engine.Engine as Engine
 use Rattle.handle_calls.specs.contracts.lending.Lending as Lending
@@ -113,6 +116,22 @@ bytes_engine =
     engine_send ByteRing.the_row ByteSend.the_row ByteTake.the_row ByteLeft.the_row byte_rings byte_send_ghosts byte_left_ghosts byte_take_ghosts
     byte_send byte_take byte_left
 
+items_slave : IsSend (LendingSlave.the_row SampleRing.the_row SendHalf.the_row TakeHalf.the_row Left item_rings half_ghosts left_ghosts take_ghosts)
+items_slave =
+    lending_slave_send SampleRing.the_row SendHalf.the_row TakeHalf.the_row Left item_rings half_ghosts left_ghosts take_ghosts
+    send_half take_half left_send
+
+items_task : IsSend (LentTask.the_row SendHalf.the_row Left half_ghosts left_ghosts)
+items_task = lent_task_send SendHalf.the_row Left half_ghosts left_ghosts send_half left_send
+
+bytes_slave : IsSend (LendingSlave.the_row ByteRing.the_row ByteSend.the_row ByteTake.the_row ByteLeft.the_row byte_rings byte_send_ghosts byte_left_ghosts byte_take_ghosts)
+bytes_slave =
+    lending_slave_send ByteRing.the_row ByteSend.the_row ByteTake.the_row ByteLeft.the_row byte_rings byte_send_ghosts byte_left_ghosts byte_take_ghosts
+    byte_send byte_take byte_left
+
+bytes_task : IsSend (LentTask.the_row ByteSend.the_row ByteLeft.the_row byte_send_ghosts byte_left_ghosts)
+bytes_task = lent_task_send ByteSend.the_row ByteLeft.the_row byte_send_ghosts byte_left_ghosts byte_send byte_left
+
 store_send : IsSend (Store.the_field).row
 store_send = search (sendable, crosses) depth 60 fits 20000
 
@@ -121,7 +140,8 @@ content_send =
     recorded_send _ _ _ content.the_type.to_one
     (enum_send (enum.shape content.the_type) (
       (store_send, tt),
-      ((items_lent, tt), ((items_engine, tt), ((bytes_lent, tt), ((bytes_engine, tt), tt)))),
+      ((items_lent, tt), ((items_engine, tt), ((bytes_lent, tt), ((bytes_engine, tt),
+      ((items_slave, tt), ((items_task, tt), ((bytes_slave, tt), ((bytes_task, tt), tt)))))))),
     ))
 
 owned_keyless : (full : Bool) (at : Ptr) (held : Option content.the_row.Denot) → Keyless (owns_held full at held)

@@ -1,0 +1,155 @@
+//! The calls of a slave.
+
+ghost use Rattle.std.specs.Prelude.{◌≡◌};
+ghost use Rattle.handle_calls.specs.Statuses.{number_of};
+ghost use Rattle.handle_calls.specs.declared.status.Status.{Status as StatusOf};
+ghost use Rattle.slave_calls.specs.Bytes.{HangsUpSlave, HearsDatagrams, PeeksSlave, Receives};
+ghost use Rattle.slave_calls.specs.Bytes.{SendsSlave};
+ghost use Rattle.slave_calls.specs.Ends.{ClosesSlaveOf};
+ghost use Rattle.slave_calls.specs.Openings.{OpensSlave};
+ghost use Rattle.slave_calls.specs.Tasks.{GivesTask};
+
+use byte_ring::ByteRing;
+use channel_ring::SampleRing;
+use daq_engine::ListReport;
+use handle_calls::{Handle, HeldRing};
+use slave_calls::{
+    EventIn, ProfileIn, close_slave_by, datagram_by, give_task, hang_up_by, open_slave, peek_by,
+    receive_by, sent_by,
+};
+use std::alloc::Global;
+
+/// Opens a slave with the profile and the event channels that are asked for, in an empty handle.
+///
+/// Refused first if the handle isn't empty; then if the profile is out of a limit or for want of
+/// memory, in either order (own).
+#[unsafe(no_mangle)]
+pub extern "C" fn ng_slave_open(
+    alloc: Global,
+    profile: &ProfileIn,
+    events: &[EventIn],
+    slave: &mut Handle,
+) -> u32
+    ensures { (status : StatusOf) × (result ≡ number_of status)
+        × OpensSlave ⟦<SampleRing as HeldRing>⟧.rings ⟦<ByteRing as HeldRing>⟧.rings
+        slave.old.held slave.new.held profile.now events.now status }
+{
+    open_slave(alloc, profile, events, slave).number()
+}
+
+/// Hands the task of event channel `channel` out, into an empty handle.
+///
+/// Refused in this order (own): a task's handle that isn't empty, no slave, no such event channel, a
+/// task that was handed out before, want of memory.
+#[unsafe(no_mangle)]
+pub extern "C" fn ng_slave_task(
+    alloc: Global,
+    slave: &mut Handle,
+    channel: u16,
+    task: &mut Handle,
+) -> u32
+    ensures { (status : StatusOf) × (result ≡ number_of status)
+        × GivesTask slave.old.held slave.new.held channel task.old.held task.new.held status }
+{
+    give_task(alloc, slave, channel, task).number()
+}
+
+/// Takes bytes of a master's stream, and answers each packet; how many it took is told.
+///
+/// Refused in this order: no slave, a frame whose LEN is 0 or over 64, in these bytes or earlier.
+#[unsafe(no_mangle)]
+pub extern "C" fn ng_slave_receive(
+    alloc: Global,
+    slave: &mut Handle,
+    bytes: &[u8],
+    clock: u32,
+    taken: &mut usize,
+) -> u32
+    ensures { (status : StatusOf) × (result ≡ number_of status)
+        × Receives ⟦<SampleRing as HeldRing>⟧.rings ⟦<ByteRing as HeldRing>⟧.rings
+        slave.old.held slave.new.held bytes.now clock taken.old taken.new status }
+{
+    receive_by(alloc, slave, bytes, clock, taken).number()
+}
+
+/// Takes the frames of a datagram, and answers each packet; how many bytes it took is told.
+///
+/// Refused if there is no slave.
+#[unsafe(no_mangle)]
+pub extern "C" fn ng_slave_datagram(
+    alloc: Global,
+    slave: &mut Handle,
+    bytes: &[u8],
+    clock: u32,
+    taken: &mut usize,
+) -> u32
+    ensures { (status : StatusOf) × (result ≡ number_of status)
+        × HearsDatagrams ⟦<SampleRing as HeldRing>⟧.rings ⟦<ByteRing as HeldRing>⟧.rings
+        slave.old.held slave.new.held bytes.now clock taken.old taken.new status }
+{
+    datagram_by(alloc, slave, bytes, clock, taken).number()
+}
+
+/// The transport was lost: all lists stop, and no master is connected.
+///
+/// Refused if there is no slave.
+#[unsafe(no_mangle)]
+pub extern "C" fn ng_slave_hang_up(alloc: Global, slave: &mut Handle) -> u32
+    ensures { (status : StatusOf) × (result ≡ number_of status)
+        × HangsUpSlave ⟦<SampleRing as HeldRing>⟧.rings ⟦<ByteRing as HeldRing>⟧.rings
+        slave.old.held slave.new.held status }
+{
+    hang_up_by(alloc, slave).number()
+}
+
+/// Puts as many whole frames that wait as find room into the front of the buffer, and their length
+/// in bytes into `len`.
+///
+/// Refused in this order: no slave, a buffer of less than 544 bytes.
+#[unsafe(no_mangle)]
+pub extern "C" fn ng_slave_peek(
+    alloc: Global,
+    slave: &mut Handle,
+    buffer: &mut [u8],
+    len: &mut usize,
+) -> u32
+    ensures { (status : StatusOf) × (result ≡ number_of status)
+        × PeeksSlave ⟦<SampleRing as HeldRing>⟧.rings ⟦<ByteRing as HeldRing>⟧.rings
+        slave.old.held slave.new.held
+        (record { buffer = buffer.old; len = len.old })
+        (record { buffer = buffer.new; len = len.new }) status }
+{
+    peek_by(alloc, slave, buffer, len).number()
+}
+
+/// What the last peek showed was sent.
+///
+/// Refused if there is no slave.
+#[unsafe(no_mangle)]
+pub extern "C" fn ng_slave_sent(alloc: Global, slave: &mut Handle) -> u32
+    ensures { (status : StatusOf) × (result ≡ number_of status)
+        × SendsSlave ⟦<SampleRing as HeldRing>⟧.rings ⟦<ByteRing as HeldRing>⟧.rings
+        slave.old.held slave.new.held status }
+{
+    sent_by(alloc, slave).number()
+}
+
+/// Closes a slave, and tells the account of its session: a line for each DAQ list that there may be,
+/// and whether the account is whole. The handle is empty then.
+///
+/// Refused in this order (own): no slave, room for less than 16 lines, a task that wasn't finished.
+#[unsafe(no_mangle)]
+pub extern "C" fn ng_slave_close(
+    alloc: Global,
+    slave: &mut Handle,
+    lines: &mut [ListReport],
+    whole: &mut bool,
+) -> u32
+    ensures { (status : StatusOf) × (result ≡ number_of status)
+        × ClosesSlaveOf ⟦<SampleRing as HeldRing>⟧.rings ⟦<ByteRing as HeldRing>⟧.rings
+        slave.old.held slave.new.held
+        (record { lines = lines.old; whole = whole.old })
+        (record { lines = lines.new; whole = whole.new }) status }
+{
+    close_slave_by(alloc, slave, lines, whole).number()
+}

@@ -1,0 +1,43 @@
+//! The calls of a slave's task.
+
+ghost use Rattle.std.specs.Prelude.{◌≡◌};
+ghost use Rattle.handle_calls.specs.Statuses.{number_of};
+ghost use Rattle.handle_calls.specs.declared.status.Status.{Status as StatusOf};
+ghost use Rattle.slave_calls.specs.Tasks.{FinishesHeld, TriggersHeldTask};
+
+use byte_ring::ByteRing;
+use channel_ring::SampleRing;
+use handle_calls::{Handle, HeldRing, TakenOut};
+use slave_calls::{finish_task_by, trigger_task_by};
+use std::alloc::Global;
+
+/// Does all that the slave ordered, and then takes a trigger of the task's event channel, with the
+/// memory image and a timestamp in ticks. While there is no measurement nothing is due.
+///
+/// Refused in this order: no task; in a measurement, an image of another length, `MAX_TRIGGERS`
+/// triggers taken. What the slave ordered is done then too.
+#[unsafe(no_mangle)]
+pub extern "C" fn ng_task_trigger(
+    alloc: Global,
+    task: &mut Handle,
+    image: &[u8],
+    stamp: u32,
+    taken: &mut TakenOut,
+) -> u32
+    ensures { (status : StatusOf) × (result ≡ number_of status)
+        × TriggersHeldTask ⟦<SampleRing as HeldRing>⟧.rings ⟦<ByteRing as HeldRing>⟧.rings
+        task.old.held task.new.held image.now stamp taken.old taken.new status }
+{
+    trigger_task_by(alloc, task, image, stamp, taken).number()
+}
+
+/// Finishes a task, and gives what is left of it back to its slave. The handle is empty then.
+///
+/// Refused if there is no task.
+#[unsafe(no_mangle)]
+pub extern "C" fn ng_task_finish(alloc: Global, task: &mut Handle) -> u32
+    ensures { (status : StatusOf) × (result ≡ number_of status)
+        × FinishesHeld task.old.held task.new.held status }
+{
+    finish_task_by(alloc, task).number()
+}

@@ -1,0 +1,94 @@
+-- How what holds of a slave that is to be closed comes to what the call says.
+use Rattle.std.proofs.Common.{◌≡◌, ◌∙◌, ℕ, ◌+◌, ◌<◌, List, Option, Some, None, length, set, refl, subst, sym, inl, inr, arith}
+use Rattle.std.specs.Prelude.{Result, Ok, Err, IfErr, OnOk, slice_get}
+use Rattle.std.proofs.lemmas.Bool.Decides.{eqb_tells}
+use Rattle.std.proofs.lemmas.List.{length-set}
+use Rattle.daq_engine.specs.declared.report.ListReport.{ListReport}
+use Rattle.session_account.specs.declared.totals.Totals.{Totals}
+use Rattle.slave_channels.proofs.EachLemmas.{get-set_other, get-set_same}
+use Rattle.handle_calls.specs.States.{Bytes, Items}
+use Rattle.handle_calls.specs.declared.content.Content.{Content}
+use Rattle.handle_calls.specs.declared.content.Content.TheVariants as held
+use Rattle.handle_calls.specs.declared.status.Status.{Status}
+use Rattle.slave_calls.specs.Ends.{AccountRoom, ClosesHeld, HasLines, IsLineIn, MayClose, MayCloseHeld, StaysHeld, StaysOpen, TellsAccount}
+use Rattle.slave_calls.specs.OnHandles.{ByteSlave, ItemSlave}
+use Rattle.slave_calls.proofs.OnLemmas.{one-kind, same-byte-slave, same-slave}
+
+pub some-not-none : {A : Type 0} {x : A} → Some x ≡ None → ⊥
+some-not-none is = absurd cc
+
+-- one line more
+pub lines-more : (account : List Totals) (l : ℕ) (before now : List ListReport) (line : ListReport) → l < length now
+    → IsLineIn account l line → HasLines account l before now → HasLines account (l + 1) before (set now l line)
+lines-more account l before now line there is so_far = record {
+  as_many = length-set now l line ∙ so_far.as_many;
+  lines = λ k below.
+      elim (eqb_tells k l) [
+        | inl w ↦
+            subst (λ j. (x : ListReport) × (slice_get (set now l line) j ≡ Some x) × IsLineIn account j x) (sym w.1)
+            (line, get-set_same now l line there, is)
+        | inr w ↦
+            let old = so_far.lines k (omega (arith, below, w.1)) in
+            (old.0, get-set_other now l k line w.1 ∙ old.1, old.2)
+      ];
+  behind = λ k from. get-set_other now l k line (λ e. omega (arith, e, from)) ∙ so_far.behind k (omega (arith, from));
+}
+
+module _ {content : Content} (room : ℕ) where
+  -- a slave that stays open stays held
+  pub stays-held : {s : ItemSlave} (t : ItemSlave) → content ≡ held.Slave s → (result : Result (Unit {0}) Status)
+      → IfErr result (StaysOpen s t room) → IfErr result (StaysHeld (Some content) (Some (held.Slave t)) room)
+  stays-held t is (Ok u) so = tt
+  stays-held {s} t is (Err status) so =
+      subst (λ (c : Content). StaysHeld (Some c) (Some (held.Slave t)) room status) (sym is) (t, refl, so)
+
+  pub stays-held-bytes : {s : ByteSlave} (t : ByteSlave) → content ≡ held.ByteSlave s → (result : Result (Unit {0}) Status)
+      → IfErr result (StaysOpen s t room) → IfErr result (StaysHeld (Some content) (Some (held.ByteSlave t)) room)
+  stays-held-bytes t is (Ok u) so = tt
+  stays-held-bytes {s} t is (Err status) so =
+      subst (λ (c : Content). StaysHeld (Some c) (Some (held.ByteSlave t)) room status) (sym is) (t, refl, so)
+
+  -- one that may be closed may be where it is held
+  pub may-close : {s : ItemSlave} (t : ItemSlave) → content ≡ held.Slave s
+      → (result : Result (Unit {0}) Status) → OnOk result (MayClose s t room) → OnOk result (MayCloseHeld content (held.Slave t) room)
+  may-close {s} t is (Ok u) so =
+      subst (λ (c : Content). MayCloseHeld c (held.Slave t) room) (sym is) (t, refl, so)
+  may-close t is (Err status) so = tt
+
+  pub may-close-bytes : {s : ByteSlave} (t : ByteSlave) → content ≡ held.ByteSlave s
+      → (result : Result (Unit {0}) Status) → OnOk result (MayClose s t room) → OnOk result (MayCloseHeld content (held.ByteSlave t) room)
+  may-close-bytes {s} t is (Ok u) so =
+      subst (λ (c : Content). MayCloseHeld c (held.ByteSlave t) room) (sym is) (t, refl, so)
+  may-close-bytes t is (Err status) so = tt
+
+module _ (items : Items) (bytes : Bytes) where
+  -- the slave that is closed is the one that may be
+  pub closes-items : {old : Option Content} (content : Content) {now : Content} {slave : ItemSlave} {before after : AccountRoom}
+      → old ≡ Some content → MayCloseHeld content now (length before.lines) → now ≡ held.Slave slave
+      → TellsAccount items.give slave before after → ClosesHeld items bytes old before after
+  closes-items {old} (held.Slave s) {now} {slave} {before} {after} is (t, to, (collects, none, room)) same told =
+      subst (λ (o : Option Content). ClosesHeld items bytes o before after) (sym is)
+      (t, collects, none, subst (λ e. TellsAccount items.give e before after) (same-slave (sym same ∙ to)) told)
+  closes-items (held.ByteSlave s) is (t, to, may) same told = elim (one-kind (sym same ∙ to)) [ ]
+  closes-items (held.Store s) is may same told = elim may [ ]
+  closes-items (held.Sampler s) is may same told = elim may [ ]
+  closes-items (held.Engine s) is may same told = elim may [ ]
+  closes-items (held.ByteSampler s) is may same told = elim may [ ]
+  closes-items (held.ByteEngine s) is may same told = elim may [ ]
+  closes-items (held.Task s) is may same told = elim may [ ]
+  closes-items (held.ByteTask s) is may same told = elim may [ ]
+
+  pub closes-bytes : {old : Option Content} (content : Content) {now : Content} {slave : ByteSlave} {before after : AccountRoom}
+      → old ≡ Some content → MayCloseHeld content now (length before.lines) → now ≡ held.ByteSlave slave
+      → TellsAccount bytes.give slave before after → ClosesHeld items bytes old before after
+  closes-bytes {old} (held.ByteSlave s) {now} {slave} {before} {after} is (t, to, (collects, none, room)) same told =
+      subst (λ (o : Option Content). ClosesHeld items bytes o before after) (sym is)
+      (t, collects, none, subst (λ e. TellsAccount bytes.give e before after) (same-byte-slave (sym same ∙ to)) told)
+  closes-bytes (held.Slave s) is (t, to, may) same told = elim (one-kind (sym to ∙ same)) [ ]
+  closes-bytes (held.Store s) is may same told = elim may [ ]
+  closes-bytes (held.Sampler s) is may same told = elim may [ ]
+  closes-bytes (held.Engine s) is may same told = elim may [ ]
+  closes-bytes (held.ByteSampler s) is may same told = elim may [ ]
+  closes-bytes (held.ByteEngine s) is may same told = elim may [ ]
+  closes-bytes (held.Task s) is may same told = elim may [ ]
+  closes-bytes (held.ByteTask s) is may same told = elim may [ ]

@@ -1,0 +1,89 @@
+-- How a slave is closed, with the account of its session (own).
+use Rattle.std.specs.Prelude.{◌≡◌, ◌⊎◌, ℕ, ◌<◌, ◌≤◌, Bool, List, length, slice_get}
+use Rattle.std.specs.Prelude.{Option, Some, None}
+use Rattle.xcp_base.specs.declared.limits.TheConstants.{MAX_LISTS}
+use Rattle.channel_ring.specs.declared.ends.TakeEnd.{Ghosts as TakeGhosts}
+use Rattle.daq_engine.specs.declared.report.ListReport.{ListReport}
+use Rattle.handle_calls.specs.States.{Bytes, Items}
+use Rattle.handle_calls.specs.declared.content.Content.{Content}
+use Rattle.handle_calls.specs.declared.content.Content.TheVariants as held
+use Rattle.handle_calls.specs.declared.status.Status.{Status}
+use Rattle.handle_calls.specs.declared.status.Status.TheVariants as status
+use Rattle.session_account.specs.Accounts.{AccountStandsAfter, Entry, IsTotalLine}
+use Rattle.session_account.specs.declared.totals.Totals.{Totals}
+use Rattle.slave.specs.Closing.{Closes}
+use Rattle.task_lending.specs.Lends.{Collects, NoneAway, SomeAway}
+use Rattle.task_lending.specs.States.{LendingSlaveState}
+use Rattle.slave_calls.specs.OnHandles.{ByteSlave, ItemSlave}
+
+-- the room for the lines of an account, and whether the account is whole
+pub record AccountRoom : Type 0 where
+  pub lines : List ListReport
+  pub whole : Bool
+
+-- this line of list l is that of an account
+abbrev pub IsLineIn : List Totals → ℕ → ListReport → Type 0
+IsLineIn account l line =
+    (entries : List Entry) (unsent : ℕ → ℕ) → AccountStandsAfter account entries unsent
+    → IsTotalLine entries unsent l line
+
+-- the first n places have the lines of their lists; the others are as they were
+pub record HasLines (account : List Totals) (n : ℕ) (before after : List ListReport) : Type 0 where
+  pub as_many : length after ≡ length before
+  pub lines :
+      (l : ℕ) → l < n
+      → (line : ListReport) × (slice_get after l ≡ Some line) × IsLineIn account l line
+  pub behind : (k : ℕ) → n ≤ k → slice_get after k ≡ slice_get before k
+
+module _ {S T : Type 0} where
+  -- a slave may be closed with so much room for lines: no task is away
+  abbrev pub MayClose : LendingSlaveState S T → LendingSlaveState S T → ℕ → Type 0
+  MayClose s t room = Collects s t × NoneAway t × (MAX_LISTS ≤ room)
+
+  -- why it stays open
+  abbrev pub StaysOpen : LendingSlaveState S T → LendingSlaveState S T → ℕ → Status → Type 0
+  StaysOpen s t room status.SmallBuffer = (room < MAX_LISTS) × (t ≡ s)
+  StaysOpen s t room status.Unfinished = (MAX_LISTS ≤ room) × Collects s t × SomeAway t
+  StaysOpen s t room _ = ⊥
+
+module _ {S T F : Type 0} (take : TakeGhosts T F) where
+  -- the account of the session is told: a line for each list that there may be
+  pub record TellsAccount (s : LendingSlaveState S T) (before after : AccountRoom) : Type 0 where
+    pub account : List Totals
+    pub closes : Closes take s.slave account after.whole
+    pub lines : HasLines account MAX_LISTS before.lines after.lines
+
+  -- a slave is given up with its account
+  abbrev pub ClosesSlave : LendingSlaveState S T → AccountRoom → AccountRoom → Type 0
+  ClosesSlave s before after =
+      (t : LendingSlaveState S T) × Collects s t × NoneAway t × TellsAccount t before after
+
+-- why what is held stays, where it is to be closed with so much room for lines
+abbrev pub StaysHeld : Option Content → Option Content → ℕ → Status → Type 0
+StaysHeld (Some (held.Slave s)) new room result =
+    (t : ItemSlave) × (new ≡ Some (held.Slave t)) × StaysOpen s t room result
+StaysHeld (Some (held.ByteSlave s)) new room result =
+    (t : ByteSlave) × (new ≡ Some (held.ByteSlave t)) × StaysOpen s t room result
+StaysHeld old new room result = (result ≡ status.Empty) × (new ≡ old)
+
+-- what is held is a slave that may be closed
+abbrev pub MayCloseHeld : Content → Content → ℕ → Type 0
+MayCloseHeld (held.Slave s) new room =
+    (t : ItemSlave) × (new ≡ held.Slave t) × MayClose s t room
+MayCloseHeld (held.ByteSlave s) new room =
+    (t : ByteSlave) × (new ≡ held.ByteSlave t) × MayClose s t room
+MayCloseHeld old new room = ⊥
+
+module _ (items : Items) (bytes : Bytes) where
+  -- the slave that is held is given up
+  abbrev pub ClosesHeld : Option Content → AccountRoom → AccountRoom → Type 0
+  ClosesHeld (Some (held.Slave s)) before after = ClosesSlave items.give s before after
+  ClosesHeld (Some (held.ByteSlave s)) before after = ClosesSlave bytes.give s before after
+  ClosesHeld old before after = ⊥
+
+  -- what ng_slave_close does to a handle
+  abbrev pub ClosesSlaveOf
+      : Option Content → Option Content → AccountRoom → AccountRoom → Status → Type 0
+  ClosesSlaveOf old new before after result =
+      ((result ≡ status.Ok) × (new ≡ None) × ClosesHeld old before after)
+      ⊎ (StaysHeld old new (length before.lines) result × (after ≡ before))

@@ -1,0 +1,94 @@
+//! The slave of a handle is closed, and its account told.
+
+ghost use Rattle.std.specs.Prelude.{◌≡◌, ◌≤◌, IfErr, OnOk, Some, length};
+ghost use Rattle.xcp_base.specs.declared.limits.TheConstants.{MAX_LISTS as MOST_LISTS};
+ghost use Rattle.slave_calls.specs.Ends.{ClosesSlaveOf, HasLines, MayClose, MayCloseHeld};
+ghost use Rattle.slave_calls.specs.Ends.{StaysHeld, StaysOpen, TellsAccount};
+
+use byte_ring::ByteRing;
+use channel_ring::{SampleRing, TakeEnd};
+use daq_engine::{ListReport, Ring};
+use handle_calls::{Content, Handle, HeldRing, Status};
+use session_account::Account;
+use slave::Closed;
+use std::alloc::Global;
+use task_lending::LendingSlave;
+use xcp_base::limits::MAX_LISTS;
+
+/// Tells the lines of an account, each at the place of its list.
+fn tell(account: &Account, lines: &mut [ListReport])
+    requires room { MOST_LISTS ≤ length lines.old }
+    ensures { HasLines account.now MOST_LISTS lines.old lines.new }
+{
+    for l in 0..MAX_LISTS as u8 {
+        let Some(line) = account.line(l) else {
+            unreachable!()
+        };
+        lines[l as usize] = line;
+    }
+}
+
+/// Closes a slave, and tells its account.
+fn close<R: Ring>(alloc: Global, slave: LendingSlave<R>, lines: &mut [ListReport], whole: &mut bool)
+    requires room { MOST_LISTS ≤ length lines.old }
+    ensures { TellsAccount R.Take.TakeEnd slave
+        (record { lines = lines.old; whole = whole.old })
+        (record { lines = lines.new; whole = whole.new }) }
+{
+    let Closed { account, is_whole } = slave.close(alloc);
+    tell(&account, lines);
+    *whole = is_whole;
+}
+
+/// Whether a slave may be closed with so much room for lines, since no task is away; or why not.
+fn may_close<R: Ring>(slave: &mut LendingSlave<R>, room: usize) -> Result<(), Status>
+    ensures ok { OnOk result (MayClose slave.old slave.new room) }
+    ensures err { IfErr result (StaysOpen slave.old slave.new room) }
+{
+    if room < MAX_LISTS as usize {
+        return Err(Status::SmallBuffer);
+    }
+    if !slave.collect() {
+        return Err(Status::Unfinished);
+    }
+    Ok(())
+}
+
+/// Whether what is held is a slave that may be closed with so much room for lines; or why not.
+fn may_close_in(content: &mut Content, room: usize) -> Result<(), Status>
+    ensures ok { OnOk result (MayCloseHeld content.old content.new room) }
+    ensures err { IfErr result (StaysHeld (Some content.old) (Some content.new) room) }
+{
+    match content {
+        Content::Slave(slave) => may_close(slave, room),
+        Content::ByteSlave(slave) => may_close(slave, room),
+        _ => Err(Status::Empty),
+    }
+}
+
+/// Closes the slave of a handle, and tells its account.
+pub fn close_slave_by(
+    alloc: Global,
+    handle: &mut Handle,
+    lines: &mut [ListReport],
+    whole: &mut bool,
+) -> Status
+    ensures { ClosesSlaveOf ⟦<SampleRing as HeldRing>⟧.rings ⟦<ByteRing as HeldRing>⟧.rings
+        handle.old.held handle.new.held
+        (record { lines = lines.old; whole = whole.old })
+        (record { lines = lines.new; whole = whole.new }) result }
+{
+    let Some(mut held) = handle.take(alloc) else {
+        return Status::Empty;
+    };
+    if let Err(status) = may_close_in(held.as_mut(), lines.len()) {
+        handle.put(alloc, held);
+        return status;
+    }
+    match Box::into_inner(held) {
+        Content::Slave(slave) => close(alloc, slave, lines, whole),
+        Content::ByteSlave(slave) => close(alloc, slave, lines, whole),
+        _ => unreachable!(),
+    }
+    Status::Ok
+}

@@ -1,0 +1,20 @@
+//! What each call for C does to the handles of a slave and of its tasks, with a status for each
+//! answer.
+#![tactic(auto)]
+
+mod byte_calls;
+mod closing;
+mod lending;
+mod opening;
+mod profile_in;
+mod profiles;
+mod sending_calls;
+mod task_calls;
+
+pub use byte_calls::{datagram_by, hang_up_by, receive_by};
+pub use closing::close_slave_by;
+pub use lending::give_task;
+pub use opening::open_slave;
+pub use profile_in::{EventIn, ProfileIn};
+pub use sending_calls::{peek_by, sent_by};
+pub use task_calls::{finish_task_by, trigger_task_by};

@@ -1,0 +1,4 @@
+pub mod OpenLemmas
+pub mod SendLemmas
+pub mod SendingLemmas
+pub mod TaskLemmas

@@ -1,0 +1,5 @@
+pub mod Bytes
+pub mod Lends
+pub mod Sending
+pub mod Slots
+pub mod States

@@ -1,0 +1,34 @@
+-- What a slave shows of what waits, and what was sent (own).
+use Rattle.std.specs.Prelude.{◌≡◌, ℕ, List, [], ◌∷◌, drop, length, min}
+use Rattle.std.specs.Prelude.{take as first}
+use Rattle.channel_ring.specs.declared.ends.TakeEnd.{Ghosts as TakeGhosts}
+use Rattle.frame_outbox.specs.Outboxes.{Shows}
+use Rattle.slave.specs.Hearing.{GoesBy}
+use Rattle.slave.specs.Log.{Sent}
+use Rattle.slave.specs.Standing.{SlaveState}
+use Rattle.slave.specs.Taking.{TakesItems}
+use Rattle.task_lending.specs.States.{LendingSlaveState}
+
+module _ {S T F : Type 0} (take : TakeGhosts T F) where
+  -- items were taken; and then as many of the replies and samples that waited as find room were
+  -- copied to the front of the buffer, n bytes
+  pub record Peeks (a b : LendingSlaveState S T) (before after : List ℕ) (n : ℕ) : Type 0 where
+    pub taken : SlaveState S T
+    pub takes : TakesItems take a.slave taken
+    pub shows : Shows taken.outbox (length before) b.slave.outbox.shown n
+    pub bytes : first n after ≡ first n taken.outbox.waits
+    pub behind : drop n after ≡ drop n before
+    pub stays : GoesBy take taken b.slave []
+    pub profile : b.slave.session.profile ≡ a.slave.session.profile
+    pub stream : b.stream ≡ a.stream
+    pub tasks : b.tasks ≡ a.tasks
+
+  -- what the last peek showed was sent
+  pub record Sends (a b : LendingSlaveState S T) : Type 0 where
+    pub sends :
+        GoesBy take a.slave b.slave
+        (Sent (min a.slave.outbox.shown (length a.slave.outbox.units)) ∷ [])
+    pub none_shown : b.slave.outbox.shown ≡ 0
+    pub profile : b.slave.session.profile ≡ a.slave.session.profile
+    pub stream : b.stream ≡ a.stream
+    pub tasks : b.tasks ≡ a.tasks

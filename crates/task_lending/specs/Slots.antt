@@ -1,0 +1,41 @@
+-- The task of an event channel, as its slave has it (own).
+use Rattle.std.specs.Prelude.{◌≡◌, ◌⊎◌, Bool, false, true, not, ◌&&◌, List, map}
+use Rattle.std.specs.Prelude.{Option, Some, None}
+use Rattle.std.specs.Option.{is_some}
+use Rattle.tasks.specs.Tasks.{TaskState}
+use Rattle.task_lending.specs.declared.slot.Slot.{Slot}
+use Rattle.task_lending.specs.declared.slot.Slot.TheVariants as slot
+
+-- the task, if it wasn't handed out; and whether what is left of it came back
+pub record SlotState (S : Type 0) : Type 0 where
+  pub here : Option (TaskState S)
+  pub back : Bool
+
+module _ {S : Type 0} where
+  -- this task wasn't handed out; it is away; and it came back
+  abbrev pub with_task : TaskState S → SlotState S
+  with_task task = record { here = Some task; back = false }
+
+  abbrev pub away : SlotState S
+  away = record { here = None; back = false }
+
+  abbrev pub came_back : SlotState S
+  came_back = record { here = None; back = true }
+
+  -- whether a task is away
+  abbrev pub is_away : SlotState S → Bool
+  is_away s = not (is_some s.here) && not s.back
+
+  -- a task that is away may have come back
+  abbrev pub MayComeBack : SlotState S → SlotState S → Type 0
+  MayComeBack a b = (b ≡ a) ⊎ ((a ≡ away) × (b ≡ came_back))
+
+-- what a slot says
+abbrev pub in_slot : {S E : Type 0} → Slot S E → SlotState S
+in_slot (slot.Here task) = with_task task
+in_slot (slot.Away way) = away
+in_slot (slot.Back end) = came_back
+
+-- each task is in the slot of its place
+abbrev pub AllHere : {S E : Type 0} → List (TaskState S) → List (Slot S E) → Type 0
+AllHere tasks slots = map in_slot slots ≡ map with_task tasks

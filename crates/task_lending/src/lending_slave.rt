@@ -1,0 +1,65 @@
+ghost use Rattle.std.specs.Prelude.{◌≡◌, IfOk, length};
+ghost use Rattle.task_lending.specs.Lends.{IsOpenedWith};
+ghost use Rattle.task_lending.specs.Slots.{AllHere};
+
+use crate::slot::Slot;
+use channel_ring::SendEnd;
+use daq_engine::Ring;
+use session::Profile;
+use slave::{OpenFault, Slave};
+use slave_stream::MasterStream;
+use std::alloc::{AllocError, Global};
+use std::marker::Model;
+use tasks::Task;
+
+/// A slave, the stream of its master, and the tasks of its event channels: those that weren't handed
+/// out, the ways back of those that were, and what came back.
+#[derive(Drop)]
+pub struct LendingSlave<R: Ring> {
+    pub(crate) slave: Slave<R>,
+    pub(crate) stream: MasterStream,
+    pub(crate) slots: Vec<Slot<R::Send>>,
+}
+
+impl<R: Ring> Model for LendingSlave<R> {
+    ghost use Rattle.std.specs.Prelude.{map};
+    ghost use Rattle.task_lending.specs.Slots.{in_slot};
+    ghost use Rattle.task_lending.specs.States.{LendingSlaveState};
+
+    ghost Value = { LendingSlaveState R.Send R.Take };
+
+    ghost view = { λ l. record {
+      slave = l.slave;
+      stream = l.stream;
+      tasks = map in_slot l.slots.items;
+    } };
+}
+
+/// A slot for each task, in their order.
+fn slots_of<S: SendEnd>(alloc: Global, tasks: Vec<Task<S>>) -> Result<Vec<Slot<S>>, AllocError>
+    ensures { IfOk result (λ slots. AllHere tasks.items slots.items) }
+{
+    let mut slots = Vec::with_capacity(alloc, tasks.len())?;
+    for task in tasks {
+        slots.push(Slot::Here(task))?;
+    }
+    Ok(slots)
+}
+
+impl<R: Ring> LendingSlave<R> {
+    /// A slave with this profile, as `Slave::open` opens it. All its tasks are here, and no byte of a
+    /// master came.
+    pub fn open(alloc: Global, profile: Profile) -> Result<LendingSlave<R>, OpenFault>
+        ensures { IfOk result (IsOpenedWith R.Take.TakeEnd profile) }
+    {
+        let (slave, tasks) = Slave::open(alloc, profile)?;
+        let Ok(slots) = slots_of(alloc, tasks) else {
+            return Err(OpenFault::Memory);
+        };
+        Ok(LendingSlave {
+            slave,
+            stream: MasterStream::new(),
+            slots,
+        })
+    }
+}

@@ -1,0 +1,540 @@
+/* Goes through each call of a slave and of its tasks, and each status that can be met. Prints a line
+ * for each part; ends with status 1 at the first answer that isn't the one wanted. Frames are
+ * written out by hand: LEN and CTR, least significant byte first, and then the packet. */
+#include "memory.h"
+#include "nerthogal.h"
+#include <stdio.h>
+#include <stdlib.h>
+#include <string.h>
+
+#define UNWRITTEN 0xA5u
+#define CLOCK 0x01020304u
+#define LEN(table) (sizeof(table) / sizeof(table)[0])
+
+static const char *part = "";
+
+/* The kind of rings that the parts are gone through with. */
+static ng_ring ring = NG_RING_ITEMS;
+
+static const char *over(void) { return ring == NG_RING_BYTES ? "over rings of bytes: " : ""; }
+
+static void want(bool holds, const char *what) {
+    if (holds) return;
+    printf("%s%s: FAILED: %s\n", over(), part, what);
+    exit(1);
+}
+
+static void begin(const char *name) { part = name; }
+
+static void end(void) { printf("%s%s: ok\n", over(), part); }
+
+/* The bytes of a text in hexadecimal. */
+static size_t unhex(const char *text, uint8_t *bytes) {
+    size_t len = strlen(text) / 2;
+    for (size_t i = 0; i < len; i++) {
+        unsigned byte = 0;
+        sscanf(text + 2 * i, "%2x", &byte);
+        bytes[i] = (uint8_t)byte;
+    }
+    return len;
+}
+
+/* An identification field of one byte, images of two bytes from address 0 on, and timestamps of
+ * four bytes in microseconds. */
+static ng_profile profile_of(void) {
+    ng_profile profile = {.image_len = 2, .id = NG_ABSOLUTE, .ticks = 1, .unit = 3,
+                          .stamp_size = 4, .name = "ng"};
+    profile.ring = ring;
+    return profile;
+}
+
+/* An event channel of 1 ms whose ring has room for four samples, or for more. */
+static ng_event event_of(const char *name) {
+    ng_event event = {.cycle = 1, .cycle_unit = 6};
+    event.capacity = ring == NG_RING_BYTES ? NG_MIN_BYTE_RING : 4;
+    memcpy(event.name, name, strlen(name));
+    return event;
+}
+
+/* A slave of one event channel, or of two. */
+static ng_slave open_slave(size_t channels) {
+    ng_profile profile = profile_of();
+    ng_event events[2] = {event_of("e0"), event_of("e1")};
+    ng_slave slave = NG_SLAVE_INIT;
+    want(ng_slave_open(&profile, events, channels, &slave) == NG_OK, "open");
+    return slave;
+}
+
+static ng_task task_of(ng_slave *slave, uint16_t channel) {
+    ng_task task = NG_TASK_INIT;
+    want(ng_slave_task(slave, channel, &task) == NG_OK, "task");
+    return task;
+}
+
+/* How a slave hears frames of its master: from a stream, whole or byte by byte, or in datagrams. */
+static enum { STREAM, PIECES, DATAGRAMS } way = STREAM;
+
+static void hear(ng_slave *slave, const char *frames) {
+    static uint8_t bytes[1024];
+    size_t len = unhex(frames, bytes), taken = 77, step = way == PIECES ? 1 : len;
+    if (way == DATAGRAMS) {
+        want(ng_slave_datagram(slave, bytes, len, CLOCK, &taken) == NG_OK, frames);
+        want(taken == len, frames);
+        return;
+    }
+    for (size_t at = 0; at < len; at += step) {
+        taken = 77;
+        want(ng_slave_receive(slave, bytes + at, step, CLOCK, &taken) == NG_OK, frames);
+        want(taken == step, frames);
+    }
+}
+
+static uint8_t buffer[1400];
+
+/* Wants these frames to wait, and behind them nothing written. */
+static void shows(ng_slave *slave, const char *frames) {
+    static uint8_t bytes[sizeof buffer];
+    size_t len = 77;
+    memset(buffer, UNWRITTEN, sizeof buffer);
+    memset(bytes, UNWRITTEN, sizeof bytes);
+    unsigned long asked = memory_asked;
+    want(ng_slave_peek(slave, buffer, sizeof buffer, &len) == NG_OK, "peek");
+    want(asked == memory_asked, "no memory is asked for");
+    want(len == unhex(frames, bytes) && memcmp(buffer, bytes, sizeof buffer) == 0, frames);
+}
+
+/* The same, and sends them. */
+static void sends(ng_slave *slave, const char *frames) {
+    shows(slave, frames);
+    want(ng_slave_sent(slave) == NG_OK, "sent");
+}
+
+static void trigger(ng_task *task, const char *image, unsigned due, unsigned accepted) {
+    uint8_t bytes[2] = {0};
+    ng_taken taken = {0x5555, 0x5555, 0x5555};
+    size_t len = unhex(image, bytes);
+    unsigned long asked = memory_asked, held = memory_held;
+    want(ng_task_trigger(task, bytes, len, 0, &taken) == NG_OK, image);
+    want(asked == memory_asked && held == memory_held, "no memory is asked for or given back");
+    want(taken.due == due && taken.accepted == accepted && taken.dropped == (due & ~accepted),
+         "what the trigger did");
+}
+
+static ng_line lines[NG_MAX_LISTS + 1];
+
+/* Closes a slave, and wants these lines, of zeros for the other lists. */
+static void close_with(ng_slave *slave, const ng_line *account, size_t count) {
+    bool whole = false;
+    memset(lines, UNWRITTEN, sizeof lines);
+    want(ng_slave_close(slave, lines, LEN(lines), &whole) == NG_OK, "close");
+    want(whole, "the account is whole");
+    for (size_t l = 0; l < NG_MAX_LISTS; l++) {
+        ng_line zeros = {(uint8_t)l, 0, 0, 0, 0};
+        ng_line wanted = l < count ? account[l] : zeros;
+        want(lines[l].list == l && lines[l].due == wanted.due, "due");
+        want(lines[l].written == wanted.written && lines[l].dropped == wanted.dropped
+                 && lines[l].left == wanted.left, "written, dropped, left");
+    }
+    want(lines[NG_MAX_LISTS].due == 0xA5A5A5A5A5A5A5A5u, "behind the account nothing is written");
+    want(ng_slave_close(slave, lines, LEN(lines), &whole) == NG_EMPTY, "it is empty then");
+}
+
+static void finish(ng_task *task) {
+    want(ng_task_finish(task) == NG_OK && ng_task_finish(task) == NG_EMPTY, "finish");
+}
+
+static void openings(void) {
+    ng_profile good = profile_of();
+    ng_event events[9] = {event_of("e0")};
+    ng_slave slave = NG_SLAVE_INIT;
+    begin("openings");
+    for (size_t c = 1; c < 9; c++) events[c] = event_of("e1");
+    for (unsigned k = 0; k < 20; k++) {
+        ng_profile p = good;
+        ng_event e = event_of("e0");
+        if (k == 0) p.image_len = 0;
+        if (k == 1) p.image_len = NG_MAX_IMAGE + 1;
+        if (k == 2) p.id = 3;
+        if (k == 3) p.ring = 2;
+        if (k == 4) p.ticks = 0;
+        if (k == 5) p.unit = 10;
+        if (k == 6) p.stamp_size = 3;
+        if (k == 7) p.stamp_size = 0;
+        if (k == 8) p.base = 0xFFFFFFFFu;
+        if (k == 9) memset(p.name, 'n', sizeof p.name);
+        if (k == 10) p.name[0] = 0x1F;
+        if (k == 11) p.name[0] = 0x7F;
+        if (k == 12) e.capacity = 0;
+        if (k == 13) e.capacity = ring == NG_RING_BYTES ? NG_MAX_BYTE_RING + 1 : NG_MAX_RING + 1;
+        if (k == 14) e.capacity = SIZE_MAX;
+        if (k == 15) memset(e.name, 'n', sizeof e.name);
+        if (k == 16) e.name[1] = '\n';
+        if (k == 17) e.cycle_unit = 10;
+        if (k == 18) e.capacity = ring == NG_RING_BYTES ? NG_MIN_BYTE_RING - 1 : NG_MAX_RING + 1;
+        if (k == 19) p.id = UINT32_MAX;
+        events[1] = e;
+        want(ng_slave_open(&p, events, 2, &slave) == NG_BAD_LIMITS, "out of a limit");
+        want(!slave.full, "nothing is made");
+    }
+    events[1] = event_of("");
+    want(ng_slave_open(&good, events, 0, &slave) == NG_BAD_LIMITS, "no event channel");
+    want(ng_slave_open(&good, events, 9, &slave) == NG_BAD_LIMITS, "nine event channels");
+    good.base = 0xFFFFFFFEu;
+    memset(good.name, 'n', NG_MAX_NAME);
+    want(ng_slave_open(&good, events, 8, &slave) == NG_OK, "eight");
+    want(ng_slave_open(&good, events, 9, &slave) == NG_IN_USE, "it is in use");
+    close_with(&slave, NULL, 0);
+    end();
+}
+
+static void empty_handles(void) {
+    ng_slave slave = NG_SLAVE_INIT;
+    ng_task task = NG_TASK_INIT;
+    size_t len = 77;
+    bool whole = true;
+    ng_taken taken = {1, 2, 3};
+    begin("empty handles");
+    want(ng_slave_task(&slave, 0, &task) == NG_EMPTY, "task");
+    want(ng_slave_receive(&slave, buffer, 0, 0, &len) == NG_EMPTY, "receive");
+    want(ng_slave_datagram(&slave, buffer, 0, 0, &len) == NG_EMPTY, "datagram");
+    want(ng_slave_hang_up(&slave) == NG_EMPTY, "hang_up");
+    want(ng_slave_peek(&slave, buffer, 0, &len) == NG_EMPTY, "peek");
+    want(ng_slave_sent(&slave) == NG_EMPTY, "sent");
+    want(ng_slave_close(&slave, lines, 0, &whole) == NG_EMPTY, "close");
+    want(ng_task_trigger(&task, buffer, 0, 0, &taken) == NG_EMPTY, "trigger");
+    want(ng_task_finish(&task) == NG_EMPTY, "finish");
+    want(len == 77 && whole && taken.due == 1 && taken.dropped == 3, "nothing is written");
+    end();
+}
+
+/* A worked session: what the master sends, what waits then at the slave, and is sent. */
+static const struct {
+    const char *master, *slave;
+} connecting[] = {
+    {"01000000fd", ""},
+    {"02000100ff00", "08000000ff04804040000101"},
+    {"02000200ff01", "02000100fe22"},
+    {"01000300fd", "06000200ff0000000000"},
+    {"01000400fc", "02000300fe00"},
+    {"02000500fa00", "0a000400ff010000020000006e67"},
+    {"01000600da", "08000500ff53000001000000"},
+    {"01000700d9", "08000600ff013f0100340100"},
+    {"02000800f501", "02000700fe29"},
+    {"04000900d7000000", "07000800ff041002010600"},
+    {"02000a00f502", "03000900ff6530"},
+    {"02000b00f501", "02000a00fe22"},
+    {"04000c00d7000100", "02000b00fe22"},
+    {"01000d00dc", "08000c00ff00000004030201"},
+    {"01000e00d6", "01000d00ff"},
+    {"04000f00d5000100", "01000e00ff"},
+    {"05001000d400000001", "01000f00ff"},
+    {"06001100d30000000001", "01001000ff"},
+    {"06001200e20000000000", "01001100ff"},
+    {"08001300e1ff020000000000", "01001200ff"},
+    {"08001400e000000000000100", "01001300ff"},
+    {"04001500df000000", "08001400ff00000000000100"},
+    {"04001600de010000", "02001500ff00"},
+};
+
+static void session(void) {
+    static const ng_line account[] = {{0, 4, 3, 0, 1}};
+    ng_slave slave = open_slave(1);
+    ng_task task = task_of(&slave, 0);
+    trigger(&task, "", 0, 0);
+    for (size_t k = 0; k < LEN(connecting); k++) {
+        hear(&slave, connecting[k].master);
+        sends(&slave, connecting[k].slave);
+    }
+    trigger(&task, "aabb", 1, 1);
+    sends(&slave, "0300160000aabb");
+    hear(&slave, "01001700fd");
+    sends(&slave, "06001700ff4000000000");
+    trigger(&task, "ccdd", 1, 1);
+    hear(&slave, "04001800de000000");
+    sends(&slave, "02001800ff00");
+    hear(&slave, "04001900de010000");
+    trigger(&task, "eeff", 1, 1);
+    shows(&slave, "02001900ff00" "03001a0000eeff");
+    sends(&slave, "02001900ff00" "03001a0000eeff");
+    sends(&slave, "");
+    for (unsigned k = 0; k < 4; k++) {
+        hear(&slave, "04001a00de000000");
+        hear(&slave, "04001b00de010000");
+    }
+    sends(&slave, "02001b00ff00" "02001c00ff00" "02001d00ff00" "02001e00ff00"
+                  "02001f00ff00" "02002000ff00" "02002100ff00" "02002200ff00");
+    trigger(&task, "1122", 1, 1);
+    sends(&slave, "03002300001122");
+    hear(&slave, "01001c00fe");
+    sends(&slave, "01002400ff");
+    hear(&slave, "01001d00fd");
+    sends(&slave, "");
+    trigger(&task, "3344", 0, 0);
+    finish(&task);
+    close_with(&slave, account, 1);
+}
+
+static void sessions(void) {
+    begin("a worked session, by a stream");
+    session();
+    end();
+    begin("the same, byte by byte");
+    way = PIECES;
+    session();
+    end();
+    begin("the same, by datagrams");
+    way = DATAGRAMS;
+    session();
+    way = STREAM;
+    end();
+}
+
+/* The tasks are those of their event channels, whichever is handed out first. */
+static void two_channels(void) {
+    static const ng_line account[] = {{0, 1, 1, 0, 0}, {1, 2, 2, 0, 0}};
+    begin("two event channels, and their tasks");
+    for (unsigned k = 0; k < 2; k++) {
+        ng_slave slave = open_slave(2);
+        ng_task tasks[2] = {NG_TASK_INIT, NG_TASK_INIT}, more = NG_TASK_INIT;
+        uint16_t first = (uint16_t)k, second = (uint16_t)(1 - k);
+        want(ng_slave_task(&slave, 2, &more) == NG_BAD_LIMITS, "no event channel 2");
+        want(ng_slave_task(&slave, UINT16_MAX, &more) == NG_BAD_LIMITS, "nor 65535");
+        tasks[first] = task_of(&slave, first);
+        want(ng_slave_task(&slave, first, &more) == NG_NO_TASK && !more.full, "once");
+        want(ng_slave_task(&slave, second, &tasks[first]) == NG_IN_USE, "it is in use");
+        tasks[second] = task_of(&slave, second);
+        hear(&slave, "02000000ff00" "04000000d5000200" "05000000d400000001" "05000000d400010001"
+                     "06000000d30000000001" "06000000d30001000001");
+        hear(&slave, "06000000e20000000000" "08000000e1ff010000000000" "08000000e000000000000100"
+                     "06000000e20001000000" "08000000e1ff010001000000" "08000000e000010001000100");
+        sends(&slave, "08000000ff04804040000101" "01000100ff" "01000200ff" "01000300ff"
+                      "01000400ff" "01000500ff" "01000600ff" "01000700ff" "01000800ff"
+                      "01000900ff" "01000a00ff" "01000b00ff");
+        hear(&slave, "04000000de020000" "04000000de020100" "02000000dd01");
+        sends(&slave, "02000c00ff00" "02000d00ff01" "01000e00ff");
+        trigger(&tasks[1], "a1a2", 2, 2);
+        sends(&slave, "02000f0001a2");
+        trigger(&tasks[0], "b1b2", 1, 1);
+        sends(&slave, "0200100000b1");
+        trigger(&tasks[1], "c1c2", 2, 2);
+        sends(&slave, "0200110001c2");
+        finish(&tasks[0]);
+        finish(&tasks[1]);
+        close_with(&slave, account, 2);
+    }
+    end();
+}
+
+/* A bad frame closes a stream, until the slave hangs up. */
+static void bad_frames(void) {
+    static const char *const bad[] = {"0000", "4100", "0001", "ffff"};
+    begin("a bad frame closes a stream, and drops what is left of a datagram");
+    for (size_t k = 0; k < LEN(bad); k++) {
+        ng_slave slave = open_slave(1);
+        uint8_t bytes[64];
+        size_t taken = 77, len = unhex("02000000ff00", bytes);
+        len += unhex(bad[k], bytes + len);
+        want(ng_slave_receive(&slave, bytes, len, 0, &taken) == NG_BAD_FRAME, "a bad LEN");
+        want(taken == 77, "nothing is told");
+        sends(&slave, "08000000ff04804040000101");
+        want(ng_slave_receive(&slave, bytes, 6, 0, &taken) == NG_BAD_FRAME, "it stays closed");
+        want(ng_slave_receive(&slave, bytes, 0, 0, &taken) == NG_BAD_FRAME, "it stays closed");
+        sends(&slave, "");
+        want(ng_slave_datagram(&slave, bytes, len, 0, &taken) == NG_OK && taken == len, "datagram");
+        sends(&slave, "08000100ff04804040000101");
+        want(ng_slave_hang_up(&slave) == NG_OK, "hang up");
+        hear(&slave, "01000000fd");
+        sends(&slave, "");
+        hear(&slave, "02000000ff00" "0200");
+        sends(&slave, "08000200ff04804040000101");
+        want(ng_slave_hang_up(&slave) == NG_OK, "what is held of a frame is dropped");
+        hear(&slave, "02000000ff00");
+        sends(&slave, "08000300ff04804040000101");
+        close_with(&slave, NULL, 0);
+    }
+    end();
+}
+
+/* Sixteen replies wait at most. */
+static void many_replies(void) {
+    ng_slave slave = open_slave(1);
+    uint8_t bytes[6 + 20 * 5];
+    size_t len = unhex("02000000ff00", bytes), taken = 77;
+    begin("where sixteen replies wait, no more bytes are taken");
+    for (unsigned k = 0; k < 20; k++) len += unhex("01000000fc", bytes + len);
+    want(ng_slave_receive(&slave, bytes, len, 0, &taken) == NG_OK && taken == 6 + 15 * 5, "16");
+    want(ng_slave_datagram(&slave, bytes + taken, 5, 0, &len) == NG_OK && len == 0, "no more");
+    want(ng_slave_receive(&slave, bytes + taken, 5, 0, &len) == NG_OK && len == 0, "no more");
+    want(ng_slave_peek(&slave, buffer, sizeof buffer, &len) == NG_OK && len == 12 + 15 * 6, "16");
+    want(ng_slave_sent(&slave) == NG_OK, "sent");
+    want(ng_slave_receive(&slave, bytes + taken, 25, 0, &len) == NG_OK && len == 25, "the others");
+    close_with(&slave, NULL, 0);
+    end();
+}
+
+static void start(ng_slave *slave) {
+    hear(slave, "02000000ff00" "04000000d5000100" "05000000d400000001" "06000000d30000000001"
+                "06000000e20000000000" "08000000e1ff020000000000" "08000000e000000000000100"
+                "04000000de010000");
+    sends(slave, "08000000ff04804040000101" "01000100ff" "01000200ff" "01000300ff" "01000400ff"
+                 "01000500ff" "01000600ff" "02000700ff00");
+}
+
+static void small_buffers(void) {
+    static const ng_line account[] = {{0, 1, 0, 0, 1}};
+    ng_slave slave = open_slave(1);
+    ng_task task = task_of(&slave, 0);
+    size_t len = 77;
+    bool whole = true;
+    ng_taken taken = {1, 2, 3};
+    begin("buffers that are too short, and images of another length");
+    start(&slave);
+    trigger(&task, "aabb", 1, 1);
+    memset(buffer, UNWRITTEN, sizeof buffer);
+    want(ng_slave_peek(&slave, buffer, NG_PEEK_BYTES - 1, &len) == NG_SMALL_BUFFER, "peek");
+    want(len == 77 && buffer[0] == UNWRITTEN, "nothing is written");
+    want(ng_slave_peek(&slave, buffer, NG_PEEK_BYTES, &len) == NG_OK && len == 7, "peek");
+    want(ng_task_trigger(&task, buffer, 1, 0, &taken) == NG_WRONG_IMAGE, "one byte");
+    want(ng_task_trigger(&task, buffer, 3, 0, &taken) == NG_WRONG_IMAGE, "three bytes");
+    want(taken.due == 1 && taken.dropped == 3, "nothing is written");
+    want(ng_slave_close(&slave, lines, NG_MAX_LISTS - 1, &whole) == NG_SMALL_BUFFER, "close");
+    finish(&task);
+    close_with(&slave, account, 1);
+    end();
+}
+
+/* A slave one of whose tasks isn't finished stays open. */
+static void unfinished(void) {
+    static const ng_line account[] = {{0, 2, 1, 0, 1}};
+    ng_slave slave = open_slave(2);
+    ng_task task = task_of(&slave, 0);
+    bool whole = false;
+    begin("a slave one of whose tasks isn't finished stays open, and loses nothing");
+    memset(lines, UNWRITTEN, sizeof lines);
+    want(ng_slave_close(&slave, lines, NG_MAX_LISTS, &whole) == NG_UNFINISHED, "close");
+    start(&slave);
+    trigger(&task, "aabb", 1, 1);
+    want(ng_slave_close(&slave, lines, NG_MAX_LISTS, &whole) == NG_UNFINISHED, "close");
+    want(!whole && lines[0].due == 0xA5A5A5A5A5A5A5A5u, "nothing is written");
+    sends(&slave, "0300080000aabb");
+    trigger(&task, "ccdd", 1, 1);
+    finish(&task);
+    close_with(&slave, account, 1);
+    end();
+}
+
+/* A measurement of a task that was finished, or that never fetched it, ends as others do. */
+static void gone_tasks(void) {
+    static const ng_line none[] = {{0, 0, 0, 0, 0}}, one[] = {{0, 1, 1, 0, 0}};
+    begin("measurements that a task left, or never took, are in the account");
+    for (unsigned k = 0; k < 3; k++) {
+        ng_slave slave = open_slave(1);
+        ng_task task = NG_TASK_INIT;
+        if (k > 0) task = task_of(&slave, 0);
+        if (k == 1) finish(&task);
+        start(&slave);
+        if (k == 2) trigger(&task, "aabb", 1, 1);
+        if (k == 2) finish(&task);
+        sends(&slave, k == 2 ? "0300080000aabb" : "");
+        hear(&slave, "04000000de000000" "04000000de010000" "02000000dd00");
+        sends(&slave, k == 2 ? "02000900ff00" "02000a00ff00" "01000b00ff"
+                             : "02000800ff00" "02000900ff00" "01000a00ff");
+        close_with(&slave, k == 2 ? one : none, 1);
+    }
+    end();
+}
+
+/* Handles of another kind are as empty ones. */
+static void other_kinds(void) {
+    ng_slave slave = open_slave(1);
+    ng_task task = NG_TASK_INIT;
+    begin("a task's handle in place of a slave's");
+    want(ng_slave_task(&slave, 0, &task) == NG_OK, "task");
+    ng_slave other = {task.at, task.full};
+    want(ng_slave_sent(&other) == NG_EMPTY && other.full, "it is no slave");
+    finish(&task);
+    close_with(&slave, NULL, 0);
+    end();
+}
+
+/* Each allocation of an opening and of its tasks is refused in turn. */
+static void no_memory(void) {
+    begin("want of memory");
+    for (unsigned long k = 0;; k++) {
+        ng_profile profile = profile_of();
+        ng_event events[2] = {event_of("e0"), event_of("e1")};
+        ng_slave slave = NG_SLAVE_INIT;
+        ng_task task = NG_TASK_INIT;
+        unsigned long held = memory_held;
+        memory_refuse_behind(k);
+        ng_status opened = ng_slave_open(&profile, events, 2, &slave);
+        if (opened == NG_MEMORY) want(held == memory_held, "what was had is given back");
+        unsigned long before = memory_held;
+        ng_status lent = opened == NG_OK ? ng_slave_task(&slave, 1, &task) : NG_OK;
+        if (lent == NG_MEMORY) want(before == memory_held, "what was had is given back");
+        bool refused = memory_refused();
+        unsigned long lacking = (opened == NG_MEMORY) + (lent == NG_MEMORY);
+        want(lacking <= (refused ? 1u : 0u), "want of memory is answered where it was met");
+        if (opened == NG_MEMORY) want(ng_slave_open(&profile, events, 2, &slave) == NG_OK, "again");
+        if (!task.full) task = task_of(&slave, 1);
+        finish(&task);
+        close_with(&slave, NULL, 0);
+        want(held == memory_held, "all is given back");
+        if (!refused) {
+            want(k > 8, "some were refused");
+            break;
+        }
+    }
+    end();
+}
+
+static void long_run(void) {
+    static const ng_line account[] = {{0, 20000, 20000, 0, 0}};
+    ng_slave slave = open_slave(1);
+    ng_task task = task_of(&slave, 0);
+    size_t len = 0;
+    ng_taken taken;
+    begin("twenty thousand triggers and peeks ask for no memory");
+    start(&slave);
+    trigger(&task, "0000", 1, 1);
+    sends(&slave, "03000800000000");
+    unsigned long asked = memory_asked, held = memory_held;
+    for (uint32_t k = 1; k < 20000; k++) {
+        uint8_t image[2] = {(uint8_t)k, (uint8_t)(k >> 8)};
+        want(ng_task_trigger(&task, image, 2, k, &taken) == NG_OK && taken.accepted == 1, "taken");
+        want(ng_slave_peek(&slave, buffer, sizeof buffer, &len) == NG_OK && len == 7, "a frame");
+        want(buffer[0] == 3 && buffer[1] == 0 && buffer[4] == 0, "a whole frame");
+        want((buffer[2] | buffer[3] << 8) == (int)((k + 8) & 0xFFFF), "its counter");
+        want(buffer[5] == image[0] && buffer[6] == image[1], "its bytes");
+        want(ng_slave_sent(&slave) == NG_OK, "sent");
+    }
+    want(asked == memory_asked && held == memory_held, "none was asked for, none given back");
+    finish(&task);
+    close_with(&slave, account, 1);
+    end();
+}
+
+int main(void) {
+    static char text[4096];
+    setvbuf(stdout, text, _IOFBF, sizeof text);
+    unsigned long held = memory_held;
+    empty_handles();
+    for (ring = NG_RING_ITEMS; ring <= NG_RING_BYTES; ring++) {
+        openings();
+        sessions();
+        two_channels();
+        bad_frames();
+        many_replies();
+        small_buffers();
+        unfinished();
+        gone_tasks();
+        other_kinds();
+        no_memory();
+        long_run();
+    }
+    ring = NG_RING_ITEMS;
+    begin("all memory was given back");
+    want(memory_held == held, "a block is left");
+    end();
+    return 0;
+}
