@@ -140,8 +140,19 @@ content_send =
     recorded_send _ _ _ content.the_type.to_one
     (enum_send (enum.shape content.the_type) (
       (store_send, tt),
-      ((items_lent, tt), ((items_engine, tt), ((bytes_lent, tt), ((bytes_engine, tt),
-      ((items_slave, tt), ((items_task, tt), ((bytes_slave, tt), ((bytes_task, tt), tt)))))))),
+      (
+        (items_lent, tt),
+        (
+          (items_engine, tt),
+          (
+            (bytes_lent, tt),
+            (
+              (bytes_engine, tt),
+              ((items_slave, tt), ((items_task, tt), ((bytes_slave, tt), ((bytes_task, tt), tt)))),
+            ),
+          ),
+        ),
+      ),
     ))
 
 owned_keyless : (full : Bool) (at : Ptr) (held : Option content.the_row.Denot) → Keyless (owns_held full at held)

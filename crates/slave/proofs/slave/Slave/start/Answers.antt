@@ -7,15 +7,14 @@ pub returns-then-not-can_start-clause-err : goal.returns-then-not-can_start-clau
 returns-then-not-can_start-clause-err g c = looks-of c.args.self.now _ c.can_start.new.self c.self.view_is c.can_start.ensures.looked
 
 pub returns-then-not-can_start-clause-busy : goal.returns-then-not-can_start-clause-busy
-returns-then-not-can_start-clause-busy g c =
-    (
-      refl,
-      record {
-        sets = first c.len.result c.sets_of-sets.result;
-        are = are-front c.args.self.now.session c.args.lists c.sets_of-sets.result c.len.result c.sets_of-sets.ensures.sets;
-        none = c.can_start.ensures.no c.if-not-can_start.true;
-      },
-    )
+returns-then-not-can_start-clause-busy g c = (
+  refl,
+  record {
+    sets = first c.len.result c.sets_of-sets.result;
+    are = are-front c.args.self.now.session c.args.lists c.sets_of-sets.result c.len.result c.sets_of-sets.ensures.sets;
+    none = c.can_start.ensures.no c.if-not-can_start.true;
+  },
+)
 
 pub returns-clause-ok : goal.returns-clause-ok
 returns-clause-ok g c =
