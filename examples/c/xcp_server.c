@@ -1,0 +1,362 @@
+/* A slave of XCP on Ethernet, by UDP and by TCP, with two tasks in threads of their own: one each
+ * millisecond, one each ten. xcp_server.a2l tells a master its variables.
+ *
+ *   xcp_server [--udp PORT] [--tcp PORT] [--seconds N] [--any]
+ *
+ * Without ports both are 5555; 0 is a port that the system chooses. It listens on 127.0.0.1, or
+ * with --any on all addresses: XCP knows no password. Its first line says the ports. It ends after N
+ * seconds, or at SIGINT or SIGTERM, and prints the account of the session.
+ *
+ * One master at a time: a second TCP connection is refused, and ends none; by UDP the master is
+ * whoever sent CONNECT last. No line decodes a command: what comes goes to the library, and what
+ * that lays out goes to the master. Link with -lm and -pthread. */
+#define _POSIX_C_SOURCE 200809L
+#include "nerthogal.h"
+#include <arpa/inet.h>
+#include <errno.h>
+#include <fcntl.h>
+#include <math.h>
+#include <netinet/in.h>
+#include <netinet/tcp.h>
+#include <poll.h>
+#include <pthread.h>
+#include <signal.h>
+#include <stdio.h>
+#include <stdlib.h>
+#include <string.h>
+#include <sys/socket.h>
+#include <time.h>
+#include <unistd.h>
+
+/* ---- the variables: each has its address in one image, which begins at BASE */
+
+#define BASE 0x10000000u
+#define IMAGE_BYTES 32u
+#define TURN 1000u /* triggers of the fast task from one saw-tooth to the next */
+
+enum {
+    COUNTER = 0,       /* ULONG: triggers of the fast task so far */
+    TIME = 4,          /* ULONG: its timestamp, in microseconds */
+    SINE = 8,          /* SWORD: thousandths */
+    SAW_TOOTH = 10,    /* UWORD: 0 to 999 */
+    SLOW_COUNTER = 16, /* ULONG: the same of the slow task */
+    SLOW_TIME = 20,    /* ULONG */
+    TEMPERATURE = 24,  /* SWORD: tenths of a degree */
+    STATE = 26         /* UBYTE: 0 off, 1 starting, 2 running, 3 stopping */
+};
+
+static void put(uint8_t *at, size_t bytes, uint32_t value) {
+    for (size_t i = 0; i < bytes; i++) at[i] = (uint8_t)(value >> 8 * i);
+}
+
+static void compute_fast(uint8_t *image, uint32_t turn, uint32_t now) {
+    double angle = 2 * 3.14159265358979 * (turn % TURN) / TURN;
+    put(image + COUNTER, 4, turn);
+    put(image + TIME, 4, now);
+    put(image + SINE, 2, (uint32_t)lround(1000 * sin(angle)));
+    put(image + SAW_TOOTH, 2, turn % TURN);
+}
+
+static void compute_slow(uint8_t *image, uint32_t turn, uint32_t now) {
+    put(image + SLOW_COUNTER, 4, turn);
+    put(image + SLOW_TIME, 4, now);
+    put(image + TEMPERATURE, 2, 200u + turn % 50);
+    put(image + STATE, 1, turn / 25 % 4);
+}
+
+/* ---- the tasks */
+
+static int over; /* whether all is to end: by a signal, or when time is up */
+
+static bool is_over(void) { return __atomic_load_n(&over, __ATOMIC_SEQ_CST) != 0; }
+
+static void end(int signal) {
+    (void)signal;
+    __atomic_store_n(&over, 1, __ATOMIC_SEQ_CST);
+}
+
+/* Microseconds: what timestamps and the DAQ clock count. */
+static uint32_t now_us(void) {
+    struct timespec now;
+    clock_gettime(CLOCK_MONOTONIC, &now);
+    return (uint32_t)((uint64_t)now.tv_sec * 1000000u + (uint64_t)now.tv_nsec / 1000u);
+}
+
+struct task {
+    ng_task task;
+    void (*compute)(uint8_t *image, uint32_t turn, uint32_t now);
+    long period; /* nanoseconds */
+    bool fault;
+    pthread_t thread;
+};
+
+/* Computes its part of the image, which is this thread's own, and takes a trigger, once a period. */
+static void *run_task(void *argument) {
+    struct task *self = argument;
+    uint8_t image[IMAGE_BYTES] = {0};
+    struct timespec next;
+    clock_gettime(CLOCK_MONOTONIC, &next);
+    for (uint32_t turn = 0; !is_over(); turn++) {
+        uint32_t now = now_us();
+        ng_taken taken;
+        self->compute(image, turn, now);
+        if (ng_task_trigger(&self->task, image, sizeof image, now, &taken) != NG_OK)
+            self->fault = true;
+        next.tv_nsec += self->period;
+        if (next.tv_nsec >= 1000000000) {
+            next.tv_nsec -= 1000000000;
+            next.tv_sec++;
+        }
+        clock_nanosleep(CLOCK_MONOTONIC, TIMER_ABSTIME, &next, NULL);
+    }
+    if (ng_task_finish(&self->task) != NG_OK) self->fault = true;
+    return NULL;
+}
+
+/* ---- the transports */
+
+struct server {
+    ng_slave slave;
+    int udp, listener, tcp;    /* sockets; tcp is -1 where none is connected */
+    struct sockaddr_in master; /* whoever sent CONNECT last by UDP */
+    bool by_udp;               /* whether there is one */
+    uint8_t heard[2048];       /* bytes that came and weren't taken yet */
+    size_t from, to;           /* where they stand */
+    uint8_t page[1400];        /* frames that wait, as the last peek laid them out */
+    size_t gone;               /* so many bytes of them went out by TCP */
+};
+
+static bool nothing_heard(const struct server *s) { return s->from == s->to; }
+
+/* The connection is gone: what waits would be another master's. */
+static void lose(struct server *s) {
+    size_t len = 0;
+    ng_slave_hang_up(&s->slave);
+    do {
+        ng_slave_peek(&s->slave, s->page, sizeof s->page, &len);
+        ng_slave_sent(&s->slave);
+    } while (len > 0);
+    if (s->tcp >= 0) close(s->tcp);
+    s->tcp = -1;
+    s->by_udp = false;
+    s->from = s->to = s->gone = 0;
+}
+
+/* Sends a page by UDP, whole, or not at all. */
+static bool send_datagram(struct server *s, size_t len) {
+    if (sendto(s->udp, s->page, len, 0, (struct sockaddr *)&s->master, sizeof s->master) >= 0)
+        return true;
+    if (errno == ECONNREFUSED) lose(s); /* nobody listens there any more */
+    return false;
+}
+
+/* Sends what is left of a page by TCP; answers whether all of it went out. */
+static bool send_stream(struct server *s, size_t len) {
+    ssize_t sent = send(s->tcp, s->page + s->gone, len - s->gone, MSG_NOSIGNAL);
+    if (sent < 0) {
+        if (errno != EAGAIN && errno != EWOULDBLOCK && errno != EINTR) lose(s);
+        return false;
+    }
+    s->gone += (size_t)sent;
+    if (s->gone < len) return false;
+    s->gone = 0;
+    return true;
+}
+
+/* Sends all that waits, page by page. What a socket refuses waits on: the next peek lays the same
+ * frames out first. */
+static void send_waiting(struct server *s) {
+    while (s->tcp >= 0 || s->by_udp) {
+        size_t len = 0;
+        ng_slave_peek(&s->slave, s->page, sizeof s->page, &len);
+        if (len == 0) return;
+        if (!(s->tcp >= 0 ? send_stream(s, len) : send_datagram(s, len))) return;
+        ng_slave_sent(&s->slave);
+    }
+}
+
+/* Hands what was heard to the slave, as far as replies find room. */
+static void pass_on(struct server *s) {
+    while (!nothing_heard(s)) {
+        size_t taken = 0, len = s->to - s->from;
+        const uint8_t *bytes = s->heard + s->from;
+        if (s->tcp < 0)
+            ng_slave_datagram(&s->slave, bytes, len, now_us(), &taken);
+        else if (ng_slave_receive(&s->slave, bytes, len, now_us(), &taken) != NG_OK) {
+            lose(s); /* a bad frame: behind it a stream can't be read on */
+            return;
+        }
+        s->from += taken;
+        send_waiting(s);
+        if (taken == 0) return; /* replies wait to be sent */
+    }
+}
+
+static void hear_stream(struct server *s) {
+    ssize_t got = recv(s->tcp, s->heard, sizeof s->heard, 0);
+    if (got < 0 && (errno == EAGAIN || errno == EWOULDBLOCK || errno == EINTR)) return;
+    if (got <= 0) {
+        lose(s);
+        return;
+    }
+    s->from = 0;
+    s->to = (size_t)got;
+}
+
+static bool is_master(const struct server *s, const struct sockaddr_in *from) {
+    return s->by_udp && from->sin_port == s->master.sin_port
+        && from->sin_addr.s_addr == s->master.sin_addr.s_addr;
+}
+
+/* Takes a datagram of the master; or of another address, if that begins with a CONNECT. */
+static void hear_datagram(struct server *s) {
+    struct sockaddr_in from;
+    socklen_t size = sizeof from;
+    ssize_t got = recvfrom(s->udp, s->heard, sizeof s->heard, 0, (struct sockaddr *)&from, &size);
+    if (got < 0 && errno == ECONNREFUSED) lose(s);
+    if (got < 0 || s->tcp >= 0) return;
+    if (!is_master(s, &from)) {
+        static const uint8_t connect_to[2] = {0xFF, 0x00};
+        if (got < 6 || memcmp(s->heard + 4, connect_to, sizeof connect_to) != 0) return;
+        lose(s);
+        s->master = from;
+        s->by_udp = true;
+    }
+    s->from = 0;
+    s->to = (size_t)got;
+}
+
+/* Takes a connection, in place of a master by UDP; a second one is closed at once. The buffer of the
+ * socket is small: a master that doesn't keep up is told so by the overload bit, and not by samples
+ * that are old. */
+static void accept_master(struct server *s) {
+    int client = accept(s->listener, NULL, NULL), one = 1, room = 8192;
+    if (client < 0) return;
+    if (s->tcp >= 0) {
+        close(client);
+        return;
+    }
+    if (s->by_udp) lose(s);
+    fcntl(client, F_SETFL, O_NONBLOCK);
+    setsockopt(client, IPPROTO_TCP, TCP_NODELAY, &one, sizeof one);
+    setsockopt(client, SOL_SOCKET, SO_SNDBUF, &room, sizeof room);
+    s->tcp = client;
+}
+
+/* Waits for a millisecond, or until something comes, and does what is to be done. */
+static void serve_once(struct server *s) {
+    short hears = nothing_heard(s) ? POLLIN : 0, sends = s->gone > 0 ? POLLOUT : 0;
+    struct pollfd sockets[] = {
+        {s->udp, hears, 0}, {s->listener, POLLIN, 0}, {s->tcp, (short)(hears | sends), 0}};
+    if (poll(sockets, 3, 1) > 0) {
+        if (sockets[1].revents & POLLIN) accept_master(s);
+        if ((sockets[0].revents & (POLLIN | POLLERR)) && nothing_heard(s)) hear_datagram(s);
+        else if (s->tcp == sockets[2].fd && (sockets[2].revents & ~POLLOUT)) hear_stream(s);
+    }
+    pass_on(s);
+    send_waiting(s);
+}
+
+/* ---- opening and closing */
+
+/* A socket of this kind on a port, and which port that is; or ends the program. */
+static int listen_on(int kind, unsigned port, bool any, unsigned *is) {
+    struct sockaddr_in at = {.sin_family = AF_INET, .sin_port = htons((uint16_t)port)};
+    socklen_t size = sizeof at;
+    int s = socket(AF_INET, kind, 0), one = 1;
+    at.sin_addr.s_addr = htonl(any ? INADDR_ANY : INADDR_LOOPBACK);
+    setsockopt(s, SOL_SOCKET, SO_REUSEADDR, &one, sizeof one);
+    if (s < 0 || bind(s, (struct sockaddr *)&at, sizeof at) < 0
+        || (kind == SOCK_STREAM && listen(s, 4) < 0)
+        || getsockname(s, (struct sockaddr *)&at, &size) < 0) {
+        perror("xcp_server");
+        exit(1);
+    }
+    fcntl(s, F_SETFL, O_NONBLOCK);
+    *is = ntohs(at.sin_port);
+    return s;
+}
+
+static bool open_slave(struct server *s, struct task *tasks) {
+    static const ng_profile profile = {
+        .image_len = IMAGE_BYTES, .base = BASE, .id = NG_ABSOLUTE, .ring = NG_RING_ITEMS,
+        .ticks = 1, .unit = 3, .stamp_size = 4, .name = "xcp_server"};
+    static const ng_event events[2] = {
+        {.capacity = 64, .name = "1 ms", .cycle = 1, .cycle_unit = 6, .priority = 1},
+        {.capacity = 64, .name = "10 ms", .cycle = 10, .cycle_unit = 6}};
+    return ng_slave_open(&profile, events, 2, &s->slave) == NG_OK
+        && ng_slave_task(&s->slave, 0, &tasks[0].task) == NG_OK
+        && ng_slave_task(&s->slave, 1, &tasks[1].task) == NG_OK;
+}
+
+/* Closes the slave, and prints the lines of the DAQ lists that had something due. */
+static bool print_account(ng_slave *slave) {
+    ng_line lines[NG_MAX_LISTS];
+    bool whole = false;
+    if (ng_slave_close(slave, lines, NG_MAX_LISTS, &whole) != NG_OK) return false;
+    for (size_t l = 0; l < NG_MAX_LISTS; l++)
+        if (lines[l].due > 0)
+            printf("list %u due %llu written %llu dropped %llu left %llu\n", lines[l].list,
+                   (unsigned long long)lines[l].due, (unsigned long long)lines[l].written,
+                   (unsigned long long)lines[l].dropped, (unsigned long long)lines[l].left);
+    printf("whole %s\n", whole ? "yes" : "no");
+    return whole;
+}
+
+struct options {
+    unsigned udp, tcp, seconds;
+    bool any;
+};
+
+/* A number of at most this, or ends the program. */
+static unsigned number_of(const char *text, unsigned long most) {
+    char *behind;
+    unsigned long number = strtoul(text, &behind, 10);
+    if (*text < '0' || *text > '9' || *behind != 0 || number > most) {
+        fprintf(stderr, "xcp_server: not a number up to %lu: %s\n", most, text);
+        exit(2);
+    }
+    return (unsigned)number;
+}
+
+static struct options read_options(int argc, char **argv) {
+    struct options o = {5555, 5555, 0, false};
+    for (int i = 1; i < argc; i++) {
+        bool more = i + 1 < argc;
+        if (strcmp(argv[i], "--any") == 0) o.any = true;
+        else if (more && strcmp(argv[i], "--udp") == 0) o.udp = number_of(argv[++i], 65535);
+        else if (more && strcmp(argv[i], "--tcp") == 0) o.tcp = number_of(argv[++i], 65535);
+        else if (more && strcmp(argv[i], "--seconds") == 0) o.seconds = number_of(argv[++i], 86400);
+        else {
+            fprintf(stderr, "usage: xcp_server [--udp PORT] [--tcp PORT] [--seconds N] [--any]\n");
+            exit(2);
+        }
+    }
+    return o;
+}
+
+int main(int argc, char **argv) {
+    struct options o = read_options(argc, argv);
+    struct sigaction ends = {.sa_handler = end};
+    struct server s = {.slave = NG_SLAVE_INIT, .tcp = -1};
+    struct task tasks[2] = {{.task = NG_TASK_INIT, .compute = compute_fast, .period = 1000000},
+                            {.task = NG_TASK_INIT, .compute = compute_slow, .period = 10000000}};
+    unsigned udp, tcp;
+    sigaction(SIGINT, &ends, NULL);
+    sigaction(SIGTERM, &ends, NULL);
+    if (!open_slave(&s, tasks)) return 1;
+    s.udp = listen_on(SOCK_DGRAM, o.udp, o.any, &udp);
+    s.listener = listen_on(SOCK_STREAM, o.tcp, o.any, &tcp);
+    printf("udp %u tcp %u\n", udp, tcp);
+    fflush(stdout);
+    for (int t = 0; t < 2; t++)
+        if (pthread_create(&tasks[t].thread, NULL, run_task, &tasks[t]) != 0) return 1;
+
+    time_t until = time(NULL) + (time_t)o.seconds;
+    while (!is_over() && (o.seconds == 0 || time(NULL) < until)) serve_once(&s);
+
+    end(0);
+    for (int t = 0; t < 2; t++) pthread_join(tasks[t].thread, NULL);
+    lose(&s);
+    return print_account(&s.slave) && !tasks[0].fault && !tasks[1].fault ? 0 : 1;
+}
