@@ -250,8 +250,9 @@ static void serve_once(struct server *s) {
         {s->udp, hears, 0}, {s->listener, POLLIN, 0}, {s->tcp, (short)(hears | sends), 0}};
     if (poll(sockets, 3, 1) > 0) {
         if (sockets[1].revents & POLLIN) accept_master(s);
-        if ((sockets[0].revents & (POLLIN | POLLERR)) && nothing_heard(s)) hear_datagram(s);
-        else if (s->tcp == sockets[2].fd && (sockets[2].revents & ~POLLOUT)) hear_stream(s);
+        if (nothing_heard(s) && sockets[0].revents != 0) hear_datagram(s);
+        if (nothing_heard(s) && s->tcp == sockets[2].fd && (sockets[2].revents & ~POLLOUT))
+            hear_stream(s);
     }
     pass_on(s);
     send_waiting(s);
