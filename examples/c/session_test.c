@@ -71,18 +71,22 @@ static ng_task task_of(ng_slave *slave, uint16_t channel) {
     return task;
 }
 
-/* How a slave hears frames of its master: from a stream, whole or byte by byte, or in datagrams. */
+/* How a slave hears frames of its master: from a stream, whole or in pieces, or in datagrams. */
 static enum { STREAM, PIECES, DATAGRAMS } way = STREAM;
+
+/* The bytes of a piece. */
+static size_t piece = 1;
 
 static void hear(ng_slave *slave, const char *frames) {
     static uint8_t bytes[1024];
-    size_t len = unhex(frames, bytes), taken = 77, step = way == PIECES ? 1 : len;
+    size_t len = unhex(frames, bytes), taken = 77, step;
     if (way == DATAGRAMS) {
         want(ng_slave_datagram(slave, bytes, len, CLOCK, &taken) == NG_OK, frames);
         want(taken == len, frames);
         return;
     }
     for (size_t at = 0; at < len; at += step) {
+        step = way == PIECES && piece < len - at ? piece : len - at;
         taken = 77;
         want(ng_slave_receive(slave, bytes + at, step, CLOCK, &taken) == NG_OK, frames);
         want(taken == step, frames);
@@ -325,6 +329,68 @@ static void two_channels(void) {
     end();
 }
 
+/* CONNECT, GET_STATUS and GET_DAQ_CLOCK, whose replies tell that no list runs, and the clock. */
+static const char three[] = "02000000ff00" "01000100fd" "01000200dc";
+
+/* Frames that come in pieces of so many bytes, and one whose bytes come in three calls. */
+static void pieces(void) {
+    static const size_t lens[] = {1, 2, 3, 16};
+    begin("frames in pieces");
+    for (size_t k = 0; k < LEN(lens); k++) {
+        ng_slave slave = open_slave(1);
+        way = PIECES;
+        piece = lens[k];
+        hear(&slave, three);
+        sends(&slave, "08000000ff04804040000101" "06000100ff0000000000" "08000200ff00000004030201");
+        hear(&slave, three);
+        sends(&slave, "08000300ff04804040000101" "06000400ff0000000000" "08000500ff00000004030201");
+        piece = 1;
+        way = STREAM;
+        hear(&slave, "02000000ff");
+        sends(&slave, "");
+        hear(&slave, "");
+        sends(&slave, "");
+        hear(&slave, "000100");
+        sends(&slave, "08000600ff04804040000101");
+        hear(&slave, "0707fd");
+        sends(&slave, "06000700ff0000000000");
+        close_with(&slave, NULL, 0);
+    }
+    end();
+}
+
+/* A part of a frame at the end of a datagram, or a bad one, is dropped, and nothing else. */
+static void datagrams(void) {
+    static const char *const more[] = {"01000400", "", "41000700fd", "", "0100", ""};
+    ng_slave slave = open_slave(1);
+    begin("datagrams with a part of a frame, or a bad one, at the end");
+    way = DATAGRAMS;
+    hear(&slave, three);
+    sends(&slave, "08000000ff04804040000101" "06000100ff0000000000" "08000200ff00000004030201");
+    hear(&slave, "");
+    sends(&slave, "");
+    for (unsigned k = 0; k < LEN(more); k++) {
+        char frames[32], reply[32];
+        snprintf(frames, sizeof frames, "01000300fd%s", more[k]);
+        snprintf(reply, sizeof reply, "0600%02x00ff0000000000", 3 + k);
+        hear(&slave, frames);
+        sends(&slave, reply);
+        hear(&slave, "00");
+        sends(&slave, "");
+    }
+    way = STREAM;
+    close_with(&slave, NULL, 0);
+    end();
+}
+
+/* Wants the slave to have no master. */
+static void hear_nothing(ng_slave *slave) {
+    way = DATAGRAMS;
+    hear(slave, "01000000fd");
+    sends(slave, "");
+    way = STREAM;
+}
+
 /* A bad frame closes a stream, until the slave hangs up. */
 static void bad_frames(void) {
     static const char *const bad[] = {"0000", "4100", "0001", "ffff"};
@@ -340,16 +406,26 @@ static void bad_frames(void) {
         want(ng_slave_receive(&slave, bytes, 6, 0, &taken) == NG_BAD_FRAME, "it stays closed");
         want(ng_slave_receive(&slave, bytes, 0, 0, &taken) == NG_BAD_FRAME, "it stays closed");
         sends(&slave, "");
+        way = DATAGRAMS;
+        hear(&slave, "01000000fd");
+        sends(&slave, "");
         want(ng_slave_datagram(&slave, bytes, len, 0, &taken) == NG_OK && taken == len, "datagram");
         sends(&slave, "08000100ff04804040000101");
+        want(ng_slave_receive(&slave, bytes, 6, 0, &taken) == NG_BAD_FRAME, "it stays closed");
+        hear(&slave, "01000000fd");
+        sends(&slave, "06000200ff0000000000");
+        way = STREAM;
         want(ng_slave_hang_up(&slave) == NG_OK, "hang up");
         hear(&slave, "01000000fd");
         sends(&slave, "");
         hear(&slave, "02000000ff00" "0200");
-        sends(&slave, "08000200ff04804040000101");
+        sends(&slave, "08000300ff04804040000101");
         want(ng_slave_hang_up(&slave) == NG_OK, "what is held of a frame is dropped");
         hear(&slave, "02000000ff00");
-        sends(&slave, "08000300ff04804040000101");
+        sends(&slave, "08000400ff04804040000101");
+        want(ng_slave_receive(&slave, bytes + 6, 1, 0, &taken) == NG_OK && taken == 1, "half");
+        want(ng_slave_receive(&slave, bytes + 7, 1, 0, &taken) == NG_BAD_FRAME, "the other half");
+        hear_nothing(&slave);
         close_with(&slave, NULL, 0);
     }
     end();
@@ -368,6 +444,13 @@ static void many_replies(void) {
     want(ng_slave_peek(&slave, buffer, sizeof buffer, &len) == NG_OK && len == 12 + 15 * 6, "16");
     want(ng_slave_sent(&slave) == NG_OK, "sent");
     want(ng_slave_receive(&slave, bytes + taken, 25, 0, &len) == NG_OK && len == 25, "the others");
+    want(ng_slave_peek(&slave, buffer, sizeof buffer, &len) == NG_OK && len == 5 * 6, "5");
+    want(ng_slave_sent(&slave) == NG_OK, "sent");
+    want(ng_slave_datagram(&slave, bytes, 106, 0, &taken) == NG_OK && taken == 6 + 15 * 5, "16");
+    want(ng_slave_datagram(&slave, bytes + taken, 5, 0, &len) == NG_OK && len == 0, "no more");
+    want(ng_slave_peek(&slave, buffer, sizeof buffer, &len) == NG_OK && len == 12 + 15 * 6, "16");
+    want(ng_slave_sent(&slave) == NG_OK, "sent");
+    want(ng_slave_datagram(&slave, bytes + taken, 25, 0, &len) == NG_OK && len == 25, "the others");
     close_with(&slave, NULL, 0);
     end();
 }
@@ -378,6 +461,76 @@ static void start(ng_slave *slave) {
                 "04000000de010000");
     sends(slave, "08000000ff04804040000101" "01000100ff" "01000200ff" "01000300ff" "01000400ff"
                  "01000500ff" "01000600ff" "02000700ff00");
+}
+
+/* Sends what waits, whatever it is. */
+static void skip(ng_slave *slave) {
+    size_t len = 0;
+    want(ng_slave_peek(slave, buffer, sizeof buffer, &len) == NG_OK && len > 0, "peek");
+    want(ng_slave_sent(slave) == NG_OK, "sent");
+}
+
+/* Wants a buffer of so many bytes to show samples of eight packets of 64 bytes: so many of them,
+ * each of images of one byte, which is that of the first one and then one more, and so is CTR. */
+static void shows_long(ng_slave *slave, size_t cap, size_t samples, unsigned image,
+                       unsigned counter) {
+    size_t len = 77;
+    want(ng_slave_peek(slave, buffer, cap, &len) == NG_OK && len == samples * 544, "whole samples");
+    for (size_t k = 0; k < samples * 8; k++) {
+        const uint8_t *frame = buffer + k * 68;
+        want(frame[0] == 64 && frame[1] == 0 && frame[2] == counter + k && frame[3] == 0, "header");
+        want(frame[4] == k % 8, "PID");
+        for (size_t i = 5; i < 68; i++) want(frame[i] == image + k / 8, "the image");
+    }
+}
+
+/* What finds no room in a buffer waits, and what is not sent is shown again. */
+static void full_buffers(void) {
+    static const ng_line account[] = {{0, 3, 3, 0, 0}};
+    ng_profile profile = profile_of();
+    ng_event event = event_of("e0");
+    ng_slave slave = NG_SLAVE_INIT;
+    ng_taken taken;
+    uint8_t image[63];
+    begin("a buffer that one sample fills");
+    profile.image_len = sizeof image;
+    if (ring == NG_RING_BYTES) event.capacity = 3 * NG_MIN_BYTE_RING;
+    want(ng_slave_open(&profile, &event, 1, &slave) == NG_OK, "open");
+    ng_task task = task_of(&slave, 0);
+    hear(&slave, "02000000ff00" "04000000d5000100" "05000000d400000008");
+    skip(&slave);
+    for (unsigned k = 0; k < 8; k++) {
+        char frames[32];
+        snprintf(frames, sizeof frames, "06000000d3000000%02x01", k);
+        hear(&slave, frames);
+    }
+    skip(&slave);
+    for (unsigned k = 0; k < 8; k++) {
+        char frames[32];
+        snprintf(frames, sizeof frames, "06000000e2000000%02x00", k);
+        hear(&slave, frames);
+        hear(&slave, "08000000e1ff3f0000000000");
+    }
+    skip(&slave);
+    hear(&slave, "08000000e000000000000100" "04000000de010000");
+    skip(&slave);
+    for (unsigned k = 1; k < 4; k++) {
+        memset(image, 0x10 + (int)k, sizeof image);
+        want(ng_task_trigger(&task, image, sizeof image, 0, &taken) == NG_OK, "trigger");
+        want(taken.accepted == 1, "it finds room");
+    }
+    shows_long(&slave, NG_PEEK_BYTES, 1, 0x11, 29);
+    shows_long(&slave, NG_PEEK_BYTES, 1, 0x11, 29);
+    want(ng_slave_sent(&slave) == NG_OK, "sent");
+    shows_long(&slave, sizeof buffer, 2, 0x12, 37);
+    shows_long(&slave, NG_PEEK_BYTES, 1, 0x12, 37);
+    want(ng_slave_sent(&slave) == NG_OK, "sent");
+    shows_long(&slave, NG_PEEK_BYTES, 1, 0x13, 45);
+    want(ng_slave_sent(&slave) == NG_OK, "sent");
+    sends(&slave, "");
+    finish(&task);
+    close_with(&slave, account, 1);
+    end();
 }
 
 static void small_buffers(void) {
@@ -489,17 +642,17 @@ static void no_memory(void) {
 }
 
 static void long_run(void) {
-    static const ng_line account[] = {{0, 20000, 20000, 0, 0}};
+    static const ng_line account[] = {{0, 70000, 70000, 0, 0}};
     ng_slave slave = open_slave(1);
     ng_task task = task_of(&slave, 0);
     size_t len = 0;
     ng_taken taken;
-    begin("twenty thousand triggers and peeks ask for no memory");
+    begin("seventy thousand triggers and peeks ask for no memory, and CTR wraps");
     start(&slave);
     trigger(&task, "0000", 1, 1);
     sends(&slave, "03000800000000");
     unsigned long asked = memory_asked, held = memory_held;
-    for (uint32_t k = 1; k < 20000; k++) {
+    for (uint32_t k = 1; k < 70000; k++) {
         uint8_t image[2] = {(uint8_t)k, (uint8_t)(k >> 8)};
         want(ng_task_trigger(&task, image, 2, k, &taken) == NG_OK && taken.accepted == 1, "taken");
         want(ng_slave_peek(&slave, buffer, sizeof buffer, &len) == NG_OK && len == 7, "a frame");
@@ -523,8 +676,11 @@ int main(void) {
         openings();
         sessions();
         two_channels();
+        pieces();
+        datagrams();
         bad_frames();
         many_replies();
+        full_buffers();
         small_buffers();
         unfinished();
         gone_tasks();
