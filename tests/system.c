@@ -6,6 +6,10 @@
  *   READ_ERROR               each read of standard input fails with this error
  *   OPEN_PATH, OPEN_ERROR    a file of this name can't be opened, for this error
  *   THREAD_ERROR             no thread can be made, for this error
+ *   WRITE_MOST               a write to a file takes so many bytes at most, where it is there
+ *   WRITE_GOOD, WRITES       writes to a file take so many bytes in all, or are so many, where it is there; each one behind them fails with
+ *                            the error WRITE_ERROR, or takes nothing if that is 0
+ *   WRITE_LOG                a file of this name has a line for each write to a file: how many bytes it was handed
  */
 #define _GNU_SOURCE
 #include <dlfcn.h>
@@ -13,6 +17,7 @@
 #include <fcntl.h>
 #include <pthread.h>
 #include <stdarg.h>
+#include <stdio.h>
 #include <stdlib.h>
 #include <string.h>
 #include <unistd.h>
@@ -55,6 +60,34 @@ ssize_t read(int file, void *into, size_t room) {
         return -1;
     }
     return next(file, into, room);
+}
+
+/* The number of a name, or the greatest one where it isn't there. */
+static size_t most_of(const char *name) { return getenv(name) ? (size_t)number_in(name) : (size_t)-1; }
+
+static void log_write(size_t bytes) {
+    FILE *log = fopen(getenv("WRITE_LOG"), "a");
+    if (!log) abort();
+    fprintf(log, "%zu\n", bytes);
+    fclose(log);
+}
+
+ssize_t write(int file, const void *from, size_t bytes) {
+    static ssize_t (*next)(int, const void *, size_t);
+    static size_t taken, writes;
+    size_t most = most_of("WRITE_MOST"), left = most_of("WRITE_GOOD") - taken;
+    if (!next) next = dlsym(RTLD_NEXT, "write");
+    if (file <= STDERR_FILENO) return next(file, from, bytes);
+    if (getenv("WRITE_LOG")) log_write(bytes);
+    if (writes >= most_of("WRITES") || left == 0) {
+        errno = (int)number_in("WRITE_ERROR");
+        return errno ? -1 : 0;
+    }
+    writes++;
+    if (most > bytes) most = bytes;
+    if (most > left) most = left;
+    taken += most;
+    return most > 0 ? next(file, from, most) : 0;
 }
 
 int open(const char *path, int how, ...) {
