@@ -1,20 +1,21 @@
-//! The tests of whole engines, in one thread and in three, and over writers that fail. As a library
-//! this crate is empty.
+//! The tests of whole engines, and of what else calls alone show: the fixed run over writers that
+//! fail, a send end over a list and one that can't be finished, orders, texts. As a library this crate
+//! is empty.
 #![tactic(auto)]
 
 #[cfg(test)]
-mod broken_writers;
+mod first_path;
 #[cfg(test)]
-mod opened;
+mod list_end;
 #[cfg(test)]
-mod opening;
+mod no_end;
+#[cfg(test)]
+mod orders;
 #[cfg(test)]
 mod same;
 #[cfg(test)]
 mod stores;
 #[cfg(test)]
-mod threads;
+mod texts;
 #[cfg(test)]
 mod whole_run;
-#[cfg(test)]
-mod wrong_ends;

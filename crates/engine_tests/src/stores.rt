@@ -4,37 +4,12 @@ use std::alloc::Global;
 use std::test::Fail;
 
 /// A list of event channel 0 that runs, and has the two bytes of the image.
-pub const WHOLE: &[&[u8]] = &[
+const WHOLE: &[&[u8]] = &[
     &[0xD5, 0, 1, 0],
     &[0xD4, 0, 0, 0, 1],
     &[0xD3, 0, 0, 0, 0, 1],
     &[0xE2, 0, 0, 0, 0, 0],
     &[0xE1, 0xFF, 2, 0, 0, 0, 0, 0],
-    &[0xE0, 0, 0, 0, 0, 0, 1, 0],
-    &[0xDE, 1, 0, 0],
-];
-
-/// A list of event channel 0 that runs, and has the two bytes of the image in two ODTs.
-pub const IN_TWO: &[&[u8]] = &[
-    &[0xD5, 0, 1, 0],
-    &[0xD4, 0, 0, 0, 2],
-    &[0xD3, 0, 0, 0, 0, 1],
-    &[0xD3, 0, 0, 0, 1, 1],
-    &[0xE2, 0, 0, 0, 0, 0],
-    &[0xE1, 0xFF, 1, 0, 0, 0, 0, 0],
-    &[0xE2, 0, 0, 0, 1, 0],
-    &[0xE1, 0xFF, 1, 0, 1, 0, 0, 0],
-    &[0xE0, 0, 0, 0, 0, 0, 1, 0],
-    &[0xDE, 1, 0, 0],
-];
-
-/// A list of event channel 0 that runs, and has the four bytes of the image.
-pub const LONG: &[&[u8]] = &[
-    &[0xD5, 0, 1, 0],
-    &[0xD4, 0, 0, 0, 1],
-    &[0xD3, 0, 0, 0, 0, 1],
-    &[0xE2, 0, 0, 0, 0, 0],
-    &[0xE1, 0xFF, 4, 0, 0, 0, 0, 0],
     &[0xE0, 0, 0, 0, 0, 0, 1, 0],
     &[0xDE, 1, 0, 0],
 ];
@@ -69,7 +44,7 @@ fn carry(store: &mut Store, packet: &[u8]) -> Result<(), Fail> {
 }
 
 /// A store for which these packets were carried out.
-pub fn store_of(
+fn store_of(
     alloc: Global,
     channels: u16,
     image_len: usize,

@@ -8,7 +8,7 @@ ghost use Rattle.engine_tests.specs.WholeRun.{RecordsOnce, RunsOnce};
 use crate::same::same;
 use crate::stores::two_lists;
 use channel_ring::{Beside, RingEnd, SendEnd, SendHalf, SendLeft, TakeEnd};
-use daq_engine::{Engine, ListReport, Report};
+use daq_engine::{Engine, ListReport, Report, open_bytes};
 use daq_store::Store;
 use frame_writer::{FrameWriter, Out, VecOut};
 use std::alloc::Global;
@@ -87,5 +87,16 @@ fn each_sample_of_a_whole_run_is_written(rt: HostRuntime) -> Result<(), Fail> {
     );
     same(&rt, out.bytes(), &[3, 0, 0, 0, 0, 7, 8], row, "bytes");
     same(&rt, report.failed, false, row, "whether the writer failed");
+    Ok(())
+}
+
+#[test]
+fn engines_open_over_rings_of_bytes(rt: HostRuntime) -> Result<(), Fail> {
+    let store = two_lists(rt.alloc())?;
+    let caps = [532, 532];
+    let writer = || FrameWriter::new(VecOut::new(rt.alloc()));
+    let engine = Engine::open_bytes(rt.alloc(), &store, &caps, writer()).is_ok();
+    let parts = open_bytes(rt.alloc(), &store, &caps, writer()).is_ok();
+    same(&rt, (engine, parts), (true, true), "532 bytes", "opened");
     Ok(())
 }

@@ -15,8 +15,6 @@ mod row;
 mod ruler;
 mod span;
 mod style;
-#[cfg(test)]
-mod tests;
 
 pub use axis::Axis;
 pub use picture::Picture;

@@ -1,7 +1,10 @@
-//! In which order a gate is called, beside the steps and the pumps.
+//! What threads show of each other, by a gate that lets one step go after another; and in which order
+//! the gate is called, beside the steps and the pumps.
 use crate::in_order::{InOrder, Wrong};
 use crate::same::same;
-use crate::text::{TWO_LISTS, TWO_PLACES, TWO_RINGS_OF_BYTES, run_of};
+use crate::text::{
+    BIG_LIST, ONE_BIG_PLACE, TWO_LISTS, TWO_PLACES, TWO_RINGS_OF_BYTES, ZEROS_31, ZEROS_32, run_of,
+};
 use daq_run::run_threads;
 use frame_writer::VecOut;
 use std::test::Fail;
@@ -11,32 +14,86 @@ const TWO_TRIGGERS_EACH: &str =
     "steps = ['trigger 0 0 a0', 'trigger 0 0 a1', 'trigger 1 0 b0', 'trigger 1 0 b1']\n";
 
 /// The order in which these go: event channel 0 ends before the last of the other one.
-const ORDER: [(u8, usize); 4] = [(1, 0), (0, 0), (0, 1), (1, 1)];
+const ORDER: &[(u8, usize)] = &[(1, 0), (0, 0), (0, 1), (1, 1)];
 
-/// How many bytes the frames of the replies have.
-const REPLIES: usize = 72;
-
-/// The frames behind them, in this order.
-const FRAMES: [u8; 24] = [
+/// The frames behind the replies, in this order.
+const FRAMES: &[u8] = &[
     2, 0, 14, 0, 1, 0xB0, 2, 0, 15, 0, 0, 0xA0, 2, 0, 16, 0, 0, 0xA1, 2, 0, 17, 0, 1, 0xB1,
+];
+
+/// The parts of a text, the order in which the steps go, how many packets a sample has, how many
+/// bytes the replies have and how many stand behind them, and with what these begin.
+#[derive(Clone, Copy)]
+struct Row<'a> {
+    name: &'a str,
+    parts: &'a [&'a str],
+    order: &'a [(u8, usize)],
+    packets: u64,
+    replies: usize,
+    written: usize,
+    frames: &'a [u8],
+}
+
+/// In a ring of one place, and in one of bytes that a sample fills, a step sees the place that the
+/// pump freed.
+const ROWS: [Row; 3] = [
+    Row {
+        name: "rings of one place",
+        parts: &[TWO_PLACES, TWO_LISTS, TWO_TRIGGERS_EACH],
+        order: ORDER,
+        packets: 1,
+        replies: 72,
+        written: 24,
+        frames: FRAMES,
+    },
+    Row {
+        name: "rings of bytes",
+        parts: &[TWO_RINGS_OF_BYTES, TWO_LISTS, TWO_TRIGGERS_EACH],
+        order: ORDER,
+        packets: 1,
+        replies: 72,
+        written: 24,
+        frames: FRAMES,
+    },
+    Row {
+        name: "a ring of bytes that a sample fills",
+        parts: &[
+            ONE_BIG_PLACE,
+            BIG_LIST,
+            "steps = ['trigger 0 0 ",
+            ZEROS_31,
+            ZEROS_32,
+            "', 'trigger 0 0 ",
+            ZEROS_31,
+            ZEROS_32,
+            "']\n",
+        ],
+        order: &[(0, 0), (0, 1)],
+        packets: 8,
+        replies: 146,
+        written: 1088,
+        frames: &[64, 0, 29, 0, 0],
+    },
 ];
 
 #[test]
 fn each_step_stands_between_its_calls_and_each_pump_is_told(rt: HostRuntime) -> Result<(), Fail> {
-    for (name, rings) in [
-        ("rings of samples", TWO_PLACES),
-        ("rings of bytes", TWO_RINGS_OF_BYTES),
-    ] {
-        let run = run_of(rt.alloc(), &[rings, TWO_LISTS, TWO_TRIGGERS_EACH])?;
-        let gate = InOrder::of(&rt, &ORDER);
+    for row in ROWS {
+        let run = run_of(rt.alloc(), row.parts)?;
+        let gate = InOrder::of(&rt, row.order, row.packets);
         let out = VecOut::new(rt.alloc());
         let outcome = match run_threads(&rt, rt.alloc(), &run, out, &gate) {
             Ok(outcome) => outcome,
             Err((fault, _)) => return Err(Fail::from(fault)),
         };
-        same(&rt, gate.told(), (Wrong::Nothing, 4, 4), name, "the calls");
-        let frames = outcome.out.bytes().get(REPLIES..);
-        same(&rt, frames, Some(FRAMES.as_slice()), name, "the frames");
+        let steps = row.order.len() as u64;
+        let told = (Wrong::Nothing, steps, steps);
+        same(&rt, gate.told(), told, row.name, "the calls");
+        let bytes = outcome.out.bytes();
+        let behind = bytes.get(row.replies..).unwrap_or(&[]);
+        let front = behind.get(..row.frames.len());
+        let wanted = (row.written, Some(row.frames));
+        same(&rt, (behind.len(), front), wanted, row.name, "the frames");
     }
     Ok(())
 }

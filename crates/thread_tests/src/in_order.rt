@@ -24,12 +24,13 @@ pub enum Wrong {
     NoFrame,
 }
 
-/// Lets steps go in an order, each of which sends one packet. Before a step it waits for two pumps
-/// that take nothing, and behind it for the frame of its sample.
+/// Lets steps go in an order, each of which sends a sample of so many packets. Before a step it waits
+/// for two pumps that take nothing, and behind it for the frames of its sample.
 #[derive(Drop)]
 pub struct InOrder<'a, R> {
     rt: &'a R,
     order: &'a [(u8, usize)],
+    packets: u64,
     begun: AtomicU64,
     done: AtomicU64,
     empty: AtomicU64,
@@ -39,10 +40,11 @@ pub struct InOrder<'a, R> {
 }
 
 impl<'a, R> InOrder<'a, R> {
-    pub fn of(rt: &'a R, order: &'a [(u8, usize)]) -> InOrder<'a, R> {
+    pub fn of(rt: &'a R, order: &'a [(u8, usize)], packets: u64) -> InOrder<'a, R> {
         InOrder {
             rt,
             order,
+            packets,
             begun: AtomicU64::new(0),
             done: AtomicU64::new(0),
             empty: AtomicU64::new(0),
@@ -100,7 +102,8 @@ impl<R: Abort> Gate for InOrder<'_, R> {
         let empty = self.empty.load(Ordering::SeqCst);
         self.wait_for(&self.empty, empty.saturating_add(2), Wrong::NoEmptyPump);
         let frames = self.frames.load(Ordering::SeqCst);
-        self.expect(frames == place, Wrong::OtherFrames);
+        let before = place.saturating_mul(self.packets);
+        self.expect(frames == before, Wrong::OtherFrames);
         let begun = self.begun.fetch_add(1, Ordering::SeqCst);
         self.expect(begun == place, Wrong::OtherStep);
     }
@@ -109,7 +112,8 @@ impl<R: Abort> Gate for InOrder<'_, R> {
         let next = self.place_of(channel, step).saturating_add(1);
         let begun = self.begun.load(Ordering::SeqCst);
         self.expect(begun == next, Wrong::OtherStep);
-        self.wait_for(&self.frames, next, Wrong::NoFrame);
+        let frames = next.saturating_mul(self.packets);
+        self.wait_for(&self.frames, frames, Wrong::NoFrame);
         self.done.fetch_add(1, Ordering::SeqCst);
     }
 

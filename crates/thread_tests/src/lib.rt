@@ -4,15 +4,11 @@
 #[cfg(test)]
 mod calls;
 #[cfg(test)]
-mod holds;
+mod faults;
 #[cfg(test)]
 mod in_order;
 #[cfg(test)]
-mod lists;
-#[cfg(test)]
 mod same;
-#[cfg(test)]
-mod schedules;
 #[cfg(test)]
 mod text;
 #[cfg(test)]

@@ -3,22 +3,12 @@ use run_file::Run;
 use std::alloc::Global;
 use std::test::Fail;
 
-/// One event channel, images of two bytes, and a ring of one place.
-pub const ONE_PLACE: &str = "channels = 1\nimage_len = 2\ncaps = [1]\n";
-
 /// Two event channels, images of one byte, and a ring of one place for each.
 pub const TWO_PLACES: &str = "channels = 2\nimage_len = 1\ncaps = [1, 1]\n";
 
 /// The same with a ring of 532 bytes for each.
 pub const TWO_RINGS_OF_BYTES: &str =
     "channels = 2\nimage_len = 1\nring = 'bytes'\ncaps = [532, 532]\n";
-
-/// Three event channels, images of two bytes, and a ring of eight places for each.
-pub const THREE_CHANNELS: &str = "channels = 3\nimage_len = 2\ncaps = [8, 8, 8]\n";
-
-/// The same with a ring of 532 bytes for each.
-pub const THREE_RINGS_OF_BYTES: &str =
-    "channels = 3\nimage_len = 2\nring = 'bytes'\ncaps = [532, 532, 532]\n";
 
 /// One event channel, images of 63 bytes, and a ring of 532 bytes, in which one item of a list of
 /// eight ODTs with the whole image has room.
@@ -38,10 +28,6 @@ pub const BIG_LIST: &str = "setup = ['d6', 'd5000100', 'd400000008',
   'e20000000700', 'e1ff3f0000000000',
   'e000000000000100', 'de010000']\n";
 
-/// The set-up of one list of one entry of two bytes, which then runs.
-pub const ONE_LIST: &str = "setup = ['d6', 'd5000100', 'd400000001', 'd30000000001',
-  'e20000000000', 'e1ff020000000000', 'e000000000000100', 'de010000']\n";
-
 /// The set-up of two lists of one entry of one byte, each on an event channel of its own, which
 /// then run.
 pub const TWO_LISTS: &str = "setup = ['d6', 'd5000200', 'd400000001', 'd400010001',
@@ -49,15 +35,6 @@ pub const TWO_LISTS: &str = "setup = ['d6', 'd5000200', 'd400000001', 'd40001000
   'e20000000000', 'e1ff010000000000', 'e000000000000100',
   'e20001000000', 'e1ff010000000000', 'e000010001000100',
   'de010000', 'de010100']\n";
-
-/// The set-up of three lists of one entry of two bytes, each on an event channel of its own, which
-/// then run.
-pub const THREE_LISTS: &str = "setup = ['d6', 'd5000300', 'd400000001', 'd400010001', 'd400020001',
-  'd30000000001', 'd30001000001', 'd30002000001',
-  'e20000000000', 'e1ff020000000000', 'e000000000000100',
-  'e20001000000', 'e1ff020000000000', 'e000010001000100',
-  'e20002000000', 'e1ff020000000000', 'e000020002000100',
-  'de010000', 'de010100', 'de010200']\n";
 
 /// 31 and 32 bytes of an image.
 pub const ZEROS_31: &str = "00000000000000000000000000000000000000000000000000000000000000";

@@ -6,20 +6,15 @@ use std::thread::yield_now;
 /// in vain fails by an answer and not by running out of time.
 const TURNS: u64 = 50_000_000;
 
-/// Gives the other threads a turn now and then.
-pub fn take_turn(turn: u64) {
-    if turn % 16 == 0 {
-        yield_now();
-    }
-}
-
 /// Whether a number reaches another one within the turns that a step is held.
 pub fn reaches(number: &AtomicU64, least: u64) -> bool {
     for turn in 0..TURNS {
         if number.load(Ordering::SeqCst) >= least {
             return true;
         }
-        take_turn(turn);
+        if turn % 16 == 0 {
+            yield_now();
+        }
     }
     false
 }

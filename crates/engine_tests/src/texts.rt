@@ -1,0 +1,23 @@
+//! The texts of refusals that no program prints.
+use crate::same::same;
+use daq_store::{BadLimits, Refusal};
+use std::test::Fail;
+use xcp_base::ErrCode;
+
+#[test]
+fn a_refusal_says_why(rt: HostRuntime) -> Result<(), Fail> {
+    let refused = format!(in rt.alloc(); "{}", Refusal::Code(ErrCode::DaqActive))?;
+    same(
+        &rt,
+        refused.as_str(),
+        "refused: DaqActive",
+        "a code",
+        "the text",
+    );
+    let memory = format!(in rt.alloc(); "{}", Refusal::Memory)?;
+    same(&rt, memory.as_str(), "want of memory", "memory", "the text");
+    let limits = format!(in rt.alloc(); "{BadLimits}")?;
+    let wanted = "event channels, image length or timestamp size out of their limits";
+    same(&rt, limits.as_str(), wanted, "limits", "the text");
+    Ok(())
+}
