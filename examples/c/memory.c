@@ -12,6 +12,11 @@ static bool refuses;
 static bool refused;
 static unsigned long left;
 
+/* The calls of malloc, realloc and free in this thread. */
+static __thread unsigned long calls;
+
+unsigned long memory_calls(void) { return calls; }
+
 /* Threads may give blocks back at the same time: ng_finish does. */
 static void add(unsigned long *count, long more) {
     __atomic_fetch_add(count, (unsigned long)more, __ATOMIC_SEQ_CST);
@@ -30,6 +35,7 @@ bool memory_refused(void) {
 
 /* Whether this call is refused. */
 static bool refuse(void) {
+    calls++;
     add(&memory_asked, 1);
     if (!refuses || refused) return false;
     if (left == 0) {
@@ -55,6 +61,7 @@ void *__wrap_realloc(void *block, size_t bytes) {
 }
 
 void __wrap_free(void *block) {
+    calls++;
     if (block != NULL) add(&memory_held, -1);
     __real_free(block);
 }

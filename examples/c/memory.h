@@ -15,4 +15,7 @@ void memory_refuse_behind(unsigned long blocks);
 /* Whether that one was asked for, and refused; refuses none from now on. */
 bool memory_refused(void);
 
+/* How many calls of malloc, realloc and free there were in the thread that asks. */
+unsigned long memory_calls(void);
+
 #endif
