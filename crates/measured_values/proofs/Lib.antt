@@ -1,0 +1,7 @@
+pub mod DecimalLemmas
+pub mod DigitLemmas
+pub mod PowerLemmas
+pub mod ResultLemmas
+pub mod TallyLemmas
+pub mod TickLemmas
+mod WorkedRows

@@ -1,0 +1,24 @@
+-- Rows worked by hand, which the definitions have to give.
+use Rattle.std.proofs.Common.{◌≡◌, ◌∷◌, [], negsuc, pos, refl}
+use Rattle.measurement.specs.declared.byte_order.ByteOrder.TheVariants.{MsbFirst, MsbLast}
+use Rattle.measured_values.specs.Decimals.{placed}
+use Rattle.measured_values.specs.Raws.{number_of_bytes, twos_complement}
+
+intel_word : number_of_bytes MsbLast 2 (0x34 ∷ 0x12 ∷ []) ≡ 0x1234
+intel_word = refl
+
+motorola_word : number_of_bytes MsbFirst 2 (0x12 ∷ 0x34 ∷ []) ≡ 0x1234
+motorola_word = refl
+
+motorola_long : number_of_bytes MsbFirst 4 (0x12 ∷ 0x34 ∷ 0x56 ∷ 0x78 ∷ []) ≡ 0x12345678
+motorola_long = refl
+
+minus_two : twos_complement 128 0xfe ≡ negsuc 1
+minus_two = refl
+
+greatest_byte : twos_complement 128 0x7f ≡ pos 127
+greatest_byte = refl
+
+-- 25 with three places is 0.025
+three_places : placed (50 ∷ 53 ∷ []) 3 ≡ 48 ∷ 46 ∷ 48 ∷ 50 ∷ 53 ∷ []
+three_places = refl

@@ -1,0 +1,6 @@
+pub mod Decimals
+pub mod Physicals
+pub mod Raws
+pub mod Tallies
+pub mod Texts
+pub mod Ticks

@@ -1,0 +1,133 @@
+//! From bytes to a raw value.
+ghost use Rattle.std.specs.Prelude.{◌≡◌, ◌+◌, ◌-◌, ◌*◌, ◌<◌, ◌≤◌, ◌^◌, ◌↔◌, ◌-ℤ◌, pos};
+ghost use Rattle.std.specs.Prelude.{IfSome, IsSome, length};
+ghost use Rattle.measurement.specs.Encodings.{size_of};
+ghost use Rattle.measured_values.specs.Raws.{IsSize, masked, number_of_bytes, raw_in, raw_value};
+ghost use Rattle.measured_values.specs.Raws.{signed_in, twos_complement, unsigned_in};
+
+use crate::raw::Raw;
+use measurement::{ByteOrder, DataType, Encoding};
+use std::num::{f32_from_bits_with_nan, f64_from_bits_with_nan};
+
+/// The raw value of bytes; `None` if there are not as many as the data type has.
+///
+/// A mask takes its bits of an integer, signed or not, and moves the lowest of them to bit 0; the
+/// result is unsigned, and 0 if the mask is. A mask has no effect on a float (ASAM MCD-2 MC,
+/// MEASUREMENT: BIT_MASK, BYTE_ORDER). A NaN's payload isn't kept.
+pub fn raw_of(encoding: Encoding, bytes: &[u8]) -> Option<Raw>
+    ensures size { IsSome result ↔ (length bytes.now ≡ size_of encoding.data_type) }
+    ensures value { IfSome result (λ raw. raw ≡ raw_value encoding bytes.now) }
+{
+    if bytes.len() != encoding.data_type.size() {
+        return None;
+    }
+    let number = number_in(encoding.order, bytes)?;
+    Some(raw_in(encoding.data_type, encoding.mask, number))
+}
+
+/// The unsigned number of 1, 2, 4 or 8 bytes; `None` for another number of them.
+fn number_in(order: ByteOrder, bytes: &[u8]) -> Option<u64>
+    ensures some { IsSize (length bytes.now) → IsSome result }
+    ensures value { IfSome result (λ number.
+        number ≡ number_of_bytes order (length bytes.now) bytes.now) }
+    ensures fits { IfSome result (λ number. number < 256 ^ length bytes.now) }
+{
+    match *bytes {
+        [a] => Some(a as u64),
+        [a, b] => Some(number_of_2(order, [a, b]) as u64),
+        [a, b, c, d] => Some(number_of_4(order, [a, b, c, d]) as u64),
+        [a, b, c, d, e, f, g, h] => Some(number_of_8(order, [a, b, c, d, e, f, g, h])),
+        _ => None,
+    }
+}
+
+fn number_of_2(order: ByteOrder, bytes: [u8; 2]) -> u16
+    ensures { result ≡ number_of_bytes order 2 bytes }
+{
+    match order {
+        ByteOrder::MsbLast => u16::from_le_bytes(bytes),
+        ByteOrder::MsbFirst => u16::from_be_bytes(bytes),
+    }
+}
+
+fn number_of_4(order: ByteOrder, bytes: [u8; 4]) -> u32
+    ensures { result ≡ number_of_bytes order 4 bytes }
+{
+    match order {
+        ByteOrder::MsbLast => u32::from_le_bytes(bytes),
+        ByteOrder::MsbFirst => u32::from_be_bytes(bytes),
+    }
+}
+
+fn number_of_8(order: ByteOrder, bytes: [u8; 8]) -> u64
+    ensures { result ≡ number_of_bytes order 8 bytes }
+{
+    match order {
+        ByteOrder::MsbLast => u64::from_le_bytes(bytes),
+        ByteOrder::MsbFirst => u64::from_be_bytes(bytes),
+    }
+}
+
+/// The raw value of the number that the bytes of a data type are.
+fn raw_in(data_type: DataType, mask: Option<u64>, number: u64) -> Raw
+    requires { number < 256 ^ size_of data_type }
+    ensures { result ≡ raw_in data_type mask number }
+{
+    match data_type {
+        DataType::UByte => unsigned_in(mask, number),
+        DataType::SByte => signed_in(1 << 7, mask, number),
+        DataType::UWord => unsigned_in(mask, number),
+        DataType::SWord => signed_in(1 << 15, mask, number),
+        DataType::ULong => unsigned_in(mask, number),
+        DataType::SLong => signed_in(1 << 31, mask, number),
+        DataType::AUint64 => unsigned_in(mask, number),
+        DataType::AInt64 => signed_in(1 << 63, mask, number),
+        DataType::Float32 => Raw::Single(f32_from_bits_with_nan(number as u32)),
+        DataType::Float64 => Raw::Double(f64_from_bits_with_nan(number)),
+    }
+}
+
+/// The raw value of an unsigned number.
+fn unsigned_in(mask: Option<u64>, number: u64) -> Raw
+    ensures { result ≡ unsigned_in mask number }
+{
+    match mask {
+        Some(mask) => Raw::Unsigned(masked(mask, number)),
+        None => Raw::Unsigned(number),
+    }
+}
+
+/// The raw value of a number in two's complement, whose highest bit is worth `half`.
+fn signed_in(half: u64, mask: Option<u64>, number: u64) -> Raw
+    requires half { half ≤ 2 ^ 63 }
+    requires number { number < 2 * half }
+    ensures { result ≡ signed_in half mask number }
+{
+    match mask {
+        Some(mask) => Raw::Unsigned(masked(mask, number)),
+        None => Raw::Signed(twos_complement(half, number)),
+    }
+}
+
+/// The bits of a number that a mask takes, the lowest of them as bit 0.
+fn masked(mask: u64, number: u64) -> u64
+    ensures { result ≡ masked mask number }
+{
+    if mask == 0 {
+        return 0;
+    }
+    (number & mask) >> mask.trailing_zeros()
+}
+
+/// The signed number of a number in two's complement, whose highest bit is worth `half`.
+fn twos_complement(half: u64, number: u64) -> i64
+    requires half { half ≤ 2 ^ 63 }
+    requires number { number < 2 * half }
+    ensures { result ≡ twos_complement half number }
+{
+    if number < half {
+        number as i64
+    } else {
+        -1 - ((half - 1 - (number - half)) as i64)
+    }
+}
