@@ -1,0 +1,13 @@
+pub mod Kinds
+pub mod Fronts
+pub mod Gaps
+pub mod Letters
+pub mod Tokens
+pub mod Words
+pub mod TokenOf
+pub mod Faults
+pub mod Laws
+pub mod State
+pub mod Places
+pub mod Numbers
+pub mod Texts

@@ -1,0 +1,12 @@
+use thiserror::Error;
+
+/// Why a text has no next word.
+#[derive(Clone, Copy, Debug, PartialEq, Eq, Error)]
+pub enum WordFault {
+    /// A text has no closing quote.
+    #[error("the text has no closing quote")]
+    OpenText,
+    /// A comment that begins with `/*` has no `*/`.
+    #[error("the comment has no end")]
+    OpenComment,
+}
