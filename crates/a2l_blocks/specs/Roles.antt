@@ -1,0 +1,57 @@
+-- What a block is to the reader of an A2L file, by its name and the block in which it stands.
+use Rattle.std.specs.Prelude.{ℕ, List, codes, bytes_eq, Option, Some, None, if◌then◌else◌}
+use Rattle.a2l_blocks.specs.declared.part.Part.{Part}
+use Rattle.a2l_blocks.specs.declared.part.Part.TheVariants as part
+use Rattle.a2l_blocks.specs.declared.role.Role.{Role}
+use Rattle.a2l_blocks.specs.declared.role.Role.TheVariants.{File, Project, Module, Data, Xcp}
+use Rattle.a2l_blocks.specs.declared.role.Role.TheVariants.{Gathered, Passed}
+
+-- a block directly in a MODULE
+abbrev pub module_block : List ℕ → Role
+module_block name =
+    if bytes_eq name (codes "MEASUREMENT") then Gathered part.Measurement
+    else (if bytes_eq name (codes "COMPU_METHOD") then Gathered part.Method
+    else (if bytes_eq name (codes "COMPU_VTAB") then Gathered part.Table
+    else (if bytes_eq name (codes "COMPU_VTAB_RANGE") then Gathered part.Ranges
+    else (if bytes_eq name (codes "MOD_COMMON") then Gathered part.Defaults
+    else (if bytes_eq name (codes "IF_DATA") then Data else Passed)))))
+
+-- a block in a block
+abbrev pub inside : Role → List ℕ → Role
+inside File name = if bytes_eq name (codes "PROJECT") then Project else Passed
+inside Project name = if bytes_eq name (codes "MODULE") then Module else Passed
+inside Module name = module_block name
+inside Data name = Passed
+inside Xcp name =
+    if bytes_eq name (codes "TIMESTAMP_SUPPORTED") then Gathered part.Timestamp else Xcp
+inside (Gathered p) name = Passed
+inside Passed name = Passed
+
+-- the first word of an IF_DATA says whose it is
+abbrev pub after_plain : Role → List ℕ → Role
+after_plain File word = File
+after_plain Project word = Project
+after_plain Module word = Module
+after_plain Data word = if bytes_eq word (codes "XCP") then Xcp else Passed
+after_plain Xcp word = Xcp
+after_plain (Gathered p) word = Gathered p
+after_plain Passed word = Passed
+
+abbrev pub after_text : Role → Role
+after_text File = File
+after_text Project = Project
+after_text Module = Module
+after_text Data = Passed
+after_text Xcp = Xcp
+after_text (Gathered p) = Gathered p
+after_text Passed = Passed
+
+-- what a block is, if it is a part
+abbrev pub part_of : Role → Option Part
+part_of File = None
+part_of Project = None
+part_of Module = Some part.Module
+part_of Data = None
+part_of Xcp = None
+part_of (Gathered p) = Some p
+part_of Passed = None

@@ -1,0 +1,18 @@
+/// What a block is that has been read to its end.
+#[derive(Clone, Copy, Debug, PartialEq, Eq)]
+pub enum Part {
+    /// MOD_COMMON.
+    Defaults,
+    /// MEASUREMENT.
+    Measurement,
+    /// COMPU_METHOD.
+    Method,
+    /// COMPU_VTAB.
+    Table,
+    /// COMPU_VTAB_RANGE.
+    Ranges,
+    /// TIMESTAMP_SUPPORTED, anywhere in an IF_DATA of XCP.
+    Timestamp,
+    /// MODULE, behind all parts that stand in it.
+    Module,
+}

@@ -1,0 +1,101 @@
+ghost use Rattle.std.specs.Prelude.{◌≡◌, bytes_eq};
+ghost use Rattle.a2l_blocks.specs.Roles.{inside, module_block, after_plain, after_text, part_of};
+
+use crate::part::Part;
+
+/// What an open block is to the reader of a text.
+#[derive(Clone, Copy, Debug, PartialEq, Eq)]
+pub enum Role {
+    /// No block: the text itself.
+    File,
+    Project,
+    Module,
+    /// An IF_DATA whose first word isn't read yet.
+    Data,
+    /// In an IF_DATA of XCP.
+    Xcp,
+    /// Its words are gathered.
+    Gathered(Part),
+    /// It is passed over, with all that stands in it.
+    Passed,
+}
+
+/// Whether a word is this keyword.
+pub fn is(word: &[u8], keyword: &str) -> bool
+    ensures { result ≡ bytes_eq word.now keyword.now }
+{
+    word == keyword.as_bytes()
+}
+
+impl Role {
+    /// The role of a block of this name in a block of this role.
+    pub fn inside(self, name: &[u8]) -> Role
+        ensures { result ≡ inside self name.now }
+    {
+        match self {
+            Role::File if is(name, "PROJECT") => Role::Project,
+            Role::Project if is(name, "MODULE") => Role::Module,
+            Role::Module => module_block(name),
+            Role::Xcp if is(name, "TIMESTAMP_SUPPORTED") => Role::Gathered(Part::Timestamp),
+            Role::Xcp => Role::Xcp,
+            _ => Role::Passed,
+        }
+    }
+
+    /// The role behind a word that stands directly in the block.
+    pub fn after_plain(self, word: &[u8]) -> Role
+        ensures { result ≡ after_plain self word.now }
+    {
+        match self {
+            Role::Data if is(word, "XCP") => Role::Xcp,
+            Role::Data => Role::Passed,
+            _ => self,
+        }
+    }
+
+    /// The role behind a text that stands directly in the block.
+    pub fn after_text(self) -> Role
+        ensures { result ≡ after_text self }
+    {
+        match self {
+            Role::Data => Role::Passed,
+            _ => self,
+        }
+    }
+
+    /// What the block is, if it is a part.
+    pub fn part(self) -> Option<Part>
+        ensures { result ≡ part_of self }
+    {
+        match self {
+            Role::Module => Some(Part::Module),
+            Role::Gathered(part) => Some(part),
+            _ => None,
+        }
+    }
+}
+
+/// The role of a block of this name directly in a MODULE.
+fn module_block(name: &[u8]) -> Role
+    ensures { result ≡ module_block name.now }
+{
+    if is(name, "MEASUREMENT") {
+        return Role::Gathered(Part::Measurement);
+    }
+    if is(name, "COMPU_METHOD") {
+        return Role::Gathered(Part::Method);
+    }
+    if is(name, "COMPU_VTAB") {
+        return Role::Gathered(Part::Table);
+    }
+    if is(name, "COMPU_VTAB_RANGE") {
+        return Role::Gathered(Part::Ranges);
+    }
+    if is(name, "MOD_COMMON") {
+        return Role::Gathered(Part::Defaults);
+    }
+    if is(name, "IF_DATA") {
+        return Role::Data;
+    }
+    Role::Passed
+}
