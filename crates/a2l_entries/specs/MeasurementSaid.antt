@@ -1,0 +1,153 @@
+-- What a block MEASUREMENT says (ASAM MCD-2 MC, MEASUREMENT).
+use Rattle.std.specs.Prelude.{ℕ, zero, suc, ◌<◌, ◌^◌, Bool, true, false, not, ◌||◌, ◌==◌, nat_lt}
+use Rattle.std.specs.Prelude.{List, [], ◌∷◌, codes, Option, Some, None, if◌then◌else◌, string_bytes}
+use Rattle.std.specs.Option.{option_map, option_or}
+use Rattle.a2l_words.specs.Tokens.{Token}
+use Rattle.measurement.specs.declared.byte_order.ByteOrder.{ByteOrder}
+use Rattle.measurement.specs.declared.data_type.DataType.{DataType}
+use Rattle.a2l_entries.specs.declared.keywords.MeasurementKeyword.{MeasurementKeyword}
+use Rattle.a2l_entries.specs.declared.keywords.MeasurementKeyword.TheVariants as option
+use Rattle.a2l_entries.specs.declared.measurement_options.MeasurementOptions.{MeasurementOptions}
+use Rattle.a2l_entries.specs.declared.measurement_block.MeasurementBlock.{MeasurementBlock}
+use Rattle.a2l_entries.specs.declared.said.Reference.{Reference}
+use Rattle.a2l_entries.specs.Gives.{◌>>=◌}
+use Rattle.a2l_entries.specs.Said.{first_of, name_said, text_said, number_said, integer_said}
+use Rattle.a2l_entries.specs.Said.{name_first, behind_text, number_first}
+use Rattle.a2l_entries.specs.Scans.{scanned}
+use Rattle.a2l_entries.specs.Keywords.{measurement_keyword, arguments_of, order_said}
+use Rattle.a2l_entries.specs.Keywords.{data_type_said, is_keyword}
+
+-- what the options say
+pub record Options : Type 0 where
+  pub order : Option ByteOrder
+  pub mask : Option ℕ
+  pub address : Option ℕ
+  pub unit : Option (List ℕ)
+  -- an array, or an extension of the address other than 0
+  pub apart : Bool
+
+abbrev pub options_seen : MeasurementOptions → Options
+options_seen o = record { order = o.order; mask = o.mask; address = o.address; unit = option_map (λ s. string_bytes s) o.unit; apart = o.apart }
+
+abbrev pub no_options : Options
+no_options = record { order = None; mask = None; address = None; unit = None; apart = false }
+
+-- these options, and others for what these leave open
+abbrev pub options_or : Options → Options → Options
+options_or a b = record {
+  order = option_or a.order b.order;
+  mask = option_or a.mask b.mask;
+  address = option_or a.address b.address;
+  unit = option_or a.unit b.unit;
+  apart = a.apart || b.apart;
+}
+
+abbrev pub mask_of : ℕ → Option ℕ
+mask_of n = if n == 0 then None else Some n
+
+unfoldable pub mask_said : Token → Option ℕ
+mask_said w = integer_said w >>= mask_of
+
+abbrev pub address_of : ℕ → Option ℕ
+address_of n = if nat_lt n (2 ^ 32) then Some n else None
+
+unfoldable pub address_said : Token → Option ℕ
+address_said w = integer_said w >>= address_of
+
+abbrev pub is_extended : Option ℕ → Bool
+is_extended None = true
+is_extended (Some n) = not (n == 0)
+
+-- an extension of an address is a number: is it other than 0?
+unfoldable pub extended_said : Token → Option Bool
+extended_said w = do
+  number ← number_said w
+  Some (is_extended (integer_said w))
+
+abbrev pub other_than_one : Option ℕ → Bool → Bool
+other_than_one None more = false
+other_than_one (Some n) more = not (n == 1) || more
+
+-- one of the whole numbers in front is other than 1
+abbrev pub has_elements : List Token → Bool
+has_elements [] = false
+has_elements (w ∷ ws) = other_than_one (integer_said w) (has_elements ws)
+
+-- what an option says, by the words behind its keyword
+unfoldable pub option_said : MeasurementKeyword → List Token → Option Options
+option_said option.Order ws = do
+  first ← first_of ws
+  order ← order_said first.0
+  Some (record no_options { order = Some order })
+option_said option.Mask ws = do
+  first ← first_of ws
+  mask ← mask_said first.0
+  Some (record no_options { mask = Some mask })
+option_said option.Address ws = do
+  first ← first_of ws
+  address ← address_said first.0
+  Some (record no_options { address = Some address })
+option_said option.Unit ws = do
+  first ← first_of ws
+  unit ← text_said first.0
+  Some (record no_options { unit = Some unit })
+option_said option.Extension ws = do
+  first ← first_of ws
+  apart ← extended_said first.0
+  Some (record no_options { apart = apart })
+option_said option.Size ws = do
+  first ← first_of ws
+  size ← integer_said first.0
+  Some (record no_options { apart = not (size == 1) })
+option_said option.Dimensions ws = Some (record no_options { apart = has_elements ws })
+option_said option.One ws = Some no_options
+option_said option.Two ws = Some no_options
+option_said option.Other ws = Some no_options
+
+-- The options of words. Of two of one kind the first counts.
+unfoldable pub options_said : List Token → Option Options
+options_said ws = scanned no_options options_or (λ w. arguments_of (measurement_keyword w)) (λ w behind. option_said (measurement_keyword w) behind) 0 ws
+
+-- what a MEASUREMENT says
+pub record Measured : Type 0 where
+  pub name : List ℕ
+  pub data_type : DataType
+  -- the name of its method, if it has one
+  pub method : Option (List ℕ)
+  pub options : Options
+
+abbrev pub name_of : Reference → List ℕ
+name_of r = string_bytes r.name
+
+abbrev pub measurement_seen : MeasurementBlock → Measured
+measurement_seen m = record { name = string_bytes m.name; data_type = m.data_type; method = option_map name_of m.method; options = options_seen m.options }
+
+abbrev pub method_named : Token → Option (Option (List ℕ))
+method_named w = if is_keyword (codes "NO_COMPU_METHOD") w then Some None else (name_said w >>= λ name. Some (Some name))
+
+unfoldable pub method_first : List Token → Option (Option (List ℕ) × List Token)
+method_first ws = do
+  first ← first_of ws
+  method ← method_named first.0
+  Some (method, first.1)
+
+-- behind the resolution, the accuracy and the two limits
+unfoldable pub behind_limits : List Token → Option (List Token)
+behind_limits ws = do
+  resolution ← number_first ws
+  accuracy ← number_first resolution.1
+  least ← number_first accuracy.1
+  greatest ← number_first least.1
+  Some greatest.1
+
+-- name, long identifier, data type, method, resolution, accuracy, limits and options
+unfoldable pub measurement_said : List Token → Option Measured
+measurement_said ws = do
+  name ← name_first ws
+  left ← behind_text name.1
+  word ← first_of left
+  data_type ← data_type_said word.0
+  method ← method_first word.1
+  behind ← behind_limits method.1
+  options ← options_said behind
+  Some (record { name = name.0; data_type = data_type; method = method.0; options = options })

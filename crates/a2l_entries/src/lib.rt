@@ -1,0 +1,27 @@
+//! What single blocks of an A2L file say (ASAM MCD-2 MC, the description file): measurements,
+//! conversion methods, tables of texts and the unit of a timestamp, before names are looked up.
+#![tactic(auto)]
+
+mod entry_fault;
+mod keywords;
+mod left;
+mod measurement_block;
+mod measurement_options;
+mod method_block;
+mod method_options;
+mod said;
+mod stop;
+mod table_block;
+mod tick_block;
+
+pub use entry_fault::{Awaited, Refused};
+pub use keywords::{MeasurementKeyword, MethodKeyword, MethodKind, default_order};
+pub use left::Left;
+pub use measurement_block::{MeasurementBlock, measurement_of};
+pub use measurement_options::MeasurementOptions;
+pub use method_block::{MethodBlock, Rule, method_of};
+pub use method_options::{Coefficients, Line};
+pub use said::Reference;
+pub use stop::Stop;
+pub use table_block::{TableBlock, ranges_of, table_of};
+pub use tick_block::tick_of;

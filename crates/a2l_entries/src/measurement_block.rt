@@ -1,0 +1,73 @@
+ghost use Rattle.std.specs.Prelude.{◌≡◌, option_map};
+ghost use Rattle.a2l_entries.specs.Gives.{Gives};
+ghost use Rattle.a2l_entries.specs.Said.{tokens_of};
+ghost use Rattle.a2l_entries.specs.MeasurementSaid.{measurement_seen, measurement_said, method_first};
+ghost use Rattle.a2l_entries.specs.MeasurementSaid.{behind_limits, name_of};
+
+use crate::entry_fault::Awaited;
+use crate::keywords::{data_type_in, is_keyword};
+use crate::left::Left;
+use crate::measurement_options::{MeasurementOptions, measurement_options};
+use crate::said::{Reference, name_in};
+use crate::stop::Stop;
+use measurement::DataType;
+use std::alloc::Global;
+
+/// What a block MEASUREMENT says (ASAM MCD-2 MC, MEASUREMENT).
+#[derive(Drop)]
+pub struct MeasurementBlock {
+    pub name: String,
+    pub data_type: DataType,
+    /// Its method, if it has one.
+    pub method: Option<Reference>,
+    pub options: MeasurementOptions,
+}
+
+/// What the words directly in a MEASUREMENT say.
+#[tactic(auto, unfolding(crate::specs::MeasurementSaid::measurement_said))]
+pub fn measurement_of(alloc: Global, words: Left<'_, '_>) -> Result<MeasurementBlock, Stop>
+    ensures { Gives measurement_seen result (measurement_said (tokens_of words.entry)) }
+{
+    let (name, left) = words.name(alloc)?;
+    let left = left.behind_text()?;
+    let (word, left) = left.first(Awaited::DataType)?;
+    let data_type = data_type_in(word)?;
+    let (method, left) = method_name(alloc, left)?;
+    let left = behind_limits(left)?;
+    let options = measurement_options(alloc, left)?;
+    Ok(MeasurementBlock {
+        name,
+        data_type,
+        method,
+        options,
+    })
+}
+
+/// The name of a method, or NO_COMPU_METHOD, and what is behind it.
+#[tactic(auto, unfolding(crate::specs::MeasurementSaid::method_first))]
+fn method_name<'w, 'a>(
+    alloc: Global,
+    left: Left<'w, 'a>,
+) -> Result<(Option<Reference>, Left<'w, 'a>), Stop>
+    ensures { Gives (λ x. (option_map name_of x.0, tokens_of x.1)) result
+        (method_first (tokens_of left.entry)) }
+{
+    let (word, left) = left.first(Awaited::Name)?;
+    if is_keyword(word, "NO_COMPU_METHOD") {
+        return Ok((None, left));
+    }
+    let name = name_in(alloc, word)?;
+    Ok((Some(Reference { name, at: word.at }), left))
+}
+
+/// What is behind the resolution, the accuracy and the two limits.
+#[tactic(auto, unfolding(crate::specs::MeasurementSaid::behind_limits))]
+fn behind_limits<'w, 'a>(left: Left<'w, 'a>) -> Result<Left<'w, 'a>, Stop>
+    ensures { Gives (λ x. tokens_of x) result (behind_limits (tokens_of left.entry)) }
+{
+    let (_, left) = left.number()?;
+    let (_, left) = left.number()?;
+    let (_, left) = left.number()?;
+    let (_, left) = left.number()?;
+    Ok(left)
+}

@@ -1,0 +1,134 @@
+ghost use Rattle.std.specs.Prelude.{◌≡◌};
+ghost use Rattle.a2l_entries.specs.Gives.{Gives};
+ghost use Rattle.a2l_entries.specs.Said.{tokens_of};
+ghost use Rattle.a2l_entries.specs.MethodSaid.{method_options_seen, no_method_options, method_options_or};
+ghost use Rattle.a2l_entries.specs.MethodSaid.{method_options_said};
+ghost use Rattle.a2l_entries.specs.MethodSaid.{method_option_said, coefficients_said};
+
+use crate::entry_fault::Awaited;
+use crate::keywords::{MethodKeyword, method_keyword};
+use crate::left::Left;
+use crate::said::{Reference, name_in};
+use crate::stop::Stop;
+use std::alloc::Global;
+
+/// The six coefficients of a RAT_FUNC (ASAM MCD-2 MC, COEFFS).
+#[derive(Clone, Copy)]
+pub struct Coefficients {
+    pub a: f64,
+    pub b: f64,
+    pub c: f64,
+    pub d: f64,
+    pub e: f64,
+    pub f: f64,
+}
+
+/// The two coefficients of a LINEAR (ASAM MCD-2 MC, COEFFS_LINEAR).
+#[derive(Clone, Copy)]
+pub struct Line {
+    pub factor: f64,
+    pub offset: f64,
+}
+
+/// What the options of a COMPU_METHOD say (ASAM MCD-2 MC, COMPU_METHOD).
+#[derive(Drop)]
+pub struct MethodOptions {
+    pub coefficients: Option<Coefficients>,
+    pub line: Option<Line>,
+    pub table: Option<Reference>,
+}
+
+impl MethodOptions {
+    fn none() -> MethodOptions
+        ensures { method_options_seen result ≡ no_method_options }
+    {
+        MethodOptions {
+            coefficients: None,
+            line: None,
+            table: None,
+        }
+    }
+
+    /// These options, and others for what these leave open.
+    fn or(self, others: MethodOptions) -> MethodOptions
+        ensures { method_options_seen result
+            ≡ method_options_or (method_options_seen self) (method_options_seen others) }
+    {
+        MethodOptions {
+            coefficients: self.coefficients.or(others.coefficients),
+            line: self.line.or(others.line),
+            table: self.table.or(others.table),
+        }
+    }
+}
+
+/// The options that words give. Of an option that is given twice the first counts.
+pub fn method_options(alloc: Global, left: Left<'_, '_>) -> Result<MethodOptions, Stop>
+    ensures { Gives method_options_seen result (method_options_said (tokens_of left.entry)) }
+{
+    let mut options = MethodOptions::none();
+    let mut rest = left;
+    while let Some((word, words)) = rest.words.split_first() {
+        let keyword = method_keyword(*word);
+        let behind = Left {
+            words,
+            end: rest.end,
+        };
+        let one = option_of(alloc, keyword, behind)?;
+        rest = behind.behind(keyword.arguments())?;
+        options = options.or(one);
+    }
+    Ok(options)
+}
+
+/// What one option says, by the words behind its keyword.
+#[tactic(auto, unfolding(crate::specs::MethodSaid::method_option_said))]
+fn option_of(
+    alloc: Global,
+    keyword: MethodKeyword,
+    left: Left<'_, '_>,
+) -> Result<MethodOptions, Stop>
+    ensures { Gives method_options_seen result (method_option_said keyword (tokens_of left.entry)) }
+{
+    let none = MethodOptions::none();
+    match keyword {
+        MethodKeyword::Coefficients => {
+            let coefficients = coefficients_in(left)?;
+            Ok(MethodOptions {
+                coefficients: Some(coefficients),
+                ..none
+            })
+        }
+        MethodKeyword::Linear => {
+            let (factor, left) = left.number()?;
+            let (offset, _) = left.number()?;
+            Ok(MethodOptions {
+                line: Some(Line { factor, offset }),
+                ..none
+            })
+        }
+        MethodKeyword::Table => {
+            let (word, _) = left.first(Awaited::Name)?;
+            let name = name_in(alloc, word)?;
+            Ok(MethodOptions {
+                table: Some(Reference { name, at: word.at }),
+                ..none
+            })
+        }
+        MethodKeyword::One | MethodKeyword::Other => Ok(none),
+    }
+}
+
+/// The six numbers that come first.
+#[tactic(auto, unfolding(crate::specs::MethodSaid::coefficients_said))]
+fn coefficients_in(left: Left<'_, '_>) -> Result<Coefficients, Stop>
+    ensures { Gives (λ x. x) result (coefficients_said (tokens_of left.entry)) }
+{
+    let (a, left) = left.number()?;
+    let (b, left) = left.number()?;
+    let (c, left) = left.number()?;
+    let (d, left) = left.number()?;
+    let (e, left) = left.number()?;
+    let (f, _) = left.number()?;
+    Ok(Coefficients { a, b, c, d, e, f })
+}
