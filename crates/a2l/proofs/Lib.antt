@@ -1,0 +1,3 @@
+pub mod NameLemmas
+pub mod ResolveLemmas
+pub mod ReadLemmas

@@ -1,0 +1,70 @@
+-- What an A2L file says of what can be measured.
+use Rattle.std.specs.Prelude.{◌≡◌, ℕ, List, [], ◌∷◌, ◌++◌, map, length, Option, Some, None}
+use Rattle.std.specs.Option.{option_map, unwrap_or}
+use Rattle.measurement.specs.declared.byte_order.ByteOrder.TheVariants.{MsbLast}
+use Rattle.a2l_words.specs.Tokens.{Token}
+use Rattle.a2l_blocks.specs.Trees.{Elements, IsWithin, printed}
+use Rattle.a2l_blocks.specs.Parts.{Section, parts}
+use Rattle.a2l_blocks.specs.declared.part.Part.{Part}
+use Rattle.a2l_blocks.specs.declared.part.Part.TheVariants as part
+use Rattle.a2l_blocks.specs.declared.role.Role.TheVariants.{File}
+use Rattle.measurement.specs.declared.tick.Tick.{Tick}
+use Rattle.a2l.specs.declared.description.Description.{Description}
+use Rattle.a2l_entries.specs.Gives.{◌>>=◌}
+use Rattle.a2l_entries.specs.TickSaid.{tick_said}
+use Rattle.a2l.specs.ModuleSaid.{Told, no_parts, with_part}
+use Rattle.a2l.specs.Resolved.{Value, Conversions, described_measurement, described_method}
+use Rattle.a2l.specs.Resolved.{values_of, methods_of, with_front}
+
+pub record Described : Type 0 where
+  pub values : List Value
+  pub methods : List Conversions
+  pub tick : Option Tick
+
+abbrev pub description_seen : Description → Described
+description_seen d = record {
+  values = map described_measurement d.measurements.items;
+  methods = map described_method d.methods.items;
+  tick = d.tick;
+}
+
+abbrev pub nothing : Described
+nothing = record { values = []; methods = []; tick = None }
+
+-- the first tick counts
+abbrev pub first_tick : Option Tick → List Token → Option Tick
+first_tick None ws = tick_said ws
+first_tick (Some tick) ws = Some tick
+
+-- with what a MODULE says
+unfoldable pub with_module : Told → Described → Option Described
+with_module told d = do
+  values ← with_front d.values (values_of (unwrap_or told.order MsbLast) (length d.methods) told.methods told.measurements)
+  methods ← with_front d.methods (methods_of told.tables told.methods)
+  Some (record d { values = values; methods = methods })
+
+unfoldable pub with_tick : List Token → Described → Option Described
+with_tick ws d = do
+  tick ← first_tick d.tick ws
+  Some (record d { tick = Some tick })
+
+-- one part more: what the parts of the same MODULE said so far, and the description so far
+abbrev pub after_part : Part → List Token → Told × Described → Option (Told × Described)
+after_part part.Module ws s = option_map (λ d. (no_parts, d)) (with_module s.0 s.1)
+after_part part.Timestamp ws s = option_map (λ d. (s.0, d)) (with_tick ws s.1)
+after_part part.Defaults ws s = option_map (λ told. (told, s.1)) (with_part part.Defaults ws s.0)
+after_part part.Measurement ws s =
+    option_map (λ told. (told, s.1)) (with_part part.Measurement ws s.0)
+after_part part.Method ws s = option_map (λ told. (told, s.1)) (with_part part.Method ws s.0)
+after_part part.Table ws s = option_map (λ told. (told, s.1)) (with_part part.Table ws s.0)
+after_part part.Ranges ws s = option_map (λ told. (told, s.1)) (with_part part.Ranges ws s.0)
+
+-- the description that parts make, one after another
+unfoldable pub described_from : Told × Described → List Section → Option Described
+described_from s [] = Some s.1
+described_from s (section ∷ sections) =
+    after_part section.part section.words s >>= λ next. described_from next sections
+
+-- the description of a file of these elements
+abbrev pub description_of : Elements → Option Described
+description_of elements = described_from (no_parts, nothing) (parts File elements)

@@ -1,0 +1,69 @@
+ghost use Rattle.std.specs.Prelude.{◌≡◌, map};
+ghost use Rattle.a2l.specs.Units.{unit_at};
+ghost use Rattle.a2l.specs.Resolved.{described_method};
+
+use measurement::{Conversion, Encoding, Tick};
+
+/// What an A2L file says of what can be measured.
+#[derive(Debug, Drop)]
+pub struct Description {
+    /// The measurements that have an address and are no array, in the order of the file.
+    pub measurements: Vec<Measurement>,
+    /// The conversion methods, in the order of the file (ASAM MCD-2 MC, COMPU_METHOD).
+    pub methods: Vec<Method>,
+    /// How long a tick of a timestamp is (ASAM MCD-1 XCP, TIMESTAMP_SUPPORTED).
+    pub tick: Option<Tick>,
+}
+
+/// A value that can be measured (ASAM MCD-2 MC, MEASUREMENT).
+#[derive(Debug, Drop)]
+pub struct Measurement {
+    pub name: String,
+    /// How the value stands in its bytes.
+    pub encoding: Encoding,
+    /// Where its bytes begin (ECU_ADDRESS).
+    pub address: u32,
+    /// The place of its method among the description's, if it has one: NO_COMPU_METHOD has none.
+    pub method: Option<usize>,
+    /// Its own unit (PHYS_UNIT).
+    pub unit: Option<String>,
+}
+
+/// How physical values come of raw ones (ASAM MCD-2 MC, COMPU_METHOD).
+#[derive(Debug, Drop)]
+pub struct Method {
+    pub name: String,
+    /// The unit of the physical values.
+    pub unit: String,
+    pub conversion: Conversion,
+}
+
+impl Description {
+    ghost use Rattle.a2l.specs.Units.{unit_of};
+    ghost use Rattle.a2l.specs.Described.{description_seen};
+    ghost use Rattle.a2l.specs.Resolved.{described_measurement};
+
+    /// The unit of a measurement's physical values: its own, else its method's, else none.
+    pub fn unit_of<'d>(&'d self, measurement: &'d Measurement) -> &'d str
+        ensures { result.now
+            ≡ unit_of (description_seen self.now) (described_measurement measurement.now) }
+    {
+        match &measurement.unit {
+            Some(unit) => unit.as_str(),
+            None => unit_at(&self.methods, measurement.method),
+        }
+    }
+}
+
+/// The unit of the method at a place.
+fn unit_at(methods: &[Method], place: Option<usize>) -> &str
+    ensures { result.now ≡ unit_at (map described_method methods.now) place }
+{
+    match place {
+        None => "",
+        Some(place) => match methods.get(place) {
+            None => "",
+            Some(method) => method.unit.as_str(),
+        },
+    }
+}

@@ -1,0 +1,106 @@
+ghost use Rattle.std.specs.Prelude.{◌≡◌};
+ghost use Rattle.a2l_entries.specs.Gives.{Gives};
+ghost use Rattle.a2l_entries.specs.Said.{tokens_of};
+ghost use Rattle.a2l.specs.Drafts.{draft_seen};
+ghost use Rattle.a2l.specs.Described.{after_part, nothing, description_seen, with_module};
+ghost use Rattle.a2l.specs.Described.{with_tick};
+ghost use Rattle.a2l.specs.ModuleSaid.{module_seen, no_parts};
+
+use crate::description::Description;
+use crate::module_parts::ModuleParts;
+use crate::resolving::{add_measurements, add_methods};
+use a2l_blocks::Part;
+use a2l_entries::{Left, Stop, tick_of};
+use measurement::ByteOrder;
+use std::alloc::Global;
+use std::mem;
+
+/// How many bytes the copies of texts that several methods share may take: 256 MiB.
+const MAX_COPIES: usize = 268_435_456;
+
+/// What has been read of a text.
+#[derive(Drop)]
+pub struct Draft {
+    /// What the blocks of the MODULE say that isn't ended.
+    pub parts: ModuleParts,
+    /// What the MODULEs before say.
+    pub description: Description,
+    /// How many bytes copies of texts may still take.
+    room: usize,
+}
+
+impl Draft {
+    /// Before the first part.
+    pub fn new(alloc: Global) -> Draft
+        ensures { draft_seen result ≡ (no_parts, nothing) }
+    {
+        let description = Description {
+            measurements: Vec::new(alloc),
+            methods: Vec::new(alloc),
+            tick: None,
+        };
+        Draft {
+            parts: ModuleParts::new(alloc),
+            description,
+            room: MAX_COPIES,
+        }
+    }
+
+    /// Adds what a part says.
+    pub fn take(&mut self, alloc: Global, part: Part, words: Left<'_, '_>) -> Result<(), Stop>
+        ensures { Gives (λ _. draft_seen self.new) result
+            (after_part part (tokens_of words.entry) (draft_seen self.old)) }
+    {
+        match part {
+            Part::Module => {
+                let module = mem::replace(&mut self.parts, ModuleParts::new(alloc));
+                add_module(alloc, &mut self.description, &module, &mut self.room)
+            }
+            Part::Timestamp => note_tick(&mut self.description, words),
+            _ => self.parts.take(alloc, part, words),
+        }
+    }
+}
+
+/// Adds what the blocks of a MODULE say.
+#[tactic(auto, unfolding(crate::specs::Described::with_module))]
+fn add_module(
+    alloc: Global,
+    description: &mut Description,
+    module: &ModuleParts,
+    room: &mut usize,
+) -> Result<(), Stop>
+    ensures { Gives (λ _. description_seen description.new) result
+        (with_module (module_seen module.now) (description_seen description.old)) }
+{
+    let order = module.order.unwrap_or(ByteOrder::MsbLast);
+    let before = description.methods.len();
+    add_measurements(
+        alloc,
+        &mut description.measurements,
+        &module.measurements,
+        &module.methods,
+        order,
+        before,
+    )?;
+    add_methods(
+        alloc,
+        &mut description.methods,
+        &module.methods,
+        &module.tables,
+        room,
+    )
+}
+
+/// Keeps the first tick.
+#[tactic(auto, unfolding(crate::specs::Described::with_tick))]
+fn note_tick(description: &mut Description, words: Left<'_, '_>) -> Result<(), Stop>
+    ensures { Gives (λ _. description_seen description.new) result
+        (with_tick (tokens_of words.entry) (description_seen description.old)) }
+{
+    if description.tick.is_none() {
+        let tick = tick_of(words)?;
+        description.tick = Some(tick);
+    }
+    Ok(())
+}

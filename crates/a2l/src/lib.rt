@@ -1,0 +1,17 @@
+//! What an A2L file says of what can be measured (ASAM MCD-2 MC, the description file): the
+//! measurements with their addresses, how physical values come of them, and how long a tick is.
+#![tactic(auto)]
+
+mod description;
+mod draft;
+mod fault;
+mod module_parts;
+mod names;
+mod reading;
+mod resolving;
+#[cfg(test)]
+mod tests;
+
+pub use a2l_entries::{Awaited, Refused};
+pub use description::{Description, Measurement, Method};
+pub use fault::{A2lFault, Reason};

@@ -1,0 +1,53 @@
+ghost use Rattle.std.specs.Prelude.{◌≡◌};
+ghost use Rattle.a2l_entries.specs.Gives.{Gives};
+ghost use Rattle.a2l_entries.specs.Said.{tokens_of};
+ghost use Rattle.a2l.specs.ModuleSaid.{module_seen, no_parts, with_part};
+
+use a2l_blocks::Part;
+use a2l_entries::{
+    Left, MeasurementBlock, MethodBlock, Stop, TableBlock, default_order, measurement_of,
+    method_of, ranges_of, table_of,
+};
+use measurement::ByteOrder;
+use std::alloc::Global;
+
+/// What the blocks of one MODULE say, as they stand in it (ASAM MCD-2 MC, MODULE).
+#[derive(Drop)]
+pub struct ModuleParts {
+    /// The byte order of MOD_COMMON.
+    pub order: Option<ByteOrder>,
+    pub measurements: Vec<MeasurementBlock>,
+    pub methods: Vec<MethodBlock>,
+    pub tables: Vec<TableBlock>,
+}
+
+impl ModuleParts {
+    /// Those of a MODULE of which nothing has been read.
+    pub fn new(alloc: Global) -> ModuleParts
+        ensures { module_seen result ≡ no_parts }
+    {
+        ModuleParts {
+            order: None,
+            measurements: Vec::new(alloc),
+            methods: Vec::new(alloc),
+            tables: Vec::new(alloc),
+        }
+    }
+
+    /// Adds what a part says. A part that says nothing of measurements is passed over.
+    #[tactic(auto, unfolding(crate::specs::ModuleSaid::with_part))]
+    pub fn take(&mut self, alloc: Global, part: Part, words: Left<'_, '_>) -> Result<(), Stop>
+        ensures { Gives (λ _. module_seen self.new) result
+            (with_part part (tokens_of words.entry) (module_seen self.old)) }
+    {
+        match part {
+            Part::Measurement => self.measurements.push(measurement_of(alloc, words)?)?,
+            Part::Method => self.methods.push(method_of(alloc, words)?)?,
+            Part::Table => self.tables.push(table_of(alloc, words)?)?,
+            Part::Ranges => self.tables.push(ranges_of(alloc, words)?)?,
+            Part::Defaults => self.order = self.order.or(default_order(words)?),
+            Part::Timestamp | Part::Module => {}
+        }
+        Ok(())
+    }
+}

@@ -1,0 +1,165 @@
+ghost use Rattle.std.specs.Prelude.{◌≡◌, ◌≤◌, false, length, IfOk, IfErr, IsSome, ◌<◌};
+ghost use Rattle.a2l_blocks.specs.Steps.{NextIs, cleared};
+ghost use Rattle.a2l_blocks.specs.States.{state_of};
+ghost use Rattle.a2l_blocks.specs.Trees.{Elements};
+ghost use Rattle.a2l_words.specs.State.{rest_of};
+ghost use Rattle.a2l.specs.ModuleSaid.{no_parts};
+ghost use Rattle.a2l.specs.Drafts.{draft_seen};
+ghost use Rattle.a2l_entries.specs.Said.{tokens_of};
+ghost use Rattle.a2l.specs.Described.{description_seen, description_of, nothing, after_part};
+ghost use Rattle.a2l.specs.Whole.{Describes, DescribesNothing, IsTextOf, UnlessOut};
+ghost use Rattle.a2l.specs.Whole.{IsAllOf, MakesNone, HasNoPart, Takes, is_memory, is_out};
+
+use crate::description::Description;
+use crate::draft::Draft;
+use crate::fault::{A2lFault, Reason};
+use a2l_blocks::{BlockFault, Blocks, Part};
+use a2l_entries::{Awaited, Left, Refused, Stop};
+use a2l_words::{WordFault, place_of};
+use std::alloc::Global;
+
+/// How long a text may be, in bytes: 64 MiB.
+pub const MAX_TEXT: usize = 67_108_864;
+
+impl Description {
+    /// What a text says of what can be measured (ASAM MCD-2 MC, the description file).
+    ///
+    /// Names and texts are UTF-8, or else ISO 8859-1. Of two methods or tables of one name in a
+    /// MODULE a reference means the first; of two options of one kind in a block the first counts.
+    /// A measurement without an address, with an address extension other than 0, or that is an
+    /// array, is checked like the others and left out.
+    ///
+    /// A table that several methods name is copied for each of them. Copies of more than 256 MiB in
+    /// all count as a lack of memory.
+    ///
+    /// A fault says where it lies. No clause says that it is the first one, or where it lies.
+    pub fn read(alloc: Global, text: &[u8]) -> Result<Description, A2lFault>
+        // The text is the printing of elements, and this is what they describe.
+        ensures found { IfOk result (λ d. Describes text.now (description_seen d)) }
+        // No elements of the text describe anything else.
+        ensures only { IfOk result (λ d. (elements : Elements) → IsTextOf text.now elements
+            → description_of elements ≡ Some (description_seen d)) }
+        // What is refused describes nothing, unless memory ran out.
+        ensures refused { IfErr result (λ fault. length text.now ≤ MAX_TEXT
+            → UnlessOut fault (DescribesNothing text.now)) }
+    {
+        if text.len() > MAX_TEXT {
+            return Err(fault_at(text, 0, Reason::Refused(Refused::TooLarge)));
+        }
+        let mut blocks = Blocks::new(alloc, text);
+        match read_all(alloc, &mut blocks) {
+            Ok(draft) => {
+                let Draft {
+                    description,
+                    parts,
+                    ..
+                } = draft;
+                drop(parts);
+                Ok(description)
+            }
+            Err(fault) => Err(fault_of(text, blocks.start(), fault)),
+        }
+    }
+}
+
+/// Why the parts of a text can't be read.
+#[derive(Drop)]
+pub enum ReadFault {
+    /// There is no next part.
+    Block(BlockFault),
+    /// A part says nothing.
+    Stop(Stop),
+}
+
+/// What all parts say.
+fn read_all(alloc: Global, blocks: &mut Blocks<'_>) -> Result<Draft, ReadFault>
+    ensures ok { IfOk result
+        (λ draft. IsAllOf (state_of blocks.old) (no_parts, nothing) (draft_seen draft)) }
+    ensures err { IfErr result
+        (λ fault. MakesNone fault (state_of blocks.old) (no_parts, nothing)) }
+{
+    let mut draft = Draft::new(alloc);
+    while let Some(part) = next_part(blocks)? {
+        let words = Left {
+            words: blocks.words(),
+            end: blocks.end_of_part(),
+        };
+        take(&mut draft, alloc, part, words)?;
+    }
+    Ok(draft)
+}
+
+/// The next part.
+fn next_part(blocks: &mut Blocks<'_>) -> Result<Option<Part>, ReadFault>
+    ensures ok { IfOk result
+        (λ part. NextIs part (cleared (state_of blocks.old)) (state_of blocks.new)) }
+    ensures shorter { IfOk result (λ part. IsSome part
+        → length (rest_of blocks.new.words) < length (rest_of blocks.old.words)) }
+    ensures err { IfErr result (λ fault. HasNoPart fault (state_of blocks.old)) }
+{
+    match blocks.next_part() {
+        Ok(part) => Ok(part),
+        Err(fault) => Err(ReadFault::Block(fault)),
+    }
+}
+
+/// Adds what a part says.
+fn take(draft: &mut Draft, alloc: Global, part: Part, words: Left<'_, '_>) -> Result<(), ReadFault>
+    ensures { Takes result
+        (after_part part (tokens_of words.entry) (draft_seen draft.old)) (draft_seen draft.new) }
+{
+    match draft.take(alloc, part, words) {
+        Ok(()) => Ok(()),
+        Err(stop) => Err(ReadFault::Stop(stop)),
+    }
+}
+
+/// The fault of a text. `at` is where its newest word stands.
+fn fault_of(text: &[u8], at: usize, fault: ReadFault) -> A2lFault
+    ensures { is_out result ≡ is_memory fault }
+{
+    match fault {
+        ReadFault::Block(fault) => block_fault(text, at, fault),
+        ReadFault::Stop(stop) => stop_fault(text, stop),
+    }
+}
+
+fn fault_at(text: &[u8], at: usize, reason: Reason) -> A2lFault
+    ensures { is_out result ≡ false }
+{
+    A2lFault::At {
+        place: place_of(text, at),
+        reason,
+    }
+}
+
+fn stop_fault(text: &[u8], stop: Stop) -> A2lFault
+    ensures { is_out result ≡ is_memory (ReadFault.Stop stop) }
+{
+    match stop {
+        Stop::Memory => A2lFault::Memory,
+        Stop::Awaited(at, awaited) => fault_at(text, at, Reason::Awaited(awaited)),
+        Stop::Refused(at, refused) => fault_at(text, at, Reason::Refused(refused)),
+    }
+}
+
+fn block_fault(text: &[u8], at: usize, fault: BlockFault) -> A2lFault
+    ensures { is_out result ≡ is_memory (ReadFault.Block fault) }
+{
+    match fault {
+        BlockFault::Memory => A2lFault::Memory,
+        BlockFault::Words(fault) => fault_at(text, at, Reason::Refused(word_refusal(fault))),
+        BlockFault::Include => fault_at(text, at, Reason::Refused(Refused::Include)),
+        BlockFault::TooDeep => fault_at(text, at, Reason::Refused(Refused::TooDeep)),
+        BlockFault::Name => fault_at(text, at, Reason::Awaited(Awaited::BlockName)),
+        BlockFault::End(name) => fault_at(text, at, Reason::AwaitedEnd(name)),
+        BlockFault::Stray => fault_at(text, at, Reason::Refused(Refused::StrayEnd)),
+    }
+}
+
+fn word_refusal(fault: WordFault) -> Refused {
+    match fault {
+        WordFault::OpenText => Refused::OpenText,
+        WordFault::OpenComment => Refused::OpenComment,
+    }
+}
