@@ -17,17 +17,17 @@ length-merged bins from zero = length-replicate 1024 Empty
 length-merged bins from (suc count) = length-set (merged bins from count) _ _ ∙ length-merged bins from count
 
 -- the places whose bin comes before this one, and goes to the slot
-abbrev before : ℕ → ℕ → ℕ → ℕ → Bool
+abbrev pub before : ℕ → ℕ → ℕ → ℕ → Bool
 before width bin slot at = nat_lt (at / width) bin && nat_eq (at / width / 2 % 1024) slot
 
 -- bins that are near enough are told by their slots
 one_bin : (from a b : ℕ) → from ≤ a → a < from + 1024 → from ≤ b → b < from + 1024 → a % 1024 ≡ b % 1024 → a ≡ b
 one_bin from a b p q r s e = omega arith
 
-less : (a b : ℕ) → a < b → nat_lt a b ≡ true
+pub less : (a b : ℕ) → a < b → nat_lt a b ≡ true
 less a b h = grind (arith, nat_tests)
 
-not_less : (a b : ℕ) → b ≤ a → nat_lt a b ≡ false
+pub not_less : (a b : ℕ) → b ≤ a → nat_lt a b ≡ false
 not_less a b h = grind (arith, nat_tests)
 
 same : (a b : ℕ) → a ≡ b → nat_eq a b ≡ true
@@ -41,7 +41,7 @@ bound_more : (a g : ℕ) → a ≢ g → nat_lt a (g + 1) ≡ nat_lt a g
 bound_more a g ne = grind (arith, nat_tests)
 
 -- at another slot nothing is added
-elsewhere : (a g slot : ℕ) → g / 2 % 1024 ≢ slot → (nat_lt a (g + 1) && nat_eq (a / 2 % 1024) slot) ≡ (nat_lt a g && nat_eq (a / 2 % 1024) slot)
+pub elsewhere : (a g slot : ℕ) → g / 2 % 1024 ≢ slot → (nat_lt a (g + 1) && nat_eq (a / 2 % 1024) slot) ≡ (nat_lt a g && nat_eq (a / 2 % 1024) slot)
 elsewhere a g slot ne = elim (cases_eq a g) [
   | inl is ↦
       let no : nat_eq (a / 2 % 1024) slot ≡ false = other (a / 2 % 1024) slot (λ e. ne (sym (ap (λ n. n / 2 % 1024) is) ∙ e)) in
@@ -52,7 +52,7 @@ elsewhere a g slot ne = elim (cases_eq a g) [
 ]
 
 -- at the bin's slot its samples are added
-added : (from a g : ℕ) → from ≤ a → a < from + 1024 → from ≤ g → g < from + 1024
+pub added : (from a g : ℕ) → from ≤ a → a < from + 1024 → from ≤ g → g < from + 1024
     → (nat_lt a (g + 1) && nat_eq (a / 2 % 1024) (g / 2 % 1024)) ≡ nat_eq (a % 1024) (g % 1024) || (nat_lt a g && nat_eq (a / 2 % 1024) (g / 2 % 1024))
 added from a g p q r s = elim (cases_eq a g) [
   | inl is ↦

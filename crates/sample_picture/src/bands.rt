@@ -85,7 +85,7 @@ pub fn lost_spans(
 }
 
 /// One more tick, which the last stroke takes in where it is near.
-fn push_tick(spans: &mut Vec<Span>, x: u64, tick: u64) -> Result<(), AllocError>
+pub fn push_tick(spans: &mut Vec<Span>, x: u64, tick: u64) -> Result<(), AllocError>
     requires place { x < 8000 }
     requires len { tick < 100 }
 {

@@ -14,9 +14,9 @@ pub struct Grid {
     pub width: u64,
     pub first: u64,
     pub last: u64,
-    ghost positive: { 0 < width },
-    ghost near: { IsNear width first last },
-    ghost fine: { IsFine width first last },
+    pub ghost positive: { 0 < width },
+    pub ghost near: { IsNear width first last },
+    pub ghost fine: { IsFine width first last },
 }
 
 impl Grid {

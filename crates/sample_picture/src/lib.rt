@@ -17,4 +17,11 @@ mod span;
 mod style;
 
 pub use axis::Axis;
+pub use bands::{lost_spans, push_strokes, push_tick};
+pub use grid::Grid;
+pub use losses::Losses;
+pub use numbers::{push_number, push_tenths};
 pub use picture::Picture;
+pub use row::BINS;
+pub use ruler::{Ruler, round_step};
+pub use span::Span;

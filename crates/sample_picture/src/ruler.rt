@@ -12,7 +12,7 @@ const FINE: u64 = 1125899906842624;
 pub struct Ruler {
     pub first: u64,
     pub last: u64,
-    ghost ordered: { first ≤ last },
+    pub ghost ordered: { first ≤ last },
 }
 
 impl Ruler {

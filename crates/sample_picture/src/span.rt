@@ -9,8 +9,8 @@ use std::alloc::AllocError;
 pub struct Span {
     pub from: u64,
     pub to: u64,
-    ghost ordered: { from ≤ to },
-    ghost within: { to < 10000 },
+    pub ghost ordered: { from ≤ to },
+    pub ghost within: { to < 10000 },
 }
 
 impl Span {

@@ -1,0 +1,4 @@
+pub mod Curves
+pub mod Inner
+pub mod Shown
+pub mod Values

@@ -1,0 +1,17 @@
+-- What a picture shows to contracts (own).
+use Rattle.std.specs.Prelude.{ℕ, List, string_bytes}
+use Rattle.curve_picture.specs.declared.row.Row.{Row}
+use Rattle.curve_picture.specs.declared.words.Words.{Words}
+
+-- the rows, their names and units, the places of one bin, and the least and the greatest place of
+-- all values
+pub record Gathered : Type 0 where
+  pub rows : List Row
+  pub names : List (List ℕ × List ℕ)
+  pub width : ℕ
+  pub first : ℕ
+  pub last : ℕ
+
+-- a name and a unit
+abbrev pub name_of : Words → List ℕ × List ℕ
+name_of words = (string_bytes words.name, string_bytes words.unit)

@@ -1,0 +1,14 @@
+//! What the axis of a picture counts.
+
+use measurement::Tick;
+
+/// What the places of values are.
+#[derive(Clone, Copy, Debug, PartialEq, Eq)]
+pub enum CurveAxis {
+    /// Ticks of this length: the axis is in seconds.
+    Seconds(Tick),
+    /// Ticks of a length that isn't known.
+    Ticks,
+    /// The sample's number.
+    Samples,
+}
