@@ -13,7 +13,7 @@ use Rattle.sample_tables.specs.Spots.{spot_of}
 use Rattle.sample_tables.specs.declared.spot.Spot.{Spot}
 
 -- a writer that begins with nothing pending
-begins : (a b : Option (List ℕ)) (bs : List ℕ) → Appends (append_known a []) b bs → Appends a b bs
+pub begins : (a b : Option (List ℕ)) (bs : List ℕ) → Appends (append_known a []) b bs → Appends a b bs
 begins None b bs p = tt
 begins (Some x) None bs p = p
 begins (Some x) (Some y) bs p = p ∙ ap (λ l. l ++ bs) (append-nil x)

@@ -13,7 +13,10 @@ mod tally;
 mod times;
 
 pub use places::Places;
+pub use row::{decimal, one_or_zero};
 pub use sample_rows::SampleRows;
+pub use spot::Spot;
+pub use spots::Spots;
 pub use summary::Summary;
 pub use summary_text::print_summary;
 pub use tally::Tally;

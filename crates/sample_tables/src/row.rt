@@ -97,7 +97,7 @@ pub fn write_row<W: Write + Drop>(rows: &mut Writer<W>, row: Row<'_>) -> Result<
 }
 
 /// A number in decimal digits.
-fn decimal(buffer: &mut Buffer, number: u64) -> &[u8]
+pub fn decimal(buffer: &mut Buffer, number: u64) -> &[u8]
     ensures { result.now ≡ decimal number }
 {
     buffer.format(number).as_bytes()
@@ -136,7 +136,7 @@ fn hexadecimal<'b>(buffer: &'b mut [u8], bytes: &[u8]) -> &'b [u8]
 }
 
 /// 1 or 0.
-fn one_or_zero(holds: bool) -> &'static [u8]
+pub fn one_or_zero(holds: bool) -> &'static [u8]
     ensures { result.now ≡ one_or_zero holds }
 {
     if holds { b"1" } else { b"0" }

@@ -1,0 +1,7 @@
+mod CellLemmas
+mod ColumnLemmas
+mod CsvLemmas
+mod FieldLemmas
+mod LineLemmas
+mod SourceLemmas
+mod TallyLemmas

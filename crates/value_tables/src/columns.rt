@@ -1,0 +1,123 @@
+//! Which measurements of a description are shown.
+ghost use Rattle.std.specs.Prelude.{◌≡◌, All, IfOk, None, filter, option_map, true};
+ghost use Rattle.std.specs.List.{AllZip};
+ghost use Rattle.std.specs.Option.{option_copied};
+ghost use Rattle.value_tables.specs.Columns.{IsColumnOf, IsShown, conversion_in, has_bytes};
+ghost use Rattle.value_tables.specs.Columns.{is_recorded, method_at, unit_shown};
+
+use crate::column::Column;
+use crate::source::source_of;
+use a2l::{Description, Measurement, Method};
+use daq_reader::ListShape;
+use measurement::Conversion;
+use std::alloc::{AllocError, Global};
+
+/// The measurements of a description that are shown of samples of DAQ lists of these shapes, in its
+/// order: those whose bytes some list has, and of these, if `only` has names with commas between
+/// them, those that are named. Lack of memory is the only fault.
+pub fn columns_of<'a>(
+    alloc: Global,
+    description: &'a Description,
+    shapes: &[ListShape],
+    only: Option<&str>,
+) -> Result<Vec<Column<'a>>, AllocError>
+    ensures all { only.entry ≡ None → IfOk result (λ columns. AllZip (IsColumnOf description.now)
+        (filter (is_recorded shapes.now) description.now.measurements.items) columns.items) }
+    ensures each { IfOk result (λ columns.
+        All (IsShown description.now shapes.now) columns.items) }
+{
+    let mut columns = Vec::new(alloc);
+    for i in 0..description.measurements.len() {
+        let measurement = &description.measurements[i];
+        if is_shown(measurement, shapes, only) {
+            columns.push(column_of(description, measurement))?;
+        }
+    }
+    Ok(columns)
+}
+
+/// The column of a measurement.
+fn column_of<'a>(description: &'a Description, measurement: &'a Measurement) -> Column<'a>
+    ensures { IsColumnOf description.now measurement.now result }
+{
+    Column {
+        name: &measurement.name,
+        unit: unit_of(description, measurement),
+        encoding: measurement.encoding,
+        address: measurement.address,
+        conversion: conversion_of(description, measurement),
+    }
+}
+
+/// The unit that is shown: that of the physical values, or `raw` if the method isn't carried out.
+fn unit_of<'a>(description: &'a Description, measurement: &'a Measurement) -> &'a str
+    ensures { result.now ≡ unit_shown description.now measurement.now }
+{
+    match conversion_of(description, measurement) {
+        Some(Conversion::Other) => "raw",
+        _ => description.unit_of(measurement),
+    }
+}
+
+/// What is made of the raw values of a measurement, if it has a method.
+fn conversion_of<'a>(
+    description: &'a Description,
+    measurement: &Measurement,
+) -> Option<&'a Conversion>
+    ensures { option_copied result ≡ conversion_in description.now measurement.now }
+{
+    match method_at(&description.methods, measurement.method) {
+        Some(method) => Some(&method.conversion),
+        None => None,
+    }
+}
+
+/// The method at a place, if there is one.
+fn method_at(methods: &[Method], place: Option<usize>) -> Option<&Method>
+    ensures { option_copied result ≡ method_at methods.now place }
+{
+    match place {
+        Some(place) => methods.get(place),
+        None => None,
+    }
+}
+
+/// Whether a measurement is shown.
+fn is_shown(measurement: &Measurement, shapes: &[ListShape], only: Option<&str>) -> bool
+    ensures all { only.entry ≡ None → result ≡ is_recorded shapes.now measurement.now }
+    ensures recorded { result ≡ true → is_recorded shapes.now measurement.now ≡ true }
+{
+    if !is_named(&measurement.name, only) {
+        return false;
+    }
+    is_recorded(measurement, shapes)
+}
+
+/// Whether a name is among those with commas between them, if there are any.
+fn is_named(name: &str, only: Option<&str>) -> bool
+    ensures { only.entry ≡ None → result ≡ true }
+{
+    match only {
+        Some(only) => only.split(',').any(|word| word == name),
+        None => true,
+    }
+}
+
+/// Whether some list has the bytes of a measurement.
+fn is_recorded(measurement: &Measurement, shapes: &[ListShape]) -> bool
+    ensures { result ≡ is_recorded shapes.now measurement.now }
+{
+    for shape in shapes {
+        if has_bytes(measurement, shape) {
+            return true;
+        }
+    }
+    false
+}
+
+/// Whether a list has all bytes of a measurement.
+fn has_bytes(measurement: &Measurement, shape: &ListShape) -> bool
+    ensures { result ≡ has_bytes measurement.now shape.now }
+{
+    source_of(shape, measurement.address, measurement.encoding.data_type).is_some()
+}

@@ -1,0 +1,22 @@
+//! The values of what an A2L file describes, read off the samples of a recording: as CSV, counted,
+//! and as curves.
+#![tactic(auto)]
+
+mod column;
+mod columns;
+mod fields;
+mod list_columns;
+mod row_writer;
+mod source;
+mod tally_text;
+mod value;
+mod value_curves;
+mod value_rows;
+mod value_tallies;
+
+pub use column::Column;
+pub use columns::columns_of;
+pub use tally_text::print_tallies;
+pub use value_curves::ValueCurves;
+pub use value_rows::ValueRows;
+pub use value_tallies::ValueTallies;
