@@ -1,3 +1,4 @@
+mod ByNameLemmas
 pub mod FrontLemmas
 pub mod PassLemmas
 pub mod PieceLemmas

@@ -2,11 +2,12 @@
 use Rattle.std.proofs.Common.{◌≡◌, ℕ, List, [], Option, Some, None, Result, Ok, Err, sym, ap, subst, ◌∙◌}
 use Rattle.std.specs.Prelude.{IfOk, IfSome, IsOk, OnOk}
 use Rattle.std.specs.Io.KnownBytes.{IsAtEnd}
+use Rattle.copy_plan.specs.Config.{ListPlan}
 use Rattle.daq_reader.specs.Lists.{NoneWaits, Stands, plans_of}
 use Rattle.daq_reader.specs.Reading.{Reading}
 use Rattle.daq_reader.specs.Recorded.{Recorded}
 use Rattle.recording.specs.Pieces.{Passes, StandSomewhere}
-use Rattle.recording.specs.Shown.{IsShown, ShowsAll}
+use Rattle.recording.specs.Shown.{IsShown, ShowsAll, ShowsBy}
 use Rattle.recording.specs.declared.mode.Mode.{Mode}
 use Rattle.recording.specs.declared.piece.Piece.{Piece}
 
@@ -25,12 +26,12 @@ of_writer (Ok (Some w)) P Q f h = f w h
 of_writer (Ok None) P Q f h = tt
 of_writer (Err e) P Q f h = tt
 
--- all was read, and its samples are shown
-pub all_shown : (mode : Mode) (lists first now : List Reading) (none samples : List (ℕ × Recorded)) (input rest : Option (List ℕ)) (piece last : Piece) (before after : Option (List ℕ))
+-- all was read, and so are its samples shown
+pub all_by : (IsSo : List ListPlan → List (ℕ × Recorded) → Type 0) (lists first now : List Reading) (none samples : List (ℕ × Recorded)) (input rest : Option (List ℕ)) (piece last : Piece)
     → first ≡ lists → none ≡ [] → Passes first none now samples input rest piece last → plans_of now ≡ plans_of first
-    → IsAtEnd rest → last.bytes.items ≡ [] → NoneWaits now → IsShown mode (plans_of lists) samples before after
-    → ShowsAll mode lists input rest piece last before after
-all_shown mode lists first now none samples input rest piece last before after is empty read plans end all whole shown = record {
+    → IsAtEnd rest → last.bytes.items ≡ [] → NoneWaits now → IsSo (plans_of lists) samples
+    → ShowsBy IsSo lists input rest piece last
+all_by IsSo lists first now none samples input rest piece last is empty read plans end all whole shown = record {
   now = now;
   samples = samples;
   read = subst (λ gs. Passes lists gs now samples input rest piece last) empty (subst (λ ls. Passes ls none now samples input rest piece last) is read);
@@ -40,3 +41,10 @@ all_shown mode lists first now none samples input rest piece last before after i
   whole = whole;
   shown = shown;
 }
+
+pub all_shown : (mode : Mode) (lists first now : List Reading) (none samples : List (ℕ × Recorded)) (input rest : Option (List ℕ)) (piece last : Piece) (before after : Option (List ℕ))
+    → first ≡ lists → none ≡ [] → Passes first none now samples input rest piece last → plans_of now ≡ plans_of first
+    → IsAtEnd rest → last.bytes.items ≡ [] → NoneWaits now → IsShown mode (plans_of lists) samples before after
+    → ShowsAll mode lists input rest piece last before after
+all_shown mode lists first now none samples input rest piece last before after =
+    all_by (λ plans samples. IsShown mode plans samples before after) lists first now none samples input rest piece last

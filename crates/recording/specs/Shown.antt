@@ -22,10 +22,10 @@ IsShown Csv plans samples before after = Appends before after (csv_text plans sa
 IsShown Svg plans samples before after =
     (text : List ℕ) × IsClosed text × Appends before after text
 
--- a recording was read to its end, from one piece to another, and all its samples are shown: those
--- of its packets, of which none waits for others
-pub record ShowsAll (mode : Mode) (lists : List Reading) (input rest : Option (List ℕ))
-    (first last : Piece) (before after : Option (List ℕ))
+-- a recording was read to its end, from one piece to another, and so is shown what is said of all its
+-- samples: those of its packets, of which none waits for others
+pub record ShowsBy (IsSo : List ListPlan → List (ℕ × Recorded) → Type 0) (lists : List Reading)
+    (input rest : Option (List ℕ)) (first last : Piece)
     : Type 0 where
   pub now : List Reading
   pub samples : List (ℕ × Recorded)
@@ -34,4 +34,11 @@ pub record ShowsAll (mode : Mode) (lists : List Reading) (input rest : Option (L
   pub end : IsAtEnd rest
   pub all : last.bytes.items ≡ []
   pub whole : NoneWaits now
-  pub shown : IsShown mode (plans_of lists) samples before after
+  pub shown : IsSo (plans_of lists) samples
+
+-- all of its samples are shown
+abbrev pub ShowsAll :
+    Mode → List Reading → Option (List ℕ) → Option (List ℕ) → Piece → Piece
+    → Option (List ℕ) → Option (List ℕ) → Type 0
+ShowsAll mode lists input rest first last before after =
+    ShowsBy (λ plans samples. IsShown mode plans samples before after) lists input rest first last

@@ -6,10 +6,12 @@ use crate::messages::Messages;
 use crate::program_fault::ProgramFault;
 use crate::recording::pass_replies;
 use crate::showing::show_samples;
+use crate::values::{Values, show_values};
 use crate::words::{Asked, Words, read_words};
+use a2l::{A2lFault, Description};
 use clap::Error;
 use daq_run::set_up;
-use daq_sim::{TextFault, Why, run_or_why};
+use daq_sim::{MAX_TEXT, TextFault, Why, front_from, run_or_why};
 use frame_writer::VecOut;
 use run_file::Run;
 use std::alloc::Global;
@@ -28,7 +30,7 @@ pub fn program<R: Files, W: Write + Drop, E: Write + Drop>(
 ) -> u8
     ensures { result ≤ 2 }
 {
-    let mut messages = Messages::new(err, Why::new(alloc, words));
+    let mut messages = Messages::new(alloc, err, Why::new(alloc, words));
     let answer = match BufWriter::new(alloc, out) {
         Ok(out) => answer(rt, alloc, words, out, &mut messages),
         Err(_) => Err(ProgramFault::MEMORY),
@@ -78,6 +80,7 @@ fn show<R: Files, W: Write + Drop, E: Write + Drop>(
     ensures { IfOk result (λ status. status ≤ 1) }
 {
     let run = run_of(rt, alloc, words.run, &mut messages.why)?;
+    let description = description_of(rt, alloc, words.a2l, messages)?;
     let Ok((store, writer)) = set_up(alloc, &run, VecOut::new(alloc)) else {
         return Err(ProgramFault::MEMORY);
     };
@@ -99,7 +102,52 @@ fn show<R: Files, W: Write + Drop, E: Write + Drop>(
         replies: replies.bytes(),
         store: &store,
     };
-    show_file(rt, alloc, words, &recorded, &mut file, out, messages)
+    let described = description.as_ref();
+    show_file(
+        rt, alloc, words, described, &recorded, &mut file, out, messages,
+    )
+}
+
+/// What the A2L file says, if there is one.
+fn description_of<R: Files, E: Write + Drop>(
+    rt: &R,
+    alloc: Global,
+    path: Option<&str>,
+    messages: &mut Messages<E>,
+) -> Result<Option<Description>, ProgramFault> {
+    let Some(path) = path else {
+        return Ok(None);
+    };
+    let text = text_of(rt, alloc, path, messages)?;
+    match Description::read(alloc, &text) {
+        Ok(description) => Ok(Some(description)),
+        Err(A2lFault::Memory) => Err(ProgramFault::MEMORY),
+        Err(fault) => {
+            messages.detail(fault);
+            Err(ProgramFault::BadA2l)
+        }
+    }
+}
+
+/// The text of an A2L file.
+fn text_of<R: Files, E: Write + Drop>(
+    rt: &R,
+    alloc: Global,
+    path: &str,
+    messages: &mut Messages<E>,
+) -> Result<Vec<u8>, ProgramFault> {
+    let read = match fs::open(rt, path) {
+        Ok(mut file) => front_from(alloc, &mut file, MAX_TEXT),
+        Err(error) => Err(TextFault::Unreadable.or_memory(&error)),
+    };
+    match read {
+        Ok(text) => Ok(text),
+        Err(TextFault::Memory) => Err(ProgramFault::MEMORY),
+        Err(_) => {
+            messages.detail(path);
+            Err(ProgramFault::UnreadableA2l)
+        }
+    }
 }
 
 /// Reads the file of a recording, and prints its samples.
@@ -107,6 +155,7 @@ fn show_file<R: Files, I: Read, W: Write + Drop, E: Write + Drop>(
     rt: &R,
     alloc: Global,
     words: Words<'_>,
+    description: Option<&Description>,
     recorded: &Recorded<'_>,
     file: &mut I,
     out: W,
@@ -123,10 +172,20 @@ fn show_file<R: Files, I: Read, W: Write + Drop, E: Write + Drop>(
         }
     };
     let store = recorded.store;
-    let shown = if words.explain {
-        explain_samples(alloc, recorded, file, &mut piece, out, messages)?
-    } else {
-        show_samples(alloc, store, words.mode, file, &mut piece, out, messages)?
+    let shown = match description {
+        Some(description) => {
+            let values = Values {
+                description,
+                only: words.only,
+                tick: words.tick.or(description.tick),
+                mode: words.mode,
+            };
+            show_values(alloc, store, values, file, &mut piece, out, messages)?
+        }
+        None if words.explain => {
+            explain_samples(alloc, recorded, file, &mut piece, out, messages)?
+        }
+        None => show_samples(alloc, store, words.mode, file, &mut piece, out, messages)?,
     };
     Ok(status_of(shown.is_some()))
 }

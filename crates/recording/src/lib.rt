@@ -16,6 +16,7 @@ mod reason;
 mod recording;
 mod sample_lines;
 mod showing;
+mod values;
 mod words;
 
 pub use break_off::BreakOff;

@@ -3,6 +3,8 @@ ghost use Rattle.recording.specs.Messages.{is_next_step};
 
 use crate::program_fault::ProgramFault;
 use daq_sim::Why;
+use std::alloc::Global;
+use std::fmt::Display;
 use std::io::Write;
 
 /// So many bytes of a recording are read between two notes of its progress.
@@ -17,17 +19,26 @@ pub struct Messages<E: Write + Drop> {
     told: u64,
     /// The reason of the fault that is still to be told.
     pub why: Why,
+    /// What stands behind a fault in its line.
+    detail: String,
 }
 
 impl<E: Write + Drop> Messages<E> {
     /// Nothing is told yet, and progress isn't wanted.
-    pub fn new(err: E, why: Why) -> Messages<E> {
+    pub fn new(alloc: Global, err: E, why: Why) -> Messages<E> {
         Messages {
             err,
             tells_progress: false,
             told: 0,
             why,
+            detail: String::new(alloc),
         }
+    }
+
+    /// The line of the fault that is still to be told goes on with this, behind a colon. If memory
+    /// for it is refused, it doesn't.
+    pub fn detail<D: Display + Drop>(&mut self, detail: D) {
+        let _ = write!(self.detail, ": {detail}");
     }
 
     /// From now on progress is told.
@@ -55,7 +66,7 @@ impl<E: Write + Drop> Messages<E> {
 
     /// Tells a fault, in a line of its own, and its reason behind it.
     pub fn tell_fault(&mut self, fault: ProgramFault) {
-        let _ = writeln!(self.err, "{fault}");
+        let _ = writeln!(self.err, "{fault}{}", self.detail);
         let _ = self.err.write_all(self.why.text().as_bytes());
     }
 }

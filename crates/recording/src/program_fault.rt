@@ -12,6 +12,15 @@ pub enum ProgramFault {
     /// No run is read, or memory was wanting.
     #[error("xcpread: {0}")]
     Text(TextFault),
+    /// The A2L file can't be read.
+    #[error("xcpread: cannot read a2l")]
+    UnreadableA2l,
+    /// The A2L file is no description.
+    #[error("xcpread: bad a2l")]
+    BadA2l,
+    /// No measurement that is wanted stands in a DAQ list.
+    #[error("xcpread: no such measurement in the recording")]
+    NoValue,
     /// The recording can't be read.
     #[error("xcpread: cannot read recording")]
     Unreadable,

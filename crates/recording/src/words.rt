@@ -8,6 +8,8 @@ use crate::program_fault::ProgramFault;
 use clap::error::ErrorKind;
 use clap::{Arg, ArgAction, ArgMatches, Command, Error};
 use daq_sim::Why;
+use measured_values::tick_of;
+use measurement::Tick;
 use std::alloc::{AllocError, Global};
 
 /// What the command line asks for.
@@ -32,6 +34,12 @@ pub struct Words<'a> {
     pub progress: bool,
     /// Whether its replies and frames are printed in words, before a table.
     pub explain: bool,
+    /// The A2L file that says which values are shown, if there is one.
+    pub a2l: Option<&'a str>,
+    /// The names of those that are shown, with commas between them; `None`: all.
+    pub only: Option<&'a str>,
+    /// How long a tick is, if that is said.
+    pub tick: Option<Tick>,
 }
 
 /// Reads the words behind the program's name.
@@ -43,7 +51,7 @@ pub fn read_words<'a>(
     ensures { IfErr result (λ fault. (fault ≡ CommandLine) ⊎ (fault ≡ want_of_memory)) }
 {
     match command(alloc)?.try_get_matches_from(words) {
-        Ok(matches) => recording_of(&matches),
+        Ok(matches) => recording_of(&matches, why),
         Err(error) => match error.kind() {
             ErrorKind::DisplayHelp => Ok(Asked::Help(error)),
             ErrorKind::OutOfMemory => Err(ProgramFault::MEMORY),
@@ -57,6 +65,25 @@ pub fn read_words<'a>(
 
 /// The words that the program takes.
 fn command<'a>(alloc: Global) -> Result<Command<'a>, AllocError> {
+    let run = Arg::new(alloc, "run")
+        .value_name("RUN")
+        .required(true)
+        .action(ArgAction::Set)
+        .help("The run file that the recording was made of");
+    let frames = Arg::new(alloc, "frames")
+        .value_name("FRAMES")
+        .required(true)
+        .action(ArgAction::Set)
+        .help("The recording, as xcpdaq --out wrote it");
+    let command = Command::new(alloc, "xcpread")
+        .about("Reads a recording back, and prints its samples")
+        .no_binary_name(true);
+    let command = with_values(alloc, with_modes(alloc, command)?)?;
+    command.arg(run)?.arg(frames)
+}
+
+/// A command that also takes the ways to show samples.
+fn with_modes<'a>(alloc: Global, command: Command<'a>) -> Result<Command<'a>, AllocError> {
     let summary = Arg::new(alloc, "summary")
         .long("summary")
         .action(ArgAction::SetTrue)
@@ -79,34 +106,45 @@ fn command<'a>(alloc: Global) -> Result<Command<'a>, AllocError> {
         .conflicts_with("csv")?
         .conflicts_with("svg")?
         .help("Print each reply and frame in words, then a table, and the reason behind a fault");
+    command.arg(summary)?.arg(csv)?.arg(svg)?.arg(explain)
+}
+
+/// A command that also takes what is shown by name, and whether progress is told.
+fn with_values<'a>(alloc: Global, command: Command<'a>) -> Result<Command<'a>, AllocError> {
+    let a2l = Arg::new(alloc, "a2l")
+        .long("a2l")
+        .value_name("FILE")
+        .action(ArgAction::Set)
+        .conflicts_with("explain")?
+        .help("Show the measurements of this A2L file, by name and as physical values");
+    let only = Arg::new(alloc, "only")
+        .long("only")
+        .value_name("NAMES")
+        .action(ArgAction::Set)
+        .help("With --a2l: show these measurements alone; commas between their names");
+    let tick = Arg::new(alloc, "tick")
+        .long("tick")
+        .value_name("SECONDS")
+        .action(ArgAction::Set)
+        .help("With --a2l: how long a tick of a timestamp is, if the file doesn't say it");
+    let long = Arg::new(alloc, "long")
+        .long("long")
+        .action(ArgAction::SetTrue)
+        .help("With --csv: print a row for each element, in spite of --a2l");
     let progress = Arg::new(alloc, "progress")
         .long("progress")
         .action(ArgAction::SetTrue)
         .help("Say on standard error how far a long recording is read");
-    let run = Arg::new(alloc, "run")
-        .value_name("RUN")
-        .required(true)
-        .action(ArgAction::Set)
-        .help("The run file that the recording was made of");
-    let frames = Arg::new(alloc, "frames")
-        .value_name("FRAMES")
-        .required(true)
-        .action(ArgAction::Set)
-        .help("The recording, as xcpdaq --out wrote it");
-    Command::new(alloc, "xcpread")
-        .about("Reads a recording back, and prints its samples")
-        .no_binary_name(true)
-        .arg(summary)?
-        .arg(csv)?
-        .arg(svg)?
-        .arg(explain)?
-        .arg(progress)?
-        .arg(run)?
-        .arg(frames)
+    command
+        .arg(a2l)?
+        .arg(only)?
+        .arg(tick)?
+        .arg(long)?
+        .arg(progress)
 }
 
 /// What matched.
-fn recording_of<'a>(matches: &ArgMatches<'a>) -> Result<Asked<'a>, ProgramFault>
+fn recording_of<'a>(matches: &ArgMatches<'a>, why: &mut Why) -> Result<Asked<'a>, ProgramFault>
     ensures { IfErr result (λ fault. fault ≡ CommandLine) }
 {
     let Some(run) = matches.get_str("run") else {
@@ -121,7 +159,46 @@ fn recording_of<'a>(matches: &ArgMatches<'a>) -> Result<Asked<'a>, ProgramFault>
         frames,
         progress: matches.get_flag("progress"),
         explain: matches.get_flag("explain"),
+        a2l: a2l_of(matches, why)?,
+        only: matches.get_str("only"),
+        tick: tick_in(matches, why)?,
     }))
+}
+
+/// The A2L file by which values are shown; none if rows of elements are asked for.
+fn a2l_of<'a>(matches: &ArgMatches<'a>, why: &mut Why) -> Result<Option<&'a str>, ProgramFault>
+    ensures { IfErr result (λ fault. fault ≡ CommandLine) }
+{
+    let a2l = matches.get_str("a2l");
+    if a2l.is_none() && is_of_values(matches) {
+        why.tell("--only and --tick want --a2l\n");
+        return Err(ProgramFault::CommandLine);
+    }
+    if matches.get_flag("long") {
+        return Ok(None);
+    }
+    Ok(a2l)
+}
+
+/// Whether an option stands there that speaks of values.
+fn is_of_values(matches: &ArgMatches<'_>) -> bool {
+    matches.get_str("only").is_some() || matches.get_str("tick").is_some()
+}
+
+/// How long a tick is, if that is said.
+fn tick_in(matches: &ArgMatches<'_>, why: &mut Why) -> Result<Option<Tick>, ProgramFault>
+    ensures { IfErr result (λ fault. fault ≡ CommandLine) }
+{
+    let Some(text) = matches.get_str("tick") else {
+        return Ok(None);
+    };
+    match tick_of(text) {
+        Some(tick) => Ok(Some(tick)),
+        None => {
+            why.tell("--tick wants a number of seconds, such as 0.001 or 1e-6\n");
+            Err(ProgramFault::CommandLine)
+        }
+    }
 }
 
 /// How the samples are shown; a table where no mode is asked for.

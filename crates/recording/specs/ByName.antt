@@ -1,0 +1,51 @@
+-- What is printed by name of a recording that was read to its end.
+use Rattle.std.specs.Prelude.{◌≡◌, ℕ, All, List, filter, Option, None}
+use Rattle.std.specs.List.{AllZip}
+use Rattle.std.specs.Io.KnownBytes.{Appends}
+use Rattle.sample_picture.specs.Shown.{IsClosed}
+use Rattle.a2l.specs.declared.description.Description.{Description}
+use Rattle.copy_plan.specs.Config.{ListPlan}
+use Rattle.daq_reader.specs.Lists.{plans_of}
+use Rattle.daq_reader.specs.Reading.{Reading}
+use Rattle.daq_reader.specs.Recorded.{Recorded}
+use Rattle.measurement.specs.declared.tick.Tick.{Tick}
+use Rattle.recording.specs.Shown.{ShowsBy}
+use Rattle.recording.specs.declared.mode.Mode.{Mode}
+use Rattle.recording.specs.declared.mode.Mode.TheVariants.{Csv, Summary, Svg}
+use Rattle.recording.specs.declared.piece.Piece.{Piece}
+use Rattle.recording.specs.declared.values.Values.{Values}
+use Rattle.value_tables.specs.Columns.{IsColumnOf, IsShown, is_recorded}
+use Rattle.value_tables.specs.TallyText.{IsTable}
+use Rattle.value_tables.specs.ValueRows.{IsCsv}
+use Rattle.value_tables.specs.declared.column.Column.{Column}
+
+-- a text is the table, or the CSV, of these columns in samples of these lists. Of a picture only its
+-- end is told
+abbrev pub IsTextOf :
+    Mode → Option Tick → List Column → List ListPlan → List (ℕ × Recorded) → List ℕ → Type 0
+IsTextOf Summary tick columns plans samples text = IsTable plans columns samples text
+IsTextOf Csv tick columns plans samples text = IsCsv tick columns plans samples text
+IsTextOf Svg tick columns plans samples text = IsClosed text
+
+-- the output had these bytes before and has those now: behind them stands such a text
+abbrev pub IsByName :
+    Mode → Option Tick → List Column → Option (List ℕ) → Option (List ℕ) → List ListPlan
+    → List (ℕ × Recorded) → Type 0
+IsByName mode tick columns before after plans samples =
+    (text : List ℕ) × IsTextOf mode tick columns plans samples text × Appends before after text
+
+-- the columns are those of measurements that some list has; of all of them, if none is chosen
+pub record AreColumns (values : Values) (plans : List ListPlan) (columns : List Column) : Type 0 where
+  pub each : All (IsShown values.description.now plans) columns
+  pub all :
+      values.only ≡ None
+      → AllZip (IsColumnOf values.description.now)
+      (filter (is_recorded plans) values.description.now.measurements.items) columns
+
+-- a recording was read to its end, and the values of all its samples are shown by name
+pub record ShowsByName (values : Values) (lists : List Reading) (input rest : Option (List ℕ))
+    (first last : Piece) (before after : Option (List ℕ))
+    : Type 0 where
+  pub columns : List Column
+  pub are : AreColumns values (plans_of lists) columns
+  pub shows : ShowsBy (IsByName values.mode values.tick columns before after) lists input rest first last

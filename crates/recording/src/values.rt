@@ -1,0 +1,192 @@
+//! Reads the samples of a recording, and prints the values of what an A2L file describes.
+ghost use Rattle.std.specs.Prelude.{IfOk, IfSome};
+ghost use Rattle.daq_reader.specs.Ready.{ready_lists};
+ghost use Rattle.recording.specs.ByName.{IsByName, ShowsByName};
+ghost use Rattle.recording.specs.Shown.{ShowsBy};
+ghost use Rattle.recording.specs.declared.mode.Mode.TheVariants as mode;
+
+use crate::messages::Messages;
+use crate::mode::Mode;
+use crate::piece::Piece;
+use crate::program_fault::ProgramFault;
+use crate::recording::read_frames;
+use crate::showing::concluded;
+use a2l::Description;
+use curve_picture::CurveAxis;
+use daq_reader::{ListShape, reader_of, shapes_of};
+use daq_store::Store;
+use measurement::Tick;
+use sample_picture::Axis;
+use sample_tables::Places;
+use std::alloc::{AllocError, Global};
+use std::io::{ErrorKind, Read, Write};
+use value_tables::{Column, ValueCurves, ValueRows, ValueTallies, columns_of, print_tallies};
+use xcp_base::StampSize;
+
+/// Which values of a recording are shown, and how.
+#[derive(Clone, Copy)]
+pub struct Values<'a> {
+    /// What an A2L file says.
+    pub description: &'a Description,
+    /// The names of those that are shown, with commas between them; `None`: all.
+    pub only: Option<&'a str>,
+    /// How long a tick is, if that is known.
+    pub tick: Option<Tick>,
+    pub mode: Mode,
+}
+
+/// The columns of the values, and how long a tick is, if that is known.
+#[derive(Drop)]
+struct Shown<'a> {
+    columns: Vec<Column<'a>>,
+    tick: Option<Tick>,
+}
+
+/// Reads a recording behind its replies, and prints the values of its samples. It gives the writer
+/// back exactly if all of them are printed.
+pub fn show_values<I: Read, W: Write + Drop, E: Write + Drop>(
+    alloc: Global,
+    store: &Store,
+    values: Values<'_>,
+    input: &mut I,
+    piece: &mut Piece,
+    out: W,
+    messages: &mut Messages<E>,
+) -> Result<Option<W>, ProgramFault>
+    ensures { IfOk result (λ shown. IfSome shown (λ after. ShowsByName values.entry
+        (ready_lists store.now) (I.remaining input.old) (I.remaining input.new) piece.old piece.new
+        (W.contents out) (W.contents after))) }
+{
+    let shapes = shapes_of(alloc, store)?;
+    let columns = columns_of(alloc, values.description, &shapes, values.only)?;
+    if let Some(name) = missing_name(&columns, values.only) {
+        messages.detail(name);
+        return Err(ProgramFault::NoValue);
+    }
+    if columns.is_empty() {
+        return Err(ProgramFault::NoValue);
+    }
+    let shown = Shown {
+        columns,
+        tick: values.tick,
+    };
+    match values.mode {
+        Mode::Summary => show_tallies(alloc, store, shown, input, piece, out, messages),
+        Mode::Csv => show_rows(alloc, store, shown, input, piece, out, messages),
+        Mode::Svg => show_curves(alloc, store, shown, input, piece, out, messages),
+    }
+}
+
+/// The first of the names with commas between them that no column has.
+fn missing_name<'a>(columns: &[Column<'_>], only: Option<&'a str>) -> Option<&'a str> {
+    only?
+        .split(',')
+        .find(|name| !columns.iter().any(|column| column.name == *name))
+}
+
+/// The same, as a table.
+fn show_tallies<I: Read, W: Write + Drop, E: Write + Drop>(
+    alloc: Global,
+    store: &Store,
+    shown: Shown<'_>,
+    input: &mut I,
+    piece: &mut Piece,
+    out: W,
+    messages: &mut Messages<E>,
+) -> Result<Option<W>, ProgramFault>
+    ensures { IfOk result (λ w. IfSome w (λ after. ShowsBy (IsByName mode.Summary shown.entry.tick
+        shown.entry.columns.items (W.contents out) (W.contents after)) (ready_lists store.now)
+        (I.remaining input.old) (I.remaining input.new) piece.old piece.new)) }
+{
+    let mut out = out;
+    let shapes = shapes_of(alloc, store)?;
+    let mut reader = reader_of(alloc, store)?;
+    let mut tallies = ValueTallies::new(alloc, shown.columns, shapes)?;
+    let outcome = read_frames(input, piece, &mut reader, &mut tallies, messages);
+    messages.end_progress();
+    let printing = print_tallies(alloc, &mut out, &tallies);
+    concluded(outcome, printing, out)
+}
+
+/// The same, as CSV.
+fn show_rows<I: Read, W: Write + Drop, E: Write + Drop>(
+    alloc: Global,
+    store: &Store,
+    shown: Shown<'_>,
+    input: &mut I,
+    piece: &mut Piece,
+    out: W,
+    messages: &mut Messages<E>,
+) -> Result<Option<W>, ProgramFault>
+    ensures { IfOk result (λ w. IfSome w (λ after. ShowsBy (IsByName mode.Csv shown.entry.tick
+        shown.entry.columns.items (W.contents out) (W.contents after)) (ready_lists store.now)
+        (I.remaining input.old) (I.remaining input.new) piece.old piece.new)) }
+{
+    let shapes = shapes_of(alloc, store)?;
+    let mut reader = reader_of(alloc, store)?;
+    let mut rows = ValueRows::new(alloc, shown.tick, shown.columns, shapes, out)?;
+    let outcome = read_frames(input, piece, &mut reader, &mut rows, messages);
+    messages.end_progress();
+    match rows.finish() {
+        Ok(mut out) => {
+            let printing = out.flush();
+            concluded(outcome, printing, out)
+        }
+        Err(error) => {
+            outcome?;
+            match error.kind() {
+                ErrorKind::OutOfMemory => Err(ProgramFault::MEMORY),
+                _ => Ok(None),
+            }
+        }
+    }
+}
+
+/// The same, as curves.
+fn show_curves<I: Read, W: Write + Drop, E: Write + Drop>(
+    alloc: Global,
+    store: &Store,
+    shown: Shown<'_>,
+    input: &mut I,
+    piece: &mut Piece,
+    out: W,
+    messages: &mut Messages<E>,
+) -> Result<Option<W>, ProgramFault>
+    ensures { IfOk result (λ w. IfSome w (λ after. ShowsBy (IsByName mode.Svg shown.entry.tick
+        shown.entry.columns.items (W.contents out) (W.contents after)) (ready_lists store.now)
+        (I.remaining input.old) (I.remaining input.new) piece.old piece.new)) }
+{
+    let mut out = out;
+    let shapes = shapes_of(alloc, store)?;
+    let mut reader = reader_of(alloc, store)?;
+    let places = places_of(alloc, &shapes)?;
+    let axis = axis_of(places.axis(), shown.tick);
+    let mut curves = ValueCurves::new(alloc, shown.columns, shapes, places)?;
+    let outcome = read_frames(input, piece, &mut reader, &mut curves, messages);
+    messages.end_progress();
+    let printing = curves.print(&mut out, axis);
+    concluded(outcome, printing, out)
+}
+
+/// The places of samples of lists of these shapes: their times if each of them is stamped, else
+/// their numbers in the recording.
+pub fn places_of(alloc: Global, shapes: &[ListShape]) -> Result<Places, AllocError> {
+    let mut axis = Axis::Ticks;
+    let mut size = StampSize::Four;
+    for shape in shapes {
+        size = shape.form().stamp;
+        if !shape.stamped() {
+            axis = Axis::Samples;
+        }
+    }
+    Places::new(alloc, axis, size, shapes.len())
+}
+
+/// What the axis of curves counts.
+fn axis_of(axis: Axis, tick: Option<Tick>) -> CurveAxis {
+    match (axis, tick) {
+        (Axis::Samples, _) => CurveAxis::Samples,
+        (Axis::Ticks, Some(tick)) => CurveAxis::Seconds(tick),
+        (Axis::Ticks, None) => CurveAxis::Ticks,
+    }
+}
