@@ -1,4 +1,4 @@
--- Why a packet doesn't go on with a sample of a DAQ list (own): the first check that fails.
+-- Why a packet doesn't go on with a sample of a DAQ list: the first check that fails.
 use Rattle.std.specs.Prelude.{ℕ, ◌==◌, nat_lt, Bool, not, if◌then◌else◌, List, length}
 use Rattle.std.specs.Prelude.{slice_index, Option, Some, None, true, false}
 use Rattle.xcp_base.specs.Forms.{field_len}
@@ -19,7 +19,7 @@ is_pid plan k q =
 abbrev pub len_of : ListPlan → ℕ → ℕ
 len_of plan k = packet_len plan.form plan.stamped k (elements_len plan k)
 
--- what is wrong with a packet where that of ODT k is awaited: it is shorter than an identification
+-- what is wrong with a packet if that of ODT k is awaited: it is shorter than an identification
 -- field; or else it is of another list; or else of another ODT; or else it has another length
 abbrev pub fault_of : ListPlan → ℕ → List ℕ → Option PacketFault
 fault_of plan k q =

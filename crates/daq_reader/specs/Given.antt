@@ -6,7 +6,7 @@ use Rattle.daq_reader.specs.Lists.{Stands, given, of_place, place_in, plans_of, 
 use Rattle.daq_reader.specs.Reading.{Reading, under_way}
 use Rattle.daq_reader.specs.Recorded.{IsRecorded, Recorded, packets_of}
 
--- where the packets of a list are those of samples, and no packet waits for others any more, these
+-- if the packets of a list are those of samples, and no packet waits for others any more, these
 -- samples were given back for it
 abbrev pub SamplesAreGivenBack : Type 0
 SamplesAreGivenBack =
@@ -16,7 +16,7 @@ SamplesAreGivenBack =
     → of_place (plans_of lists) i qs ≡ flat_map (packets_of a.plan) rs
     → (given i samples ≡ rs) × (under_way a ≡ [])
 
--- the next of the packets is taken where, with those behind it, the packets of its list are those
+-- the next of the packets is taken if, with those behind it, the packets of its list are those
 -- of samples
 abbrev pub SamplesAreTaken : Type 0
 SamplesAreTaken =

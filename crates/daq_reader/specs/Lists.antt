@@ -19,7 +19,7 @@ is_of plan q = nat_le (field_len plan.form.id) (length q) && is_of_list plan q
 abbrev pub plans_of : List Reading → List ListPlan
 plans_of lists = map (λ (a : Reading). a.plan) lists
 
--- the place of the first list that the packet is of; the number of the lists where there is none
+-- the place of the first list that the packet is of; the number of the lists if there is none
 abbrev pub place_in : List ListPlan → List ℕ → ℕ
 place_in [] q = 0
 place_in (plan ∷ plans) q = if is_of plan q then 0 else suc (place_in plans q)
@@ -54,7 +54,7 @@ StandsWith lists qs samples (Some i) =
     (a : Reading) (r : Recorded) → slice_get lists i ≡ Some a → AreOf a.plan r a.packets
     → Stands lists qs (samples ++ (i, r) ∷ [])
 
--- the list that a packet is of takes it, and the others stay; `whole` is the list's place where its
+-- the list that a packet is of takes it, and the others stay; `whole` is the list's place if its
 -- sample is whole with it
 pub record Takes (old now : List Reading) (q : List ℕ) (whole : Option ℕ) : Type 0 where
   pub before : Reading

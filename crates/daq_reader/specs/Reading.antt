@@ -12,7 +12,7 @@ pub record Reading : Type 0 where
 abbrev pub is_whole : Reading → Bool
 is_whole a = length a.packets == length a.plan.odts
 
--- the packets that wait for others: none where the sample is whole
+-- the packets that wait for others: none if the sample is whole
 abbrev pub under_way : Reading → List (List ℕ)
 under_way a = if is_whole a then [] else a.packets
 

@@ -1,6 +1,5 @@
 -- The samples of a DAQ list as a recording has them (ASAM MCD-1 XCP, protocol layer, DTO), and the
--- packets that each is written as. That the timestamp and the overload indication stand in ODT 0
--- alone is (own).
+-- packets that each is written as. The timestamp and the overload indication stand in ODT 0 alone.
 use Rattle.std.specs.Prelude.{◌≡◌, ℕ, ◌*◌, ◌<◌, ◌^◌, ◌==◌, Bool, true, false, if◌then◌else◌}
 use Rattle.std.specs.Prelude.{List, [], ◌++◌, length, map, flat_map, slice_get, slice_index_or}
 use Rattle.std.specs.Prelude.{Option, Some, None}
@@ -18,7 +17,7 @@ pub record Recorded : Type 0 where
   pub stamp : Option ℕ
   pub elements : List (List (List ℕ))
 
--- a sample has a timestamp exactly where its list is stamped, and its ticks fit its bytes
+-- a sample has a timestamp exactly if its list is stamped, and its ticks fit its bytes
 abbrev pub FitsStamp : StampSize → Bool → Option ℕ → Type 0
 FitsStamp size true (Some ticks) = ticks < 2 ^ (8 * stamp_bytes size)
 FitsStamp size true None = ⊥

@@ -19,13 +19,13 @@ pub fn a_reading_is_unique()
     ensures { ReadingIsUnique }
 {}
 
-/// Where the packets of a list are those of samples, each whole and in order, a reader that took
+/// If the packets of a list are those of samples, each whole and in order, a reader that took
 /// them has given back exactly these samples, once and in order, and nothing waits.
 pub fn samples_are_given_back()
     ensures { SamplesAreGivenBack }
 {}
 
-/// Where the packets of a list are those of samples, a reader refuses none of them, whatever the
+/// If the packets of a list are those of samples, a reader refuses none of them, whatever the
 /// packets of other lists are.
 pub fn samples_are_taken()
     ensures { SamplesAreTaken }

@@ -39,6 +39,7 @@ impl ListReader {
     pub fn new(shape: ListShape) -> ListReader
         ensures { result ≡ record { plan = shape; packets = [] } }
     {
+        // for the proof: gives `plan` of the shape, which a reader is to have
         shape.odts();
         ListReader {
             shape,
@@ -67,7 +68,7 @@ impl ListReader {
 
     /// Takes the next packet of the list, and answers whether a sample is whole with it.
     ///
-    /// A packet is taken exactly where it and those that wait begin the packets of some sample of
+    /// A packet is taken exactly if it and those that wait begin the packets of some sample of
     /// the list; after a whole sample none waits. One that is refused changes nothing.
     pub fn take(&mut self, packet: &[u8]) -> Result<bool, PacketFault>
         ensures succeeds { IsOk result
@@ -111,7 +112,7 @@ impl ListReader {
         packet.len() >= self.shape.form().id.field_len() && self.shape.names(packet)
     }
 
-    /// The sample that is whole; `None` exactly where none is.
+    /// The sample that is whole; `None` exactly if none is.
     pub fn sample(&self) -> Option<SampleView<'_>>
         ensures some { IsSome result ↔ (is_whole self.now ≡ true) }
         ensures plan { IfSome result (λ sample. sample.plan ≡ self.now.plan) }
@@ -146,7 +147,7 @@ impl ListReader {
     }
 }
 
-/// Puts a packet behind the `k` that are there, or in the place of all where `k` is 0.
+/// Puts a packet behind the `k` that are there, or in the place of all if `k` is 0.
 fn put_behind(packets: &mut Packets, k: usize, packet: &[u8])
     requires all { 0 < k → k ≡ length packets.old }
     requires room { k < MAX_ODTS }

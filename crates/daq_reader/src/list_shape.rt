@@ -105,7 +105,7 @@ impl ListShape {
         self.odts.len()
     }
 
-    /// The number of entries of an ODT; 0 where there is no such ODT.
+    /// The number of entries of an ODT; 0 if there is no such ODT.
     pub fn entries(&self, k: usize) -> usize
         ensures { result ≡ length (odt self.now k) }
     {
@@ -115,7 +115,7 @@ impl ListShape {
         slots.count()
     }
 
-    /// The address of entry `e` of ODT `k`, and its bytes; `None` exactly where there is no such
+    /// The address of entry `e` of ODT `k`, and its bytes; `None` exactly if there is no such
     /// entry.
     pub fn entry(&self, k: usize, e: usize) -> Option<(u32, u8)>
         ensures { result ≡ slice_get (odt self.now k) e }
@@ -125,7 +125,8 @@ impl ListShape {
         Some((slot.address, slot.size))
     }
 
-    /// The PID of an ODT without the overload indication.
+    /// The PID of an ODT without the overload indication (ASAM MCD-1 XCP, protocol layer,
+    /// identification field).
     pub fn pid(&self, k: usize) -> u8
         requires { k < length self.now.odts }
         ensures value { result ≡ self.now.first_pid + k }
@@ -168,7 +169,7 @@ impl ListShape {
         field
     }
 
-    /// Where entry `e` of ODT `k` stands in its packet, and its bytes; `None` exactly where there
+    /// Where entry `e` of ODT `k` stands in its packet, and its bytes; `None` exactly if there
     /// is no such entry.
     pub(crate) fn place(&self, k: usize, e: usize) -> Option<(usize, usize)>
         ensures place { result ≡ place_of self.now k e }

@@ -47,6 +47,7 @@ impl Reader {
         ensures stands { Stands self.old [] [] → OnOk result (Stands self.new [] []) }
         ensures err { OnErr result (self.new ≡ self.old) }
     {
+        // for the proof: gives `plan` of the shape, which the lists of a reader have
         shape.odts();
         self.lists.push(ListReader::new(shape))?;
         Ok(())
@@ -85,7 +86,7 @@ impl Reader {
         self.lists.iter().all(|list| !list.waits())
     }
 
-    /// The reader of the list at a place; `None` exactly where there is none.
+    /// The reader of the list at a place; `None` exactly if there is none.
     pub fn list(&self, place: usize) -> Option<&ListReader>
         ensures { option_copied result ≡ slice_get self.now place }
     {
@@ -93,7 +94,7 @@ impl Reader {
     }
 }
 
-/// The place of the first list that a packet is of; the number of the lists where there is none.
+/// The place of the first list that a packet is of; the number of the lists if there is none.
 fn place_in(lists: &[ListReader], packet: &[u8]) -> usize
     ensures value { result ≡ place_in (plans_of lists.now) packet.now }
     ensures limit { result ≤ length lists.now }

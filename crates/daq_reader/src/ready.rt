@@ -1,4 +1,4 @@
-//! The ready DAQ lists of a store, as a reader of recordings wants them.
+//! The ready DAQ lists of a store, as a reader of recordings needs them.
 ghost use Rattle.std.specs.Prelude.{◌≡◌, ◌<◌, ◌++◌, ◌∷◌, [], IfOk, OnOk, filter, length, map};
 ghost use Rattle.std.specs.Prelude.{if◌then◌else◌};
 ghost use Rattle.xcp_base.specs.declared.limits.TheConstants.{MAX_LISTS};
@@ -13,7 +13,7 @@ use std::alloc::{AllocError, Global};
 /// A reader of the ready DAQ lists of a store, in rising list number.
 ///
 /// These are the lists whose samples a run of the store may write: those that run in it, and those
-/// that a step starts. Want of memory is the only fault.
+/// that a step starts. Lack of memory is the only fault.
 pub fn reader_of(alloc: Global, store: &Store) -> Result<Reader, AllocError>
     ensures value { IfOk result (λ reader. reader ≡ ready_lists store.now) }
     ensures stands { IfOk result (λ reader. Stands reader [] []) }
@@ -39,7 +39,7 @@ fn add_list(alloc: Global, reader: &mut Reader, store: &Store, l: u16) -> Result
     Ok(())
 }
 
-/// The shapes of the ready DAQ lists of a store, in rising list number. Want of memory is the only
+/// The shapes of the ready DAQ lists of a store, in rising list number. Lack of memory is the only
 /// fault.
 pub fn shapes_of(alloc: Global, store: &Store) -> Result<Vec<ListShape>, AllocError>
     ensures { IfOk result (λ shapes. shapes.items ≡ plans_of (ready_lists store.now)) }

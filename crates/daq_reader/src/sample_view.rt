@@ -36,7 +36,8 @@ impl<'a> SampleView<'a> {
         self.shape
     }
 
-    /// Whether the sample has the overload indication.
+    /// Whether the sample has the overload indication (ASAM MCD-1 XCP, protocol layer,
+    /// identification field).
     pub fn overload(&self) -> bool
         ensures { result ≡ self.now.sample.overload }
     {
@@ -44,8 +45,8 @@ impl<'a> SampleView<'a> {
         first[0] >= 128
     }
 
-    /// The ticks of the timestamp, modulo 256, 65536 or 2^32; `None` exactly where the list isn't
-    /// stamped.
+    /// The ticks of the timestamp, modulo 256, 65536 or 2^32 (ASAM MCD-1 XCP, protocol layer,
+    /// timestamp field); `None` exactly if the list isn't stamped.
     pub fn stamp(&self) -> Option<u32>
         ensures { result ≡ self.now.sample.stamp }
     {
@@ -61,7 +62,7 @@ impl<'a> SampleView<'a> {
         Some(ticks)
     }
 
-    /// The bytes of entry `e` of ODT `k`; `None` exactly where there is no such entry.
+    /// The bytes of entry `e` of ODT `k`; `None` exactly if there is no such entry.
     pub fn entry(&self, k: usize, e: usize) -> Option<&[u8]>
         ensures { option_copied result ≡ element self.now.sample k e }
     {

@@ -69,7 +69,7 @@ impl Slots {
         self.len
     }
 
-    /// An entry and its place; `None` exactly where there is none.
+    /// An entry and its place; `None` exactly if there is none.
     pub fn get(&self, entry: usize) -> Option<Slot>
         ensures entry { option_map entry_of result ≡ slice_get self.now entry }
         ensures place { IfSome result (IsSlotAt self.now entry) }

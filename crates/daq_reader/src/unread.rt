@@ -23,7 +23,8 @@ impl<'a> Model for Unread<'a> {
 }
 
 impl<'a> Unread<'a> {
-    /// The frames of some bytes, of which the first has this counter: 0 where a recording begins.
+    /// The frames of some bytes, of which the first has this counter: 0 at the start of a
+    /// recording.
     pub fn new(bytes: &'a [u8], counter: u16) -> Unread<'a>
         ensures { result ≡ record { rest = bytes.now; counter = counter } }
     {

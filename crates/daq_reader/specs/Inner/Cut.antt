@@ -34,7 +34,7 @@ place_of plan k e =
     option_map (λ (x : OdtEntry). (head_len plan k + bytes_of (take e (odt plan k)), x.1))
     (slice_get (odt plan k) e)
 
--- the bytes of the elements of ODT k; where its packet isn't there, so many zeros
+-- the bytes of the elements of ODT k; if its packet isn't there, so many zeros
 abbrev pub data_in : ListPlan → List (List ℕ) → ℕ → List ℕ
 data_in plan qs k =
     if nat_lt k (length qs) then drop (head_len plan k) (slice_index_or qs k [])
@@ -45,7 +45,7 @@ abbrev pub stamp_bytes_in : ListPlan → List (List ℕ) → List ℕ
 stamp_bytes_in plan qs =
     take (stamp_bytes plan.form.stamp) (drop (field_len plan.form.id) (slice_index_or qs 0 []))
 
--- the timestamp, where the list is stamped
+-- the timestamp, if the list is stamped
 abbrev pub stamp_in : ListPlan → List (List ℕ) → Option ℕ
 stamp_in plan qs =
     if plan.stamped then Some (ticks_of plan.form.stamp (stamp_bytes_in plan qs)) else None
