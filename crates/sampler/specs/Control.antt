@@ -1,4 +1,4 @@
--- What becomes of the orders of a control ring (own).
+-- What becomes of the orders of a control ring.
 use Rattle.std.specs.Prelude.{◌≡◌, ℕ, Bool, true, false, List, [], ◌∷◌, ◌++◌, flat_map}
 use Rattle.std.specs.Option.{is_some}
 use mathlib.Core.List.{IsPrefix}
@@ -22,8 +22,8 @@ abbrev pub event_of : Order → Event
 event_of (order.Start l) = Start l
 event_of (order.Stop l) = Stop l
 
--- whether an order is refused, whatever room there is: a start where the list isn't of the channel
--- or runs, a stop where it isn't or doesn't
+-- whether an order is refused, whatever room there is: a start if the list isn't of the channel
+-- or runs, a stop if it isn't or doesn't
 abbrev pub is_refused : Past → Order → Bool
 is_refused past (order.Start l) = is_some (start_refusal (running_at past l))
 is_refused past (order.Stop l) = is_some (stop_refusal (running_at past l))
@@ -89,14 +89,14 @@ Polls send ring s t a b (Refused o) = IsRefused send ring s t a b o
 Polls send ring s t a b (Waiting (order.Start l)) = ⊥
 Polls send ring s t a b (Waiting (order.Stop l)) = Waits send ring s t a b l
 
--- looks at a ring of orders, one behind another, with these answers, where nothing else takes from
+-- looks at a ring of orders, one behind another, with these answers, if nothing else takes from
 -- it
 abbrev pub ArePolled : TakeState → List Polled → TakeState → Type 0
 ArePolled a [] b = b.received ≡ a.received
 ArePolled a (p ∷ polls) b =
     (next : TakeState) × (next.received ≡ a.received ++ answered p) × ArePolled next polls b
 
--- where nothing else took from a ring of orders, those that were answered and those that are left
+-- if nothing else took from a ring of orders, those that were answered and those that are left
 -- are, in order, those that were sent
 abbrev pub OrdersAreAnsweredInOrder : Type 0
 OrdersAreAnsweredInOrder =

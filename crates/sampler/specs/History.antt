@@ -1,4 +1,5 @@
--- The history of an event channel, and the DAQ lists that are due at its triggers.
+-- The history of an event channel, and the DAQ lists that are due at its triggers (ASAM MCD-1 XCP,
+-- protocol layer, SET_DAQ_LIST_MODE: event channel and prescaler).
 use Rattle.std.specs.Prelude.{ℕ, ◌%◌, Bool, true, false, ◌&&◌, not, nat_eq, Option, None, Some}
 use Rattle.std.specs.Prelude.{List, [], ◌∷◌, ◌++◌, length, map, reverse, filter, find, flat_map}
 use Rattle.std.specs.Prelude.{count_by, take_while}
@@ -39,7 +40,7 @@ is_start_or_stop l (Trigger image stamp) = false
 is_start_or_stop l (Start k) = nat_eq k l
 is_start_or_stop l (Stop k) = nat_eq k l
 
--- after the last start or stop of a list, it runs where that is a start; where there is none, as it
+-- after the last start or stop of a list, it runs if that is a start; if there is none, as it
 -- stood before
 abbrev pub runs_since : Bool → Option Event → Bool
 runs_since before None = before

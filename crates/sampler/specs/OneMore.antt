@@ -1,5 +1,4 @@
--- What an event more adds to a history: its due pairs and its items come behind those before it
--- (own).
+-- What an event more adds to a history: its due pairs and its items come behind those before it.
 use Rattle.std.specs.Prelude.{◌≡◌, Bool, List, [], ◌∷◌, ◌++◌, length}
 use Rattle.sampler.specs.History.{Event, Opening, due, pairs_at}
 use Rattle.sampler.specs.Items.{items, items_at}

@@ -1,4 +1,4 @@
--- What a sampler has behind it (own).
+-- What a sampler has behind it.
 use Rattle.std.specs.Prelude.{Bool, List, [], ◌∷◌, ◌++◌}
 use Rattle.copy_plan.specs.Config.{ListPlan}
 use Rattle.sampler.specs.History.{Event, Opening, due_at}

@@ -1,4 +1,4 @@
--- Why a trigger, a start or a stop is refused, by the past (own).
+-- Why a trigger, a start or a stop is refused, by the past.
 use Rattle.std.specs.Prelude.{ℕ, ◌≡◌, ◌⊎◌, Bool, true, false, List, length, count_by, nat_eq}
 use Rattle.std.specs.Prelude.{Option, None, Some, if◌then◌else◌}
 use Rattle.xcp_base.specs.declared.limits.TheConstants.{MAX_TRIGGERS}
@@ -14,7 +14,7 @@ use Rattle.sampler.specs.declared.faults.TriggerFault.{TriggerFault}
 use Rattle.sampler.specs.declared.faults.TriggerFault.TheVariants.{Spent, WrongImage}
 
 -- whether list l runs: its last start or stop was a start, or there was none and it ran at the
--- opening; none where it isn't of the channel
+-- opening; none if it isn't of the channel
 abbrev pub running_at : Past → ℕ → Option Bool
 running_at past l =
     if is_list_of past.opening l then Some (runs_after past.opening past.history l) else None
@@ -26,19 +26,19 @@ trigger_refusal image_len past image =
     (if nat_eq (count_by is_trigger past.history) MAX_TRIGGERS then Some Spent else None)
     else Some WrongImage
 
--- a start is refused where the list isn't of the channel, or runs
+-- a start is refused if the list isn't of the channel, or runs
 abbrev pub start_refusal : Option Bool → Option StartFault
 start_refusal None = Some NoSuchStart
 start_refusal (Some true) = Some Running
 start_refusal (Some false) = None
 
--- a stop is refused where the list isn't of the channel, or doesn't run
+-- a stop is refused if the list isn't of the channel, or doesn't run
 abbrev pub stop_refusal : Option Bool → Option StopFault
 stop_refusal None = Some NoSuchStop
 stop_refusal (Some true) = None
 stop_refusal (Some false) = Some NotRunning
 
--- what a stop answers where it is refused so; where it isn't, its marker may find no room
+-- what a stop answers if it is refused so; if it isn't, its marker may find no room
 abbrev pub AnswersStop : Option StopFault → Option StopFault → Type 0
 AnswersStop (Some fault) answer = answer ≡ Some fault
 AnswersStop None answer = (answer ≡ None) ⊎ (answer ≡ Some NoRoom)

@@ -1,4 +1,4 @@
--- A sampler stands after a past (own).
+-- A sampler stands after a past.
 use Rattle.std.specs.Prelude.{◌≡◌, ℕ, ◌+◌, ◌<◌, Bool, false, ◌&&◌, ◌||◌, Some, slice_get}
 use Rattle.std.specs.Prelude.{List, [], ◌∷◌, ◌++◌, length, map, take, count_by}
 use Rattle.xcp_base.specs.declared.item.Item.{Item}
@@ -20,7 +20,7 @@ use Rattle.sampler.specs.declared.taken.Taken.{Taken}
 abbrev pub ExceedsCapacity : ℕ → (Item → ℕ) → List Item → Item → Type 0
 ExceedsCapacity capacity cost before item = capacity < units cost before + cost item
 
--- a sample is dropped only where it, with all items sent before it, exceeds the capacity:
+-- a sample is dropped only if it, with all items sent before it, exceeds the capacity:
 -- at each trigger of the past, for the k-th plan due there, which is pair j
 unfoldable pub DropsOnlyWhenFull : ℕ → (Item → ℕ) → Past → Type 0
 DropsOnlyWhenFull capacity cost past =
@@ -89,7 +89,7 @@ pub record TakesTrigger
       (l : ℕ) → (has_list taken.accepted l || has_list taken.dropped l) ≡ has_list taken.due l
   pub apart : (l : ℕ) → (has_list taken.accepted l && has_list taken.dropped l) ≡ false
   pub stands : StandsAfter send ring after (after_trigger taken past image stamp)
-  -- a sample is dropped only where its cost, with those accepted before it at this trigger, is over
+  -- a sample is dropped only if its cost, with those accepted before it at this trigger, is over
   -- what was known to be free
   pub over_free :
       (k : ℕ) (plan : ListPlan) →

@@ -29,7 +29,7 @@ pub record SamplerEndState (E : Type 0) : Type 0 where
   pub counts : List ListCounts
   pub capacity : ℕ
 
--- the same where the ring's capacity, the cost of an item in it and all that was sent stand for the
+-- the same if the ring's capacity, the cost of an item in it and all that was sent stand for the
 -- end
 pub record JoinedEnd : Type 0 where
   pub channel : ℕ
@@ -39,7 +39,7 @@ pub record JoinedEnd : Type 0 where
   pub cost : Item → ℕ
   pub sent : List Item
 
--- what is left of a sampler, where an item has this cost and these items were sent
+-- what is left of a sampler, if an item has this cost and these items were sent
 abbrev pub joined_with : {E : Type 0} → (Item → ℕ) → List Item → SamplerEndState E → JoinedEnd
 joined_with cost sent s = record {
   channel = s.channel;
@@ -62,7 +62,7 @@ sent_by ends = map (λ (e : JoinedEnd). e.sent) ends
 abbrev pub place_of : ℕ → List ListPlan → Option ℕ
 place_of l plans = position (λ (plan : ListPlan). nat_eq plan.list l) plans
 
--- what is kept of list l, where these tracks are kept of these plans
+-- what is kept of list l, if these tracks are kept of these plans
 abbrev pub found_at : ℕ → List ListPlan → List Track → Option Track
 found_at l plans tracks = option_and_then (λ i. slice_get tracks i) (place_of l plans)
 

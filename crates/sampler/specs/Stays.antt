@@ -1,4 +1,4 @@
--- What stays of a sampler (own).
+-- What stays of a sampler.
 use Rattle.std.specs.Prelude.{◌≡◌, ◌≤◌, ◌<◌}
 use Rattle.xcp_base.specs.declared.item.Item.{Item}
 use Rattle.channel_ring.specs.declared.ends.SendEnd.{Ghosts as SendGhosts}

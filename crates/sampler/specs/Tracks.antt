@@ -27,13 +27,13 @@ counts_after past l =
     if is_list_of past.opening l then Some (counts_of (pairs_of l pairs)) else None
 
 -- how many triggers pass from so many since its start until a list of this prescaler is due: none
--- where these are a multiple of it, else what is wanting to the next
+-- if these are a multiple of it, else what is wanting to the next
 abbrev pub until_due : ℕ → ℕ → ℕ
 until_due prescaler since =
     if nat_eq (since % prescaler) 0 then 0 else prescaler - since % prescaler
 
--- the trigger at which a list is due next, counted from 0, where it isn't stopped or started
--- before; NEVER where it does not run
+-- the trigger at which a list is due next, counted from 0, if it isn't stopped or started
+-- before; NEVER if it does not run
 unfoldable pub next_after : Opening → List Event → ListPlan → ℕ
 next_after opening h plan =
     if runs_after opening h plan.list then

@@ -12,7 +12,7 @@ pub fn items_of_one_more()
     ensures { ItemsOfOneMore }
 {}
 
-/// Where nothing but samplers takes from a ring of orders, those that were answered are, in order,
+/// If nothing but samplers takes from a ring of orders, those that were answered are, in order,
 /// a prefix of those that were sent; behind them come those that are left.
 pub fn orders_are_answered_in_order()
     ensures { OrdersAreAnsweredInOrder }

@@ -69,7 +69,7 @@ impl Lists {
         soonest_of(&self.tracks[..self.plans.len()])
     }
 
-    /// How often a list was due, and what became of its samples; `None` where it isn't there.
+    /// How often a list was due, and what became of its samples; `None` if it isn't there.
     pub fn counts(&self, l: u8) -> Option<ListCounts>
         requires room { length self.now.plans.items ≤ length self.now.tracks }
         ensures { result ≡ option_map (λ (track : Track). track.counts)

@@ -11,7 +11,7 @@ use xcp_base::limits::MAX_LISTS;
 /// The places for it: one for each list that there may be.
 pub const PLACES: usize = MAX_LISTS as usize;
 
-/// What is kept of a list that was never due; it runs where it is in the set.
+/// What is kept of a list that was never due; it runs if it is in the set.
 fn first_track(running: u16, l: u8) -> Track
     requires { l < MAX_LISTS }
     ensures { result ≡ first_track running l }

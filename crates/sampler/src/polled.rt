@@ -7,7 +7,7 @@ pub enum Polled {
     Nothing,
     /// The order was taken off and carried out.
     Done(Order),
-    /// The order was taken off and refused, for another cause than want of room. The sampler is
+    /// The order was taken off and refused, for another cause than lack of room. The sampler is
     /// unchanged.
     Refused(Order),
     /// The marker of a stop found no room. The order stays at the front, and the list still runs.

@@ -13,7 +13,7 @@ use channel_ring::SendEnd;
 use control_ring::{ControlTake, Order};
 
 impl<S: SendEnd> Sampler<S> {
-    /// Carries out the order at the front of a control ring, where one is there (own).
+    /// Carries out the order at the front of a control ring, if one is there.
     ///
     /// A start or a stop that is refused is taken off too; but a stop whose marker finds no room
     /// stays at the front, and the orders behind it wait with it. It takes no memory.

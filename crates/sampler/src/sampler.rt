@@ -37,7 +37,7 @@ use xcp_base::{Item, Packets, StopMark};
 ///
 /// Contracts speak of the pasts that it stands after. A past is what the channel was opened with, a
 /// history, which is the list of the accepted triggers, starts and stops, and decisions, one for
-/// each list that was due, in order, true where its sample was accepted.
+/// each list that was due, in order, true if its sample was accepted.
 #[derive(Drop)]
 pub struct Sampler<S: SendEnd> {
     channel: u8,
@@ -114,9 +114,10 @@ impl<S: SendEnd> Sampler<S> {
     /// Takes a trigger, with the memory image and a timestamp in ticks.
     ///
     /// The sample of each DAQ list that is due is made and offered to the ring, in rising list
-    /// number (own); what finds no room is dropped whole. A list that lost a sample has the
-    /// overload indication in its next accepted one (own). Refused with `WrongImage`, or with
-    /// `Spent` once `MAX_TRIGGERS` triggers were accepted. It takes no memory.
+    /// number; what finds no room is dropped whole. A list that lost a sample has the overload
+    /// indication in its next accepted one (ASAM MCD-1 XCP, protocol layer, identification field).
+    /// Refused with `WrongImage`, or with `Spent` once `MAX_TRIGGERS` triggers were accepted. It
+    /// takes no memory.
     pub fn trigger(&mut self, image: &[u8], stamp: u32) -> Result<Taken, TriggerFault>
         ensures ok { IfOk result (λ taken.
             (past : Past) → StandsAfter S.SendEnd S.End.RingEnd self.old past
@@ -162,7 +163,8 @@ impl<S: SendEnd> Sampler<S> {
         Ok(taken)
     }
 
-    /// Starts a DAQ list: it is due at the next trigger (own), and then at each `prescaler`-th.
+    /// Starts a DAQ list: it is due at the next trigger, and then at each `prescaler`-th (ASAM
+    /// MCD-1 XCP, protocol layer, SET_DAQ_LIST_MODE).
     ///
     /// Refused with `NotOfChannel`, or with `Running`.
     pub fn start(&mut self, l: u8) -> Result<(), StartFault>
@@ -189,10 +191,10 @@ impl<S: SendEnd> Sampler<S> {
         Ok(())
     }
 
-    /// Stops a DAQ list, and sends its stop marker (own).
+    /// Stops a DAQ list, and sends its stop marker.
     ///
     /// Refused with `NotOfChannel` or with `NotRunning`, which leave the sampler as it was; or with
-    /// `NoRoom`, where the marker came back: the list still runs, nothing was sent, and only more
+    /// `NoRoom`, if the marker found no room: the list still runs, nothing was sent, and only more
     /// units may be known to be free.
     pub fn stop(&mut self, l: u8) -> Result<(), StopFault>
         ensures ok { OnOk result (GoesOn S.SendEnd S.End.RingEnd self.old self.new (Stop l)) }
@@ -225,7 +227,7 @@ impl<S: SendEnd> Sampler<S> {
         Ok(())
     }
 
-    /// How often a DAQ list was due, and what became of its samples; `None` where it isn't of the
+    /// How often a DAQ list was due, and what became of its samples; `None` if it isn't of the
     /// channel.
     pub fn counts(&self, l: u8) -> Option<ListCounts>
         ensures kept { result ≡ option_map (λ (track : Track). track.counts) (track_at self.now l) }
@@ -286,7 +288,7 @@ impl<S: SendEnd> Sampler<S> {
         take.beside(&mut self.end)
     }
 
-    /// Gives the sampler up; what it sent stays in the ring. `None` only where the ring's `finish`
+    /// Gives the sampler up; what it sent stays in the ring. `None` only if the ring's `finish`
     /// answers it.
     pub fn finish(self) -> Option<SamplerEnd<S::End>>
         ensures stands { IfSome result (λ left.

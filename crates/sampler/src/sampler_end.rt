@@ -61,7 +61,7 @@ impl<E> SamplerEnd<E> {
         self.lists.set()
     }
 
-    /// How often a DAQ list was due, and what became of its samples; `None` where it isn't of the
+    /// How often a DAQ list was due, and what became of its samples; `None` if it isn't of the
     /// channel.
     pub fn counts(&self, l: u8) -> Option<ListCounts>
         ensures kept { result ≡ counts_at self.now l }

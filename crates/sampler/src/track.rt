@@ -25,7 +25,7 @@ pub const FIRST_TRACK: Track = Track {
 pub struct Track {
     /// The list runs.
     pub running: bool,
-    /// The trigger at which it is due next, counted from 0; `NEVER` where it does not run.
+    /// The trigger at which it is due next, counted from 0; `NEVER` if it does not run.
     pub next: u64,
     /// Its last due sample was dropped.
     pub pending: bool,

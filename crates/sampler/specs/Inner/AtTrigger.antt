@@ -36,7 +36,7 @@ due_now trigger track = track.running && nat_eq track.next trigger
 abbrev pub row_due : Row → Bool
 row_due row = row.due
 
--- the lists of some rows were due where what was kept of them says so
+-- the lists of some rows were due if what was kept of them says so
 abbrev pub AreDue : ℕ → List Row → Type 0
 AreDue trigger [] = Unit {0}
 AreDue trigger (row ∷ rows) = (row.due ≡ due_now trigger row.track) × AreDue trigger rows
@@ -88,7 +88,7 @@ row_items m number row =
 abbrev pub row_count : Row → ℕ
 row_count row = if row_accepted row then 1 else 0
 
--- what the lists send, where the first has this number
+-- what the lists send, if the first has this number
 unfoldable pub rows_items : MomentParts → ℕ → List Row → List Item
 rows_items m number [] = []
 rows_items m number (row ∷ rows) =
@@ -99,7 +99,7 @@ unfoldable pub rows_count : List Row → ℕ
 rows_count [] = 0
 rows_count (row ∷ rows) = row_count row + rows_count rows
 
--- the sets with one list added where it was due
+-- the sets with one list added if it was due
 pub record Adds (old new : Taken) (row : Row) : Type 0 where
   pub due :
       (l : ℕ)
@@ -130,7 +130,7 @@ first_stage end tracks number = record {
   next = number;
 }
 
--- a sample is dropped only where its cost, with those sent before it, is over what was known to be
+-- a sample is dropped only if its cost, with those sent before it, is over what was known to be
 -- free at the first
 abbrev pub DropsOverFree :
     {S E : Type 0} → SendGhosts S E → EndGhosts E → MomentParts → Stage S → List Row → Type 0

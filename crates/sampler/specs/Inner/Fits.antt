@@ -8,7 +8,7 @@ use Rattle.sampler.specs.State.{ArePlansOf, RiseFrom, found_at, track_runs}
 use Rattle.sampler.specs.declared.track.TheConstants.{NEVER}
 use Rattle.sampler.specs.declared.track.Track.{Track}
 
--- what is kept at the opening of list l, which runs where it is in the set
+-- what is kept at the opening of list l, which runs if it is in the set
 abbrev pub first_track : ℕ → ℕ → Track
 first_track running l = record {
   running = has_list running l;
@@ -17,7 +17,7 @@ first_track running l = record {
   counts = record { due = 0; accepted = 0; dropped = 0 };
 }
 
--- list l runs, where these tracks are kept of these plans
+-- list l runs, if these tracks are kept of these plans
 abbrev pub list_runs : ℕ → List ListPlan → List Track → Bool
 list_runs l plans tracks = track_runs (found_at l plans tracks)
 
