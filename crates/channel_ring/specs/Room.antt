@@ -1,4 +1,4 @@
--- What items cost in a ring (own).
+-- What items cost in a ring.
 use Rattle.std.specs.Prelude.{ℕ, ◌+◌, ◌≡◌, List, [], ◌∷◌, ◌++◌, length, refl}
 use Rattle.std.proofs.Common.{arith}
 use Rattle.xcp_base.specs.declared.item.Item.{Item}
@@ -8,7 +8,7 @@ abbrev pub units : (Item → ℕ) → List Item → ℕ
 units cost [] = 0
 units cost (x ∷ xs) = cost x + units cost xs
 
--- where each item costs 1, they are as many units as items
+-- if each item costs 1, they are as many units as items
 pub units-ones : (xs : List Item) → units (λ _. 1) xs ≡ length xs
 units-ones [] = refl
 units-ones (x ∷ xs) = omega (arith, units-ones xs)
