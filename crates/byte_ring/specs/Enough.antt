@@ -1,4 +1,4 @@
--- What records take up in a ring of bytes (own).
+-- What records take up in a ring of bytes.
 use Rattle.std.specs.Prelude.{ℕ, ◌+◌, ◌≤◌, ◌≡◌, List, [], ◌∷◌, length, refl}
 use Rattle.std.proofs.Common.{arith, length-append, ap}
 use Rattle.xcp_base.specs.declared.item.Item.{Item}
@@ -7,7 +7,7 @@ use Rattle.byte_ring.specs.Held.{AreRecords}
 use Rattle.byte_ring.specs.Reading.{items_in}
 use Rattle.byte_ring.specs.Records.{record_len, record_of, records_of}
 
--- where each item costs the length of its record, they are as many units as their records have
+-- if each item costs the length of its record, they are as many units as their records have
 -- bytes
 pub units-records : (xs : List Item) → units record_len xs ≡ length (records_of xs)
 units-records [] = refl

@@ -31,7 +31,7 @@ pub record IsFirst (x : Item) (held ahead : List ℕ) : Type 0 where
   pub inside : 1 ≤ length ahead
   pub whole : record_of x ≡ seen held ahead
 
--- as many bytes as are told are in the ring; where the item is ready, its record stands first
+-- as many bytes as are told are in the ring; if the item is ready, its record stands first
 pub record IsReady {A P : Type 0} (c : Consumer ℕ A P) (f : Front) : Type 0 where
   pub there : f.ahead ≤ length (known_items c)
   pub first : f.is_ready ≡ true → IsFirst f.item (part f) (take f.ahead (known_items c))

@@ -1,4 +1,4 @@
--- What the take end of a ring of bytes holds (own), and how long a record is.
+-- What the take end of a ring of bytes holds, and how long a record is.
 use Rattle.std.specs.Prelude.{◌≡◌, ℕ, zero, suc, ◌+◌, ◌==◌, List, [], ◌∷◌, ◌++◌}
 use Rattle.std.specs.Prelude.{length, drop, min, nat_lt, slice_index, if◌then◌else◌}
 use Rattle.byte_ring.specs.Records.{records_of}
@@ -18,8 +18,8 @@ least_body zero bytes = 0
 least_body (suc n) [] = 2 + least_body n []
 least_body (suc n) (len ∷ bytes) = 1 + len + least_body n (drop len bytes)
 
--- the least number of bytes of a record that begins with these: more than these, where they are
--- only a part of it; where a whole record stands in front, its length
+-- the least number of bytes of a record that begins with these: more than these, if they are
+-- only a part of it; if a whole record stands in front, its length
 unfoldable pub least_record : List ℕ → ℕ
 least_record [] = 3
 least_record (kind ∷ bytes) =

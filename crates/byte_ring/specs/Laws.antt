@@ -1,4 +1,4 @@
--- What holds of records (own).
+-- What holds of records.
 use Rattle.std.specs.Prelude.{◌≡◌, ℕ, All, List, [], ◌++◌}
 use mathlib.Core.List.{IsPrefix}
 use Rattle.xcp_base.specs.declared.item.Item.{Item}

@@ -1,4 +1,4 @@
--- Items, read off bytes (own): the longest list of items whose records stand at the front.
+-- Items, read off bytes: the longest list of items whose records stand at the front.
 use Rattle.std.specs.Prelude.{ℕ, zero, suc, ◌+◌, ◌^◌, ◌&&◌, ◌==◌, Bool, true, false, List, []}
 use Rattle.std.specs.Prelude.{◌∷◌, length, take, drop, nat_lt, slice_index, Option, Some, None}
 use Rattle.std.specs.Prelude.{if◌then◌else◌}

@@ -1,4 +1,4 @@
--- A sample that was read (own).
+-- A sample that was read.
 use Rattle.std.specs.Prelude.{◌≡◌, ℕ, List}
 use Rattle.xcp_base.specs.Bodies.{IsBodyOf}
 use Rattle.xcp_base.specs.Samples.{HasParts, SampleParts}

@@ -1,4 +1,4 @@
--- Records of the ring of bytes (own): each item in bytes.
+-- Records of the ring of bytes: each item in bytes.
 use Rattle.std.specs.Prelude.{ℕ, List, [], ◌∷◌, ◌++◌, length}
 use Rattle.std.specs.Int.{to_le_bytes, w64}
 use Rattle.xcp_base.specs.Bodies.{body_of}

@@ -78,6 +78,7 @@ impl TakeEnd for ByteTake {
     }
 
     fn pass(&mut self) {
+        // an item that is known may not be read yet
         let _ = read(&mut self.consumer, &mut self.front);
         let_go(&mut self.consumer, &mut self.front);
         self.count = self.count.wrapping_add(1);

@@ -24,7 +24,7 @@ fn any_sample() -> Sample {
     Sample::new(0, 0, 0, packets)
 }
 
-/// Puts a sample in the place of a stop marker, or of any item: it is moved once more than where a
+/// Puts a sample in the place of a stop marker, or of any item: it is moved once more than if a
 /// sample is there.
 fn put_sample(item: &mut Item, channel: u8, list: u8, number: u64, count: u8, body: &[u8]) -> bool
     requires channel_below { channel < MAX_CHANNELS }
@@ -83,7 +83,7 @@ fn are_within(channel: u8, list: u8) -> bool
     (channel as u16) < MAX_CHANNELS && (list as u16) < MAX_LISTS
 }
 
-/// Reads the item whose record these bytes are, in the place of another one; false where they are
+/// Reads the item whose record these bytes are, in the place of another one; false if they are
 /// no record.
 pub(crate) fn read_item(item: &mut Item, bytes: &[u8]) -> bool
     ensures yes { result ≡ true → record_of item.new ≡ bytes.now }

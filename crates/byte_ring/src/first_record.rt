@@ -48,8 +48,8 @@ fn see_next(consumer: &Consumer<u8>, front: &mut Front) -> usize
     least_len(&front.bytes[..front.held + 1])
 }
 
-/// A step on the way to the first item, from which the next byte is seen: true where bytes were
-/// popped that surely belong to its record, and it goes on; false where the item is ready, or none
+/// A step on the way to the first item, from which the next byte is seen: true if bytes were
+/// popped that surely belong to its record, and it goes on; false if the item is ready, or none
 /// is known.
 fn step(consumer: &mut Consumer<u8>, front: &mut Front) -> bool
     requires there { front.old.ahead ≤ length (known_items consumer.old) }
@@ -79,7 +79,7 @@ fn step(consumer: &mut Consumer<u8>, front: &mut Front) -> bool
     true
 }
 
-/// Reads the first item, where it is known, and tells whether it is; then it is ready.
+/// Reads the first item, if it is known, and tells whether it is; then it is ready.
 ///
 /// Of its record it pops all but the last byte, and nothing of the records behind: so the item is
 /// taken by the pop of that byte.

@@ -12,7 +12,7 @@ pub(crate) struct Front {
     pub(crate) held: usize,
     // How many bytes are in the ring for sure, behind those held.
     pub(crate) ahead: usize,
-    // The item, where all of its record is held but the last byte, and that is in the ring.
+    // The item, once all of its record is held but the last byte, and that is in the ring.
     pub(crate) item: Item,
     pub(crate) is_ready: bool,
     ghost within: { held < MAX_RECORD },

@@ -35,7 +35,7 @@ fn body_end(bytes: &[u8], count: u8) -> usize
     end
 }
 
-/// The least length of a record that begins with these bytes, within that of the longest; where a
+/// The least length of a record that begins with these bytes, within that of the longest; if a
 /// whole record stands in front, its length.
 pub(crate) fn least_len(bytes: &[u8]) -> usize
     ensures value { result ≡ least bytes.now }
