@@ -1,4 +1,4 @@
--- What contracts see of a ring of orders (own).
+-- What contracts see of a ring of orders.
 use Rattle.std.specs.Prelude.{ℕ, List}
 use Rattle.channel_ring.specs.Ends.{RingName}
 use Rattle.control_ring.specs.declared.order.Order.{Order}

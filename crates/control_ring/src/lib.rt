@@ -1,5 +1,5 @@
 //! Rings of orders: starts and stops of DAQ lists, on their way from a master's thread to that of
-//! a sampler (own).
+//! a sampler.
 #![tactic(auto)]
 
 mod ended;

@@ -30,7 +30,7 @@ impl Model for ControlSend {
 impl ControlSend {
     /// Sends an order, or gives it back. It takes no memory.
     ///
-    /// It may succeed where no place is known to be free: the take end may have freed some since.
+    /// It may succeed if no place is known to be free: the take end may have freed some since.
     pub fn send(&mut self, order: Order) -> Result<(), Order>
         ensures succeeds { 1 ≤ self.old.free → IsOk result }
 

@@ -30,7 +30,7 @@ impl Model for ControlTake {
 impl ControlTake {
     /// The oldest order, which stays in the ring: it is what the next `take` gives.
     ///
-    /// It may find an order where none is known: the send end may have sent one since.
+    /// It may find an order if none is known: the send end may have sent one since.
     pub fn front(&mut self) -> Option<Order>
         ensures gives { 0 < length self.old.known → IsSome result }
         ensures some { IfSome result (λ order. IsPrefix (order ∷ []) self.new.known) }
@@ -47,7 +47,7 @@ impl ControlTake {
 
     /// Takes the oldest order. It takes no memory.
     ///
-    /// It may find an order where none is known: the send end may have sent one since.
+    /// It may find an order if none is known: the send end may have sent one since.
     pub fn take(&mut self) -> Option<Order>
         ensures gives { 0 < length self.old.known → IsSome result }
 
