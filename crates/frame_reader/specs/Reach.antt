@@ -1,5 +1,5 @@
--- How far bytes reach into the frame that they begin (XCP on Ethernet, header): LEN, CTR and as
--- many bytes as LEN says. That LEN is 1 to MAX_CTO is (own).
+-- How far bytes reach into the frame that they begin (ASAM MCD-1 XCP, transport layer for
+-- Ethernet, header): LEN, CTR and as many bytes as LEN says.
 use Rattle.std.specs.Prelude.{ℕ, ◌+◌, ◌*◌, ◌==◌, ◌||◌, nat_lt, Bool, if◌then◌else◌, List, ◌∷◌}
 use Rattle.std.specs.Prelude.{length}
 use Rattle.xcp_base.specs.declared.limits.TheConstants.{MAX_CTO}

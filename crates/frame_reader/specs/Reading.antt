@@ -15,14 +15,14 @@ pub record ReaderState : Type 0 where
   pub closed : Bool
 
 -- the bytes split into frames with these packets, and then the bytes held: less than a frame, or
--- where the reader is closed the begin of a bad one
+-- if the reader is closed the begin of a bad one
 pub record ReaderStandsAfter (r : ReaderState) (bytes : List ℕ) (packets : List (List ℕ))
     : Type 0 where
   pub split : SplitsInto bytes packets r.held
   pub part : r.closed ≡ false → reach r.held ≡ Part
   pub bad : r.closed ≡ true → reach r.held ≡ Bad
 
--- where the old reader stands after some bytes and packets, the new one stands after those and then
+-- if the old reader stands after some bytes and packets, the new one stands after those and then
 -- these
 abbrev pub Leads : ReaderState → ReaderState → List ℕ → List (List ℕ) → Type 0
 Leads old new more given =

@@ -10,7 +10,7 @@ pub struct Fed {
     pub packet: Option<ArrayVec<u8, MAX_CTO>>,
 }
 
-/// A frame had LEN 0 or over MAX_CTO (own). What follows it can't be read.
+/// A frame had LEN 0 or over MAX_CTO. What follows it can't be read.
 #[derive(Clone, Copy, Debug, PartialEq, Eq, Error)]
 #[error("a frame's length is 0 or too great")]
 pub struct BadFrame;

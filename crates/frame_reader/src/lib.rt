@@ -1,4 +1,5 @@
-//! XCP on Ethernet: the packets of a master are read from its bytes, in whatever pieces they come.
+//! The packets of a master are read from the bytes of its frames, in whatever pieces they come
+//! (ASAM MCD-1 XCP, transport layer for Ethernet, header).
 #![tactic(auto)]
 
 mod fed;

@@ -1,4 +1,4 @@
-//! How far bytes reach into a frame (XCP on Ethernet, header).
+//! How far bytes reach into a frame (ASAM MCD-1 XCP, transport layer for Ethernet, header).
 ghost use Rattle.std.specs.Prelude.{◌≡◌};
 ghost use Rattle.frame_reader.specs.Reach.{is_bad_len, reach};
 

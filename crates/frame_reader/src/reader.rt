@@ -60,7 +60,8 @@ impl FrameReader {
     }
 
     /// Takes bytes up to the end of the frame that they end, or else all of them, and gives the
-    /// packet of that frame.
+    /// packet of that frame (ASAM MCD-1 XCP, transport layer for Ethernet, header). CTR is not
+    /// looked at.
     ///
     /// Refused if a frame is bad: as soon as its LEN is there, and for good from then on; then
     /// nothing is taken any more.
