@@ -1,5 +1,5 @@
 -- What the slave's thread did with the ring of one event channel: the orders that it sent to the
--- channel's task, and the items that it took (own).
+-- channel's task, and the items that it took.
 use Rattle.std.specs.Prelude.{ℕ, Bool, true, false, ◌&&◌, not, nat_eq, nat_lt, if◌then◌else◌}
 use Rattle.std.specs.Prelude.{List, [], ◌∷◌, ◌++◌, find, count_by, Option, Some, None}
 use Rattle.xcp_base.specs.Samples.{SampleParts}

@@ -1,4 +1,4 @@
--- What contracts see of an intake, and what it stands after (own).
+-- What contracts see of an intake, and what it stands after.
 use Rattle.std.specs.Prelude.{◌≡◌, ℕ, ◌<◌, ◌≤◌, List, ◌∷◌, length, slice_get, Some}
 use mathlib.Core.List.{IsPrefix}
 use Rattle.xcp_base.specs.declared.limits.TheConstants.{MAX_LISTS, MAX_TAKEN}

@@ -1,5 +1,5 @@
 -- What follows from the definitions: behind a stop nothing of the list is written until its next
--- start (own).
+-- start.
 use Rattle.std.specs.Prelude.{◌≡◌, ℕ, false, nat_eq, List, ◌∷◌, ◌++◌, filter}
 use Rattle.std.specs.Prelude.{Bool}
 use Rattle.std.specs.List.{list_any}

@@ -1,4 +1,4 @@
--- A step at a ring: what was there, what was taken, and what was written (own).
+-- A step at a ring: what was there, what was taken, and what was written.
 use Rattle.std.specs.Prelude.{◌≡◌, ℕ, ◌+◌, ◌<◌, ◌≤◌, false, true, List, [], ◌∷◌, ◌++◌, drop, length}
 use Rattle.std.specs.Prelude.{take as first}
 use mathlib.Core.List.{IsPrefix}

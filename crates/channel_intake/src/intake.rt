@@ -79,7 +79,7 @@ impl<T: TakeEnd> Intake<T> {
     }
 
     /// Takes the next item of the ring, if one is there. The frames of a sample that is written are
-    /// laid out in the buffer from `at` on, and end at `limit` or before it; where they wouldn't,
+    /// laid out in the buffer from `at` on, and end at `limit` or before it; if they wouldn't,
     /// the sample stays in the ring.
     ///
     /// It takes no memory. Behind `limit` the buffer has `MAX_TEXT` bytes at least.

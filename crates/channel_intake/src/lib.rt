@@ -1,5 +1,5 @@
 //! The slave's end of an event channel's ring while a master starts and stops DAQ lists: it takes
-//! the channel's items, and writes the samples of the lists that run (own).
+//! the channel's items, and writes the samples of the lists that run.
 #![tactic(auto)]
 
 mod account;
