@@ -1,4 +1,4 @@
--- All that waits is handed to a writer in one call (own).
+-- All that waits is handed to a writer in one call.
 use Rattle.std.specs.Prelude.{◌≡◌, ◌<◌, List, [], ◌++◌, length, take, ℕ, Result, Ok, Err}
 use Rattle.frame_writer.specs.Counts.{counted, is_stall, raised}
 use Rattle.frame_writer.specs.Shown.{OutState, after_bytes}
@@ -18,6 +18,6 @@ Hands a b bytes (Err (Cut n)) =
       stalls = counted (is_stall bytes n) a.stalls;
     })
 
--- the same outbox, where nothing waits and nothing is shown
+-- the same outbox, if nothing waits and nothing is shown
 abbrev pub none_waits : OutboxState → OutboxState
 none_waits o = record o { waits = []; units = []; shown = 0 }

@@ -1,4 +1,4 @@
--- An item of an event channel's ring is taken: a sample that passes is laid out (own).
+-- An item of an event channel's ring is taken: a sample that passes is laid out.
 use Rattle.std.specs.Prelude.{◌≡◌, ℕ, ◌+◌, ◌<◌, List, [], ◌∷◌, length}
 use mathlib.Core.List.{IsPrefix}
 use Rattle.xcp_base.specs.Samples.{MarkParts, SampleParts}

@@ -1,4 +1,4 @@
--- Frames that go together (own).
+-- Frames that go together.
 use Rattle.std.specs.Prelude.{ℕ, Bool, true, false, ◌&&◌, nat_eq, List, count_by, sum_by}
 use Rattle.frame_outbox.specs.declared.unit.Origin.{Origin}
 use Rattle.frame_outbox.specs.declared.unit.Origin.TheVariants.{Reply, Sample}

@@ -1,5 +1,5 @@
 //! The frames that a slave has laid out and that its transport has not taken yet: replies and whole
-//! samples, under one counter (own).
+//! samples, under one counter.
 #![tactic(auto)]
 
 mod front;

@@ -1,4 +1,4 @@
-//! The limits of an outbox (own).
+//! The limits of an outbox.
 use frame_writer::MAX_TEXT;
 use xcp_base::limits::MAX_CTO;
 

@@ -53,7 +53,7 @@ impl Outbox {
     ghost use Rattle.frame_outbox.specs.Units.{how_many, samples_of};
     ghost use Rattle.frame_outbox.specs.declared.limits.TheConstants.{MAX_UNITS, MOST};
 
-    /// An outbox in which nothing waits. Its first frame has CTR 0 (own).
+    /// An outbox in which nothing waits. Its first frame has CTR 0.
     pub fn new(alloc: Global) -> Result<Outbox, AllocError>
         ensures stands { IfOk result (λ o. StandsAfter o [] []) }
         ensures none_shown { IfOk result (λ o. o.shown ≡ 0) }
