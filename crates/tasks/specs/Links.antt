@@ -1,4 +1,4 @@
--- The slave's side of a task (own).
+-- The slave's side of a task.
 use Rattle.std.specs.Prelude.{◌≡◌, ◌≢◌, ℕ, ◌+◌, ◌≤◌, ◌⊎◌, Bool, true, false, ◌&&◌, ◌||◌, not, nat_eq}
 use Rattle.std.specs.Prelude.{List, [], ◌∷◌, ◌++◌, length, Option, Some, None, Result, Ok, Err}
 use Rattle.std.specs.Option.{is_some}
@@ -32,13 +32,13 @@ pub record LinkState (S : Type 0) : Type 0 where
   pub older : Option (AwayState S)
   pub newer : Option (AwayState S)
 
--- whether list l runs behind an order, where it ran so before
+-- whether list l runs behind an order, if it ran so before
 abbrev pub runs_behind : Order → Bool → ℕ → Bool
 runs_behind (order.Start k) before l = before || nat_eq k l
 runs_behind (order.Stop k) before l = before && not (nat_eq k l)
 runs_behind order.End before l = before
 
--- whether list l runs by orders: by the last start or stop of it, or as before where there is none
+-- whether list l runs by orders: by the last start or stop of it, or as before if there is none
 abbrev pub runs_by : List Order → Bool → ℕ → Bool
 runs_by [] before l = before
 runs_by (o ∷ os) before l = runs_by os (runs_behind o before l) l
@@ -145,7 +145,7 @@ module _ {S : Type 0} where
   hand_refusal l =
       first_refusal (takes_orders l.newer) (is_some l.older && is_some l.newer)
 
-  -- what a hand-out answers where it is refused so; where it isn't, the task may be at the place, or
+  -- what a hand-out answers if it is refused so; if it isn't, the task may be at the place, or
   -- there may be no memory
   abbrev pub AnswersHandOut :
       Option HandFault → Result Unit (HandFault × SamplerState S) → Type 0

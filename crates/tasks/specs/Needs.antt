@@ -1,4 +1,4 @@
--- The places that orders about DAQ lists take in a ring of orders (own).
+-- The places that orders about DAQ lists take in a ring of orders.
 use Rattle.std.specs.Prelude.{ℕ, zero, suc, ◌+◌, Bool, true, false, ◌||◌}
 use Rattle.xcp_base.specs.declared.limits.TheConstants.{MAX_LISTS}
 

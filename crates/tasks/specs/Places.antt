@@ -1,4 +1,4 @@
--- What one end of a place knows: what it put in, and what it took out (own).
+-- What one end of a place knows: what it put in, and what it took out.
 use Rattle.std.specs.Prelude.{List}
 use Rattle.tasks.specs.declared.place.Went.{Went}
 

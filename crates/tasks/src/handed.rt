@@ -108,11 +108,13 @@ impl<S: SendEnd> Handed<S> {
         ensures coming { result.1 ≡ record { sampler = sampler; orders = orders.ring } }
     {
         let began = Snapshot::of(&sampler);
+        // for the proof: pushed and popped at once, so that both ends of the way know the sampler
         producer.push_reserved(Return::Begun(sampler, orders));
         let _ = consumer.slots_beside(&mut producer);
         let Return::Begun(sampler, orders) = consumer.pop_known() else {
             unreachable!()
         };
+        // for the proof: the place on the way is known to be free again
         let _ = producer.slots_beside(&mut consumer);
         let handed = Handed {
             sampler,

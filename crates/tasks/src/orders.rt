@@ -8,7 +8,7 @@ use rtrb::{Consumer, Producer, RingBuffer};
 use std::alloc::{AllocError, Global};
 use std::marker::Model;
 
-/// The most starts and stops that wait for a task (own). One place more is kept for the order to
+/// The most starts and stops that wait for a task. One place more is kept for the order to
 /// end.
 pub const MAX_ORDERS: usize = 64;
 

@@ -28,7 +28,7 @@ ghost use Rattle.tasks.specs.Tasks.{StepsFrom, TakesTurn, TriggersHeld};
 /// The most that a look does.
 const MOST_STEPS: usize = 256;
 
-/// Nothing is due where no measurement is.
+/// Nothing is due if there is no measurement.
 const NONE_DUE: Taken = Taken {
     due: 0,
     accepted: 0,
@@ -132,7 +132,7 @@ impl<S: SendEnd> Task<S> {
     }
 
     /// Does all that the slave ordered, in its order, and then takes a trigger, with the memory
-    /// image and a timestamp in ticks, as `Sampler::trigger` does. Where there is no measurement
+    /// image and a timestamp in ticks, as `Sampler::trigger` does. If there is no measurement
     /// nothing is due.
     pub fn trigger(&mut self, image: &[u8], stamp: u32) -> Result<Taken, TriggerFault>
         ensures { TakesTurn S.SendEnd S.End.RingEnd MOST_STEPS NONE_DUE
