@@ -1,5 +1,5 @@
 -- The slave's side of an event channel: the measurements whose samplers are out, and those that
--- came back (own).
+-- came back.
 use Rattle.std.specs.Prelude.{◌≡◌, ◌⊎◌, ◌||◌, ℕ, Bool, List, [], All, Option, Some, None}
 use Rattle.std.specs.Option.{is_some}
 use mathlib.Core.List.{IsPrefix}
@@ -88,7 +88,7 @@ module _ {S E T F : Type 0} (send : SendGhosts S E) (ring : EndGhosts E)
     pub plans : All IsPlan opening.plans
     pub stands : SamplerStandsAfter send ring sampler (first_past opening)
 
-  -- a sampler is out exactly where a part of a measurement is kept, and it is that one's
+  -- a sampler is out exactly if a part of a measurement is kept, and it is that one's
   abbrev pub Fits : Option (AwayState S) → Option (ShareState T) → Type 0
   Fits None None = Unit {0}
   Fits (Some a) (Some s) = IsShareOf a.sampler s
@@ -146,7 +146,7 @@ module _ {T F : Type 0} (take : TakeGhosts T F) where
     pub older : b.older ≡ a.older
     pub newer : NewestGoesOn a.newer b.newer deed
 
-  -- what became of the next item of a part's ring; where there is no part, nothing changes
+  -- what became of the next item of a part's ring; if there is no part, nothing changes
   abbrev pub TakesOf :
       Option (ShareState T) → Option (ShareState T) → OutboxState → OutboxState → Step → Type 0
   TakesOf None None o p step = (step ≡ Nothing) × (p ≡ o)

@@ -1,4 +1,4 @@
--- Orders of one command about many DAQ lists of an event channel (own).
+-- Orders of one command about many DAQ lists of an event channel.
 use Rattle.std.specs.Prelude.{◌≡◌, ℕ, zero, suc, ◌+◌, ◌≤◌, Bool, ◌&&◌, not, nat_lt}
 use Rattle.std.specs.Prelude.{if◌then◌else◌, List, [], ◌∷◌, ◌++◌, length, Option, Some, None}
 use Rattle.xcp_base.specs.declared.limits.TheConstants.{MAX_TAKEN}

@@ -1,5 +1,4 @@
-//! The slave's side of one event channel: measurements come and go there, while its task runs
-//! (own).
+//! The slave's side of one event channel: measurements come and go there, while its task runs.
 #![tactic(auto)]
 
 mod channel;
