@@ -1,5 +1,5 @@
 -- The account of many measurements: what became of the samples of each DAQ list number, over all
--- parts of measurements that came back (own).
+-- parts of measurements that came back.
 use Rattle.std.specs.Prelude.{◌≡◌, ℕ, ◌+◌, ◌%◌, ◌^◌, ◌<◌, not, nat_eq, if◌then◌else◌}
 use Rattle.std.specs.Prelude.{All, List, count_by, length, slice_get, Some}
 use Rattle.std.specs.List.{sum_by}
@@ -60,7 +60,7 @@ written_in entries l = sum_by (λ e. written_of e l) entries
 abbrev pub Agree : ℕ → ℕ → Type 0
 Agree a b = a % 2 ^ 64 ≡ b % 2 ^ 64
 
--- the totals of list l, where so many of the samples that were written were not sent after all: of
+-- the totals of list l, if so many of the samples that were written were not sent after all: of
 -- those that were accepted, the others are left
 pub record AreTotals (entries : List Entry) (unsent l : ℕ) (totals : Totals) : Type 0 where
   pub all_due : Agree totals.due (due_in entries l)

@@ -1,4 +1,4 @@
--- What follows from the definitions (own).
+-- What follows from the definitions.
 use Rattle.std.specs.Prelude.{◌≡◌, ℕ, ◌+◌, All, List}
 use Rattle.session_account.specs.Accounts.{Agree, AreTotals, Entry, IsEntry}
 use Rattle.session_account.specs.Accounts.{accepted_in, due_in, dropped_in}

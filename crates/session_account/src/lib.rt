@@ -1,5 +1,5 @@
 //! The account of many measurements: what became of the samples of each DAQ list number, over all
-//! that came back (own).
+//! that came back.
 #![tactic(auto)]
 
 mod account;

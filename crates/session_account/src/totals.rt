@@ -20,7 +20,7 @@ pub struct Totals {
     pub left: u64,
 }
 
-/// The totals where no line was added.
+/// The totals before a line was added.
 pub const NONE: Totals = Totals {
     due: 0,
     written: 0,
@@ -41,7 +41,7 @@ impl Totals {
         }
     }
 
-    /// The same where so many of those written are left after all.
+    /// The same if so many of those written are left after all.
     pub fn moved(self, n: u64) -> Totals
         ensures { result ≡ moved self n }
     {
