@@ -1,4 +1,4 @@
--- What the calls of one measurement do at each of its event channels (own).
+-- What the calls of one measurement do at each of its event channels.
 use Rattle.std.specs.Prelude.{◌≡◌, ◌≢◌, ℕ, ◌⊎◌, ◌&&◌, true, false, List, [], Option, None, Some}
 use Rattle.std.specs.Prelude.{IfSome, IsNone, IsSome, slice_get}
 use Rattle.xcp_base.specs.Lists.{has_list}
@@ -40,7 +40,7 @@ module _ {S T : Type 0} where
     pub newer : LooksAtNewest a.link.newer b.link.newer
     pub rest : b ≡ record a { link = record a.link { newer = b.link.newer } }
 
-  -- starts of the lists at each event channel find places, where they are any
+  -- starts of the lists at each event channel find places, if they are any
   abbrev pub CanStartAll : List ℕ → List (ChannelState S T) → Type 0
   CanStartAll lists now =
       (c set : ℕ) (b : ChannelState S T)

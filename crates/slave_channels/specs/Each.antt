@@ -1,4 +1,4 @@
--- What became of each element of a list, or of the one at a place (own).
+-- What became of each element of a list, or of the one at a place.
 use Rattle.std.specs.Prelude.{◌≡◌, ◌≢◌, ℕ, List, length, slice_get, Some}
 
 module _ {A : Type 0} where

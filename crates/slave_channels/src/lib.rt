@@ -1,5 +1,5 @@
 //! The slave's side of all event channels: a measurement is opened, started, stopped and ended at
-//! all channels that have lists of it (own).
+//! all channels that have lists of it.
 #![tactic(auto)]
 
 mod back;
