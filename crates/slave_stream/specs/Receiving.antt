@@ -1,4 +1,4 @@
--- What a slave hears of the bytes of its master (own).
+-- What a slave hears of the bytes of its master.
 use Rattle.std.specs.Prelude.{◌≡◌, ◌⊎◌, ℕ, ◌≤◌, true, List, [], ◌∷◌, ◌++◌, length, take as first}
 use Rattle.channel_ring.specs.declared.ends.TakeEnd.{Ghosts as TakeGhosts}
 use Rattle.frame_reader.specs.Reading.{Leads, ReaderState}

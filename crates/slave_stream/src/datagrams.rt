@@ -12,7 +12,7 @@ use std::alloc::Global;
 /// still the caller's, who passes them again once some replies were sent.
 ///
 /// A part of a frame at the end, or a LEN that is 0 or over MAX_CTO, drops what is left of this
-/// datagram, and nothing else: the next one is heard from its first byte (own).
+/// datagram, and nothing else: the next one is heard from its first byte.
 pub fn datagram<R: Ring>(slave: &mut Slave<R>, alloc: Global, bytes: &[u8], clock: u32) -> usize
     ensures hears { HearsDatagram R.Take.TakeEnd slave.old slave.new clock bytes.now result }
     ensures within { result ≤ length bytes.now }

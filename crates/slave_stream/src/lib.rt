@@ -1,4 +1,5 @@
-//! A slave hears its master from bytes: those of a stream, in whatever pieces, or of a datagram.
+//! A slave hears its master from bytes: those of a stream, in whatever pieces, or of a datagram
+//! (ASAM MCD-1 XCP, transport layer for Ethernet).
 #![tactic(auto)]
 
 mod datagrams;

@@ -51,7 +51,7 @@ impl MasterStream {
     /// is no room for a reply, nothing is taken, not even bytes that end no frame.
     ///
     /// Refused if a frame is bad (LEN 0 or over MAX_CTO), as soon as its LEN is taken. The packets
-    /// before it were heard, and the slave hangs up (own). From then on every call is refused, and
+    /// before it were heard, and the slave hangs up. From then on every call is refused, and
     /// changes nothing.
     pub fn receive<R: Ring>(
         &mut self,
