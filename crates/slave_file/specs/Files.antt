@@ -1,4 +1,4 @@
--- A session file (own): which text is which session, and what its first fault is.
+-- A session file: which text is which session, and what its first fault is.
 use Rattle.std.specs.Prelude.{◌≡◌, ℕ, List, Some, map}
 use Rattle.toml.specs.Data.{Members}
 use Rattle.toml.specs.Parse.{parse_document}

@@ -25,7 +25,7 @@ abbrev pub only_keys : List (List ℕ) → Members → Bool
 only_keys ks no_members = true
 only_keys ks (member key d ms) = is_among ks key && only_keys ks ms
 
--- the integer of a value, if it is no more than `most`; 0 where there is none
+-- the integer of a value, if it is no more than `most`; 0 if there is none
 abbrev pub number_or : ℕ → Option Data → Option ℕ
 number_or most None = Some 0
 number_or most (Some d) = number_in 0 most d
@@ -33,7 +33,7 @@ number_or most (Some d) = number_in 0 most d
 abbrev pub number_or_0 : ℕ → List ℕ → Members → Option ℕ
 number_or_0 most key ms = number_or most (get_member key ms)
 
--- the string of a value; the empty one where there is none
+-- the string of a value; the empty one if there is none
 abbrev pub text_or : Option Data → Option (List ℕ)
 text_or None = Some []
 text_or (Some d) = as_str d

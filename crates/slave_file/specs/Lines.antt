@@ -1,4 +1,4 @@
--- The grammar of a script (own): which text is which line.
+-- The grammar of a script: which text is which line.
 use Rattle.std.specs.Prelude.{◌≡◌, ℕ, List, [], ◌∷◌, codes}
 use Rattle.run_file.specs.RunFile.{IsPacketText}
 use Rattle.run_file.specs.Steps.{IsTrigger, spaced}

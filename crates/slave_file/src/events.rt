@@ -35,7 +35,7 @@ pub fn events_of(alloc: Global, values: &[Value]) -> Result<Vec<EventChannel>, F
     Ok(events)
 }
 
-/// The event channel of a value; none where it is none.
+/// The event channel of a value; none if it is none.
 fn event_in(alloc: Global, value: &Value) -> Result<Option<EventChannel>, AllocError>
     ensures { IfOk result (λ event. option_map event_data event ≡ event_in (view value.now)) }
 {
@@ -45,7 +45,7 @@ fn event_in(alloc: Global, value: &Value) -> Result<Option<EventChannel>, AllocE
     }
 }
 
-/// The event channel of a table; none where it is none.
+/// The event channel of a table; none if it is none.
 fn event_of(alloc: Global, table: &Table) -> Result<Option<EventChannel>, AllocError>
     ensures { IfOk result (λ event. option_map event_data event ≡ event_of (table_view table.now)) }
 {

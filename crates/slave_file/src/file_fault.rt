@@ -17,7 +17,7 @@ pub enum FileFault {
     /// This string of `script` is the first that is no line of a session.
     #[error("line {0}")]
     BadLine(usize),
-    /// Memory was wanting. It may be answered before any other fault is looked for.
+    /// Memory ran out. It may be answered before any other fault is looked for.
     #[error("want of memory")]
     Memory,
 }

@@ -1,4 +1,4 @@
-//! Values of keys, with what stands for them where they are absent.
+//! Values of keys, with their defaults.
 ghost use Rattle.std.specs.Prelude.{◌≡◌, ◌≤◌, IfOk, IfSome, option_copied};
 ghost use Rattle.toml.specs.View.{table_view};
 ghost use Rattle.slave_file.specs.Keys.{event_keys, keys, number_or_0, only_keys, text_or_empty};
@@ -49,7 +49,7 @@ fn is_event_key(word: &str) -> bool
         || word == "priority"
 }
 
-/// The integer of a key, if it is no more than `most`; 0 where the key is absent.
+/// The integer of a key, if it is no more than `most`; 0 if the key is absent.
 pub fn number_or_0(table: &Table, key: &str, most: usize) -> Option<usize>
     ensures value { result ≡ number_or_0 most key.now (table_view table.now) }
     ensures within { IfSome result (λ n. n ≤ most) }
@@ -60,7 +60,7 @@ pub fn number_or_0(table: &Table, key: &str, most: usize) -> Option<usize>
     }
 }
 
-/// The string of a key; the empty one where the key is absent.
+/// The string of a key; the empty one if the key is absent.
 pub fn text_or_empty<'a>(table: &'a Table, key: &str) -> Option<&'a str>
     ensures { option_copied result ≡ text_or_empty key.now (table_view table.now) }
 {

@@ -1,4 +1,4 @@
-//! The limits of a session file that no other crate has (own).
+//! The limits of a session file that no other crate has.
 
 /// The most lines of a script.
 pub const MAX_LINES: usize = 1_000_000;

@@ -39,7 +39,7 @@ pub fn lines_of(alloc: Global, values: &[Value]) -> Result<Vec<Line>, FileFault>
     Ok(lines)
 }
 
-/// The line of a text; none where it is none.
+/// The line of a text; none if it is none.
 fn line_of(alloc: Global, text: &str) -> Result<Option<Line>, AllocError>
     ensures { IfOk result (λ line. option_map line_data line ≡ line_of text.now) }
 {
