@@ -1,4 +1,4 @@
--- What becomes of what is asked of an event channel (own).
+-- What becomes of what is asked of an event channel.
 use Rattle.std.specs.Prelude.{◌≡◌, ℕ, ◌⊎◌, List, filter_map, length, map, slice_get, take}
 use Rattle.std.specs.Prelude.{Option, None, Some}
 use Rattle.std.specs.Option.{option_map}
@@ -20,7 +20,7 @@ pub record Setting : Type 0 where
   pub capacity : ℕ
   pub cost : Item → ℕ
 
--- why what is asked of a channel with this past is refused, want of room aside
+-- why what is asked of a channel with this past is refused, lack of room aside
 abbrev pub refusal : ℕ → Past → Event → Option Cause
 refusal image_len past (Trigger image stamp) =
     option_map OfTrigger (trigger_refusal image_len past image)
@@ -35,7 +35,7 @@ ExceedsRoom s past (Stop l) =
     ExceedsCapacity s.capacity s.cost (items past.opening past.history past.decisions)
     (marker_of past.opening.channel l)
 
--- what is asked of a channel with this past is answered so: it is accepted where nothing speaks
+-- what is asked of a channel with this past is answered so: it is accepted if nothing speaks
 -- against it, or it is refused for its cause; or it is a stop that finds no room
 abbrev pub IsAnswer : Setting → Past → Event → Option Cause → Type 0
 IsAnswer s past e None = refusal s.image_len past e ≡ None
@@ -47,7 +47,7 @@ IsAnswer s past e (Some cause) =
 abbrev pub Answered : Type 0
 Answered = Event × Option Cause
 
--- the event, where it was accepted
+-- the event, if it was accepted
 abbrev pub accepted_event : Answered → Option Event
 accepted_event (e, None) = Some e
 accepted_event (e, Some cause) = None

@@ -1,4 +1,4 @@
--- What the steps of a run come to follows from what the rings refused (own).
+-- What the steps of a run come to follows from what the rings refused.
 use Rattle.std.specs.Prelude.{◌≡◌, ℕ, ◌<◌, All, Bool, false, true, List, map, Option, None, Some}
 use Rattle.sampler.specs.Past.{Past}
 use Rattle.sampler.specs.declared.faults.StopFault.TheVariants.{NoRoom, NotOfChannel, NotRunning}

@@ -1,4 +1,4 @@
--- What the steps of a run do, one after another (own).
+-- What the steps of a run do, one after another.
 use Rattle.std.specs.Prelude.{◌≡◌, ℕ, ◌+◌, ◌*◌, ◌<◌, ◌++◌, Bool, true, false, cond, nat_eq}
 use Rattle.std.specs.Prelude.{List, [], ◌∷◌, count_by, flat_map, length, map, slice_get}
 use Rattle.std.specs.Prelude.{Option, None, Some, slice_index, take}
@@ -58,7 +58,7 @@ abbrev pub sent_in : Past → List Item
 sent_in past = items past.opening past.history past.decisions
 
 -- of n rings, to which the channels sent so much and of which this was taken before, a pump takes
--- the first item left in each that has one, in rising channel; where the writer fails, the first of
+-- the first item left in each that has one, in rising channel; if the writer fails, the first of
 -- these, or none
 pub record TakesFront (n : ℕ) (sent : ℕ → List Item) (before : List (ℕ × Item)) (failed : Bool)
     (qs : List (ℕ × Item))

@@ -1,4 +1,4 @@
--- What becomes of what is asked of one sampler, in whichever thread (own).
+-- What becomes of what is asked of one sampler, in whichever thread.
 use Rattle.std.specs.Prelude.{◌≡◌, ℕ, ◌+◌, ◌++◌, Bool, List, count_by}
 use Rattle.std.specs.Prelude.{Option, None, Some}
 use Rattle.std.specs.Option.{is_some}

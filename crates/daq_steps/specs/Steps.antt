@@ -1,10 +1,10 @@
--- What the steps of a run ask of the event channels (own).
+-- What the steps of a run ask of the event channels.
 use Rattle.std.specs.Prelude.{ℕ, cond, List, [], ◌∷◌, flat_map, nat_eq}
 use Rattle.sampler.specs.History.{Event, Start, Stop, Trigger}
 use Rattle.run_file.specs.Steps.{StepData, pump, start, stop, trigger}
 
--- a step asks something of the sampler of an event channel, which is an event of its history where
--- it is accepted; or it pumps all rings
+-- a step asks something of the sampler of an event channel, which is an event of its history if it
+-- is accepted; or it pumps all rings
 pub data RunStep : Type 0 where
   Ask : (channel : ℕ) → (event : Event) → RunStep
   Pump : RunStep

@@ -1,4 +1,4 @@
--- What a watch is told of the steps of a run (own).
+-- What a watch is told of the steps of a run.
 use Rattle.std.specs.Prelude.{◌≡◌, ℕ, Bool, true, false, cond, List, [], ◌∷◌, count_by, length}
 use Rattle.std.specs.Prelude.{Option, None, Some}
 use Rattle.daq_steps.specs.declared.came.Came.{Came}

@@ -56,7 +56,7 @@ fn count(came: Came) -> u64
     }
 }
 
-/// Does the steps of a run in order, and answers how many were refused. They go on where the writer
+/// Does the steps of a run in order, and answers how many were refused. They go on if the writer
 /// fails.
 pub fn do_steps<O: Out, T: Beside>(engine: &mut Engine<O, T>, run: &Run) -> u64
 where
