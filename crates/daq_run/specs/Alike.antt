@@ -1,4 +1,4 @@
--- Two outcomes of one run: if the rings refused the same offers, they are the same (own).
+-- Two outcomes of one run: if the rings refused the same offers, they are the same.
 use Rattle.std.specs.Prelude.{◌≡◌, ℕ, ◌<◌, false, List, map}
 use Rattle.daq_store.specs.Standing.{StoreState}
 use Rattle.frame_writer.specs.Shown.{OutState, after_bytes}

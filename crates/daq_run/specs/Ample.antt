@@ -1,4 +1,4 @@
--- Rings that hold all that would be sent if nothing were refused for want of room (own).
+-- Rings that hold all that would be sent if nothing were refused for lack of room.
 use Rattle.std.specs.Prelude.{◌≡◌, ◌≢◌, ℕ, ◌≤◌, Bool, true, cond, List, [], ◌∷◌, ◌++◌, length}
 use Rattle.std.specs.Prelude.{replicate, slice_get, Some}
 use Rattle.std.specs.Option.{is_none}
@@ -15,11 +15,11 @@ use Rattle.daq_steps.specs.Runs.{sent_in}
 abbrev pub no_drops : Opening → List Event → List Bool
 no_drops opening h = replicate (length (due opening h)) true
 
--- what a channel with this history has behind it, where no sample was dropped
+-- what a channel with this history has behind it, if no sample was dropped
 abbrev pub whole_past : Opening → List Event → Past
 whole_past opening h = record { opening = opening; history = h; decisions = no_drops opening h }
 
--- of what is asked after a history, what is accepted where nothing is refused for want of room
+-- of what is asked after a history, what is accepted if nothing is refused for lack of room
 abbrev pub fit_events : ℕ → Opening → List Event → List Event → List Event
 fit_events image_len opening h [] = []
 fit_events image_len opening h (e ∷ es) =
@@ -27,8 +27,8 @@ fit_events image_len opening h (e ∷ es) =
     (e ∷ fit_events image_len opening (h ++ e ∷ []) es)
     (fit_events image_len opening h es)
 
--- what a channel comes to that is asked for this from its opening on, where nothing is refused for
--- want of room
+-- what a channel comes to that is asked for this from its opening on, if nothing is refused for
+-- lack of room
 abbrev pub ample_past : Setting → Opening → List Event → Past
 ample_past s opening asked = whole_past opening (fit_events s.image_len opening [] asked)
 
@@ -36,7 +36,7 @@ ample_past s opening asked = whole_past opening (fit_events s.image_len opening 
 abbrev pub HoldsAll : Setting → Opening → List Event → Type 0
 HoldsAll s opening asked = units s.cost (sent_in (ample_past s opening asked)) ≤ s.capacity
 
--- the channel came to that: no sample was dropped, and no stop refused for want of room
+-- the channel came to that: no sample was dropped, and no stop refused for lack of room
 pub record DropsNothing (s : Setting) (asked : List Event) (told : List Answered) (past : Past)
     : Type 0 where
   pub history : past.history ≡ (ample_past s past.opening asked).history

@@ -1,4 +1,4 @@
--- What stands where a run was not done to its end (own).
+-- What stands if a run was not done to its end.
 use Rattle.std.specs.Prelude.{◌≡◌, ◌⊎◌, ℕ, Bool, true, false}
 use Rattle.daq_store.specs.Standing.{StoreState}
 use Rattle.frame_writer.specs.Frame.{text}
@@ -29,8 +29,8 @@ pub record StopsBehind (run : RunData) (before after : OutState) : Type 0 where
   pub has_run : HasRun run before refused
   pub written : after ≡ has_run.transmitter.writer.out
 
--- what stands at a fault, where `behind` stands at a fault that comes once the engine was opened,
--- and `apart` where a thread can't be had
+-- what stands at a fault, if `behind` stands at a fault that comes once the engine was opened,
+-- and `apart` if a thread can't be had
 abbrev pub StandsBy : Type 0 → Type 0 → RunData → OutState → OutState → SimFault → Type 0
 StandsBy behind apart run before after Memory =
     StopsInSetUp run before after ⊎ (StopsBefore run before after true ⊎ behind)
@@ -40,7 +40,7 @@ StandsBy behind apart run before after SetupWrite =
 StandsBy behind apart run before after EndLost = behind
 StandsBy behind apart run before after NoThread = apart
 
--- what stands where a run ends with a fault: the writer showed this before and that after
+-- what stands if a run ends with a fault: the writer showed this before and that after
 abbrev pub StandsAtFault : RunData → OutState → OutState → SimFault → Type 0
 StandsAtFault run before after fault =
     StandsBy (StopsBehind run before after) ⊥ run before after fault

@@ -1,4 +1,4 @@
--- What a run comes to (own).
+-- What a run comes to.
 use Rattle.std.specs.Prelude.{◌≡◌, ℕ, ◌<◌, true, false, List, count_by, length, map, slice_get}
 use Rattle.std.specs.Prelude.{slice_index, Some}
 use Rattle.xcp_base.specs.declared.item.Item.{Item}
@@ -71,7 +71,7 @@ pub record HasRun (run : RunData) (before : OutState) (refused : ℕ) : Type 0 w
       AreDone run.channels (setting_of run) (map run_step run.steps) transmitter.writer.closed past
       done
 
--- the engine of a run, whose transmitter had taken these items, was closed, after a drain where the
+-- the engine of a run, whose transmitter had taken these items, was closed, after a drain if the
 -- run says so. The ends are those of its channels, and tell what these sent
 pub record IsClosed (run : RunData) (writer : WriterState) (past : ℕ → Past)
     (taken : List (ℕ × Item)) (transmitter : TransmitterState) (report : Report) (after : OutState)

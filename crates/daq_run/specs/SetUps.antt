@@ -1,4 +1,4 @@
--- The set-up of a run (own).
+-- The set-up of a run.
 use Rattle.std.specs.Prelude.{◌≡◌, ℕ, List, [], ◌∷◌, ◌++◌}
 use Rattle.daq_store.specs.Calls.{Profile}
 use Rattle.daq_store.specs.Replies.{calls_after_packets, replies}

@@ -1,4 +1,4 @@
--- What a run with a thread for each event channel comes to, whatever the schedule (own).
+-- What a run with a thread for each event channel comes to, whatever the schedule.
 use Rattle.std.specs.Prelude.{◌≡◌, ℕ, ◌<◌, true, List, count_by, map, sum_by}
 use Rattle.xcp_base.specs.declared.item.Item.{Item}
 use Rattle.daq_store.specs.Standing.{StoreState}
@@ -36,7 +36,7 @@ pub record HasRunApart (run : RunData) (before : OutState) (refused : ℕ) : Typ
       (c : ℕ) → c < run.channels
       → AreAnswered (setting_of run c) (asked_of c (map run_step run.steps)) (told c) (past c)
   pub counted : refused ≡ refused_in run.channels told
-  -- where the ring of a channel holds all that its steps would send, nothing is dropped
+  -- if the ring of a channel holds all that its steps would send, nothing is dropped
   pub ample :
       (c : ℕ) → c < run.channels
       → HoldsAll (setting_of run c) (past c).opening (asked_of c (map run_step run.steps))
@@ -67,7 +67,7 @@ pub record StopsAmongThreads (run : RunData) (before after : OutState) : Type 0 
   pub taken : HasTaken writer transmitter items
   pub written : after ≡ transmitter.writer.out
 
--- what stands where a run in threads ends with a fault: the writer showed this before and that
+-- what stands if a run in threads ends with a fault: the writer showed this before and that
 -- after
 abbrev pub ThreadsStandAtFault : RunData → OutState → OutState → SimFault → Type 0
 ThreadsStandAtFault run before after fault =

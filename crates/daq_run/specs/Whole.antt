@@ -1,4 +1,4 @@
--- What a run writes whose rings hold all that its channels send, in whatever schedule (own).
+-- What a run writes whose rings hold all that its channels send, in whatever schedule.
 use Rattle.std.specs.Prelude.{◌≡◌, ℕ, ◌<◌, Any, true, false, List, count_by, nat_eq, slice_get}
 use Rattle.std.specs.Prelude.{Some}
 use Rattle.xcp_base.specs.declared.item.Item.{Item}
@@ -38,7 +38,7 @@ pub record WritesWhole (past : Past) (qs : List (List ℕ)) (account : List List
       (i : ℕ) (plan : ListPlan) → slice_get past.opening.plans i ≡ Some plan
       → Any (IsWholeLine past plan) account
 
--- where a run was closed after a drain, its writer didn't fail, and a channel of it dropped nothing
+-- if a run was closed after a drain, its writer didn't fail, and a channel of it dropped nothing
 -- of what it was asked for, that channel's packets and lines are those of its opening and of what
 -- it was asked for alone: the same in one thread and in every schedule of many
 abbrev pub AmpleRunsAreWhole : Type 0

@@ -5,13 +5,13 @@ ghost use Rattle.daq_run.specs.Whole.{AmpleRunsAreWhole};
 
 use run_file::Run;
 
-/// Where a ring holds all items that its channel's steps would give if none were refused for want
-/// of room, no sample is dropped, and no stop is refused for want of room.
+/// If a ring holds all items that its channel's steps would give if none were refused for want
+/// of room, no sample is dropped, and no stop is refused for lack of room.
 pub fn ample_rings_drop_nothing()
     ensures { AmpleRingsDropNothing }
 {}
 
-/// Where a ring held all, the packets of its channel and its lines of the account are those of the
+/// If a ring held all, the packets of its channel and its lines of the account are those of the
 /// opening and the steps alone, once the run was drained and its writer didn't fail: the same in
 /// one thread and in every schedule of many.
 pub fn ample_runs_are_whole()
@@ -24,6 +24,7 @@ pub fn ample_runs_are_whole()
 pub fn refusals_decide_runs(run: &Run)
     ensures { RefusalsDecideRuns run.now }
 {
+    // for the proof: gives `limits` of the run
     let _ = run.ring();
 }
 
@@ -32,5 +33,6 @@ pub fn refusals_decide_runs(run: &Run)
 pub fn ample_runs_are_same(run: &Run)
     ensures { AmpleRunsAreSame run.now }
 {
+    // for the proof: gives `limits` of the run
     let _ = run.ring();
 }

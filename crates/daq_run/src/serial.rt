@@ -20,11 +20,11 @@ use run_file::{RingKind, Run};
 use std::alloc::Global;
 
 /// Carries out a run in one thread: its set-up, whose replies are the first frames, then its steps
-/// in order on one engine, over rings of the run's kind, and at the end a drain where the run says
+/// in order on one engine, over rings of the run's kind, and at the end a drain if the run says
 /// so.
 ///
-/// The steps go on where the writer fails; the report says that it failed. Refused with `Memory`,
-/// `NothingRunning` where after the set-up no DAQ list runs, `SetupWrite` where a reply isn't
+/// The steps go on if the writer fails; the report says that it failed. Refused with `Memory`,
+/// `NothingRunning` if after the set-up no DAQ list runs, `SetupWrite` if a reply isn't
 /// written whole, or `EndLost`; the writer comes back with what was written until then.
 pub fn run_serial<O: Out>(alloc: Global, run: &Run, out: O) -> Result<Outcome<O>, (SimFault, O)>
     ensures ok { IfOk result (λ outcome. ComesTo run.now (shown O.Out out)

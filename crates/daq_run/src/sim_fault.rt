@@ -4,7 +4,7 @@ use thiserror::Error;
 /// Why a run was not done to its end. The writer comes back.
 #[derive(Clone, Copy, Debug, PartialEq, Eq, Error)]
 pub enum SimFault {
-    /// Memory was wanting.
+    /// Memory ran out.
     #[error("want of memory")]
     Memory,
     /// After the set-up no DAQ list runs.

@@ -35,12 +35,12 @@ type Worker<'a, S> = PromisedHandle<Worked<<S as SendEnd>::End>, WillWork<'a, S>
 
 /// Carries out a run with one thread for each event channel, which does that channel's steps in
 /// order; pump steps are passed over. The transmitter pumps in the caller's thread until each
-/// sampler was finished in its own. Then come a drain, where the run says so, and the account. It
+/// sampler was finished in its own. Then come a drain, if the run says so, and the account. It
 /// may wait.
 ///
-/// The steps go on where the writer fails; the report says that it failed. Refused with `Memory`,
-/// `NothingRunning` where after the set-up no DAQ list runs, `SetupWrite` where a reply isn't
-/// written whole, `EndLost`, or `NoThread` where a thread can't be had; then those that run are
+/// The steps go on if the writer fails; the report says that it failed. Refused with `Memory`,
+/// `NothingRunning` if after the set-up no DAQ list runs, `SetupWrite` if a reply isn't
+/// written whole, `EndLost`, or `NoThread` if a thread can't be had; then those that run are
 /// joined first. The writer comes back with what was written until then.
 pub fn run_threads<R: Threads + Wait + Sync, O: Out, G: Gate + Sync>(
     rt: &R,
@@ -124,6 +124,7 @@ where
         ended: &ended,
     };
     let (worked, lent) = work_beside(rt, alloc, samplers, run, gate, &ended, pumping);
+    // for the proof: what came back is what was lent, so the transmitter is that of now
     take_back(lent);
     worked
 }

@@ -1,4 +1,4 @@
--- What the threads of the event channels do (own).
+-- What the threads of the event channels do.
 use Rattle.std.specs.Prelude.{◌≡◌, ℕ, ◌+◌, Bool, false, List, [], ◌∷◌, nat_eq}
 use Rattle.std.specs.Prelude.{IfSome, Option, count_by}
 use Rattle.channel_ring.specs.declared.ends.SendEnd.{Ghosts as SendGhosts}
@@ -47,7 +47,7 @@ pub record IsLeftOf {S E : Type 0} (send : SendGhosts S E) (ring : EndGhosts E)
       (asked_of before.channel steps) refused
 
 -- a sampler did the steps of its channel, of which so many were refused, and was finished: what is
--- left of it, where anything is
+-- left of it, if anything is
 abbrev pub HasWorked :
     {S E : Type 0} → SendGhosts S E → EndGhosts E → SamplerState S → List RunStep
     → Option (SamplerEndState E) → ℕ → Type 0
