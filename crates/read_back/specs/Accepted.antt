@@ -1,4 +1,4 @@
--- The samples of a DAQ list that its event channel accepted, as a reader gives them back (own).
+-- The samples of a DAQ list that its event channel accepted, as a reader gives them back.
 use Rattle.std.specs.Prelude.{◌≡◌, ℕ, ◌+◌, ◌==◌, ◌&&◌, Bool, cond, List, [], ◌∷◌, ◌++◌, length}
 use Rattle.std.specs.Prelude.{Option, Some, None, slice_get}
 use Rattle.copy_plan.specs.Config.{ListPlan}

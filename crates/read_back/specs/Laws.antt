@@ -1,5 +1,5 @@
 -- What an engine wrote is, for the reader of its lists, a recording of the samples that its event
--- channels accepted (own).
+-- channels accepted.
 use Rattle.std.specs.Prelude.{◌≡◌, ℕ, ◌+◌, ◌<◌, Bool, false, true, All, List, [], ◌++◌, length}
 use Rattle.std.specs.Prelude.{slice_get, None, Some}
 use mathlib.Core.List.{IsPrefix}

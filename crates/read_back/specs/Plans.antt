@@ -1,4 +1,4 @@
--- The DAQ lists of all event channels, as a reader has them (own).
+-- The DAQ lists of all event channels, as a reader has them.
 use Rattle.std.specs.Prelude.{◌≡◌, ℕ, ◌<◌, List, filter, length, map, slice_get, Some}
 use Rattle.copy_plan.specs.Config.{ListPlan}
 use Rattle.daq_store.specs.Calls.{numbers_below}

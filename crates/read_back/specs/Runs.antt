@@ -1,5 +1,5 @@
 -- What a run wrote is, behind the replies of its set-up, a recording of the samples that its event
--- channels accepted (own).
+-- channels accepted.
 use Rattle.std.specs.Prelude.{◌≡◌, ℕ, ◌+◌, ◌%◌, ◌<◌, false, true, List, [], ◌++◌, length}
 use Rattle.std.specs.Prelude.{slice_get, Some}
 use Rattle.copy_plan.specs.Config.{ListPlan}

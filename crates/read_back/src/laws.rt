@@ -8,7 +8,7 @@ use daq_store::Store;
 /// What an engine wrote is a recording of the first samples that its event channels accepted.
 ///
 /// It is one for a reader of the plans of all channels, in any order, who awaits the counter that
-/// was next as the engine was opened, whatever was written before: the bytes behind that, where the
+/// was next as the engine was opened, whatever was written before: the bytes behind that, if the
 /// frame writer did not fail, and else the whole frames among them, behind which stands a proper
 /// prefix of the frames of the sample in hand. So `daq_reader::read`, by its clause `whole`,
 /// answers `Ok` on these bytes, and gives back of each DAQ list just the samples that were written
@@ -24,6 +24,7 @@ pub fn ready_lists_are_all(store: &Store)
     ensures { HasAllPlans store.now }
 {
     for l in 0..store.lists() {
+        // for the proof: gives `channel` of the list, if it is ready
         let _ = store.plan(l);
     }
 }
