@@ -1,4 +1,4 @@
--- What is kept of the steps of a run (own).
+-- What is kept of the steps of a run.
 use Rattle.std.specs.Prelude.{◌≡◌, false, [], ◌∷◌, ◌++◌}
 use Rattle.daq_steps.specs.declared.came.Came.{Came}
 use Rattle.run_story.specs.declared.step_log.StepLog.{StepLog}

@@ -41,7 +41,7 @@ impl FrameLines {
         self.counter
     }
 
-    /// The text; refused where memory for a line was.
+    /// The text; refused if memory for a line was refused.
     pub fn into_text(self) -> Result<String, AllocError> {
         if self.is_short {
             return Err(AllocError);
@@ -56,6 +56,7 @@ impl Samples for FrameLines {
     ghost kept = { λ _. tt };
 
     fn hand(&mut self, place: usize, sample: &SampleView<'_>) {
+        // for the proof: clauses speak of the samples that were handed over
         self.log.note(place, sample);
         match write_sample(&mut self.text, self.counter, sample) {
             Ok(counter) => self.counter = counter,

@@ -4,7 +4,7 @@ use frame_writer::{Out, OutFault};
 use std::alloc::Global;
 use std::marker::Model;
 
-/// A writer that keeps a copy of what another one takes. For that one nothing changes: where memory
+/// A writer that keeps a copy of what another one takes. For that one nothing changes: if memory
 /// for the copy is refused, the copy alone is given up.
 ///
 /// Contracts see the other one.
