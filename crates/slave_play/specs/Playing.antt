@@ -1,4 +1,4 @@
--- What a slave does where the lines of a script are played (own).
+-- What a slave does when the lines of a script are played.
 use Rattle.std.specs.Prelude.{◌≡◌, ℕ, ◌+◌, ◌*◌, ◌≤◌, List, [], ◌∷◌, ◌++◌, length}
 use Rattle.std.specs.Prelude.{take as first}
 use Rattle.xcp_base.specs.declared.limits.TheConstants.{MAX_TAKEN}
@@ -61,7 +61,7 @@ module _ {S T F : Type 0} (take : TakeGhosts T F) where
     pub heard : heard_by acts ≡ packets
     pub goes : (d : Profile) (log : List Act) → StandsIf d a log → StandsIf d b (acts ++ log)
 
-  -- lines were played, where `before` lines had been refused and now `after` are: the packets
+  -- lines were played, if `before` lines had been refused and now `after` are: the packets
   -- that were heard are those of the master without those that were refused
   pub record Does (a b : Sending S T) (before after : ℕ) (lines : List LineData) : Type 0 where
     pub unheard : ℕ

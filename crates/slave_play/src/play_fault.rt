@@ -8,7 +8,7 @@ pub enum PlayFault {
     /// The profile is out of a limit.
     #[error("{0}")]
     Profile(ProfileFault),
-    /// Memory was wanting.
+    /// Memory ran out.
     #[error("want of memory")]
     Memory,
     /// What is left of a task did not come back, so the account would not be whole.
