@@ -1,4 +1,4 @@
--- What is printed of a run that was done (own).
+-- What is printed of a run that was done.
 use Rattle.std.specs.Prelude.{◌≡◌, ℕ, Bool, false, true, List, [], ◌++◌, Option, None, Some}
 use Rattle.std.specs.Io.KnownBytes.{Appends}
 use Rattle.hex.specs.Hex.{encode_lower}
@@ -25,7 +25,7 @@ abbrev pub CameTo : Bool → RunData → ℕ → Report → OutState → Type 0
 CameTo false run refused report written = ComesTo run nothing_written refused report written
 CameTo true run refused report written = ThreadsComeTo run nothing_written refused report written
 
--- a run came to this. Where the status is 0, its writer didn't fail, and standard output, which had
+-- a run came to this. If the status is 0, its writer didn't fail, and standard output, which had
 -- these bytes before and has those now, has behind them the frames and the account
 pub record PrintsRun (threads : Bool) (frames_line : List ℕ → Option (List ℕ)) (run : RunData)
     (status : ℕ) (before after : Option (List ℕ))
@@ -40,7 +40,7 @@ pub record PrintsRun (threads : Bool) (frames_line : List ℕ → Option (List �
       → Appends before after
       (frames_text (frames_line written.contents) ++ account_text refused report)
 
--- where a file takes the frames they aren't printed
+-- if a file takes the frames they aren't printed
 abbrev pub frames_line_of : {T : Type 0} → Option T → List ℕ → Option (List ℕ)
 frames_line_of None = in_hex
 frames_line_of (Some file) = not_printed

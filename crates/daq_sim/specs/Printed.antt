@@ -1,4 +1,4 @@
--- What the program prints of a run (own). Each line ends with a line feed.
+-- What the program prints of a run. Each line ends with a line feed.
 use Rattle.std.specs.Prelude.{ℕ, List, [], ◌∷◌, ◌++◌, Option, Some, None, Bool, codes, flat_map}
 use Rattle.std.specs.Prelude.{if◌then◌else◌}
 use Rattle.std.specs.Fmt.{decimal}
@@ -25,7 +25,7 @@ account_text refused report = flat_map list_line report.lists.items
     ++ line_of (codes "refused " ++ decimal refused)
     ++ line_of (codes "failed " ++ yes_or_no report.failed)
 
--- the line of the frames, where they were kept
+-- the line of the frames, if they were kept
 abbrev pub frames_text : Option (List ℕ) → List ℕ
 frames_text None = []
 frames_text (Some line) = line_of line

@@ -1,4 +1,4 @@
--- Why the program stops (own).
+-- Why the program stops.
 use Rattle.std.specs.Prelude.{ℕ, Bool, false, true, List, ⊤}
 use Rattle.frame_writer.specs.Shown.{OutState}
 use Rattle.run_file.specs.Outcomes.{IsOutcome, bad_key, bad_setup, bad_step, not_toml}
@@ -44,7 +44,7 @@ StopsOf threads run OutFile = ⊤
 StopsOf threads run (Sim fault) = StopsRun threads run fault
 StopsOf threads run _ = ⊥
 
--- a text stops for this: it can't be read, or is no run; memory was wanting; or it is a run, and
+-- a text stops for this: it can't be read, or is no run; memory ran out; or it is a run, and
 -- that stops for this
 abbrev pub StopsAt : Bool → List ℕ → ProgramFault → Type 0
 StopsAt threads text CommandLine = ⊥

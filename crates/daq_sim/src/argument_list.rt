@@ -1,12 +1,12 @@
-//! The words behind a program's name.
+//! The arguments of a program.
 use crate::arguments_fault::ArgumentsFault;
 use std::env;
 use std::io::{self, ErrorKind};
 use std::rt::Env;
 
-/// The words behind the program's name.
+/// The arguments of the program, without its name.
 ///
-/// Refused where a word isn't UTF-8; lack of memory is `Memory`.
+/// Refused if an argument isn't UTF-8; lack of memory is `Memory`.
 pub fn arguments<R: AllocGlobal + Env>(rt: &R) -> Result<Vec<String>, ArgumentsFault> {
     let words = env::args(rt).map_err(|error| fault_of(&error))?;
     words
@@ -15,7 +15,7 @@ pub fn arguments<R: AllocGlobal + Env>(rt: &R) -> Result<Vec<String>, ArgumentsF
         .map_err(|_| ArgumentsFault::Memory)
 }
 
-/// Why there are no words: one isn't UTF-8, or memory was refused.
+/// Why there are no arguments: one isn't UTF-8, or memory was refused.
 fn fault_of(error: &io::Error) -> ArgumentsFault {
     match error.kind() {
         ErrorKind::OutOfMemory => ArgumentsFault::Memory,

@@ -3,13 +3,13 @@ ghost use Rattle.daq_sim.specs.Faults.{status_of_arguments};
 
 use thiserror::Error;
 
-/// Why there are no words behind a program's name.
+/// Why the arguments of a program can't be had.
 #[derive(Clone, Copy, Debug, PartialEq, Eq, Error)]
 pub enum ArgumentsFault {
-    /// A word isn't UTF-8.
+    /// An argument isn't UTF-8.
     #[error("bad command line")]
     NotText,
-    /// Memory was wanting.
+    /// Memory ran out.
     #[error("want of memory")]
     Memory,
 }

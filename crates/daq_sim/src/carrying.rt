@@ -123,7 +123,7 @@ fn outcome_apart<R: Threads + Wait + Sync, O: Out + Drop>(
     }
 }
 
-/// The status: 1 where the writer failed or the output can't be printed, else 0.
+/// The status: 1 if the writer failed or the output can't be printed, else 0.
 pub fn status_of(printing: io::Result<()>, failed: bool) -> u8
     ensures range { result ≤ 1 }
     ensures well { (result ≡ 0) ↔ (IsOk printing × (failed ≡ false)) }

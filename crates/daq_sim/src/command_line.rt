@@ -1,4 +1,4 @@
-//! The program: from its words and streams to its status.
+//! The program: from its arguments and streams to its status.
 ghost use Rattle.std.specs.Prelude.{◌≡◌, ◌≤◌, Bool, IfErr, IfOk, IfSome, None, OnErr};
 ghost use Rattle.std.specs.Io.KnownBytes.{Keeps};
 ghost use Rattle.run_file.specs.RunFile.{IsRunText};
@@ -20,8 +20,8 @@ use std::rt::Files;
 use std::sync::Wait;
 use std::thread::Threads;
 
-/// The program over its words, without its name, its standard input, standard output and standard
-/// error. It answers its status.
+/// The program over its arguments, without its name, its standard input, standard output and
+/// standard error. It answers its status.
 ///
 /// With `--threads` it may wait.
 pub fn program<R: Files + Threads + Wait + Sync, I: Read + Drop, W: Write + Drop, E: Write + Drop>(
@@ -50,7 +50,7 @@ pub fn program<R: Files + Threads + Wait + Sync, I: Read + Drop, W: Write + Drop
     }
 }
 
-/// What the words ask for: the status once that is printed, or the fault that is still to be.
+/// What the arguments ask for: the status once that is printed, or the fault that is still to be.
 fn answer<R: Files + Threads + Wait + Sync, I: Read + Drop, W: Write>(
     rt: &R,
     alloc: Global,
@@ -68,7 +68,7 @@ fn answer<R: Files + Threads + Wait + Sync, I: Read + Drop, W: Write>(
     }
 }
 
-/// Carries out the run that words name, and prints what came of it, or its story.
+/// Carries out the run that the arguments name, and prints what came of it, or its story.
 fn do_run<R: Files + Threads + Wait + Sync, I: Read + Drop, W: Write>(
     rt: &R,
     alloc: Global,
@@ -87,7 +87,7 @@ fn do_run<R: Files + Threads + Wait + Sync, I: Read + Drop, W: Write>(
     }
 }
 
-/// Carries out the run that words name, and prints what came of it.
+/// Carries out the run that the arguments name, and prints what came of it.
 fn carry_out<R: Files + Threads + Wait + Sync, I: Read + Drop, W: Write>(
     rt: &R,
     alloc: Global,
@@ -118,7 +118,7 @@ fn print_help<W: Write>(out: &mut W, help: Error) -> u8
     status_of(write!(out, "{help}").and_then(|()| out.flush()), false)
 }
 
-/// The run of a file, or of standard input where no file is named.
+/// The run of a file, or of standard input if no file is named.
 fn run_of<R: Files, I: Read + Drop>(
     rt: &R,
     alloc: Global,

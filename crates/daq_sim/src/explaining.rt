@@ -25,8 +25,8 @@ use std::rt::Files;
 use std::sync::Wait;
 use std::thread::Threads;
 
-/// Carries out the run that words name, and prints its story and its account. Behind a fault `why`
-/// has the reason.
+/// Carries out the run that the arguments name, and prints its story and its account. After a
+/// fault `why` has the reason.
 pub fn explain<R: Files + Threads + Wait + Sync, I: Read + Drop, W: Write>(
     rt: &R,
     alloc: Global,
@@ -51,7 +51,7 @@ pub fn explain<R: Files + Threads + Wait + Sync, I: Read + Drop, W: Write>(
     }
 }
 
-/// The run of a file, or of standard input where no file is named.
+/// The run of a file, or of standard input if no file is named.
 fn run_of<R: Files, I: Read + Drop>(
     rt: &R,
     alloc: Global,
@@ -78,7 +78,7 @@ fn run_of<R: Files, I: Read + Drop>(
     }
 }
 
-/// Reads a run, from a text that has this name and is read to its end. Behind a fault `why` has the
+/// Reads a run, from a text that has this name and is read to its end. After a fault `why` has the
 /// reason.
 pub fn run_or_why<I: Read>(
     alloc: Global,

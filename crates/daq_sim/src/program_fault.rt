@@ -11,7 +11,7 @@ use thiserror::Error;
 /// Why the program stops, as the line that it prints.
 #[derive(Clone, Copy, Debug, PartialEq, Eq, Error)]
 pub enum ProgramFault {
-    /// The words are no command line.
+    /// The arguments are no command line.
     #[error("xcpdaq: bad command line")]
     CommandLine,
     /// The text of the run can't be read.
@@ -23,7 +23,7 @@ pub enum ProgramFault {
     /// The file for the frames can't be made.
     #[error("xcpdaq: cannot make out file")]
     OutFile,
-    /// The run wasn't done to its end, or memory was wanting.
+    /// The run wasn't done to its end, or memory ran out.
     #[error("xcpdaq: {0}")]
     Sim(SimFault),
 }

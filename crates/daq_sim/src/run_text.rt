@@ -34,8 +34,8 @@ pub fn run_from<I: Read>(alloc: Global, input: &mut I) -> Result<Run, TextFault>
 
 /// Reads a text to its end.
 ///
-/// Refused where a read fails, but for an interruption, which counts as a read of no byte; where
-/// the text is longer than `MAX_TEXT`, or isn't at its end after `MAX_READS`; and where it isn't
+/// Refused if a read fails, but for an interruption, which counts as a read of no byte; if
+/// the text is longer than `MAX_TEXT`, or isn't at its end after `MAX_READS`; and if it isn't
 /// UTF-8.
 pub fn text_from<I: Read>(alloc: Global, input: &mut I) -> Result<String, TextFault>
     ensures whole { IfOk result (λ text.
@@ -50,7 +50,7 @@ pub fn text_from<I: Read>(alloc: Global, input: &mut I) -> Result<String, TextFa
 
 /// Reads until so many bytes are there, or to the end, if that comes first.
 ///
-/// Refused where a read fails, but for an interruption, which counts as a read of no byte; where
+/// Refused if a read fails, but for an interruption, which counts as a read of no byte; if
 /// there would be more than `MAX_TEXT` bytes, or `MAX_READS` reads don't do; lack of memory is
 /// `Memory`.
 pub fn front_from<I: Read>(alloc: Global, input: &mut I, len: usize) -> Result<Vec<u8>, TextFault>
@@ -76,7 +76,7 @@ pub fn front_from<I: Read>(alloc: Global, input: &mut I, len: usize) -> Result<V
 
 /// Makes one read, appends what it gave, and tells whether it met the end.
 ///
-/// An interruption counts as a read of no byte. Refused where a read fails, and where there would
+/// An interruption counts as a read of no byte. Refused if a read fails, and if there would
 /// be more than `MAX_TEXT` bytes; lack of memory is `Memory`.
 pub fn is_read_to_end<I: Read>(
     input: &mut I,

@@ -15,7 +15,7 @@ pub enum TextFault {
     /// The text is no run.
     #[error("bad run: {0}")]
     Run(RunFault),
-    /// Memory was wanting.
+    /// Memory ran out.
     #[error("want of memory")]
     Memory,
 }

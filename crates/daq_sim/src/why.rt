@@ -3,8 +3,8 @@ use run_story::{set_up_story, why_no_run};
 use std::alloc::Global;
 use std::fmt::Display;
 
-/// What standard error is told behind the line of a fault, if that is wanted. If memory for it is
-/// refused, it is told nothing.
+/// What is printed on standard error behind the line of a fault, if that is wanted. If memory for
+/// it is refused, nothing is printed.
 #[derive(Drop)]
 pub struct Why {
     alloc: Global,
@@ -13,7 +13,7 @@ pub struct Why {
 }
 
 impl Why {
-    /// Nothing yet. It is wanted exactly if a word asks for it, whatever the other words are.
+    /// Nothing yet. It is wanted exactly if an argument asks for it, whatever the others are.
     pub fn new(alloc: Global, words: &[String]) -> Why {
         Why {
             alloc,

@@ -21,9 +21,9 @@ pub enum Asked<'a> {
 /// Where a run is read from, and where its frames go.
 #[derive(Clone, Copy)]
 pub struct Words<'a> {
-    /// The file of the run; standard input where there is none.
+    /// The file of the run; standard input if there is none.
     pub run: Option<&'a str>,
-    /// The file for the frames; they are kept and printed where there is none.
+    /// The file for the frames; they are kept and printed if there is none.
     pub out: Option<&'a str>,
     /// Whether each event channel has a thread of its own.
     pub threads: bool,
@@ -31,7 +31,7 @@ pub struct Words<'a> {
     pub explain: bool,
 }
 
-/// Reads the words behind the program's name.
+/// Reads the arguments, without the program's name.
 pub fn read_words<'a>(
     alloc: Global,
     words: &'a [String],
@@ -52,7 +52,7 @@ pub fn read_words<'a>(
     }
 }
 
-/// The words that the program takes.
+/// The arguments that the program takes.
 fn command<'a>(alloc: Global) -> Result<Command<'a>, AllocError> {
     let out = Arg::new(alloc, "out")
         .long("out")
@@ -80,7 +80,7 @@ fn command<'a>(alloc: Global) -> Result<Command<'a>, AllocError> {
         .arg(run)
 }
 
-/// What matched.
+/// The arguments that were read.
 fn words_of<'a>(matches: &ArgMatches<'a>) -> Words<'a> {
     Words {
         run: matches.get_str("run"),
