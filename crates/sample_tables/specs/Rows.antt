@@ -30,11 +30,11 @@ unsigned_of (a ∷ b ∷ c ∷ d ∷ e ∷ f ∷ g ∷ h ∷ []) =
     Some (number_of (a ∷ b ∷ c ∷ d ∷ e ∷ f ∷ g ∷ h ∷ []))
 unsigned_of _ = None
 
--- commas between fields, quotes only where a field needs them, and CRLF behind each row
+-- commas between fields, quotes only if a field needs them, and CRLF behind each row
 abbrev pub rfc_4180 : WriterBuilder
 rfc_4180 = with_terminator default_writer CRLF
 
--- a number, or nothing where there is none
+-- a number, or nothing if there is none
 abbrev pub if_some : Option ℕ → List ℕ
 if_some None = []
 if_some (Some number) = decimal number

@@ -1,4 +1,4 @@
--- Where samples stand: their numbers in their lists, and their times (own).
+-- Where samples stand: their numbers in their lists, and their times.
 use Rattle.std.specs.Prelude.{◌≡◌, ℕ, ◌%◌, ◌^◌, ◌<◌, List, length, slice_get, Option, None, Some}
 use Rattle.copy_plan.specs.Config.{ListPlan}
 use Rattle.daq_reader.specs.Lists.{given}

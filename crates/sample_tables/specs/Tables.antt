@@ -1,4 +1,4 @@
--- The table that is printed of the samples of DAQ lists (own). Each line ends with a line feed.
+-- The table that is printed of the samples of DAQ lists. Each line ends with a line feed.
 use Rattle.std.specs.Prelude.{ℕ, ◌-◌, ◌^◌, false, List, [], ◌∷◌, ◌++◌, codes, flat_map}
 use Rattle.std.specs.Prelude.{Option, Some, None}
 use Rattle.std.specs.Fmt.{decimal, format_spec, padded_integral}
@@ -23,7 +23,7 @@ right_aligned width digits =
 abbrev pub column : ℕ → ℕ → List ℕ
 column width number = codes " " ++ right_aligned width (decimal number)
 
--- ticks, or `-` where there are none
+-- ticks, or `-` if there are none
 abbrev pub ticks_text : Option ℕ → List ℕ
 ticks_text None = codes "          -"
 ticks_text (Some ticks) = column 10 ticks

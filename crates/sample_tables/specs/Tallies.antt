@@ -1,4 +1,4 @@
--- What there is of the samples of a DAQ list (own).
+-- What there is of the samples of a DAQ list.
 use Rattle.std.specs.Prelude.{◌≡◌, ℕ, ◌+◌, ◌-◌, ◌%◌, ◌<◌, ◌^◌, Bool, if◌then◌else◌, List, length}
 use Rattle.std.specs.Prelude.{filter, filter_map, slice_get, Option, Some, None}
 use Rattle.daq_reader.specs.Lists.{given}

@@ -1,4 +1,4 @@
--- The times of samples: the ticks of their timestamps, with those that wrapped (own).
+-- The times of samples: the ticks of their timestamps, with those that wrapped.
 use Rattle.std.specs.Prelude.{◌≡◌, ◌==◌, ◌&&◌, ℕ, ◌+◌, ◌-◌, ◌*◌, ◌%◌, ◌^◌, ◌<◌, nat_le, nat_lt, min}
 use Rattle.std.specs.Prelude.{if◌then◌else◌, List, [], ◌∷◌, length, slice_get, Option, None, Some}
 use Rattle.xcp_base.specs.declared.stamp_size.StampSize.{StampSize}
@@ -16,8 +16,8 @@ ticks_on size before after = (2 ^ 32 + after - before) % 2 ^ 32 % 2 ^ (8 * stamp
 abbrev pub later : ℕ → ℕ → ℕ
 later at ticks = min (at + ticks) (2 ^ 64 - 1)
 
--- the time of ticks that is nearest to where others stand; the later one where two are as near, or
--- where the earlier one would be before 0
+-- the time of ticks that is nearest to where others stand; the later one if two are as near, or
+-- if the earlier one would be before 0
 abbrev pub nearest : StampSize → Stand → ℕ → ℕ
 nearest size other ticks =
     let on = ticks_on size other.ticks ticks in

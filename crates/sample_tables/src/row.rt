@@ -103,7 +103,7 @@ pub fn decimal(buffer: &mut Buffer, number: u64) -> &[u8]
     buffer.format(number).as_bytes()
 }
 
-/// A number, or nothing where there is none.
+/// A number, or nothing if there is none.
 fn if_some(buffer: &mut Buffer, number: Option<u64>) -> &[u8]
     ensures { result.now ≡ if_some number }
 {

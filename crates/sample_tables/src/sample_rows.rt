@@ -49,7 +49,7 @@ impl<W: Write + Drop> Model for SampleRows<W> {
 
 impl<W: Write + Drop> SampleRows<W> {
     /// Writes the names of the columns; the samples will be those of DAQ lists of these shapes.
-    /// Want of memory is the only fault.
+    /// Lack of memory is the only fault.
     pub fn new(alloc: Global, shapes: Vec<ListShape>, out: W) -> Result<SampleRows<W>, AllocError>
         ensures { IfOk result (λ rows. rows ≡ record {
           plans = shapes.items;
@@ -73,7 +73,7 @@ impl<W: Write + Drop> SampleRows<W> {
         })
     }
 
-    /// Writes out what is left, and gives the writer back; refused where that, or a row, can't be
+    /// Writes out what is left, and gives the writer back; refused if that, or a row, can't be
     /// written.
     pub fn finish(self) -> io::Result<W>
         ensures { IfOk result (λ out.
@@ -104,11 +104,12 @@ impl<W: Write + Drop> Samples for SampleRows<W> {
         let shape = shape_at(&self.shapes, place);
         let at = self.spots.next(shape, place, sample.stamp());
         self.failed = !go_on(self.failed, &mut self.rows, shape, sample, at);
+        // for the proof: clauses speak of the samples that were handed over
         self.log.note(place, sample);
     }
 }
 
-/// The shape of the list at a place; `None` exactly where there is none.
+/// The shape of the list at a place; `None` exactly if there is none.
 fn shape_at(shapes: &[ListShape], place: usize) -> Option<&ListShape>
     ensures { option_copied result ≡ slice_get shapes.now place }
 {

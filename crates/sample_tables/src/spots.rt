@@ -21,7 +21,7 @@ pub struct Spots {
 }
 
 impl Spots {
-    /// Before the first sample of so many lists. Want of memory is the only fault.
+    /// Before the first sample of so many lists. Lack of memory is the only fault.
     pub fn new(alloc: Global, lists: usize) -> Result<Spots, AllocError>
         ensures { IfOk result (λ spots. (plans : List ListPlan) → length plans ≡ lists
             → KnowsSpots spots plans []) }

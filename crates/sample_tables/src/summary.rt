@@ -63,13 +63,14 @@ impl Samples for Summary {
 
     ghost kept = { λ a. a.lists };
 
-    /// Counts the sample for the list at the place; it is counted for none where there is no such
+    /// Counts the sample for the list at the place; it is counted for none if there is no such
     /// list.
     fn hand(&mut self, place: usize, sample: &SampleView<'_>)
         ensures handed { self.new.samples ≡ self.old.samples ++ (place, sample.now.sample) ∷ [] }
         ensures kept { self.new.lists ≡ self.old.lists }
     {
         count(&mut self.tallies, place, sample.overload(), sample.stamp());
+        // for the proof: clauses speak of the samples that were handed over
         self.log.note(place, sample);
     }
 }

@@ -75,7 +75,7 @@ fn print_count<W: Write>(out: &mut W, samples: u64) -> io::Result<()>
     write!(out, " {samples:>12}")
 }
 
-/// Prints ticks, or `-` where there are none.
+/// Prints ticks, or `-` if there are none.
 fn print_ticks<W: Write>(out: &mut W, ticks: Option<u32>) -> io::Result<()>
     ensures { OnOk result (Appends (W.contents out.old) (W.contents out.new)
         (ticks_text ticks)) }

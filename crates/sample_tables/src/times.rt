@@ -27,7 +27,7 @@ pub struct Times {
 }
 
 impl Times {
-    /// Before the first sample of so many lists. Want of memory is the only fault.
+    /// Before the first sample of so many lists. Lack of memory is the only fault.
     pub fn new(alloc: Global, lists: usize) -> Result<Times, AllocError>
         ensures lists { IfOk result (λ times. length times.lists.items ≡ lists) }
         ensures knows { IfOk result (λ times. KnowsLast times []) }
@@ -92,7 +92,7 @@ fn time_behind(size: StampSize, own: Option<Stand>, any: Option<Stand>, ticks: u
     }
 }
 
-/// The time of ticks that is nearest to where others stand; the later one where there is none
+/// The time of ticks that is nearest to where others stand; the later one if there is none
 /// before.
 fn nearest(size: StampSize, other: Stand, ticks: u32) -> u64
     ensures { result ≡ nearest size other ticks }
