@@ -1,4 +1,4 @@
--- What a slave does with the bytes of its master (own).
+-- What a slave does with the bytes of its master.
 use Rattle.std.specs.Prelude.{◌≡◌, ◌⊎◌, ℕ, ◌≤◌, false, true, List, [], ◌∷◌, length}
 use Rattle.std.specs.Prelude.{take as first}
 use Rattle.channel_ring.specs.declared.ends.TakeEnd.{Ghosts as TakeGhosts}
@@ -24,7 +24,7 @@ module _ {S T F : Type 0} (take : TakeGhosts T F) where
     pub tasks : b.tasks ≡ a.tasks
 
   -- a frame was bad: the packets before it were heard, the slave hung up, and the stream is closed;
-  -- where it was closed before, nothing changed
+  -- if it was closed before, nothing changed
   pub record RefusesBytes (a b : LendingSlaveState S T) (clock : ℕ) (bytes : List ℕ) : Type 0 where
     pub bad :
         a.stream.closed ≡ false

@@ -1,4 +1,4 @@
--- How tasks are handed out, and come back (own).
+-- How tasks are handed out, and come back.
 use Rattle.std.specs.Prelude.{◌≡◌, ℕ, ◌≤◌, [], length, set, slice_get, false, true, Some, None}
 use Rattle.channel_ring.specs.declared.ends.TakeEnd.{Ghosts as TakeGhosts}
 use Rattle.frame_reader.specs.Reading.{ReaderStandsAfter}
@@ -13,7 +13,7 @@ use Rattle.task_lending.specs.States.{LendingSlaveState}
 use Rattle.task_lending.specs.declared.lend_fault.LendFault.{LendFault}
 use Rattle.task_lending.specs.declared.lend_fault.LendFault.TheVariants as fault
 
--- the most orders that a task carries out before a trigger, and what it answers where there is no
+-- the most orders that a task carries out before a trigger, and what it answers if there is no
 -- measurement
 abbrev pub most_steps : ℕ
 most_steps = 256

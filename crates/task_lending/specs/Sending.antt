@@ -1,4 +1,4 @@
--- What a slave shows of what waits, and what was sent (own).
+-- What a slave shows of what waits, and what was sent.
 use Rattle.std.specs.Prelude.{◌≡◌, ℕ, List, [], ◌∷◌, drop, length, min}
 use Rattle.std.specs.Prelude.{take as first}
 use Rattle.channel_ring.specs.declared.ends.TakeEnd.{Ghosts as TakeGhosts}

@@ -1,4 +1,4 @@
--- The task of an event channel, as its slave has it (own).
+-- The task of an event channel, as its slave has it.
 use Rattle.std.specs.Prelude.{◌≡◌, ◌⊎◌, Bool, false, true, not, ◌&&◌, List, map}
 use Rattle.std.specs.Prelude.{Option, Some, None}
 use Rattle.std.specs.Option.{is_some}

@@ -1,4 +1,4 @@
--- What contracts see of a slave that lends its tasks (own).
+-- What contracts see of a slave that lends its tasks.
 use Rattle.std.specs.Prelude.{List}
 use Rattle.frame_reader.specs.Reading.{ReaderState}
 use Rattle.slave.specs.Standing.{SlaveState}
