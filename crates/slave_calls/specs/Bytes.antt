@@ -1,5 +1,5 @@
 -- What the calls by which a slave hears its master, and is shown and sent what waits, answer and
--- leave, by their status (own).
+-- leave, by their status.
 use Rattle.std.specs.Prelude.{◌≡◌, ℕ, ◌<◌, ◌≤◌, List, length, Option}
 use Rattle.channel_ring.specs.declared.ends.TakeEnd.{Ghosts as TakeGhosts}
 use Rattle.handle_calls.specs.States.{Bytes, Items}

@@ -1,4 +1,4 @@
--- How a slave is closed, with the account of its session (own).
+-- How a slave is closed, with the account of its session.
 use Rattle.std.specs.Prelude.{◌≡◌, ◌⊎◌, ℕ, ◌<◌, ◌≤◌, Bool, List, length, slice_get}
 use Rattle.std.specs.Prelude.{Option, Some, None}
 use Rattle.xcp_base.specs.declared.limits.TheConstants.{MAX_LISTS}
@@ -58,7 +58,7 @@ module _ {S T F : Type 0} (take : TakeGhosts T F) where
   ClosesSlave s before after =
       (t : LendingSlaveState S T) × Collects s t × NoneAway t × TellsAccount t before after
 
--- why what is held stays, where it is to be closed with so much room for lines
+-- why what is held stays, if it is to be closed with so much room for lines
 abbrev pub StaysHeld : Option Content → Option Content → ℕ → Status → Type 0
 StaysHeld (Some (held.Slave s)) new room result =
     (t : ItemSlave) × (new ≡ Some (held.Slave t)) × StaysOpen s t room result

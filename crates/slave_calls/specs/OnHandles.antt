@@ -1,4 +1,4 @@
--- What the calls of the handles of slaves and tasks have in common (own).
+-- What the calls of the handles of slaves and tasks have in common.
 use Rattle.std.specs.Prelude.{◌≡◌, Option, Some}
 use Rattle.byte_ring.specs.declared.byte_send.ByteSend.{ByteSend}
 use Rattle.byte_ring.specs.declared.byte_take.ByteTake.{ByteTake}
@@ -25,7 +25,7 @@ abbrev pub ByteTask : Type 0
 ByteTask = TaskState ByteSend
 
 -- what a call does to the handle of a slave: a slave of its kind stays in it, of which this holds.
--- Where there is none it answers so, and leaves it, as what is said there
+-- If there is none it answers so, and leaves it, as what is said there
 abbrev pub OnSlave
     : Option Content → Option Content → Status → Type 0
     → (ItemSlave → ItemSlave → Type 0) → (ByteSlave → ByteSlave → Type 0) → Type 0

@@ -1,4 +1,4 @@
--- What ng_slave_open does to a handle (own).
+-- What ng_slave_open does to a handle.
 use Rattle.std.specs.Prelude.{◌≡◌, List, Option, Some, None, IsSome}
 use Rattle.handle_calls.specs.States.{Bytes, Items}
 use Rattle.handle_calls.specs.declared.content.Content.{Content}

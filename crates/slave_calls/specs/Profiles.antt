@@ -1,4 +1,4 @@
--- The profile that C asks for (own).
+-- The profile that C asks for.
 use Rattle.std.specs.Prelude.{◌≡◌, ◌≢◌, ◌⊎◌, ℕ, ◌==◌, if◌then◌else◌, List, [], ◌∷◌, map}
 use Rattle.std.specs.Prelude.{Some, None, option_map}
 use Rattle.handle_calls.specs.Kinds.{kind_of, ring_of}
