@@ -1,4 +1,4 @@
--- What a picture has gathered of its samples: the newest one comes first in each list (own).
+-- What a picture has gathered of its samples: the newest one comes first in each list.
 use Rattle.std.specs.Prelude.{◌≡◌, ℕ, ◌+◌, ◌-◌, ◌/◌, ◌%◌, ◌^◌, ◌<◌, min, max, Bool, ⊤}
 use Rattle.std.specs.Prelude.{List, [], ◌∷◌, length, slice_get, get_or, nat_eq, Some}
 use Rattle.std.specs.Prelude.{if◌then◌else◌}
@@ -24,7 +24,7 @@ abbrev pub overloads_of : List Seen → ℕ
 overloads_of [] = 0
 overloads_of (s ∷ seen) = if s.overload then overloads_of seen + 1 else overloads_of seen
 
--- the least and the greatest place; where there is none, the greatest number and 0
+-- the least and the greatest place; if there is none, the greatest number and 0
 abbrev pub least : List Seen → ℕ
 least [] = 2 ^ 64 - 1
 least (s ∷ seen) = min s.at (least seen)
@@ -33,7 +33,7 @@ abbrev pub greatest : List Seen → ℕ
 greatest [] = 0
 greatest (s ∷ seen) = max s.at (greatest seen)
 
--- a place whose bin has this slot, where bins have this many places
+-- a place whose bin has this slot, if bins have this many places
 abbrev pub has_slot : ℕ → ℕ → ℕ → Bool
 has_slot width slot at = nat_eq (at / width % 1024) slot
 

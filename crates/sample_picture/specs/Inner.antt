@@ -1,4 +1,4 @@
--- What the calls make of rows, as plain data (own).
+-- What the calls make of rows, as plain data.
 use Rattle.std.specs.Prelude.{ℕ, ◌+◌, ◌-◌, ◌/◌, ◌%◌, ◌^◌, ◌≤◌, min, max, suc, Bool, List, ⊤}
 use Rattle.std.specs.Prelude.{[], ◌∷◌, ◌++◌, get_or, set, replicate, if◌then◌else◌, zero}
 use Rattle.sample_picture.specs.declared.row.Row.{Row}

@@ -1,4 +1,4 @@
--- What is seen of samples that stand close together (own).
+-- What is seen of samples that stand close together.
 use Rattle.std.specs.Prelude.{ℕ, Bool, List, [], ◌∷◌, if◌then◌else◌}
 use Rattle.sample_picture.specs.declared.mark.Mark.{Mark}
 use Rattle.sample_picture.specs.declared.mark.Mark.TheVariants.{Empty, Sample, Overload}

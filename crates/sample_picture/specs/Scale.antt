@@ -1,4 +1,4 @@
--- How many places a bin has (own).
+-- How many places a bin has.
 use Rattle.std.specs.Prelude.{ℕ, ◌+◌, ◌/◌, ◌<◌, ◌≤◌}
 
 -- the bins of the least and the greatest place are fewer than 1024 apart

@@ -1,4 +1,4 @@
--- What a picture shows to contracts, and the first one (own).
+-- What a picture shows to contracts, and the first one.
 use Rattle.std.specs.Prelude.{◌≡◌, ℕ, List, ◌++◌, codes}
 use Rattle.sample_picture.specs.declared.row.Row.{Row}
 

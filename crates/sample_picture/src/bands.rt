@@ -84,7 +84,7 @@ pub fn lost_spans(
     Ok(spans)
 }
 
-/// One more tick, which the last stroke takes in where it is near.
+/// One more tick, which the last stroke takes in if it is near.
 pub fn push_tick(spans: &mut Vec<Span>, x: u64, tick: u64) -> Result<(), AllocError>
     requires place { x < 8000 }
     requires len { tick < 100 }
@@ -104,7 +104,7 @@ pub fn push_tick(spans: &mut Vec<Span>, x: u64, tick: u64) -> Result<(), AllocEr
     Ok(())
 }
 
-/// Writes a row's strokes as one path, or nothing where there is none.
+/// Writes a row's strokes as one path, or nothing if there is none.
 pub fn push_strokes(text: &mut String, class: &str, spans: &[Span]) -> Result<(), AllocError> {
     if spans.is_empty() {
         return Ok(());
@@ -116,7 +116,7 @@ pub fn push_strokes(text: &mut String, class: &str, spans: &[Span]) -> Result<()
     text.push_str("\"/>\n")
 }
 
-/// Writes a triangle above the middle of each stroke, where it is clear of the one before.
+/// Writes a triangle above the middle of each stroke, if it is clear of the one before.
 pub fn push_triangles(text: &mut String, spans: &[Span]) -> Result<(), AllocError> {
     if spans.is_empty() {
         return Ok(());

@@ -54,7 +54,7 @@ impl Picture {
         }
     }
 
-    /// One more row, for a DAQ list of an event channel. Want of memory is the only fault.
+    /// One more row, for a DAQ list of an event channel. Lack of memory is the only fault.
     pub fn add_row(&mut self, list: u8, channel: u8) -> Result<(), AllocError>
         ensures ok { OnOk result (self.new ≡ with_row list channel self.old) }
         ensures stands { OnOk result ((given : List Given) → IsPictureOf self.old given
@@ -92,7 +92,7 @@ impl Picture {
     }
 
     /// Writes the picture as SVG, with the axis's word below it. What is written is some
-    /// kilobytes for each row; the faults are those of `out`, and want of memory.
+    /// kilobytes for each row; the faults are those of `out`, and lack of memory.
     pub fn print<W: Write>(&self, out: &mut W, axis: Axis) -> io::Result<()>
         ensures { OnOk result ((text : List ℕ) × IsClosed text
             × Appends (W.contents out.old) (W.contents out.new) text) }
