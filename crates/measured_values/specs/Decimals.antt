@@ -32,7 +32,7 @@ pub record IsDecimal (number : ℕ) (exponent : ℤ) (text : List ℕ) : Type 0 
   pub worth : digits_value 10 (whole ++ fraction) * 10 ^ tens_below exponent
       ≡ number * 10 ^ (tens_above exponent + length fraction)
 
--- digits with a point before the last `places` of them, and zeros in front where there are too few
+-- digits with a point before the last `places` of them, and zeros in front if there are too few
 abbrev pub placed : List ℕ → ℕ → List ℕ
 placed digits places =
     if places == 0 then digits

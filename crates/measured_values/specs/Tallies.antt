@@ -1,4 +1,4 @@
--- What there is of the values that were noted, newest first (own).
+-- What there is of the values that were noted, newest first.
 use Rattle.std.specs.Prelude.{◌≡◌, ◌⊎◌, ◌==◌, ℕ, ◌-◌, ◌^◌, if◌then◌else◌, not, min, pos}
 use Rattle.std.specs.Prelude.{List, [], ◌∷◌, ◌++◌, length, All, filter, is_nan}
 use Rattle.std.specs.Prelude.{Option, Some, None, MatchOption}

@@ -13,7 +13,7 @@ abbrev pub GrowsBy : (List ℕ → Type 0) → List ℕ → List ℕ → Type 0
 GrowsBy Is before after = (text : List ℕ) × (after ≡ before ++ text) × Is text
 
 -- the text of a float: it reads back as the same float; a finite one is a plain numeral, with an
--- exponent just where more whole digits or more zeros behind the point would stand than these
+-- exponent exactly if more whole digits or more zeros behind the point would stand than these
 pub record IsFloatText (f : Format) (whole_digits zeros : ℕ) (x : Float) (text : List ℕ) :
     Type 0 where
   pub parses : parse_float f text ≡ Some x

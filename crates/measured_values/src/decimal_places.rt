@@ -7,7 +7,7 @@ ghost use Rattle.measured_values.specs.Texts.{Keeps};
 
 use std::alloc::AllocError;
 
-/// Appends digits with a point before the last `places` of them, and zeros in front where there
+/// Appends digits with a point before the last `places` of them, and zeros in front if there
 /// are too few. If memory is out, a part of them may have been appended.
 pub(crate) fn push_placed(out: &mut String, digits: &str, places: usize) -> Result<(), AllocError>
     requires { IsAscii digits.now }
