@@ -1,4 +1,4 @@
-//! The program: from its words and streams to its status.
+//! The program: from its arguments and streams to its status.
 ghost use Rattle.std.specs.Prelude.{◌≤◌, IfOk};
 
 use crate::session_fault::SessionFault;
@@ -12,8 +12,8 @@ use std::fs;
 use std::io::{self, ErrorKind, Read, Write};
 use std::rt::Files;
 
-/// The program over its words, without its name, its standard input, standard output and standard
-/// error. It answers its status.
+/// The program over its arguments, without its name, its standard input, standard output and
+/// standard error. It answers its status.
 pub fn carry_out<R: Files, I: Read + Drop, W: Write + Drop, E: Write + Drop>(
     rt: &R,
     alloc: Global,
@@ -35,7 +35,7 @@ pub fn carry_out<R: Files, I: Read + Drop, W: Write + Drop, E: Write + Drop>(
     }
 }
 
-/// What the words ask for: the status once that is printed, or the fault that is still to be.
+/// What the arguments ask for: the status once that is printed, or the fault that is still to be.
 fn answer<R: Files, I: Read + Drop, W: Write>(
     rt: &R,
     alloc: Global,
@@ -79,7 +79,7 @@ fn status_of(printing: io::Result<()>) -> u8
     if printing.is_err() { 1 } else { 0 }
 }
 
-/// The session of a file, or of standard input where no file is named.
+/// The session of a file, or of standard input if no file is named.
 fn session_of<R: Files, I: Read + Drop>(
     rt: &R,
     alloc: Global,

@@ -9,7 +9,7 @@ use thiserror::Error;
 /// Why the program stops, as the line that it prints.
 #[derive(Clone, Copy, Debug, PartialEq, Eq, Error)]
 pub enum SessionFault {
-    /// The words are no command line.
+    /// The arguments are no command line.
     #[error("xcpslave: bad command line")]
     CommandLine,
     /// The text of the session can't be read.
@@ -21,7 +21,7 @@ pub enum SessionFault {
     /// The profile is out of a limit.
     #[error("xcpslave: bad profile: {0}")]
     Profile(ProfileFault),
-    /// Memory was wanting.
+    /// Memory ran out.
     #[error("xcpslave: want of memory")]
     Memory,
     /// What is left of a task did not come back.

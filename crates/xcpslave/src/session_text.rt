@@ -4,7 +4,7 @@ use slave_play::Played;
 use std::alloc::{AllocError, Global};
 use xcp_base::limits::MAX_LISTS;
 
-/// A line of hexadecimal digits for each datagram, an empty line, and the account. Want of memory
+/// A line of hexadecimal digits for each datagram, an empty line, and the account. Lack of memory
 /// is the only fault.
 pub fn text_of(alloc: Global, played: &Played) -> Result<String, AllocError> {
     let mut text = String::new(alloc);

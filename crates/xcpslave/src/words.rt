@@ -9,11 +9,11 @@ use std::alloc::{AllocError, Global};
 pub enum Asked<'a> {
     /// The help, which is the error's text.
     Help(Error),
-    /// The session of a file; of standard input where there is none.
+    /// The session of a file; of standard input if there is none.
     Session(Option<&'a str>),
 }
 
-/// Reads the words behind the program's name.
+/// Reads the arguments, without the program's name.
 pub fn read_words(alloc: Global, words: &[String]) -> Result<Asked<'_>, SessionFault> {
     let Ok(command) = command(alloc) else {
         return Err(SessionFault::Memory);
@@ -28,7 +28,7 @@ pub fn read_words(alloc: Global, words: &[String]) -> Result<Asked<'_>, SessionF
     }
 }
 
-/// The words that the program takes.
+/// The arguments that the program takes.
 fn command<'a>(alloc: Global) -> Result<Command<'a>, AllocError> {
     let session = Arg::new(alloc, "session")
         .value_name("FILE")
