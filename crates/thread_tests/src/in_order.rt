@@ -68,14 +68,14 @@ impl<'a, R> InOrder<'a, R> {
         (wrong, begun, self.done.load(Ordering::SeqCst))
     }
 
-    /// Notes what is wrong, where nothing was before.
+    /// Notes what is wrong, if nothing was before.
     fn expect(&self, holds: bool, wrong: Wrong) {
         if !holds && self.wrong.load(Ordering::SeqCst) == 0 {
             self.wrong.store(wrong as u64, Ordering::SeqCst);
         }
     }
 
-    /// Waits until a number has come so far, where nothing was wrong before.
+    /// Waits until a number has come so far, if nothing was wrong before.
     fn wait_for(&self, number: &AtomicU64, least: u64, wrong: Wrong) {
         if self.wrong.load(Ordering::SeqCst) == 0 {
             self.expect(reaches(number, least), wrong);
