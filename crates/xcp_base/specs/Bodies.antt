@@ -1,4 +1,4 @@
--- Bodies (own): packets one behind another, each behind a byte that has its length.
+-- Bodies: packets one behind another, each behind a byte that has its length.
 use Rattle.std.specs.Prelude.{◌≡◌, ℕ, zero, suc, ◌≤◌, List, [], ◌∷◌, ◌++◌, length, take, drop}
 use Rattle.xcp_base.specs.declared.limits.TheConstants.{MAX_ODTS}
 use Rattle.xcp_base.specs.Packets.{ArePackets}

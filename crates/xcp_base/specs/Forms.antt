@@ -1,6 +1,6 @@
 -- The form of DAQ packets (ASAM MCD-1 XCP, protocol layer, identification field and timestamp
 -- field): which of the three identification fields they begin with, and how many bytes a timestamp
--- has. One form holds for a whole run (own).
+-- has. One form holds for a whole run.
 use Rattle.std.specs.Prelude.{◌≡◌, ℕ, ◌+◌, ◌*◌, ◌/◌, ◌%◌, ◌≤◌, ◌==◌, ◌&&◌, nat_le, nat_lt, Bool}
 use Rattle.std.specs.Prelude.{if◌then◌else◌, List, [], ◌∷◌, slice_index}
 use Rattle.std.specs.Prelude.{Option, Some, None, option_map}
@@ -19,13 +19,13 @@ field_len RelativeByte = 2
 field_len RelativeWord = 3
 
 -- FIRST_PID of a list, by the number of the ODTs of the lists before it: 0 with a relative ODT
--- number (own)
+-- number
 abbrev pub first_pid_behind : IdKind → ℕ → ℕ
 first_pid_behind Absolute before = before
 first_pid_behind RelativeByte before = 0
 first_pid_behind RelativeWord before = 0
 
--- the most ODTs of all lists; with a relative ODT number as many as the lists may have (own)
+-- the most ODTs of all lists; with a relative ODT number as many as the lists may have
 abbrev pub most_odts : IdKind → ℕ
 most_odts Absolute = MAX_ODTS_IN_ALL
 most_odts RelativeByte = MAX_LISTS * MAX_ODTS
@@ -38,8 +38,7 @@ FitsFirstPid RelativeByte odts first_pid = first_pid ≡ 0
 FitsFirstPid RelativeWord odts first_pid = first_pid ≡ 0
 
 -- the PID of ODT k: FIRST_PID plus k, and 128 more in ODT 0 where overload is indicated. With a
--- relative ODT number, where FIRST_PID is 0, it is k. That the overload indication stands in ODT 0
--- alone is (own)
+-- relative ODT number, where FIRST_PID is 0, it is k. The overload indication stands in ODT 0 alone
 abbrev pub pid_byte : ℕ → ℕ → Bool → ℕ
 pid_byte first_pid k overload = first_pid + k + (if k == 0 && overload then 128 else 0)
 
@@ -88,6 +87,5 @@ abbrev pub form_of : IdKind → ℕ → Option PacketForm
 form_of id bytes = option_map (λ size. record { id = id; stamp = size }) (size_of bytes)
 
 -- the form that a store has where none is asked for: an absolute ODT number, timestamps of 4 bytes
--- (own)
 abbrev pub usual_form : PacketForm
 usual_form = record { id = Absolute; stamp = Four }

@@ -1,4 +1,4 @@
--- Sets of DAQ lists (own): a number stands for the set of the lists whose bits it has.
+-- Sets of DAQ lists: a number stands for the set of the lists whose bits it has.
 use Rattle.std.specs.Prelude.{ℕ, Bool, nat_eq}
 use Rattle.std.specs.Int.{bit_at}
 

@@ -1,5 +1,5 @@
--- Packets (ASAM MCD-1 XCP, protocol layer, DTO): the bytes of each. That its length is at most
--- MAX_DTO, and that a timestamp stands in ODT 0 alone, are (own).
+-- Packets (ASAM MCD-1 XCP, protocol layer, DTO): the bytes of each. Its length is at most
+-- MAX_DTO, and a timestamp stands in ODT 0 alone.
 use Rattle.std.specs.Prelude.{ℕ, ◌+◌, ◌<◌, ◌≤◌, ◌==◌, ◌&&◌, Bool, if◌then◌else◌}
 use Rattle.std.specs.Prelude.{All, List, [], ◌∷◌, ◌++◌, length}
 use Rattle.xcp_base.specs.declared.limits.TheConstants.{MAX_DTO}

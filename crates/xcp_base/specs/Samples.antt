@@ -1,4 +1,4 @@
--- Samples and stop markers, the items of an event channel's ring (own).
+-- Samples and stop markers, the items of an event channel's ring.
 use Rattle.std.specs.Prelude.{◌≡◌, ℕ, ◌<◌, ◌≤◌, ◌^◌, List, length}
 use Rattle.xcp_base.specs.declared.limits.TheConstants.{MAX_CHANNELS, MAX_LISTS, MAX_ODTS}
 use Rattle.xcp_base.specs.Packets.{ArePackets}

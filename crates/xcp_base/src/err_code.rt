@@ -1,7 +1,7 @@
 ghost use Rattle.std.specs.Prelude.{◌≡◌};
 ghost use Rattle.xcp_base.specs.ErrorCodes.{error_byte};
 
-/// Why a command is refused, under the names of ASAM MCD-1 XCP, protocol layer, error codes.
+/// Why a command is refused (ASAM MCD-1 XCP, protocol layer, error codes).
 #[derive(Clone, Copy, Debug, PartialEq, Eq)]
 pub enum ErrCode {
     /// ERR_CMD_SYNCH: the reply to SYNCH.

@@ -30,7 +30,7 @@ impl IdKind {
     }
 
     /// FIRST_PID of a DAQ list, by the number of the ODTs of the lists before it: this number, or 0
-    /// with a relative ODT number (own).
+    /// with a relative ODT number.
     pub fn first_pid(self, before: usize) -> usize
         ensures value { result ≡ first_pid_behind self before }
         ensures limit { result ≤ before }

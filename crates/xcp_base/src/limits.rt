@@ -1,4 +1,4 @@
-//! The limits of the profile (own), each of the type in which it is used.
+//! The limits of the profile, each of the type in which it is used.
 
 /// The most event channels.
 pub const MAX_CHANNELS: u16 = 8;

@@ -13,7 +13,7 @@ pub struct PacketForm {
 }
 
 impl PacketForm {
-    /// The form with this field and timestamps of so many bytes; `None` exactly where they are not
+    /// The form with this field and timestamps of so many bytes; `None` exactly if they are not
     /// 1, 2 or 4.
     pub fn of(id: IdKind, stamp_size: u8) -> Option<PacketForm>
         ensures { result ≡ form_of id stamp_size }

@@ -3,7 +3,7 @@ ghost use Rattle.std.specs.Prelude.{◌≡◌, ◌<◌};
 use crate::limits::{MAX_CHANNELS, MAX_LISTS};
 use std::marker::Model;
 
-/// Marks the place in an event channel's ring at which a DAQ list was stopped (own). It writes no
+/// Marks the place in an event channel's ring at which a DAQ list was stopped. It writes no
 /// bytes.
 #[derive(Debug, Drop)]
 pub struct StopMark {
