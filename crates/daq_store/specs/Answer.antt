@@ -1,5 +1,5 @@
--- What is answered to a call: the first check that fails, else a positive reply. Which checks a
--- call makes, their order and their codes are (own).
+-- What is answered to a call: the first check that fails, else a positive reply. Which checks
+-- each call makes, in which order, stands in docs/PROFILE.md as a table.
 use Rattle.std.specs.Prelude.{ℕ, ◌+◌, ◌==◌, ◌&&◌, ◌||◌, not, nat_lt, Bool, false, if◌then◌else◌}
 use Rattle.std.specs.Prelude.{List, [], ◌∷◌, Option, Some, None, is_some, is_none}
 use Rattle.xcp_base.specs.declared.limits.TheConstants.{ADDRESS_EXTENSION, MAX_ENTRIES}
@@ -99,7 +99,7 @@ first_failing (check ∷ more) = if check.0 then Some check.1 else first_failing
 abbrev pub fault_of : Profile → List Command → Command → Option ErrCode
 fault_of profile calls call = first_failing (checks profile calls call)
 
--- the reply to READ_DAQ at an entry of this address and size, or at an unwritten one (own)
+-- the reply to READ_DAQ at an entry of this address and size, or at an unwritten one
 abbrev pub read_reply : Option (ℕ × ℕ) → Reply
 read_reply None = Read 0 0
 read_reply (Some x) = Read x.1 x.0

@@ -1,6 +1,6 @@
 -- Lists of calls: those that a store accepted since the last FREE_DAQ, the newest first. `call ∷
 -- earlier` is a call and those before it, and each definition over them looks back to the last call
--- that matters (own).
+-- that matters.
 use Rattle.std.specs.Prelude.{ℕ, List, [], ◌∷◌}
 use Rattle.std.specs.List.{range_with_len}
 use Rattle.xcp_base.specs.declared.packet_form.PacketForm.{PacketForm}

@@ -1,6 +1,6 @@
 -- Command packets (ASAM MCD-1 XCP, protocol layer, data acquisition commands): the code of a
--- command, and what follows it. That a longer packet is accepted and its surplus ignored, that a
--- reserved byte may have any value, and the order of the errors are (own).
+-- command, and what follows it. A longer packet is accepted and its surplus ignored; a reserved
+-- byte may have any value.
 use Rattle.std.specs.Prelude.{◌≡◌, ℕ, ◌+◌, ◌*◌, ◌/◌, ◌%◌, ◌<◌, ◌==◌, nat_lt, if◌then◌else◌, List}
 use Rattle.std.specs.Prelude.{[], ◌∷◌, ◌++◌, length, Option, Some, None, Result, Ok, Err}
 use Rattle.xcp_base.specs.declared.err_code.ErrCode.{ErrCode}
@@ -49,7 +49,7 @@ HasFields (ClearDaqList list) = list < 65536
 HasFields _ = Unit {0}
 
 -- one of the nine commands that set lists up and start them: the others are left to who speaks with
--- a master that is connected (own)
+-- a master that is connected
 abbrev pub SetsUp : Command → Type 0
 SetsUp (ClearDaqList list) = ⊥
 SetsUp ReadDaq = ⊥

@@ -1,5 +1,4 @@
--- What is set of one DAQ list, and when that is enough to start it. MAX_DTO and the other limits
--- are (own).
+-- What is set of one DAQ list, and when that is enough to start it.
 use Rattle.std.specs.Prelude.{◌<◌, ◌≤◌, IfSome, All, ℕ, ◌+◌, ◌&&◌, nat_lt, nat_le, Bool}
 use Rattle.std.specs.Prelude.{false, List, [], length, map, slice_get, sum_by}
 use Rattle.std.specs.Prelude.{Option, Some, None, is_some, option_and_then, unwrap_or}

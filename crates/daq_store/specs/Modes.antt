@@ -5,7 +5,7 @@ use Rattle.daq_store.specs.declared.command.Command.TheVariants.{AllocDaq, SetDa
 use Rattle.daq_store.specs.declared.command.Command.TheVariants.{ClearDaqList}
 use Rattle.daq_store.specs.declared.mode.Mode.{Mode}
 
--- the mode byte says TIMESTAMP, bit 0x10; no other bit is accepted (own)
+-- the mode byte says TIMESTAMP, bit 0x10; no other bit is accepted
 abbrev pub stamps : ℕ → Bool
 stamps mode = mode == 0x10
 

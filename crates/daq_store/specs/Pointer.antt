@@ -1,5 +1,5 @@
--- The DAQ pointer: SET_DAQ_PTR, and WRITE_DAQ and READ_DAQ, which move it on. That an allocation
--- and CLEAR_DAQ_LIST make it undefined is (own).
+-- The DAQ pointer: SET_DAQ_PTR, and WRITE_DAQ and READ_DAQ, which move it on. An allocation and
+-- CLEAR_DAQ_LIST make it undefined.
 use Rattle.std.specs.Prelude.{ℕ, ◌+◌, ◌==◌, ◌&&◌, nat_lt, Bool, false, if◌then◌else◌, List, [], ◌∷◌}
 use Rattle.std.specs.Prelude.{Option, Some, None, option_and_then}
 use Rattle.daq_store.specs.declared.command.Command.{Command}

@@ -1,7 +1,6 @@
 -- Which DAQ lists are selected, and which run: START_STOP_DAQ_LIST and START_STOP_SYNCH. Mode 0
 -- stops, 1 starts and 2 selects; in START_STOP_SYNCH 0 stops all lists, 1 starts and 2 stops those
--- that are selected. CLEAR_DAQ_LIST stops its list and ends its selection. What ends a selection is
--- (own).
+-- that are selected. CLEAR_DAQ_LIST stops its list and ends its selection.
 use Rattle.std.specs.Prelude.{ℕ, ◌==◌, ◌&&◌, ◌||◌, not, Bool, false, if◌then◌else◌, List, [], ◌∷◌}
 use Rattle.std.specs.List.{list_any}
 use Rattle.daq_store.specs.declared.command.Command.{Command}

@@ -1,6 +1,6 @@
 -- The phase, and how many DAQ lists, ODTs and ODT entries there are: ALLOC_DAQ, ALLOC_ODT,
--- ALLOC_ODT_ENTRY (ASAM MCD-1 XCP, protocol layer, dynamic DAQ configuration). That a repeated
--- allocation replaces the count is (own).
+-- ALLOC_ODT_ENTRY (ASAM MCD-1 XCP, protocol layer, dynamic DAQ configuration). A repeated
+-- allocation replaces the count.
 use Rattle.std.specs.Prelude.{ℕ, ◌==◌, ◌&&◌, nat_lt, Bool, true, false, if◌then◌else◌, List, []}
 use Rattle.std.specs.Prelude.{◌∷◌, sum_by}
 use Rattle.daq_store.specs.declared.command.Command.{Command}
@@ -50,7 +50,7 @@ has_odt calls l k = is_list calls l && nat_lt k (odt_count calls l)
 abbrev pub has_entry : List Command → ℕ → ℕ → ℕ → Bool
 has_entry calls l k e = has_odt calls l k && nat_lt e (entry_count calls l k)
 
--- the ODTs of the lists before l: FIRST_PID of l with an absolute ODT number (own)
+-- the ODTs of the lists before l: FIRST_PID of l with an absolute ODT number
 abbrev pub odts_before : List Command → ℕ → ℕ
 odts_before calls l = sum_by (odt_count calls) (numbers_below l)
 

@@ -1,5 +1,5 @@
 //! The checks of each call, in their order: active list, sequence, numbers and ranges, mode,
-//! configuration, limits of allocation (own).
+//! configuration, limits of allocation.
 
 ghost use Rattle.std.specs.Prelude.{◌≡◌, ◌+◌, ◌*◌, ◌<◌, ◌≤◌, ◌&&◌, ◌==◌, true, false};
 ghost use Rattle.std.specs.Prelude.{IfErr, IfOk, OnOk, Some, length};

@@ -72,12 +72,12 @@ pub enum Command {
 }
 
 /// Reads the command of a packet, of any bytes. A longer packet is accepted and its surplus
-/// ignored; a reserved byte may have any value (own).
+/// ignored; a reserved byte may have any value.
 ///
 /// It knows the nine commands that set lists up and start them. To it the codes of CLEAR_DAQ_LIST
-/// and READ_DAQ are those of no command: only a master that is connected may send them (own).
+/// and READ_DAQ are those of no command: only a master that is connected may send them.
 ///
-/// Refused in this order (own): ERR_CMD_SYNTAX for an empty packet, ERR_CMD_UNKNOWN for the code of
+/// Refused in this order: ERR_CMD_SYNTAX for an empty packet, ERR_CMD_UNKNOWN for the code of
 /// no command, ERR_CMD_SYNTAX for a packet that is too short for its command.
 pub fn read(packet: &[u8]) -> Result<Command, ErrCode>
     ensures packet { (call : Command) → (result ≡ Ok call) ↔ IsPacketOf packet.now call }
@@ -138,8 +138,8 @@ fn word(low: &u8, high: &u8) -> u16
     u16::from_le_bytes([*low, *high])
 }
 
-/// Carries a command out by the store's call of its name, and answers it. Want of memory is
-/// answered exactly where that call meets it: then the command isn't carried out.
+/// Carries a command out by the store's call of its name, and answers it. Lack of memory is
+/// answered exactly if that call meets it: then the command isn't carried out.
 pub fn carry_out(store: &mut Store, command: Command) -> Result<Reply, NoMemory>
     ensures ok { IfOk result (CarriesOut store.old store.new command) }
     ensures refused { IfOk result (KeepsOnError store.old store.new) }

@@ -1,4 +1,5 @@
-//! The store of an XCP slave: its DAQ lists, as the calls that it accepted set them.
+//! The store of an XCP slave: its DAQ lists, as the calls that it accepted set them (ASAM MCD-1
+//! XCP, protocol layer, data acquisition).
 #![tactic(auto)]
 
 mod checks;

@@ -112,7 +112,7 @@ impl ListConf {
         self.odts.len()
     }
 
-    /// The number of entries of an ODT; 0 where there is no such ODT.
+    /// The number of entries of an ODT; 0 if there is no such ODT.
     pub fn entries(&self, odt: usize) -> usize
         ensures count { result ≡ length (odt_entries self.now odt) }
         ensures limit { result ≤ MAX_ENTRIES }

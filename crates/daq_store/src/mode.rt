@@ -7,5 +7,5 @@ pub struct Mode {
     pub priority: u8,
 }
 
-/// TIMESTAMP: the one bit of the mode byte that is accepted (own).
+/// TIMESTAMP: the one bit of the mode byte that is accepted.
 pub const TIMESTAMP: u8 = 0x10;

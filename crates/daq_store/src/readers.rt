@@ -62,7 +62,7 @@ impl Store {
     }
 
     /// FIRST_PID of a DAQ list, if there is one: with an absolute ODT number the number of the ODTs
-    /// of the lists before it, with a relative one 0 (own).
+    /// of the lists before it, with a relative one 0.
     pub fn first_pid(&self, list: u16) -> Option<u8>
         ensures there { IsSome result ↔ (list < length self.now.lists) }
         ensures value { IfSome result (λ pid. pid ≡ first_pid_of self.now list) }

@@ -13,7 +13,7 @@ pub enum Refusal {
     /// The first check that failed.
     #[error("refused: {0:?}")]
     Code(ErrCode),
-    /// Every check passed, and memory was wanting.
+    /// Every check passed, and memory ran out.
     #[error("want of memory")]
     Memory,
 }
@@ -34,7 +34,7 @@ impl From<AllocError> for Refusal {
     }
 }
 
-/// A command met want of memory. It isn't carried out, and the store is unchanged.
+/// A command met lack of memory. It isn't carried out, and the store is unchanged.
 #[derive(Clone, Copy, Debug, PartialEq, Eq, Error)]
 #[error("want of memory")]
 pub struct NoMemory;

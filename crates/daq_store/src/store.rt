@@ -122,7 +122,7 @@ impl Store {
         })
     }
 
-    /// FREE_DAQ: gives up all DAQ lists, also those that run (own); the pointer is undefined.
+    /// FREE_DAQ: gives up all DAQ lists, also those that run; the pointer is undefined.
     pub fn free_daq(&mut self)
         ensures fresh { StoreStandsAfter self.new [] }
         ensures profile_stays { self.new.profile ≡ self.old.profile }
@@ -132,10 +132,10 @@ impl Store {
         self.phase = Phase::Free;
     }
 
-    /// ALLOC_DAQ: `count` fresh DAQ lists in place of all earlier ones; 0 is accepted (own).
+    /// ALLOC_DAQ: `count` fresh DAQ lists in place of all earlier ones; 0 is accepted.
     ///
     /// Refused in this order: ERR_DAQ_ACTIVE while a list runs, ERR_SEQUENCE after ALLOC_ODT or
-    /// ALLOC_ODT_ENTRY, ERR_MEMORY_OVERFLOW over 16 lists, want of memory.
+    /// ALLOC_ODT_ENTRY, ERR_MEMORY_OVERFLOW over 16 lists, lack of memory.
     pub fn alloc_daq(&mut self, count: u16) -> Result<(), Refusal>
         ensures accepted { OnOk result
             (Accepts self.old self.new (Command.AllocDaq count) Reply.Positive) }
@@ -149,11 +149,11 @@ impl Store {
     }
 
     /// ALLOC_ODT: `count` ODTs without entries in place of those of the DAQ list, whose mode and
-    /// selection stay; the pointer is undefined; 0 is accepted (own).
+    /// selection stay; the pointer is undefined; 0 is accepted.
     ///
     /// Refused in this order: ERR_DAQ_ACTIVE while a list runs, ERR_SEQUENCE before ALLOC_DAQ or
     /// after ALLOC_ODT_ENTRY, ERR_OUT_OF_RANGE without such a list, ERR_MEMORY_OVERFLOW over 8 ODTs
-    /// or, with an absolute ODT number, over 124 of all lists, want of memory.
+    /// or, with an absolute ODT number, over 124 of all lists, lack of memory.
     pub fn alloc_odt(&mut self, list: u16, count: u8) -> Result<(), Refusal>
         ensures accepted { OnOk result
             (Accepts self.old self.new (Command.AllocOdt list count) Reply.Positive) }
@@ -167,10 +167,10 @@ impl Store {
     }
 
     /// ALLOC_ODT_ENTRY: `count` unwritten entries in place of those of the ODT; the pointer is
-    /// undefined; 0 is accepted (own).
+    /// undefined; 0 is accepted.
     ///
     /// Refused in this order: ERR_DAQ_ACTIVE while a list runs, ERR_SEQUENCE before ALLOC_ODT,
-    /// ERR_OUT_OF_RANGE without such a list or ODT, ERR_MEMORY_OVERFLOW over 32 entries, want of
+    /// ERR_OUT_OF_RANGE without such a list or ODT, ERR_MEMORY_OVERFLOW over 32 entries, lack of
     /// memory.
     pub fn alloc_odt_entry(&mut self, list: u16, odt: u8, count: u8) -> Result<(), Refusal>
         ensures accepted { OnOk result
@@ -205,7 +205,7 @@ impl Store {
     /// moves to the next entry of the same ODT; after the last one it is undefined.
     ///
     /// Refused in this order: ERR_DAQ_ACTIVE while the list at the pointer runs, ERR_SEQUENCE with
-    /// an undefined pointer (own), ERR_OUT_OF_RANGE for a bit offset other than 0xFF, a size of 0
+    /// an undefined pointer, ERR_OUT_OF_RANGE for a bit offset other than 0xFF, a size of 0
     /// or over 63, an address extension other than 0, or an end after the image.
     pub fn write(&mut self, bit: u8, size: u8, ext: u8, addr: u32) -> Result<(), Refusal>
         ensures accepted { OnOk result
@@ -231,7 +231,7 @@ impl Store {
     /// READ_DAQ: address and size in bytes of the entry at the pointer, if it is written, also of a
     /// list that runs; the pointer moves on as by WRITE_DAQ.
     ///
-    /// Refused with ERR_SEQUENCE with an undefined pointer (own).
+    /// Refused with ERR_SEQUENCE with an undefined pointer.
     pub fn read(&mut self) -> Result<Option<(u32, u8)>, Refusal>
         ensures accepted { IfOk result
             (λ entry. Accepts self.old self.new Command.ReadDaq (read_reply entry)) }
@@ -247,7 +247,7 @@ impl Store {
     }
 
     /// CLEAR_DAQ_LIST: each entry of the list is unwritten and no mode is set, it doesn't run and
-    /// isn't selected; the pointer is undefined, wherever it was (own). A list that runs is cleared
+    /// isn't selected; the pointer is undefined, wherever it was. A list that runs is cleared
     /// too.
     ///
     /// Refused with ERR_OUT_OF_RANGE without such a list.
@@ -265,7 +265,7 @@ impl Store {
     }
 
     /// SET_DAQ_LIST_MODE: channel, prescaler, timestamp (mode bit 0x10) and priority of the list;
-    /// any priority is accepted, and has no effect (own).
+    /// any priority is accepted, and has no effect.
     ///
     /// Refused in this order: ERR_DAQ_ACTIVE while the list runs, ERR_OUT_OF_RANGE without such a
     /// list or channel or for a prescaler of 0, ERR_MODE_NOT_VALID for a mode bit other than 0x10.
@@ -300,7 +300,7 @@ impl Store {
 
     /// START_STOP_DAQ_LIST: stops (mode 0), starts (1) or selects (2) the list, and answers its
     /// FIRST_PID. A stop or start ends the selection; a start of a list that runs and a stop of one
-    /// that doesn't are accepted (own).
+    /// that doesn't are accepted.
     ///
     /// Refused in this order: ERR_OUT_OF_RANGE without such a list, ERR_MODE_NOT_VALID for a mode
     /// over 2, ERR_DAQ_CONFIG for the start of a list that isn't ready.
@@ -319,7 +319,7 @@ impl Store {
     }
 
     /// START_STOP_SYNCH: stops all lists (mode 0), starts (1) or stops (2) the selected ones; none
-    /// is selected then. With none selected, 1 and 2 change nothing (own).
+    /// is selected then. With none selected, 1 and 2 change nothing.
     ///
     /// Refused in this order: ERR_MODE_NOT_VALID for a mode over 2, ERR_DAQ_CONFIG for mode 1 where
     /// a selected list isn't ready; then no list is started.
