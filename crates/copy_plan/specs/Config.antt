@@ -1,5 +1,5 @@
 -- What the samples of one DAQ list are made of (ASAM MCD-1 XCP, protocol layer, DAQ list, ODT, ODT
--- entry). The limits are (own).
+-- entry).
 use Rattle.std.specs.Prelude.{ℕ, ◌+◌, ◌<◌, ◌≤◌, Bool, All, List, [], length, map, filter_map}
 use Rattle.std.specs.Prelude.{slice_index_or, sum_by, Option, option_map}
 use Rattle.xcp_base.specs.declared.limits.TheConstants.{MAX_CHANNELS, MAX_DTO, MAX_LISTS}

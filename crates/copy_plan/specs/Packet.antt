@@ -1,6 +1,5 @@
 -- The DAQ packets of a sample (ASAM MCD-1 XCP, protocol layer, DTO): identification field,
--- timestamp, elements, in the form of the store's packets. That the timestamp stands in ODT 0 alone
--- is (own).
+-- timestamp, elements, in the form of the store's packets. The timestamp stands in ODT 0 alone.
 use Rattle.std.specs.Prelude.{ℕ, ◌+◌, ◌==◌, ◌&&◌, Bool, if◌then◌else◌, List, [], ◌++◌, length}
 use Rattle.std.specs.Prelude.{map, slice_range, flat_map}
 use Rattle.std.specs.List.{range_with_len}

@@ -1,4 +1,4 @@
--- How many copies the packet of an ODT needs (own).
+-- How many copies the packet of an ODT needs.
 use Rattle.std.specs.Prelude.{ℕ, ◌+◌, ◌==◌, Bool, not, List, drop, zip, count_by}
 use Rattle.copy_plan.specs.Config.{OdtEntry}
 
