@@ -1,4 +1,4 @@
--- The counts of what went wrong with a writer (own).
+-- The counts of what went wrong with a writer.
 use Rattle.std.specs.Prelude.{◌≡◌, ℕ, ◌+◌, ◌%◌, ◌^◌, ◌&&◌, ◌⊎◌, ◌==◌, nat_lt, Bool, if◌then◌else◌}
 use Rattle.std.specs.Prelude.{List, length}
 

@@ -1,6 +1,6 @@
--- XCP on Ethernet, header: a packet is sent behind its length LEN and a counter CTR, two bytes
--- each, least significant first. CTR starts at 0 and rises by one a packet (own); it wraps after
--- 65535.
+-- A packet is sent behind its length LEN and a counter CTR, two bytes each, least significant first
+-- (ASAM MCD-1 XCP, transport layer for Ethernet, header). CTR starts at 0 and rises by one a
+-- packet; it wraps after 65535.
 use Rattle.std.specs.Prelude.{ℕ, ◌+◌, ◌/◌, ◌%◌, ◌<◌, ◌≤◌, List, [], ◌∷◌, ◌++◌, length}
 
 -- a number in two bytes, the least significant first

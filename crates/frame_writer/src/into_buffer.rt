@@ -30,6 +30,7 @@ impl FrameWriter<SinkOut> {
         ensures len { length buffer.new ≡ length buffer.old }
     {
         let end = place_text(buffer, at, self.counter, packets);
+        // for the proof: clauses speak of the bytes that were taken
         self.out.log.note(&buffer[at..end]);
         self.counter = self.counter.wrapping_add(packets.len() as u16);
         end

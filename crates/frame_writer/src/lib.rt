@@ -1,4 +1,5 @@
-//! XCP on Ethernet: packets are written as frames to a writer, and read back from bytes.
+//! Packets are written as frames to a writer, and read back from bytes (ASAM MCD-1 XCP, transport
+//! layer for Ethernet, header).
 #![tactic(auto)]
 
 mod byte_log;

@@ -1,8 +1,9 @@
 ghost use Rattle.std.specs.Prelude.{◌≡◌, ℕ, ◌++◌, List, IfSome, IsSomeAnd};
 ghost use Rattle.frame_writer.specs.Frame.{IsFrame, frame};
 
-/// The first frame of some bytes (XCP on Ethernet, header): its counter, its packet, and the bytes
-/// behind it; `None` where the bytes don't begin with a whole frame of LEN at least 1.
+/// The first frame of some bytes (ASAM MCD-1 XCP, transport layer for Ethernet, header): its
+/// counter, its packet, and the bytes behind it; `None` if the bytes don't begin with a whole frame
+/// of LEN at least 1.
 pub fn next_frame(bytes: &[u8]) -> Option<(u16, &[u8], &[u8])>
     ensures frame { IfSome result (λ f. bytes.now ≡ frame f.0 f.1.now ++ f.2.now) }
     ensures legal { IfSome result (λ f. IsFrame (f.0, f.1.now)) }

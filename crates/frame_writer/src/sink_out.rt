@@ -31,6 +31,7 @@ impl Out for SinkOut {
 
     /// Takes all of the bytes.
     fn put(&mut self, bytes: &[u8]) -> Result<usize, OutFault> {
+        // for the proof: clauses speak of the bytes that were taken
         self.log.note(bytes);
         Ok(bytes.len())
     }

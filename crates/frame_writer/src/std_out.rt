@@ -71,6 +71,7 @@ impl<W: Write> Out for StdOut<W> {
         if taken == 0 && !bytes.is_empty() {
             self.stalls = self.stalls.wrapping_add(1);
         }
+        // for the proof: clauses speak of the bytes that were taken
         self.log.note(&bytes[..taken]);
         Ok(taken)
     }

@@ -18,7 +18,8 @@ pub enum WriteFault {
     Closed,
 }
 
-/// Writes packets as frames (XCP on Ethernet, header) to a writer, until that fails.
+/// Writes packets as frames (ASAM MCD-1 XCP, transport layer for Ethernet, header) to a writer,
+/// until that fails.
 #[derive(Debug, Drop)]
 pub struct FrameWriter<O> {
     pub(crate) out: O,
@@ -36,7 +37,7 @@ impl<O: Out> FrameWriter<O> {
     ghost use Rattle.frame_writer.specs.Writing.{FailsWithin, after_frame, fresh_writer};
     ghost use Rattle.frame_writer.specs.Writing.{out_of, state_of};
 
-    /// A frame writer whose first frame has CTR 0 (own).
+    /// A frame writer whose first frame has CTR 0.
     pub fn new(out: O) -> FrameWriter<O>
         ensures value { out_of result ≡ out }
         ensures fresh { state_of O.Out result ≡ fresh_writer (shown O.Out out) }
@@ -52,7 +53,7 @@ impl<O: Out> FrameWriter<O> {
     /// Writes one packet as a frame. The writer is handed the whole frame, and then what it did not
     /// take.
     ///
-    /// Refused with `Closed` exactly where an earlier call failed, and with `Failed` where the
+    /// Refused with `Closed` exactly if an earlier call failed, and with `Failed` if the
     /// writer fails or stalls in this call: then a proper prefix of the frame was written, and
     /// nothing is written from then on.
     pub fn send(&mut self, packet: &[u8]) -> Result<(), WriteFault>
