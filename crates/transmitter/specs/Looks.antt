@@ -1,4 +1,4 @@
--- What a look at the rings leaves: nothing changes but what is known to be in them (own).
+-- What a look at the rings leaves: nothing changes but what is known to be in them.
 use Rattle.std.specs.Prelude.{ℕ, ◌<◌, ◌≡◌, ◌≢◌, List, [], ◌++◌, length, map}
 use Rattle.xcp_base.specs.declared.item.Item.{Item}
 use Rattle.channel_ring.specs.declared.ends.RingEnd.{Ghosts as EndGhosts}

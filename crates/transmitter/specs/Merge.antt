@@ -1,5 +1,5 @@
 -- What was taken from several rings, in the order in which it was taken: each item with the number
--- of its ring (own).
+-- of its ring.
 use Rattle.std.specs.Prelude.{ℕ, ◌+◌, ◌≤◌, ◌≡◌, cond, ◌==◌, List, [], ◌∷◌, ◌++◌}
 use Rattle.std.specs.Prelude.{map, slice_index_or}
 use mathlib.Core.List.{IsPrefix}

@@ -1,4 +1,4 @@
--- A drain empties the rings in rounds (own).
+-- A drain empties the rings in rounds.
 use Rattle.std.specs.Prelude.{ℕ, zero, suc, ◌+◌, ◌≤◌, ◌≡◌, false, true}
 use Rattle.std.specs.Prelude.{List, [], ◌∷◌, ◌++◌, drop, map, None, Some, Result, Ok, Err}
 use mathlib.Core.List.{IsPrefix}

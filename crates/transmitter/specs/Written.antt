@@ -1,4 +1,4 @@
--- What a transmitter took, and what it wrote (own).
+-- What a transmitter took, and what it wrote.
 use Rattle.std.specs.Prelude.{ℕ, ◌≡◌, false, true, List, [], ◌∷◌, ◌++◌, length, map, slice_index}
 use Rattle.std.specs.Prelude.{Option, Some, None}
 use Rattle.xcp_base.specs.Packets.{ArePackets}
