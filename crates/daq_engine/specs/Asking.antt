@@ -1,4 +1,4 @@
--- What the calls of an engine in one thread are refused for, and what a refusal leaves (own).
+-- What the calls of an engine in one thread are refused for, and what a refusal leaves.
 use Rattle.std.specs.Prelude.{◌≡◌, ℕ, ◌≤◌, ◌↔◌, List, length, map, slice_get, slice_index}
 use Rattle.std.specs.Prelude.{Option, None, Some, Result, Ok, Err}
 use Rattle.channel_ring.specs.declared.ends.SendEnd.{Ghosts as SendGhosts}

@@ -1,4 +1,4 @@
--- How an engine was closed: after a drain, or without one (own).
+-- How an engine was closed: after a drain, or without one.
 use Rattle.std.specs.Prelude.{◌≡◌, ℕ, ◌<◌, ◌++◌, Bool, true, false, List, Result}
 use Rattle.xcp_base.specs.declared.item.Item.{Item}
 use Rattle.xcp_base.specs.declared.limits.TheConstants.{MAX_TAKEN}

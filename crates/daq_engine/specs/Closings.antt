@@ -1,4 +1,4 @@
--- How an engine in one thread is closed, and what stands where it isn't (own).
+-- How an engine in one thread is closed, and what stands where it isn't.
 use Rattle.std.specs.Prelude.{◌≡◌, All, Bool, List, length, map}
 use Rattle.channel_ring.specs.declared.ends.SendEnd.{Ghosts as SendGhosts}
 use Rattle.channel_ring.specs.declared.ends.RingEnd.{Ghosts as EndGhosts}

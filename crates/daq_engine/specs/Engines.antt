@@ -1,4 +1,4 @@
--- What an engine shows, and what it stands after (own).
+-- What an engine shows, and what it stands after.
 use Rattle.std.specs.Prelude.{◌≡◌, ℕ, ◌<◌, List, [], length}
 use Rattle.xcp_base.specs.declared.item.Item.{Item}
 use Rattle.channel_ring.specs.declared.ends.SendEnd.{Ghosts as SendGhosts}

@@ -1,5 +1,4 @@
--- What a call adds to what an engine stands after: an event of a channel, or the items of a pump
--- (own).
+-- What a call adds to what an engine stands after: an event of a channel, or the items of a pump.
 use Rattle.std.specs.Prelude.{◌≡◌, ℕ, Bool, cond, List, ◌++◌, length, nat_eq, slice_get}
 use Rattle.std.specs.Prelude.{Result, Some}
 use Rattle.xcp_base.specs.declared.item.Item.{Item}

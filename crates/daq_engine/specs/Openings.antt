@@ -1,4 +1,4 @@
--- What an engine that was opened over a store is (own).
+-- What an engine that was opened over a store is.
 use Rattle.std.specs.Prelude.{◌≡◌, ℕ, ◌<◌, ◌&&◌, Bool, true, nat_eq, nat_le}
 use Rattle.std.specs.Prelude.{All, List, [], length, map, filter}
 use Rattle.std.specs.Prelude.{Option, Some, None, Result, Ok, Err}

@@ -1,5 +1,5 @@
 -- A pump step: all that was sent is looked at, one item of each ring that has one is taken, and all
--- is looked at again (own).
+-- is looked at again.
 use Rattle.std.specs.Prelude.{◌≡◌, ℕ, ◌<◌, ◌++◌, List, length, Ok, Err, Result}
 use mathlib.Core.List.{IsPrefix}
 use Rattle.xcp_base.specs.declared.item.Item.{Item}

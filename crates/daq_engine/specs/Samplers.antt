@@ -1,4 +1,4 @@
--- The samplers of an engine, in rising event channel, beside the transmitter of their rings (own).
+-- The samplers of an engine, in rising event channel, beside the transmitter of their rings.
 use Rattle.std.specs.Prelude.{◌≡◌, ◌≢◌, ℕ, ◌+◌, ◌≤◌, List, length, map, slice_get, Some}
 use Rattle.xcp_base.specs.declared.item.Item.{Item}
 use Rattle.channel_ring.specs.Room.{units}

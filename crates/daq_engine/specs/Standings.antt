@@ -1,4 +1,4 @@
--- What the samplers of an engine stand after, and what is left of them (own).
+-- What the samplers of an engine stand after, and what is left of them.
 use Rattle.std.specs.Prelude.{◌≡◌, ℕ, List, slice_get, Some}
 use Rattle.channel_ring.specs.declared.ends.SendEnd.{Ghosts as SendGhosts}
 use Rattle.channel_ring.specs.declared.ends.RingEnd.{Ghosts as EndGhosts}

@@ -87,6 +87,7 @@ pub(crate) fn pump_step<O: Out, T: Beside>(
     // the pump is to find all that was sent
     look(samplers, transmitter);
     let answer = transmitter.pump();
+    // for the proof: gives `roomy`, and that all that is left is known
     look(samplers, transmitter);
     answer
 }

@@ -26,7 +26,7 @@ use transmitter::Transmitter;
 /// What is left of some samplers, which are all finished, in their order and in the room that was
 /// made for it.
 ///
-/// `None` only where the `finish` of a ring answers it.
+/// `None` only if the `finish` of a ring answers it.
 pub fn finish_all<S: SendEnd>(
     samplers: Vec<Sampler<S>>,
     room: Vec<SamplerEnd<S::End>>,
@@ -91,6 +91,7 @@ pub fn account_after<O: Out, T: TakeEnd>(
     ensures { ClosesWith drain (transmission O.Out T.TakeEnd transmitter)
         (map (joined T.End.RingEnd) ends.items) result.0 (shown O.Out result.1) }
 {
+    // for the proof: after a drain that answers Ok nothing is left
     drained_engines_leave_nothing();
     drain_if(&mut transmitter, &mut ends, drain);
     account(room, transmitter, ends)
