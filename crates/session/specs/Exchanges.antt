@@ -29,7 +29,7 @@ use Rattle.session.specs.Replies.{text_after_event, text_after_upload, upload_re
 use Rattle.session.specs.Requests.{request, writes}
 use Rattle.daq_store.specs.Running.{any_list, is_running}
 
--- WRITE_DAQ_MULTIPLE: the first write that is refused answers, and those before it stand (own)
+-- WRITE_DAQ_MULTIPLE: the first write that is refused answers, and those before it stand
 abbrev pub writes_reply : ListsProfile → List Command → List Command → Reply
 writes_reply lists calls [] = Positive
 writes_reply lists calls (call ∷ more) =
@@ -128,7 +128,7 @@ pub record MayBeOut (d : Profile) (past : Past) (packet : List ℕ) : Type 0 whe
   pub passes : fault_of (lists_of d) past.calls call ≡ None
 
 -- the reply of an exchange, if there is one, and what it leaves: out of memory is answered by
--- ERR_MEMORY_OVERFLOW, and leaves all as it was (own)
+-- ERR_MEMORY_OVERFLOW, and leaves all as it was
 abbrev pub reply_in : Profile → Past → Exchange → Option (List ℕ)
 reply_in d past x =
     if x.out_of_memory then Some (packet_of (Err MemoryOverflow))

@@ -1,4 +1,4 @@
--- What a slave is opened with, and its limits (own).
+-- What a slave is opened with, and its limits.
 use Rattle.std.specs.Prelude.{ℕ, ◌+◌, ◌≤◌, ◌==◌, ◌||◌, nat_lt, Bool, if◌then◌else◌, All}
 use Rattle.std.specs.Prelude.{List, [], ◌∷◌, length, Option, Some, None, is_none, unwrap_or}
 use Rattle.std.specs.List.{list_any}

@@ -1,5 +1,5 @@
 -- What stands in each reply to a connected master, field by field with its name in the standard
--- (ASAM MCD-1 XCP, protocol layer; what is marked (own) is this profile's choice). A field that is
+-- (ASAM MCD-1 XCP, protocol layer, at the command of each). A field that is
 -- kept for later versions is reserved, and 0.
 use Rattle.std.specs.Prelude.{ℕ, ◌+◌, ◌*◌, ◌==◌, ◌||◌, nat_lt, nat_le, max, Bool, true, false}
 use Rattle.std.specs.Prelude.{if◌then◌else◌, List, [], ◌∷◌, ◌++◌, length, map, take, drop}
@@ -82,7 +82,7 @@ abbrev pub text_after_upload : ℕ → Option (List ℕ) → Option (List ℕ)
 text_after_upload n None = None
 text_after_upload n (Some text) = Some (if is_bad_count n text then text else drop n text)
 
--- GET_DAQ_LIST_MODE; a list without a mode has all but SELECTED zero (own)
+-- GET_DAQ_LIST_MODE; a list without a mode has all but SELECTED zero
 abbrev pub mode_bits : Bool → Bool → Bool → ℕ
 mode_bits selected stamped runs =
     (if selected then 0x01 else 0)  -- SELECTED
@@ -173,7 +173,6 @@ text_after_event None text = text
 text_after_event (Some e) text = Some e.name.items
 
 -- READ_DAQ, in a store whose image begins at `base`; an unwritten entry has size and address 0
--- (own)
 abbrev pub read_fields : ℕ → ℕ → ℕ → List ℕ
 read_fields base size place =
     BYTE 0xFF  -- BIT_OFFSET

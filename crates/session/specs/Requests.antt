@@ -1,6 +1,6 @@
 -- Command packets (ASAM MCD-1 XCP, protocol layer): the commands of a session, those that set DAQ
--- lists among them. That a longer packet is accepted and its surplus ignored, that a reserved byte
--- may have any value, and the order of the errors are (own).
+-- lists among them. A longer packet is accepted and its surplus ignored; a reserved byte may have
+-- any value.
 use Rattle.std.specs.Prelude.{ℕ, zero, suc, ◌*◌, ◌-◌, ◌==◌, ◌||◌, nat_lt, if◌then◌else◌, List, []}
 use Rattle.std.specs.Prelude.{◌∷◌, length, drop, take, Result, Ok, Err}
 use Rattle.xcp_base.specs.declared.err_code.ErrCode.{ErrCode}

@@ -1,4 +1,4 @@
--- What of a DAQ list is to be as it was: all that is set of it, but the priority (own).
+-- What of a DAQ list is to be as it was: all that is set of it, but the priority.
 use Rattle.std.specs.Prelude.{ℕ, Option, Some, None}
 use Rattle.daq_store.specs.declared.entry.Entry.{Entry}
 use Rattle.daq_store.specs.declared.mode.Mode.{Mode}

@@ -1,4 +1,4 @@
--- Which DAQ lists run, and which a packet starts and stops (own).
+-- Which DAQ lists run, and which a packet starts and stops.
 use Rattle.std.specs.Prelude.{ℕ, ◌&&◌, not, nat_eq, nat_lt, Bool, List, length}
 use Rattle.daq_store.specs.declared.command.Command.{Command}
 use Rattle.daq_store.specs.Answer.{calls_after}

@@ -10,7 +10,7 @@ use xcp_base::limits::{MAX_NAME, MAX_UNIT};
 pub struct EventChannel {
     /// The capacity of its ring, in the units of the ring's kind.
     pub capacity: usize,
-    /// 0 to 56 bytes of ASCII, 0x20 to 0x7E (own).
+    /// 0 to 56 bytes of ASCII, 0x20 to 0x7E.
     pub name: Vec<u8>,
     /// The cycle of its triggers, in its unit; 0 if there is none.
     pub cycle: u8,

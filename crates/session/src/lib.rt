@@ -1,4 +1,5 @@
-//! The session of an XCP slave with its master: command packets and the replies to them.
+//! The session of an XCP slave with its master: command packets and the replies to them (ASAM MCD-1
+//! XCP, protocol layer, at the command of each).
 #![tactic(auto)]
 
 mod cto;

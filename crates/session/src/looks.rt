@@ -21,7 +21,7 @@ impl Session {
         Cto::positive(&[0x04, conf.odts() as u8, most_entries(conf), 0, 0])
     }
 
-    /// CONNECT, where a master is connected already: nothing changes (own).
+    /// CONNECT while a master is connected already: nothing changes.
     pub(crate) fn connect_again(&self, mode: u8) -> Cto
         ensures { Looks self.now 0 (Request.Connect mode) result }
     {

@@ -34,7 +34,7 @@ pub struct Profile {
     /// The address of the image's first byte, as a master knows it.
     pub base: u32,
     pub ring: RingKind,
-    /// 0 to 56 bytes of ASCII, 0x20 to 0x7E (own).
+    /// 0 to 56 bytes of ASCII, 0x20 to 0x7E.
     pub name: Vec<u8>,
     /// The event channels, 1 to 8.
     pub events: Vec<EventChannel>,

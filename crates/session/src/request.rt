@@ -43,9 +43,9 @@ pub enum Request {
 }
 
 /// Reads the request of a packet, of any bytes, for an image that begins at this address. A longer
-/// packet is accepted and its surplus ignored; a reserved byte may have any value (own).
+/// packet is accepted and its surplus ignored; a reserved byte may have any value.
 ///
-/// Refused in this order (own): ERR_CMD_SYNTAX for an empty packet, ERR_CMD_UNKNOWN for the code of
+/// Refused in this order: ERR_CMD_SYNTAX for an empty packet, ERR_CMD_UNKNOWN for the code of
 /// no command, ERR_CMD_SYNTAX for a packet that is too short for its command.
 pub fn read(packet: &[u8], base: u32) -> Result<Request, ErrCode>
     ensures { result ≡ request base packet.now }

@@ -82,7 +82,7 @@ impl Session {
     }
 
     /// Answers a packet of the master, which came at this clock: at most one reply. An allocation
-    /// that runs out of memory isn't carried out, and is answered by ERR_MEMORY_OVERFLOW (own).
+    /// that runs out of memory isn't carried out, and is answered by ERR_MEMORY_OVERFLOW.
     pub fn answer(&mut self, packet: &[u8], clock: u32) -> Option<Cto>
         ensures reply { Exchanges self.old self.new packet.now clock result }
         ensures starts { IfSome result IsReplyPacket }

@@ -19,7 +19,7 @@ use xcp_base::with_list_if;
 
 impl Session {
     /// The set of the DAQ lists that this packet would start if it came now: they don't run before
-    /// it, and run behind it.
+    /// it, and run after it.
     pub fn starts_of(&self, packet: &[u8]) -> u16
         ensures value { (past : Past) → SessionStandsAfter self.now past
             → (l : ℕ) → l < MAX_LISTS
