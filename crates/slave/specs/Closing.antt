@@ -1,4 +1,4 @@
--- What a slave leaves where it is closed (own).
+-- What a slave leaves where it is closed.
 use Rattle.std.specs.Prelude.{◌≡◌, ℕ, ◌+◌, ◌*◌, ◌<◌, ◌≤◌, ◌↔◌, Bool, true, List, ◌∷◌, ◌++◌}
 use Rattle.std.specs.Prelude.{count_by, drop, length}
 use Rattle.std.specs.List.{list_all}

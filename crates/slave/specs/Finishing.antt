@@ -1,4 +1,4 @@
--- What came back of a measurement at an event channel of a slave (own).
+-- What came back of a measurement at an event channel of a slave.
 use Rattle.std.specs.Prelude.{◌≡◌, ℕ, List, [], ◌∷◌, length, Option, IfSome, IsNone}
 use Rattle.channel_ring.specs.declared.ends.RingEnd.{Ghosts as EndGhosts}
 use Rattle.sampler.specs.Past.{Past}

@@ -1,4 +1,4 @@
--- What follows from the definitions (own).
+-- What follows from the definitions.
 use Rattle.std.specs.Prelude.{◌≡◌, ℕ, ◌+◌, ◌<◌, true, List}
 use Rattle.xcp_base.specs.declared.limits.TheConstants.{MAX_LISTS}
 use Rattle.session.specs.Starts.{runs}

@@ -1,5 +1,5 @@
 -- What a slave did, and what follows of it: the past of its session, what was done at each event
--- channel, and the frames that were laid out (own).
+-- channel, and the frames that were laid out.
 use Rattle.std.specs.Prelude.{ℕ, ◌+◌, Bool, true, false, ◌&&◌, ◌||◌, not, nat_eq, if◌then◌else◌}
 use Rattle.std.specs.Prelude.{List, [], ◌∷◌, ◌++◌, count_by, sum_by, Option, Some, None, Err}
 use Rattle.xcp_base.specs.Samples.{SampleParts}

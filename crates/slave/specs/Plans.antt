@@ -1,4 +1,4 @@
--- How DAQ lists were set up where a measurement was opened (own).
+-- How DAQ lists were set up where a measurement was opened.
 use Rattle.std.specs.Prelude.{◌≡◌, ℕ, ◌<◌, true, List, [], ◌∷◌, length, map, slice_get, Some}
 use Rattle.daq_store.specs.Calls.{numbers_below}
 use Rattle.daq_store.specs.Configuration.{Configuration, configuration}

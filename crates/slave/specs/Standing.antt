@@ -1,4 +1,4 @@
--- What contracts see of a slave, and what it stands after (own).
+-- What contracts see of a slave, and what it stands after.
 use Rattle.std.specs.Prelude.{◌≡◌, ℕ, ◌+◌, ◌-◌, ◌*◌, ◌<◌, ◌≤◌, ◌⊎◌, ◌↔◌, Bool, true, false}
 use Rattle.std.specs.Prelude.{List, [], ◌∷◌}
 use Rattle.std.specs.Prelude.{drop, length, slice_get, Option, Some, None}

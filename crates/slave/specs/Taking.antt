@@ -1,4 +1,4 @@
--- What a slave does with the items of its rings (own).
+-- What a slave does with the items of its rings.
 use Rattle.std.specs.Prelude.{◌≡◌, Bool, true, false, List, length}
 use Rattle.std.specs.List.{list_all}
 use Rattle.channel_ring.specs.declared.ends.TakeEnd.{Ghosts as TakeGhosts}

@@ -60,7 +60,7 @@ impl<R: Ring> Slave<R> {
         ensures { Collects R.Take.TakeEnd self.old self.new }
     {
         if let Some(part) = self.take_back(c) {
-            // its sampler came to a past: that is what the number's contract says
+            // for the proof: gives `finished`, the past that its sampler came to
             let _ = part.number();
         }
     }

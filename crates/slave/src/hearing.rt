@@ -18,10 +18,10 @@ impl<R: Ring> Slave<R> {
     /// Hears a packet of the master, which came at this clock, and lays the reply out, if there is
     /// one; and tells whether there was room for a reply. If there is none, the packet isn't heard.
     ///
-    /// A start is refused, beside what a session refuses, with ERR_SEQUENCE where a list doesn't
-    /// stand as it did when the measurement was opened; with ERR_CMD_BUSY where a task has no place
-    /// for its orders, or holds a measurement before the last; with ERR_MEMORY_OVERFLOW where there
-    /// is no memory for a measurement. Then nothing is started (own).
+    /// A start is refused, beside what a session refuses, with ERR_SEQUENCE if a list isn't set up
+    /// as it was when the measurement was opened; with ERR_CMD_BUSY if a task has no place for its
+    /// orders, or holds a measurement before the last; with ERR_MEMORY_OVERFLOW if there is no
+    /// memory for a measurement. Then nothing is started.
     pub fn hear(&mut self, alloc: Global, packet: &[u8], clock: u32) -> bool
         ensures room { result ≡ has_room self.old.outbox }
         ensures stays { result ≡ false → self.new ≡ self.old }

@@ -1,4 +1,4 @@
-//! An XCP slave: a master connects to it, and starts and stops measurements while tasks run (own).
+//! An XCP slave: a master connects to it, and starts and stops measurements while tasks run.
 #![tactic(auto)]
 
 mod answering;

@@ -44,7 +44,7 @@ impl<R: Ring> Slave<R> {
     /// connected, there is no DAQ list, and nothing waits.
     ///
     /// Refused with `Profile` if the profile is out of a limit, with the first of them; else with
-    /// `Capacity` if a ring of this kind may not have one of the capacities; or, before or behind
+    /// `Capacity` if a ring of this kind may not have one of the capacities; or, before or after
     /// that, with `Memory` if there is no memory.
     pub fn open(
         alloc: Global,
