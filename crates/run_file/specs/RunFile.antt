@@ -1,4 +1,4 @@
--- A run file (own): which text is which run, and what its first fault is.
+-- A run file: which text is which run, and what its first fault is.
 use Rattle.std.specs.Prelude.{◌≡◌, ◌≤◌, ℕ, Bool, List, length, Some, Ok}
 use Rattle.hex.specs.Hex.{decode_of}
 use Rattle.toml.specs.Data.{Members}

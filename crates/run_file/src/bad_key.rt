@@ -28,7 +28,7 @@ pub enum BadKey {
 
 impl BadKey {
     /// The first bad key of a table, in the order in which `Run::read` looks; none if all keys are
-    /// good. Want of memory is the only fault.
+    /// good. Lack of memory is the only fault.
     pub fn of(alloc: Global, table: &Table) -> Result<Option<BadKey>, AllocError>
         ensures { IfOk result (λ bad. IfSome bad (λ _. HasBadKey (table_view table.now))) }
     {

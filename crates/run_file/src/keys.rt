@@ -164,7 +164,7 @@ fn numbers_in(
     Ok(Some(caps))
 }
 
-/// The boolean of `drain`; true where the key is absent.
+/// The boolean of `drain`; true if the key is absent.
 pub fn drain_of(table: &Table) -> Option<bool>
     ensures { result ≡ drain_of (table_view table.now) }
 {

@@ -1,4 +1,4 @@
-//! The limits of a run file that no other crate has (own).
+//! The limits of a run file that no other crate has.
 
 /// The most command packets of a run.
 pub const MAX_PACKETS: usize = 10_000;

@@ -16,7 +16,7 @@ pub enum RunFault {
     /// This string of `steps` is the first that is no step.
     #[error("step {0}")]
     BadStep(usize),
-    /// Memory was wanting. It may be answered before any other fault is looked for.
+    /// Memory ran out. It may be answered before any other fault is looked for.
     #[error("want of memory")]
     Memory,
 }

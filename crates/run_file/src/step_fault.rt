@@ -3,6 +3,6 @@
 pub enum StepFault {
     /// The text is no step.
     NoStep,
-    /// Memory was wanting.
+    /// Memory ran out.
     Memory,
 }

@@ -75,7 +75,7 @@ fn read_step(steps: &mut StepList, last: u8, text: &str) -> Result<(), StepFault
     steps.push(step)
 }
 
-/// The command packet of a text; none where it is none.
+/// The command packet of a text; none if it is none.
 pub fn packet_of(alloc: Global, text: &str) -> Result<Option<Vec<u8>>, AllocError>
     ensures { IfOk result (λ packet. option_map vec_items packet ≡ packet_of text.now) }
 {
@@ -85,7 +85,7 @@ pub fn packet_of(alloc: Global, text: &str) -> Result<Option<Vec<u8>>, AllocErro
     bytes_of(alloc, text)
 }
 
-/// The bytes of a text in hexadecimal; none where it isn't hexadecimal of an even number of digits.
+/// The bytes of a text in hexadecimal; none if it isn't hexadecimal of an even number of digits.
 pub fn bytes_of(alloc: Global, text: &str) -> Result<Option<Vec<u8>>, AllocError>
     ensures { IfOk result (λ bytes. option_map vec_items bytes ≡ bytes_of text.now) }
 {

@@ -24,7 +24,7 @@ pub enum Wording<'a> {
     Pump,
 }
 
-/// The words of a step, for the event channels from 0 to `last`; none where the text is no step,
+/// The words of a step, for the event channels from 0 to `last`; none if the text is no step,
 /// whatever an image says.
 pub fn wording_of(last: u8, text: &str) -> Option<Wording<'_>>
     ensures value { option_map wording_data result ≡ wording_of last text.now }
