@@ -1,5 +1,4 @@
--- What the calls of the C library answer and what they leave, by their status. The order of the
--- checks is (own).
+-- What the calls of the C library answer and what they leave, by their status.
 use Rattle.std.specs.Prelude.{◌≡◌, ℕ, ◌<◌, ◌≤◌, List, [], ◌++◌, length, drop, IsSome}
 use Rattle.std.specs.Prelude.{Option, Some, None, Ok}
 use Rattle.xcp_base.specs.declared.limits.TheConstants.{MAX_CHANNELS, MAX_IMAGE_LEN}

@@ -1,4 +1,4 @@
--- How an engine ends: its rings are drained, and it is closed with its account (own).
+-- How an engine ends: its rings are drained, and it is closed with its account.
 use Rattle.std.specs.Prelude.{◌≡◌, ◌⊎◌, ℕ, ◌<◌, ◌≤◌, Bool, false, true, List, ◌++◌, length}
 use Rattle.std.specs.Prelude.{drop, map, Option, Some, None}
 use Rattle.xcp_base.specs.declared.limits.TheConstants.{MAX_LISTS}

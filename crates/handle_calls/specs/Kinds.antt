@@ -1,4 +1,4 @@
--- The numbers of `ng_id_kind` and `ng_ring` in `nerthogal.h` (own).
+-- The numbers of `ng_id_kind` and `ng_ring` in `nerthogal.h`.
 use Rattle.std.specs.Prelude.{ℕ, ◌==◌, if◌then◌else◌, Option, Some, None}
 use Rattle.xcp_base.specs.declared.id_kind.IdKind.{IdKind}
 use Rattle.xcp_base.specs.declared.id_kind.IdKind.TheVariants.{Absolute, RelativeByte, RelativeWord}

@@ -1,4 +1,4 @@
--- The samplers of an engine: those that it has still, and those that came back (own).
+-- The samplers of an engine: those that it has still, and those that came back.
 use Rattle.std.specs.Prelude.{◌≡◌, ℕ, List, [], ◌∷◌, length, map}
 use Rattle.xcp_base.specs.declared.item.Item.{Item}
 use Rattle.channel_ring.specs.Ends.{RingName}

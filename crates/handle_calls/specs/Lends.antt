@@ -1,4 +1,4 @@
--- How an engine hands its samplers out (own).
+-- How an engine hands its samplers out.
 use Rattle.std.specs.Prelude.{◌≡◌, [], ◌∷◌, ◌++◌, Option, Some, None}
 use Rattle.sampler.specs.State.{SamplerState}
 use Rattle.handle_calls.specs.Lendings.{LendingState}

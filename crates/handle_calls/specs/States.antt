@@ -1,4 +1,4 @@
--- What contracts see of rings of one kind, and of an engine over them (own).
+-- What contracts see of rings of one kind, and of an engine over them.
 use Rattle.std.specs.Prelude.{ℕ, Bool, List, Vec}
 use Rattle.std.specs.declared.alloc.Global.{Global}
 use Rattle.rtrb.specs.declared.AnyItems.{AnyItems}

@@ -1,4 +1,4 @@
--- The numbers of `ng_status` in `nerthogal.h` (own).
+-- The numbers of `ng_status` in `nerthogal.h`.
 use Rattle.std.specs.Prelude.{ℕ}
 use Rattle.handle_calls.specs.declared.status.Status.{Status}
 use Rattle.handle_calls.specs.declared.status.Status.TheVariants as status

@@ -1,4 +1,4 @@
--- The way on which what is left of a sampler goes back to its engine (own).
+-- The way on which what is left of a sampler goes back to its engine.
 use Rattle.std.specs.Prelude.{◌≡◌, List, [], ◌∷◌}
 use mathlib.Core.List.{IsPrefix}
 use Rattle.channel_ring.specs.declared.ends.SendEnd.{Ghosts as SendGhosts}

@@ -20,7 +20,7 @@ pub struct Asked {
 }
 
 impl Asked {
-    /// The store that is asked for, without DAQ lists; `None` exactly where a number is out of its
+    /// The store that is asked for, without DAQ lists; `None` exactly if a number is out of its
     /// limits.
     pub fn store(self, alloc: Global) -> Option<Store>
         ensures limits { IsSome result ↔ AreLimits self }

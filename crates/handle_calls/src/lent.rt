@@ -54,11 +54,13 @@ impl<R: Ring> Lent<R> {
     {
         let began = Snapshot::of(&sampler);
         let kept = Snapshot::of(&sampler);
+        // for the proof: pushed and popped at once, so that both ends of the way know the sampler
         producer.push_reserved(Return::Sampler(sampler));
         let _ = consumer.slots_beside(&mut producer);
         let Return::Sampler(sampler) = consumer.pop_known() else {
             unreachable!()
         };
+        // for the proof: the place on the way is known to be free again
         let _ = producer.slots_beside(&mut consumer);
         let way = WayBack { producer, began };
         let coming = ComingBack {

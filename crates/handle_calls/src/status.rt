@@ -14,7 +14,7 @@ pub enum Status {
     BadLimits,
     /// The buffer is too short.
     SmallBuffer,
-    /// Want of memory.
+    /// Lack of memory.
     Memory,
     /// There is not one capacity for each event channel, or one is out of its limits.
     BadCaps,
