@@ -14,7 +14,7 @@ use std::alloc::Global;
 
 /// Finishes a sampler, and gives what is left of it back to its engine. The handle is empty then.
 ///
-/// Refused where there is no sampler (own). Where the engine was freed, what is left of the
+/// Refused if there is no sampler. If the engine was freed, what is left of the
 /// sampler is given up, and so is answered.
 #[unsafe(no_mangle)]
 pub extern "C" fn ng_finish(alloc: Global, sampler: &mut Handle) -> u32
@@ -25,10 +25,10 @@ pub extern "C" fn ng_finish(alloc: Global, sampler: &mut Handle) -> u32
     finish_by(alloc, sampler).number()
 }
 
-/// Looks at all that was sent, and pumps where something is left.
+/// Looks at all that was sent, and pumps if something is left.
 ///
 /// Refused in this order: no engine, a buffer of less than 4352 bytes, a sampler that wasn't
-/// finished (own); where something is left, as `ng_pump`.
+/// finished; if something is left, as `ng_pump`.
 #[unsafe(no_mangle)]
 pub extern "C" fn ng_drain(
     alloc: Global,
@@ -57,7 +57,7 @@ pub extern "C" fn ng_drain(
 /// Closes an engine, and tells its account: a line for each DAQ list that it had, into the front
 /// of `lines`. The handle is empty then.
 ///
-/// Refused in this order (own): no engine, room for less than 16 lines, a sampler that wasn't
+/// Refused in this order: no engine, room for less than 16 lines, a sampler that wasn't
 /// finished.
 #[unsafe(no_mangle)]
 pub extern "C" fn ng_close(

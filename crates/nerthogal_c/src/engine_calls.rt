@@ -15,8 +15,8 @@ use std::alloc::Global;
 /// in `ng_ring`. That of event channel `c` has `caps[c]` places, 1 to 1024, or bytes, 532 to
 /// 65536.
 ///
-/// Refused in this order (own): an engine's handle that isn't empty, no store, no such kind of
-/// ring; capacities that don't fit, no list runs, want of memory.
+/// Refused in this order: an engine's handle that isn't empty, no store, no such kind of
+/// ring; capacities that don't fit, no list runs, lack of memory.
 #[unsafe(no_mangle)]
 pub extern "C" fn ng_open(
     alloc: Global,
@@ -35,8 +35,8 @@ pub extern "C" fn ng_open(
 
 /// Hands out the sampler of the lowest event channel whose sampler wasn't handed out yet.
 ///
-/// Refused in this order (own): a sampler's handle that isn't empty, no engine, all samplers are
-/// out, want of memory.
+/// Refused in this order: a sampler's handle that isn't empty, no engine, all samplers are
+/// out, lack of memory.
 #[unsafe(no_mangle)]
 pub extern "C" fn ng_next_sampler(alloc: Global, engine: &mut Handle, sampler: &mut Handle) -> u32
     ensures { (status : StatusOf) × (result ≡ number_of status)

@@ -21,8 +21,8 @@ use std::alloc::Global;
 
 /// Opens a slave with the profile and the event channels that are asked for, in an empty handle.
 ///
-/// Refused first if the handle isn't empty; then if the profile is out of a limit or for want of
-/// memory, in either order (own).
+/// Refused first if the handle isn't empty; then if the profile is out of a limit or for lack of
+/// memory, in either order.
 #[unsafe(no_mangle)]
 pub extern "C" fn ng_slave_open(
     alloc: Global,
@@ -39,8 +39,8 @@ pub extern "C" fn ng_slave_open(
 
 /// Hands the task of event channel `channel` out, into an empty handle.
 ///
-/// Refused in this order (own): a task's handle that isn't empty, no slave, no such event channel, a
-/// task that was handed out before, want of memory.
+/// Refused in this order: a task's handle that isn't empty, no slave, no such event channel, a
+/// task that was handed out before, lack of memory.
 #[unsafe(no_mangle)]
 pub extern "C" fn ng_slave_task(
     alloc: Global,
@@ -137,7 +137,7 @@ pub extern "C" fn ng_slave_sent(alloc: Global, slave: &mut Handle) -> u32
 /// Closes a slave, and tells the account of its session: a line for each DAQ list that there may be,
 /// and whether the account is whole. The handle is empty then.
 ///
-/// Refused in this order (own): no slave, room for less than 16 lines, a task that wasn't finished.
+/// Refused in this order: no slave, room for less than 16 lines, a task that wasn't finished.
 #[unsafe(no_mangle)]
 pub extern "C" fn ng_slave_close(
     alloc: Global,

@@ -12,7 +12,7 @@ use std::alloc::Global;
 /// puts it into an empty handle. Its packets have the identification field with this number of
 /// `ng_id_kind`, and timestamps of 1, 2 or 4 bytes.
 ///
-/// Refused in this order (own): a handle that isn't empty, limits, want of memory.
+/// Refused in this order: a handle that isn't empty, limits, lack of memory.
 #[unsafe(no_mangle)]
 pub extern "C" fn ng_store_new(
     alloc: Global,
@@ -42,7 +42,7 @@ pub extern "C" fn ng_store_new(
 /// Carries one command packet of any bytes out. The packet that answers it goes into the front of
 /// the buffer, and its length in bytes into `reply_len`.
 ///
-/// Refused in this order (own): an empty handle, a buffer of less than 8 bytes, want of memory.
+/// Refused in this order: an empty handle, a buffer of less than 8 bytes, lack of memory.
 /// Then no command is carried out, and nothing is written.
 #[unsafe(no_mangle)]
 pub extern "C" fn ng_store_command(
