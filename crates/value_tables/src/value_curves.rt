@@ -77,6 +77,7 @@ impl<'a> Samples for ValueCurves<'a> {
         if let Some(list) = list_at(&self.lists, place) {
             draw(&mut self.picture, &self.columns, list, sample, at);
         }
+        // for the proof: clauses speak of the samples that were handed over
         self.log.note(place, sample);
     }
 }

@@ -136,6 +136,7 @@ impl<'a, W: Write + Drop> Samples for ValueRows<'a, W> {
         let list = list_at(&self.lists, place);
         let at = self.spots.next(shape_of(list), place, sample.stamp());
         self.failed = go_on(self.failed, &mut self.rows, &self.columns, list, sample, at);
+        // for the proof: clauses speak of the samples that were handed over
         self.log.note(place, sample);
     }
 }

@@ -99,6 +99,7 @@ impl<'a> Samples for ValueTallies<'a> {
     fn hand(&mut self, place: usize, sample: &SampleView<'_>) {
         let list = list_at(&self.lists, place);
         note_in(&mut self.tallies, &self.columns, list, sample);
+        // for the proof: clauses speak of the samples that were handed over
         self.log.note(place, sample);
     }
 }
