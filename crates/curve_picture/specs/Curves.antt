@@ -1,4 +1,4 @@
--- What a picture keeps of the values that it was given (own).
+-- What a picture keeps of the values that it was given.
 use Rattle.std.specs.Prelude.{◌≡◌, ℕ, ◌-◌, ◌^◌, ◌<◌, ◌≤◌, min, Bool, ◌&&◌}
 use Rattle.std.specs.Prelude.{List, [], length, slice_get, get_or, filter, All}
 use Rattle.std.specs.Prelude.{MatchOption, Option, Some}

@@ -1,4 +1,4 @@
--- What the calls make of bins and rows, as plain data (own).
+-- What the calls make of bins and rows, as plain data.
 use Rattle.std.specs.Prelude.{ℕ, zero, suc, ◌+◌, ◌-◌, ◌/◌, ◌%◌, ◌^◌, min, max, nat_lt}
 use Rattle.std.specs.Prelude.{Bool, false, ◌||◌, if◌then◌else◌, Option, None, Some}
 use Rattle.std.specs.Prelude.{List, get_or, set, replicate}

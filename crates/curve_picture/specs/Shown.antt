@@ -1,4 +1,4 @@
--- What a picture shows to contracts (own).
+-- What a picture shows to contracts.
 use Rattle.std.specs.Prelude.{ℕ, List, string_bytes}
 use Rattle.curve_picture.specs.declared.row.Row.{Row}
 use Rattle.curve_picture.specs.declared.words.Words.{Words}

@@ -1,4 +1,4 @@
--- What a picture is given: the newest value comes first in each list (own).
+-- What a picture is given: the newest value comes first in each list.
 use Rattle.std.specs.Prelude.{ℕ, ◌-◌, ◌^◌, ◌<◌, ◌≤◌, min, max, Bool, ⊤}
 use Rattle.std.specs.Prelude.{List, [], ◌∷◌, nat_eq, if◌then◌else◌}
 use Rattle.std.specs.Float.{Float}
