@@ -1,4 +1,4 @@
--- The faults of the program, and the status of each (own).
+-- The faults of the program, and the status of each.
 use Rattle.std.specs.Prelude.{ℕ}
 use Rattle.daq_sim.specs.declared.text_fault.TextFault.{TextFault}
 use Rattle.daq_sim.specs.declared.text_fault.TextFault.TheVariants.{Memory}

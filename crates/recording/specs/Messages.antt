@@ -1,4 +1,4 @@
--- What standard error is told of progress (own).
+-- What standard error is told of progress.
 use Rattle.std.specs.Prelude.{ℕ, ◌/◌, nat_lt, Bool}
 
 -- more whole steps of 10 MB stand before one byte than before another

@@ -1,4 +1,4 @@
--- A recording that is read piece by piece (own).
+-- A recording that is read piece by piece.
 use Rattle.std.specs.Prelude.{◌≡◌, ◌≢◌, ◌⊎◌, ℕ, ◌+◌, ◌%◌, ◌^◌, ◌≤◌, List, [], ◌++◌, length}
 use Rattle.std.specs.Prelude.{Option, Some}
 use Rattle.std.specs.Io.KnownBytes.{Consumes, IsAtEnd}

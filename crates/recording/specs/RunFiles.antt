@@ -1,4 +1,4 @@
--- What a run wrote to a file is read back (own).
+-- What a run wrote to a file is read back.
 use Rattle.std.specs.Prelude.{◌≡◌, ℕ, ◌%◌, ◌<◌, false, true, List, [], ◌++◌, length, slice_get}
 use Rattle.std.specs.Prelude.{Option, Some}
 use mathlib.Core.List.{IsPrefix}

@@ -1,4 +1,4 @@
--- What is printed of a recording that was read to its end (own).
+-- What is printed of a recording that was read to its end.
 use Rattle.std.specs.Prelude.{◌≡◌, ℕ, List, [], Option}
 use Rattle.std.specs.Io.KnownBytes.{Appends, IsAtEnd}
 use Rattle.sample_picture.specs.Shown.{IsClosed}

@@ -73,6 +73,7 @@ impl Samples for Drawing {
     fn hand(&mut self, place: usize, sample: &SampleView<'_>) {
         let at = self.places.next(place, sample.stamp());
         self.picture.sample(place, at, sample.overload());
+        // for the proof: clauses speak of the samples that were handed over
         self.log.note(place, sample);
     }
 }

@@ -12,5 +12,6 @@ pub fn what_a_run_wrote_is_read()
     ensures in_one_thread { RunFilesAreRead }
     ensures in_threads { RunFilesInThreadsAreRead }
 {
+    // for the proof: what a run wrote is such a recording
     read_back::laws::what_a_run_wrote_is_read_back();
 }
