@@ -1,4 +1,4 @@
--- A whole run of an engine in one thread, call by call (own).
+-- A whole run of an engine in one thread, call by call.
 use Rattle.std.specs.Prelude.{ℕ, [], List, Result, true}
 use Rattle.channel_ring.specs.declared.ends.SendEnd.{Ghosts as SendGhosts}
 use Rattle.channel_ring.specs.declared.ends.RingEnd.{Ghosts as EndGhosts}
