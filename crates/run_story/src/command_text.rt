@@ -2,7 +2,8 @@ use daq_store::command::{self, Command};
 use std::fmt::{self, Display};
 use xcp_base::ErrCode;
 
-/// The command of a packet, by the names of ASAM MCD-1 XCP, with its fields.
+/// The command of a packet by its name (ASAM MCD-1 XCP, protocol layer, data acquisition commands),
+/// with its fields.
 #[derive(Clone, Copy)]
 pub struct CommandText<'a> {
     pub packet: &'a [u8],

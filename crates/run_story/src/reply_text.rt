@@ -6,7 +6,7 @@ use daq_store::Reply;
 use std::fmt::{self, Display};
 use xcp_base::ErrCode;
 
-/// The reply that a packet is, by the names of ASAM MCD-1 XCP.
+/// The reply that a packet is, by its name (ASAM MCD-1 XCP, protocol layer, RES and ERR packets).
 #[derive(Clone, Copy)]
 pub struct ReplyText<'a> {
     pub packet: &'a [u8],
