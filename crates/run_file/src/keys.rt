@@ -174,7 +174,7 @@ pub fn drain_of(table: &Table) -> Option<bool>
     }
 }
 
-/// The kind of ring that `ring` names; that of samples where the key is absent.
+/// The kind of ring that `ring` names; that of samples if the key is absent.
 pub fn ring_of(table: &Table) -> Option<RingKind>
     ensures { result ≡ ring_of (table_view table.now) }
 {
@@ -220,7 +220,7 @@ pub fn form_of(table: &Table) -> Option<PacketForm>
     Some(PacketForm { id, stamp })
 }
 
-/// The identification field that `id` names; an absolute ODT number where the key is absent.
+/// The identification field that `id` names; an absolute ODT number if the key is absent.
 pub fn id_of(table: &Table) -> Option<IdKind>
     ensures { result ≡ id_of (table_view table.now) }
 {
@@ -256,7 +256,7 @@ fn id_named(word: &str) -> Option<IdKind>
     None
 }
 
-/// The size of timestamps by `stamp_size`; 4 bytes where the key is absent.
+/// The size of timestamps by `stamp_size`; 4 bytes if the key is absent.
 pub fn stamp_of(table: &Table) -> Option<StampSize>
     ensures { result ≡ stamp_of (table_view table.now) }
 {

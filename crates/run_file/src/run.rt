@@ -53,7 +53,7 @@ impl Model for Run {
 impl Run {
     /// The run of a text.
     ///
-    /// Refused with the first of these faults: `NotToml`, `BadKey`, `BadSetup`, `BadStep`. Want of
+    /// Refused with the first of these faults: `NotToml`, `BadKey`, `BadSetup`, `BadStep`. Lack of
     /// memory, `Memory`, may be answered before any of them.
     pub fn read(alloc: Global, text: &str) -> Result<Run, RunFault>
         ensures ok { IfOk result (IsRunText text.now) }
