@@ -29,7 +29,7 @@ pub struct SessionFile {
 impl SessionFile {
     /// The session of a text.
     ///
-    /// Refused with the first of these faults: `NotToml`, `BadKey`, `BadEvent`, `BadLine`. Want of
+    /// Refused with the first of these faults: `NotToml`, `BadKey`, `BadEvent`, `BadLine`. Lack of
     /// memory, `Memory`, may be answered before any of them.
     pub fn read(alloc: Global, text: &str) -> Result<SessionFile, FileFault>
         ensures ok { IfOk result (IsSessionText text.now) }
