@@ -38,7 +38,7 @@ fn take_back<R: Ring>(engine: &mut Engine<R>, lent: Lent<R>)
     engine.lending.take_back(lent);
 }
 
-/// Puts what is given into an empty handle, or gives it back where memory is wanting.
+/// Puts what is given into an empty handle, or gives it back if there is no memory.
 pub fn put_in(alloc: Global, given: Content, handle: &mut Handle) -> Result<(), Content>
     ensures ok { OnOk result (handle.new.held ≡ Some given) }
     ensures back { IfErr result (λ back. back ≡ given) }
