@@ -9,7 +9,7 @@ pub enum ProgramFault {
     /// The words are no command line.
     #[error("xcpread: bad command line")]
     CommandLine,
-    /// No run is read, or memory was wanting.
+    /// No run is read, or memory ran out.
     #[error("xcpread: {0}")]
     Text(TextFault),
     /// The A2L file can't be read.
