@@ -288,8 +288,8 @@ impl<S: SendEnd> Sampler<S> {
         take.beside(&mut self.end)
     }
 
-    /// Gives the sampler up; what it sent stays in the ring. `None` only if the ring's `finish`
-    /// answers it.
+    /// Gives the sampler up; what it sent stays in the ring. `None` if the ring's `finish` answers
+    /// it, since the take end was dropped before.
     pub fn finish(self) -> Option<SamplerEnd<S::End>>
         ensures stands { IfSome result (λ left.
             (past : Past) → StandsAfter S.SendEnd S.End.RingEnd self past
