@@ -102,7 +102,8 @@ impl<R: Ring> Lent<R> {
         counts_of(&self.sampler, list, counts)
     }
 
-    /// Finishes the sampler, and gives what is left of it back.
+    /// Finishes the sampler, and gives what is left of it back. Refused with `NoEngine` if the
+    /// engine was freed: then nothing is left.
     pub fn finish(self) -> Result<Given<R::Send>, Status>
         ensures ok { IfOk result (λ given.
             IsLeftOf R.Send.SendEnd R.Send.End.RingEnd self given.end) }
