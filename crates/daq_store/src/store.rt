@@ -16,6 +16,9 @@ use xcp_base::{IdKind, PacketForm};
 
 /// The DAQ lists of a slave, the DAQ pointer and the phase of the allocation.
 ///
+/// A call whose description begins with a command is what this command does (ASAM MCD-1 XCP,
+/// protocol layer, at the command).
+///
 /// Contracts speak of a store by the calls that it accepted since the last FREE_DAQ: it *stands
 /// after* them. A refused call leaves it as it was.
 #[derive(Drop)]
