@@ -46,6 +46,7 @@ fn start<S: SendEnd>(sampler: &mut Sampler<S>, orders: &mut OrderTake, l: u8) ->
     ensures { ObeysNext S.SendEnd S.End.RingEnd sampler.old sampler.new
         orders.old orders.new result }
 {
+    // a start that is refused is taken off too
     let _ = sampler.start(l);
     let _ = orders.take();
     Obeyed::Done
