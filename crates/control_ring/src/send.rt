@@ -52,8 +52,8 @@ impl ControlSend {
         }
     }
 
-    /// Gives the end up. What was sent stays in the ring. `None` if the take end was dropped before;
-    /// no clause says that the answer is `Some`.
+    /// Gives the end up. What was sent stays in the ring. `None` if the take end was dropped
+    /// before; no clause says that the answer is `Some`.
     pub fn finish(self) -> Option<ControlEnded>
         ensures sent { IfSome result (λ end. end.sent ≡ self.sent) }
         ensures ring { IfSome result (λ end. end.ring ≡ self.ring) }
