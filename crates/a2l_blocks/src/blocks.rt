@@ -100,7 +100,7 @@ impl<'a> Blocks<'a> {
         self.words.start()
     }
 
-    /// Takes the word that was read last, and answers the part that it ends, if it does.
+    /// Takes the word that was read last, and returns the part that it ends, if it does.
     fn step(&mut self, word: Word<'a>) -> Result<Option<Part>, BlockFault>
         ensures ok { IfOk result (λ part. StepIs part (rest_of self.old.words)
             (coming_behind (token_of word.entry) (state_of self.old)) (state_of self.new)) }
