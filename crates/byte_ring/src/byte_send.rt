@@ -91,7 +91,7 @@ impl SendEnd for ByteSend {
         (known_free s.producer) (Prim.omega (arith, s.producer.counts)) };
 }
 
-/// Pushes the bytes of a record, whole, and counts it, or does nothing; tells which.
+/// Pushes the bytes of a record, whole, and counts it, or does nothing; returns which.
 fn push_whole(producer: &mut Producer<u8>, count: &mut u64, bytes: &[u8]) -> bool
     ensures ring { SameProducer producer.old producer.new }
     ensures succeeds { length bytes.now ≤ known_free producer.old → result ≡ true }

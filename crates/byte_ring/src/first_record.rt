@@ -29,7 +29,7 @@ pub(crate) fn nothing() -> Front
     }
 }
 
-/// Copies the next byte, which stays in the ring, behind those held, and answers the least length
+/// Copies the next byte, which stays in the ring, behind those held, and returns the least length
 /// of a record that begins with all of these.
 fn see_next(consumer: &Consumer<u8>, front: &mut Front) -> usize
     requires there { front.old.ahead ≤ length (known_items consumer.now) }
@@ -79,7 +79,7 @@ fn step(consumer: &mut Consumer<u8>, front: &mut Front) -> bool
     true
 }
 
-/// Reads the first item, if it is known, and tells whether it is; then it is ready.
+/// Reads the first item, if it is known, and returns whether it is; then it is ready.
 ///
 /// Of its record it pops all but the last byte, and nothing of the records behind: so the item is
 /// taken by the pop of that byte.

@@ -41,7 +41,7 @@ fn head_of(channel: u8, list: u8, number: u64, count: u8) -> [u8; HEAD]
     [SAMPLE, channel, list, a, b, c, d, e, f, g, h, count]
 }
 
-/// Writes the record of a sample over the first places, and answers its length.
+/// Writes the record of a sample over the first places, and returns its length.
 #[tactic(auto, unfolding(crate::specs::Records::record_of))]
 pub(crate) fn write_sample(
     out: &mut [u8; MAX_RECORD],
@@ -64,7 +64,7 @@ pub(crate) fn write_sample(
     end
 }
 
-/// Writes the record of an item over the first places, and answers its length.
+/// Writes the record of an item over the first places, and returns its length.
 #[tactic(auto, unfolding(crate::specs::Records::record_of))]
 pub(crate) fn write_record(out: &mut [u8; MAX_RECORD], item: &Item) -> usize
     ensures bytes { take result out.new ≡ record_of item.now }
