@@ -19,7 +19,7 @@ impl<T: TakeEnd> Intake<T> {
     ghost use Rattle.channel_intake.specs.Deeds.{Deed, taken};
     ghost use Rattle.channel_intake.specs.Intakes.{StandsAfter};
 
-    /// Looks at all that was sent through the finished end of its ring, and answers how many items
+    /// Looks at all that was sent through the finished end of its ring, and returns how many items
     /// are left. From then on each of them is known.
     pub fn after(&mut self, end: &mut SamplerEnd<T::End>) -> usize
         requires one_ring { T.End.ring end.old.end ≡ T.ring self.old.end }
