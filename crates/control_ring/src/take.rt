@@ -65,7 +65,7 @@ impl ControlTake {
         self.consumer.pop().ok()
     }
 
-    /// Looks at all that was sent through the finished send end of this ring, and answers how many
+    /// Looks at all that was sent through the finished send end of this ring, and returns how many
     /// orders are left.
     ///
     /// From then on each order left is known. It holds in whichever threads the two ends were.
