@@ -26,7 +26,7 @@ use transmitter::Transmitter;
 /// What is left of some samplers, which are all finished, in their order and in the room that was
 /// made for it.
 ///
-/// `None` only if the `finish` of a ring answers it.
+/// `None` only if the `finish` of a ring returns it.
 pub fn finish_all<S: SendEnd>(
     samplers: Vec<Sampler<S>>,
     room: Vec<SamplerEnd<S::End>>,
