@@ -66,7 +66,7 @@ impl ListReader {
         taken
     }
 
-    /// Takes the next packet of the list, and answers whether a sample is whole with it.
+    /// Takes the next packet of the list, and returns whether a sample is whole with it.
     ///
     /// A packet is taken exactly if it and those that wait begin the packets of some sample of
     /// the list; after a whole sample none waits. One that is refused changes nothing.

@@ -53,7 +53,7 @@ impl Reader {
         Ok(())
     }
 
-    /// Takes the next packet, and answers the place of the list whose sample is whole with it.
+    /// Takes the next packet, and returns the place of the list whose sample is whole with it.
     pub fn take(&mut self, packet: &[u8]) -> Result<Option<usize>, PacketFault>
         ensures taken { IfOk result (λ whole. Takes self.old self.new packet.now whole) }
         ensures stands { IfOk result (λ whole.
