@@ -79,7 +79,7 @@ fn pump_until<R: Wait, O: Out, T: TakeEnd, G: Gate>(
     }
 }
 
-/// Pumps once, tells the gate if that answered Ok, and tells whether anything was taken.
+/// Pumps once, tells the gate if that answered Ok, and returns whether anything was taken.
 fn pumps_some<O: Out, T: TakeEnd, G: Gate>(transmitter: &mut Transmitter<O, T>, gate: &G) -> bool
     ensures { KeepsTaking (transmission O.Out T.TakeEnd transmitter.old)
         (transmission O.Out T.TakeEnd transmitter.new) }

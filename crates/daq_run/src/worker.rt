@@ -55,7 +55,7 @@ pub fn work<S: SendEnd, G: Gate>(
     Worked { end, refused }
 }
 
-/// Does those steps of a run that are of a sampler's event channel, in order, and answers how many
+/// Does those steps of a run that are of a sampler's event channel, in order, and returns how many
 /// were refused.
 fn do_own<S: SendEnd, G: Gate>(sampler: &mut Sampler<S>, run: &Run, gate: &G) -> u64
     ensures does { HasAnsweredMore S.SendEnd S.End.RingEnd sampler.old sampler.new
