@@ -21,7 +21,7 @@ use std::sync::Wait;
 use std::thread::Threads;
 
 /// The program over its arguments, without its name, its standard input, standard output and
-/// standard error. It answers its status.
+/// standard error. It returns its status.
 ///
 /// With `--threads` it may wait.
 pub fn program<R: Files + Threads + Wait + Sync, I: Read + Drop, W: Write + Drop, E: Write + Drop>(
@@ -111,7 +111,7 @@ fn carry_out<R: Files + Threads + Wait + Sync, I: Read + Drop, W: Write>(
     }
 }
 
-/// Prints the help, and answers the status.
+/// Prints the help, and returns the status.
 fn print_help<W: Write>(out: &mut W, help: Error) -> u8
     ensures { result ≤ 1 }
 {

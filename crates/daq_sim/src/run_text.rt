@@ -74,7 +74,7 @@ pub fn front_from<I: Read>(alloc: Global, input: &mut I, len: usize) -> Result<V
     Err(TextFault::Unreadable)
 }
 
-/// Makes one read, appends what it gave, and tells whether it met the end.
+/// Makes one read, appends what it gave, and returns whether it met the end.
 ///
 /// An interruption counts as a read of no byte. Refused if a read fails, and if there would
 /// be more than `MAX_TEXT` bytes; lack of memory is `Memory`.
