@@ -17,7 +17,7 @@ use daq_engine::Engine;
 use frame_writer::Out;
 use run_file::{Run, Step};
 
-/// Does a step, and answers what came of it. A pump at which the writer fails is no refusal.
+/// Does a step, and returns what came of it. A pump at which the writer fails is no refusal.
 pub fn do_step<O: Out, T: Beside>(engine: &mut Engine<O, T>, step: Step<'_>) -> Came
 where
     T::Send: SendEnd<End = T::End>,
@@ -56,7 +56,7 @@ fn count(came: Came) -> u64
     }
 }
 
-/// Does the steps of a run in order, and answers how many were refused. They go on if the writer
+/// Does the steps of a run in order, and returns how many were refused. They go on if the writer
 /// fails.
 pub fn do_steps<O: Out, T: Beside>(engine: &mut Engine<O, T>, run: &Run) -> u64
 where

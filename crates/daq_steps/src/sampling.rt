@@ -44,7 +44,7 @@ fn stop<S: SendEnd>(sampler: &mut Sampler<S>, l: u8) -> Option<Cause>
     }
 }
 
-/// Asks a sampler for what a step asks of an event channel, and answers why it was refused, if it
+/// Asks a sampler for what a step asks of an event channel, and returns why it was refused, if it
 /// was. A pump step asks nothing.
 pub fn ask<S: SendEnd>(sampler: &mut Sampler<S>, step: Step<'_>) -> Option<Cause>
     ensures answers { AnswersStep S.SendEnd S.End.RingEnd sampler.old sampler.new
