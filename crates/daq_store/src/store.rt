@@ -301,7 +301,7 @@ impl Store {
         Ok(())
     }
 
-    /// START_STOP_DAQ_LIST: stops (mode 0), starts (1) or selects (2) the list, and answers its
+    /// START_STOP_DAQ_LIST: stops (mode 0), starts (1) or selects (2) the list, and returns its
     /// FIRST_PID. A stop or start ends the selection; a start of a list that runs and a stop of one
     /// that doesn't are accepted.
     ///
