@@ -77,7 +77,7 @@ impl Outbox {
         self.end + MAX_REPLY <= MOST && !self.units.is_full()
     }
 
-    /// Lays a reply out behind all that waits, if it finds room, and tells whether it does.
+    /// Lays a reply out behind all that waits, if it finds room, and returns whether it does.
     pub fn reply(&mut self, packet: &[u8]) -> bool
         requires not_empty { 0 < length packet.now }
         requires fits { length packet.now ≤ MAX_CTO }
@@ -112,7 +112,7 @@ impl Outbox {
     }
 
     /// Copies as many whole replies and samples as find room to the front of a buffer, in the order
-    /// in which they were laid out, and answers how many bytes these are. They still wait: the next
+    /// in which they were laid out, and returns how many bytes these are. They still wait: the next
     /// peek begins with the same, unless `sent` comes between.
     pub fn peek(&mut self, buffer: &mut [u8]) -> usize
         ensures shows { Shows self.old (length buffer.old) self.new.shown result }
