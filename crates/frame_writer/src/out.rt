@@ -19,7 +19,7 @@ pub trait Out {
     /// How often it was handed at least one byte and took none, modulo 2^64.
     ghost stalls: { Self → ℕ };
 
-    /// Takes bytes from the front, and answers how many it took. After a fault it has taken none.
+    /// Takes bytes from the front, and returns how many it took. After a fault it has taken none.
     fn put(&mut self, bytes: &[u8]) -> Result<usize, OutFault>
         ensures within { IfOk result (λ n. n ≤ length bytes.now) }
         ensures taken { IfOk result

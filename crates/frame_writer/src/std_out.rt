@@ -48,7 +48,7 @@ impl<W: Write> Out for StdOut<W> {
 
     ghost stalls = { λ a. (told a).stalls };
 
-    /// Takes what one `write` takes, and fails where it answers an error.
+    /// Takes what one `write` takes, and fails if it returns an error.
     fn put(&mut self, bytes: &[u8]) -> Result<usize, OutFault>
         ensures within { IfOk result (λ n. n ≤ length bytes.now) }
         ensures taken { IfOk result (λ n.
