@@ -11,7 +11,7 @@ use daq_store::Store;
 /// was next as the engine was opened, whatever was written before: the bytes behind that, if the
 /// frame writer did not fail, and else the whole frames among them, behind which stands a proper
 /// prefix of the frames of the sample in hand. So `daq_reader::read`, by its clause `whole`,
-/// answers `Ok` on these bytes, and gives back of each DAQ list just the samples that were written
+/// returns `Ok` on these bytes, and gives back of each DAQ list just the samples that were written
 /// of it, whole, once and in order, each with the image, the timestamp and the overload indication
 /// of its trigger.
 pub fn what_is_written_is_read_back()
