@@ -19,8 +19,8 @@ use std::fs;
 use std::io::{BufWriter, Read, Write};
 use std::rt::Files;
 
-/// The program over its words, without its name, its standard output and standard error. It answers
-/// its status.
+/// The program over its arguments, without its name, its standard output and standard error. It
+/// returns its status.
 pub fn program<R: Files, W: Write + Drop, E: Write + Drop>(
     rt: &R,
     alloc: Global,
@@ -60,7 +60,7 @@ fn answer<R: Files, W: Write + Drop, E: Write + Drop>(
     }
 }
 
-/// Prints the help, and answers the status.
+/// Prints the help, and returns the status.
 fn print_help<W: Write + Drop>(out: W, help: Error) -> u8
     ensures { result ≤ 1 }
 {
