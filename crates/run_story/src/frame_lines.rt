@@ -65,7 +65,7 @@ impl Samples for FrameLines {
     }
 }
 
-/// Writes a line for each frame of a sample, of which the first has this counter, and answers the
+/// Writes a line for each frame of a sample, of which the first has this counter, and returns the
 /// counter behind them.
 pub fn write_sample(
     text: &mut String,
