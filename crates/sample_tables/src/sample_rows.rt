@@ -116,7 +116,7 @@ fn shape_at(shapes: &[ListShape], place: usize) -> Option<&ListShape>
     shapes.get(place)
 }
 
-/// Writes the names of the columns, and tells whether they are written.
+/// Writes the names of the columns, and returns whether they are written.
 fn are_named<W: Write + Drop>(rows: &mut Writer<W>) -> bool
     requires { IsBetweenRows rows.old }
     ensures text { result ≡ true → Appends (text_written W.contents rows.old)
@@ -129,7 +129,7 @@ fn are_named<W: Write + Drop>(rows: &mut Writer<W>) -> bool
     true
 }
 
-/// Writes the rows of a sample, if none failed before, and tells whether all are written.
+/// Writes the rows of a sample, if none failed before, and returns whether all are written.
 fn go_on<W: Write + Drop>(
     failed: bool,
     rows: &mut Writer<W>,
@@ -150,7 +150,7 @@ fn go_on<W: Write + Drop>(
     are_written(rows, shape, sample, at)
 }
 
-/// Writes the rows of a sample, of a list if there is one, and tells whether they are written.
+/// Writes the rows of a sample, of a list if there is one, and returns whether they are written.
 fn are_written<W: Write + Drop>(
     rows: &mut Writer<W>,
     shape: Option<&ListShape>,
