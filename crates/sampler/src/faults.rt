@@ -22,7 +22,7 @@ pub enum StartFault {
     Running,
 }
 
-/// Why a DAQ list was not stopped. It stands as it stood.
+/// Why a DAQ list was not stopped. It runs or doesn't run, as before.
 #[derive(Clone, Copy, Debug, PartialEq, Eq, Error)]
 pub enum StopFault {
     /// The list is not one of the event channel's.

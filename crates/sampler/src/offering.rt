@@ -6,8 +6,8 @@ use channel_ring::SendEnd;
 use copy_plan::CopyPlan;
 use xcp_base::Packets;
 
-/// Offers the sample of a list, and tells whether it was accepted. Its packets are made in a value
-/// that is kept from sample to sample.
+/// Offers the sample of a list, and returns whether it was accepted. Its packets are made in a
+/// value that is kept from sample to sample.
 #[tactic(auto, unfolding(crate::specs::Inner::AtTrigger::item_of))]
 pub fn offer_sample<S: SendEnd>(
     end: &mut S,

@@ -261,7 +261,7 @@ impl<S: SendEnd> Sampler<S> {
         self.lists.running()
     }
 
-    /// Looks at the other end of the ring, and answers the units known to be free from then on.
+    /// Looks at the other end of the ring, and returns the units known to be free from then on.
     pub fn room(&mut self) -> usize
         ensures value { result ≡ S.free self.new.end }
         ensures looked { OnlyLooked S.SendEnd S.End.RingEnd self.old self.new }
@@ -269,7 +269,7 @@ impl<S: SendEnd> Sampler<S> {
         self.end.room()
     }
 
-    /// Looks at all that was sent through the ring beside its take end, and answers how many items
+    /// Looks at all that was sent through the ring beside its take end, and returns how many items
     /// are left.
     ///
     /// The take end is that of the sampler's ring. From then on it knows each item left, and the

@@ -75,7 +75,7 @@ impl<E> SamplerEnd<E> {
 impl<E: RingEnd + Drop> SamplerEnd<E> {
     ghost use Rattle.std.specs.Prelude.{◌≡◌, ◌++◌, length};
 
-    /// Looks at all that was sent through the finished ring, and answers how many items are left.
+    /// Looks at all that was sent through the finished ring, and returns how many items are left.
     ///
     /// The take end is that of the ring. From then on it knows each item left; the sampler's end is
     /// as it was.
