@@ -134,7 +134,7 @@ impl Account {
     }
 
     /// So many samples of a list that were counted as written were not sent after all: they are
-    /// left. Of a list that there can't be, nothing changes.
+    /// left. Of a list number of 16 or more, nothing changes.
     pub fn unsent(&mut self, l: u8, n: u64)
         ensures unsent { (entries : List Entry) (unsent : ℕ → ℕ)
             → AccountStandsAfter self.old entries unsent
@@ -147,7 +147,7 @@ impl Account {
         move_some(&mut self.lists, l, n);
     }
 
-    /// The totals of a list, as a line; `None` for a list that there can't be.
+    /// The totals of a list, as a line; `None` for a list number of 16 or more.
     pub fn line(&self, l: u8) -> Option<ListReport>
         ensures none { IsNone result ↔ MAX_LISTS ≤ l }
         ensures line { IfSome result (λ line. (entries : List Entry) (unsent : ℕ → ℕ)
