@@ -48,7 +48,7 @@ impl<R: Ring> Slave<R> {
         &self.account
     }
 
-    /// Closes the slave, and answers the account of the session. All DAQ lists stop, as by
+    /// Closes the slave, and returns the account of the session. All DAQ lists stop, as by
     /// `hang_up`; what came back of the tasks is taken back; and what waits, and so isn't sent any
     /// more, counts as left.
     ///

@@ -16,7 +16,8 @@ impl<R: Ring> Slave<R> {
     }
 
     /// Hears a packet of the master, which came at this clock, and lays the reply out, if there is
-    /// one; and tells whether there was room for a reply. If there is none, the packet isn't heard.
+    /// one; and returns whether there was room for a reply. If there is none, the packet isn't
+    /// heard.
     ///
     /// A start is refused, beside what a session refuses, with ERR_SEQUENCE if a list isn't set up
     /// as it was when the measurement was opened; with ERR_CMD_BUSY if a task has no place for its

@@ -71,7 +71,7 @@ impl<R: Ring> Slave<R> {
     }
 
     /// Copies as many whole replies and samples as find room to the front of a buffer, in the order
-    /// in which they were laid out, and answers how many bytes these are. They still wait: the next
+    /// in which they were laid out, and returns how many bytes these are. They still wait: the next
     /// peek begins with the same, unless `sent` comes between.
     pub fn peek(&mut self, buffer: &mut [u8]) -> usize
         ensures shows { Shows self.old.outbox (length buffer.old) self.new.outbox.shown result }
