@@ -22,7 +22,7 @@ fn is_in_both(a: u16, b: u16, l: u8) -> bool
 }
 
 impl<R: Ring> Channel<R> {
-    /// Orders the starts of these DAQ lists if all find places, and tells whether they do; else
+    /// Orders the starts of these DAQ lists if all find places, and returns whether they do; else
     /// none is ordered. It takes no memory.
     pub fn start_all(&mut self, lists: u16) -> bool
         ensures yes { result ≡ true → OrdersAll R.Take.TakeEnd self.old self.new
