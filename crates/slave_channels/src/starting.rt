@@ -50,7 +50,7 @@ impl<R: Ring> Channels<R> {
     }
 
     /// Orders the starts of the lists `lists[c]` at each event channel `c` if all find places, and
-    /// tells whether they do; else none is ordered at any channel. It takes no memory.
+    /// returns whether they do; else none is ordered at any channel. It takes no memory.
     pub fn start_all(&mut self, lists: &[u16]) -> bool
         requires lists { length lists.now ≡ length self.old }
         ensures yes { result ≡ true
