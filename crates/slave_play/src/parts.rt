@@ -29,7 +29,7 @@ impl Parts {
         }
     }
 
-    /// Notes the lines of a part that came back, and answers its measurement.
+    /// Notes the lines of a part that came back, and returns its measurement.
     pub fn add<R: Ring>(&mut self, finished: &Finished<R>) -> Result<u64, AllocError>
         ensures finished { OnOk result
             (IsFinished R.Send.End.RingEnd R.Take.TakeEnd finished.now) }

@@ -31,7 +31,7 @@ pub struct Player<R: Ring> {
 }
 
 /// The task of an event channel takes a trigger, if there is one and the image has the length that
-/// it has to have; and tells whether it did.
+/// it has to have; and returns whether it did.
 fn is_taken<S: SendEnd>(
     tasks: &mut [Task<S>],
     image_len: usize,
