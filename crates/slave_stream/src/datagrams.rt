@@ -7,7 +7,7 @@ use daq_engine::Ring;
 use slave::Slave;
 use std::alloc::Global;
 
-/// Has the slave hear the packets of the frames of one datagram, and answers how many bytes it
+/// Has the slave hear the packets of the frames of one datagram, and returns how many bytes it
 /// took: all, or those up to the end of a frame behind which no reply finds room. The others are
 /// still the caller's, who passes them again once some replies were sent.
 ///

@@ -45,7 +45,7 @@ impl MasterStream {
         self.reader.is_closed()
     }
 
-    /// Takes bytes, and has the slave hear the packet of each frame that they end; and answers how
+    /// Takes bytes, and has the slave hear the packet of each frame that they end; and returns how
     /// many it took: all, or those up to the end of a frame behind which no reply finds room. The
     /// others are still the caller's, who passes them again once some replies were sent. If there
     /// is no room for a reply, nothing is taken, not even bytes that end no frame.
