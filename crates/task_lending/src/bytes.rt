@@ -9,7 +9,7 @@ use slave_stream::{MasterStream, datagram};
 use std::alloc::Global;
 
 impl<R: Ring> LendingSlave<R> {
-    /// Takes bytes of a stream, as `MasterStream::receive`, and answers how many.
+    /// Takes bytes of a stream, as `MasterStream::receive`, and returns how many.
     pub fn receive(&mut self, alloc: Global, bytes: &[u8], clock: u32) -> Result<usize, BadFrame>
         ensures ok { IfOk result (TakesBytes R.Take.TakeEnd self.old self.new clock bytes.now) }
         ensures bad { OnErr result
@@ -18,7 +18,7 @@ impl<R: Ring> LendingSlave<R> {
         self.stream.receive(&mut self.slave, alloc, bytes, clock)
     }
 
-    /// Hears the frames of a datagram, as `slave_stream::datagram`, and answers how many bytes it
+    /// Hears the frames of a datagram, as `slave_stream::datagram`, and returns how many bytes it
     /// took.
     pub fn datagram(&mut self, alloc: Global, bytes: &[u8], clock: u32) -> usize
         ensures { HearsBytes R.Take.TakeEnd self.old self.new clock bytes.now result }

@@ -38,7 +38,7 @@ impl<R: Ring> LendingSlave<R> {
     }
 
     /// Takes what is left of tasks back, event channel by event channel up to the first whose task is
-    /// away; and tells whether there is none.
+    /// away; and returns whether there is none.
     pub fn collect(&mut self) -> bool
         ensures collects { Collects self.old self.new }
         ensures all { result ≡ true → NoneAway self.new }

@@ -6,8 +6,8 @@ use daq_engine::Ring;
 
 impl<R: Ring> LendingSlave<R> {
     /// Takes samples off the rings, and copies as many whole replies and samples that wait as find
-    /// room to the front of a buffer, as `Slave::take` and `Slave::peek`; and answers how many bytes
-    /// these are.
+    /// room to the front of a buffer, as `Slave::take` and `Slave::peek`; and returns how many
+    /// bytes these are.
     pub fn peek(&mut self, buffer: &mut [u8]) -> usize
         ensures { Peeks R.Take.TakeEnd self.old self.new buffer.old buffer.new result }
     {

@@ -60,7 +60,7 @@ impl<S: SendEnd> Slot<S> {
         Ok(LentTask { task, way })
     }
 
-    /// Takes what is left of the task back, if it was finished; and tells whether it isn't away.
+    /// Takes what is left of the task back, if it was finished; and returns whether it isn't away.
     pub fn collect(&mut self) -> bool
         ensures may { MayComeBack (in_slot self.old) (in_slot self.new) }
         ensures yes { result ≡ true → is_away (in_slot self.new) ≡ false }
