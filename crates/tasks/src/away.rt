@@ -64,7 +64,7 @@ impl<S: SendEnd> Away<S> {
         if self.ended { 0 } else { self.running }
     }
 
-    /// Looks at the ring of orders, and tells whether starts of these lists find places.
+    /// Looks at the ring of orders, and returns whether starts of these lists find places.
     pub fn can_start(&mut self, lists: u16) -> bool
         ensures yes { result ≡ true → HasPlacesFor self.new (has_list lists) }
         ensures no { result ≡ false → ¬ HasPlacesFor self.new (has_list lists) }

@@ -6,7 +6,7 @@ pub enum HandFault {
     /// The measurement that was handed out last has not ended.
     #[error("the measurement has not ended")]
     NotEnded,
-    /// Two are out, or the task was at the place just then.
+    /// Two samplers are out, or the task was using the place at that moment.
     #[error("the task has not given back the one before")]
     Busy,
     /// There was no memory.

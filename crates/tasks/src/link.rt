@@ -264,9 +264,9 @@ impl<S: SendEnd> TaskLink<S> {
         running_of(&self.newer)
     }
 
-    /// Looks at the ring of its orders, and tells whether starts of all these lists find places, with
-    /// the stops of all lists that then run and an order to end: then at most `MAX_ORDERS` starts and
-    /// stops wait.
+    /// Looks at the ring of its orders, and returns whether starts of all these lists find places,
+    /// with the stops of all lists that then run and an order to end: then at most `MAX_ORDERS`
+    /// starts and stops wait.
     pub fn can_start(&mut self, lists: u16) -> bool
         ensures yes { result ≡ true → CanStart self.new.newer (has_list lists) }
         ensures no { result ≡ false → ¬ CanStart self.new.newer (has_list lists) }

@@ -64,7 +64,7 @@ pub fn order_ring(alloc: Global) -> Result<(OrderSend, OrderTake), AllocError>
 }
 
 impl OrderSend {
-    /// Looks at the other end, and answers the places known to be free from then on.
+    /// Looks at the other end, and returns the places known to be free from then on.
     pub fn room(&mut self) -> usize
         ensures value { result ≡ self.new.free }
         ensures grows { self.old.free ≤ self.new.free }
@@ -110,7 +110,7 @@ impl OrderTake {
         self.consumer.pop_known()
     }
 
-    /// Looks at all that was sent through the other end, and answers how many orders are left.
+    /// Looks at all that was sent through the other end, and returns how many orders are left.
     pub fn beside(&mut self, send: &mut OrderSend) -> usize
         requires one_ring { send.old.ring ≡ self.old.ring }
         ensures count { result ≡ length self.new.known }

@@ -55,7 +55,7 @@ fn give_back<S: SendEnd>(held: &mut Option<Handed<S>>)
     }
 }
 
-/// Carries out the next order of what is held, if there is one, and tells whether it did.
+/// Carries out the next order of what is held, if there is one, and returns whether it did.
 fn next_of<S: SendEnd>(held: &mut Option<Handed<S>>) -> bool
     ensures some { result ≡ true → (h : HeldState S) × (held.old ≡ Some h)
         × StepsFrom S.SendEnd S.End.RingEnd h held.new }
