@@ -145,7 +145,7 @@ impl<O: Out, T: Beside> Transmitter<O, T> {
     ghost use Rattle.transmitter.specs.Merge.{of_ring};
     ghost use Rattle.transmitter.specs.Written.{transmission, writer_of};
 
-    /// Looks at all that a sampler sent, beside it in one thread, and answers how many of its items
+    /// Looks at all that a sampler sent, beside it in one thread, and returns how many of its items
     /// are left in the ring.
     ///
     /// The sampler is that of the ring of its event channel. From then on each item left is known,
