@@ -13,7 +13,7 @@ use std::io::{self, ErrorKind, Read, Write};
 use std::rt::Files;
 
 /// The program over its arguments, without its name, its standard input, standard output and
-/// standard error. It answers its status.
+/// standard error. It returns its status.
 pub fn carry_out<R: Files, I: Read + Drop, W: Write + Drop, E: Write + Drop>(
     rt: &R,
     alloc: Global,
