@@ -99,6 +99,7 @@ fn seconds(tick: Tick, last: u64) -> Option<Scale> {
         (power, 1)
     };
     let factor = mantissa.checked_mul(above)?;
+    // the last place has to fit in counts
     let _ = last.checked_mul(factor)?;
     if factor == 0 || below == 0 {
         return None;
