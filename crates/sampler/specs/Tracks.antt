@@ -27,7 +27,7 @@ counts_after past l =
     if is_list_of past.opening l then Some (counts_of (pairs_of l pairs)) else None
 
 -- how many triggers pass from so many since its start until a list of this prescaler is due: none
--- if these are a multiple of it, else what is wanting to the next
+-- if these are a multiple of it, else what is missing to the next
 abbrev pub until_due : ℕ → ℕ → ℕ
 until_due prescaler since =
     if nat_eq (since % prescaler) 0 then 0 else prescaler - since % prescaler
