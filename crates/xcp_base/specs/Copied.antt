@@ -1,4 +1,4 @@
--- Runs of an image, and what they copy.
+-- Runs of an image, and what they copy (own).
 use Rattle.std.specs.Prelude.{ℕ, ◌≤◌, List, slice_range, flat_map}
 use Rattle.xcp_base.specs.declared.run.Run.{Run}
 
