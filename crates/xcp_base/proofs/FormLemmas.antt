@@ -1,5 +1,5 @@
 -- The identification field of a packet names its own list, and no other.
-use Rattle.std.proofs.Common.{inl, inr, ◌⊎◌, Bool, true, false, ◌&&◌, if◌then◌else◌, ◌≡◌, ◌≢◌, ℕ, ◌+◌, ◌*◌, ◌/◌, ◌%◌, ◌<◌, ◌≤◌, nat_le, nat_lt, nat_eq, List, ◌++◌, length, take, Some, refl, sym, ap, ◌∙◌, arith}
+use Rattle.std.proofs.Common.{inl, inr, ◌⊎◌, Bool, true, false, ◌&&◌, if◌then◌else◌, ◌≡◌, ◌≢◌, ℕ, ◌+◌, ◌*◌, ◌/◌, ◌%◌, ◌<◌, ◌≤◌, nat_le, nat_lt, nat_eq, List, ◌++◌, length, refl, sym, ap, ◌∙◌, arith}
 use Rattle.std.proofs.lemmas.Bool.{eq-eqb}
 use Rattle.std.proofs.lemmas.Bool.Decides.{nat_tests}
 use Rattle.std.proofs.Math.Nat.{mod-add-div}
@@ -7,8 +7,7 @@ use Rattle.xcp_base.specs.declared.id_kind.IdKind.{IdKind}
 use Rattle.xcp_base.specs.declared.id_kind.IdKind.TheVariants.{Absolute, RelativeByte, RelativeWord}
 use Rattle.xcp_base.specs.declared.stamp_size.StampSize.{StampSize}
 use Rattle.xcp_base.specs.declared.stamp_size.StampSize.TheVariants.{One, Two, Four}
-use Rattle.std.specs.Int.{to_le_bytes, w32}
-use Rattle.xcp_base.specs.Forms.{FitsFirstPid, field_len, first_pid_behind, form_of, id_field, list_field, most_odts, names, pid_of, stamp_bytes, stamp_field}
+use Rattle.xcp_base.specs.Forms.{FitsFirstPid, field_len, first_pid_behind, id_field, list_field, most_odts, names, pid_of, stamp_bytes, stamp_field}
 
 -- of a list with at most 8 ODTs, FIRST_PID and the number of its ODTs are at most 124
 pub fits_all : (id : IdKind) (n f : ℕ) → n ≤ 8 → FitsFirstPid id n f → f + n ≤ 124

@@ -1,9 +1,10 @@
 ghost use Rattle.std.specs.Prelude.{◌≡◌, ◌+◌, ◌<◌, ◌≤◌, [], ◌++◌, All, length, slice_index};
 ghost use Rattle.std.specs.Prelude.{slice_set, take};
-ghost use Rattle.xcp_base.specs.Copied.{IsRunInside, copied};
+ghost use Rattle.xcp_base.specs.Copied.{AreStretches, HasSize, IsRunInside, copied};
 
 use crate::limits::MAX_BODY;
 use crate::run::Run;
+use crate::stretch::Stretch;
 use std::marker::Model;
 
 /// At most `MAX_BODY` bytes, in a value of fixed size that is copied in one go.
@@ -87,14 +88,90 @@ impl Body {
         put_by_size(&mut self.cells, start, bytes);
     }
 
-    /// Appends what runs copy of an image, for which there is room.
-    pub(crate) fn extend_by_runs(&mut self, image: &[u8], runs: &[Run])
+    /// Appends what runs copy of an image, for which there is room; `stretches` has their sizes.
+    pub(crate) fn extend_by_stretches(&mut self, image: &[u8], runs: &[Run], stretches: &[Stretch])
         requires inside { All (IsRunInside (length image.now)) runs.now }
+        requires sizes { AreStretches stretches.now runs.now }
         requires room { length self.old + length (copied image.now runs.now) ≤ MAX_BODY }
         ensures { self.new ≡ self.old ++ copied image.now runs.now }
     {
-        self.len = put_runs(&mut self.cells, self.len, image, runs);
+        self.len = put_stretches(&mut self.cells, self.len, image, runs, stretches);
     }
+}
+
+/// Writes what runs copy of an image from a place on, stretch by stretch, and answers where it
+/// ends.
+fn put_stretches(
+    cells: &mut [u8; MAX_BODY],
+    start: usize,
+    image: &[u8],
+    runs: &[Run],
+    stretches: &[Stretch],
+) -> usize
+    requires inside { All (IsRunInside (length image.now)) runs.now }
+    requires sizes { AreStretches stretches.now runs.now }
+    requires room { start + length (copied image.now runs.now) ≤ MAX_BODY }
+    ensures end { result ≡ start + length (copied image.now runs.now) }
+    ensures front { take result cells.new ≡ take start cells.old ++ copied image.now runs.now }
+{
+    let mut at = start;
+    let mut rest = runs;
+    for stretch in stretches {
+        let (these, behind) = rest.split_at(stretch.count);
+        at = put_stretch(cells, at, image, these, stretch.size);
+        rest = behind;
+    }
+    at
+}
+
+/// Writes what runs of one size copy of an image from a place on, and answers where it ends.
+fn put_stretch(
+    cells: &mut [u8; MAX_BODY],
+    start: usize,
+    image: &[u8],
+    runs: &[Run],
+    size: usize,
+) -> usize
+    requires inside { All (IsRunInside (length image.now)) runs.now }
+    requires sizes { All (HasSize size) runs.now }
+    requires room { start + length (copied image.now runs.now) ≤ MAX_BODY }
+    ensures end { result ≡ start + length (copied image.now runs.now) }
+    ensures front { take result cells.new ≡ take start cells.old ++ copied image.now runs.now }
+{
+    if size == 4 {
+        return put_runs_of::<4>(cells, start, image, runs);
+    }
+    if size == 2 {
+        return put_runs_of::<2>(cells, start, image, runs);
+    }
+    if size == 1 {
+        return put_runs_of::<1>(cells, start, image, runs);
+    }
+    if size == 8 {
+        return put_runs_of::<8>(cells, start, image, runs);
+    }
+    put_runs(cells, start, image, runs)
+}
+
+/// Writes what runs of N bytes each copy of an image from a place on, and answers where it ends.
+fn put_runs_of<const N: usize>(
+    cells: &mut [u8; MAX_BODY],
+    start: usize,
+    image: &[u8],
+    runs: &[Run],
+) -> usize
+    requires inside { All (IsRunInside (length image.now)) runs.now }
+    requires sizes { All (HasSize N) runs.now }
+    requires room { start + length (copied image.now runs.now) ≤ MAX_BODY }
+    ensures end { result ≡ start + length (copied image.now runs.now) }
+    ensures front { take result cells.new ≡ take start cells.old ++ copied image.now runs.now }
+{
+    let mut at = start;
+    for run in runs {
+        put(cells, at, &image[run.start..run.start + N]);
+        at += N;
+    }
+    at
 }
 
 /// Writes what runs copy of an image from a place on, and answers where it ends.

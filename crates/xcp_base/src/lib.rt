@@ -15,6 +15,7 @@ mod run;
 mod sample;
 mod stamp_size;
 mod stop_mark;
+mod stretch;
 
 pub use err_code::ErrCode;
 pub use id_kind::IdKind;
@@ -27,3 +28,4 @@ pub use run::Run;
 pub use sample::Sample;
 pub use stamp_size::StampSize;
 pub use stop_mark::StopMark;
+pub use stretch::Stretch;

@@ -3,7 +3,7 @@ ghost use Rattle.std.specs.Prelude.{true, false, All, IsNone, IsOk, OnErr, OnOk,
 ghost use Rattle.std.specs.Prelude.{slice_get, slice_index, slice_set, take};
 ghost use Rattle.std.specs.Option.{option_copied};
 ghost use Rattle.xcp_base.specs.Bodies.{IsBodyOf, body_of};
-ghost use Rattle.xcp_base.specs.Copied.{IsRunInside, copied};
+ghost use Rattle.xcp_base.specs.Copied.{AreStretches, IsRunInside, copied};
 ghost use Rattle.xcp_base.specs.Inner.{BeginsWithPacket, EndsAt, HasLast};
 ghost use Rattle.xcp_base.specs.Packets.{ArePackets, IsPacket, last_packet, with_longer_last};
 
@@ -11,6 +11,7 @@ use crate::body::Body;
 use crate::limits::{MAX_BODY, MAX_DTO, MAX_ODTS};
 use crate::packet_iter::PacketIter;
 use crate::run::Run;
+use crate::stretch::Stretch;
 use std::marker::Model;
 use thiserror::Error;
 
@@ -108,25 +109,28 @@ impl Packets {
         requires fits { length (last_packet self.old) + length bytes.now ≤ MAX_DTO }
         ensures { self.new ≡ with_longer_last self.old bytes.now }
     {
-        self.append_runs(
-            bytes,
-            &[Run {
-                start: 0,
-                end: bytes.len(),
-            }],
-        );
+        let run = Run {
+            start: 0,
+            end: bytes.len(),
+        };
+        let stretch = Stretch {
+            size: bytes.len(),
+            count: 1,
+        };
+        self.append_stretches(bytes, &[run], &[stretch]);
     }
 
     /// Appends what runs copy of an image to the last packet, which is there and stays within
-    /// `MAX_DTO` bytes.
-    pub fn append_runs(&mut self, image: &[u8], runs: &[Run])
+    /// `MAX_DTO` bytes; `stretches` has the sizes of the runs.
+    pub fn append_stretches(&mut self, image: &[u8], runs: &[Run], stretches: &[Stretch])
         requires some { 0 < length self.old }
         requires inside { All (IsRunInside (length image.now)) runs.now }
+        requires sizes { AreStretches stretches.now runs.now }
         requires fits { length (last_packet self.old) + length (copied image.now runs.now)
             ≤ MAX_DTO }
         ensures { self.new ≡ with_longer_last self.old (copied image.now runs.now) }
     {
-        lengthen(&mut self.body, self.last, image, runs);
+        lengthen(&mut self.body, self.last, image, runs, stretches);
     }
 
     /// The packets, one behind another, each behind a byte that has its length.
@@ -199,9 +203,10 @@ fn append(body: &mut Body, packet: &[u8])
 
 /// Appends what runs copy of an image to the packet that stands last in a body, whose length stands
 /// at `last`.
-fn lengthen(body: &mut Body, last: usize, image: &[u8], runs: &[Run])
+fn lengthen(body: &mut Body, last: usize, image: &[u8], runs: &[Run], stretches: &[Stretch])
     requires at { last < length body.old }
     requires inside { All (IsRunInside (length image.now)) runs.now }
+    requires sizes { AreStretches stretches.now runs.now }
     requires room { length body.old + length (copied image.now runs.now) ≤ MAX_BODY }
     requires fits { slice_index body.old last + length (copied image.now runs.now) ≤ MAX_DTO }
     ensures { body.new
@@ -210,7 +215,7 @@ fn lengthen(body: &mut Body, last: usize, image: &[u8], runs: &[Run])
         ++ copied image.now runs.now }
 {
     let before = body.len();
-    body.extend_by_runs(image, runs);
+    body.extend_by_stretches(image, runs, stretches);
     let more = body.len() - before;
     body.raise(last, more as u8);
 }

@@ -7,8 +7,8 @@ use Rattle.xcp_base.specs.Copied.{copied}
 use Rattle.xcp_base.proofs.CopiedLemmas.{copied_small}
 use Rattle.xcp_base.proofs.PacketsLemmas.{packets_of_body-body_of}
 use Rattle.xcp_base.proofs.LastPacketLemmas.{IsLonger, HasRoom, is_longer, has_room, longer_packets}
-use Rattle.xcp_base.proofs.packets.Packets.append_runs.Goals as goal
-use Rattle.xcp_base.proofs.packets.Packets.append_runs.Goals.{After-lengthen}
+use Rattle.xcp_base.proofs.packets.Packets.append_stretches.Goals as goal
+use Rattle.xcp_base.proofs.packets.Packets.append_stretches.Goals.{After-lengthen}
 
 -- the last packet with these bytes is a packet, so eight of them fit
 pub lengthen-requires : goal.lengthen-requires
@@ -20,7 +20,7 @@ lengthen-requires c =
     let small : All (λ (b : ℕ). b < 256) (copied c.args.image.now c.args.runs.now) = copied_small c.args.image.now c.args.runs.now (All-from_get_or (λ (b : ℕ). b < 256) c.args.image.now 0 (λ k h. (c.type_inv.image k).fits)) in
     let has : HasRoom c.self.inside.body c.self.inside.last (length (copied c.args.image.now c.args.runs.now))
     = has_room qs c.self.inside.body (copied c.args.image.now c.args.runs.now) c.self.inside.last some (omega (arith, i.count, i.room)) i.body (i.last some) i.each small fits in
-    record { at = has.at; inside = c.requires.inside; room = has.room; fits = has.fits }
+    record { at = has.at; inside = c.requires.inside; sizes = c.requires.sizes; room = has.room; fits = has.fits }
 
 -- the new body is that of the packets with the last one longer
 longer : (c : After-lengthen) → IsLonger c.self.inside.body (packets_of_body c.self.inside.count c.self.inside.body) c.self.inside.last (copied c.args.image.now c.args.runs.now)

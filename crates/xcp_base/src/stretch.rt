@@ -1,0 +1,6 @@
+/// So many runs, one behind another, that have the same size, in bytes.
+#[derive(Clone, Copy, Debug, PartialEq, Eq)]
+pub struct Stretch {
+    pub size: usize,
+    pub count: usize,
+}
