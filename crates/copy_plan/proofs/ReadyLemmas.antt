@@ -1,5 +1,5 @@
 -- The configuration of a ready list makes a plan.
-use Rattle.std.proofs.Common.{inl, inr, Bool, true, ◌&&◌, ◌≡◌, ℕ, ◌+◌, ◌<◌, ◌≤◌, [], length, get_or, map, sym, ap, ◌∙◌, zero-add, true≢false, arith, nat_lt, nat_le}
+use Rattle.std.proofs.Common.{inl, inr, Bool, true, ◌&&◌, ◌≡◌, ℕ, ◌<◌, ◌≤◌, [], length, get_or, map, sym, ap, ◌∙◌, zero-add, true≢false, arith, nat_lt, nat_le}
 use Rattle.std.specs.Prelude.{IsSome, is_some, sum_by}
 use Rattle.std.specs.List.{list_all}
 use Rattle.std.proofs.lemmas.Bool.{and_parts}

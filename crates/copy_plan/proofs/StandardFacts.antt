@@ -1,9 +1,9 @@
 -- Worked examples, on literals: a wrong rule in specs/ does not check here.
 use Rattle.std.specs.Prelude.{◌≡◌, true, false, List, [], ◌∷◌, Some, map, refl}
 use Rattle.xcp_base.specs.declared.id_kind.IdKind.{IdKind}
-use Rattle.xcp_base.specs.declared.id_kind.IdKind.TheVariants.{Absolute, RelativeByte, RelativeWord}
+use Rattle.xcp_base.specs.declared.id_kind.IdKind.TheVariants.{RelativeByte, RelativeWord}
 use Rattle.xcp_base.specs.declared.stamp_size.StampSize.{StampSize}
-use Rattle.xcp_base.specs.declared.stamp_size.StampSize.TheVariants.{One, Two, Four}
+use Rattle.xcp_base.specs.declared.stamp_size.StampSize.TheVariants.{One, Two}
 use Rattle.xcp_base.specs.Forms.{usual_form}
 use Rattle.daq_store.specs.Configuration.{Configuration, is_ready}
 use Rattle.copy_plan.specs.Config.{ListPlan, OdtEntry, plan_of}

@@ -9,8 +9,9 @@ ghost use Rattle.copy_plan.specs.Runs.{runs_needed};
 ghost use Rattle.copy_plan.specs.Inner.Joined.{joined_runs};
 
 use crate::plan::CopyPlan;
+use crate::runs::Runs;
+use xcp_base::Packets;
 use xcp_base::limits::{MAX_DTO, MAX_ODTS, MAX_STAMP};
-use xcp_base::{Packets, Run};
 
 impl CopyPlan {
     /// The packets of a sample, one for each ODT in their order, all from one image and one
@@ -42,16 +43,16 @@ impl CopyPlan {
         if k >= self.odts() {
             return None;
         }
-        Some(self.copies_of(k).len())
+        Some(self.copies_of(k).as_slice().len())
     }
 
     /// The copies that the packet of an ODT is made of: its entries, neighbours joined.
-    fn copies_of(&self, k: usize) -> &[Run]
+    fn copies_of(&self, k: usize) -> &Runs
         requires { k < length self.now.odts }
         ensures runs { result.now ≡ joined_runs (odt self.now k) }
         ensures plan { IsPlan self.now }
     {
-        self.odts[k].as_slice()
+        &self.odts[k]
     }
 
     /// The PID of an ODT, in ODT 0 with the overload indication.
@@ -79,7 +80,8 @@ impl CopyPlan {
     {
         self.push_field(sample, overload, k);
         self.append_timestamp(sample, stamp, k);
-        sample.append_runs(image, self.copies_of(k));
+        let copies = self.copies_of(k);
+        sample.append_stretches(image, copies.as_slice(), copies.stretches());
     }
 
     /// Appends the packet of an ODT as far as its identification field.

@@ -1,4 +1,6 @@
-ghost use Rattle.std.specs.Prelude.{◌≡◌, ◌==◌, ◌<◌, IfOk, IsSome, All, length};
+ghost use Rattle.std.specs.Prelude.{◌≡◌, ◌==◌, ◌<◌, ◌≤◌, IfOk, IsSome, All, length};
+ghost use Rattle.xcp_base.specs.Copied.{AreStretches};
+ghost use Rattle.xcp_base.specs.declared.run.Run.{Run};
 ghost use Rattle.daq_store.specs.Configuration.{odt_entries};
 ghost use Rattle.copy_plan.specs.Config.{written_entries};
 ghost use Rattle.copy_plan.specs.Inner.Joined.{joined_runs};
@@ -6,21 +8,26 @@ ghost use Rattle.copy_plan.specs.Inner.Joined.{joined_runs};
 use daq_store::ListConf;
 use std::alloc::{AllocError, Global};
 use std::marker::Model;
-use xcp_base::Run;
+use xcp_base::{Run, Stretch};
 
-/// The runs of one ODT: its entries in their order, neighbours joined.
+/// The runs of one ODT: its entries in their order, neighbours joined; and the stretches of runs
+/// of one size.
 #[derive(Drop)]
 pub struct Runs {
     runs: Vec<Run>,
+    stretches: Vec<Stretch>,
 }
 
 impl Model for Runs {
     ghost use Rattle.std.specs.Prelude.{List};
     ghost use Rattle.xcp_base.specs.declared.run.Run.{Run};
+    ghost use Rattle.xcp_base.specs.Copied.{AreStretches};
 
     ghost Value = { List Run };
 
     ghost view = { λ a. a.runs.items };
+
+    ghost invariant = { λ a. AreStretches a.stretches.items a.runs.items };
 }
 
 impl Runs {
@@ -50,7 +57,8 @@ impl Runs {
         }
         let last = Run { start, end };
         runs.push(last)?;
-        Ok(Runs { runs })
+        let stretches = stretches_of(alloc, &runs)?;
+        Ok(Runs { runs, stretches })
     }
 
     /// The runs in their order.
@@ -59,6 +67,35 @@ impl Runs {
     {
         &self.runs
     }
+
+    /// The stretches of the runs.
+    pub fn stretches(&self) -> &[Stretch]
+        ensures { AreStretches result.now self.now }
+    {
+        &self.stretches
+    }
+}
+
+/// The stretches of some runs: neighbours of one size are in one.
+fn stretches_of(alloc: Global, runs: &[Run]) -> Result<Vec<Stretch>, AllocError>
+    requires some { 0 < length runs.now }
+    requires ordered { All (λ (r : Run). r.start ≤ r.end) runs.now }
+    ensures { IfOk result (λ stretches. AreStretches stretches.items runs.now) }
+{
+    let mut stretches = Vec::with_capacity(alloc, runs.len())?;
+    let mut size = runs[0].end - runs[0].start;
+    let mut count = 0;
+    for run in runs {
+        let next = run.end - run.start;
+        if next != size {
+            stretches.push(Stretch { size, count })?;
+            size = next;
+            count = 0;
+        }
+        count += 1;
+    }
+    stretches.push(Stretch { size, count })?;
+    Ok(stretches)
 }
 
 /// Whether an entry begins where the bytes before it end.

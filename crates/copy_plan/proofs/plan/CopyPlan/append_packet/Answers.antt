@@ -1,7 +1,6 @@
 use Rattle.std.proofs.Common.{◌≡◌, ◌++◌, ℕ, List, [], ◌∷◌, length, arith, ap, ◌∙◌, length-append}
 use Rattle.std.specs.Prelude.{All}
 use Rattle.xcp_base.specs.Packets.{last_packet, with_longer_last}
-use Rattle.xcp_base.proofs.FormLemmas.{length-id_field}
 use Rattle.xcp_base.proofs.LastPacketLemmas.{last_packet-push, with_longer_last-push}
 use Rattle.copy_plan.specs.Config.{IsInside, odt}
 use Rattle.copy_plan.specs.Pids.{field}
@@ -10,7 +9,7 @@ use Rattle.xcp_base.specs.Copied.{copied}
 use Rattle.copy_plan.proofs.JoinedLemmas.{copied-joined_runs, inside-joined_runs}
 use Rattle.copy_plan.proofs.PacketLemmas.{field-limit, length-packet, packet-appended}
 use Rattle.copy_plan.proofs.plan.CopyPlan.append_packet.Goals as goal
-use Rattle.copy_plan.proofs.plan.CopyPlan.append_packet.Goals.{After-copies_of}
+use Rattle.copy_plan.proofs.plan.CopyPlan.append_packet.Goals.{After-stretches}
 
 -- the packet begins with its identification field
 pub append_timestamp-requires : goal.append_timestamp-requires
@@ -22,32 +21,33 @@ append_timestamp-requires c =
     }
 
 -- so far it is the identification field and the timestamp
-stamped : (c : After-copies_of) → c.append_timestamp.new.sample ≡ c.args.sample.now ++ (field c.args.self.now c.args.k c.args.overload ++ timestamp c.args.self.now c.args.k c.args.stamp) ∷ []
+stamped : (c : After-stretches) → c.append_timestamp.new.sample ≡ c.args.sample.now ++ (field c.args.self.now c.args.k c.args.overload ++ timestamp c.args.self.now c.args.k c.args.stamp) ∷ []
 stamped c =
     c.append_timestamp.ensures
     ∙ ap (λ qs. with_longer_last qs (timestamp c.args.self.now c.args.k c.args.stamp)) c.push_field.ensures
     ∙ with_longer_last-push c.args.sample.now (field c.args.self.now c.args.k c.args.overload) (timestamp c.args.self.now c.args.k c.args.stamp)
 
 -- what the copies copy is the elements
-copied_is : (c : After-copies_of) → copied c.args.image.now c.copies_of.result.now ≡ elements c.args.image.now (odt c.args.self.now c.args.k)
-copied_is c = ap (copied c.args.image.now) c.copies_of.ensures.runs ∙ copied-joined_runs c.args.image.now (odt c.args.self.now c.args.k)
+copied_is : (c : After-stretches) → copied c.args.image.now c.as_slice.result.now ≡ elements c.args.image.now (odt c.args.self.now c.args.k)
+copied_is c = ap (copied c.args.image.now) (c.as_slice.ensures ∙ c.copies_of-copies.ensures.runs) ∙ copied-joined_runs c.args.image.now (odt c.args.self.now c.args.k)
 
-pub append_runs-requires : goal.append_runs-requires
-append_runs-requires c =
+pub append_stretches-requires : goal.append_stretches-requires
+append_stretches-requires c =
     let first : List ℕ = field c.args.self.now c.args.k c.args.overload in
     let ticks : List ℕ = timestamp c.args.self.now c.args.k c.args.stamp in
     let inside : All (IsInside (length c.args.image.now)) (odt c.args.self.now c.args.k)
-    = rw c.requires.image (c.copies_of.ensures.plan.inside c.args.k c.requires.odt) in
+    = rw c.requires.image (c.copies_of-copies.ensures.plan.inside c.args.k c.requires.odt) in
     record {
       some = omega (arith, ap length (stamped c), length-append c.args.sample.now ((first ++ ticks) ∷ []));
-      inside = rw c.copies_of.ensures.runs (inside-joined_runs (length c.args.image.now) (odt c.args.self.now c.args.k) inside);
-      fits = omega (arith, length-packet c.args.self.now c.args.image.now c.args.stamp c.args.k c.args.overload c.requires.image c.copies_of.ensures.plan c.requires.odt, ap (λ qs. length (last_packet qs)) (stamped c), ap length (last_packet-push c.args.sample.now (first ++ ticks)), length-append first ticks, ap length (copied_is c));
+      inside = rw (c.as_slice.ensures, c.copies_of-copies.ensures.runs) (inside-joined_runs (length c.args.image.now) (odt c.args.self.now c.args.k) inside);
+      sizes = rw c.as_slice.ensures c.stretches.ensures;
+      fits = omega (arith, length-packet c.args.self.now c.args.image.now c.args.stamp c.args.k c.args.overload c.requires.image c.copies_of-copies.ensures.plan c.requires.odt, ap (λ qs. length (last_packet qs)) (stamped c), ap length (last_packet-push c.args.sample.now (first ++ ticks)), length-append first ticks, ap length (copied_is c));
     }
 
 pub returns : goal.returns
 returns c =
-    let w : After-copies_of = (goal.at.returns c).After-copies_of in
-    c.append_runs.ensures
+    let w : After-stretches = (goal.at.returns c).After-stretches in
+    c.append_stretches.ensures
     ∙ ap (with_longer_last c.append_timestamp.new.sample) (copied_is w)
     ∙ ap (λ qs. with_longer_last qs (elements c.args.image.now (odt c.args.self.now c.args.k))) (c.append_timestamp.ensures ∙ ap (λ qs. with_longer_last qs (timestamp c.args.self.now c.args.k c.args.stamp)) c.push_field.ensures)
     ∙ packet-appended c.args.sample.now c.args.self.now c.args.image.now c.args.stamp c.args.k c.args.overload

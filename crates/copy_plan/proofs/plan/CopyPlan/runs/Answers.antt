@@ -10,6 +10,6 @@ use Rattle.copy_plan.proofs.plan.CopyPlan.runs.Goals as goal
 pub returns : goal.returns
 returns c =
     let here : c.args.k < length c.args.self.now.odts = omega (arith, c.if-k-odts.false, c.odts.ensures.value) in
-    ap (λ rs. Some (length rs)) c.copies_of.ensures.runs
+    ap (λ rs. Some (length rs)) (c.as_slice.ensures ∙ c.copies_of.ensures.runs)
     ∙ ap Some (length-joined_runs (odt c.args.self.now c.args.k) (c.odts.ensures.plan.entries c.args.k here))
     ∙ sym (ap (option_map runs_needed) (slice_get-get_or c.args.self.now.odts c.args.k [] here))

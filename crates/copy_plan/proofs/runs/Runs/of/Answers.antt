@@ -1,11 +1,14 @@
-use Rattle.std.proofs.Common.{◌<◌, length, arith, ◌≡◌, ◌+◌, List, ◌∷◌, Option, drop, sym, ◌∙◌}
+use Rattle.std.proofs.Common.{◌<◌, length, arith, ◌≡◌, ◌+◌, List, ◌∷◌, Option, ◌++◌, ◌≤◌, drop, subst, sym, ◌∙◌}
+use Rattle.std.specs.Prelude.{All}
+use Rattle.std.proofs.lemmas.List.{at_drop_all}
 use Rattle.daq_store.specs.declared.entry.Entry.{Entry}
 use Rattle.daq_store.specs.Configuration.{odt_entries}
 use Rattle.xcp_base.specs.declared.run.Run.{Run}
 use Rattle.copy_plan.specs.Config.{OdtEntry, written_entries}
 use Rattle.copy_plan.specs.Inner.Joined.{joined_runs}
 use Rattle.copy_plan.proofs.WrittenLemmas.{shown-Some, written_entries-drop}
-use Rattle.copy_plan.proofs.JoinedLemmas.{one_apart, one_joined, apart_if, same_if}
+use Rattle.copy_plan.specs.Inner.Joined.{with_bytes}
+use Rattle.copy_plan.proofs.JoinedLemmas.{one_apart, one_joined, apart_if, ordered-joined_runs, same_if}
 use Rattle.copy_plan.proofs.runs.Runs.of.Goals as goal
 use Rattle.copy_plan.proofs.runs.Runs.of.Goals.{then-not-begins_at+in_ok-push, else-not-begins_at}
 
@@ -28,3 +31,13 @@ pub unreachable-requires-in_default-entry : goal.unreachable-requires-in_default
 unreachable-requires-in_default-entry c =
     let there : c.loop-entry.entry < length (odt_entries c.args.conf.now c.args.odt) = omega (arith, c.loop-entry-test.true, c.entries-entry-end.ensures.count) in
     shown-Some (odt_entries c.args.conf.now c.args.odt) c.loop-entry.entry there c.requires.written (sym c.entry-in-loop-entry.ensures.value ∙ c.in_default-entry.is)
+
+-- all entries are in the runs, each of which ends behind its start
+pub stretches_of-requires-clause-ordered : goal.stretches_of-requires-clause-ordered
+stretches_of-requires-clause-ordered c =
+    let es : List (Option Entry) = odt_entries c.args.conf.now c.args.odt in
+    let done : length es ≤ c.loop-entry.entry = omega (arith, c.loop-entry-test.false, c.entries-entry-end.ensures.count) in
+    let F : List (Option Entry) → List Run = λ left. c.loop-entry.runs.items ++ with_bytes c.loop-entry.start c.loop-entry.end (joined_runs (written_entries left)) in
+    let is : c.deref.result.now ≡ joined_runs (written_entries es)
+    = c.deref.ensures.value ∙ c.in_ok-push-2.ensures.items ∙ sym (at_drop_all F es c.loop-entry.entry done) ∙ c.loop-entry.invariant in
+    subst (λ (runs : List Run). All (λ (r : Run). r.start ≤ r.end) runs) (sym is) (ordered-joined_runs (written_entries es))
