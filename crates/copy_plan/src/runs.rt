@@ -94,7 +94,8 @@ fn stretches_of(alloc: Global, runs: &[Run]) -> Result<Vec<Stretch>, AllocError>
         }
         count += 1;
     }
-    stretches.push(Stretch { size, count })?;
+    let last = Stretch { size, count };
+    stretches.push(last)?;
     Ok(stretches)
 }
 
