@@ -22,7 +22,7 @@ fn header_of(len: u16, counter: u16) -> [u8; 4]
 }
 
 /// Writes bytes from `at` on, and answers where they end.
-fn place(room: &mut [u8], at: usize, bytes: &[u8]) -> usize
+pub fn place(room: &mut [u8], at: usize, bytes: &[u8]) -> usize
     requires room { at + length bytes.now ≤ length room.old }
     ensures bytes { take result room.new ≡ take at room.old ++ bytes.now }
     ensures end { result ≡ at + length bytes.now }

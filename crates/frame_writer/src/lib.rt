@@ -13,6 +13,7 @@ mod sink_out;
 mod std_out;
 mod together;
 mod vec_out;
+mod within_room;
 mod writer;
 
 pub use byte_log::ByteLog;
