@@ -4,6 +4,7 @@ pub mod PacketLemmas
 pub mod TurnLemmas
 pub mod WrittenLemmas
 pub mod PumpLemmas
+pub mod FillLemmas
 pub mod DrainLemmas
 pub mod RingLemmas
 pub mod RoundLemmas

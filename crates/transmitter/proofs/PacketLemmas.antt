@@ -1,6 +1,6 @@
 -- A frame writer that was handed the packets of a sample.
-use Rattle.std.proofs.Common.{◌≡◌, ℕ, ◌+◌, List, ◌++◌, length, refl, sym, ap, ◌∙◌, arith, append_assoc, length-append}
-use Rattle.frame_writer.specs.Frame.{text}
+use Rattle.std.proofs.Common.{◌≡◌, ℕ, ◌+◌, ◌*◌, ◌≤◌, List, [], ◌∷◌, ◌++◌, IfSome, Option, None, Some, length, refl, sym, ap, ◌∙◌, arith, append_assoc, length-append}
+use Rattle.frame_writer.specs.Frame.{frame, text}
 use Rattle.frame_writer.specs.Shown.{OutState, after_bytes}
 use Rattle.frame_writer.specs.Writing.{AfterText, FailsWithinText, WriterState, after_text}
 use Rattle.frame_writer.proofs.TextLemmas.{breaks_off-text, text-append, text-mod}
@@ -32,3 +32,13 @@ breaks_within a b qs fails =
       was_open = fails.fails.was_open;
       closed = fails.fails.closed;
     }
+
+-- frames have four bytes each, and more
+long_text : (n : ℕ) (qs : List (List ℕ)) → 4 * length qs ≤ length (text n qs)
+long_text n [] = omega arith
+long_text n (q ∷ qs) = omega (arith, long_text (n + 1) qs, length-append (frame n q) (text (n + 1) qs))
+
+-- and so they do where they were laid out
+pub long_end : (end : Option ℕ) (at n : ℕ) (qs : List (List ℕ)) → IfSome end (λ e. e ≡ at + length (text n qs)) → IfSome end (λ e. at + 4 * length qs ≤ e)
+long_end None at n qs is = tt
+long_end (Some e) at n qs is = omega (arith, is, long_text n qs)

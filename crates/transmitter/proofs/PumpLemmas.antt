@@ -25,7 +25,7 @@ use Rattle.transmitter.proofs.TakenLemmas.{items_taken-push, one_each, some_firs
 use Rattle.transmitter.proofs.WrittenLemmas.{leads-append, leads-none}
 
 -- all are of rings below c
-abbrev AreBelow : ℕ → List (ℕ × Item) → Type 0
+abbrev pub AreBelow : ℕ → List (ℕ × Item) → Type 0
 AreBelow c qs = AllByRecursion (λ (p : ℕ × Item). p.0 < c) qs
 
 -- a pump that has had its turns at the rings below c
@@ -42,37 +42,37 @@ pub record SoFar (a b : TransmitterState) (c : ℕ) (p : Pumped) : Type 0 where
   pub stops : IsSetOfStops p.stopped (items_taken items)
   pub known : TakesKnownBelow c a.known items
 
-rising-push : (low : ℕ) (qs : List (ℕ × Item)) (c : ℕ) (x : Item) → AreRising low qs → AreBelow c qs → low ≤ c → AreRising low (qs ++ (c, x) ∷ [])
+pub rising-push : (low : ℕ) (qs : List (ℕ × Item)) (c : ℕ) (x : Item) → AreRising low qs → AreBelow c qs → low ≤ c → AreRising low (qs ++ (c, x) ∷ [])
 rising-push low [] c x r b h = (h, tt)
 rising-push low (p ∷ qs) c x r b h = (r.0, rising-push (p.0 + 1) qs c x r.1 b.1 (omega (arith, b.0)))
 
-below-next : (qs : List (ℕ × Item)) (c : ℕ) → AreBelow c qs → AreBelow (c + 1) qs
+pub below-next : (qs : List (ℕ × Item)) (c : ℕ) → AreBelow c qs → AreBelow (c + 1) qs
 below-next [] c b = tt
 below-next (p ∷ qs) c b = (omega (arith, b.0), below-next qs c b.1)
 
-below-push : (qs : List (ℕ × Item)) (c : ℕ) (x : Item) → AreBelow c qs → AreBelow (c + 1) (qs ++ (c, x) ∷ [])
+pub below-push : (qs : List (ℕ × Item)) (c : ℕ) (x : Item) → AreBelow c qs → AreBelow (c + 1) (qs ++ (c, x) ∷ [])
 below-push [] c x b = (omega arith, tt)
 below-push (p ∷ qs) c x b = (omega (arith, b.0), below-push qs c x b.1)
 
 -- of a ring at c or above nothing was taken
-none_above : (c e : ℕ) (qs : List (ℕ × Item)) → AreBelow c qs → c ≤ e → taken_from e qs ≡ []
+pub none_above : (c e : ℕ) (qs : List (ℕ × Item)) → AreBelow c qs → c ≤ e → taken_from e qs ≡ []
 none_above c e [] b h = refl
 none_above c e (p ∷ qs) b h =
     let other : eqb p.0 e ≡ false = grind (arith, nat_tests, b.0, h) in
     rw other (none_above c e qs b.1 h)
 
-frames-append : (xs ys : List Item) → length (packets_of (samples (xs ++ ys))) ≡ length (packets_of (samples xs)) + length (packets_of (samples ys))
+pub frames-append : (xs ys : List Item) → length (packets_of (samples (xs ++ ys))) ≡ length (packets_of (samples xs)) + length (packets_of (samples ys))
 frames-append xs ys = ap (λ t. length (packets_of t)) (samples-append xs ys) ∙ (ap length (packets_of-append (samples xs) (samples ys)) ∙ length-append (packets_of (samples xs)) (packets_of (samples ys)))
 
 -- of ring c something was taken just now
-taken_here : (c : ℕ) (qs : List (ℕ × Item)) (x : Item) → 0 < length (taken_from c (qs ++ (c, x) ∷ []))
+pub taken_here : (c : ℕ) (qs : List (ℕ × Item)) (x : Item) → 0 < length (taken_from c (qs ++ (c, x) ∷ []))
 taken_here c qs x =
     let e = ap length (taken_from-append c qs ((c, x) ∷ [])) ∙ length-append (taken_from c qs) (taken_from c ((c, x) ∷ [])) in
     let one : length (cond (eqb c c) (x ∷ []) []) ≡ 1 = grind (arith, nat_tests) in
     omega (arith, e, one)
 
 -- and of another as before
-taken_before : (c e : ℕ) (qs : List (ℕ × Item)) (x : Item) → 0 < length (taken_from e qs) → 0 < length (taken_from e (qs ++ (c, x) ∷ []))
+pub taken_before : (c e : ℕ) (qs : List (ℕ × Item)) (x : Item) → 0 < length (taken_from e qs) → 0 < length (taken_from e (qs ++ (c, x) ∷ []))
 taken_before c e qs x h = omega (arith, ap length (taken_from-append e qs ((c, x) ∷ [])) ∙ length-append (taken_from e qs) (taken_from e ((c, x) ∷ [])))
 
 -- the empty set has no list

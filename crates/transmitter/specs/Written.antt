@@ -44,6 +44,10 @@ transmission O T t = record {
 abbrev pub writer_of : {O T : Type 0} → Transmitter O T → FrameWriter O
 writer_of t = t.writer
 
+-- the ring at which pumps that fill a buffer go on
+abbrev pub next_of : {O T : Type 0} → Transmitter O T → ℕ
+next_of t = t.next
+
 -- the sample in hand, where there is one
 abbrev pub in_hand : Option SampleParts → List SampleParts
 in_hand None = []

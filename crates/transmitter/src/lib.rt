@@ -4,12 +4,16 @@
 
 mod drain;
 mod faults;
+mod filling;
+mod fit_turn;
 mod pumped;
+mod pumped_all;
 mod pumping;
 mod transmitter;
 mod turn;
 
 pub use faults::PumpFault;
 pub use pumped::Pumped;
+pub use pumped_all::PumpedAll;
 pub use pumping::MAX_PUMP;
 pub use transmitter::Transmitter;

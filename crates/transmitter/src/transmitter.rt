@@ -26,6 +26,8 @@ pub struct Transmitter<O, T> {
     pub(crate) hand: Option<Sample>,
     pub(crate) written: [u64; COUNTS],
     pub(crate) taken: u64,
+    // The ring at which `pump_all` goes on.
+    pub(crate) next: usize,
     ghost few: { vec_len ends ≤ MAX_CHANNELS },
     ghost counted: { (l : ℕ) → slice_index written l ≤ taken },
     ghost held: { is_closed writer ≡ is_some hand },
@@ -39,7 +41,7 @@ impl<O: Out, T: TakeEnd> Transmitter<O, T> {
     ghost use Rattle.frame_writer.specs.Writing.{WriterState, state_of};
     ghost use Rattle.transmitter.specs.Items.{count_of};
     ghost use Rattle.transmitter.specs.Pumps.{IsPump};
-    ghost use Rattle.transmitter.specs.Written.{HasTaken, transmission, writer_of};
+    ghost use Rattle.transmitter.specs.Written.{HasTaken, next_of, transmission, writer_of};
 
     /// A transmitter that writes to a frame writer, which isn't closed, what it takes from 1 to 8
     /// rings.
@@ -54,6 +56,7 @@ impl<O: Out, T: TakeEnd> Transmitter<O, T> {
         ensures writer { writer_of result ≡ writer }
         ensures rings { (transmission O.Out T.TakeEnd result).rings ≡ map T.ring ends.items }
         ensures known { (transmission O.Out T.TakeEnd result).known ≡ map T.known ends.items }
+        ensures next { next_of result ≡ 0 }
     {
         Transmitter {
             writer,
@@ -61,6 +64,7 @@ impl<O: Out, T: TakeEnd> Transmitter<O, T> {
             hand: None,
             written: [0; COUNTS],
             taken: 0,
+            next: 0,
         }
     }
 

@@ -107,7 +107,7 @@ impl<T: TakeEnd> Transmitter<SinkOut, T> {
 }
 
 /// Whether an item of ring `c` is there, which is then known, and was read.
-fn look_for<T: TakeEnd>(ends: &mut Vec<T>, c: usize) -> bool
+pub(crate) fn look_for<T: TakeEnd>(ends: &mut Vec<T>, c: usize) -> bool
     requires within { c < vec_len ends.old }
     ensures value { IsTrue result ↔ (0 < length (of_ring (map T.known ends.new.items) c)) }
     ensures reads { result ≡ true → slice_index_or (map T.ready ends.new.items) c false ≡ true }
@@ -120,7 +120,7 @@ fn look_for<T: TakeEnd>(ends: &mut Vec<T>, c: usize) -> bool
 }
 
 /// The first item of ring `c`, which was read.
-fn first_of<T: TakeEnd>(ends: &Vec<T>, c: usize) -> &Item
+pub(crate) fn first_of<T: TakeEnd>(ends: &Vec<T>, c: usize) -> &Item
     requires within { c < vec_len ends.now }
     requires ready { slice_index_or (map T.ready ends.now.items) c false ≡ true }
     ensures { IsPrefix (result.now ∷ []) (of_ring (map T.known ends.now.items) c) }
@@ -129,7 +129,7 @@ fn first_of<T: TakeEnd>(ends: &Vec<T>, c: usize) -> &Item
 }
 
 /// Lets the first item of ring `c` go, which is known to be there.
-fn let_go<T: TakeEnd>(ends: &mut Vec<T>, c: usize)
+pub(crate) fn let_go<T: TakeEnd>(ends: &mut Vec<T>, c: usize)
     requires within { c < vec_len ends.old }
     requires some { 0 < length (of_ring (map T.known ends.old.items) c) }
     ensures takes { TakesFirst c (map T.received ends.old.items) (map T.received ends.new.items)

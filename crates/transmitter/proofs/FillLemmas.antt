@@ -1,0 +1,228 @@
+-- Pumps, one after another, into one buffer.
+use Rattle.std.proofs.Common.{◌≡◌, ℕ, zero, suc, inl, inr, ◌+◌, ◌-◌, ◌<◌, ◌≤◌, ◌||◌, List, [], ◌∷◌, ◌++◌, length, None, refl, sym, ap, ◌∙◌, subst, arith, append-nil, append_assoc, length-append, below_more, drop, take}
+use Rattle.std.specs.List.{list_any}
+use Rattle.std.proofs.lemmas.List.{drop-drop}
+use Rattle.std.proofs.lemmas.List.Folds.{list_any-append}
+use Rattle.xcp_base.specs.declared.item.Item.{Item}
+use Rattle.xcp_base.specs.Lists.{has_list}
+use Rattle.frame_writer.specs.Shown.{OutState}
+use Rattle.transmitter.specs.Fills.{ArePumps, Fills, FindsNoRoom, TakesTurns, Tells, all_taken, ring_behind}
+use Rattle.transmitter.specs.Inner.Fits.{HasTurns, LaysOn}
+use Rattle.transmitter.specs.Inner.Turns.{Lays}
+use Rattle.transmitter.specs.Items.{packets_of, samples}
+use Rattle.transmitter.specs.Merge.{items_taken, of_ring}
+use Rattle.transmitter.specs.Pumps.{CanPump, Leads, is_marker_of}
+use Rattle.xcp_base.specs.declared.limits.TheConstants.{MAX_TAKEN}
+use Rattle.transmitter.specs.Written.{TransmitterState}
+use Rattle.transmitter.specs.declared.pumped_all.PumpedAll.{PumpedAll}
+use Rattle.transmitter.proofs.PumpLemmas.{AreBelow, below-next, below-push, empty_has_none, frames-append, none_above, refused, rising-push, taken_before, taken_here}
+use Rattle.transmitter.proofs.TakenLemmas.{items_taken-push}
+use Rattle.transmitter.proofs.WrittenLemmas.{leads-append}
+
+-- one item more is told
+tells-push : (p q : PumpedAll) (qs : List (ℕ × Item)) (c : ℕ) (x : Item) → Tells p qs → q.taken ≡ p.taken + 1 → q.frames ≡ p.frames + length (packets_of (samples (x ∷ []))) → ((l : ℕ) → has_list q.stopped l ≡ (has_list p.stopped l || list_any (is_marker_of l) (x ∷ []))) → Tells q (qs ++ (c, x) ∷ [])
+tells-push p q qs c x t taken frames stopped = record {
+  taken = omega (arith, taken, t.taken, length-append qs ((c, x) ∷ []));
+  frames = rw (items_taken-push qs c x, frames-append (items_taken qs) (x ∷ []), frames, t.frames) refl;
+  stopped = λ l. rw (items_taken-push qs c x, list_any-append (is_marker_of l) (items_taken qs) (x ∷ [])) (stopped l ∙ ap (λ b. b || list_any (is_marker_of l) (x ∷ [])) (t.stopped l));
+}
+
+-- nothing was taken yet
+pub tells-nothing : (p : PumpedAll) → p.taken ≡ 0 → p.frames ≡ 0 → p.stopped ≡ 0 → Tells p []
+tells-nothing p taken frames stopped = record { taken = taken; frames = frames; stopped = λ l. rw stopped (empty_has_none l) }
+
+-- before the first turn
+pub no_turns : (low high : ℕ) (a : TransmitterState) (p : PumpedAll) → high ≤ low → a.hand ≡ None → HasTurns low high a a p p
+no_turns low high a p h hand = record {
+  hand = hand;
+  items = [];
+  turns = record { rising = tt; below = tt; leads = refused a; known = λ e b l. absurd (omega (arith, h, b, l)) };
+  tells = λ before t. subst (Tells p) (sym (append-nil before)) t;
+  count = omega arith;
+}
+
+-- a turn that took an item
+pub item_more : (low c : ℕ) (a b d : TransmitterState) (p q r : PumpedAll) (x : Item) → HasTurns low c a b p q → low ≤ c → Leads b ((c, x) ∷ []) d → d.hand ≡ None → r.taken ≡ q.taken + 1 → r.frames ≡ q.frames + length (packets_of (samples (x ∷ []))) → ((l : ℕ) → has_list r.stopped l ≡ (has_list q.stopped l || list_any (is_marker_of l) (x ∷ []))) → HasTurns low (c + 1) a d p r
+item_more low c a b d p q r x s above leads hand taken frames stopped = record {
+  hand = hand;
+  items = s.items ++ (c, x) ∷ [];
+  turns = record {
+    rising = rising-push low s.items c x s.turns.rising s.turns.below above;
+    below = below-push s.items c x s.turns.below;
+    leads = leads-append a b d s.items ((c, x) ∷ []) s.turns.leads leads;
+    known = below_more _ _ (λ e h l k. taken_before c e s.items x (s.turns.known e h l k)) (λ l k. taken_here c s.items x);
+  };
+  tells = λ before t. subst (Tells r) (append_assoc before s.items ((c, x) ∷ [])) (tells-push q r (before ++ s.items) c x (s.tells before t) taken frames stopped);
+  count = omega (arith, taken, s.count, length-append s.items ((c, x) ∷ []));
+}
+
+-- what was known of a ring that gave nothing: nothing
+none_left : (a b : TransmitterState) (c : ℕ) (qs : List (ℕ × Item)) → Leads a qs b → AreBelow c qs → of_ring b.known c ≡ [] → 0 < length (of_ring a.known c) → ⊥
+none_left a b c qs leads below none some =
+    let front = leads.takes.first c in
+    let all : of_ring a.known c ++ front.0 ≡ [] = front.1 ∙ (ap (λ t. t ++ of_ring b.known c) (none_above c c qs below (omega arith)) ∙ none) in
+    omega (arith, some, ap length all ∙ refl, length-append (of_ring a.known c) front.0)
+
+-- nothing more was taken
+leads-idle : (a b d : TransmitterState) (qs : List (ℕ × Item)) → Leads a qs b → Leads b [] d → Leads a qs d
+leads-idle a b d qs leads none = subst (λ ps. Leads a ps d) (append-nil qs) (leads-append a b d qs [] leads none)
+
+-- a turn at a ring that gave nothing
+pub idle_more : (low c : ℕ) (a b d : TransmitterState) (p q : PumpedAll) → HasTurns low c a b p q → Leads b [] d → d.hand ≡ None → of_ring b.known c ≡ [] → HasTurns low (c + 1) a d p q
+idle_more low c a b d p q s leads hand none = record {
+  hand = hand;
+  items = s.items;
+  turns = record {
+    rising = s.turns.rising;
+    below = below-next s.items c s.turns.below;
+    leads = leads-idle a b d s.items s.turns.leads leads;
+    known = below_more _ _ s.turns.known (λ l k. absurd (none_left a b c s.items s.turns.leads s.turns.below none k));
+  };
+  tells = s.tells;
+  count = s.count;
+}
+
+-- a look at a ring whose item stays there
+pub look_more : (low c : ℕ) (a b d : TransmitterState) (p q : PumpedAll) → HasTurns low c a b p q → Leads b [] d → d.hand ≡ None → HasTurns low c a d p q
+look_more low c a b d p q s leads hand = record {
+  hand = hand;
+  items = s.items;
+  turns = record { rising = s.turns.rising; below = s.turns.below; leads = leads-idle a b d s.items s.turns.leads leads; known = s.turns.known };
+  tells = s.tells;
+  count = s.count;
+}
+
+-- nothing was laid out
+pub lays_nothing : (a : OutState) (buffer : List ℕ) (at : ℕ) → at ≤ length buffer → LaysOn a a buffer buffer at at
+lays_nothing a buffer at h = record { text = []; wrote = sym (append-nil a.contents); front = sym (append-nil (take at buffer)); end_is = omega arith; behind = refl; len = refl; inside = h }
+
+-- text was laid out, and then more
+pub lays-append : (a b d : OutState) (start buffer new : List ℕ) (at end last : ℕ) → LaysOn a b start buffer at end → LaysOn b d buffer new end last → LaysOn a d start new at last
+lays-append a b d start buffer new at end last p l =
+    let more = l.text in
+    let same : drop (end + length more) buffer ≡ drop (end + length more) start =
+    sym (drop-drop (length more) end buffer) ∙ ap (drop (length more)) p.behind ∙ drop-drop (length more) end start in
+    record {
+      text = p.text ++ more;
+      wrote = l.wrote ∙ ap (λ t. t ++ more) p.wrote ∙ append_assoc a.contents p.text more;
+      front = l.front ∙ ap (λ t. t ++ more) p.front ∙ append_assoc (take at start) p.text more;
+      end_is = omega (arith, p.end_is, l.end_is, length-append p.text more);
+      behind = l.behind ∙ ap (λ n. drop n buffer) l.end_is ∙ same ∙ ap (λ n. drop n start) (sym l.end_is);
+      len = l.len ∙ p.len;
+      inside = omega (arith, l.inside, p.len);
+    }
+
+-- a turn that laid some text out
+pub lays_more : (a b d : OutState) (start buffer new : List ℕ) (at end last : ℕ) → LaysOn a b start buffer at end → Lays b d buffer new end last → last ≤ length buffer → LaysOn a d start new at last
+lays_more a b d start buffer new at end last p l inside = lays-append a b d start buffer new at end last p (record { text = l.text; wrote = l.wrote; front = l.front; end_is = l.end_is; behind = l.behind; len = l.len; inside = inside })
+
+-- a turn that laid nothing out
+pub lays_same : (a b d : OutState) (start buffer new : List ℕ) (at end last : ℕ) → LaysOn a b start buffer at end → (d ≡ b) × (new ≡ buffer) × (last ≡ end) → LaysOn a d start new at last
+lays_same a b d start buffer new at end last p same = rw (same.0, same.1, same.2) p
+
+-- a pump begins at ring 0 behind any that does
+behind_zero : (pumps : List (List (ℕ × Item))) → ring_behind 0 pumps ≡ 0
+behind_zero [] = refl
+behind_zero (qs ∷ pumps) = refl
+
+-- one pump more
+pub pumps-push : (n from : ℕ) (a b d : TransmitterState) (pumps : List (List (ℕ × Item))) (qs : List (ℕ × Item)) → ArePumps n from a pumps b → TakesTurns (ring_behind from pumps) n b d qs → ArePumps n from a (pumps ++ qs ∷ []) d
+pumps-push n from a b d [] qs is turns = (d, subst (λ s. TakesTurns from n s d qs) is turns, refl)
+pumps-push n from a b d (ps ∷ pumps) qs is turns = (is.0, is.1, pumps-push n 0 is.0 b d pumps qs is.2 (subst (λ k. TakesTurns k n b d qs) (sym (behind_zero pumps)) turns))
+
+pub all_taken-push : (pumps : List (List (ℕ × Item))) (qs : List (ℕ × Item)) → all_taken (pumps ++ qs ∷ []) ≡ all_taken pumps ++ qs
+all_taken-push [] qs = append-nil qs
+all_taken-push (ps ∷ pumps) qs = ap (λ t. ps ++ t) (all_taken-push pumps qs) ∙ sym (append_assoc ps (all_taken pumps) qs)
+
+pub ring_behind-push : (from : ℕ) (pumps : List (List (ℕ × Item))) (qs : List (ℕ × Item)) → ring_behind from (pumps ++ qs ∷ []) ≡ 0
+ring_behind-push from [] qs = refl
+ring_behind-push from (ps ∷ pumps) qs = refl
+
+-- whole pumps were made, and the next has its turns from ring `now` on
+pub record Filled (n from : ℕ) (a b : TransmitterState) (now : ℕ) (p : PumpedAll) : Type 0 where
+  pub hand : b.hand ≡ None
+  pub pumps : List (List (ℕ × Item))
+  pub are : ArePumps n from a pumps b
+  pub at : now ≡ ring_behind from pumps
+  pub leads : Leads a (all_taken pumps) b
+  pub tells : Tells p (all_taken pumps)
+
+-- before the first
+pub filled_none : (n from : ℕ) (a : TransmitterState) (p : PumpedAll) → a.hand ≡ None → p.taken ≡ 0 → p.frames ≡ 0 → p.stopped ≡ 0 → Filled n from a a from p
+filled_none n from a p hand taken frames stopped = record {
+  hand = hand;
+  pumps = [];
+  are = refl;
+  at = refl;
+  leads = refused a;
+  tells = tells-nothing p taken frames stopped;
+}
+
+-- one more
+pub filled_more : (n from now stop : ℕ) (a b d : TransmitterState) (p q : PumpedAll) → Filled n from a b now p → HasTurns now stop b d p q → stop ≡ n → Filled n from a d 0 q
+filled_more n from now stop a b d p q f s whole = record {
+  hand = s.hand;
+  pumps = f.pumps ++ s.items ∷ [];
+  are = pumps-push n from a b d f.pumps s.items f.are (subst (λ k. TakesTurns (ring_behind from f.pumps) k b d s.items) whole (subst (λ k. TakesTurns k stop b d s.items) f.at s.turns));
+  at = sym (ring_behind-push from f.pumps s.items);
+  leads = subst (λ ps. Leads a ps d) (sym (all_taken-push f.pumps s.items)) (leads-append a b d (all_taken f.pumps) s.items f.leads s.turns.leads);
+  tells = subst (Tells q) (sym (all_taken-push f.pumps s.items)) (s.tells (all_taken f.pumps) f.tells);
+}
+
+-- the last stopped before a sample that doesn't fit
+pub fills_no_room : (from now stop room end : ℕ) (a b d : TransmitterState) (p q : PumpedAll) → CanPump a → Filled (length a.rings) from a b now p → HasTurns now stop b d p q → stop < length a.rings → FindsNoRoom stop d room end → Fills from stop room end a d q
+fills_no_room from now stop room end a b d p q could f s short finds = record {
+  could = could;
+  hand = s.hand;
+  pumps = f.pumps;
+  last = s.items;
+  between = b;
+  before = f.are;
+  stop = stop;
+  turns = subst (λ k. TakesTurns k stop b d s.items) f.at s.turns;
+  why = inl (refl, short, finds);
+  leads = leads-append a b d (all_taken f.pumps) s.items f.leads s.turns.leads;
+  tells = s.tells (all_taken f.pumps) f.tells;
+}
+
+none_more : (qs : List (ℕ × Item)) (p q : ℕ) → q ≡ p → q ≡ p + length qs → qs ≡ []
+none_more [] p q same more = refl
+none_more (x ∷ qs) p q same more = absurd (omega (arith, same, more))
+
+-- the last was a whole one that found nothing
+pub fills_all : (from now stop room end : ℕ) (a b d : TransmitterState) (p q : PumpedAll) → CanPump a → Filled (length a.rings) from a b now p → HasTurns now stop b d p q → stop ≡ length a.rings → (now ≡ 0) × (q.taken ≡ p.taken) → Fills from 0 room end a d q
+fills_all from now stop room end a b d p q could f s whole nothing = record {
+  could = could;
+  hand = s.hand;
+  pumps = f.pumps;
+  last = s.items;
+  between = b;
+  before = f.are;
+  stop = stop;
+  turns = subst (λ k. TakesTurns k stop b d s.items) f.at s.turns;
+  why = inr (inl (whole, refl, sym f.at ∙ nothing.0, none_more s.items p.taken q.taken nothing.1 s.count));
+  leads = leads-append a b d (all_taken f.pumps) s.items f.leads s.turns.leads;
+  tells = s.tells (all_taken f.pumps) f.tells;
+}
+
+-- there was no leave for a further one
+pub fills_spent : (from now room end : ℕ) (a b : TransmitterState) (p : PumpedAll) → CanPump a → Filled (length a.rings) from a b now p → MAX_TAKEN ≤ b.taken → Fills from 0 room end a b p
+fills_spent from now room end a b p could f spent = record {
+  could = could;
+  hand = f.hand;
+  pumps = f.pumps;
+  last = [];
+  between = b;
+  before = f.are;
+  stop = 0;
+  turns = record { rising = tt; below = tt; leads = refused b; known = λ e h. absurd (omega (arith, h)) };
+  why = inr (inr (refl, refl, refl, spent));
+  leads = subst (λ ps. Leads a ps b) (sym (append-nil (all_taken f.pumps))) f.leads;
+  tells = subst (Tells p) (sym (append-nil (all_taken f.pumps))) f.tells;
+}
+
+-- a pump that took something, or had turns at some rings only, brings the end nearer
+pub nearer : (most taken left from p q n : ℕ) → taken < most → left ≡ taken + n → q ≡ p + n → ((from ≡ 0) × (q ≡ p) → ⊥) → (most - left) + 0 < (most - taken) + from
+nearer most taken left (suc from) p q n few more count some = omega (arith, few, more)
+nearer most taken left zero p q zero few more count some = absurd (some (refl, omega (arith, count)))
+nearer most taken left zero p q (suc n) few more count some = omega (arith, few, more)

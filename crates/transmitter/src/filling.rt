@@ -1,0 +1,134 @@
+//! Pumps whose frames go straight to a buffer, as many as it has room for.
+
+ghost use Rattle.std.specs.Prelude.{◌≡◌, ◌↔◌, IsTrue};
+
+use crate::faults::PumpFault;
+use crate::fit_turn::Fit;
+use crate::pumped_all::PumpedAll;
+use crate::transmitter::Transmitter;
+use channel_ring::TakeEnd;
+use frame_writer::{Out, SinkOut};
+use xcp_base::limits::MAX_TAKEN;
+use xcp_base::with_list;
+
+/// Whether a pump with turns at all rings took nothing.
+fn found_nothing(from: usize, before: u64, taken: u64) -> bool
+    ensures { IsTrue result ↔ ((from ≡ 0) × (taken ≡ before)) }
+{
+    from == 0 && taken == before
+}
+
+impl<T: TakeEnd> Transmitter<SinkOut, T> {
+    ghost use Rattle.std.specs.Prelude.{◌≡◌, ◌≢◌, ℕ, ◌+◌, ◌*◌, ◌<◌, ◌≤◌, ◌++◌, List, drop, length};
+    ghost use Rattle.std.specs.Prelude.{take, Err, None, IfErr, IfOk, OnErr, vec_len};
+    ghost use Rattle.xcp_base.specs.declared.item.Item.{Item};
+    ghost use Rattle.xcp_base.specs.declared.limits.TheConstants.{MAX_TAKEN};
+    ghost use Rattle.frame_writer.specs.Writing.{state_of};
+    ghost use Rattle.transmitter.specs.Fills.{Fills, FindsNoRoom};
+    ghost use Rattle.transmitter.specs.Inner.Fits.{HasTurns, LaysOn};
+    ghost use Rattle.transmitter.specs.Pumps.{IsPump};
+    ghost use Rattle.transmitter.specs.Written.{next_of, transmission};
+
+    /// Pumps again and again, until a pump finds nothing or the next sample's frames don't fit into
+    /// the buffer; answers what the pumps did, and how many bytes their frames have in the front of
+    /// the buffer.
+    ///
+    /// A sample that doesn't fit stays in its ring, and the next call goes on at this ring: so the
+    /// items are taken in the order in which pumps take them. A buffer of `MAX_TEXT` bytes has room
+    /// for any sample. Refused as `pump_into` is; then nothing is taken, and the buffer is as it
+    /// was.
+    pub fn pump_all(&mut self, buffer: &mut [u8]) -> Result<(PumpedAll, usize), PumpFault>
+        ensures ok { IfOk result (λ done. Fills (next_of self.old) (next_of self.new)
+            (length buffer.old) done.1
+            (transmission ⟦<SinkOut as Out>⟧ T.TakeEnd self.old)
+            (transmission ⟦<SinkOut as Out>⟧ T.TakeEnd self.new) done.0) }
+        ensures within { IfOk result (λ done. done.1 ≤ length buffer.old) }
+        ensures frames { IfOk result (λ done.
+            (transmission ⟦<SinkOut as Out>⟧ T.TakeEnd self.old).writer.out.contents
+            ++ take done.1 buffer.new
+            ≡ (transmission ⟦<SinkOut as Out>⟧ T.TakeEnd self.new).writer.out.contents) }
+        ensures behind { IfOk result (λ done. drop done.1 buffer.new ≡ drop done.1 buffer.old) }
+
+        ensures err { IfErr result (λ fault. IsPump
+            (transmission ⟦<SinkOut as Out>⟧ T.TakeEnd self.old)
+            (transmission ⟦<SinkOut as Out>⟧ T.TakeEnd self.new) (Err fault)) }
+        ensures never_fails { IfErr result (λ fault. fault ≢ PumpFault.Failed) }
+        ensures next_stays { OnErr result (next_of self.new ≡ next_of self.old) }
+        ensures buffer_stays { OnErr result (buffer.new ≡ buffer.old) }
+    {
+        if self.writer.closed() {
+            return Err(PumpFault::Closed);
+        }
+        if self.taken >= MAX_TAKEN {
+            return Err(PumpFault::Spent);
+        }
+        let mut pumped = PumpedAll {
+            taken: 0,
+            frames: 0,
+            stopped: 0,
+        };
+        let mut end = 0;
+        let mut from = self.next;
+        while self.taken < MAX_TAKEN {
+            let before = pumped.taken;
+            let stop = self.pump_on(from, buffer, &mut end, &mut pumped);
+            if stop < self.ends.len() {
+                self.next = stop;
+                return Ok((pumped, end));
+            }
+            if found_nothing(from, before, pumped.taken) {
+                self.next = 0;
+                return Ok((pumped, end));
+            }
+            from = 0;
+        }
+        self.next = 0;
+        Ok((pumped, end))
+    }
+
+    /// A pump's turns at the rings from `from` on; answers the ring at which the frames don't fit,
+    /// or the number of rings.
+    fn pump_on(
+        &mut self,
+        from: usize,
+        buffer: &mut [u8],
+        end: &mut usize,
+        pumped: &mut PumpedAll,
+    ) -> usize
+        requires nothing_in_hand { self.old.hand ≡ None }
+        requires taken { self.old.taken < MAX_TAKEN }
+        requires inside { end.old ≤ length buffer.old }
+        requires count { pumped.old.taken ≤ self.old.taken }
+        requires few_frames { 4 * pumped.old.frames ≤ end.old }
+        ensures turns { HasTurns from result (transmission ⟦<SinkOut as Out>⟧ T.TakeEnd self.old)
+            (transmission ⟦<SinkOut as Out>⟧ T.TakeEnd self.new) pumped.old pumped.new }
+        ensures lays { LaysOn (state_of ⟦<SinkOut as Out>⟧ self.old.writer).out
+            (state_of ⟦<SinkOut as Out>⟧ self.new.writer).out
+            buffer.old buffer.new end.old end.new }
+        ensures few_frames { 4 * pumped.new.frames ≤ end.new }
+        ensures stop { result ≤ vec_len self.old.ends }
+        ensures no_room { result < vec_len self.old.ends → FindsNoRoom result
+            (transmission ⟦<SinkOut as Out>⟧ T.TakeEnd self.new) (length buffer.old) end.new }
+        ensures as_many { vec_len self.new.ends ≡ vec_len self.old.ends }
+    {
+        let rings = self.ends.len();
+        if from >= rings {
+            return rings;
+        }
+        for c in from..rings {
+            match self.fit_turn(c, buffer, end) {
+                Fit::Nothing => {}
+                Fit::Wrote(frames) => {
+                    pumped.taken += 1;
+                    pumped.frames += frames as u64;
+                }
+                Fit::Stopped(list) => {
+                    pumped.taken += 1;
+                    pumped.stopped = with_list(pumped.stopped, list);
+                }
+                Fit::TooLong => return c,
+            }
+        }
+        rings
+    }
+}
