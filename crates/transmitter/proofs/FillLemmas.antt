@@ -1,5 +1,5 @@
 -- Pumps, one after another, into one buffer.
-use Rattle.std.proofs.Common.{◌≡◌, ℕ, zero, suc, inl, inr, ◌+◌, ◌-◌, ◌<◌, ◌≤◌, ◌||◌, List, [], ◌∷◌, ◌++◌, length, None, refl, sym, ap, ◌∙◌, subst, arith, append-nil, append_assoc, length-append, below_more, drop, take}
+use Rattle.std.proofs.Common.{◌≡◌, ℕ, inl, inr, ◌+◌, ◌<◌, ◌≤◌, ◌||◌, List, [], ◌∷◌, ◌++◌, length, None, refl, sym, ap, ◌∙◌, subst, arith, append-nil, append_assoc, length-append, below_more, drop, take}
 use Rattle.std.specs.List.{list_any}
 use Rattle.std.proofs.lemmas.List.{drop-drop}
 use Rattle.std.proofs.lemmas.List.Folds.{list_any-append}
@@ -220,9 +220,3 @@ fills_spent from now room end a b p could f spent = record {
   leads = subst (λ ps. Leads a ps b) (sym (append-nil (all_taken f.pumps))) f.leads;
   tells = subst (Tells p) (sym (append-nil (all_taken f.pumps))) f.tells;
 }
-
--- a pump that took something, or had turns at some rings only, brings the end nearer
-pub nearer : (most taken left from p q n : ℕ) → taken < most → left ≡ taken + n → q ≡ p + n → ((from ≡ 0) × (q ≡ p) → ⊥) → (most - left) + 0 < (most - taken) + from
-nearer most taken left (suc from) p q n few more count some = omega (arith, few, more)
-nearer most taken left zero p q zero few more count some = absurd (some (refl, omega (arith, count)))
-nearer most taken left zero p q (suc n) few more count some = omega (arith, few, more)

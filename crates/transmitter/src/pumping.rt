@@ -15,14 +15,14 @@ pub const MAX_PUMP: usize = MAX_CHANNELS as usize * MAX_TEXT;
 
 impl<T: TakeEnd> Transmitter<SinkOut, T> {
     ghost use Rattle.std.specs.Prelude.{◌≡◌, ◌≢◌, ◌≤◌, ◌++◌, drop, length, take};
-    ghost use Rattle.std.specs.Prelude.{Err, Ok, IfErr, IfOk, OnErr};
+    ghost use Rattle.std.specs.Prelude.{Err, Ok, IfErr, IfOk, OnErr, OnOk};
     ghost use Rattle.transmitter.specs.Pumps.{IsPump};
-    ghost use Rattle.transmitter.specs.Written.{transmission};
+    ghost use Rattle.transmitter.specs.Written.{next_of, transmission};
 
     /// `pump`, and places the frames into the front of a buffer; answers what it did, and how many
     /// bytes these are.
     ///
-    /// The writer can't fail, so `Failed` is never the answer. Refused as `pump` is; then nothing
+    /// Each ring has its turn, so that `pump_all` then begins at ring 0. The writer can't fail, so `Failed` is never the answer. Refused as `pump` is; then nothing
     /// is taken, and the buffer is as it was.
     pub fn pump_into(&mut self, buffer: &mut [u8]) -> Result<(Pumped, usize), PumpFault>
         requires room { MAX_PUMP ≤ length buffer.old }
@@ -35,11 +35,13 @@ impl<T: TakeEnd> Transmitter<SinkOut, T> {
             ++ take done.1 buffer.new
             ≡ (transmission ⟦<SinkOut as Out>⟧ T.TakeEnd self.new).writer.out.contents) }
         ensures behind { IfOk result (λ done. drop done.1 buffer.new ≡ drop done.1 buffer.old) }
+        ensures next { OnOk result (next_of self.new ≡ 0) }
 
         ensures err { IfErr result (λ fault. IsPump
             (transmission ⟦<SinkOut as Out>⟧ T.TakeEnd self.old)
             (transmission ⟦<SinkOut as Out>⟧ T.TakeEnd self.new) (Err fault)) }
         ensures never_fails { IfErr result (λ fault. fault ≢ PumpFault.Failed) }
+        ensures next_stays { OnErr result (next_of self.new ≡ next_of self.old) }
         ensures buffer_stays { OnErr result (buffer.new ≡ buffer.old) }
     {
         if self.writer.closed() {
@@ -68,6 +70,7 @@ impl<T: TakeEnd> Transmitter<SinkOut, T> {
                 Turn::Broke => unreachable!(),
             }
         }
+        self.next = 0;
         Ok((pumped, end))
     }
 }

@@ -35,7 +35,7 @@ pub struct Transmitter<O, T> {
 
 impl<O: Out, T: TakeEnd> Transmitter<O, T> {
     ghost use Rattle.std.specs.Prelude.{◌≡◌, ℕ, ◌≤◌, All, List, [], false};
-    ghost use Rattle.std.specs.Prelude.{length, map, slice_index, vec_len};
+    ghost use Rattle.std.specs.Prelude.{OnOk, length, map, slice_index, vec_len};
     ghost use Rattle.std.specs.Option.{option_copied};
     ghost use Rattle.xcp_base.specs.declared.item.Item.{Item};
     ghost use Rattle.frame_writer.specs.Writing.{WriterState, state_of};
@@ -76,8 +76,9 @@ impl<O: Out, T: TakeEnd> Transmitter<O, T> {
     /// taken and written, the sample whose frames weren't all written stays in hand, and nothing is
     /// taken from then on.
     pub fn pump(&mut self) -> Result<Pumped, PumpFault>
-        ensures { IsPump (transmission O.Out T.TakeEnd self.old)
+        ensures pumps { IsPump (transmission O.Out T.TakeEnd self.old)
             (transmission O.Out T.TakeEnd self.new) result }
+        ensures next { OnOk result (next_of self.new ≡ 0) }
     {
         if self.writer.closed() {
             return Err(PumpFault::Closed);
@@ -104,6 +105,7 @@ impl<O: Out, T: TakeEnd> Transmitter<O, T> {
                 Turn::Broke => return Err(PumpFault::Failed),
             }
         }
+        self.next = 0;
         Ok(pumped)
     }
 

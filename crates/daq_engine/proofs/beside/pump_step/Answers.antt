@@ -23,5 +23,5 @@ returns-clause-pumps g c =
     c.pump-answer.result
     (record { same = first.looked; rest = first.left })
     first.as_many
-    c.pump-answer.ensures
+    c.pump-answer.ensures.pumps
     (record { same = second.looked; rest = λ e. second.left e ∙ ap (λ ys. of_ring ys e) first.samplers.sent })

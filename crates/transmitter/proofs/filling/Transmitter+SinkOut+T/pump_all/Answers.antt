@@ -3,7 +3,7 @@ use Rattle.std.proofs.lemmas.List.{length-map}
 use Rattle.frame_writer.specs.Writing.{state_of}
 use Rattle.frame_writer.specs.contracts.sink_out.SinkOutOut.TheImpl.{ghosts as out}
 use Rattle.transmitter.specs.Written.{transmission}
-use Rattle.transmitter.proofs.FillLemmas.{filled_more, filled_none, fills_all, fills_no_room, fills_spent, lays-append, lays_nothing, nearer}
+use Rattle.transmitter.proofs.FillLemmas.{filled_more, filled_none, fills_all, fills_no_room, fills_spent, lays-append, lays_nothing}
 use Rattle.transmitter.proofs.PumpLemmas.{none_of}
 use Rattle.transmitter.proofs.filling.Transmitter+SinkOut+T.pump_all.Goals as goal
 

@@ -14,8 +14,8 @@ loop-c-init g c =
     let none = none_of s.hand (sym s.held ∙ (sym c.closed.ensures ∙ c.if-closed.false)) in
     record { turns = first_turn (transmission g.O.Out g.T.TakeEnd s) _ none refl refl refl; as_many = refl }
 
-pub returns-in-Broke : goal.returns-in-Broke
-returns-in-Broke g c =
+pub returns-in-Broke-clause-pumps : goal.returns-in-Broke-clause-pumps
+returns-in-Broke-clause-pumps g c =
     let t = c.in-Broke.ensures.turn in
     failed_turn _ _ _ c.loop-c.c c.loop-c.pumped t.0 c.loop-c.invariant.turns t.2 t.1 (sym c.closed.ensures ∙ c.if-closed.false, c.if-self-ge-MAX_TAKEN.false)
 
@@ -42,8 +42,8 @@ loop-c-preserved g c =
     ]
 
 -- each ring had its turn
-pub returns : goal.returns
-returns g c =
+pub returns-clause-pumps : goal.returns-clause-pumps
+returns-clause-pumps g c =
     let t = g.T.TakeEnd in
     let ends = c.args.self.now.ends in
     let all : length (map t.known ends.items) ≤ c.loop-c.c = omega (arith, length-map ends.items t.known, ends.ok.0, c.loop-c.invariant.as_many, c.loop-c.auto.c-end, c.loop-c-test.false, c.len-c-end.ensures) in
