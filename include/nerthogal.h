@@ -73,6 +73,7 @@ extern "C" {
 #define NG_MAX_LISTS 16u        /* DAQ lists, and so the lines of an account */
 #define NG_REPLY_BYTES 8u       /* room that the answer to a command needs */
 #define NG_PUMP_BYTES 4352u     /* room that a pump needs: 8 samples of 8 frames of 4 + 64 bytes */
+#define NG_PUMP_ALL_BYTES 544u  /* room that ng_pump_all needs: a sample of 8 frames */
 #define NG_PEEK_BYTES 544u      /* room that a peek needs: a sample of 8 frames of 4 + 64 bytes */
 #define NG_MAX_NAME 56u         /* bytes of a slave's and of an event channel's name: 0 to 56 */
 
@@ -190,10 +191,17 @@ typedef struct {
     uint8_t taken, frames;
 } ng_pumped;
 
+/* What the pumps of one ng_pump_all did, one after another: how many samples and stops they took,
+ * how many frames they wrote, and the lists of which they took a stop. */
+typedef struct {
+    uint64_t taken, frames;
+    uint16_t stopped;
+} ng_pumped_all;
+
 /* What happened to the samples of a DAQ list since the opening: how many were due, and how many of
  * these were written, were dropped, or are left, in the ring or not written whole. due = written +
- * dropped + left. Written means that ng_pump or ng_drain returned all frames of the sample. The
- * library doesn't know what a socket then did with them. */
+ * dropped + left. Written means that ng_pump, ng_pump_all or ng_drain returned all frames of the
+ * sample. The library doesn't know what a socket then did with them. */
 typedef struct {
     uint8_t list;
     uint64_t due, written, dropped, left;
@@ -341,6 +349,26 @@ ng_status ng_counts_of(ng_sampler *sampler, uint8_t list, ng_counts *counts);
  * and written. The tests show that it calls neither malloc nor realloc. */
 ng_status ng_pump(ng_engine *engine, uint8_t *buffer, size_t buffer_cap, size_t *len,
                   ng_pumped *pumped);
+
+/* Pumps as ng_pump does, again and again, until a pump finds nothing or the frames of the next
+ * sample don't fit, and writes the frames of all samples to buffer[0] to buffer[*len - 1]. A sample
+ * that doesn't fit stays in its ring, and the next call goes on at this ring; after a call at which
+ * all fitted, and after ng_pump and ng_drain, it begins at event channel 0. A buffer of 1400 bytes
+ * fits a datagram.
+ *
+ *   NG_EMPTY         *engine is empty
+ *   NG_SMALL_BUFFER  buffer_cap is below NG_PUMP_ALL_BYTES; nothing is taken, and nothing lost
+ *   NG_SPENT         2^62 items were taken; nothing is taken
+ *   NG_OK            *pumped says what the pumps did
+ *
+ * They are checked in this order. Except on NG_OK, nothing changes. On NG_OK, the first *len bytes
+ * of the buffer are whole frames of whole samples, and the bytes after them are unchanged. While
+ * samplers go on in other threads, it goes on with what they send: a buffer that is as long as what
+ * you send at once ends it. Stops take no bytes. Proved: all of this, and what was taken and
+ * written: the items that such pumps take, in their order. The tests show that it calls neither
+ * malloc nor realloc. */
+ng_status ng_pump_all(ng_engine *engine, uint8_t *buffer, size_t buffer_cap, size_t *len,
+                      ng_pumped_all *pumped);
 
 /* ---- the end */
 

@@ -12,11 +12,14 @@ use Rattle.frame_writer.specs.Writing.{WriterState}
 use Rattle.sampler.specs.History.{Opening}
 use Rattle.sampler.specs.State.{SamplerState, joined}
 use Rattle.transmitter.specs.Looks.{Looked}
-use Rattle.transmitter.specs.Pumps.{IsPump}
+use Rattle.xcp_base.specs.declared.item.Item.{Item}
+use Rattle.transmitter.specs.Fills.{Fills}
+use Rattle.transmitter.specs.Pumps.{IsPump, Leads}
 use Rattle.transmitter.specs.Written.{HasTaken, HasWritten, TransmitterState}
 use Rattle.transmitter.specs.declared.faults.PumpFault.{PumpFault}
 use Rattle.transmitter.specs.declared.faults.PumpFault.TheVariants as fault
 use Rattle.transmitter.specs.declared.pumped.Pumped.{Pumped}
+use Rattle.transmitter.specs.declared.pumped_all.PumpedAll.{PumpedAll}
 use Rattle.transmitter.proofs.DrainLemmas.{with_known}
 use Rattle.daq_engine.specs.Configuration.{IsConfiguration, upto}
 use Rattle.daq_engine.specs.Headline.{AllStand, HasHeadline}
@@ -42,17 +45,22 @@ same-configuration n f g same conf = record {
 }
 
 module _ {S E : Type 0} (send : SendGhosts S E) (ring : EndGhosts E) where
-  -- it was opened with the same after a pump
-  pub opened-pumped : (began : List (SamplerState S)) (a b : TransmitterState) (answer : Result Pumped PumpFault)
-      → IsPump a b answer → WasOpened send ring began a → WasOpened send ring began b
-  opened-pumped began a b answer pump opened = record {
+  -- it was opened with the same after it took items
+  opened-led : (began : List (SamplerState S)) (a b : TransmitterState) (qs : List (ℕ × Item))
+      → Leads a qs b → WasOpened send ring began a → WasOpened send ring began b
+  opened-led began a b qs leads opened = record {
     openings = opened.openings;
     configuration = opened.configuration;
     stand = opened.stand;
     start = opened.start;
     items = _;
-    taken = pump.leads.stands opened.start opened.items opened.taken;
+    taken = leads.stands opened.start opened.items opened.taken;
   }
+
+  -- and so after a pump
+  pub opened-pumped : (began : List (SamplerState S)) (a b : TransmitterState) (answer : Result Pumped PumpFault)
+      → IsPump a b answer → WasOpened send ring began a → WasOpened send ring began b
+  opened-pumped began a b answer pump opened = opened-led began a b pump.taken pump.leads opened
 
   -- and after a look
   pub opened-looked : (began : List (SamplerState S)) (a b : TransmitterState)
@@ -122,6 +130,15 @@ module _ {S E : Type 0} (send : SendGhosts S E) (ring : EndGhosts E) where
   fits-pumped x a b (Err fault.Failed) none pump never fits = absurd (never refl)
   fits-pumped x a b (Err fault.Closed) none pump never fits = subst (λ (t : TransmitterState). Fits x t) (sym pump.answers.1) fits
   fits-pumped x a b (Err fault.Spent) none pump never fits = subst (λ (t : TransmitterState). Fits x t) (sym pump.answers.2) fits
+
+  -- and so do pumps that fill a buffer
+  pub fits-filled : (x : List (SamplerState S)) (from next room : ℕ) (a b : TransmitterState) (result : Result (PumpedAll × ℕ) PumpFault)
+      → IfOk result (λ done. Fills from next room done.1 a b done.0) → IfErr result (λ why. IsPump a b (Err why)) → IfErr result (λ why. why ≢ fault.Failed)
+      → Fits x a → Fits x b
+  fits-filled x from next room a b (Ok done) fills none never fits =
+      let opened = opened-led send ring x a b _ fills.leads fits.3 in
+      (fits.0 ∙ sym fills.leads.rings, fits.1, open-hand x b opened fills.hand, opened)
+  fits-filled x from next room a b (Err why) none pump never fits = fits-pumped x a b (Err why) tt pump never fits
 
 module _ {S T E : Type 0} (out : OutGhosts SinkOut) (give : TakeGhosts T E) (send : SendGhosts S E) (ring : EndGhosts E) where
   -- once all came back, the headline holds for all that it was opened with

@@ -1,6 +1,7 @@
 pub mod Answers
 pub mod Ends
 pub mod Engines
+pub mod Fillings
 pub mod Kinds
 pub mod Lendings
 pub mod Lends

@@ -3,12 +3,14 @@
 ghost use Rattle.std.specs.Prelude.{◌≡◌};
 ghost use Rattle.handle_calls.specs.Answers.{Frees};
 ghost use Rattle.handle_calls.specs.Engines.{GivesSampler, OpensEngine, PumpsHandle};
+ghost use Rattle.handle_calls.specs.Fillings.{FillsHandle};
 ghost use Rattle.handle_calls.specs.Statuses.{number_of};
 ghost use Rattle.handle_calls.specs.declared.status.Status.{Status as StatusOf};
 
 use byte_ring::ByteRing;
 use channel_ring::SampleRing;
-use handle_calls::{Handle, HeldRing, PumpedOut, give_sampler, open_into, pump_by};
+use handle_calls::{Handle, HeldRing, PumpedAllOut, PumpedOut};
+use handle_calls::{give_sampler, open_into, pump_all_by, pump_by};
 use std::alloc::Global;
 
 /// Opens an engine over a store, which stays as it is, with rings of the kind that has this number
@@ -65,6 +67,28 @@ pub extern "C" fn ng_pump(
         (record { buffer = buffer.new; len = len.new; pumped = pumped.new }) status }
 {
     pump_by(alloc, engine, buffer, len, pumped).number()
+}
+
+/// Pumps until a pump finds nothing or the frames of the next sample don't fit, and puts the frames
+/// of the samples into the front of the buffer, and their length in bytes into `len`.
+///
+/// Refused in this order: no engine, a buffer of less than 544 bytes, `MAX_TAKEN` items taken; then
+/// nothing is taken.
+#[unsafe(no_mangle)]
+pub extern "C" fn ng_pump_all(
+    alloc: Global,
+    engine: &mut Handle,
+    buffer: &mut [u8],
+    len: &mut usize,
+    pumped: &mut PumpedAllOut,
+) -> u32
+    ensures { (status : StatusOf) × (result ≡ number_of status)
+        × FillsHandle ⟦<SampleRing as HeldRing>⟧.rings ⟦<ByteRing as HeldRing>⟧.rings
+        engine.old.held engine.new.held
+        (record { buffer = buffer.old; len = len.old; pumped = pumped.old })
+        (record { buffer = buffer.new; len = len.new; pumped = pumped.new }) status }
+{
+    pump_all_by(alloc, engine, buffer, len, pumped).number()
 }
 
 /// Gives an engine up, with the samplers that weren't handed out.
