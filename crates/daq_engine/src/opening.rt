@@ -4,7 +4,7 @@ ghost use Rattle.std.specs.List.{list_all};
 ghost use Rattle.xcp_base.specs.declared.limits.TheConstants.{MAX_CHANNELS};
 ghost use Rattle.sampler.specs.History.{Opening};
 ghost use Rattle.frame_writer.specs.Writing.{state_of};
-ghost use Rattle.transmitter.specs.Written.{transmission, writer_of};
+ghost use Rattle.transmitter.specs.Written.{next_of, transmission, writer_of};
 ghost use Rattle.daq_engine.specs.Openings.{AreOpened, CanOpen, CanOpenOver, IsPaired};
 ghost use Rattle.daq_engine.specs.Openings.{fit_caps, fit_caps_of, is_byte_cap, refusal_of};
 ghost use Rattle.daq_engine.specs.Openings.{some_list_runs};
@@ -44,6 +44,7 @@ pub fn open<O: Out>(
         engine.0.items (state_of O.Out writer)
         (transmission O.Out ⟦<TakeHalf as TakeEnd>⟧ engine.1)) }
     ensures writer { IfOk result (λ engine. writer_of engine.1 ≡ writer) }
+    ensures next { IfOk result (λ engine. next_of engine.1 ≡ 0) }
 
     // the checks, in their order
     ensures bad_caps { (refusal_of result ≡ Some OpenFault.BadCaps)
@@ -75,6 +76,7 @@ pub fn open_bytes<O: Out>(
         engine.0.items (state_of O.Out writer)
         (transmission O.Out ⟦<ByteTake as TakeEnd>⟧ engine.1)) }
     ensures writer { IfOk result (λ engine. writer_of engine.1 ≡ writer) }
+    ensures next { IfOk result (λ engine. next_of engine.1 ≡ 0) }
 
     // the checks, in their order
     ensures bad_caps { (refusal_of result ≡ Some OpenFault.BadCaps)
@@ -107,6 +109,7 @@ pub fn open_over<R: Ring, O: Out>(
         engine.0.items (state_of O.Out writer)
         (transmission O.Out R.Take.TakeEnd engine.1)) }
     ensures writer { IfOk result (λ engine. writer_of engine.1 ≡ writer) }
+    ensures next { IfOk result (λ engine. next_of engine.1 ≡ 0) }
 
     // the checks, in their order
     ensures bad_caps { (refusal_of result ≡ Some OpenFault.BadCaps)

@@ -13,7 +13,7 @@ use Rattle.sampler.specs.State.{SamplerState}
 use Rattle.transmitter.specs.declared.faults.PumpFault.TheVariants as fault
 use Rattle.transmitter.specs.declared.pumped.Pumped.{Pumped}
 use Rattle.transmitter.specs.Pumps.{IsPump}
-use Rattle.transmitter.specs.Written.{TransmitterState, transmission}
+use Rattle.transmitter.specs.Written.{TransmitterState, next_of, transmission}
 use Rattle.daq_engine.specs.Openings.{AreOpened, CanOpenOver, IsPaired, fit_caps_of}
 use Rattle.daq_engine.specs.Openings.{some_list_runs}
 use Rattle.handle_calls.specs.declared.content.Content.{Content}
@@ -98,6 +98,8 @@ module _ {S T E : Type 0} (out : OutGhosts SinkOut) (give : TakeGhosts T E) wher
         GivesFrames (transmission out give s.transmitter) (transmission out give t.transmitter)
         before after
     pub told : after.pumped ≡ pumped_out pumped
+    -- each ring had its turn
+    pub next : next_of t.transmitter ≡ 0
     pub lending : t.lending ≡ s.lending
 
   -- an engine took so many items that it takes no more
@@ -138,6 +140,7 @@ module _ {S T E : Type 0} (out : OutGhosts SinkOut) (give : TakeGhosts T E)
     pub fresh : start ≡ fresh_writer (record { contents = []; failures = 0; stalls = 0 })
     pub paired :
         IsPaired send (samplers_in e) start (transmission out give e.transmitter)
+    pub next : next_of e.transmitter ≡ 0
 
   -- what an engine is opened to, which a handle holds so, or why not
   abbrev pub OpensOver
