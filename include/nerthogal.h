@@ -363,10 +363,10 @@ ng_status ng_pump(ng_engine *engine, uint8_t *buffer, size_t buffer_cap, size_t 
  *
  * They are checked in this order. Except on NG_OK, nothing changes. On NG_OK, the first *len bytes
  * of the buffer are whole frames of whole samples, and the bytes after them are unchanged. While
- * samplers go on in other threads, it goes on with what they send: a buffer that is as long as what
- * you send at once ends it. Stops take no bytes. Proved: all of this, and what was taken and
- * written: the items that such pumps take, in their order. The tests show that it calls neither
- * malloc nor realloc. */
+ * samplers go on in other threads, a call goes on with what they send until the buffer is full; a
+ * stop takes no bytes of it. Proved: all of this, and what was taken and written: the items that
+ * such pumps take, in their order. The tests show that it calls neither malloc nor realloc, and
+ * that its bytes are those of ng_pump. */
 ng_status ng_pump_all(ng_engine *engine, uint8_t *buffer, size_t buffer_cap, size_t *len,
                       ng_pumped_all *pumped);
 

@@ -187,11 +187,13 @@ static void empty_handles(void) {
     ng_taken taken = {1, 2, 3};
     ng_counts told = {1, 2, 3};
     ng_pumped pumped = {1, 2, 3};
+    ng_pumped_all all = {1, 2, 3};
     begin("empty handles");
     want(ng_trigger(&sampler, image, 2, 0, &taken) == NG_EMPTY, "trigger");
     want(ng_start(&sampler, 0) == NG_EMPTY && ng_stop(&sampler, 0) == NG_EMPTY, "start, stop");
     want(ng_counts_of(&sampler, 0, &told) == NG_EMPTY, "counts");
     want(ng_pump(&engine, frames, 0, &len, &pumped) == NG_EMPTY, "pump");
+    want(ng_pump_all(&engine, frames, 0, &len, &all) == NG_EMPTY && all.taken == 1, "pump all");
     want(ng_sampler_free(&sampler) == NG_EMPTY && ng_engine_free(&engine) == NG_EMPTY, "free");
     want(len == 77 && taken.due == 1 && told.due == 1 && pumped.stopped == 1, "nothing is written");
     end();
@@ -253,6 +255,7 @@ static void small_buffers(void) {
     ng_sampler sampler = NG_SAMPLER_INIT;
     size_t cap = 1, len = 77;
     ng_pumped pumped = {7, 7, 7};
+    ng_pumped_all all = {7, 7, 7};
     begin("a buffer that is too short: nothing is taken, nothing lost");
     want(open_with(&store, &cap, 1, &engine) == NG_OK, "open");
     want(ng_next_sampler(&engine, &sampler) == NG_OK, "sampler");
@@ -260,7 +263,11 @@ static void small_buffers(void) {
     memset(frames, UNWRITTEN, sizeof frames);
     want(ng_pump(&engine, frames, 0, &len, &pumped) == NG_SMALL_BUFFER, "no byte");
     want(ng_pump(&engine, frames, NG_PUMP_BYTES - 1, &len, &pumped) == NG_SMALL_BUFFER, "one less");
-    want(len == 77 && pumped.taken == 7 && frames[0] == UNWRITTEN, "nothing is written");
+    want(ng_pump_all(&engine, frames, 0, &len, &all) == NG_SMALL_BUFFER, "no byte for all");
+    want(ng_pump_all(&engine, frames, NG_PUMP_ALL_BYTES - 1, &len, &all) == NG_SMALL_BUFFER,
+         "one less for all");
+    want(len == 77 && pumped.taken == 7 && all.taken == 7 && frames[0] == UNWRITTEN,
+         "nothing is written");
     pump(&engine, "0300000000aabb", 1, 0);
     free_all(&store, &engine, &sampler);
     end();
@@ -286,6 +293,96 @@ static void two_channels(void) {
     trigger(&first, "a3", 1, 1);
     counts(&first, 0, 3, 0);
     want(ng_sampler_free(&first) == NG_OK && ng_sampler_free(&second) == NG_OK, "free");
+    end();
+}
+
+#define MANY 120u
+
+/* Triggers two engines alike: 120 samples of one and 70 of the other event channel, with a stop and
+ * a start among them. */
+static void trigger_alike(ng_sampler *first, ng_sampler *second) {
+    ng_taken taken;
+    for (size_t k = 0; k < MANY; k++) {
+        const uint8_t image[1] = {(uint8_t)k};
+        want(ng_trigger(first, image, 1, 0, &taken) == NG_OK, "trigger");
+        if (k < 70) want(ng_trigger(second, image, 1, 0, &taken) == NG_OK, "trigger");
+        if (k == 99) want(ng_stop(first, 0) == NG_OK && ng_start(first, 0) == NG_OK, "stop, start");
+    }
+}
+
+/* An engine over two channels that was triggered so. */
+static void open_alike(ng_store *store, ng_engine *engine, ng_sampler samplers[2]) {
+    size_t caps[2] = {MANY + 1, MANY + 1};
+    want(open_with(store, caps, 2, engine) == NG_OK, "open");
+    for (size_t c = 0; c < 2; c++)
+        want(ng_next_sampler(engine, &samplers[c]) == NG_OK, "sampler");
+    trigger_alike(&samplers[0], &samplers[1]);
+}
+
+static void free_alike(ng_engine *engine, ng_sampler samplers[2]) {
+    for (size_t c = 0; c < 2; c++) want(ng_sampler_free(&samplers[c]) == NG_OK, "free");
+    want(ng_engine_free(engine) == NG_OK, "free");
+}
+
+/* All bytes that pumps give, one at a time. */
+static size_t pump_singly(ng_engine *engine, uint8_t *bytes, ng_pumped_all *all) {
+    size_t len = 0, more = 0;
+    ng_pumped pumped = {0, 1, 0};
+    while (pumped.taken > 0) {
+        want(ng_pump(engine, frames, sizeof frames, &more, &pumped) == NG_OK, "pump");
+        memcpy(bytes + len, frames, more);
+        len += more;
+        all->taken += pumped.taken;
+        all->frames += pumped.frames;
+        all->stopped |= pumped.stopped;
+    }
+    return len;
+}
+
+/* And all that pumps give that fill a buffer of so many bytes. A sample has 6 bytes. */
+static size_t pump_together(ng_engine *engine, size_t cap, uint8_t *bytes, ng_pumped_all *all) {
+    size_t len = 0, more = 1;
+    ng_pumped_all pumped = {0, 0, 0};
+    for (bool full = true; more > 0; len += more) {
+        memset(frames, UNWRITTEN, sizeof frames);
+        want(ng_pump_all(engine, frames, cap, &more, &pumped) == NG_OK, "pump all");
+        want(more <= cap && more == 6 * pumped.frames, "whole samples");
+        want(full || more == 0, "nothing is left behind a buffer that isn't full");
+        full = cap - more < 6;
+        for (size_t k = more; k < sizeof frames; k++) want(frames[k] == UNWRITTEN, "behind them");
+        memcpy(bytes + len, frames, more);
+        all->taken += pumped.taken;
+        all->frames += pumped.frames;
+        all->stopped |= pumped.stopped;
+    }
+    return len;
+}
+
+/* Buffers are filled, also such that end at one and at the other event channel. */
+static void filled_buffers(void) {
+    static const size_t caps[] = {NG_PUMP_ALL_BYTES, 546, 547, 1140, 1146, NG_PUMP_BYTES};
+    static uint8_t wanted[6 * 2 * MANY], given[6 * 2 * MANY];
+    ng_store store = two_lists();
+    begin("filled buffers have what pumps give, in their order");
+    for (size_t k = 0; k < sizeof caps / sizeof caps[0]; k++) {
+        ng_engine one = NG_ENGINE_INIT, other = NG_ENGINE_INIT;
+        ng_sampler of_one[2] = {NG_SAMPLER_INIT, NG_SAMPLER_INIT};
+        ng_sampler of_other[2] = {NG_SAMPLER_INIT, NG_SAMPLER_INIT};
+        ng_pumped_all singly = {0, 0, 0}, together = {0, 0, 0};
+        open_alike(&store, &one, of_one);
+        open_alike(&store, &other, of_other);
+        unsigned long asked = memory_asked, held = memory_held;
+        size_t len = pump_singly(&one, wanted, &singly);
+        want(pump_together(&other, caps[k], given, &together) == len, "as many bytes");
+        want(asked == memory_asked && held == memory_held, "none was asked for, none given back");
+        want(memcmp(wanted, given, len) == 0, "the same bytes");
+        want(singly.frames == together.frames && together.frames == len / 6, "the same frames");
+        want(singly.taken == together.taken && together.taken == together.frames + 1, "one stop");
+        want(singly.stopped == 1 && together.stopped == 1, "of list 0");
+        free_alike(&one, of_one);
+        free_alike(&other, of_other);
+    }
+    want(ng_store_free(&store) == NG_OK, "free");
     end();
 }
 
@@ -795,6 +892,7 @@ int main(void) {
     wrong_images();
     small_buffers();
     two_channels();
+    filled_buffers();
     forms();
     finishing();
     unfinished();
@@ -807,6 +905,7 @@ int main(void) {
     wrong_images();
     small_buffers();
     two_channels();
+    filled_buffers();
     finishing();
     unfinished();
     full_rings();

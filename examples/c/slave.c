@@ -102,8 +102,10 @@ static FILE *file;              /* where the frames go, or NULL */
 static unsigned long handed_on; /* frames */
 static uint8_t frames[NG_PUMP_BYTES];
 
-static bool hand_on(size_t len, const ng_pumped *pumped) {
-    handed_on += pumped->frames;
+#define DATAGRAM_BYTES 1400u /* what goes to a network in one piece */
+
+static bool hand_on(size_t len, uint64_t count) {
+    handed_on += count;
     return file == NULL || fwrite(frames, 1, len, file) == len;
 }
 
@@ -114,13 +116,14 @@ static bool tasks_run(void) {
     return some;
 }
 
-/* Pumps while the tasks run. A round takes one sample of each of them, if there is one. */
+/* Pumps while the tasks run: each call takes as many samples as a datagram has room for, in turn
+ * from the one and the other task. */
 static bool transmit(ng_engine *engine) {
     size_t len;
-    ng_pumped pumped;
+    ng_pumped_all pumped;
     while (tasks_run()) {
-        if (ng_pump(engine, frames, sizeof frames, &len, &pumped) != NG_OK) return false;
-        if (!hand_on(len, &pumped)) return false;
+        if (ng_pump_all(engine, frames, DATAGRAM_BYTES, &len, &pumped) != NG_OK) return false;
+        if (!hand_on(len, pumped.frames)) return false;
         if (pumped.taken == 0) wait_for(1);
     }
     return true;
@@ -132,7 +135,7 @@ static bool drain(ng_engine *engine) {
     ng_pumped pumped;
     for (bool left = true; left;) {
         if (ng_drain(engine, frames, sizeof frames, &len, &pumped, &left) != NG_OK) return false;
-        if (!hand_on(len, &pumped)) return false;
+        if (!hand_on(len, pumped.frames)) return false;
     }
     return true;
 }
