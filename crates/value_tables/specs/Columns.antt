@@ -1,7 +1,8 @@
 -- Which measurements of a description are shown.
-use Rattle.std.specs.Prelude.{◌≡◌, ℕ, Bool, true, List, slice_get, Option, None, Some, option_map}
-use Rattle.std.specs.Prelude.{Contains, codes, is_some, string_bytes}
-use Rattle.std.specs.List.{list_any}
+use Rattle.std.specs.Prelude.{◌≡◌, ◌≢◌, ◌&&◌, ◌==◌, ℕ, Bool, true, not, List, [], slice_get, filter}
+use Rattle.std.specs.Prelude.{Option, None, Some, option_map, bytes_eq, codes, is_some}
+use Rattle.std.specs.Prelude.{string_bytes}
+use Rattle.std.specs.List.{AllZip, find, list_any, slice_split}
 use Rattle.std.specs.Option.{option_copied}
 use Rattle.a2l.specs.Described.{description_seen}
 use Rattle.a2l.specs.Resolved.{described_measurement}
@@ -55,8 +56,38 @@ has_bytes m plan = is_some (source_of plan m.address (size_of m.encoding.data_ty
 abbrev pub is_recorded : List ListPlan → Measurement → Bool
 is_recorded plans m = list_any (has_bytes m) plans
 
--- a column is that of a measurement of the description whose bytes some list has
-abbrev pub IsShown : Description → List ListPlan → Column → Type 0
-IsShown d plans column =
-    (m : Measurement) × Contains d.measurements.items m × (is_recorded plans m ≡ true)
-    × IsColumnOf d m column
+-- the names of a text that has commas, 44, between them
+abbrev pub names_in : List ℕ → List (List ℕ)
+names_in text = slice_split (λ b. b == 44) text
+
+-- whether a name is chosen: it is one of those with commas between them; without any, each is
+abbrev pub is_chosen : Option (List ℕ) → List ℕ → Bool
+is_chosen None name = true
+is_chosen (Some text) name = list_any (λ word. bytes_eq word name) (names_in text)
+
+-- whether a measurement is shown: it is chosen, and some list has its bytes
+abbrev pub is_shown : Option (List ℕ) → List ListPlan → Measurement → Bool
+is_shown only plans m = is_chosen only (string_bytes m.name) && is_recorded plans m
+
+-- the measurements that are shown, in the order of the description
+abbrev pub shown_of : Description → List ListPlan → Option (List ℕ) → List Measurement
+shown_of d plans only = filter (is_shown only plans) d.measurements.items
+
+-- the columns are those of the measurements that are shown, one for each
+abbrev pub AreColumns : Description → List ListPlan → Option (List ℕ) → List Column → Type 0
+AreColumns d plans only columns = AllZip (IsColumnOf d) (shown_of d plans only) columns
+
+-- whether a measurement of this name has its bytes in some list
+abbrev pub is_known : Description → List ListPlan → List ℕ → Bool
+is_known d plans name =
+    list_any (λ (m : Measurement). bytes_eq (string_bytes m.name) name && is_recorded plans m)
+    d.measurements.items
+
+-- the first of the names with commas between them that isn't known
+abbrev pub unknown_in : Description → List ListPlan → Option (List ℕ) → Option (List ℕ)
+unknown_in d plans None = None
+unknown_in d plans (Some text) = find (λ name. not (is_known d plans name)) (names_in text)
+
+-- each name is known, and some measurement is shown
+abbrev pub HasChosen : Description → List ListPlan → Option (List ℕ) → Type 0
+HasChosen d plans only = (unknown_in d plans only ≡ None) × (shown_of d plans only ≢ [])

@@ -1,9 +1,9 @@
 //! Which measurements of a description are shown.
-ghost use Rattle.std.specs.Prelude.{◌≡◌, All, IfOk, None, filter, option_map, true};
-ghost use Rattle.std.specs.List.{AllZip};
+ghost use Rattle.std.specs.Prelude.{◌≡◌, ◌&&◌, IfOk, bytes_eq, string_bytes};
 ghost use Rattle.std.specs.Option.{option_copied};
-ghost use Rattle.value_tables.specs.Columns.{IsColumnOf, IsShown, conversion_in, has_bytes};
-ghost use Rattle.value_tables.specs.Columns.{is_recorded, method_at, unit_shown};
+ghost use Rattle.value_tables.specs.Columns.{AreColumns, IsColumnOf, conversion_in, has_bytes};
+ghost use Rattle.value_tables.specs.Columns.{is_chosen, is_known, is_recorded, is_shown, method_at};
+ghost use Rattle.value_tables.specs.Columns.{unit_shown, unknown_in};
 
 use crate::column::Column;
 use crate::source::source_of;
@@ -21,10 +21,8 @@ pub fn columns_of<'a>(
     shapes: &[ListShape],
     only: Option<&str>,
 ) -> Result<Vec<Column<'a>>, AllocError>
-    ensures all { only.entry ≡ None → IfOk result (λ columns. AllZip (IsColumnOf description.now)
-        (filter (is_recorded shapes.now) description.now.measurements.items) columns.items) }
-    ensures each { IfOk result (λ columns.
-        All (IsShown description.now shapes.now) columns.items) }
+    ensures all { IfOk result (λ columns. AreColumns description.now shapes.now
+        (option_copied only.entry) columns.items) }
 {
     let mut columns = Vec::new(alloc);
     for i in 0..description.measurements.len() {
@@ -34,6 +32,45 @@ pub fn columns_of<'a>(
         }
     }
     Ok(columns)
+}
+
+/// The first of the names with commas between them, if there are any, that no measurement has whose
+/// bytes some list has.
+pub fn unknown_name<'a>(
+    description: &Description,
+    shapes: &[ListShape],
+    only: Option<&'a str>,
+) -> Option<&'a str>
+    ensures { option_copied result
+        ≡ unknown_in description.now shapes.now (option_copied only.entry) }
+{
+    match only {
+        Some(only) => only
+            .split(',')
+            .find(|name| !is_known(description, shapes, name)),
+        None => None,
+    }
+}
+
+/// Whether a measurement of this name has its bytes in some list.
+fn is_known(description: &Description, shapes: &[ListShape], name: &str) -> bool
+    ensures { result ≡ is_known description.now shapes.now name.now }
+{
+    description
+        .measurements
+        .iter()
+        .any(|measurement| is_known_by(measurement, shapes, name))
+}
+
+/// Whether a measurement has this name, and its bytes in some list.
+fn is_known_by(measurement: &Measurement, shapes: &[ListShape], name: &str) -> bool
+    ensures { result ≡ (bytes_eq (string_bytes measurement.now.name) name.now
+        && is_recorded shapes.now measurement.now) }
+{
+    if measurement.name.as_str() != name {
+        return false;
+    }
+    is_recorded(measurement, shapes)
 }
 
 /// The column of a measurement.
@@ -84,18 +121,17 @@ fn method_at(methods: &[Method], place: Option<usize>) -> Option<&Method>
 
 /// Whether a measurement is shown.
 fn is_shown(measurement: &Measurement, shapes: &[ListShape], only: Option<&str>) -> bool
-    ensures all { only.entry ≡ None → result ≡ is_recorded shapes.now measurement.now }
-    ensures recorded { result ≡ true → is_recorded shapes.now measurement.now ≡ true }
+    ensures { result ≡ is_shown (option_copied only.entry) shapes.now measurement.now }
 {
-    if !is_named(&measurement.name, only) {
+    if !is_chosen(&measurement.name, only) {
         return false;
     }
     is_recorded(measurement, shapes)
 }
 
 /// Whether a name is among those with commas between them, if there are any.
-fn is_named(name: &str, only: Option<&str>) -> bool
-    ensures { only.entry ≡ None → result ≡ true }
+fn is_chosen(name: &str, only: Option<&str>) -> bool
+    ensures { result ≡ is_chosen (option_copied only.entry) name.now }
 {
     match only {
         Some(only) => only.split(',').any(|word| word == name),

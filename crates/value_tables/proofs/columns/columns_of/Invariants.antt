@@ -1,11 +1,13 @@
 -- the columns of the measurements so far
-use Rattle.std.proofs.Common.{◌≡◌, None, take}
-use Rattle.std.specs.Prelude.{All, filter}
+use Rattle.std.proofs.Common.{take}
+use Rattle.std.specs.Prelude.{filter}
 use Rattle.std.specs.List.{AllZip}
-use Rattle.value_tables.specs.Columns.{IsColumnOf, IsShown, is_recorded}
+use Rattle.std.specs.Option.{option_copied}
+use Rattle.value_tables.specs.Columns.{IsColumnOf, is_shown}
 use Rattle.value_tables.proofs.columns.columns_of.Given as goal
 
 abbrev pub invariant-loop-i : goal.invariant-loop-i
 invariant-loop-i l =
-    (l.only ≡ None → AllZip (IsColumnOf l.description) (filter (is_recorded l.shapes) (take l.i l.description.measurements.items)) l.columns.items)
-    × All (IsShown l.description l.shapes) l.columns.items
+    AllZip (IsColumnOf l.description)
+    (filter (is_shown (option_copied l.only) l.shapes) (take l.i l.description.measurements.items))
+    l.columns.items
