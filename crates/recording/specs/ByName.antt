@@ -1,9 +1,8 @@
 -- What is printed by name of a recording that was read to its end.
-use Rattle.std.specs.Prelude.{◌≡◌, ℕ, All, List, filter, Option, None}
-use Rattle.std.specs.List.{AllZip}
+use Rattle.std.specs.Prelude.{ℕ, List, Option}
+use Rattle.std.specs.Option.{option_copied}
 use Rattle.std.specs.Io.KnownBytes.{Appends}
 use Rattle.sample_picture.specs.Shown.{IsClosed}
-use Rattle.a2l.specs.declared.description.Description.{Description}
 use Rattle.copy_plan.specs.Config.{ListPlan}
 use Rattle.daq_reader.specs.Lists.{plans_of}
 use Rattle.daq_reader.specs.Reading.{Reading}
@@ -14,7 +13,7 @@ use Rattle.recording.specs.declared.mode.Mode.{Mode}
 use Rattle.recording.specs.declared.mode.Mode.TheVariants.{Csv, Summary, Svg}
 use Rattle.recording.specs.declared.piece.Piece.{Piece}
 use Rattle.recording.specs.declared.values.Values.{Values}
-use Rattle.value_tables.specs.Columns.{IsColumnOf, IsShown, is_recorded}
+use Rattle.value_tables.specs.Columns.{AreColumns, HasChosen}
 use Rattle.value_tables.specs.TallyText.{IsTable}
 use Rattle.value_tables.specs.ValueRows.{IsCsv}
 use Rattle.value_tables.specs.declared.column.Column.{Column}
@@ -34,18 +33,13 @@ abbrev pub IsByName :
 IsByName mode tick columns before after plans samples =
     (text : List ℕ) × IsTextOf mode tick columns plans samples text × Appends before after text
 
--- the columns are those of measurements that some list has; of all of them, if none is chosen
-pub record AreColumns (values : Values) (plans : List ListPlan) (columns : List Column) : Type 0 where
-  pub each : All (IsShown values.description.now plans) columns
-  pub all :
-      values.only ≡ None
-      → AllZip (IsColumnOf values.description.now)
-      (filter (is_recorded plans) values.description.now.measurements.items) columns
-
--- a recording was read to its end, and the values of all its samples are shown by name
+-- a recording was read to its end, and the values of all its samples are shown by name: of the
+-- measurements that are chosen, and that some list has
 pub record ShowsByName (values : Values) (lists : List Reading) (input rest : Option (List ℕ))
     (first last : Piece) (before after : Option (List ℕ))
     : Type 0 where
   pub columns : List Column
-  pub are : AreColumns values (plans_of lists) columns
-  pub shows : ShowsBy (IsByName values.mode values.tick columns before after) lists input rest first last
+  pub are : AreColumns values.description.now (plans_of lists) (option_copied values.only) columns
+  pub chosen : HasChosen values.description.now (plans_of lists) (option_copied values.only)
+  pub shows :
+      ShowsBy (IsByName values.mode values.tick columns before after) lists input rest first last

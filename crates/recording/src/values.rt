@@ -1,9 +1,14 @@
 //! Reads the samples of a recording, and prints the values of what an A2L file describes.
-ghost use Rattle.std.specs.Prelude.{IfOk, IfSome};
+ghost use Rattle.std.specs.Prelude.{◌≡◌, ◌⊎◌, Err, IfErr, IfOk, IfSome, IsErrOf};
+ghost use Rattle.std.specs.Option.{option_copied};
+ghost use Rattle.daq_reader.specs.Lists.{plans_of};
 ghost use Rattle.daq_reader.specs.Ready.{ready_lists};
 ghost use Rattle.recording.specs.ByName.{IsByName, ShowsByName};
+ghost use Rattle.recording.specs.Faults.{want_of_memory};
 ghost use Rattle.recording.specs.Shown.{ShowsBy};
 ghost use Rattle.recording.specs.declared.mode.Mode.TheVariants as mode;
+ghost use Rattle.recording.specs.declared.program_fault.ProgramFault.TheVariants.{NoValue};
+ghost use Rattle.value_tables.specs.Columns.{AreColumns, HasChosen};
 
 use crate::messages::Messages;
 use crate::mode::Mode;
@@ -20,7 +25,9 @@ use sample_picture::Axis;
 use sample_tables::Places;
 use std::alloc::{AllocError, Global};
 use std::io::{ErrorKind, Read, Write};
-use value_tables::{Column, ValueCurves, ValueRows, ValueTallies, columns_of, print_tallies};
+use value_tables::{
+    Column, ValueCurves, ValueRows, ValueTallies, columns_of, print_tallies, unknown_name,
+};
 use xcp_base::StampSize;
 
 /// Which values of a recording are shown, and how.
@@ -53,19 +60,15 @@ pub fn show_values<I: Read, W: Write + Drop, E: Write + Drop>(
     out: W,
     messages: &mut Messages<E>,
 ) -> Result<Option<W>, ProgramFault>
-    ensures { IfOk result (λ shown. IfSome shown (λ after. ShowsByName values.entry
+    ensures shown { IfOk result (λ shown. IfSome shown (λ after. ShowsByName values.entry
         (ready_lists store.now) (I.remaining input.old) (I.remaining input.new) piece.old piece.new
         (W.contents out) (W.contents after))) }
+    ensures no_value { ¬ HasChosen values.entry.description.now (plans_of (ready_lists store.now))
+        (option_copied values.entry.only)
+        → (result ≡ Err NoValue) ⊎ (result ≡ Err want_of_memory) }
 {
     let shapes = shapes_of(alloc, store)?;
-    let columns = columns_of(alloc, values.description, &shapes, values.only)?;
-    if let Some(name) = missing_name(&columns, values.only) {
-        messages.detail(name);
-        return Err(ProgramFault::NoValue);
-    }
-    if columns.is_empty() {
-        return Err(ProgramFault::NoValue);
-    }
+    let columns = chosen_columns(alloc, values, &shapes, messages)?;
     let shown = Shown {
         columns,
         tick: values.tick,
@@ -77,11 +80,31 @@ pub fn show_values<I: Read, W: Write + Drop, E: Write + Drop>(
     }
 }
 
-/// The first of the names with commas between them that no column has.
-fn missing_name<'a>(columns: &[Column<'_>], only: Option<&'a str>) -> Option<&'a str> {
-    only?
-        .split(',')
-        .find(|name| !columns.iter().any(|column| column.name == *name))
+/// The columns of the values that are chosen. A name that no measurement in these lists has is a
+/// fault, whose line goes on with the name; and so is it if there is no column.
+fn chosen_columns<'a, E: Write + Drop>(
+    alloc: Global,
+    values: Values<'a>,
+    shapes: &[ListShape],
+    messages: &mut Messages<E>,
+) -> Result<Vec<Column<'a>>, ProgramFault>
+    ensures are { IfOk result (λ columns. AreColumns values.entry.description.now shapes.now
+        (option_copied values.entry.only) columns.items) }
+    ensures chosen { IfOk result (λ _. HasChosen values.entry.description.now shapes.now
+        (option_copied values.entry.only)) }
+    ensures err { IfErr result (λ fault. (fault ≡ NoValue) ⊎ (fault ≡ want_of_memory)) }
+    ensures no_value { IsErrOf result NoValue → ¬ HasChosen values.entry.description.now shapes.now
+        (option_copied values.entry.only) }
+{
+    if let Some(name) = unknown_name(values.description, shapes, values.only) {
+        messages.detail(name);
+        return Err(ProgramFault::NoValue);
+    }
+    let columns = columns_of(alloc, values.description, shapes, values.only)?;
+    if columns.is_empty() {
+        return Err(ProgramFault::NoValue);
+    }
+    Ok(columns)
 }
 
 /// The same, as a table.

@@ -130,7 +130,7 @@ fn with_values<'a>(alloc: Global, command: Command<'a>) -> Result<Command<'a>, A
     let long = Arg::new(alloc, "long")
         .long("long")
         .action(ArgAction::SetTrue)
-        .help("With --csv: print a row for each element, in spite of --a2l");
+        .help("Only with --csv: print a row for each element, in spite of --a2l");
     let progress = Arg::new(alloc, "progress")
         .long("progress")
         .action(ArgAction::SetTrue)
@@ -174,10 +174,14 @@ fn a2l_of<'a>(matches: &ArgMatches<'a>, why: &mut Why) -> Result<Option<&'a str>
         why.tell("--only and --tick want --a2l\n");
         return Err(ProgramFault::CommandLine);
     }
-    if matches.get_flag("long") {
-        return Ok(None);
+    if !matches.get_flag("long") {
+        return Ok(a2l);
     }
-    Ok(a2l)
+    if !matches.get_flag("csv") {
+        why.tell("--long wants --csv\n");
+        return Err(ProgramFault::CommandLine);
+    }
+    Ok(None)
 }
 
 /// Whether an option stands there that speaks of values.

@@ -1,10 +1,7 @@
-use Rattle.std.proofs.Common.{◌≡◌, ◌∙◌, ℕ, List, ap, subst, sym}
-use Rattle.std.specs.Io.KnownBytes.{Appends}
-use Rattle.copy_plan.specs.Config.{ListPlan}
+use Rattle.std.proofs.Common.{subst, sym}
 use Rattle.daq_reader.specs.Lists.{plans_of}
 use Rattle.daq_reader.specs.Ready.{ready_lists}
-use Rattle.value_tables.specs.declared.column.Column.{Column}
-use Rattle.recording.specs.ByName.{IsByName, IsTextOf}
+use Rattle.recording.specs.ByName.{IsByName}
 use Rattle.recording.specs.declared.mode.Mode.TheVariants as mode
 use Rattle.recording.proofs.ShownLemmas.{all_by, of_ok, of_writer}
 use Rattle.recording.proofs.values.show_curves.Goals as goal

@@ -1,4 +1,4 @@
-use Rattle.std.proofs.Common.{◌≡◌, ◌∙◌, ℕ, List, ap, subst, sym}
+use Rattle.std.proofs.Common.{◌≡◌, ◌∙◌, List, ap, subst, sym}
 use Rattle.std.specs.Io.KnownBytes.{Appends}
 use Rattle.copy_plan.specs.Config.{ListPlan}
 use Rattle.daq_reader.specs.Lists.{plans_of}
@@ -8,7 +8,6 @@ use Rattle.recording.specs.ByName.{IsByName, IsTextOf}
 use Rattle.recording.specs.declared.mode.Mode.TheVariants as mode
 use Rattle.recording.proofs.ShownLemmas.{all_by, of_ok, of_writer}
 use Rattle.std.proofs.KnownBytes.{Appends-kept}
-use Rattle.std.specs.Prelude.{Option}
 use Rattle.recording.proofs.values.show_rows.Goals as goal
 
 -- if both succeed, the CSV is that of the samples that were read
