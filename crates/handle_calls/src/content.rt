@@ -1,8 +1,12 @@
+ghost use Rattle.std.specs.Prelude.{◌≡◌, IfErr, IfOk};
+
 use crate::engine::Engine;
 use crate::lent::Lent;
+use crate::status::Status;
 use byte_ring::{ByteRing, ByteSend};
 use channel_ring::{SampleRing, SendHalf};
 use daq_store::Store;
+use std::alloc::Global;
 use task_lending::{LendingSlave, LentTask};
 
 /// What a handle may hold.
@@ -26,4 +30,21 @@ pub enum Content {
     ByteSlave(LendingSlave<ByteRing>),
     /// The task of an event channel, over a ring of bytes.
     ByteTask(LentTask<ByteSend>),
+}
+
+impl Content {
+    /// The same on the heap.
+    pub fn boxed(self, alloc: Global) -> Result<Box<Content>, Status>
+        ensures ok { IfOk result (λ it. it.value ≡ self) }
+        ensures err { IfErr result (λ status. status ≡ Status.Memory) }
+    {
+        match Box::new(alloc, self) {
+            Ok(boxed) => Ok(boxed),
+            Err(failed) => {
+                // for the proof: what is lost is dropped as a content, whose drop is proved once
+                let _lost = failed.value;
+                Err(Status::Memory)
+            }
+        }
+    }
 }

@@ -115,10 +115,7 @@ fn opened_on_heap(
         return Err(Status::BadLimits);
     };
     match opened_as(alloc, store, kind, caps) {
-        Ok(content) => match Box::new(alloc, content) {
-            Ok(boxed) => Ok(boxed),
-            Err(_) => Err(Status::Memory),
-        },
+        Ok(content) => content.boxed(alloc),
         Err(status) => Err(status),
     }
 }

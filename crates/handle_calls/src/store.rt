@@ -20,7 +20,7 @@ pub fn make(alloc: Global, asked: Asked, handle: &mut Handle) -> Status
     let Some(store) = asked.store(alloc) else {
         return Status::BadLimits;
     };
-    let Ok(made) = Box::new(alloc, Content::Store(store)) else {
+    let Ok(made) = Content::Store(store).boxed(alloc) else {
         return Status::Memory;
     };
     handle.put(alloc, made);

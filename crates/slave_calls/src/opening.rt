@@ -46,13 +46,9 @@ fn opened_on_heap(
         Ok(profile) => profile,
         Err(status) => return Err(status),
     };
-    let content = match opened_as(alloc, profile) {
-        Ok(content) => content,
-        Err(_) => return Err(Status::Memory),
-    };
-    match Box::new(alloc, content) {
-        Ok(boxed) => Ok(boxed),
-        Err(_) => Err(Status::Memory),
+    match opened_as(alloc, profile) {
+        Ok(content) => content.boxed(alloc),
+        Err(status) => Err(status),
     }
 }
 
