@@ -9,8 +9,9 @@ ghost use Rattle.handle_calls.specs.declared.status.Status.{Status as StatusOf};
 
 use byte_ring::ByteRing;
 use channel_ring::SampleRing;
-use handle_calls::{Handle, HeldRing, PumpedAllOut, PumpedOut};
-use handle_calls::{give_sampler, open_into, pump_all_by, pump_by};
+use handle_calls::{
+    Handle, HeldRing, PumpedAllOut, PumpedOut, give_sampler, open_into, pump_all_by, pump_by,
+};
 use std::alloc::Global;
 
 /// Opens an engine over a store, which stays as it is, with rings of the kind that has this number

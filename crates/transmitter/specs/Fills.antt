@@ -1,4 +1,4 @@
--- Pumps, one after another, that write into one buffer as far as it has room (own).
+-- Pumps, one after another, that write into one buffer as far as it has room.
 use Rattle.std.specs.Prelude.{ℕ, ◌+◌, ◌<◌, ◌≤◌, ◌≡◌, ◌⊎◌, List, [], ◌∷◌, ◌++◌, length, None}
 use Rattle.std.specs.List.{AllByRecursion}
 use mathlib.Core.List.{IsPrefix}

@@ -1,4 +1,4 @@
--- Runs of an image, and what they copy (own).
+-- Runs of an image, and what they copy.
 use Rattle.std.specs.Prelude.{◌≡◌, ℕ, ◌-◌, ◌≤◌, List, map, replicate, slice_range, flat_map}
 use Rattle.xcp_base.specs.declared.run.Run.{Run}
 use Rattle.xcp_base.specs.declared.stretch.Stretch.{Stretch}
