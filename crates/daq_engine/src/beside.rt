@@ -2,7 +2,7 @@
 ghost use Rattle.std.specs.Prelude.{◌≡◌, ◌≢◌, ℕ, ◌<◌, ◌++◌, length, slice_get};
 ghost use Rattle.transmitter.specs.Looks.{KnowsAll, Looked, LookedAt};
 ghost use Rattle.transmitter.specs.Merge.{of_ring};
-ghost use Rattle.transmitter.specs.Written.{transmission};
+ghost use Rattle.transmitter.specs.Written.{next_of, transmission};
 ghost use Rattle.daq_engine.specs.PumpSteps.{IsPumpStep};
 ghost use Rattle.daq_engine.specs.Samplers.{AllOnlyLooked, AreBeside, AreRoomy, IsRoomyAt};
 ghost use Rattle.daq_engine.specs.Samplers.{sent_of_each};
@@ -34,6 +34,7 @@ pub(crate) fn look_at<O: Out, T: Beside>(
         ≡ of_ring (sent_of_each T.Send.SendEnd samplers.old.items) c }
     ensures roomy { IsRoomyAt T.Send.SendEnd T.Send.End.RingEnd samplers.new.items
         (transmission O.Out T.TakeEnd transmitter.new) c }
+    ensures next_stays { next_of transmitter.new ≡ next_of transmitter.old }
 {
     let sampler = &mut samplers[c];
     transmitter.beside(sampler);
@@ -58,6 +59,7 @@ pub(crate) fn look<O: Out, T: Beside>(
         ≡ length samplers.old.items }
     ensures roomy { AreRoomy T.Send.SendEnd T.Send.End.RingEnd samplers.new.items
         (transmission O.Out T.TakeEnd transmitter.new) }
+    ensures next_stays { next_of transmitter.new ≡ next_of transmitter.old }
 {
     for c in 0..samplers.len() {
         look_at(samplers, transmitter, c);

@@ -21,8 +21,8 @@ use xcp_base::limits::MAX_LISTS;
 /// event channel, and the items that it took from the rings.
 #[derive(Drop)]
 pub struct Engine<O: Out, T: Beside> {
-    samplers: Vec<Sampler<T::Send>>,
-    transmitter: Transmitter<O, T>,
+    pub(crate) samplers: Vec<Sampler<T::Send>>,
+    pub(crate) transmitter: Transmitter<O, T>,
     ghost beside: { AreBeside T.Send.SendEnd samplers.items
         (transmission O.Out T.TakeEnd transmitter) },
 }

@@ -9,6 +9,7 @@ mod closing;
 mod engine;
 mod engine_opening;
 mod faults;
+mod filling;
 mod finishing;
 pub mod laws;
 mod open_fault;

@@ -22,8 +22,9 @@ impl<T: TakeEnd> Transmitter<SinkOut, T> {
     /// `pump`, and places the frames into the front of a buffer; answers what it did, and how many
     /// bytes these are.
     ///
-    /// Each ring has its turn, so that `pump_all` then begins at ring 0. The writer can't fail, so `Failed` is never the answer. Refused as `pump` is; then nothing
-    /// is taken, and the buffer is as it was.
+    /// Each ring has its turn, so that `pump_all` then begins at ring 0. The writer can't fail, so
+    /// `Failed` is never the answer. Refused as `pump` is; then nothing is taken, and the buffer is
+    /// as it was.
     pub fn pump_into(&mut self, buffer: &mut [u8]) -> Result<(Pumped, usize), PumpFault>
         requires room { MAX_PUMP ≤ length buffer.old }
         ensures ok { IfOk result (λ done. IsPump

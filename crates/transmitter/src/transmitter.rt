@@ -149,7 +149,7 @@ impl<O: Out, T: Beside> Transmitter<O, T> {
     ghost use Rattle.sampler.specs.Stays.{OnlyLooked};
     ghost use Rattle.transmitter.specs.Looks.{LookedAt};
     ghost use Rattle.transmitter.specs.Merge.{of_ring};
-    ghost use Rattle.transmitter.specs.Written.{transmission, writer_of};
+    ghost use Rattle.transmitter.specs.Written.{next_of, transmission, writer_of};
 
     /// Looks at all that a sampler sent, beside it in one thread, and returns how many of its items
     /// are left in the ring.
@@ -172,6 +172,7 @@ impl<O: Out, T: Beside> Transmitter<O, T> {
         ensures looked { LookedAt sampler.old.channel (transmission O.Out T.TakeEnd self.old)
             (transmission O.Out T.TakeEnd self.new) }
         ensures writer_stays { writer_of self.new ≡ writer_of self.old }
+        ensures next_stays { next_of self.new ≡ next_of self.old }
         ensures sampler_looked { OnlyLooked T.Send.SendEnd T.Send.End.RingEnd
             sampler.old sampler.new }
     {
