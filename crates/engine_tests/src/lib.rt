@@ -4,6 +4,8 @@
 #![tactic(auto)]
 
 #[cfg(test)]
+mod filled_buffer;
+#[cfg(test)]
 mod first_path;
 #[cfg(test)]
 mod list_end;
