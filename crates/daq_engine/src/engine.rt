@@ -2,7 +2,6 @@
 ghost use Rattle.transmitter.specs.Written.{transmission};
 ghost use Rattle.daq_engine.specs.Samplers.{AreBeside};
 
-use crate::asking::{start_at, stop_at, trigger_at};
 use crate::beside::pump_step;
 use crate::channel_fault::ChannelFault;
 use crate::finishing::{account_after, finish_all};
@@ -104,7 +103,7 @@ where
         if c >= self.samplers.len() {
             return Err(ChannelFault::NoChannel);
         }
-        match trigger_at(&mut self.samplers, c, image, stamp) {
+        match self.samplers[c].trigger(image, stamp) {
             Ok(taken) => Ok(taken),
             Err(fault) => Err(ChannelFault::Refused(fault)),
         }
@@ -121,7 +120,7 @@ where
         if c >= self.samplers.len() {
             return Err(ChannelFault::NoChannel);
         }
-        match start_at(&mut self.samplers, c, l) {
+        match self.samplers[c].start(l) {
             Ok(()) => Ok(()),
             Err(fault) => Err(ChannelFault::Refused(fault)),
         }
@@ -139,7 +138,7 @@ where
         if c >= self.samplers.len() {
             return Err(ChannelFault::NoChannel);
         }
-        match stop_at(&mut self.samplers, c, l) {
+        match self.samplers[c].stop(l) {
             Ok(()) => Ok(()),
             Err(fault) => Err(ChannelFault::Refused(fault)),
         }
