@@ -80,14 +80,13 @@ fn option_of(
 ) -> Result<MeasurementOptions, Stop>
     ensures { Gives options_seen result (option_said keyword (tokens_of left.entry)) }
 {
-    let none = MeasurementOptions::none();
     match keyword {
         MeasurementKeyword::Order => {
             let (word, _) = left.first(Awaited::ByteOrder)?;
             let order = order_in(word)?;
             Ok(MeasurementOptions {
                 order: Some(order),
-                ..none
+                ..MeasurementOptions::none()
             })
         }
         MeasurementKeyword::Mask => {
@@ -95,7 +94,7 @@ fn option_of(
             let mask = mask_in(word)?;
             Ok(MeasurementOptions {
                 mask: Some(mask),
-                ..none
+                ..MeasurementOptions::none()
             })
         }
         MeasurementKeyword::Address => {
@@ -103,7 +102,7 @@ fn option_of(
             let address = address_in(word)?;
             Ok(MeasurementOptions {
                 address: Some(address),
-                ..none
+                ..MeasurementOptions::none()
             })
         }
         MeasurementKeyword::Unit => {
@@ -111,27 +110,35 @@ fn option_of(
             let unit = text_in(alloc, word)?;
             Ok(MeasurementOptions {
                 unit: Some(unit),
-                ..none
+                ..MeasurementOptions::none()
             })
         }
         MeasurementKeyword::Extension => {
             let (word, _) = left.first(Awaited::Number)?;
             let apart = is_extended(word)?;
-            Ok(MeasurementOptions { apart, ..none })
+            Ok(MeasurementOptions {
+                apart,
+                ..MeasurementOptions::none()
+            })
         }
         MeasurementKeyword::Size => {
             let (word, _) = left.first(Awaited::Integer)?;
             let size = integer_in(word)?;
             Ok(MeasurementOptions {
                 apart: size != 1,
-                ..none
+                ..MeasurementOptions::none()
             })
         }
         MeasurementKeyword::Dimensions => {
             let apart = has_elements(left);
-            Ok(MeasurementOptions { apart, ..none })
+            Ok(MeasurementOptions {
+                apart,
+                ..MeasurementOptions::none()
+            })
         }
-        MeasurementKeyword::One | MeasurementKeyword::Two | MeasurementKeyword::Other => Ok(none),
+        MeasurementKeyword::One | MeasurementKeyword::Two | MeasurementKeyword::Other => {
+            Ok(MeasurementOptions::none())
+        }
     }
 }
 

@@ -90,13 +90,12 @@ fn option_of(
 ) -> Result<MethodOptions, Stop>
     ensures { Gives method_options_seen result (method_option_said keyword (tokens_of left.entry)) }
 {
-    let none = MethodOptions::none();
     match keyword {
         MethodKeyword::Coefficients => {
             let coefficients = coefficients_in(left)?;
             Ok(MethodOptions {
                 coefficients: Some(coefficients),
-                ..none
+                ..MethodOptions::none()
             })
         }
         MethodKeyword::Linear => {
@@ -104,7 +103,7 @@ fn option_of(
             let (offset, _) = left.number()?;
             Ok(MethodOptions {
                 line: Some(Line { factor, offset }),
-                ..none
+                ..MethodOptions::none()
             })
         }
         MethodKeyword::Table => {
@@ -112,10 +111,10 @@ fn option_of(
             let name = name_in(alloc, word)?;
             Ok(MethodOptions {
                 table: Some(Reference { name, at: word.at }),
-                ..none
+                ..MethodOptions::none()
             })
         }
-        MethodKeyword::One | MethodKeyword::Other => Ok(none),
+        MethodKeyword::One | MethodKeyword::Other => Ok(MethodOptions::none()),
     }
 }
 

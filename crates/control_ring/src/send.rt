@@ -58,9 +58,7 @@ impl ControlSend {
         ensures sent { IfSome result (λ end. end.sent ≡ self.sent) }
         ensures ring { IfSome result (λ end. end.ring ≡ self.ring) }
     {
-        match self.producer.finish() {
-            Some(finished) => Some(ControlEnded { finished }),
-            None => None,
-        }
+        let finished = self.producer.finish()?;
+        Some(ControlEnded { finished })
     }
 }

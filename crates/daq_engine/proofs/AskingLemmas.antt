@@ -1,25 +1,21 @@
 -- One of the samplers of an engine was asked for something, or all of them were looked at.
-use Rattle.std.proofs.Common.{ℕ, ◌++◌, List, Bool, length, sym, ap, subst}
-use Rattle.std.specs.Prelude.{Result, Ok, Err, IfErr, IfOk, OnErr, OnOk}
+use Rattle.std.proofs.Common.{ℕ, ◌++◌, List, Bool, length, sym, subst}
+use Rattle.std.specs.Prelude.{Result, Ok, Err, IfOk, OnErr, OnOk}
 use Rattle.channel_ring.specs.declared.ends.SendEnd.{Ghosts as SendGhosts}
 use Rattle.channel_ring.specs.declared.ends.RingEnd.{Ghosts as EndGhosts}
 use Rattle.sampler.specs.History.{Event}
 use Rattle.sampler.specs.State.{SamplerState}
-use Rattle.sampler.specs.declared.faults.StopFault.{StopFault}
-use Rattle.sampler.specs.declared.faults.StopFault.TheVariants.{NoRoom, NotOfChannel, NotRunning}
 use Rattle.sampler.specs.declared.taken.Taken.{Taken}
 use Rattle.xcp_base.specs.declared.item.Item.{Item}
 use Rattle.frame_writer.specs.Writing.{WriterState}
 use Rattle.transmitter.specs.Written.{HasTaken, TransmitterState}
-use Rattle.daq_engine.specs.Inner.Asked.{LeadInOrder, StopLeaves}
-use Rattle.daq_engine.specs.Asking.{StopLeavesEngine}
+use Rattle.daq_engine.proofs.ChangedLemmas.{LeadInOrder}
 use Rattle.sampler.specs.Past.{Past}
 use Rattle.daq_engine.specs.Configuration.{IsConfiguration}
 use Rattle.daq_engine.specs.Engines.{EngineState, LeadsTo, Standing, Stands}
 use Rattle.daq_engine.specs.Events.{Triggers, TriggersAt, past_with, with_event, with_taken}
 use Rattle.daq_engine.specs.Samplers.{StayThose}
 use Rattle.daq_engine.specs.Standings.{StandInOrder}
-use Rattle.daq_engine.specs.declared.channel_fault.ChannelFault.TheVariants.{Refused}
 use Rattle.daq_engine.proofs.BesideLemmas.{as_many_stay}
 
 -- what follows where an answer is `Ok`, and where it is `Err`
@@ -82,10 +78,3 @@ module _ {S E : Type 0} (send : SendGhosts S E) (ring : EndGhosts E) (xs ys : Li
     samplers = leads st.past stands.samplers;
     transmitter = takes st.start st.taken stands.transmitter;
   }
-
--- a refused stop leaves of an engine what it leaves of the samplers
-pub stop_leaves : {S E : Type 0} (send : SendGhosts S E) (c : ℕ) (xs ys : List (SamplerState S)) (t : TransmitterState) (fault : StopFault)
-    → StopLeaves send c xs ys fault → StopLeavesEngine send c (record { samplers = xs; transmitter = t }) (record { samplers = ys; transmitter = t }) (Refused fault)
-stop_leaves send c xs ys t NotOfChannel same = ap (λ (ss : List (SamplerState _)). record { samplers = ss; transmitter = t }) same
-stop_leaves send c xs ys t NotRunning same = ap (λ (ss : List (SamplerState _)). record { samplers = ss; transmitter = t }) same
-stop_leaves send c xs ys t NoRoom frees = frees

@@ -81,6 +81,19 @@ pub record LookedBelow {S E : Type 0} (send : SendGhosts S E) (ring : EndGhosts 
   pub left : (e : ℕ) → e < n → of_ring u.received e ++ of_ring u.known e ≡ of_ring (sent_of_each send xs) e
   pub roomy : (e : ℕ) → e < n → IsRoomyAt send ring ys u e
 
+-- no ring was looked at yet
+pub looked_below-none : {S E : Type 0} (send : SendGhosts S E) (ring : EndGhosts E) (xs : List (SamplerState S)) (t : TransmitterState) → LookedBelow send ring 0 xs xs t t
+looked_below-none send ring xs t = record {
+  samplers = record {
+    those = record { channels = refl; rings = refl; image_lens = refl; capacities = refl };
+    sent = refl;
+    stand = λ past stand. stand;
+  };
+  looked = refl;
+  left = λ e h. absurd (omega (arith, h));
+  roomy = λ e h. absurd (omega (arith, h));
+}
+
 -- one ring more
 pub looked_below-more : {S E : Type 0} (send : SendGhosts S E) (ring : EndGhosts E) (n : ℕ) (xs ys zs : List (SamplerState S)) (t u v : TransmitterState) → LookedBelow send ring n xs ys t u
     → AllOnlyLooked send ring ys zs → ((e : ℕ) → e ≢ n → slice_get zs e ≡ slice_get ys e) → LookedAt n u v

@@ -1,8 +1,9 @@
 -- One of the samplers was changed.
 use Rattle.std.proofs.Common.{◌≡◌, ◌≢◌, ℕ, zero, suc, ◌+◌, ◌<◌, ◌≤◌, inl, inr, List, [], ◌∷◌, length, set, get_or, Bool, Some, refl, sym, ap, subst, ◌∙◌, arith}
-use Rattle.std.specs.Prelude.{Result, Ok, Err, IfErr, IfOk, OnErr, slice_get}
+use Rattle.std.specs.Prelude.{Result, Err, OnErr, slice_get}
 use Rattle.std.proofs.Math.Seq.{map-set_same}
 use Rattle.std.proofs.lemmas.Bool.Decides.{eqb_tells}
+use Rattle.std.proofs.lemmas.List.{get_or-map}
 use Rattle.std.proofs.lemmas.Option.{same_Some, slice_get_read}
 use Rattle.channel_ring.specs.Room.{units}
 use Rattle.channel_ring.specs.declared.ends.SendEnd.{Ghosts as SendGhosts}
@@ -10,18 +11,24 @@ use Rattle.channel_ring.specs.declared.ends.RingEnd.{Ghosts as EndGhosts}
 use Rattle.sampler.specs.History.{Event, Trigger}
 use Rattle.sampler.specs.Standing.{DropsOnlyWhenFull, GoesOn, StandsAfter, TakesTrigger}
 use Rattle.sampler.specs.State.{SamplerState}
-use Rattle.sampler.specs.Stays.{KeepsSetUp, OnlyLooked}
-use Rattle.sampler.specs.declared.faults.TriggerFault.{TriggerFault}
+use Rattle.sampler.specs.Items.{marker_of}
+use Rattle.sampler.specs.Stays.{HasNoRoomFor, KeepsSetUp, OnlyLooked}
 use Rattle.sampler.specs.declared.taken.Taken.{Taken}
 use Rattle.sampler.specs.declared.faults.StopFault.{StopFault}
 use Rattle.sampler.specs.declared.faults.StopFault.TheVariants.{NoRoom, NotOfChannel, NotRunning}
 use Rattle.transmitter.specs.Merge.{of_ring}
 use Rattle.transmitter.specs.Written.{TransmitterState}
-use Rattle.daq_engine.specs.Inner.Asked.{LeadInOrder, StopLeaves}
+use Rattle.daq_engine.specs.Asking.{FindsNoRoom, StopLeavesEngine, image_len_at}
 use Rattle.sampler.specs.Past.{Past, one_more}
 use Rattle.daq_engine.specs.Events.{TriggersAt, decisions_at, past_with}
 use Rattle.daq_engine.specs.Samplers.{FreesAt, IsRoomyAt, OnlyAt, sent_of_each}
 use Rattle.daq_engine.specs.Standings.{StandInOrder}
+use Rattle.daq_engine.specs.declared.channel_fault.ChannelFault.TheVariants.{Refused}
+
+-- whatever the samplers stood after, they stand after what `next` makes of that
+abbrev pub LeadInOrder : {S E : Type 0} → SendGhosts S E → EndGhosts E → List (SamplerState S) → List (SamplerState S) → ((ℕ → Past) → ℕ → Past) → Type 0
+LeadInOrder send ring before after next =
+    (past : ℕ → Past) → StandInOrder send ring before past → StandInOrder send ring after (next past)
 
 module _ {X : Type 0} where
   slice_get-set_same : (xs : List X) (i : ℕ) (w : X) → i < length xs → slice_get (set xs i w) i ≡ Some w
@@ -128,21 +135,31 @@ module _ {S E : Type 0} (send : SendGhosts S E) (xs : List (SamplerState S)) (c 
   kept_at ring keeps past before =
       stand-kept ring past before (keeps (past c) (stood ring past before))
 
-  -- a stop that was refused leaves them all, or, without room, all but what is known to be free to this one
-  pub stop_at_leaves : (ring : EndGhosts E) (r : Result (Unit {0}) StopFault) → (r ≡ Err NotOfChannel → new ≡ old) → (r ≡ Err NotRunning → new ≡ old)
-      → OnErr r (OnlyLooked send ring old new)
-      → IfErr r (StopLeaves send c xs (set xs c new))
-  stop_at_leaves ring (Ok u) of running looked = tt
-  stop_at_leaves ring (Err NotOfChannel) of running looked = ap (set xs c) (of refl) ∙ set_back xs c old is
-  stop_at_leaves ring (Err NotRunning) of running looked = ap (set xs c) (running refl) ∙ set_back xs c old is
-  stop_at_leaves ring (Err NoRoom) of running looked = frees_at looked.rest looked.sent looked.free
+  -- a stop that was refused leaves the engine, or, without room, all but what is known to be free to this one
+  pub stop_leaves : (ring : EndGhosts E) (t : TransmitterState) (r : Result (Unit {0}) StopFault) (fault : StopFault) → r ≡ Err fault
+      → (r ≡ Err NotOfChannel → new ≡ old) → (r ≡ Err NotRunning → new ≡ old) → OnErr r (OnlyLooked send ring old new)
+      → StopLeavesEngine send c (record { samplers = xs; transmitter = t }) (record { samplers = set xs c new; transmitter = t }) (Refused fault)
+  stop_leaves ring t r NotOfChannel is_refused of running looked = ap (λ ss. record { samplers = ss; transmitter = t }) (ap (set xs c) (of is_refused) ∙ set_back xs c old is)
+  stop_leaves ring t r NotRunning is_refused of running looked = ap (λ ss. record { samplers = ss; transmitter = t }) (ap (set xs c) (running is_refused) ∙ set_back xs c old is)
+  stop_leaves ring t r NoRoom is_refused of running looked =
+      let look = subst (λ o. OnErr o (OnlyLooked send ring old new)) is_refused looked in
+      frees_at look.rest look.sent look.free
+
+  -- or for want of room in its ring
+  pub no_room_at : (ring : EndGhosts E) (l : ℕ) → HasNoRoomFor send ring old.end (marker_of old.channel l) → FindsNoRoom send ring xs c l
+  no_room_at ring l none s at =
+      let same : old ≡ s = same_Some old s (sym was ∙ at) in
+      subst (λ z. HasNoRoomFor send ring z.end (marker_of z.channel l)) same none
+
+  -- the images that it takes have the length that those of its channel have
+  pub image_len_is : old.image_len ≡ image_len_at xs c
+  image_len_is = ap (λ (s : SamplerState S). s.image_len) is ∙ sym (get_or-map (λ (s : SamplerState S). s.image_len) xs c old 0 h)
 
   -- a trigger that was taken
-  pub triggers_at : (ring : EndGhosts E) (r : Result Taken TriggerFault) (image : List ℕ) (stamp : ℕ)
-      → IfOk r (λ taken. (p : Past) → StandsAfter send ring old p → TakesTrigger send ring old new taken p image stamp)
-      → IfOk r (λ taken. (past : ℕ → Past) → StandInOrder send ring xs past → TriggersAt send ring xs (set xs c new) c taken past image stamp)
-  triggers_at ring (Err fault) image stamp takes = tt
-  triggers_at ring (Ok taken) image stamp takes = λ past before.
+  pub triggers_at : (ring : EndGhosts E) (taken : Taken) (image : List ℕ) (stamp : ℕ)
+      → ((p : Past) → StandsAfter send ring old p → TakesTrigger send ring old new taken p image stamp)
+      → (past : ℕ → Past) → StandInOrder send ring xs past → TriggersAt send ring xs (set xs c new) c taken past image stamp
+  triggers_at ring taken image stamp takes past before =
       let now = takes (past c) (stood ring past before) in
       record {
         old = old;

@@ -8,6 +8,7 @@ use Rattle.channel_ring.specs.declared.ends.RingEnd.{Ghosts as EndGhosts}
 use Rattle.sampler.specs.State.{JoinedEnd, SamplerEndState, SamplerState, joined}
 use Rattle.sampler.specs.Standing.{EndStandsAfter, StandsAfter}
 use Rattle.sampler.specs.Past.{Past}
+use Rattle.daq_engine.specs.Samplers.{AreFinished}
 use Rattle.daq_engine.specs.Standings.{EndsStandInOrder, StandInOrder}
 
 -- where two lists show the same, they still do after an element more in each that shows the same
@@ -53,6 +54,16 @@ module _ {S E : Type 0} (send : SendGhosts S E) (ring : EndGhosts E) (past : ℕ
             subst (λ k. EndStandsAfter e (past k)) (sym (last.0 ∙ many))
             (subst (λ j. EndStandsAfter j (past (length ys))) last.1 now)
       ]
+
+-- of no samplers nothing is left
+pub none_finished : {S E : Type 0} (send : SendGhosts S E) (ring : EndGhosts E) → AreFinished send ring [] []
+none_finished send ring = record {
+  stand = λ past stand c e at. absurd cc;
+  channels = refl;
+  rings = refl;
+  capacities = refl;
+  sent = refl;
+}
 
 -- a joined end has the capacity of the end
 pub capacities-joined : {E : Type 0} (ring : EndGhosts E) (es : List (SamplerEndState E)) → map (λ (e : JoinedEnd). e.capacity) (map (joined ring) es) ≡ map (λ (e : SamplerEndState E). e.capacity) es

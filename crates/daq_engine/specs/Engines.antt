@@ -4,6 +4,7 @@ use Rattle.xcp_base.specs.declared.item.Item.{Item}
 use Rattle.channel_ring.specs.declared.ends.SendEnd.{Ghosts as SendGhosts}
 use Rattle.channel_ring.specs.declared.ends.RingEnd.{Ghosts as EndGhosts}
 use Rattle.channel_ring.specs.declared.ends.TakeEnd.{Ghosts as TakeGhosts}
+use Rattle.daq_store.specs.Standing.{StoreState}
 use Rattle.frame_writer.specs.Writing.{WriterState}
 use Rattle.frame_writer.specs.declared.out.Out.{Ghosts as OutGhosts}
 use Rattle.sampler.specs.History.{Opening}
@@ -11,6 +12,7 @@ use Rattle.sampler.specs.State.{SamplerState}
 use Rattle.transmitter.specs.Written.{HasTaken, TransmitterState, transmission}
 use Rattle.sampler.specs.Past.{Past, first_past}
 use Rattle.daq_engine.specs.Configuration.{IsConfiguration}
+use Rattle.daq_engine.specs.Openings.{AreOpened}
 use Rattle.daq_engine.specs.Samplers.{OnlyAt}
 use Rattle.daq_engine.specs.Standings.{StandInOrder}
 use Rattle.daq_engine.specs.declared.engine.Engine.{Engine}
@@ -58,6 +60,15 @@ pub record Stands {S E : Type 0} (send : SendGhosts S E) (ring : EndGhosts E) (e
   pub configuration : IsConfiguration (length e.samplers) (λ c. (st.past c).opening)
   pub samplers : StandInOrder send ring e.samplers st.past
   pub transmitter : HasTaken st.start e.transmitter st.taken
+
+-- an engine was opened over a store, with a frame writer that stands so: it has the samplers of the
+-- store's event channels, and stands after nothing
+pub record IsOpenedFrom {S E : Type 0} (send : SendGhosts S E) (ring : EndGhosts E)
+    (s : StoreState) (caps : List ℕ) (start : WriterState) (e : EngineState S)
+    : Type 0 where
+  pub openings : ℕ → Opening
+  pub opened : AreOpened send ring s caps e.samplers openings
+  pub stands : Stands send ring e (first_standing start openings)
 
 -- whatever the engine stood after, it stands after what `next` makes of that
 abbrev pub LeadsTo :

@@ -1,6 +1,7 @@
 -- What an engine that was opened over a store is.
 use Rattle.std.specs.Prelude.{◌≡◌, ℕ, ◌<◌, ◌&&◌, Bool, true, nat_eq, nat_le}
 use Rattle.std.specs.Prelude.{All, List, [], length, map, filter}
+use Rattle.std.specs.Prelude.{◌↔◌, false, IfErr, OnOk}
 use Rattle.std.specs.Prelude.{Option, Some, None, Result, Ok, Err}
 use Rattle.std.specs.List.{list_all, list_any}
 use Rattle.xcp_base.specs.declared.limits.TheConstants.{MAX_BYTE_RING, MAX_SAMPLE_RING}
@@ -19,6 +20,9 @@ use Rattle.transmitter.specs.Written.{HasTaken, TransmitterState}
 use Rattle.daq_engine.specs.Configuration.{IsConfiguration, upto}
 use Rattle.sampler.specs.Past.{first_past}
 use Rattle.daq_engine.specs.Standings.{StandInOrder}
+use Rattle.daq_engine.specs.declared.open_fault.OpenFault.{OpenFault}
+use Rattle.daq_engine.specs.declared.open_fault.OpenFault.TheVariants.{BadCaps, Memory}
+use Rattle.daq_engine.specs.declared.open_fault.OpenFault.TheVariants.{NothingRunning}
 
 -- a ring of items may have this capacity
 abbrev pub is_cap : ℕ → Bool
@@ -32,10 +36,6 @@ is_byte_cap cap = nat_le MIN_BYTE_RING cap && nat_le cap MAX_BYTE_RING
 abbrev pub fit_caps_of : (ℕ → Bool) → StoreState → List ℕ → Bool
 fit_caps_of may_have s caps = nat_eq (length caps) s.profile.channels && list_all may_have caps
 
--- the same of rings of items
-abbrev pub fit_caps : StoreState → List ℕ → Bool
-fit_caps = fit_caps_of is_cap
-
 -- a DAQ list of the store runs
 abbrev pub some_list_runs : StoreState → Bool
 some_list_runs s = list_any (shows_running s) (numbers_below (length s.lists))
@@ -43,10 +43,6 @@ some_list_runs s = list_any (shows_running s) (numbers_below (length s.lists))
 -- an engine may be opened, if there is memory: the capacities fit, and a list runs
 abbrev pub CanOpenOver : (ℕ → Bool) → StoreState → List ℕ → Type 0
 CanOpenOver may_have s caps = (fit_caps_of may_have s caps ≡ true) × (some_list_runs s ≡ true)
-
--- the same over rings of items
-abbrev pub CanOpen : StoreState → List ℕ → Type 0
-CanOpen = CanOpenOver is_cap
 
 -- list l is ready, and its event channel is c
 abbrev pub is_ready_on : StoreState → ℕ → ℕ → Bool
@@ -91,7 +87,31 @@ pub record IsPaired {S E : Type 0} (send : SendGhosts S E) (samplers : List (Sam
   pub rings : t.rings ≡ map (λ (sampler : SamplerState S). send.ring sampler.end) samplers
   pub taken : HasTaken start t []
 
+-- the samplers and the transmitter that an engine is opened with: each sampler stands after nothing,
+-- and nothing was taken from its ring
+pub record IsOpenedOver {S E : Type 0} (send : SendGhosts S E) (ring : EndGhosts E)
+    (s : StoreState) (caps : List ℕ) (start : WriterState) (samplers : List (SamplerState S))
+    (t : TransmitterState)
+    : Type 0 where
+  pub openings : ℕ → Opening
+  pub opened : AreOpened send ring s caps samplers openings
+  pub paired : IsPaired send samplers start t
+
 -- why there is no engine
 abbrev pub refusal_of : {A F W : Type 0} → Result A (F × W) → Option F
 refusal_of (Ok engine) = None
 refusal_of (Err refusal) = Some refusal.0
+
+-- what an opening over a store answers: an engine, and then the capacities fit and a list runs; or
+-- the first of these checks that fails; or that memory ran out, where none does. What is refused
+-- hands the frame writer back as it was
+pub record AnswersOpening {A W : Type 0} (may_have : ℕ → Bool) (s : StoreState) (caps : List ℕ)
+    (writer : W) (result : Result A (OpenFault × W))
+    : Type 0 where
+  pub ok : OnOk result (CanOpenOver may_have s caps)
+  pub bad_caps : (refusal_of result ≡ Some BadCaps) ↔ (fit_caps_of may_have s caps ≡ false)
+  pub nothing_running :
+      (refusal_of result ≡ Some NothingRunning)
+      ↔ ((fit_caps_of may_have s caps ≡ true) × (some_list_runs s ≡ false))
+  pub memory : refusal_of result ≡ Some Memory → CanOpenOver may_have s caps
+  pub back : IfErr result (λ refusal. refusal.1 ≡ writer)

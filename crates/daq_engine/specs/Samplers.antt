@@ -4,12 +4,12 @@ use Rattle.xcp_base.specs.declared.item.Item.{Item}
 use Rattle.channel_ring.specs.Room.{units}
 use Rattle.channel_ring.specs.declared.ends.SendEnd.{Ghosts as SendGhosts}
 use Rattle.channel_ring.specs.declared.ends.RingEnd.{Ghosts as EndGhosts}
-use Rattle.sampler.specs.State.{SamplerState}
+use Rattle.sampler.specs.State.{SamplerEndState, SamplerState, joined, sent_by}
 use Rattle.transmitter.specs.Merge.{of_ring}
 use Rattle.transmitter.specs.Written.{TransmitterState}
 use Rattle.sampler.specs.Past.{Past}
 use Rattle.daq_engine.specs.Configuration.{upto}
-use Rattle.daq_engine.specs.Standings.{StandInOrder}
+use Rattle.daq_engine.specs.Standings.{EndsStandInOrder, StandInOrder}
 
 -- what each of the samplers sent
 abbrev pub sent_of_each : {S E : Type 0} → SendGhosts S E → List (SamplerState S) → List (List Item)
@@ -80,3 +80,22 @@ abbrev pub AreRoomy :
     {S E : Type 0} → SendGhosts S E → EndGhosts E → List (SamplerState S) → TransmitterState
     → Type 0
 AreRoomy send ring samplers t = (c : ℕ) → IsRoomyAt send ring samplers t c
+
+-- the samplers were finished, and these are what is left of them, in their order: of the same
+-- channels, rings and capacities; they tell what was sent, and stand after what the samplers did
+pub record AreFinished {S E : Type 0} (send : SendGhosts S E) (ring : EndGhosts E)
+    (samplers : List (SamplerState S)) (ends : List (SamplerEndState E))
+    : Type 0 where
+  pub stand :
+      (past : ℕ → Past) → StandInOrder send ring samplers past
+      → EndsStandInOrder (map (joined ring) ends) past
+  pub channels :
+      map (λ (e : SamplerEndState E). e.channel) ends
+      ≡ map (λ (s : SamplerState S). s.channel) samplers
+  pub rings :
+      map (λ (e : SamplerEndState E). ring.ring e.end) ends
+      ≡ map (λ (s : SamplerState S). send.ring s.end) samplers
+  pub capacities :
+      map (λ (e : SamplerEndState E). e.capacity) ends
+      ≡ map (λ (s : SamplerState S). send.capacity s.end) samplers
+  pub sent : sent_by (map (joined ring) ends) ≡ sent_of_each send samplers

@@ -2,7 +2,6 @@
 ghost use Rattle.transmitter.specs.Written.{transmission};
 ghost use Rattle.daq_engine.specs.Samplers.{AreBeside};
 
-use crate::asking::{start_at, stop_at, trigger_at};
 use crate::beside::pump_step;
 use crate::channel_fault::ChannelFault;
 use crate::finishing::{account_after, finish_all};
@@ -31,19 +30,14 @@ impl<O: Out, T: Beside> Engine<O, T>
 where
     T::Send: SendEnd<End = T::End>,
 {
-    ghost use Rattle.std.specs.Prelude.{◌≡◌, ◌<◌, ◌≤◌, [], IfErr, IfOk, OnErr, OnOk, length};
+    ghost use Rattle.std.specs.Prelude.{◌≡◌, ◌≤◌, IfErr, IfOk, length};
     ghost use Rattle.frame_writer.specs.Shown.{shown};
-    ghost use Rattle.sampler.specs.History.{Start, Stop};
-    ghost use Rattle.sampler.specs.Refusals.{AnswersStop, running_at};
-    ghost use Rattle.sampler.specs.Refusals.{start_refusal, stop_refusal, trigger_refusal};
     ghost use Rattle.sampler.specs.Tracks.{counts_after};
     ghost use Rattle.transmitter.specs.Written.{transmission};
-    ghost use Rattle.daq_engine.specs.Asking.{FindsNoRoom, StopLeavesEngine, TellsNoChannel};
-    ghost use Rattle.daq_engine.specs.Asking.{image_len_at, refusal_in};
+    ghost use Rattle.daq_engine.specs.Asking.{AsksStart, AsksStop, AsksTrigger};
     ghost use Rattle.daq_engine.specs.Closings.{ClosesEngine, GivesBack};
-    ghost use Rattle.daq_engine.specs.Engines.{LeadsTo, OfPast, Stands, Standing, StaysBut};
-    ghost use Rattle.daq_engine.specs.Engines.{engine_state};
-    ghost use Rattle.daq_engine.specs.Events.{PumpsOn, Triggers, with_event};
+    ghost use Rattle.daq_engine.specs.Engines.{OfPast, Stands, Standing, engine_state};
+    ghost use Rattle.daq_engine.specs.Events.{PumpsOn};
     ghost use Rattle.daq_engine.specs.Samplers.{AreBeside};
 
     /// An engine of samplers, in rising event channel from 0 on, and the transmitter of their
@@ -102,23 +96,14 @@ where
         image: &[u8],
         stamp: u32,
     ) -> Result<Taken, ChannelFault<TriggerFault>>
-        ensures ok { IfOk result (λ taken. Triggers T.Send.SendEnd T.End.RingEnd
+        ensures asks { AsksTrigger T.Send.SendEnd T.End.RingEnd
             (engine_state O.Out T.TakeEnd self.old) (engine_state O.Out T.TakeEnd self.new)
-            c taken image.now stamp) }
-        ensures refused { OfPast T.Send.SendEnd T.End.RingEnd
-            (engine_state O.Out T.TakeEnd self.old) c (λ past. refusal_in result ≡ trigger_refusal
-            (image_len_at (engine_state O.Out T.TakeEnd self.old).samplers c)
-            past image.now) }
-        ensures no_channel { TellsNoChannel c (engine_state O.Out T.TakeEnd self.old) result }
-        ensures err { OnErr result
-            (engine_state O.Out T.TakeEnd self.new ≡ engine_state O.Out T.TakeEnd self.old) }
-        ensures others_stay { StaysBut T.Send.SendEnd c
-            (engine_state O.Out T.TakeEnd self.old) (engine_state O.Out T.TakeEnd self.new) }
+            c image.now stamp result }
     {
         if c >= self.samplers.len() {
             return Err(ChannelFault::NoChannel);
         }
-        match trigger_at(&mut self.samplers, c, image, stamp) {
+        match self.samplers[c].trigger(image, stamp) {
             Ok(taken) => Ok(taken),
             Err(fault) => Err(ChannelFault::Refused(fault)),
         }
@@ -128,22 +113,14 @@ where
     ///
     /// Refused with `NoChannel`, or as `Sampler::start` refuses it; then nothing changes.
     pub fn start(&mut self, c: usize, l: u8) -> Result<(), ChannelFault<StartFault>>
-        ensures ok { OnOk result (LeadsTo T.Send.SendEnd T.End.RingEnd
+        ensures asks { AsksStart T.Send.SendEnd T.End.RingEnd
             (engine_state O.Out T.TakeEnd self.old) (engine_state O.Out T.TakeEnd self.new)
-            (with_event c (Start l) [])) }
-        ensures refused { OfPast T.Send.SendEnd T.End.RingEnd
-            (engine_state O.Out T.TakeEnd self.old) c (λ past. refusal_in result
-            ≡ start_refusal (running_at past l)) }
-        ensures no_channel { TellsNoChannel c (engine_state O.Out T.TakeEnd self.old) result }
-        ensures err { OnErr result
-            (engine_state O.Out T.TakeEnd self.new ≡ engine_state O.Out T.TakeEnd self.old) }
-        ensures others_stay { StaysBut T.Send.SendEnd c
-            (engine_state O.Out T.TakeEnd self.old) (engine_state O.Out T.TakeEnd self.new) }
+            c l result }
     {
         if c >= self.samplers.len() {
             return Err(ChannelFault::NoChannel);
         }
-        match start_at(&mut self.samplers, c, l) {
+        match self.samplers[c].start(l) {
             Ok(()) => Ok(()),
             Err(fault) => Err(ChannelFault::Refused(fault)),
         }
@@ -154,29 +131,14 @@ where
     /// Refused with `NoChannel`, or as `Sampler::stop` refuses it. Then nothing changes but, with
     /// `NoRoom`, what the channel's sampler knows to be free.
     pub fn stop(&mut self, c: usize, l: u8) -> Result<(), ChannelFault<StopFault>>
-        ensures ok { OnOk result (LeadsTo T.Send.SendEnd T.End.RingEnd
+        ensures asks { AsksStop T.Send.SendEnd T.End.RingEnd
             (engine_state O.Out T.TakeEnd self.old) (engine_state O.Out T.TakeEnd self.new)
-            (with_event c (Stop l) [])) }
-        ensures refused { OfPast T.Send.SendEnd T.End.RingEnd
-            (engine_state O.Out T.TakeEnd self.old) c
-            (λ past. AnswersStop (stop_refusal (running_at past l))
-            (refusal_in result)) }
-        ensures no_room { result ≡ Err (ChannelFault.Refused StopFault.NoRoom) →
-            FindsNoRoom T.Send.SendEnd T.End.RingEnd
-            (engine_state O.Out T.TakeEnd self.old).samplers c l }
-        ensures no_channel { TellsNoChannel c (engine_state O.Out T.TakeEnd self.old) result }
-        ensures err { IfErr result (StopLeavesEngine T.Send.SendEnd c
-            (engine_state O.Out T.TakeEnd self.old) (engine_state O.Out T.TakeEnd self.new)) }
-        ensures err_stands { OnErr result (LeadsTo T.Send.SendEnd T.End.RingEnd
-            (engine_state O.Out T.TakeEnd self.old) (engine_state O.Out T.TakeEnd self.new)
-            (λ st. st)) }
-        ensures others_stay { StaysBut T.Send.SendEnd c
-            (engine_state O.Out T.TakeEnd self.old) (engine_state O.Out T.TakeEnd self.new) }
+            c l result }
     {
         if c >= self.samplers.len() {
             return Err(ChannelFault::NoChannel);
         }
-        match stop_at(&mut self.samplers, c, l) {
+        match self.samplers[c].stop(l) {
             Ok(()) => Ok(()),
             Err(fault) => Err(ChannelFault::Refused(fault)),
         }

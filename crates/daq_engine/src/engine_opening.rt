@@ -1,11 +1,8 @@
 //! An engine is opened over a store.
-ghost use Rattle.std.specs.Prelude.{◌≡◌, ℕ, ◌↔◌, IfErr, IfOk, OnOk, Some, false, true};
+ghost use Rattle.std.specs.Prelude.{◌≡◌, IfOk, false};
 ghost use Rattle.frame_writer.specs.Writing.{state_of};
-ghost use Rattle.sampler.specs.History.{Opening};
-ghost use Rattle.daq_engine.specs.Engines.{Stands, engine_state, first_standing};
-ghost use Rattle.daq_engine.specs.Openings.{AreOpened, CanOpen, CanOpenOver, fit_caps};
-ghost use Rattle.daq_engine.specs.Openings.{fit_caps_of, is_byte_cap, refusal_of};
-ghost use Rattle.daq_engine.specs.Openings.{some_list_runs};
+ghost use Rattle.daq_engine.specs.Engines.{IsOpenedFrom, engine_state};
+ghost use Rattle.daq_engine.specs.Openings.{AnswersOpening, is_byte_cap, is_cap};
 
 use crate::engine::Engine;
 use crate::open_fault::OpenFault;
@@ -29,22 +26,10 @@ impl<O: Out> Engine<O, TakeHalf> {
     ) -> Result<Engine<O, TakeHalf>, (OpenFault, FrameWriter<O>)>
         requires is_open { (state_of O.Out writer).closed ≡ false }
 
-        ensures ok { OnOk result (CanOpen store.now caps.now) }
-        ensures opened { IfOk result (λ engine. (openings : ℕ → Opening)
-            × AreOpened ⟦<SendHalf as SendEnd>⟧ ⟦<SendLeft as RingEnd>⟧ store.now caps.now
-            (engine_state O.Out ⟦<TakeHalf as TakeEnd>⟧ engine).samplers openings
-            × Stands ⟦<SendHalf as SendEnd>⟧ ⟦<SendLeft as RingEnd>⟧
-            (engine_state O.Out ⟦<TakeHalf as TakeEnd>⟧ engine)
-            (first_standing (state_of O.Out writer) openings)) }
-
-        // the checks, in their order
-        ensures bad_caps { (refusal_of result ≡ Some OpenFault.BadCaps)
-            ↔ (fit_caps store.now caps.now ≡ false) }
-        ensures nothing_running { (refusal_of result ≡ Some OpenFault.NothingRunning)
-            ↔ ((fit_caps store.now caps.now ≡ true) × (some_list_runs store.now ≡ false)) }
-        ensures memory { refusal_of result ≡ Some OpenFault.Memory → CanOpen store.now caps.now }
-
-        ensures back { IfErr result (λ refusal. refusal.1 ≡ writer) }
+        ensures answers { AnswersOpening is_cap store.now caps.now writer result }
+        ensures opened { IfOk result (λ engine. IsOpenedFrom
+            ⟦<SendHalf as SendEnd>⟧ ⟦<SendLeft as RingEnd>⟧ store.now caps.now
+            (state_of O.Out writer) (engine_state O.Out ⟦<TakeHalf as TakeEnd>⟧ engine)) }
     {
         engine_over::<SampleRing, O>(alloc, store, caps, writer)
     }
@@ -62,24 +47,10 @@ impl<O: Out> Engine<O, ByteTake> {
     ) -> Result<Engine<O, ByteTake>, (OpenFault, FrameWriter<O>)>
         requires is_open { (state_of O.Out writer).closed ≡ false }
 
-        ensures ok { OnOk result (CanOpenOver is_byte_cap store.now caps.now) }
-        ensures opened { IfOk result (λ engine. (openings : ℕ → Opening)
-            × AreOpened ⟦<ByteSend as SendEnd>⟧ ⟦<ByteLeft as RingEnd>⟧ store.now caps.now
-            (engine_state O.Out ⟦<ByteTake as TakeEnd>⟧ engine).samplers openings
-            × Stands ⟦<ByteSend as SendEnd>⟧ ⟦<ByteLeft as RingEnd>⟧
-            (engine_state O.Out ⟦<ByteTake as TakeEnd>⟧ engine)
-            (first_standing (state_of O.Out writer) openings)) }
-
-        // the checks, in their order
-        ensures bad_caps { (refusal_of result ≡ Some OpenFault.BadCaps)
-            ↔ (fit_caps_of is_byte_cap store.now caps.now ≡ false) }
-        ensures nothing_running { (refusal_of result ≡ Some OpenFault.NothingRunning)
-            ↔ ((fit_caps_of is_byte_cap store.now caps.now ≡ true)
-            × (some_list_runs store.now ≡ false)) }
-        ensures memory { refusal_of result ≡ Some OpenFault.Memory
-            → CanOpenOver is_byte_cap store.now caps.now }
-
-        ensures back { IfErr result (λ refusal. refusal.1 ≡ writer) }
+        ensures answers { AnswersOpening is_byte_cap store.now caps.now writer result }
+        ensures opened { IfOk result (λ engine. IsOpenedFrom
+            ⟦<ByteSend as SendEnd>⟧ ⟦<ByteLeft as RingEnd>⟧ store.now caps.now
+            (state_of O.Out writer) (engine_state O.Out ⟦<ByteTake as TakeEnd>⟧ engine)) }
     {
         engine_over::<ByteRing, O>(alloc, store, caps, writer)
     }
@@ -97,26 +68,11 @@ pub fn engine_over<R: Ring, O: Out>(
 ) -> Result<Engine<O, R::Take>, (OpenFault, FrameWriter<O>)>
     requires is_open { (state_of O.Out writer).closed ≡ false }
 
-    ensures ok { OnOk result (CanOpenOver R.is_cap store.now caps.now) }
-    ensures opened { IfOk result (λ engine. (openings : ℕ → Opening)
-        × AreOpened R.Send.SendEnd R.Send.End.RingEnd store.now caps.now
-        (engine_state O.Out R.Take.TakeEnd engine).samplers openings
-        × Stands R.Send.SendEnd R.Send.End.RingEnd
-        (engine_state O.Out R.Take.TakeEnd engine)
-        (first_standing (state_of O.Out writer) openings)) }
-
-    // the checks, in their order
-    ensures bad_caps { (refusal_of result ≡ Some OpenFault.BadCaps)
-        ↔ (fit_caps_of R.is_cap store.now caps.now ≡ false) }
-    ensures nothing_running { (refusal_of result ≡ Some OpenFault.NothingRunning)
-        ↔ ((fit_caps_of R.is_cap store.now caps.now ≡ true) × (some_list_runs store.now ≡ false)) }
-    ensures memory { refusal_of result ≡ Some OpenFault.Memory
-        → CanOpenOver R.is_cap store.now caps.now }
-
-    ensures back { IfErr result (λ refusal. refusal.1 ≡ writer) }
+    ensures answers { AnswersOpening R.is_cap store.now caps.now writer result }
+    ensures opened { IfOk result (λ engine. IsOpenedFrom
+        R.Send.SendEnd R.Send.End.RingEnd store.now caps.now
+        (state_of O.Out writer) (engine_state O.Out R.Take.TakeEnd engine)) }
 {
-    match open_over::<R, O>(alloc, store, caps, writer) {
-        Ok((samplers, transmitter)) => Ok(Engine::new(samplers, transmitter)),
-        Err(refusal) => Err(refusal),
-    }
+    let (samplers, transmitter) = open_over::<R, O>(alloc, store, caps, writer)?;
+    Ok(Engine::new(samplers, transmitter))
 }

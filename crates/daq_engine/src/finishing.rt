@@ -1,5 +1,5 @@
 //! From samplers to their ends, and from these to the account.
-ghost use Rattle.std.specs.Prelude.{◌≡◌, ℕ, ◌↔◌, ◌≤◌, map, vec_capacity, vec_len};
+ghost use Rattle.std.specs.Prelude.{◌≡◌, ◌↔◌, ◌≤◌, map, vec_capacity, vec_len};
 ghost use Rattle.std.specs.Prelude.{IfErr, IfOk, IfSome, OnOk};
 ghost use Rattle.xcp_base.specs.declared.limits.TheConstants.{MAX_LISTS};
 ghost use Rattle.frame_writer.specs.Shown.{shown};
@@ -8,10 +8,8 @@ ghost use Rattle.transmitter.specs.Looks.{AreOfRings};
 ghost use Rattle.transmitter.specs.Pumps.{TakesMore};
 ghost use Rattle.transmitter.specs.Written.{transmission};
 ghost use Rattle.daq_engine.specs.Closed.{ClosesWith, WasDrained};
-ghost use Rattle.sampler.specs.Past.{Past};
 ghost use Rattle.daq_engine.specs.Headline.{AreEndsOf};
-ghost use Rattle.daq_engine.specs.Samplers.{sent_of_each};
-ghost use Rattle.daq_engine.specs.Standings.{EndsStandInOrder, StandInOrder};
+ghost use Rattle.daq_engine.specs.Samplers.{AreFinished};
 
 use crate::closing::{account, room_for};
 use crate::faults::CloseFault;
@@ -33,17 +31,8 @@ pub fn finish_all<S: SendEnd>(
 ) -> Option<Vec<SamplerEnd<S::End>>>
     requires empty { vec_len room ≡ 0 }
     requires enough { vec_len samplers ≤ vec_capacity room }
-    ensures stand { IfSome result (λ ends. (past : ℕ → Past) →
-        StandInOrder S.SendEnd S.End.RingEnd samplers.items past →
-        EndsStandInOrder (map (joined S.End.RingEnd) ends.items) past) }
-    ensures channels { IfSome result (λ ends.
-        map (λ e. e.channel) ends.items ≡ map (λ s. s.channel) samplers.items) }
-    ensures rings { IfSome result (λ ends.
-        map (λ e. S.End.ring e.end) ends.items ≡ map (λ s. S.ring s.end) samplers.items) }
-    ensures capacities { IfSome result (λ ends.
-        map (λ e. e.capacity) ends.items ≡ map (λ s. S.capacity s.end) samplers.items) }
-    ensures sent { IfSome result (λ ends.
-        sent_by (map (joined S.End.RingEnd) ends.items) ≡ sent_of_each S.SendEnd samplers.items) }
+    ensures finishes { IfSome result (λ ends.
+        AreFinished S.SendEnd S.End.RingEnd samplers.items ends.items) }
 {
     let mut ends = room;
     for sampler in samplers {

@@ -1,7 +1,6 @@
 //! The engine: it is opened over a store, and closed with an account of what was written.
 #![tactic(auto)]
 
-mod asking;
 mod beside;
 mod channel_fault;
 mod channel_plans;

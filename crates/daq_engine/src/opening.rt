@@ -1,14 +1,12 @@
-ghost use Rattle.std.specs.Prelude.{◌≡◌, ℕ, ◌<◌, ◌≤◌, ◌↔◌, false, true, length};
-ghost use Rattle.std.specs.Prelude.{IfErr, IfOk, OnOk, Some};
+ghost use Rattle.std.specs.Prelude.{◌≡◌, ◌<◌, ◌≤◌, false, length, IfOk};
 ghost use Rattle.std.specs.List.{list_all};
 ghost use Rattle.xcp_base.specs.declared.limits.TheConstants.{MAX_CHANNELS};
 ghost use Rattle.sampler.specs.History.{Opening};
 ghost use Rattle.frame_writer.specs.Writing.{state_of};
 ghost use Rattle.transmitter.specs.Written.{next_of, transmission, writer_of};
-ghost use Rattle.daq_engine.specs.Openings.{AreOpened, CanOpen, CanOpenOver, IsPaired};
-ghost use Rattle.daq_engine.specs.Openings.{fit_caps, fit_caps_of, is_byte_cap, refusal_of};
-ghost use Rattle.daq_engine.specs.Openings.{some_list_runs};
-ghost use Rattle.daq_engine.specs.Opened.{IsOpenedAt, AreOpenedTo};
+ghost use Rattle.daq_engine.specs.Openings.{AnswersOpening, IsOpenedOver, fit_caps_of};
+ghost use Rattle.daq_engine.specs.Openings.{is_byte_cap, is_cap, some_list_runs};
+ghost use Rattle.daq_engine.specs.Opened.{AreOpenedTo, IsOpenedAt};
 
 use crate::channel_plans::{plans_of, running_of};
 use crate::open_fault::OpenFault;
@@ -36,24 +34,12 @@ pub fn open<O: Out>(
 ) -> Result<(Vec<Sampler<SendHalf>>, Transmitter<O, TakeHalf>), (OpenFault, FrameWriter<O>)>
     requires is_open { (state_of O.Out writer).closed ≡ false }
 
-    ensures ok { OnOk result (CanOpen store.now caps.now) }
-    ensures opened { IfOk result (λ engine. (openings : ℕ → Opening)
-        × AreOpened ⟦<SendHalf as SendEnd>⟧ ⟦<SendLeft as RingEnd>⟧ store.now caps.now
-        engine.0.items openings) }
-    ensures paired { IfOk result (λ engine. IsPaired ⟦<SendHalf as SendEnd>⟧
-        engine.0.items (state_of O.Out writer)
-        (transmission O.Out ⟦<TakeHalf as TakeEnd>⟧ engine.1)) }
+    ensures answers { AnswersOpening is_cap store.now caps.now writer result }
+    ensures opened { IfOk result (λ engine. IsOpenedOver
+        ⟦<SendHalf as SendEnd>⟧ ⟦<SendLeft as RingEnd>⟧ store.now caps.now
+        (state_of O.Out writer) engine.0.items (transmission O.Out ⟦<TakeHalf as TakeEnd>⟧ engine.1)) }
     ensures writer { IfOk result (λ engine. writer_of engine.1 ≡ writer) }
     ensures next { IfOk result (λ engine. next_of engine.1 ≡ 0) }
-
-    // the checks, in their order
-    ensures bad_caps { (refusal_of result ≡ Some OpenFault.BadCaps)
-        ↔ (fit_caps store.now caps.now ≡ false) }
-    ensures nothing_running { (refusal_of result ≡ Some OpenFault.NothingRunning)
-        ↔ ((fit_caps store.now caps.now ≡ true) × (some_list_runs store.now ≡ false)) }
-    ensures memory { refusal_of result ≡ Some OpenFault.Memory → CanOpen store.now caps.now }
-
-    ensures back { IfErr result (λ refusal. refusal.1 ≡ writer) }
 {
     open_over::<SampleRing, O>(alloc, store, caps, writer)
 }
@@ -68,26 +54,12 @@ pub fn open_bytes<O: Out>(
 ) -> Result<(Vec<Sampler<ByteSend>>, Transmitter<O, ByteTake>), (OpenFault, FrameWriter<O>)>
     requires is_open { (state_of O.Out writer).closed ≡ false }
 
-    ensures ok { OnOk result (CanOpenOver is_byte_cap store.now caps.now) }
-    ensures opened { IfOk result (λ engine. (openings : ℕ → Opening)
-        × AreOpened ⟦<ByteSend as SendEnd>⟧ ⟦<ByteLeft as RingEnd>⟧ store.now caps.now
-        engine.0.items openings) }
-    ensures paired { IfOk result (λ engine. IsPaired ⟦<ByteSend as SendEnd>⟧
-        engine.0.items (state_of O.Out writer)
-        (transmission O.Out ⟦<ByteTake as TakeEnd>⟧ engine.1)) }
+    ensures answers { AnswersOpening is_byte_cap store.now caps.now writer result }
+    ensures opened { IfOk result (λ engine. IsOpenedOver
+        ⟦<ByteSend as SendEnd>⟧ ⟦<ByteLeft as RingEnd>⟧ store.now caps.now
+        (state_of O.Out writer) engine.0.items (transmission O.Out ⟦<ByteTake as TakeEnd>⟧ engine.1)) }
     ensures writer { IfOk result (λ engine. writer_of engine.1 ≡ writer) }
     ensures next { IfOk result (λ engine. next_of engine.1 ≡ 0) }
-
-    // the checks, in their order
-    ensures bad_caps { (refusal_of result ≡ Some OpenFault.BadCaps)
-        ↔ (fit_caps_of is_byte_cap store.now caps.now ≡ false) }
-    ensures nothing_running { (refusal_of result ≡ Some OpenFault.NothingRunning)
-        ↔ ((fit_caps_of is_byte_cap store.now caps.now ≡ true)
-        × (some_list_runs store.now ≡ false)) }
-    ensures memory { refusal_of result ≡ Some OpenFault.Memory
-        → CanOpenOver is_byte_cap store.now caps.now }
-
-    ensures back { IfErr result (λ refusal. refusal.1 ≡ writer) }
 {
     open_over::<ByteRing, O>(alloc, store, caps, writer)
 }
@@ -101,26 +73,12 @@ pub fn open_over<R: Ring, O: Out>(
 ) -> Result<(Vec<Sampler<R::Send>>, Transmitter<O, R::Take>), (OpenFault, FrameWriter<O>)>
     requires is_open { (state_of O.Out writer).closed ≡ false }
 
-    ensures ok { OnOk result (CanOpenOver R.is_cap store.now caps.now) }
-    ensures opened { IfOk result (λ engine. (openings : ℕ → Opening)
-        × AreOpened R.Send.SendEnd R.Send.End.RingEnd store.now caps.now
-        engine.0.items openings) }
-    ensures paired { IfOk result (λ engine. IsPaired R.Send.SendEnd
-        engine.0.items (state_of O.Out writer)
-        (transmission O.Out R.Take.TakeEnd engine.1)) }
+    ensures answers { AnswersOpening R.is_cap store.now caps.now writer result }
+    ensures opened { IfOk result (λ engine. IsOpenedOver
+        R.Send.SendEnd R.Send.End.RingEnd store.now caps.now
+        (state_of O.Out writer) engine.0.items (transmission O.Out R.Take.TakeEnd engine.1)) }
     ensures writer { IfOk result (λ engine. writer_of engine.1 ≡ writer) }
     ensures next { IfOk result (λ engine. next_of engine.1 ≡ 0) }
-
-    // the checks, in their order
-    ensures bad_caps { (refusal_of result ≡ Some OpenFault.BadCaps)
-        ↔ (fit_caps_of R.is_cap store.now caps.now ≡ false) }
-    ensures nothing_running { (refusal_of result ≡ Some OpenFault.NothingRunning)
-        ↔ ((fit_caps_of R.is_cap store.now caps.now ≡ true)
-        × (some_list_runs store.now ≡ false)) }
-    ensures memory { refusal_of result ≡ Some OpenFault.Memory
-        → CanOpenOver R.is_cap store.now caps.now }
-
-    ensures back { IfErr result (λ refusal. refusal.1 ≡ writer) }
 {
     if !caps_fit::<R>(store, caps) {
         return Err((OpenFault::BadCaps, writer));

@@ -1,11 +1,10 @@
-use Rattle.std.proofs.Common.{◌≡◌, [], ◌∷◌, map, sym, ap, subst, ◌∙◌, arith, length-append}
+use Rattle.std.proofs.Common.{◌≡◌, [], ◌∷◌, refl, sym, subst, ◌∙◌, arith, length-append}
 use Rattle.std.proofs.lemmas.Iterator.Adapters.{YieldsList-from_vec}
 use Rattle.std.proofs.lemmas.Iterator.Consumers.{YieldsList-end, YieldsList-turn}
-use Rattle.std.proofs.lemmas.List.{map-id}
-use Rattle.sampler.specs.State.{SamplerState}
+use Rattle.std.proofs.lemmas.List.{map-id, nil_from_length}
 use Rattle.transmitter.proofs.RingLemmas.{sent_joined}
-use Rattle.daq_engine.specs.Standings.{StandInOrder}
-use Rattle.daq_engine.proofs.FinishLemmas.{ends-more, shown_more}
+use Rattle.daq_engine.specs.Samplers.{AreFinished}
+use Rattle.daq_engine.proofs.FinishLemmas.{ends-more, none_finished, shown_more}
 use Rattle.daq_engine.proofs.finishing.finish_all.Given.{Over}
 use Rattle.daq_engine.proofs.finishing.finish_all.Goals as goal
 use Rattle.daq_engine.proofs.finishing.finish_all.Goals.{In-None}
@@ -20,12 +19,23 @@ push_reserved-requires g c =
     c.loop-sampler.yielded c.loop-sampler.sampler-iterator c.loop-sampler.yielded_by c.next.result c.next.new.self c.in-Some.sampler c.in-Some.is c.next.ensures.steps in
     omega (arith, turn.0, c.requires.enough, c.loop-sampler.invariant.as_many, c.loop-sampler.invariant.room, samplers.ok.0)
 
+-- none was finished yet
+pub loop-sampler-init : goal.loop-sampler-init
+loop-sampler-init g c =
+    let none = nil_from_length c.args.room.items (sym c.args.room.ok.0 ∙ c.requires.empty) in
+    record {
+      finished = subst (AreFinished g.S.SendEnd g.S.End.RingEnd []) (sym none) (none_finished g.S.SendEnd g.S.End.RingEnd);
+      as_many = c.requires.empty;
+      room = refl;
+    }
+
 -- one sampler more
 pub loop-sampler-preserved : goal.loop-sampler-preserved
 loop-sampler-preserved g c =
     let send = g.S.SendEnd in
     let ring = g.S.End.RingEnd in
     let i = c.loop-sampler.invariant in
+    let f = i.finished in
     let e = c.finish.ensures in
     let is = c.in_ok-end.was in
     let more = c.push_reserved.ensures.items in
@@ -35,11 +45,13 @@ loop-sampler-preserved g c =
     let end = c.in_ok-end.end in
     let s = c.in-Some.sampler in
     record {
-      stand = λ past. ends-more send ring past ys s xs zs end c.finish.result more (sym c.loop-sampler.ends.ok.0 ∙ i.as_many) is e.stands (i.stand past);
-      channels = shown_more (λ x. x.channel) (λ x. x.channel) xs zs ys c.finish.result end s more i.channels is e.channel;
-      rings = shown_more (λ x. ring.ring x.end) (λ x. send.ring x.end) xs zs ys c.finish.result end s more i.rings is e.ring;
-      capacities = shown_more (λ x. x.capacity) (λ x. send.capacity x.end) xs zs ys c.finish.result end s more i.capacities is e.capacity;
-      sent = sym (sent_joined ring zs) ∙ shown_more (λ x. ring.all_sent x.end) (λ x. send.sent x.end) xs zs ys c.finish.result end s more (sent_joined ring xs ∙ i.sent) is e.sent;
+      finished = record {
+        stand = λ past. ends-more send ring past ys s xs zs end c.finish.result more (sym c.loop-sampler.ends.ok.0 ∙ i.as_many) is e.stands (f.stand past);
+        channels = shown_more (λ x. x.channel) (λ x. x.channel) xs zs ys c.finish.result end s more f.channels is e.channel;
+        rings = shown_more (λ x. ring.ring x.end) (λ x. send.ring x.end) xs zs ys c.finish.result end s more f.rings is e.ring;
+        capacities = shown_more (λ x. x.capacity) (λ x. send.capacity x.end) xs zs ys c.finish.result end s more f.capacities is e.capacity;
+        sent = sym (sent_joined ring zs) ∙ shown_more (λ x. ring.all_sent x.end) (λ x. send.sent x.end) xs zs ys c.finish.result end s more (sent_joined ring xs ∙ f.sent) is e.sent;
+      };
       as_many = omega (arith, i.as_many, length-append ys (s ∷ []), c.push_reserved.ensures.len);
       room = c.push_reserved.ensures.capacity ∙ i.room;
     }
@@ -54,11 +66,7 @@ all_yielded g c =
     c.loop-sampler.yielded c.loop-sampler.sampler-iterator c.loop-sampler.yielded_by c.next.result c.next.new.self c.in-None.is c.next.ensures.steps in
     sym (map-id c.loop-sampler.yielded) ∙ seen.0
 
-pub returns-clause-stand : goal.returns-clause-stand
-returns-clause-stand g c past stand =
-    let all = all_yielded g (goal.at.returns-clause-stand g c).In-None in
-    c.loop-sampler.invariant.stand past (subst (λ ss. StandInOrder g.S.SendEnd g.S.End.RingEnd ss past) (sym all) stand)
-
-pub returns-clause-capacities : goal.returns-clause-capacities
-returns-clause-capacities g c =
-    c.loop-sampler.invariant.capacities ∙ ap (map (λ (s : SamplerState _). g.S.SendEnd.capacity s.end)) (all_yielded g (goal.at.returns-clause-capacities g c).In-None)
+pub returns : goal.returns
+returns g c = record {
+  finishes = subst (λ ss. AreFinished g.S.SendEnd g.S.End.RingEnd ss c.loop-sampler.ends.items) (all_yielded g (goal.at.returns g c).In-None) c.loop-sampler.invariant.finished;
+}

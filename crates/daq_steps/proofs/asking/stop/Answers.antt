@@ -16,13 +16,13 @@ use Rattle.daq_steps.proofs.asking.stop.Goals as goal
 pub returns-in-Ok-clause-answers : goal.returns-in-Ok-clause-answers
 returns-in-Ok-clause-answers g c = λ st stands.
     let r = stop_refusal (running_at (st.past c.args.c) c.args.l) in
-    let none : r ≡ None = stop_accepted r (c.in-Ok.ensures.refused st stands c.requires) in
-    (ap (option_map OfStop) {x = r} none, ([], c.in-Ok.ensures.ok st stands))
+    let none : r ≡ None = stop_accepted r (c.in-Ok.ensures.asks.refused st stands c.requires) in
+    (ap (option_map OfStop) {x = r} none, ([], c.in-Ok.ensures.asks.ok st stands))
 
 -- it was refused for its cause, or its marker found no room
 pub returns-in-Err-Refused-clause-answers : goal.returns-in-Err-Refused-clause-answers
 returns-in-Err-Refused-clause-answers g c = λ st stands.
-    let e = c.in-Err-Refused.ensures in
+    let e = c.in-Err-Refused.ensures.asks in
     let send = g.T.Send.SendEnd in
     let ring = g.T.End.RingEnd in
     let fault = c.in-Err-Refused.fault in

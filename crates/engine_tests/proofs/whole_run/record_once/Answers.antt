@@ -11,9 +11,9 @@ use Rattle.engine_tests.proofs.whole_run.record_once.Goals as goal
 -- it stands after nothing at its opening, and the run goes on from there
 pub returns-in-Ok : goal.returns-in-Ok
 returns-in-Ok g c =
-    let openings = c.in-Ok.ensures.opened.0 in
-    let opened = c.in-Ok.ensures.opened.1 in
-    let stands = subst (λ (s : WriterState). Stands send.ghosts ring.ghosts (engine_state g.O.Out take_end.ghosts c.in-Ok.engine) (first_standing s openings)) c.new.ensures.fresh c.in-Ok.ensures.opened.2 in
+    let openings = c.in-Ok.ensures.opened.openings in
+    let opened = c.in-Ok.ensures.opened.opened in
+    let stands = subst (λ (s : WriterState). Stands send.ghosts ring.ghosts (engine_state g.O.Out take_end.ghosts c.in-Ok.engine) (first_standing s openings)) c.new.ensures.fresh c.in-Ok.ensures.opened.stands in
     if_ok _ _ c.run_once.result (λ r runs. record {
       openings = openings;
       engine = engine_state g.O.Out take_end.ghosts c.in-Ok.engine;

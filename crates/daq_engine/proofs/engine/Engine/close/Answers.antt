@@ -12,7 +12,7 @@ returns-in-Some-clause-closed g c = λ st stands.
     let ring = g.T.End.RingEnd in
     let samplers = c.args.self.samplers.items in
     let ends = map (joined ring) c.in-Some.ends.items in
-    let e = c.in-Some.ensures in
+    let e = c.in-Some.ensures.finishes in
     let channel_of = λ (s : SamplerState g.row.T-Send.Denot). s.channel in
     let as_many : length ends ≡ length samplers =
     length-map c.in-Some.ends.items (joined ring) ∙ sym (length-map c.in-Some.ends.items (λ (x : SamplerEndState g.row.T-End.Denot). x.channel)) ∙ ap length e.channels ∙ length-map samplers channel_of in
