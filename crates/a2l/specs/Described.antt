@@ -39,7 +39,8 @@ first_tick (Some tick) ws = Some tick
 -- with what a MODULE says
 unfoldable pub with_module : Told → Described → Option Described
 with_module told d = do
-  values ← with_front d.values (values_of (unwrap_or told.order MsbLast) (length d.methods) told.methods told.measurements)
+  values ← with_front d.values
+      (values_of (unwrap_or told.order MsbLast) (length d.methods) told.methods told.measurements)
   methods ← with_front d.methods (methods_of told.tables told.methods)
   Some (record d { values = values; methods = methods })
 

@@ -20,4 +20,5 @@ module _ {A : Type 0} where
   -- the name has its place, or the one that it had
   abbrev pub NotesName : BTreeMap (String A) ℕ → BTreeMap (String A) ℕ → List ℕ → ℕ → Type 0
   NotesName old new name place = (other : List ℕ)
-      → get_by_text new other ≡ option_or (get_by_text old other) (if bytes_eq other name then Some place else None)
+      → get_by_text new other
+      ≡ option_or (get_by_text old other) (if bytes_eq other name then Some place else None)

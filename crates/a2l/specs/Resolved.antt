@@ -40,11 +40,17 @@ pub record Conversions : Type 0 where
   pub rule : Rule
 
 abbrev pub described_method : Method → Conversions
-described_method m = record { name = string_bytes m.name; unit = string_bytes m.unit; rule = conversion_seen m.conversion }
+described_method m = record {
+  name = string_bytes m.name;
+  unit = string_bytes m.unit;
+  rule = conversion_seen m.conversion;
+}
 
 -- the first table of a name
 abbrev pub table_named : List ℕ → List Named → Option Texts
-table_named name tables = option_map (λ t. t.texts) (option_and_then (λ k. slice_get tables k) (place_of name (map (λ t. t.name) tables)))
+table_named name tables =
+    option_map (λ t. t.texts)
+    (option_and_then (λ k. slice_get tables k) (place_of name (map (λ t. t.name) tables)))
 
 unfoldable pub rule_of : List Named → Formula → Option Rule
 rule_of tables identical = Some same
@@ -97,7 +103,11 @@ kept_address m = if m.options.apart then None else m.options.address
 abbrev pub value_at : ByteOrder → Measured → Option ℕ → ℕ → Value
 value_at order m method address = record {
   name = m.name;
-  encoding = record { data_type = m.data_type; order = unwrap_or m.options.order order; mask = m.options.mask };
+  encoding = record {
+    data_type = m.data_type;
+    order = unwrap_or m.options.order order;
+    mask = m.options.mask;
+  };
   address = address;
   method = method;
   unit = m.options.unit;
@@ -118,7 +128,8 @@ present (Some x ∷ os) = x ∷ present os
 -- the measurements of a MODULE that are kept, where so many methods stand before its own
 unfoldable pub values_of : ByteOrder → ℕ → List Converted → List Measured → Option (List Value)
 values_of order before methods measurements =
-    option_map present (all_of (value_of order before (λ name. place_of name (map (λ m. m.name) methods))) measurements)
+    option_map present (all_of
+    (value_of order before (λ name. place_of name (map (λ m. m.name) methods))) measurements)
 
 -- the methods of a MODULE
 unfoldable pub methods_of : List Named → List Converted → Option (List Conversions)

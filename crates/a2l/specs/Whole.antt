@@ -43,7 +43,8 @@ abbrev pub to_come : State → Told × Described → List Token → Option Descr
 to_come s d words = coming (cleared s) words >>= described_from d
 
 -- what came so far leads on: the description to come is the same
-pub record Continues (old : State) (from : Told × Described) (new : State) (d : Told × Described) : Type 0 where
+pub record Continues (old : State) (from : Told × Described) (new : State) (d : Told × Described)
+    : Type 0 where
   pub there :
       (words : List Token) → AreWords old.ahead words → (rest : List Token)
       × AreWords new.ahead rest × (to_come old from words ≡ to_come new d rest)

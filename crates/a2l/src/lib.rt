@@ -9,8 +9,6 @@ mod module_parts;
 mod names;
 mod reading;
 mod resolving;
-#[cfg(test)]
-mod tests;
 
 pub use a2l_entries::{Awaited, Refused};
 pub use description::{Description, Measurement, Method};

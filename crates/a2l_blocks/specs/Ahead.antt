@@ -50,9 +50,12 @@ sections_from role os gathered (plain bytes ∷ words) =
 sections_from role os gathered (quoted bytes ∷ words) =
     sections_from (after_text role) os (gathered_with role (quoted bytes) gathered) words
 sections_from role os gathered (begin ∷ plain name ∷ words) =
-    if nat_lt (length os) 64 then sections_from (inside role name) (record { name = name; outer = role } ∷ os) gathered words
+    if nat_lt (length os) 64
+    then sections_from (inside role name) (record { name = name; outer = role } ∷ os) gathered words
     else None
 sections_from role (o ∷ os) gathered (end ∷ plain name ∷ words) =
-    if bytes_eq name o.name then ended (part_of role) gathered (sections_from o.outer os [] words) (sections_from o.outer os gathered words)
+    if bytes_eq name o.name
+    then ended (part_of role) gathered
+    (sections_from o.outer os [] words) (sections_from o.outer os gathered words)
     else None
 sections_from role os gathered (w ∷ words) = None

@@ -84,7 +84,8 @@ HasNoName f old =
 -- ---- steps
 
 -- The words ahead lead to the new state: what they make before is what the words behind make then.
-pub record Reaches (ahead : List ℕ) (before : List Token → Option (List Section)) (new : State) : Type 0 where
+pub record Reaches (ahead : List ℕ) (before : List Token → Option (List Section)) (new : State)
+    : Type 0 where
   pub there :
       (words : List Token) → AreWords ahead words → (rest : List Token) × AreWords new.ahead rest
       × (before words ≡ coming new rest)
@@ -92,9 +93,12 @@ pub record Reaches (ahead : List ℕ) (before : List Token → Option (List Sect
       (rest : List Token) → AreWords new.ahead rest → (words : List Token) × AreWords ahead words
 
 -- the same, and this part comes first
-pub record ReachesPart (part : Part) (ahead : List ℕ) (before : List Token → Option (List Section)) (new : State) : Type 0 where
+pub record ReachesPart (part : Part) (ahead : List ℕ)
+    (before : List Token → Option (List Section)) (new : State)
+    : Type 0 where
   pub there : (words : List Token) → AreWords ahead words
-      → (rest : List Token) × AreWords new.ahead rest × (before words ≡ in_front (record { part = part; words = new.gathered } ∷ []) (coming (cleared new) rest))
+      → (rest : List Token) × AreWords new.ahead rest × (before words
+      ≡ in_front (record { part = part; words = new.gathered } ∷ []) (coming (cleared new) rest))
   pub back :
       (rest : List Token) → AreWords new.ahead rest → (words : List Token) × AreWords ahead words
 

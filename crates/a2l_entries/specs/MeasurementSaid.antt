@@ -27,7 +27,13 @@ pub record Options : Type 0 where
   pub apart : Bool
 
 abbrev pub options_seen : MeasurementOptions → Options
-options_seen o = record { order = o.order; mask = o.mask; address = o.address; unit = option_map (λ s. string_bytes s) o.unit; apart = o.apart }
+options_seen o = record {
+  order = o.order;
+  mask = o.mask;
+  address = o.address;
+  unit = option_map (λ s. string_bytes s) o.unit;
+  apart = o.apart;
+}
 
 abbrev pub no_options : Options
 no_options = record { order = None; mask = None; address = None; unit = None; apart = false }
@@ -106,7 +112,9 @@ option_said option.Other ws = Some no_options
 
 -- The options of words. Of two of one kind the first counts.
 unfoldable pub options_said : List Token → Option Options
-options_said ws = scanned no_options options_or (λ w. arguments_of (measurement_keyword w)) (λ w behind. option_said (measurement_keyword w) behind) 0 ws
+options_said ws =
+    scanned no_options options_or (λ w. arguments_of (measurement_keyword w))
+    (λ w behind. option_said (measurement_keyword w) behind) 0 ws
 
 -- what a MEASUREMENT says
 pub record Measured : Type 0 where
@@ -120,10 +128,18 @@ abbrev pub name_of : Reference → List ℕ
 name_of r = string_bytes r.name
 
 abbrev pub measurement_seen : MeasurementBlock → Measured
-measurement_seen m = record { name = string_bytes m.name; data_type = m.data_type; method = option_map name_of m.method; options = options_seen m.options }
+measurement_seen m = record {
+  name = string_bytes m.name;
+  data_type = m.data_type;
+  method = option_map name_of m.method;
+  options = options_seen m.options;
+}
 
 abbrev pub method_named : Token → Option (Option (List ℕ))
-method_named w = if is_keyword (codes "NO_COMPU_METHOD") w then Some None else (name_said w >>= λ name. Some (Some name))
+method_named w =
+    if is_keyword (codes "NO_COMPU_METHOD") w
+    then Some None
+    else (name_said w >>= λ name. Some (Some name))
 
 unfoldable pub method_first : List Token → Option (Option (List ℕ) × List Token)
 method_first ws = do

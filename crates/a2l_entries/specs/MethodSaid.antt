@@ -69,7 +69,9 @@ method_option_said option.Other ws = Some no_method_options
 
 -- The options of words. Of two of one kind the first counts.
 unfoldable pub method_options_said : List Token → Option Choices
-method_options_said ws = scanned no_method_options method_options_or (λ w. method_arguments_of (method_keyword w)) (λ w behind. method_option_said (method_keyword w) behind) 0 ws
+method_options_said ws =
+    scanned no_method_options method_options_or (λ w. method_arguments_of (method_keyword w))
+    (λ w behind. method_option_said (method_keyword w) behind) 0 ws
 
 -- how physical values come of raw ones
 pub data Formula : Type 0 where
@@ -102,7 +104,11 @@ is_zero x = eq x (of_bits binary64 0)
 -- the coefficients make a straight line
 abbrev pub is_straight : Coefficients → Bool
 is_straight q =
-    if is_zero q.a then (if is_zero q.d then (if is_zero q.e then (if is_zero q.b then false else not (is_zero q.f)) else false) else false) else false
+    if is_zero q.a
+    then (if is_zero q.d
+    then (if is_zero q.e then (if is_zero q.b then false else not (is_zero q.f)) else false)
+    else false)
+    else false
 
 -- the rule of coefficients: they are carried out if they make a straight line
 abbrev pub rational : Coefficients → Formula

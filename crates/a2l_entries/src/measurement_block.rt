@@ -1,8 +1,8 @@
 ghost use Rattle.std.specs.Prelude.{◌≡◌, option_map};
 ghost use Rattle.a2l_entries.specs.Gives.{Gives};
 ghost use Rattle.a2l_entries.specs.Said.{tokens_of};
-ghost use Rattle.a2l_entries.specs.MeasurementSaid.{measurement_seen, measurement_said, method_first};
-ghost use Rattle.a2l_entries.specs.MeasurementSaid.{behind_limits, name_of};
+ghost use Rattle.a2l_entries.specs.MeasurementSaid.{measurement_seen, measurement_said};
+ghost use Rattle.a2l_entries.specs.MeasurementSaid.{method_first, behind_limits, name_of};
 
 use crate::entry_fault::Awaited;
 use crate::keywords::{data_type_in, is_keyword};

@@ -1,9 +1,9 @@
 ghost use Rattle.std.specs.Prelude.{◌≡◌};
 ghost use Rattle.a2l_entries.specs.Gives.{Gives};
 ghost use Rattle.a2l_entries.specs.Said.{token_at, tokens_of};
-ghost use Rattle.a2l_entries.specs.MeasurementSaid.{options_seen, no_options, options_or, options_said};
-ghost use Rattle.a2l_entries.specs.MeasurementSaid.{option_said};
-ghost use Rattle.a2l_entries.specs.MeasurementSaid.{mask_said, address_said, extended_said, has_elements};
+ghost use Rattle.a2l_entries.specs.MeasurementSaid.{options_seen, no_options, options_or};
+ghost use Rattle.a2l_entries.specs.MeasurementSaid.{options_said, option_said, mask_said};
+ghost use Rattle.a2l_entries.specs.MeasurementSaid.{address_said, extended_said, has_elements};
 
 use crate::entry_fault::Awaited;
 use crate::keywords::{MeasurementKeyword, measurement_keyword, order_in};

@@ -1,8 +1,8 @@
 ghost use Rattle.std.specs.Prelude.{◌≡◌};
 ghost use Rattle.a2l_entries.specs.Gives.{Gives};
 ghost use Rattle.a2l_entries.specs.Said.{tokens_of};
-ghost use Rattle.a2l_entries.specs.MethodSaid.{method_seen, method_said, rule_seen, rule_said, rational};
-ghost use Rattle.a2l_entries.specs.MethodSaid.{is_straight, is_zero};
+ghost use Rattle.a2l_entries.specs.MethodSaid.{method_seen, method_said, rule_seen, rule_said};
+ghost use Rattle.a2l_entries.specs.MethodSaid.{rational, is_straight, is_zero};
 ghost use Rattle.a2l_entries.specs.MethodSaid.{method_options_seen};
 
 use crate::entry_fault::Awaited;

@@ -1,8 +1,8 @@
 ghost use Rattle.std.specs.Prelude.{◌≡◌};
 ghost use Rattle.a2l_entries.specs.Gives.{Gives};
 ghost use Rattle.a2l_entries.specs.Said.{tokens_of};
-ghost use Rattle.a2l_entries.specs.MethodSaid.{method_options_seen, no_method_options, method_options_or};
-ghost use Rattle.a2l_entries.specs.MethodSaid.{method_options_said};
+ghost use Rattle.a2l_entries.specs.MethodSaid.{method_options_seen, no_method_options};
+ghost use Rattle.a2l_entries.specs.MethodSaid.{method_options_or, method_options_said};
 ghost use Rattle.a2l_entries.specs.MethodSaid.{method_option_said, coefficients_said};
 
 use crate::entry_fault::Awaited;

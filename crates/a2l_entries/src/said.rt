@@ -1,8 +1,8 @@
 ghost use Rattle.std.specs.Prelude.{◌≡◌, bytes_eq, option_copied, string_bytes};
 ghost use Rattle.a2l_entries.specs.Gives.{Gives};
-ghost use Rattle.a2l_entries.specs.Said.{token_at, tokens_of, plain_said, name_said, text_said, kept};
-ghost use Rattle.a2l_entries.specs.Said.{number_said, integer_said, name_first, text_first, behind_text};
-ghost use Rattle.a2l_entries.specs.Said.{number_first};
+ghost use Rattle.a2l_entries.specs.Said.{token_at, tokens_of, plain_said, name_said, text_said};
+ghost use Rattle.a2l_entries.specs.Said.{kept, number_said, integer_said, name_first, text_first};
+ghost use Rattle.a2l_entries.specs.Said.{behind_text, number_first};
 
 use crate::entry_fault::{Awaited, Refused};
 use crate::left::Left;

@@ -1,8 +1,8 @@
 ghost use Rattle.std.specs.Prelude.{◌≡◌, map, option_map, string_bytes};
 ghost use Rattle.a2l_entries.specs.Gives.{Gives};
 ghost use Rattle.a2l_entries.specs.Said.{tokens_of};
-ghost use Rattle.a2l_entries.specs.TableSaid.{table_seen, table_said, ranges_said, count_first, row_said};
-ghost use Rattle.a2l_entries.specs.TableSaid.{row_seen};
+ghost use Rattle.a2l_entries.specs.TableSaid.{table_seen, table_said, ranges_said, count_first};
+ghost use Rattle.a2l_entries.specs.TableSaid.{row_said, row_seen};
 ghost use Rattle.a2l_entries.specs.TableSaid.{range_row_said, default_value_said};
 ghost use Rattle.a2l_entries.specs.Scans.{many};
 

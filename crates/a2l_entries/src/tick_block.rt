@@ -1,7 +1,8 @@
 ghost use Rattle.std.specs.Prelude.{◌≡◌, ◌≤◌, IfOk, IfSome};
 ghost use Rattle.a2l_entries.specs.Gives.{Gives};
 ghost use Rattle.a2l_entries.specs.Said.{token_at, tokens_of};
-ghost use Rattle.a2l_entries.specs.TickSaid.{tick_said, ticks_said, unit_said, unit_of, greater_unit_of};
+ghost use Rattle.a2l_entries.specs.TickSaid.{tick_said, ticks_said, unit_said, unit_of};
+ghost use Rattle.a2l_entries.specs.TickSaid.{greater_unit_of};
 
 use crate::entry_fault::Awaited;
 use crate::left::Left;

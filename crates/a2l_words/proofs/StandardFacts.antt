@@ -1,5 +1,6 @@
 -- Worked examples of the definitions.
-use Rattle.std.proofs.Common.{◌≡◌, [], ◌∷◌, refl, codes, lit<}
+use Rattle.std.proofs.Common.{◌≡◌, [], ◌∷◌, None, refl, codes, lit<, arith}
+use Rattle.fast_float.proofs.OnLiterals.{fast_float_on_literals}
 use Rattle.a2l_words.specs.declared.fault.WordFault.TheVariants.{OpenComment}
 use Rattle.a2l_words.specs.Kinds.{kind_of}
 use Rattle.a2l_words.specs.Fronts.{ends_plain}
@@ -8,6 +9,7 @@ use Rattle.a2l_words.specs.Tokens.{begin, plain, unquoted, IsRun}
 use Rattle.a2l_words.specs.Words.{AreWords}
 use Rattle.a2l_words.specs.Faults.{Stalls}
 use Rattle.a2l_words.specs.Places.{place_at}
+use Rattle.a2l_words.specs.Numbers.{IsInteger, SaysNumber}
 use Rattle.a2l_words.specs.Texts.{unescaped}
 
 -- a comment ends a word, and a line
@@ -35,3 +37,11 @@ third_line = refl
 escapes : unescaped (97 ∷ 34 ∷ 34 ∷ 98 ∷ 92 ∷ 34 ∷ 99 ∷ 92 ∷ 110 ∷ []) ≡ 97 ∷ 34 ∷ 98 ∷ 34 ∷ 99 ∷ 10 ∷ []
 unfolding unescaped
 escapes = refl
+
+-- a word of no byte, which no text has, says neither an integer nor a number
+no_integer : IsInteger [] → ⊥
+no_integer integer = omega (arith, integer.numeral.0)
+
+no_number : SaysNumber [] None
+unfolding fast_float_on_literals
+no_number = refl

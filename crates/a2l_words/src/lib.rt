@@ -12,8 +12,6 @@ mod number;
 mod parts;
 mod place;
 mod run;
-#[cfg(test)]
-mod tests;
 mod token;
 mod word;
 mod words;

@@ -5,13 +5,11 @@ ghost use Rattle.a2l_words.specs.Faults.{Stalls};
 ghost use Rattle.a2l_words.specs.Tokens.{spelling};
 ghost use Rattle.a2l_words.specs.TokenOf.{token_of};
 ghost use Rattle.a2l_words.specs.State.{rest_of, from_of};
-ghost use Rattle.a2l_words.specs.Places.{place_at};
 
 use crate::fault::WordFault;
 use crate::gap::gap_len;
 use crate::kind::{Kind, kind_at};
 use crate::parts::behind;
-use crate::place::{Place, place_of};
 use crate::token::{plain_word, quoted_word};
 use crate::word::Word;
 use std::marker::Model;
@@ -101,12 +99,5 @@ impl<'a> Words<'a> {
         ensures { result ≡ self.now.start }
     {
         self.start
-    }
-
-    /// The line and column of that byte. They are counted at each call, from the front of the text.
-    pub fn place(&self) -> Place
-        ensures { result ≡ place_at self.now.text self.now.start }
-    {
-        place_of(self.text, self.start)
     }
 }

@@ -16,8 +16,6 @@ mod row;
 mod scale;
 mod stretch;
 mod style;
-#[cfg(test)]
-mod tests;
 mod words;
 
 pub use axis::CurveAxis;

@@ -1,8 +1,8 @@
 -- Rows worked by hand, which the definitions have to give.
-use Rattle.std.proofs.Common.{◌≡◌, ◌∷◌, [], negsuc, pos, refl}
+use Rattle.std.proofs.Common.{◌≡◌, ◌*◌, ◌∷◌, [], codes, negsuc, pos, refl}
 use Rattle.measurement.specs.declared.byte_order.ByteOrder.TheVariants.{MsbFirst, MsbLast}
 use Rattle.measured_values.specs.Decimals.{placed}
-use Rattle.measured_values.specs.Raws.{number_of_bytes, twos_complement}
+use Rattle.measured_values.specs.Raws.{masked, number_of_bytes, twos_complement}
 
 intel_word : number_of_bytes MsbLast 2 (0x34 ∷ 0x12 ∷ []) ≡ 0x1234
 intel_word = refl
@@ -19,6 +19,20 @@ minus_two = refl
 greatest_byte : twos_complement 128 0x7f ≡ pos 127
 greatest_byte = refl
 
+-- under a mask of no bit, which no A2L file has
+no_bit : masked 0 0xffffffff ≡ 0
+unfolding lib.Count.count_trailing_zeros
+no_bit = refl
+
 -- 25 with three places is 0.025
 three_places : placed (50 ∷ 53 ∷ []) 3 ≡ 48 ∷ 46 ∷ 48 ∷ 50 ∷ 53 ∷ []
 three_places = refl
+
+-- the longest time, of as many ticks as there may be, each as long as it may be; and the same in
+-- billionths
+longest_time : 18446744073709551615 * 4294967295 ≡ 79228162495817593515539431425
+longest_time = refl
+
+nine_places : placed (codes "79228162495817593515539431425") 9
+    ≡ codes "79228162495817593515.539431425"
+nine_places = refl

@@ -10,8 +10,6 @@ mod raw;
 mod raw_bytes;
 mod seconds;
 mod tally;
-#[cfg(test)]
-mod tests;
 mod tick_text;
 mod trailing_zeros;
 

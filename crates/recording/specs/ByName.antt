@@ -18,8 +18,8 @@ use Rattle.value_tables.specs.TallyText.{IsTable}
 use Rattle.value_tables.specs.ValueRows.{IsCsv}
 use Rattle.value_tables.specs.declared.column.Column.{Column}
 
--- a text is the table, or the CSV, of these columns in samples of these lists. Of a picture only its
--- end is told
+-- a text is the table, or the CSV, of these columns in samples of these lists. Of a picture only
+-- its end is told
 abbrev pub IsTextOf :
     Mode → Option Tick → List Column → List ListPlan → List (ℕ × Recorded) → List ℕ → Type 0
 IsTextOf Summary tick columns plans samples text = IsTable plans columns samples text

@@ -22,8 +22,8 @@ IsShown Csv plans samples before after = Appends before after (csv_text plans sa
 IsShown Svg plans samples before after =
     (text : List ℕ) × IsClosed text × Appends before after text
 
--- a recording was read to its end, from one piece to another, and so is shown what is said of all its
--- samples: those of its packets, of which none waits for others
+-- a recording was read to its end, from one piece to another, and so is shown what is said of all
+-- its samples: those of its packets, of which none waits for others
 pub record ShowsBy (IsSo : List ListPlan → List (ℕ × Recorded) → Type 0) (lists : List Reading)
     (input rest : Option (List ℕ)) (first last : Piece)
     : Type 0 where
