@@ -87,8 +87,8 @@ pub record IsPaired {S E : Type 0} (send : SendGhosts S E) (samplers : List (Sam
   pub rings : t.rings ≡ map (λ (sampler : SamplerState S). send.ring sampler.end) samplers
   pub taken : HasTaken start t []
 
--- the samplers and the transmitter that an engine is opened with: each sampler stands after nothing,
--- and nothing was taken from its ring
+-- the samplers and the transmitter that an engine is opened with: each sampler stands after
+-- nothing, and nothing was taken from its ring
 pub record IsOpenedOver {S E : Type 0} (send : SendGhosts S E) (ring : EndGhosts E)
     (s : StoreState) (caps : List ℕ) (start : WriterState) (samplers : List (SamplerState S))
     (t : TransmitterState)

@@ -37,7 +37,8 @@ pub fn open<O: Out>(
     ensures answers { AnswersOpening is_cap store.now caps.now writer result }
     ensures opened { IfOk result (λ engine. IsOpenedOver
         ⟦<SendHalf as SendEnd>⟧ ⟦<SendLeft as RingEnd>⟧ store.now caps.now
-        (state_of O.Out writer) engine.0.items (transmission O.Out ⟦<TakeHalf as TakeEnd>⟧ engine.1)) }
+        (state_of O.Out writer) engine.0.items
+        (transmission O.Out ⟦<TakeHalf as TakeEnd>⟧ engine.1)) }
     ensures writer { IfOk result (λ engine. writer_of engine.1 ≡ writer) }
     ensures next { IfOk result (λ engine. next_of engine.1 ≡ 0) }
 {
@@ -57,7 +58,8 @@ pub fn open_bytes<O: Out>(
     ensures answers { AnswersOpening is_byte_cap store.now caps.now writer result }
     ensures opened { IfOk result (λ engine. IsOpenedOver
         ⟦<ByteSend as SendEnd>⟧ ⟦<ByteLeft as RingEnd>⟧ store.now caps.now
-        (state_of O.Out writer) engine.0.items (transmission O.Out ⟦<ByteTake as TakeEnd>⟧ engine.1)) }
+        (state_of O.Out writer) engine.0.items
+        (transmission O.Out ⟦<ByteTake as TakeEnd>⟧ engine.1)) }
     ensures writer { IfOk result (λ engine. writer_of engine.1 ≡ writer) }
     ensures next { IfOk result (λ engine. next_of engine.1 ≡ 0) }
 {

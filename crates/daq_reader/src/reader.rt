@@ -69,10 +69,7 @@ impl Reader {
         if place == self.lists.len() {
             return Err(PacketFault::OtherList);
         }
-        let whole = match self.lists[place].take(packet) {
-            Ok(whole) => whole,
-            Err(fault) => return Err(fault),
-        };
+        let whole = self.lists[place].take(packet)?;
         if !whole {
             return Ok(None);
         }

@@ -103,10 +103,7 @@ pub fn read_packet<S: Samples>(
     ensures lists { plans_of reader.new ≡ plans_of reader.old }
     ensures kept { S.kept samples.new ≡ S.kept samples.old }
 {
-    let whole = match reader.take(packet) {
-        Ok(whole) => whole,
-        Err(fault) => return Err(fault),
-    };
+    let whole = reader.take(packet)?;
     let Some(place) = whole else {
         return Ok(());
     };

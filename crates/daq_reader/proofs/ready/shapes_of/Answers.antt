@@ -1,4 +1,4 @@
-use Rattle.std.proofs.Common.{◌≡◌, ◌++◌, ◌∷◌, ◌∙◌, [], ap, filter, map, sym}
+use Rattle.std.proofs.Common.{◌++◌, ◌∷◌, ◌∙◌, [], ap, filter, map, sym}
 use Rattle.std.proofs.lemmas.List.{map-append}
 use Rattle.daq_reader.specs.Lists.{plans_of}
 use Rattle.daq_reader.specs.Reading.{Reading}

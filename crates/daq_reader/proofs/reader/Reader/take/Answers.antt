@@ -3,57 +3,57 @@ use Rattle.daq_reader.specs.Lists.{Takes, place_in, plans_of, refusal}
 use Rattle.daq_reader.specs.Reading.{Reading, is_whole}
 use Rattle.daq_reader.proofs.ListsLemmas.{plans_taken, refused_at, stands_after, takes_at}
 use Rattle.daq_reader.proofs.reader.Reader.take.Goals as goal
-use Rattle.daq_reader.proofs.reader.Reader.take.Goals.{In-Ok}
+use Rattle.daq_reader.proofs.reader.Reader.take.Goals.{In_ok-whole}
 
 -- the place is that of the list that the packet is of
-placed : (c : In-Ok) → c.place_in-place.result ≡ place_in (plans_of c.self.inside.lists.items) c.args.packet.now
+placed : (c : In_ok-whole) → c.place_in-place.result ≡ place_in (plans_of c.self.inside.lists.items) c.args.packet.now
 placed c = c.place_in-place.ensures.value ∙ ap (λ (xs : List Reading). place_in (plans_of xs) c.args.packet.now) c.deref.ensures.value
 
-within : (c : In-Ok) → c.place_in-place.result < length c.self.inside.lists.items
+within : (c : In_ok-whole) → c.place_in-place.result < length c.self.inside.lists.items
 within c = omega (arith, c.place_in-place.ensures.limit, c.if-place-len.false, c.len.ensures, ap length c.deref.ensures.value)
 
 -- that list has taken it
-taken_with : (c : In-Ok) (o : Option ℕ) → o ≡ (if is_whole c.take.new.self then Some c.place_in-place.result else None) → Takes c.args.self.now (set c.self.inside.lists.items c.place_in-place.result c.take.new.self) c.args.packet.now o
+taken_with : (c : In_ok-whole) (o : Option ℕ) → o ≡ (if is_whole c.take.new.self then Some c.place_in-place.result else None) → Takes c.args.self.now (set c.self.inside.lists.items c.place_in-place.result c.take.new.self) c.args.packet.now o
 taken_with c o is =
-    rw (← c.self.view_is) (takes_at c.self.inside.lists.items c.place_in-place.result c.index_mut.result.now c.take.new.self c.args.packet.now o c.index_mut.ensures.value (within c) (placed c) (c.in-Ok.ensures.succeeds.0 refl) c.in-Ok.ensures.ok is)
+    rw (← c.self.view_is) (takes_at c.self.inside.lists.items c.place_in-place.result c.index_mut.result.now c.take.new.self c.args.packet.now o c.index_mut.ensures.value (within c) (placed c) (c.in_ok-whole.ensures.succeeds.0 refl) c.in_ok-whole.ensures.ok is)
 
-no_refusal : (c : In-Ok) → refusal c.args.self.now c.args.packet.now ≡ None
+no_refusal : (c : In_ok-whole) → refusal c.args.self.now c.args.packet.now ≡ None
 no_refusal c =
-    rw (← c.self.view_is) (refused_at c.self.inside.lists.items c.place_in-place.result c.index_mut.result.now c.args.packet.now None c.index_mut.ensures.value (within c) (placed c) c.in-Ok.ensures.no_fault)
+    rw (← c.self.view_is) (refused_at c.self.inside.lists.items c.place_in-place.result c.index_mut.result.now c.args.packet.now None c.index_mut.ensures.value (within c) (placed c) c.in_ok-whole.ensures.no_fault)
 
 -- a packet that leaves the sample torn
 pub returns-then-not-whole-clause-stands : goal.returns-then-not-whole-clause-stands
 returns-then-not-whole-clause-stands c = λ qs samples h.
-    let w : In-Ok = (goal.at.returns-then-not-whole-clause-stands c).In-Ok in
-    let torn : is_whole c.take.new.self ≡ false = sym c.in-Ok.ensures.whole ∙ c.if-not-whole.true in
+    let w : In_ok-whole = (goal.at.returns-then-not-whole-clause-stands c).In_ok-whole in
+    let torn : is_whole c.take.new.self ≡ false = sym c.in_ok-whole.ensures.whole ∙ c.if-not-whole.true in
     stands_after c.args.self.now (set c.self.inside.lists.items c.place_in-place.result c.take.new.self) c.args.packet.now None qs samples (taken_with w None (ap (λ v. if v then Some c.place_in-place.result else None) (sym torn))) h
 
 pub returns-then-not-whole-clause-no_fault : goal.returns-then-not-whole-clause-no_fault
-returns-then-not-whole-clause-no_fault c = no_refusal (goal.at.returns-then-not-whole-clause-no_fault c).In-Ok
+returns-then-not-whole-clause-no_fault c = no_refusal (goal.at.returns-then-not-whole-clause-no_fault c).In_ok-whole
 
 pub returns-then-not-whole-clause-lists : goal.returns-then-not-whole-clause-lists
 returns-then-not-whole-clause-lists c =
-    let w : In-Ok = (goal.at.returns-then-not-whole-clause-lists c).In-Ok in
-    let torn : is_whole c.take.new.self ≡ false = sym c.in-Ok.ensures.whole ∙ c.if-not-whole.true in
+    let w : In_ok-whole = (goal.at.returns-then-not-whole-clause-lists c).In_ok-whole in
+    let torn : is_whole c.take.new.self ≡ false = sym c.in_ok-whole.ensures.whole ∙ c.if-not-whole.true in
     plans_taken c.args.self.now (set c.self.inside.lists.items c.place_in-place.result c.take.new.self) c.args.packet.now None (taken_with w None (ap (λ v. if v then Some c.place_in-place.result else None) (sym torn)))
 
 -- a packet with which it is whole
 pub returns-clause-taken : goal.returns-clause-taken
 returns-clause-taken c =
-    let whole : is_whole c.take.new.self ≡ true = sym c.in-Ok.ensures.whole ∙ c.if-not-whole.false in
-    taken_with (goal.at.returns-clause-taken c).In-Ok (Some c.place_in-place.result) (ap (λ v. if v then Some c.place_in-place.result else None) (sym whole))
+    let whole : is_whole c.take.new.self ≡ true = sym c.in_ok-whole.ensures.whole ∙ c.if-not-whole.false in
+    taken_with (goal.at.returns-clause-taken c).In_ok-whole (Some c.place_in-place.result) (ap (λ v. if v then Some c.place_in-place.result else None) (sym whole))
 
 pub returns-clause-stands : goal.returns-clause-stands
 returns-clause-stands c = λ qs samples h.
-    let w : In-Ok = (goal.at.returns-clause-stands c).In-Ok in
-    let whole : is_whole c.take.new.self ≡ true = sym c.in-Ok.ensures.whole ∙ c.if-not-whole.false in
+    let w : In_ok-whole = (goal.at.returns-clause-stands c).In_ok-whole in
+    let whole : is_whole c.take.new.self ≡ true = sym c.in_ok-whole.ensures.whole ∙ c.if-not-whole.false in
     stands_after c.args.self.now (set c.self.inside.lists.items c.place_in-place.result c.take.new.self) c.args.packet.now (Some c.place_in-place.result) qs samples (taken_with w (Some c.place_in-place.result) (ap (λ v. if v then Some c.place_in-place.result else None) (sym whole))) h
 
 pub returns-clause-no_fault : goal.returns-clause-no_fault
-returns-clause-no_fault c = no_refusal (goal.at.returns-clause-no_fault c).In-Ok
+returns-clause-no_fault c = no_refusal (goal.at.returns-clause-no_fault c).In_ok-whole
 
 pub returns-clause-lists : goal.returns-clause-lists
 returns-clause-lists c =
-    let w : In-Ok = (goal.at.returns-clause-lists c).In-Ok in
-    let whole : is_whole c.take.new.self ≡ true = sym c.in-Ok.ensures.whole ∙ c.if-not-whole.false in
+    let w : In_ok-whole = (goal.at.returns-clause-lists c).In_ok-whole in
+    let whole : is_whole c.take.new.self ≡ true = sym c.in_ok-whole.ensures.whole ∙ c.if-not-whole.false in
     plans_taken c.args.self.now (set c.self.inside.lists.items c.place_in-place.result c.take.new.self) c.args.packet.now (Some c.place_in-place.result) (taken_with w (Some c.place_in-place.result) (ap (λ v. if v then Some c.place_in-place.result else None) (sym whole)))
