@@ -1,5 +1,5 @@
 //! Samplers beside the transmitter of their rings, in one thread: looks, and a pump step.
-ghost use Rattle.std.specs.Prelude.{◌≡◌, ◌≢◌, ℕ, ◌<◌, ◌++◌, length, slice_get};
+ghost use Rattle.std.specs.Prelude.{◌≡◌, ◌≢◌, ℕ, ◌<◌, ◌++◌, OnOk, length, slice_get};
 ghost use Rattle.transmitter.specs.Looks.{KnowsAll, Looked, LookedAt};
 ghost use Rattle.transmitter.specs.Merge.{of_ring};
 ghost use Rattle.transmitter.specs.Written.{next_of, transmission};
@@ -85,6 +85,7 @@ pub(crate) fn pump_step<O: Out, T: Beside>(
         (transmission O.Out T.TakeEnd transmitter.new) result }
     ensures roomy { AreRoomy T.Send.SendEnd T.Send.End.RingEnd samplers.new.items
         (transmission O.Out T.TakeEnd transmitter.new) }
+    ensures next { OnOk result (next_of transmitter.new ≡ 0) }
 {
     // the pump is to find all that was sent
     look(samplers, transmitter);

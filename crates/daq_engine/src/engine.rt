@@ -30,14 +30,15 @@ impl<O: Out, T: Beside> Engine<O, T>
 where
     T::Send: SendEnd<End = T::End>,
 {
-    ghost use Rattle.std.specs.Prelude.{◌≡◌, ◌≤◌, IfErr, IfOk, length};
+    ghost use Rattle.std.specs.Prelude.{◌≡◌, ◌≤◌, IfErr, IfOk, OnOk, length};
     ghost use Rattle.frame_writer.specs.Shown.{shown};
     ghost use Rattle.sampler.specs.Tracks.{counts_after};
-    ghost use Rattle.transmitter.specs.Written.{transmission};
+    ghost use Rattle.transmitter.specs.Written.{next_of, transmission};
     ghost use Rattle.daq_engine.specs.Asking.{AsksStart, AsksStop, AsksTrigger};
     ghost use Rattle.daq_engine.specs.Closings.{ClosesEngine, GivesBack};
     ghost use Rattle.daq_engine.specs.Engines.{OfPast, Stands, Standing, engine_state};
     ghost use Rattle.daq_engine.specs.Events.{PumpsOn};
+    ghost use Rattle.daq_engine.specs.Fillings.{next_ring};
     ghost use Rattle.daq_engine.specs.Samplers.{AreBeside};
 
     /// An engine of samplers, in rising event channel from 0 on, and the transmitter of their
@@ -48,6 +49,7 @@ where
         ensures samplers { (engine_state O.Out T.TakeEnd result).samplers ≡ samplers.items }
         ensures transmitter { (engine_state O.Out T.TakeEnd result).transmitter
             ≡ transmission O.Out T.TakeEnd transmitter }
+        ensures next { next_ring result ≡ next_of transmitter }
     {
         Engine {
             samplers,
@@ -152,6 +154,7 @@ where
     pub fn pump(&mut self) -> Result<Pumped, PumpFault>
         ensures pumps { PumpsOn T.Send.SendEnd T.End.RingEnd
             (engine_state O.Out T.TakeEnd self.old) (engine_state O.Out T.TakeEnd self.new) result }
+        ensures next { OnOk result (next_ring self.new ≡ 0) }
     {
         pump_step(&mut self.samplers, &mut self.transmitter)
     }

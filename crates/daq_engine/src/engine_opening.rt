@@ -2,6 +2,7 @@
 ghost use Rattle.std.specs.Prelude.{◌≡◌, IfOk, false};
 ghost use Rattle.frame_writer.specs.Writing.{state_of};
 ghost use Rattle.daq_engine.specs.Engines.{IsOpenedFrom, engine_state};
+ghost use Rattle.daq_engine.specs.Fillings.{next_ring};
 ghost use Rattle.daq_engine.specs.Openings.{AnswersOpening, is_byte_cap, is_cap};
 
 use crate::engine::Engine;
@@ -30,6 +31,7 @@ impl<O: Out> Engine<O, TakeHalf> {
         ensures opened { IfOk result (λ engine. IsOpenedFrom
             ⟦<SendHalf as SendEnd>⟧ ⟦<SendLeft as RingEnd>⟧ store.now caps.now
             (state_of O.Out writer) (engine_state O.Out ⟦<TakeHalf as TakeEnd>⟧ engine)) }
+        ensures next { IfOk result (λ engine. next_ring engine ≡ 0) }
     {
         engine_over::<SampleRing, O>(alloc, store, caps, writer)
     }
@@ -51,6 +53,7 @@ impl<O: Out> Engine<O, ByteTake> {
         ensures opened { IfOk result (λ engine. IsOpenedFrom
             ⟦<ByteSend as SendEnd>⟧ ⟦<ByteLeft as RingEnd>⟧ store.now caps.now
             (state_of O.Out writer) (engine_state O.Out ⟦<ByteTake as TakeEnd>⟧ engine)) }
+        ensures next { IfOk result (λ engine. next_ring engine ≡ 0) }
     {
         engine_over::<ByteRing, O>(alloc, store, caps, writer)
     }
@@ -72,6 +75,7 @@ pub fn engine_over<R: Ring, O: Out>(
     ensures opened { IfOk result (λ engine. IsOpenedFrom
         R.Send.SendEnd R.Send.End.RingEnd store.now caps.now
         (state_of O.Out writer) (engine_state O.Out R.Take.TakeEnd engine)) }
+    ensures next { IfOk result (λ engine. next_ring engine ≡ 0) }
 {
     let (samplers, transmitter) = open_over::<R, O>(alloc, store, caps, writer)?;
     Ok(Engine::new(samplers, transmitter))
