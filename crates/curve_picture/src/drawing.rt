@@ -7,10 +7,10 @@ use crate::curve::{Plot, pieces_of, push_curve, push_dots};
 use crate::furniture::{LEFT, ROW, TOP, push_axis, push_head};
 use crate::heights::Heights;
 use crate::label::label_of;
-use crate::marks::{marks_of, push_triangles};
+use crate::marks::marks_of;
 use crate::row::Row;
 use crate::words::Words;
-use sample_picture::{Grid, Losses, Ruler, lost_spans, push_number, push_strokes};
+use sample_picture::{Grid, Losses, Ruler, lost_spans, push_number, push_strokes, push_triangles};
 use std::alloc::{AllocError, Global};
 
 /// The text of a picture of these rows.
@@ -104,7 +104,7 @@ fn push_losses(
     push_strokes(text, "l", &lost)?;
     let marks = marks_of(alloc, row, grid, ruler)?;
     push_strokes(text, "o", &marks)?;
-    push_triangles(text, &marks)?;
+    push_triangles(text, &marks, "-32l-4-7h8z", 60)?;
     text.push_str("</g>\n")
 }
 

@@ -2,7 +2,7 @@
 ghost use Rattle.std.specs.Prelude.{◌<◌};
 
 use crate::row::Row;
-use sample_picture::{BINS, Grid, Ruler, Span, push_tenths, push_tick};
+use sample_picture::{BINS, Grid, Ruler, Span, push_tick};
 use std::alloc::{AllocError, Global};
 
 /// The width of a mark, in tenths of a unit.
@@ -23,23 +23,4 @@ pub fn marks_of(
         }
     }
     Ok(spans)
-}
-
-/// Writes a triangle above the middle of each mark, where it is clear of the one before.
-pub fn push_triangles(text: &mut String, marks: &[Span]) -> Result<(), AllocError> {
-    if marks.is_empty() {
-        return Ok(());
-    }
-    text.push_str("<path class=\"t\" d=\"")?;
-    let mut free = 0;
-    for mark in marks {
-        let middle = mark.middle();
-        if middle >= free {
-            text.push_str("M")?;
-            push_tenths(text, middle)?;
-            text.push_str("-32l-4-7h8z")?;
-            free = middle.saturating_add(60);
-        }
-    }
-    text.push_str("\"/>\n")
 }

@@ -12,7 +12,7 @@ use crate::drawing::text_of;
 use crate::point::Point;
 use crate::row::Row;
 use crate::words::Words;
-use sample_picture::{BINS, Grid, Losses};
+use sample_picture::{BINS, Grid, Losses, double_losses};
 use std::alloc::{AllocError, Global};
 use std::io::{self, Write};
 use std::marker::Model;
@@ -152,15 +152,6 @@ fn double_all(rows: &mut [Row], from: u64, count: u64)
     ensures { rows.new ≡ map (doubled_row from count) rows.old }
 {
     for row in rows.iter_mut() {
-        row.double(from, count);
-    }
-}
-
-/// Doubles the bins in which samples were lost, of each row.
-fn double_losses(losses: &mut [Losses], from: u64, count: u64)
-    requires { from + count ≤ 2 ^ 64 }
-{
-    for row in losses.iter_mut() {
         row.double(from, count);
     }
 }

@@ -116,8 +116,14 @@ pub fn push_strokes(text: &mut String, class: &str, spans: &[Span]) -> Result<()
     text.push_str("\"/>\n")
 }
 
-/// Writes a triangle above the middle of each stroke, if it is clear of the one before.
-pub fn push_triangles(text: &mut String, spans: &[Span]) -> Result<(), AllocError> {
+/// Writes a triangle above the middle of each stroke, if it is clear of the one before: `shape` is
+/// the rest of its path, and `clear` how far the next one has to be, in tenths of a unit.
+pub fn push_triangles(
+    text: &mut String,
+    spans: &[Span],
+    shape: &str,
+    clear: u64,
+) -> Result<(), AllocError> {
     if spans.is_empty() {
         return Ok(());
     }
@@ -128,8 +134,8 @@ pub fn push_triangles(text: &mut String, spans: &[Span]) -> Result<(), AllocErro
         if middle >= free {
             text.push_str("M")?;
             push_tenths(text, middle)?;
-            text.push_str("-15l-3.5-6h7z")?;
-            free = middle.saturating_add(50);
+            text.push_str(shape)?;
+            free = middle.saturating_add(clear);
         }
     }
     text.push_str("\"/>\n")

@@ -61,7 +61,7 @@ fn push_row(
     push_strokes(text, "s", &samples)?;
     let overloads = spans_of(alloc, row, grid, &ruler, Band::Overloads)?;
     push_strokes(text, "o", &overloads)?;
-    push_triangles(text, &overloads)
+    push_triangles(text, &overloads, "-15l-3.5-6h7z", 50)
 }
 
 /// Writes the names of a row at its left.

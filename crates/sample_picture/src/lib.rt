@@ -17,9 +17,9 @@ mod span;
 mod style;
 
 pub use axis::Axis;
-pub use bands::{lost_spans, push_strokes, push_tick};
+pub use bands::{lost_spans, push_strokes, push_tick, push_triangles};
 pub use grid::Grid;
-pub use losses::Losses;
+pub use losses::{Losses, double_losses};
 pub use numbers::{push_number, push_tenths};
 pub use picture::Picture;
 pub use row::BINS;

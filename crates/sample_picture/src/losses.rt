@@ -44,3 +44,12 @@ impl Losses {
         self.ends[(bin % BINS) as usize]
     }
 }
+
+/// Doubles the bins in which samples were lost, of each row.
+pub fn double_losses(losses: &mut [Losses], from: u64, count: u64)
+    requires { from + count ≤ 2 ^ 64 }
+{
+    for row in losses.iter_mut() {
+        row.double(from, count);
+    }
+}

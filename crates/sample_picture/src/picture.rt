@@ -9,7 +9,7 @@ ghost use Rattle.sample_picture.specs.Shown.{IsClosed};
 use crate::axis::Axis;
 use crate::drawing::text_of;
 use crate::grid::Grid;
-use crate::losses::Losses;
+use crate::losses::{Losses, double_losses};
 use crate::row::{BINS, Row};
 use std::alloc::{AllocError, Global};
 use std::io::{self, Write};
@@ -140,15 +140,6 @@ fn double_all(rows: &mut [Row], from: u64, count: u64)
     ensures { rows.new ≡ map (doubled_row from count) rows.old }
 {
     for row in rows.iter_mut() {
-        row.double(from, count);
-    }
-}
-
-/// Doubles the bins in which samples were lost, of each row.
-fn double_losses(losses: &mut [Losses], from: u64, count: u64)
-    requires { from + count ≤ 2 ^ 64 }
-{
-    for row in losses.iter_mut() {
         row.double(from, count);
     }
 }
