@@ -61,6 +61,10 @@ module _ {A : Type 0} where
   pub front-none : (R : ℕ → A → A → Type 0) (xs : List A) → IsFront R 0 xs xs
   front-none R xs = record { as_many = refl; front = λ k a b below at now. absurd (omega (arith, below)); rest = λ k from. refl }
 
+  -- nothing changed yet of what is seen so
+  pub front-seen : (R : ℕ → A → A → Type 0) (xs seen : List A) → xs ≡ seen → IsFront R 0 seen xs
+  front-seen R xs seen same = subst (λ ys. IsFront R 0 ys xs) same (front-none R xs)
+
   front-at : (R : ℕ → A → A → Type 0) (c : ℕ) (xs ys : List A) (old new : A) → old ≡ get_or ys c old → c < length ys → IsFront R c xs ys → R c old new
       → (k : ℕ) (a b : A) → k ≡ c → slice_get xs k ≡ Some a → slice_get (set ys c new) k ≡ Some b → R k a b
   front-at R c xs ys old new is here so_far one k a b e at now =

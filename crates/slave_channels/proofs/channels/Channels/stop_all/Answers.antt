@@ -1,7 +1,18 @@
-use Rattle.std.proofs.Common.{◌≡◌, ◌<◌, ◌≤◌, length, ap, arith}
+use Rattle.std.proofs.Common.{◌≡◌, ◌<◌, ◌≤◌, length, ap, arith, sym, subst, ◌∙◌}
+use Rattle.xcp_base.specs.declared.limits.TheConstants.{MAX_CHANNELS}
 use Rattle.slave_channels.specs.Calls.{StopsAll}
-use Rattle.slave_channels.proofs.EachLemmas.{front-all, front-next}
+use Rattle.slave_channels.proofs.EachLemmas.{front-all, front-next, front-seen}
 use Rattle.slave_channels.proofs.channels.Channels.stop_all.Goals as goal
+
+-- as many as before
+pub invariant_of-self : goal.invariant_of-self
+invariant_of-self g c =
+    let view : length c.self.inside.all.items ≡ length c.args.self.now = ap length c.self.view_is in
+    subst (λ n. n ≤ MAX_CHANNELS) (view ∙ sym c.loop-c.invariant.as_many) c.self.invariant
+
+-- no channel yet
+pub loop-c-init : goal.loop-c-init
+loop-c-init g c = front-seen (λ k. StopsAll g.R.Take.TakeEnd c.args.lists) c.self.inside.all.items c.args.self.now c.self.view_is
 
 -- one channel more
 pub loop-c-preserved : goal.loop-c-preserved

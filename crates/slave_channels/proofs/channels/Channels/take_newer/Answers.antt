@@ -1,5 +1,12 @@
+use Rattle.std.proofs.Common.{◌≤◌, sym, subst}
+use Rattle.std.proofs.lemmas.List.{length-set}
+use Rattle.xcp_base.specs.declared.limits.TheConstants.{MAX_CHANNELS}
 use Rattle.slave_channels.proofs.EachLemmas.{only-set}
 use Rattle.slave_channels.proofs.channels.Channels.take_newer.Goals as goal
+
+-- as many as before
+pub invariant_of-self : goal.invariant_of-self
+invariant_of-self g c = subst (λ n. n ≤ MAX_CHANNELS) (sym (length-set c.self.inside.all.items c.args.c c.take_newer.new.self)) c.self.invariant
 
 -- only that channel was asked
 pub returns : goal.returns

@@ -1,0 +1,20 @@
+use Rattle.std.proofs.Common.{◌≤◌, sym, subst}
+use Rattle.std.proofs.lemmas.List.{length-set}
+use Rattle.xcp_base.specs.declared.limits.TheConstants.{MAX_CHANNELS}
+use Rattle.slave_channels.proofs.EachLemmas.{only-set}
+use Rattle.slave_channels.proofs.channels.Channels.take.Goals as goal
+
+-- as many as before
+pub invariant_of-self : goal.invariant_of-self
+invariant_of-self g c = subst (λ n. n ≤ MAX_CHANNELS) (sym (length-set c.self.inside.all.items c.args.c c.take.new.self)) c.self.invariant
+
+-- only that channel was asked
+pub returns : goal.returns
+returns g c =
+    let e = c.take.ensures in
+    record {
+      takes =
+          only-set _ c.args.c _ _ c.index_mut.result.now c.take.new.self c.self.view_is c.index_mut.ensures.value c.requires.channel
+          (record { takes = e.takes; rest = e.rest_stays });
+      shown_stays = e.shown_stays;
+    }
