@@ -1,141 +1,109 @@
-//! The program: from its arguments and streams to its status.
-ghost use Rattle.std.specs.Prelude.{◌≡◌, ◌≤◌, Bool, IfErr, IfOk, IfSome, None, OnErr};
-ghost use Rattle.std.specs.Io.KnownBytes.{Keeps};
-ghost use Rattle.run_file.specs.RunFile.{IsRunText};
-ghost use Rattle.daq_sim.specs.Done.{PrintsText, frames_line_of};
-ghost use Rattle.daq_sim.specs.Stops.{StopsAt};
+//! The command line.
+ghost use Rattle.std.specs.Prelude.{◌≡◌, ◌⊎◌, IfErr};
+ghost use Rattle.daq_sim.specs.Faults.{want_of_memory};
+ghost use Rattle.daq_sim.specs.declared.program_fault.ProgramFault.TheVariants as fault;
 
-use crate::carrying::{status_of, to_file, to_memory};
-use crate::explaining::explain;
 use crate::program_fault::ProgramFault;
-use crate::run_text::run_from;
 use crate::why::Why;
-use crate::words::{Asked, Words, read_words};
-use clap::Error;
-use run_file::Run;
-use std::alloc::Global;
-use std::fs;
-use std::io::{BufWriter, Read, Write};
-use std::rt::Files;
-use std::sync::Wait;
-use std::thread::Threads;
+use clap::error::ErrorKind;
+use clap::{Arg, ArgAction, ArgMatches, Command, Error};
+use std::alloc::{AllocError, Global};
 
-/// The program over its arguments, without its name, its standard input, standard output and
-/// standard error. It returns its status.
-///
-/// With `--threads` it may wait.
-pub fn program<R: Files + Threads + Wait + Sync, I: Read + Drop, W: Write + Drop, E: Write + Drop>(
-    rt: &R,
-    alloc: Global,
-    words: &[String],
-    input: I,
-    out: W,
-    err: E,
-) -> u8
-    ensures { result ≤ 2 }
-{
-    let mut err = err;
-    let mut why = Why::new(alloc, words);
-    let answer = match BufWriter::new(alloc, out) {
-        Ok(mut out) => answer(rt, alloc, words, input, &mut out, &mut why),
-        Err(_) => Err(ProgramFault::MEMORY),
-    };
-    match answer {
-        Ok(status) => status,
-        Err(fault) => {
-            let _ = writeln!(err, "{fault}");
-            let _ = err.write_all(why.text().as_bytes());
-            fault.status()
-        }
-    }
+/// What the command line asks for.
+#[derive(Drop)]
+pub enum CommandLine<'a> {
+    /// The help, which is the error's text.
+    Help(Error),
+    /// A run.
+    Run(Options<'a>),
 }
 
-/// What the arguments ask for: the status once that is printed, or the fault that is still to be.
-fn answer<R: Files + Threads + Wait + Sync, I: Read + Drop, W: Write>(
-    rt: &R,
+/// Where a run is read from, and where its frames go.
+#[derive(Clone, Copy)]
+pub struct Options<'a> {
+    /// The file of the run; standard input if there is none.
+    pub run: Option<&'a str>,
+    /// The file for the frames; they are kept and printed if there is none.
+    pub out: Option<&'a str>,
+    /// Whether each event channel has a thread of its own.
+    pub threads: bool,
+    /// Whether the story of the run is printed in the place of its frames.
+    pub explain: bool,
+}
+
+/// Reads the arguments, without the program's name.
+pub fn read_command_line<'a>(
     alloc: Global,
-    words: &[String],
-    input: I,
-    out: &mut W,
+    words: &'a [String],
     why: &mut Why,
-) -> Result<u8, ProgramFault>
-    ensures status { IfOk result (λ status. status ≤ 1) }
-    ensures silent { OnErr result (Keeps (W.contents out.old) (W.contents out.new)) }
+) -> Result<CommandLine<'a>, ProgramFault>
+    ensures { IfErr result (λ f. (f ≡ fault.CommandLine) ⊎ (f ≡ want_of_memory)) }
 {
-    match read_words(alloc, words, why)? {
-        Asked::Help(text) => Ok(print_help(out, text)),
-        Asked::Run(words) => do_run(rt, alloc, words, input, out, why),
+    match command(alloc)?.try_get_matches_from(words) {
+        Ok(matches) => Ok(CommandLine::Run(options_of(&matches))),
+        Err(error) => match error.kind() {
+            ErrorKind::DisplayHelp => Ok(CommandLine::Help(error)),
+            ErrorKind::OutOfMemory => Err(ProgramFault::MEMORY),
+            _ => {
+                why.tell(error);
+                Err(ProgramFault::CommandLine)
+            }
+        },
     }
 }
 
-/// Carries out the run that the arguments name, and prints what came of it, or its story.
-fn do_run<R: Files + Threads + Wait + Sync, I: Read + Drop, W: Write>(
-    rt: &R,
-    alloc: Global,
-    words: Words<'_>,
-    input: I,
-    out: &mut W,
-    why: &mut Why,
-) -> Result<u8, ProgramFault>
-    ensures status { IfOk result (λ status. status ≤ 1) }
-    ensures silent { OnErr result (Keeps (W.contents out.old) (W.contents out.new)) }
-{
-    if words.explain {
-        explain(rt, alloc, words, input, out, why)
-    } else {
-        carry_out(rt, alloc, words, input, out)
-    }
+/// The arguments that the program takes.
+fn command<'a>(alloc: Global) -> Result<Command<'a>, AllocError> {
+    let command = Command::new(alloc, "xcpdaq")
+        .about("Carries out a run file, and prints its frames and its account")
+        .no_binary_name(true);
+    let command = with_threads(alloc, with_out(alloc, command)?)?;
+    with_run(alloc, with_explain(alloc, command)?)
 }
 
-/// Carries out the run that the arguments name, and prints what came of it.
-fn carry_out<R: Files + Threads + Wait + Sync, I: Read + Drop, W: Write>(
-    rt: &R,
-    alloc: Global,
-    words: Words<'_>,
-    input: I,
-    out: &mut W,
-) -> Result<u8, ProgramFault>
-    ensures status { IfOk result (λ status. status ≤ 1) }
-    ensures silent { OnErr result (Keeps (W.contents out.old) (W.contents out.new)) }
-    ensures of_input { words.entry.run ≡ None → IfOk result (λ status.
-        IfSome (I.remaining input) (λ text. PrintsText words.entry.threads
-        (frames_line_of words.entry.out) text status
-        (W.contents out.old) (W.contents out.new))) }
-    ensures stops { words.entry.run ≡ None → IfErr result (λ fault.
-        IfSome (I.remaining input) (λ text. StopsAt words.entry.threads text fault)) }
-{
-    let run = run_of(rt, alloc, words.run, input)?;
-    match words.out {
-        Some(path) => to_file(rt, alloc, &run, words.threads, path, out),
-        None => to_memory(rt, alloc, &run, words.threads, out),
-    }
+/// A command that also takes the file for the frames.
+fn with_out<'a>(alloc: Global, command: Command<'a>) -> Result<Command<'a>, AllocError> {
+    let out = Arg::new(alloc, "out")
+        .long("out")
+        .value_name("FILE")
+        .action(ArgAction::Set)
+        .help("Write the frames to FILE, for one run at a time, and print the account alone");
+    command.arg(out)
 }
 
-/// Prints the help, and returns the status.
-fn print_help<W: Write>(out: &mut W, help: Error) -> u8
-    ensures { result ≤ 1 }
-{
-    status_of(write!(out, "{help}").and_then(|()| out.flush()), false)
+/// A command that also takes whether each event channel has a thread of its own.
+fn with_threads<'a>(alloc: Global, command: Command<'a>) -> Result<Command<'a>, AllocError> {
+    let threads = Arg::new(alloc, "threads")
+        .long("threads")
+        .action(ArgAction::SetTrue)
+        .help("Sample each event channel in a thread of its own: a stress test, with drops");
+    command.arg(threads)
 }
 
-/// The run of a file, or of standard input if no file is named.
-fn run_of<R: Files, I: Read + Drop>(
-    rt: &R,
-    alloc: Global,
-    path: Option<&str>,
-    input: I,
-) -> Result<Run, ProgramFault>
-    ensures ok { path.entry ≡ None → IfOk result (λ run.
-        IfSome (I.remaining input) (λ text. IsRunText text run)) }
-    ensures stops { path.entry ≡ None → (threads : Bool) → IfErr result (λ fault.
-        IfSome (I.remaining input) (λ text. StopsAt threads text fault)) }
-{
-    let mut input = input;
-    let Some(path) = path else {
-        return Ok(run_from(alloc, &mut input)?);
-    };
-    match fs::open(rt, path) {
-        Ok(mut file) => Ok(run_from(alloc, &mut file)?),
-        Err(error) => Err(ProgramFault::Unreadable.or_memory(&error)),
+/// A command that also takes whether the story of the run is printed.
+fn with_explain<'a>(alloc: Global, command: Command<'a>) -> Result<Command<'a>, AllocError> {
+    let explain = Arg::new(alloc, "explain")
+        .long("explain")
+        .action(ArgAction::SetTrue)
+        .help("Print each reply, step and frame in words, and the reason behind a fault");
+    command.arg(explain)
+}
+
+/// A command that also takes the file of the run.
+fn with_run<'a>(alloc: Global, command: Command<'a>) -> Result<Command<'a>, AllocError> {
+    let run = Arg::new(alloc, "run")
+        .value_name("RUN")
+        .action(ArgAction::Set)
+        .help("The run file [default: standard input]");
+    command.arg(run)
+}
+
+/// The options that were read.
+fn options_of<'a>(matches: &ArgMatches<'a>) -> Options<'a> {
+    Options {
+        run: matches.get_str("run"),
+        out: matches.get_str("out"),
+        threads: matches.get_flag("threads"),
+        explain: matches.get_flag("explain"),
     }
 }

@@ -8,12 +8,12 @@ ghost use Rattle.daq_sim.specs.Done.{CameTo, PrintsRun, PrintsText, nothing_writ
 ghost use Rattle.daq_sim.specs.Stops.{StopsAt, StopsOf, StopsRun, StopsText};
 
 use crate::carrying::status_of;
+use crate::command_line::Options;
 use crate::program_fault::ProgramFault;
 use crate::report_text::print_outcome;
 use crate::run_text::text_from;
 use crate::text_fault::TextFault;
 use crate::why::Why;
-use crate::words::Words;
 use daq_run::{NoGate, Outcome, SimFault, run_threads, run_watched};
 use frame_writer::{Out, StdOut, VecOut};
 use run_file::Run;
@@ -30,24 +30,24 @@ use std::thread::Threads;
 pub fn explain<R: Files + Threads + Wait + Sync, I: Read + Drop, W: Write>(
     rt: &R,
     alloc: Global,
-    words: Words<'_>,
+    options: Options<'_>,
     input: I,
     out: &mut W,
     why: &mut Why,
 ) -> Result<u8, ProgramFault>
     ensures status { IfOk result (λ status. status ≤ 1) }
     ensures silent { OnErr result (Keeps (W.contents out.old) (W.contents out.new)) }
-    ensures of_input { words.entry.run ≡ None → IfOk result (λ status.
+    ensures of_input { options.entry.run ≡ None → IfOk result (λ status.
         IfSome (I.remaining input) (λ text. (story : List ℕ)
-        × PrintsText words.entry.threads (λ _. Some story) text status
+        × PrintsText options.entry.threads (λ _. Some story) text status
         (W.contents out.old) (W.contents out.new))) }
-    ensures stops { words.entry.run ≡ None → IfErr result (λ fault.
-        IfSome (I.remaining input) (λ text. StopsAt words.entry.threads text fault)) }
+    ensures stops { options.entry.run ≡ None → IfErr result (λ fault.
+        IfSome (I.remaining input) (λ text. StopsAt options.entry.threads text fault)) }
 {
-    let run = run_of(rt, alloc, words.run, input, why)?;
-    match words.out {
-        Some(path) => to_file(rt, alloc, &run, words.threads, path, out, why),
-        None => to_memory(rt, alloc, &run, words.threads, out, why),
+    let run = run_of(rt, alloc, options.run, input, why)?;
+    match options.out {
+        Some(path) => to_file(rt, alloc, &run, options.threads, path, out, why),
+        None => to_memory(rt, alloc, &run, options.threads, out, why),
     }
 }
 

@@ -1,8 +1,8 @@
 use Rattle.std.proofs.Common.{rules}
-use Rattle.daq_sim.proofs.command_line.carry_out.Goals as goal
+use Rattle.daq_sim.proofs.whole_program.carry_out.Goals as goal
 
 -- a run that can't be read stops for the same, in one thread or in threads
 pub returns-in_err-run-clause-stops : goal.returns-in_err-run-clause-stops
 returns-in_err-run-clause-stops g c = λ none.
-    let stops = c.in_err-run.ensures.stops none c.args.words.threads in
+    let stops = c.in_err-run.ensures.stops none c.args.options.threads in
     search rules
