@@ -96,10 +96,7 @@ pub fn texts_at<'a>(table: &'a Table, key: &str, most: usize) -> Option<&'a [Val
 fn items_in(value: &Value) -> Option<&[Value]>
     ensures { option_map (λ values. items_view values.now) result ≡ as_array (view value.now) }
 {
-    match value.as_array() {
-        Some(array) => Some(array.as_slice()),
-        None => None,
-    }
+    Some(value.as_array()?.as_slice())
 }
 
 /// Whether values are strings, and no more than `most`.
@@ -188,10 +185,7 @@ pub fn ring_of(table: &Table) -> Option<RingKind>
 fn ring_in(value: &Value) -> Option<RingKind>
     ensures { result ≡ ring_in (view value.now) }
 {
-    match value.as_str() {
-        Some(word) => ring_named(word),
-        None => None,
-    }
+    ring_named(value.as_str()?)
 }
 
 /// The kind of ring that a word names.
@@ -234,10 +228,7 @@ pub fn id_of(table: &Table) -> Option<IdKind>
 fn id_in(value: &Value) -> Option<IdKind>
     ensures { result ≡ id_in (view value.now) }
 {
-    match value.as_str() {
-        Some(word) => id_named(word),
-        None => None,
-    }
+    id_named(value.as_str()?)
 }
 
 /// The identification field that a word names.
