@@ -27,13 +27,13 @@ use Rattle.daq_steps.specs.declared.cause.Cause.{Cause}
 use Rattle.daq_steps.specs.declared.cause.Cause.TheVariants.{Start as OfStart, Stop as OfStop, Trigger as OfTrigger}
 use Rattle.daq_steps.specs.Answers.{Answered}
 use Rattle.daq_steps.specs.Laws.{is_no_room, markers_refused}
-use Rattle.daq_steps.specs.Runs.{AreDone, Done, IsStepOf, is_refused, sent_in, taken_in}
+use Rattle.daq_steps.specs.Runs.{AreDone, Done, IsStepOf, is_refused_step, sent_in, taken_in}
 use Rattle.daq_steps.specs.Steps.{asked_of, run_step}
 use Rattle.daq_steps.proofs.AskLemmas.{sampler_at}
 use Rattle.daq_steps.proofs.LawLemmas.{refusals_decide}
 use Rattle.daq_run.specs.Alike.{AmpleRunsAreSame, AreSame, IsWritten, RefuseAlike, RefusalsDecideRuns, RingsHoldAll, RunOutcome, past_of, told_in}
 use Rattle.daq_run.specs.Ample.{DropsNothing, ample_past}
-use Rattle.daq_run.specs.Runs.{IsClosed, setting_of}
+use Rattle.daq_run.specs.Runs.{IsClosed, settings_of_run}
 use Rattle.daq_run.specs.SetUps.{replies_of}
 use Rattle.daq_run.proofs.AmpleLemmas.{ample}
 use Rattle.daq_run.proofs.DrainLemmas.{none_beyond}
@@ -89,8 +89,8 @@ module _ (run : RunData) (o : RunOutcome run) (good : IsWritten o) where
       open_before o.comes_to.has_run.writer o.comes_to.has_run.transmitter closing.closed.last (taken_in o.comes_to.has_run.done) (sent_by closing.ends) o.comes_to.has_run.taken no_hand last_open run.drain
       closing.closed.drained
 
-  done_open : AreDone run.channels (setting_of run) (map run_step run.steps) false (past_of o) o.comes_to.has_run.done
-  done_open = subst (λ f. AreDone run.channels (setting_of run) (map run_step run.steps) f (past_of o) o.comes_to.has_run.done) open_at_steps o.comes_to.has_run.are_done
+  done_open : AreDone run.channels (settings_of_run run) (map run_step run.steps) false (past_of o) o.comes_to.has_run.done
+  done_open = subst (λ f. AreDone run.channels (settings_of_run run) (map run_step run.steps) f (past_of o) o.comes_to.has_run.done) open_at_steps o.comes_to.has_run.are_done
 
   in_all : TookInAll run.drain o.comes_to.has_run.writer closing.closed.last (taken_in o.comes_to.has_run.done) (of_ring (sent_by closing.ends))
   in_all =
@@ -157,7 +157,7 @@ module _ (run : RunData) (limits : HasLimits run) where
   module _ (a b : RunOutcome run) (good : IsWritten a) (fine : IsWritten b) (alike : RefuseAlike a b) where
     decided : (a.comes_to.has_run.done ≡ b.comes_to.has_run.done) × ((c : ℕ) → c < run.channels → past_of a c ≡ past_of b c)
     decided =
-        refusals_decide run.channels (setting_of run) (map run_step run.steps) (past_of a) (past_of b) a.comes_to.has_run.done b.comes_to.has_run.done (of_channels run.channels run.steps limits.each_step)
+        refusals_decide run.channels (settings_of_run run) (map run_step run.steps) (past_of a) (past_of b) a.comes_to.has_run.done b.comes_to.has_run.done (of_channels run.channels run.steps limits.each_step)
         (done_open run a good) (done_open run b fine) (openings_alike a b) alike
 
     taken_alike : everything run a good ≡ everything run b fine
@@ -184,7 +184,7 @@ module _ (run : RunData) (limits : HasLimits run) where
       second = bytes_of run b fine ∙ ap (λ ps. after_bytes b.before (text 0 (replies_of run ++ packets_of (samples (items_taken ps))))) (sym taken_alike);
       lines = lines_alike;
       failed = good ∙ sym fine;
-      refused = a.comes_to.has_run.counted ∙ (ap (λ (ds : List Done). count_by is_refused ds) decided.0 ∙ sym b.comes_to.has_run.counted);
+      refused = a.comes_to.has_run.counted ∙ (ap (λ (ds : List Done). count_by is_refused_step ds) decided.0 ∙ sym b.comes_to.has_run.counted);
       pasts = decided.1;
     }
 
@@ -206,11 +206,11 @@ no_marker ((e, a) ∷ told) never = ap₂ (λ b bs. b ∷ bs) (room e a (λ is. 
 
 module _ (run : RunData) (limits : HasLimits run) (holds : RingsHoldAll run) where
   -- a ring that holds all refuses nothing
-  drops_nothing : (o : RunOutcome run) (c : ℕ) → c < run.channels → DropsNothing (setting_of run c) (asked_of c (map run_step run.steps)) (told_in o c) (past_of o c)
+  drops_nothing : (o : RunOutcome run) (c : ℕ) → c < run.channels → DropsNothing (settings_of_run run c) (asked_of c (map run_step run.steps)) (told_in o c) (past_of o c)
   drops_nothing o c within =
       let h = o.comes_to.has_run in
       let p = h.has_pasts in
-      ample (setting_of run c) (asked_of c (map run_step run.steps)) (told_in o c) (past_of o c) (holds p.store c (past_of o c).opening p.set_up.store within (p.openings c within)) (h.are_done.answered c within) (p.decided c within) (p.drops c within)
+      ample (settings_of_run run c) (asked_of c (map run_step run.steps)) (told_in o c) (past_of o c) (holds p.store c (past_of o c).opening p.set_up.store within (p.openings c within)) (h.are_done.answered c within) (p.decided c within) (p.drops c within)
 
   refuse_alike : (a b : RunOutcome run) → RefuseAlike a b
   refuse_alike a b c within =
@@ -218,7 +218,7 @@ module _ (run : RunData) (limits : HasLimits run) (holds : RingsHoldAll run) whe
       let y = drops_nothing b c within in
       let asks = (a.comes_to.has_run.are_done.answered c within).asks in
       let asks_again = (b.comes_to.has_run.are_done.answered c within).asks in
-      let samples : (past_of a c).decisions ≡ (past_of b c).decisions = x.decisions ∙ (ap (λ (o : Opening). (ample_past (setting_of run c) o (asked_of c (map run_step run.steps))).decisions) (openings_alike run limits a b c within) ∙ sym y.decisions) in
+      let samples : (past_of a c).decisions ≡ (past_of b c).decisions = x.decisions ∙ (ap (λ (o : Opening). (ample_past (settings_of_run run c) o (asked_of c (map run_step run.steps))).decisions) (openings_alike run limits a b c within) ∙ sym y.decisions) in
       record {
         samples = samples;
         markers = no_marker (told_in a c) x.no_room ∙ (ap (λ es. map (λ (e : Event). false) es) (asks ∙ sym asks_again) ∙ sym (no_marker (told_in b c) y.no_room));

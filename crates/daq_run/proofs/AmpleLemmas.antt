@@ -21,7 +21,7 @@ use Rattle.sampler.specs.declared.faults.TriggerFault.{TriggerFault}
 use Rattle.sampler.proofs.Histories.{append_nil, due-append, due-more, items-more, length-map_of, length-zip_same, slice_get-behind, zip-append}
 use Rattle.daq_steps.specs.declared.cause.Cause.{Cause}
 use Rattle.daq_steps.specs.declared.cause.Cause.TheVariants.{Start as OfStart, Stop as OfStop, Trigger as OfTrigger}
-use Rattle.daq_steps.specs.Answers.{Answered, ExceedsRoom, IsAnswer, Setting, accepted, accepted_event, refusal, until}
+use Rattle.daq_steps.specs.Answers.{Answered, ExceedsRoom, IsAnswer, Setting, accepted, accepted_event, event_refusal, until}
 use Rattle.daq_steps.proofs.DoneLemmas.{due_of_front}
 use Rattle.daq_run.specs.Ample.{AmpleRingsDropNothing, fit_events, no_drops, whole_past}
 
@@ -241,7 +241,7 @@ trigger_room : (r : Option TriggerFault) → option_map OfTrigger r ≡ Some (Of
 trigger_room None is = cc
 trigger_room (Some fault) is = cc
 
-never_room : (image_len : ℕ) (past : Past) (e : Event) → refusal image_len past e ≡ Some (OfStop NoRoom) → ⊥
+never_room : (image_len : ℕ) (past : Past) (e : Event) → event_refusal image_len past e ≡ Some (OfStop NoRoom) → ⊥
 never_room image_len past (Trigger image stamp) is = trigger_room (trigger_refusal image_len past image) is
 never_room image_len past (Start l) is = start_room (start_refusal (running_at past l)) is
 never_room image_len past (Stop l) is = stop_room (running_at past l) is
@@ -260,11 +260,11 @@ answer_of a b is = ap (λ (x : Answered). x.1) (same_Some a b is)
 abbrev asked_in : List Answered → List Event
 asked_in told = map (λ (a : Answered). a.0) told
 
-fits-None : (image_len : ℕ) (o : Opening) (h : List Event) (e : Event) (es : List Event) → refusal image_len (whole_past o h) e ≡ None
+fits-None : (image_len : ℕ) (o : Opening) (h : List Event) (e : Event) (es : List Event) → event_refusal image_len (whole_past o h) e ≡ None
     → fit_events image_len o h (e ∷ es) ≡ e ∷ fit_events image_len o (h ++ e ∷ []) es
 fits-None image_len o h e es is = ap (λ r. cond (is_none r) (e ∷ fit_events image_len o (h ++ e ∷ []) es) (fit_events image_len o h es)) is
 
-fits-Some : (image_len : ℕ) (o : Opening) (h : List Event) (e : Event) (es : List Event) (cause : Cause) → refusal image_len (whole_past o h) e ≡ Some cause
+fits-Some : (image_len : ℕ) (o : Opening) (h : List Event) (e : Event) (es : List Event) (cause : Cause) → event_refusal image_len (whole_past o h) e ≡ Some cause
     → fit_events image_len o h (e ∷ es) ≡ fit_events image_len o h es
 fits-Some image_len o h e es cause is = ap (λ r. cond (is_none r) (e ∷ fit_events image_len o (h ++ e ∷ []) es) (fit_events image_len o h es)) is
 

@@ -12,7 +12,7 @@ use Rattle.sampler.specs.State.{JoinedEnd, SamplerEndState, SamplerState, joined
 use Rattle.daq_engine.specs.Configuration.{upto}
 use Rattle.daq_engine.specs.Standings.{EndsStandInOrder, StandInOrder}
 use Rattle.daq_steps.specs.Answers.{Answered, AreAnswered}
-use Rattle.daq_steps.specs.Samplings.{setting_at, was_refused}
+use Rattle.daq_steps.specs.Samplings.{setting_of_sampler, was_refused}
 use Rattle.daq_steps.specs.Steps.{RunStep, asked_of}
 use Rattle.daq_run.specs.Threads.{refused_in}
 use Rattle.daq_run.specs.Inner.Workers.{HaveWorked}
@@ -45,7 +45,7 @@ module _ {S E : Type 0} (send : SendGhosts S E) (ring : EndGhosts E) where
     pub past : ℕ → Past
     pub told : ℕ → List Answered
     pub opened : (c : ℕ) → (past c).opening ≡ openings c
-    pub answered : (c : ℕ) (s : SamplerState S) → slice_get ss c ≡ Some s → AreAnswered (setting_at send ring s) (asked_of s.channel steps) (told c) (past c)
+    pub answered : (c : ℕ) (s : SamplerState S) → slice_get ss c ≡ Some s → AreAnswered (setting_of_sampler send ring s) (asked_of s.channel steps) (told c) (past c)
     pub stand : EndsStandInOrder (map (joined ring) es) past
     pub counted : refused ≡ refused_in (length ss) told
 
@@ -84,10 +84,10 @@ module _ {S E : Type 0} (send : SendGhosts S E) (ring : EndGhosts E) where
       opened_at p past openings first later (suc c) = later c
 
       answered_at : (s : SamplerState S) (ss : List (SamplerState S)) (steps : List RunStep) (t : List Answered) (told : ℕ → List Answered) (p : Past) (past : ℕ → Past)
-          → AreAnswered (setting_at send ring s) (asked_of s.channel steps) t p
-          → ((c : ℕ) (x : SamplerState S) → slice_get ss c ≡ Some x → AreAnswered (setting_at send ring x) (asked_of x.channel steps) (told c) (past c))
-          → (c : ℕ) (x : SamplerState S) → slice_get (s ∷ ss) c ≡ Some x → AreAnswered (setting_at send ring x) (asked_of x.channel steps) (cons_at t told c) (cons_at p past c)
-      answered_at s ss steps t told p past first later zero x at = subst (λ (y : SamplerState S). AreAnswered (setting_at send ring y) (asked_of y.channel steps) t p) (same_Some s x at) first
+          → AreAnswered (setting_of_sampler send ring s) (asked_of s.channel steps) t p
+          → ((c : ℕ) (x : SamplerState S) → slice_get ss c ≡ Some x → AreAnswered (setting_of_sampler send ring x) (asked_of x.channel steps) (told c) (past c))
+          → (c : ℕ) (x : SamplerState S) → slice_get (s ∷ ss) c ≡ Some x → AreAnswered (setting_of_sampler send ring x) (asked_of x.channel steps) (cons_at t told c) (cons_at p past c)
+      answered_at s ss steps t told p past first later zero x at = subst (λ (y : SamplerState S). AreAnswered (setting_of_sampler send ring y) (asked_of y.channel steps) t p) (same_Some s x at) first
       answered_at s ss steps t told p past first later (suc c) x at = later c x at
 
       stand_at : (j : JoinedEnd) (js : List JoinedEnd) (p : Past) (past : ℕ → Past) → EndStandsAfter j p → EndsStandInOrder js past → EndsStandInOrder (j ∷ js) (cons_at p past)

@@ -24,13 +24,13 @@ use Rattle.daq_engine.specs.declared.report.Report.{Report}
 use Rattle.daq_engine.proofs.BesideLemmas.{as_many_stay}
 use Rattle.daq_engine.proofs.EndLemmas.{length-upto, sent_at}
 use Rattle.daq_steps.specs.Answers.{AreAnswered, Setting}
-use Rattle.daq_steps.specs.Runs.{AreDone, HasDone, TakesFront, past_after, sent_in, settings_of, taken_in, told_of}
+use Rattle.daq_steps.specs.Runs.{AreDone, HasDone, TakesFront, past_after, sent_in, settings_of_samplers, taken_in, told_of}
 use Rattle.daq_steps.specs.Steps.{asked_of, run_step}
 use Rattle.daq_steps.proofs.AskLemmas.{read_at, sampler_at}
 use Rattle.daq_steps.proofs.StepLemmas.{decided, few_taken, sent_stands}
 use Rattle.daq_run.specs.Faults.{StandsAtFault, StopsBehind}
-use Rattle.daq_run.specs.Inner.Opened.{IsOpened}
-use Rattle.daq_run.specs.Runs.{ComesTo, HasRun, cost_in, setting_of}
+use Rattle.daq_run.specs.Inner.Opened.{IsRunOpened}
+use Rattle.daq_run.specs.Runs.{ComesTo, HasRun, cost_in, settings_of_run}
 use Rattle.daq_run.specs.declared.sim_fault.SimFault.{SimFault}
 use Rattle.daq_run.specs.declared.sim_fault.SimFault.TheVariants.{EndLost, Memory}
 use Rattle.daq_run.proofs.DrainLemmas.{few_at_last}
@@ -43,14 +43,14 @@ all_at f n xs k all within =
     get_or-map f xs k one.0 0 within ∙ All-get_or (λ x. f x ≡ n) xs k one.0 within all
 
 module _ {S E : Type 0} (send : SendGhosts S E) (ring : EndGhosts E) (run : RunData) (cost : ring.cost ≡ cost_in run.ring) (before : OutState)
-    (a b : EngineState S) (opened : IsOpened send ring run before a) (stay : StayThose send a.samplers b.samplers) where
+    (a b : EngineState S) (opened : IsRunOpened send ring run before a) (stay : StayThose send a.samplers b.samplers) where
   pub as_many : length b.samplers ≡ run.channels
   as_many =
       as_many_stay send a.samplers b.samplers stay
       ∙ (sym (length-map a.samplers (λ (s : SamplerState S). s.channel)) ∙ (ap length opened.opened.channels ∙ (length-upto 0 opened.store.profile.channels ∙ ap (λ p. p.channels) opened.set_up.store.profile)))
 
   -- the samplers go by what the run says
-  pub setting : (c : ℕ) → c < run.channels → settings_of send ring b.samplers c ≡ setting_of run c
+  pub setting : (c : ℕ) → c < run.channels → settings_of_samplers send ring b.samplers c ≡ settings_of_run run c
   setting c within =
       let images : slice_index (map (λ (s : SamplerState S). s.image_len) b.samplers) c ≡ run.image_len =
       ap (λ xs. slice_index xs c) stay.image_lens
@@ -70,7 +70,7 @@ module _ {S E : Type 0} (send : SendGhosts S E) (ring : EndGhosts E) (run : RunD
     within_samplers : (c : ℕ) → c < run.channels → c < length b.samplers
     within_samplers c within = subst (λ n. c < n) (sym as_many) within
 
-    drops : (c : ℕ) → c < run.channels → DropsOnlyWhenFull (setting_of run c).capacity (setting_of run c).cost (h.past c)
+    drops : (c : ℕ) → c < run.channels → DropsOnlyWhenFull (settings_of_run run c).capacity (settings_of_run run c).cost (h.past c)
     drops c within =
         let one = sampler_at b.samplers c (within_samplers c within) in
         let stands = h.stands.samplers c one.0 one.1 in
@@ -78,7 +78,7 @@ module _ {S E : Type 0} (send : SendGhosts S E) (ring : EndGhosts E) (run : RunD
         subst (λ (s : Setting). DropsOnlyWhenFull s.capacity s.cost (h.past c)) (setting c within) (subst (λ n. DropsOnlyWhenFull n ring.cost (h.past c)) (sym own) stands.drops)
 
     -- what was done is what was done of the run
-    are_done : AreDone run.channels (setting_of run) (map run_step run.steps) b.transmitter.writer.closed h.past h.done
+    are_done : AreDone run.channels (settings_of_run run) (map run_step run.steps) b.transmitter.writer.closed h.past h.done
     are_done = record {
       steps_done = h.are_done.steps_done;
       answered = λ c within.
@@ -131,11 +131,11 @@ module _ {S E : Type 0} (send : SendGhosts S E) (ring : EndGhosts E) (run : RunD
           let within : c < run.channels = omega (arith, at, many, all) in
           let steps = length-map run.steps run_step in
           let l = opened.limits.steps in
-          few_sent (setting_of run c) c (map run_step run.steps) (told_of c h.done) (h.past c) opened.store (are_done.answered c within) (opening c within) opened.keeps.lists (omega (arith, steps, l))
+          few_sent (settings_of_run run c) c (map run_step run.steps) (told_of c h.done) (h.past c) opened.store (are_done.answered c within) (opening c within) opened.keeps.lists (omega (arith, steps, l))
 
       few_before : b.transmitter.taken ≤ 8000000
       few_before =
-          let taken = few_taken (length b.samplers) (settings_of send ring b.samplers) (map run_step run.steps) b.transmitter.writer.closed h.past h.done h.are_done in
+          let taken = few_taken (length b.samplers) (settings_of_samplers send ring b.samplers) (map run_step run.steps) b.transmitter.writer.closed h.past h.done h.are_done in
           let steps = length-map run.steps run_step in
           let rows = mul-le-mul_right (length run.steps) opened.limits.channels in
           let columns = mul-le-mul_left 8 opened.limits.steps in

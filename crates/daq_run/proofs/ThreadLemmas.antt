@@ -30,13 +30,13 @@ use Rattle.daq_engine.specs.declared.report.Report.{Report}
 use Rattle.daq_engine.proofs.EndLemmas.{get_or-upto}
 use Rattle.daq_steps.specs.Answers.{AreAnswered, Setting}
 use Rattle.daq_steps.specs.Runs.{sent_in, taken_in}
-use Rattle.daq_steps.specs.Samplings.{setting_at}
+use Rattle.daq_steps.specs.Samplings.{setting_of_sampler}
 use Rattle.daq_steps.specs.Steps.{asked_of, run_step}
 use Rattle.daq_steps.proofs.AskLemmas.{read_at, sampler_at}
 use Rattle.daq_steps.proofs.StepLemmas.{stay_still}
 use Rattle.daq_run.specs.Faults.{StandsAtFault, StopsBehind}
-use Rattle.daq_run.specs.Inner.Opened.{IsOpened}
-use Rattle.daq_run.specs.Runs.{cost_in, setting_of}
+use Rattle.daq_run.specs.Inner.Opened.{IsRunOpened}
+use Rattle.daq_run.specs.Runs.{cost_in, settings_of_run}
 use Rattle.daq_run.specs.Threads.{HasRunApart, StopsAmongThreads, ThreadsComeTo, ThreadsStandAtFault, refused_in}
 use Rattle.daq_run.specs.Inner.Workers.{HaveWorked, KeepsTaking, MayComeLate}
 use Rattle.daq_run.specs.declared.sim_fault.SimFault.{SimFault}
@@ -64,7 +64,7 @@ few_held c None = omega arith
 few_held c (Some s) = elim (s.channel == c) as (λ b. length (cond b (Sample s ∷ []) []) ≤ 1) [ true ↦ omega arith | false ↦ omega arith ]
 
 module _ {S E : Type 0} (send : SendGhosts S E) (ring : EndGhosts E) (run : RunData) (cost : ring.cost ≡ cost_in run.ring) (before : OutState)
-    (a : EngineState S) (opened : IsOpened send ring run before a) (t : TransmitterState) (takes : KeepsTaking a.transmitter t) where
+    (a : EngineState S) (opened : IsRunOpened send ring run before a) (t : TransmitterState) (takes : KeepsTaking a.transmitter t) where
   -- there is a sampler for each channel
   pub many_samplers : length a.samplers ≡ run.channels
   many_samplers = as_many send ring run cost before a a opened (stay_still send ring a.samplers)
@@ -117,17 +117,17 @@ module _ {S E : Type 0} (send : SendGhosts S E) (ring : EndGhosts E) (run : RunD
         sym (read_at (λ (x : SamplerState S). x.channel) 0 a.samplers c s at)
         ∙ (ap (λ ns. slice_index_or ns c 0) opened.opened.channels ∙ (get_or-upto 0 opened.store.profile.channels c there ∙ omega arith))
 
-    setting_here : (c : ℕ) (s : SamplerState S) → c < run.channels → slice_get a.samplers c ≡ Some s → setting_at send ring s ≡ setting_of run c
+    setting_here : (c : ℕ) (s : SamplerState S) → c < run.channels → slice_get a.samplers c ≡ Some s → setting_of_sampler send ring s ≡ settings_of_run run c
     setting_here c s within at =
         ap₂ (λ (i n : ℕ). record { image_len = i; capacity = n; cost = ring.cost }) (sym (read_at (λ (x : SamplerState S). x.image_len) 0 a.samplers c s at)) (sym (read_at (λ (x : SamplerState S). send.capacity x.end) 0 a.samplers c s at))
         ∙ setting send ring run cost before a a opened (stay_still send ring a.samplers) c within
 
-    answered : (c : ℕ) → c < run.channels → AreAnswered (setting_of run c) (asked_of c (map run_step run.steps)) (got.told c) (got.past c)
+    answered : (c : ℕ) → c < run.channels → AreAnswered (settings_of_run run c) (asked_of c (map run_step run.steps)) (got.told c) (got.past c)
     answered c within =
         let many = many_samplers in
         let one = sampler_at a.samplers c (omega (arith, within, many)) in
         subst (λ (s : Setting). AreAnswered s (asked_of c (map run_step run.steps)) (got.told c) (got.past c)) (setting_here c one.0 within one.1)
-        (subst (λ k. AreAnswered (setting_at send ring one.0) (asked_of k (map run_step run.steps)) (got.told c) (got.past c)) (number c one.0 within one.1) (got.answered c one.0 one.1))
+        (subst (λ k. AreAnswered (setting_of_sampler send ring one.0) (asked_of k (map run_step run.steps)) (got.told c) (got.past c)) (number c one.0 within one.1) (got.answered c one.0 one.1))
 
     opening : (c : ℕ) → c < run.channels → IsOpeningOf opened.store c (got.past c).opening
     opening c within =
@@ -146,7 +146,7 @@ module _ {S E : Type 0} (send : SendGhosts S E) (ring : EndGhosts E) (run : RunD
         let one = end_at c within in
         (got.stand c (joined ring one.0) (joined_at c one.0 one.1)).decisions
 
-    drops : (c : ℕ) → c < run.channels → DropsOnlyWhenFull (setting_of run c).capacity (setting_of run c).cost (got.past c)
+    drops : (c : ℕ) → c < run.channels → DropsOnlyWhenFull (settings_of_run run c).capacity (settings_of_run run c).cost (got.past c)
     drops c within =
         let one = end_at c within in
         let stands = got.stand c (joined ring one.0) (joined_at c one.0 one.1) in
@@ -181,7 +181,7 @@ module _ {S E : Type 0} (send : SendGhosts S E) (ring : EndGhosts E) (run : RunD
       told = got.told;
       answered = answered;
       counted = got.counted ∙ ap (λ n. refused_in n got.told) many_samplers;
-      ample = λ c within holds. ample (setting_of run c) (asked_of c (map run_step run.steps)) (got.told c) (got.past c) holds (answered c within) (decided c within) (drops c within);
+      ample = λ c within holds. ample (settings_of_run run c) (asked_of c (map run_step run.steps)) (got.told c) (got.past c) holds (answered c within) (decided c within) (drops c within);
       items = items;
       transmitter = t;
       taken = taken;
@@ -194,7 +194,7 @@ module _ {S E : Type 0} (send : SendGhosts S E) (ring : EndGhosts E) (run : RunD
         let within : c < run.channels = omega (arith, at, many) in
         let steps = length-map run.steps run_step in
         let l = opened.limits.steps in
-        few_sent (setting_of run c) c (map run_step run.steps) (got.told c) (got.past c) opened.store (answered c within) (opening c within) opened.keeps.lists (omega (arith, steps, l))
+        few_sent (settings_of_run run c) c (map run_step run.steps) (got.told c) (got.past c) opened.store (answered c within) (opening c within) opened.keeps.lists (omega (arith, steps, l))
 
     module _ (report : Report) (after : OutState) (closes : ClosesWith run.drain t ends report after) (received : length t.received ≡ length t.rings) (beside : AreBeside send a.samplers a.transmitter) where
       closed : HasClosed run.drain opened.writer items t ends got.past report after

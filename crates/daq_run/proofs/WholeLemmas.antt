@@ -13,7 +13,7 @@ use Rattle.daq_engine.specs.Frames.{packets_of_frames}
 use Rattle.daq_engine.specs.declared.report.ListReport.{ListReport}
 use Rattle.daq_steps.proofs.AskLemmas.{sampler_at}
 use Rattle.daq_run.specs.Ample.{ample_past, no_drops}
-use Rattle.daq_run.specs.Runs.{setting_of}
+use Rattle.daq_run.specs.Runs.{settings_of_run}
 use Rattle.daq_run.specs.Whole.{AmpleRunsAreWhole, IsWholeLine, WritesWhole}
 
 -- where all was accepted, nothing of a list was dropped
@@ -56,5 +56,5 @@ ample_runs run writer past taken t report after closed drain good c within asked
           let left : found.1.left ≡ 0 = ap (λ (line : ListReport). line.left) (sym found.3) ∙ nothing.none_left found.0 found.1 found.2 in
           (found.0, found.1, found.2, found.3, whole_line (past c) plan (packets_of_frames h.frames) found.1 e.sent (of_ring closed.closed.last.received c) closed.closed.last.hand all found.4 left);
     } in
-    let same : (past c) ≡ ample_past (setting_of run c) (past c).opening asked = ap₂ (λ hs d. record { opening = (past c).opening; history = hs; decisions = d }) drops.history drops.decisions in
+    let same : (past c) ≡ ample_past (settings_of_run run c) (past c).opening asked = ap₂ (λ hs d. record { opening = (past c).opening; history = hs; decisions = d }) drops.history drops.decisions in
     subst (λ p. WritesWhole p (packets_of_frames h.frames) report.lists.items) same own

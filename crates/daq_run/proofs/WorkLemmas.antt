@@ -16,10 +16,10 @@ use Rattle.transmitter.specs.Pumps.{TakesMore}
 use Rattle.transmitter.specs.Written.{HasTaken, TransmitterState}
 use Rattle.daq_steps.specs.declared.cause.Cause.{Cause}
 use Rattle.daq_steps.specs.Answers.{Answered, AreAnswered, Setting}
-use Rattle.daq_steps.specs.Samplings.{Answers, AnswersStep, HasAnswered, HasAnsweredMore, setting_at, was_refused}
+use Rattle.daq_steps.specs.Samplings.{Answers, AnswersStep, HasAnswered, HasAnsweredMore, setting_of_sampler, was_refused}
 use Rattle.daq_steps.specs.Steps.{Ask, Pump, RunStep, asked_at, asked_of}
 use Rattle.daq_steps.proofs.DoneLemmas.{answered_more}
-use Rattle.daq_run.specs.Inner.Workers.{HasWorked, HaveWorked, IsLeftOf, is_of}
+use Rattle.daq_run.specs.Inner.Workers.{HasWorked, HaveWorked, IsLeftAfterSteps, is_of}
 
 -- nothing more was taken
 pub takes_none : (a : TransmitterState) → TakesMore a a
@@ -54,7 +54,7 @@ all-before P (x ∷ xs) h all =
 
 module _ {S E : Type 0} (send : SendGhosts S E) (ring : EndGhosts E) where
   -- what a sampler goes by stays
-  pub setting_stays : (a b : SamplerState S) → KeepsSetUp send a b → setting_at send ring b ≡ setting_at send ring a
+  pub setting_stays : (a b : SamplerState S) → KeepsSetUp send a b → setting_of_sampler send ring b ≡ setting_of_sampler send ring a
   setting_stays a b stays =
       ap₂ (λ (i n : ℕ). record { image_len = i; capacity = n; cost = ring.cost }) stays.image_len stays.capacity
 
@@ -76,7 +76,7 @@ module _ {S E : Type 0} (send : SendGhosts S E) (ring : EndGhosts E) where
       let one = answers h.past h.stands in
       let ds = one.1.0 in
       let next = one_more h.past e ds in
-      let more = answered_more (setting_at send ring a) asked h.told h.past next e None ds h.answered h.stands.decisions refl refl refl one.0 in
+      let more = answered_more (setting_of_sampler send ring a) asked h.told h.past next e None ds h.answered h.stands.decisions refl refl refl one.0 in
       record {
         past = next;
         opened = h.opened;
@@ -87,7 +87,7 @@ module _ {S E : Type 0} (send : SendGhosts S E) (ring : EndGhosts E) where
       }
   asked_once a b e (Some cause) stays answers opening asked refused h =
       let one = answers h.past h.stands in
-      let more = answered_more (setting_at send ring a) asked h.told h.past h.past e (Some cause) [] h.answered h.stands.decisions refl (sym (append-nil h.past.history)) (sym (append-nil h.past.decisions)) one.0 in
+      let more = answered_more (setting_of_sampler send ring a) asked h.told h.past h.past e (Some cause) [] h.answered h.stands.decisions refl (sym (append-nil h.past.history)) (sym (append-nil h.past.decisions)) one.0 in
       record {
         past = h.past;
         opened = h.opened;
@@ -161,7 +161,7 @@ module _ {S E : Type 0} (send : SendGhosts S E) (ring : EndGhosts E) where
 
   -- one more of the samplers
   pub worked-more : (ss : List (SamplerState S)) (s : SamplerState S) (steps : List RunStep) (es : List (SamplerEndState E)) (e : SamplerEndState E) (n m : ℕ)
-      → HaveWorked send ring ss steps es n → IsLeftOf send ring s steps e m → HaveWorked send ring (ss ++ s ∷ []) steps (es ++ e ∷ []) (n + m)
+      → HaveWorked send ring ss steps es n → IsLeftAfterSteps send ring s steps e m → HaveWorked send ring (ss ++ s ∷ []) steps (es ++ e ∷ []) (n + m)
   worked-more [] s steps [] e n m before left = let all : n + m ≡ m + 0 = omega (arith, before) in (m, left, (0, refl, all))
   worked-more [] s steps (f ∷ es) e n m before left = absurd before
   worked-more (x ∷ ss) s steps [] e n m before left = absurd before

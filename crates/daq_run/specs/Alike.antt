@@ -12,7 +12,7 @@ use Rattle.daq_steps.specs.Laws.{RefusesAlike}
 use Rattle.daq_steps.specs.Runs.{told_of}
 use Rattle.daq_steps.specs.Steps.{asked_of, run_step}
 use Rattle.daq_run.specs.Ample.{HoldsAll}
-use Rattle.daq_run.specs.Runs.{ComesTo, setting_of}
+use Rattle.daq_run.specs.Runs.{ComesTo, settings_of_run}
 use Rattle.daq_run.specs.SetUps.{IsStoreAfter}
 
 -- what a run in one thread came to: what its writer showed before and after, how many of its steps
@@ -65,7 +65,7 @@ abbrev pub RingsHoldAll : RunData → Type 0
 RingsHoldAll run =
     (store : StoreState) (c : ℕ) (opening : Opening)
     → IsStoreAfter run store run.setup → c < run.channels → IsOpeningOf store c opening
-    → HoldsAll (setting_of run c) opening (asked_of c (map run_step run.steps))
+    → HoldsAll (settings_of_run run c) opening (asked_of c (map run_step run.steps))
 
 -- what comes of such a run, whose writer doesn't fail, is a function of the run alone
 abbrev pub AmpleRunsAreSame : RunData → Type 0

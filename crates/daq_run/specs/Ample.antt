@@ -8,7 +8,7 @@ use Rattle.sampler.specs.Past.{Past}
 use Rattle.sampler.specs.Standing.{DropsOnlyWhenFull}
 use Rattle.sampler.specs.declared.faults.StopFault.TheVariants.{NoRoom}
 use Rattle.daq_steps.specs.declared.cause.Cause.TheVariants.{Stop as OfStop}
-use Rattle.daq_steps.specs.Answers.{Answered, AreAnswered, Setting, refusal}
+use Rattle.daq_steps.specs.Answers.{Answered, AreAnswered, Setting, event_refusal}
 use Rattle.daq_steps.specs.Runs.{sent_in}
 
 -- the decisions of a history in which no sample is dropped
@@ -23,7 +23,7 @@ whole_past opening h = record { opening = opening; history = h; decisions = no_d
 abbrev pub fit_events : ℕ → Opening → List Event → List Event → List Event
 fit_events image_len opening h [] = []
 fit_events image_len opening h (e ∷ es) =
-    cond (is_none (refusal image_len (whole_past opening h) e))
+    cond (is_none (event_refusal image_len (whole_past opening h) e))
     (e ∷ fit_events image_len opening (h ++ e ∷ []) es)
     (fit_events image_len opening h es)
 

@@ -21,7 +21,7 @@ use Rattle.daq_engine.specs.Drained.{LeavesNothing}
 use Rattle.daq_engine.specs.Openings.{IsOpeningOf, some_list_runs}
 use Rattle.daq_engine.specs.declared.report.Report.{Report}
 use Rattle.daq_steps.specs.Answers.{Setting}
-use Rattle.daq_steps.specs.Runs.{AreDone, Done, is_refused, sent_in, taken_in}
+use Rattle.daq_steps.specs.Runs.{AreDone, Done, is_refused_step, sent_in, taken_in}
 use Rattle.daq_steps.specs.Steps.{run_step}
 use Rattle.daq_run.specs.SetUps.{IsSetUp}
 
@@ -31,8 +31,8 @@ cost_in Samples = λ item. 1
 cost_in Bytes = record_len
 
 -- what channel c of a run goes by
-abbrev pub setting_of : RunData → ℕ → Setting
-setting_of run c = record {
+abbrev pub settings_of_run : RunData → ℕ → Setting
+settings_of_run run c = record {
   image_len = run.image_len;
   capacity = slice_index run.caps c;
   cost = cost_in run.ring;
@@ -54,7 +54,7 @@ pub record HasPasts (run : RunData) (before : OutState) (writer : WriterState) (
       → length (past c).decisions ≡ length (due (past c).opening (past c).history)
   pub drops :
       (c : ℕ) → c < run.channels
-      → DropsOnlyWhenFull (setting_of run c).capacity (setting_of run c).cost (past c)
+      → DropsOnlyWhenFull (settings_of_run run c).capacity (settings_of_run run c).cost (past c)
 
 -- the steps of such a run were done one after another, of which so many were refused
 pub record HasRun (run : RunData) (before : OutState) (refused : ℕ) : Type 0 where
@@ -64,11 +64,11 @@ pub record HasRun (run : RunData) (before : OutState) (refused : ℕ) : Type 0 w
   pub has_pasts : HasPasts run before writer past
   -- what was done, and what the transmitter of that writer took and wrote
   pub done : List Done
-  pub counted : refused ≡ count_by is_refused done
+  pub counted : refused ≡ count_by is_refused_step done
   pub transmitter : TransmitterState
   pub taken : HasTaken writer transmitter (taken_in done)
   pub are_done :
-      AreDone run.channels (setting_of run) (map run_step run.steps) transmitter.writer.closed past
+      AreDone run.channels (settings_of_run run) (map run_step run.steps) transmitter.writer.closed past
       done
 
 -- the engine of a run, whose transmitter had taken these items, was closed, after a drain if the

@@ -16,7 +16,7 @@ use Rattle.daq_steps.specs.Steps.{asked_of, run_step}
 use Rattle.daq_run.specs.declared.sim_fault.SimFault.{SimFault}
 use Rattle.daq_run.specs.Ample.{DropsNothing, HoldsAll}
 use Rattle.daq_run.specs.Faults.{StandsBy}
-use Rattle.daq_run.specs.Runs.{HasPasts, IsClosed, setting_of}
+use Rattle.daq_run.specs.Runs.{HasPasts, IsClosed, settings_of_run}
 use Rattle.daq_run.specs.SetUps.{IsSetUp}
 
 -- how many of the answers that n channels got are refusals
@@ -34,13 +34,13 @@ pub record HasRunApart (run : RunData) (before : OutState) (refused : ℕ) : Typ
   pub told : ℕ → List Answered
   pub answered :
       (c : ℕ) → c < run.channels
-      → AreAnswered (setting_of run c) (asked_of c (map run_step run.steps)) (told c) (past c)
+      → AreAnswered (settings_of_run run c) (asked_of c (map run_step run.steps)) (told c) (past c)
   pub counted : refused ≡ refused_in run.channels told
   -- if the ring of a channel holds all that its steps would send, nothing is dropped
   pub ample :
       (c : ℕ) → c < run.channels
-      → HoldsAll (setting_of run c) (past c).opening (asked_of c (map run_step run.steps))
-      → DropsNothing (setting_of run c) (asked_of c (map run_step run.steps)) (told c) (past c)
+      → HoldsAll (settings_of_run run c) (past c).opening (asked_of c (map run_step run.steps))
+      → DropsNothing (settings_of_run run c) (asked_of c (map run_step run.steps)) (told c) (past c)
   -- what the transmitter of that writer took meanwhile, and wrote
   pub items : List (ℕ × Item)
   pub transmitter : TransmitterState

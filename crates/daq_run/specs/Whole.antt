@@ -17,7 +17,7 @@ use Rattle.daq_engine.specs.declared.report.Report.{Report}
 use Rattle.daq_steps.specs.Answers.{Answered}
 use Rattle.daq_steps.specs.Runs.{sent_in}
 use Rattle.daq_run.specs.Ample.{DropsNothing, ample_past}
-use Rattle.daq_run.specs.Runs.{IsClosed, setting_of}
+use Rattle.daq_run.specs.Runs.{IsClosed, settings_of_run}
 
 -- the line of a list of which each due sample was written
 pub record IsWholeLine (past : Past) (plan : ListPlan) (line : ListReport) : Type 0 where
@@ -48,6 +48,6 @@ AmpleRunsAreWhole =
     → (closed : IsClosed run writer past taken t report after)
     → run.drain ≡ true → report.failed ≡ false
     → (c : ℕ) → c < run.channels → (asked : List Event) (told : List Answered)
-    → DropsNothing (setting_of run c) asked told (past c)
-    → WritesWhole (ample_past (setting_of run c) (past c).opening asked)
+    → DropsNothing (settings_of_run run c) asked told (past c)
+    → WritesWhole (ample_past (settings_of_run run c) (past c).opening asked)
     (packets_of_frames closed.closed.headline.frames) report.lists.items

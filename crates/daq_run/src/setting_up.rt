@@ -6,7 +6,7 @@ ghost use Rattle.frame_writer.specs.Shown.{shown};
 ghost use Rattle.frame_writer.specs.Writing.{state_of};
 ghost use Rattle.daq_engine.specs.Engines.{engine_state};
 ghost use Rattle.daq_run.specs.Faults.{StandsAtFault};
-ghost use Rattle.daq_run.specs.Inner.Opened.{IsOpened};
+ghost use Rattle.daq_run.specs.Inner.Opened.{IsRunOpened};
 ghost use Rattle.daq_run.specs.SetUps.{IsSetUp, profile_of};
 
 use crate::sim_fault::SimFault;
@@ -65,7 +65,7 @@ pub fn opened<K: Ring, O: Out>(
 ) -> Result<Engine<O, K::Take>, (SimFault, O)>
     requires caps { list_all K.is_cap run.now.caps ≡ true }
     ensures ok { IfOk result (λ engine.
-        IsOpened K.Send.SendEnd K.Send.End.RingEnd run.now (shown O.Out out)
+        IsRunOpened K.Send.SendEnd K.Send.End.RingEnd run.now (shown O.Out out)
         (engine_state O.Out K.Take.TakeEnd engine)) }
     ensures fault { IfErr result (λ e.
         StandsAtFault run.now (shown O.Out out) (shown O.Out e.1) e.0) }

@@ -19,7 +19,7 @@ use Rattle.sampler.specs.Past.{Past}
 use Rattle.daq_engine.specs.Engines.{EngineState, Standing, Stands}
 use Rattle.daq_steps.specs.declared.cause.Cause.TheVariants.{Stop as OfStop}
 use Rattle.daq_steps.specs.Answers.{ExceedsRoom, IsAnswer, Setting}
-use Rattle.daq_steps.specs.Runs.{settings_of}
+use Rattle.daq_steps.specs.Runs.{settings_of_samplers}
 
 -- a stop that was accepted wasn't to be refused
 pub stop_accepted : (r : Option StopFault) → AnswersStop r None → r ≡ None
@@ -55,7 +55,7 @@ read_at f d (y ∷ xs) (suc k) x at = read_at f d xs k x at
 module _ {S E : Type 0} (send : SendGhosts S E) (ring : EndGhosts E) (a : EngineState S) (st : Standing) (c l : ℕ) where
   -- a marker that found no room at its ring finds none by what its channel had behind it
   pub finds_no_room : Stands send ring a st → c < length a.samplers → FindsNoRoom send ring a.samplers c l
-      → ExceedsRoom (settings_of send ring a.samplers c) (st.past c) (Stop l)
+      → ExceedsRoom (settings_of_samplers send ring a.samplers c) (st.past c) (Stop l)
   finds_no_room stands within full =
       let one = sampler_at a.samplers c within in
       let s = one.0 in

@@ -28,7 +28,7 @@ use Rattle.daq_engine.specs.Samplers.{StayThose, sent_of_each}
 use Rattle.daq_engine.proofs.BesideLemmas.{as_many_stay}
 use Rattle.daq_steps.specs.declared.cause.Cause.{Cause}
 use Rattle.daq_steps.specs.Answers.{Answered, AreAnswered, IsAnswer, Setting}
-use Rattle.daq_steps.specs.Runs.{AnswersAt, AreDone, DoesStep, Done, HasDone, Pumped, TakesFront, Told, after_answer, is_refused, sent_in, settings_of, step_done, taken_at, taken_in, told_at, told_of}
+use Rattle.daq_steps.specs.Runs.{AnswersAt, AreDone, DoesStep, Done, HasDone, Pumped, TakesFront, Told, after_answer, is_refused_step, sent_in, settings_of_samplers, step_done, taken_at, taken_in, told_at, told_of}
 use Rattle.daq_steps.specs.Steps.{Ask, Pump, RunStep, asked_at, asked_of}
 use Rattle.daq_steps.proofs.AskLemmas.{read_at, sampler_at}
 use Rattle.daq_steps.proofs.DoneLemmas.{answered_more, answered_still, done_more, taken-more}
@@ -86,9 +86,9 @@ shut_in_hand start t ps taken s is =
     writes.2.closed
 
 -- one step more is counted
-counted-more : (done : List Done) (x : Done) (refused : ℕ) → refused ≡ count_by is_refused done → refused + cond (is_refused x) 1 0 ≡ count_by is_refused (done ++ x ∷ [])
+counted-more : (done : List Done) (x : Done) (refused : ℕ) → refused ≡ count_by is_refused_step done → refused + cond (is_refused_step x) 1 0 ≡ count_by is_refused_step (done ++ x ∷ [])
 counted-more done x refused e =
-    let all = sum_by-append (λ (y : Done). cond (is_refused y) 1 0) done (x ∷ []) in
+    let all = sum_by-append (λ (y : Done). cond (is_refused_step y) 1 0) done (x ∷ []) in
     omega (arith, all, e)
 
 -- a question is no pump
@@ -129,7 +129,7 @@ asked_at_more settings c e ds (Some cause) st k asked told are whole is = elim (
 
 module _ {S E : Type 0} (send : SendGhosts S E) (ring : EndGhosts E) where
   -- what the samplers go by stays
-  pub settings_stay : (xs ys : List (SamplerState S)) → StayThose send xs ys → settings_of send ring ys ≡ settings_of send ring xs
+  pub settings_stay : (xs ys : List (SamplerState S)) → StayThose send xs ys → settings_of_samplers send ring ys ≡ settings_of_samplers send ring xs
   settings_stay xs ys stay =
       ap₂ (λ (is cs : List ℕ). λ (c : ℕ). record { image_len = slice_index is c; capacity = slice_index cs c; cost = ring.cost }) stay.image_lens stay.capacities
 
@@ -148,10 +148,10 @@ module _ {S E : Type 0} (send : SendGhosts S E) (ring : EndGhosts E) where
   module _ (a b : EngineState S) (stay : StayThose send a.samplers b.samplers) where
     -- the same steps of the same samplers
     those : (steps : List RunStep) (past : ℕ → Past) (done : List Done)
-        → AreDone (length a.samplers) (settings_of send ring a.samplers) steps b.transmitter.writer.closed past done
-        → AreDone (length b.samplers) (settings_of send ring b.samplers) steps b.transmitter.writer.closed past done
+        → AreDone (length a.samplers) (settings_of_samplers send ring a.samplers) steps b.transmitter.writer.closed past done
+        → AreDone (length b.samplers) (settings_of_samplers send ring b.samplers) steps b.transmitter.writer.closed past done
     those steps past done are =
-        subst (λ n. AreDone n (settings_of send ring b.samplers) steps b.transmitter.writer.closed past done) (sym (as_many_stay send a.samplers b.samplers stay))
+        subst (λ n. AreDone n (settings_of_samplers send ring b.samplers) steps b.transmitter.writer.closed past done) (sym (as_many_stay send a.samplers b.samplers stay))
         (subst (λ s. AreDone (length a.samplers) s steps b.transmitter.writer.closed past done) (sym (settings_stay a.samplers b.samplers stay)) are)
 
     module _ (start : WriterState) (openings : ℕ → Opening) (steps : List RunStep) (refused : ℕ) (few : length a.samplers * length steps < MAX_TAKEN) (h : HasDone send ring a start openings steps refused) where
@@ -184,9 +184,9 @@ module _ {S E : Type 0} (send : SendGhosts S E) (ring : EndGhosts E) where
             front = front.0;
             whole = λ e. (front.1 (sym same ∙ e)).0;
           } in
-          let are = done_more (length a.samplers) (settings_of send ring a.samplers) steps a.transmitter.writer.closed b.transmitter.writer.closed h.past h.past h.done (Pumped qs) (λ c. [])
+          let are = done_more (length a.samplers) (settings_of_samplers send ring a.samplers) steps a.transmitter.writer.closed b.transmitter.writer.closed h.past h.past h.done (Pumped qs) (λ c. [])
           h.are_done (decided a st h.stands) (λ c. refl) (λ c. sym (append-nil (h.past c).decisions)) (λ e. (front.1 (sym same ∙ e)).1)
-          (λ c within. answered_still (settings_of send ring a.samplers c) (asked_of c steps) (told_of c h.done) (h.past c) (h.are_done.answered c within))
+          (λ c within. answered_still (settings_of_samplers send ring a.samplers c) (asked_of c steps) (told_of c h.done) (h.past c) (h.are_done.answered c within))
           (λ ps is. subst (λ zs. TakesFront (length a.samplers) (λ c. sent_in (h.past c)) (taken_in h.done) b.transmitter.writer.closed zs) (ap taken_at is) takes) in
           record {
             past = h.past;
@@ -199,16 +199,16 @@ module _ {S E : Type 0} (send : SendGhosts S E) (ring : EndGhosts E) where
 
       -- one of its channels was asked for something
       pub ask_more : (c : ℕ) (e : Event) (answer : Option Cause) → AnswersAt send ring a b c e answer → b.transmitter ≡ a.transmitter → c < length a.samplers
-          → HasDone send ring b start openings (steps ++ Ask c e ∷ []) (refused + cond (is_refused (Told c e answer)) 1 0)
+          → HasDone send ring b start openings (steps ++ Ask c e ∷ []) (refused + cond (is_refused_step (Told c e answer)) 1 0)
       ask_more c e answer answers same within =
           let one = answers st h.stands in
           let ds = one.1.0 in
           let next = (after_answer c e ds answer st).past in
           let x = Told c e answer in
           let closed : b.transmitter.writer.closed ≡ a.transmitter.writer.closed = ap (λ (t : TransmitterState). t.writer.closed) same in
-          let are = done_more (length a.samplers) (settings_of send ring a.samplers) steps a.transmitter.writer.closed b.transmitter.writer.closed h.past next h.done x (more_decided c ds answer)
+          let are = done_more (length a.samplers) (settings_of_samplers send ring a.samplers) steps a.transmitter.writer.closed b.transmitter.writer.closed h.past next h.done x (more_decided c ds answer)
           h.are_done (decided a st h.stands) (opened_still c e ds answer st) (decisions_more c e ds answer st) (λ f. sym closed ∙ f)
-          (λ k inside. asked_at_more (settings_of send ring a.samplers) c e ds answer st k (asked_of k steps) (told_of k h.done) (h.are_done.answered k inside) (decided a st h.stands k inside) one.0)
+          (λ k inside. asked_at_more (settings_of_samplers send ring a.samplers) c e ds answer st k (asked_of k steps) (told_of k h.done) (h.are_done.answered k inside) (decided a st h.stands k inside) one.0)
           (λ ps is. absurd (no_pump c e answer ps is)) in
           record {
             past = next;
@@ -220,7 +220,7 @@ module _ {S E : Type 0} (send : SendGhosts S E) (ring : EndGhosts E) where
           }
 
 -- what is counted of an answer
-counted_as : (c : ℕ) (e : Event) (answer : Option Cause) → ◌≡◌ {A = ℕ} (cond (is_refused (Told c e answer)) 1 0) (cond (is_some answer) 1 0)
+counted_as : (c : ℕ) (e : Event) (answer : Option Cause) → ◌≡◌ {A = ℕ} (cond (is_refused_step (Told c e answer)) 1 0) (cond (is_some answer) 1 0)
 counted_as c e None = refl
 counted_as c e (Some cause) = refl
 
@@ -230,7 +230,7 @@ module _ {S E : Type 0} (send : SendGhosts S E) (ring : EndGhosts E) (a b : Engi
       → AnswersAt send ring a b c e answer → c < length a.samplers → step ≡ Ask c e → ◌≡◌ {A = ℕ} n (cond (is_some answer) 1 0) → DoesStep send ring a b step n
   ask_counted e answer step n answers within is counts start openings steps refused few h =
       let more = ask_more send ring a b stays.samplers.those start openings steps refused few h c e answer answers stays.transmitter within in
-      let same : ◌≡◌ {A = ℕ} (cond (is_refused (Told c e answer)) 1 0) n = counted_as c e answer ∙ sym counts in
+      let same : ◌≡◌ {A = ℕ} (cond (is_refused_step (Told c e answer)) 1 0) n = counted_as c e answer ∙ sym counts in
       subst (λ s. HasDone send ring b start openings (steps ++ s ∷ []) (refused + n)) (sym is) (subst (λ m. HasDone send ring b start openings (steps ++ Ask c e ∷ []) (refused + m)) same more)
 
 -- nothing done yet

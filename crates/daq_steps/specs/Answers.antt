@@ -21,11 +21,11 @@ pub record Setting : Type 0 where
   pub cost : Item → ℕ
 
 -- why what is asked of a channel with this past is refused, lack of room aside
-abbrev pub refusal : ℕ → Past → Event → Option Cause
-refusal image_len past (Trigger image stamp) =
+abbrev pub event_refusal : ℕ → Past → Event → Option Cause
+event_refusal image_len past (Trigger image stamp) =
     option_map OfTrigger (trigger_refusal image_len past image)
-refusal image_len past (Start l) = option_map OfStart (start_refusal (running_at past l))
-refusal image_len past (Stop l) = option_map OfStop (stop_refusal (running_at past l))
+event_refusal image_len past (Start l) = option_map OfStart (start_refusal (running_at past l))
+event_refusal image_len past (Stop l) = option_map OfStop (stop_refusal (running_at past l))
 
 -- it is a stop whose marker, with all that the channel sent before it, exceeds the capacity
 abbrev pub ExceedsRoom : Setting → Past → Event → Type 0
@@ -38,10 +38,10 @@ ExceedsRoom s past (Stop l) =
 -- what is asked of a channel with this past is answered so: it is accepted if nothing speaks
 -- against it, or it is refused for its cause; or it is a stop that finds no room
 abbrev pub IsAnswer : Setting → Past → Event → Option Cause → Type 0
-IsAnswer s past e None = refusal s.image_len past e ≡ None
+IsAnswer s past e None = event_refusal s.image_len past e ≡ None
 IsAnswer s past e (Some cause) =
-    (refusal s.image_len past e ≡ Some cause)
-    ⊎ ((refusal s.image_len past e ≡ None) × (cause ≡ OfStop NoRoom) × ExceedsRoom s past e)
+    (event_refusal s.image_len past e ≡ Some cause)
+    ⊎ ((event_refusal s.image_len past e ≡ None) × (cause ≡ OfStop NoRoom) × ExceedsRoom s past e)
 
 -- what was asked, with its answer
 abbrev pub Answered : Type 0

@@ -48,10 +48,10 @@ abbrev pub taken_in : List Done → List (ℕ × Item)
 taken_in done = flat_map taken_at done
 
 -- it was refused
-abbrev pub is_refused : Done → Bool
-is_refused (Told c event None) = false
-is_refused (Told c event (Some cause)) = true
-is_refused (Pumped taken) = false
+abbrev pub is_refused_step : Done → Bool
+is_refused_step (Told c event None) = false
+is_refused_step (Told c event (Some cause)) = true
+is_refused_step (Pumped taken) = false
 
 -- what channel c sent with this behind it
 abbrev pub sent_in : Past → List Item
@@ -89,9 +89,9 @@ pub record AreDone (n : ℕ) (settings : ℕ → Setting) (steps : List RunStep)
       → TakesFront n (λ c. sent_in (past_after past done i c)) (taken_in (take i done)) failed qs
 
 -- what the samplers of channels 0, 1, .. go by
-abbrev pub settings_of :
+abbrev pub settings_of_samplers :
     {S E : Type 0} → SendGhosts S E → EndGhosts E → List (SamplerState S) → ℕ → Setting
-settings_of send ring samplers c = record {
+settings_of_samplers send ring samplers c = record {
   image_len = image_len_at samplers c;
   capacity = slice_index (map (λ (s : SamplerState _). send.capacity s.end) samplers) c;
   cost = ring.cost;
@@ -113,7 +113,7 @@ abbrev pub AnswersAt :
     → Option Cause → Type 0
 AnswersAt send ring before after c e answer =
     (st : Standing) → Stands send ring before st
-    → IsAnswer (settings_of send ring before.samplers c) (st.past c) e answer
+    → IsAnswer (settings_of_samplers send ring before.samplers c) (st.past c) e answer
     × ((ds : List Bool) × Stands send ring after (after_answer c e ds answer st))
 
 -- since its opening an engine did these steps, of which so many were refused
@@ -124,9 +124,9 @@ pub record HasDone {S E : Type 0} (send : SendGhosts S E) (ring : EndGhosts E) (
   pub opened : (c : ℕ) → (past c).opening ≡ openings c
   pub done : List Done
   pub are_done :
-      AreDone (length e.samplers) (settings_of send ring e.samplers) steps
+      AreDone (length e.samplers) (settings_of_samplers send ring e.samplers) steps
       e.transmitter.writer.closed past done
-  pub counted : refused ≡ count_by is_refused done
+  pub counted : refused ≡ count_by is_refused_step done
   pub stands :
       Stands send ring e (record { start = start; past = past; taken = taken_in done })
 

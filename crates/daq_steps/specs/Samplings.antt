@@ -13,8 +13,8 @@ use Rattle.daq_steps.specs.Answers.{Answered, AreAnswered, IsAnswer, Setting}
 use Rattle.daq_steps.specs.Steps.{Ask, Pump, RunStep}
 
 -- what a sampler goes by
-abbrev pub setting_at : {S E : Type 0} → SendGhosts S E → EndGhosts E → SamplerState S → Setting
-setting_at send ring s = record {
+abbrev pub setting_of_sampler : {S E : Type 0} → SendGhosts S E → EndGhosts E → SamplerState S → Setting
+setting_of_sampler send ring s = record {
   image_len = s.image_len;
   capacity = send.capacity s.end;
   cost = ring.cost;
@@ -31,7 +31,7 @@ abbrev pub Answers :
     → Option Cause → Type 0
 Answers send ring before after e answer =
     (past : Past) → StandsAfter send ring before past
-    → IsAnswer (setting_at send ring before) past e answer
+    → IsAnswer (setting_of_sampler send ring before) past e answer
     × ((ds : List Bool) × StandsAfter send ring after (past_after_answer e ds answer past))
 
 -- it was asked for what a step asks, of whichever channel that is; a pump step asks nothing
@@ -52,7 +52,7 @@ pub record HasAnswered {S E : Type 0} (send : SendGhosts S E) (ring : EndGhosts 
   pub past : Past
   pub opened : past.opening ≡ opening
   pub told : List Answered
-  pub answered : AreAnswered (setting_at send ring s) asked told past
+  pub answered : AreAnswered (setting_of_sampler send ring s) asked told past
   pub counted : refused ≡ count_by was_refused told
   pub stands : StandsAfter send ring s past
 

@@ -30,7 +30,7 @@ use Rattle.daq_engine.specs.declared.report.Report.{Report}
 use Rattle.daq_steps.specs.Runs.{taken_in, told_of}
 use Rattle.daq_steps.specs.Steps.{asked_of, run_step}
 use Rattle.daq_steps.specs.Answers.{Answered, AreAnswered, accepted, until}
-use Rattle.daq_run.specs.Runs.{HasPasts, IsClosed, setting_of}
+use Rattle.daq_run.specs.Runs.{HasPasts, IsClosed, settings_of_run}
 use Rattle.daq_run.specs.SetUps.{IsStoreAfter, replies_of}
 use Rattle.daq_run.proofs.ClosingLemmas.{all_received, hand_empty}
 use Rattle.daq_run.proofs.OpeningLemmas.{store_same}
@@ -75,7 +75,7 @@ right_image image_len past image none = elim (eqb_tells (length image) image_len
 -- a run that was set up, whose channels came to these pasts by such answers, and that was closed
 module _ (run : RunData) (before after : OutState) (writer : WriterState) (past : ℕ → Past) (told : ℕ → List Answered) (taken : List (ℕ × Item)) (t : TransmitterState) (report : Report)
     (has : HasPasts run before writer past)
-    (answered : (c : ℕ) → c < run.channels → AreAnswered (setting_of run c) (asked_of c (map run_step run.steps)) (told c) (past c))
+    (answered : (c : ℕ) → c < run.channels → AreAnswered (settings_of_run run c) (asked_of c (map run_step run.steps)) (told c) (past c))
     (closed : IsClosed run writer past taken t report after) where
   plan_len : (c i : ℕ) (plan : ListPlan) → c < run.channels → slice_get (past c).opening.plans i ≡ Some plan → plan.image_len ≡ run.image_len
   plan_len c i plan within at =

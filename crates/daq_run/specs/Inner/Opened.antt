@@ -13,7 +13,7 @@ use Rattle.daq_engine.specs.Openings.{AreOpened, some_list_runs}
 use Rattle.daq_run.specs.SetUps.{IsSetUp}
 
 -- a run was set up, and this engine opened over its store, with the frame writer of the replies
-pub record IsOpened {S E : Type 0} (send : SendGhosts S E) (ring : EndGhosts E) (run : RunData)
+pub record IsRunOpened {S E : Type 0} (send : SendGhosts S E) (ring : EndGhosts E) (run : RunData)
     (before : OutState) (e : EngineState S)
     : Type 0 where
   pub limits : HasLimits run

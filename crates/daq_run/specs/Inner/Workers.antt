@@ -13,7 +13,7 @@ use Rattle.daq_run.specs.declared.sim_fault.SimFault.{SimFault}
 use Rattle.daq_run.specs.declared.sim_fault.SimFault.TheVariants.{EndLost, Memory, NoThread}
 use Rattle.daq_run.specs.declared.sim_fault.SimFault.TheVariants.{NothingRunning, SetupWrite}
 use Rattle.daq_steps.specs.Answers.{Answered, AreAnswered, Setting}
-use Rattle.daq_steps.specs.Samplings.{setting_at, was_refused}
+use Rattle.daq_steps.specs.Samplings.{setting_of_sampler, was_refused}
 use Rattle.daq_steps.specs.Steps.{Ask, Pump, RunStep, asked_of}
 
 -- the step is of channel c
@@ -35,7 +35,7 @@ pub record EndHasAnswered (s : Setting) (e : JoinedEnd) (opening : Opening) (ask
 
 -- what is left of a sampler that was asked for what the steps ask of its channel, of which so many
 -- were refused
-pub record IsLeftOf {S E : Type 0} (send : SendGhosts S E) (ring : EndGhosts E)
+pub record IsLeftAfterSteps {S E : Type 0} (send : SendGhosts S E) (ring : EndGhosts E)
     (before : SamplerState S) (steps : List RunStep) (left : SamplerEndState E) (refused : ℕ)
     : Type 0 where
   pub channel : left.channel ≡ before.channel
@@ -43,7 +43,7 @@ pub record IsLeftOf {S E : Type 0} (send : SendGhosts S E) (ring : EndGhosts E)
   pub capacity : left.capacity ≡ send.capacity before.end
   pub answers :
       (opening : Opening) → StandsAfter send ring before (first_past opening)
-      → EndHasAnswered (setting_at send ring before) (joined ring left) opening
+      → EndHasAnswered (setting_of_sampler send ring before) (joined ring left) opening
       (asked_of before.channel steps) refused
 
 -- a sampler did the steps of its channel, of which so many were refused, and was finished: what is
@@ -52,7 +52,7 @@ abbrev pub HasWorked :
     {S E : Type 0} → SendGhosts S E → EndGhosts E → SamplerState S → List RunStep
     → Option (SamplerEndState E) → ℕ → Type 0
 HasWorked send ring before steps end refused =
-    IfSome end (λ left. IsLeftOf send ring before steps left refused)
+    IfSome end (λ left. IsLeftAfterSteps send ring before steps left refused)
 
 -- so did some samplers: what is left of each, in their order, and so many were refused in all
 abbrev pub HaveWorked :
@@ -60,7 +60,7 @@ abbrev pub HaveWorked :
     → List (SamplerEndState E) → ℕ → Type 0
 HaveWorked send ring [] steps [] refused = refused ≡ 0
 HaveWorked send ring (s ∷ samplers) steps (e ∷ ends) refused =
-    (own : ℕ) × IsLeftOf send ring s steps e own
+    (own : ℕ) × IsLeftAfterSteps send ring s steps e own
     × ((others : ℕ) × HaveWorked send ring samplers steps ends others
     × (refused ≡ own + others))
 HaveWorked send ring _ steps _ refused = ⊥

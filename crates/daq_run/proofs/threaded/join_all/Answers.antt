@@ -5,7 +5,7 @@ use Rattle.std.proofs.lemmas.Iterator.Consumers.{YieldsList-end}
 use Rattle.std.proofs.lemmas.List.{map-append, map-id}
 use Rattle.run_file.specs.RunFile.{RunData}
 use Rattle.daq_steps.specs.Steps.{run_step}
-use Rattle.daq_run.specs.Inner.Workers.{HaveWorked, IsLeftOf}
+use Rattle.daq_run.specs.Inner.Workers.{HaveWorked, IsLeftAfterSteps}
 use Rattle.daq_run.specs.declared.worker.WillWork.{WillWork}
 use Rattle.daq_run.proofs.WorkLemmas.{all-before, worked-more}
 use Rattle.daq_run.proofs.threaded.join_all.Goals as goal
@@ -27,8 +27,8 @@ loop-worker-preserved g c =
     record {
       worked = λ run all.
           let both = all-before (λ (k : PromisedHandle _ (WillWork _ _)). k.promise.run.now ≡ run) ys h all in
-          let kept = subst (λ o. IfSome o (λ left. IsLeftOf send ring (value h) (map run_step h.promise.run.now.steps) left m)) c.in-Some-end.is c.join-end.ensures in
-          let own = subst (λ (r : RunData). IsLeftOf send ring (value h) (map run_step r.steps) e m) both.1 kept in
+          let kept = subst (λ o. IfSome o (λ left. IsLeftAfterSteps send ring (value h) (map run_step h.promise.run.now.steps) left m)) c.in-Some-end.is c.join-end.ensures in
+          let own = subst (λ (r : RunData). IsLeftAfterSteps send ring (value h) (map run_step r.steps) e m) both.1 kept in
           let more = worked-more send ring (map value ys) (value h) (map run_step run.steps) xs e n m (i.worked run both.0) own in
           subst (λ es. HaveWorked send ring (map value (ys ++ h ∷ [])) (map run_step run.steps) es (n + m)) (sym c.push_reserved.ensures.items)
           (subst (λ ss. HaveWorked send ring ss (map run_step run.steps) (xs ++ e ∷ []) (n + m)) (sym (map-append value ys (h ∷ []))) more);

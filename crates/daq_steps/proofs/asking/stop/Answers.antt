@@ -8,7 +8,7 @@ use Rattle.daq_engine.specs.declared.channel_fault.ChannelFault.TheVariants.{Ref
 use Rattle.daq_engine.specs.Engines.{engine_state}
 use Rattle.daq_steps.specs.declared.cause.Cause.TheVariants.{Stop as OfStop}
 use Rattle.daq_steps.specs.Answers.{ExceedsRoom}
-use Rattle.daq_steps.specs.Runs.{settings_of}
+use Rattle.daq_steps.specs.Runs.{settings_of_samplers}
 use Rattle.daq_steps.proofs.AskLemmas.{finds_no_room, stop_accepted, stop_refused, told_stop}
 use Rattle.daq_steps.proofs.asking.stop.Goals as goal
 
@@ -28,7 +28,7 @@ returns-in-Err-Refused-clause-answers g c = λ st stands.
     let fault = c.in-Err-Refused.fault in
     let is : c.in-Err-Refused.field-0 ≡ Refused fault = c.in-Err-Refused.field-0-is in
     let a = engine_state g.O.Out g.T.TakeEnd c.args.engine.now in
-    let s = settings_of send ring a.samplers c.args.c in
+    let s = settings_of_samplers send ring a.samplers c.args.c in
     let past = st.past c.args.c in
     let room : fault ≡ NoRoom → ExceedsRoom s past (Stop c.args.l) = λ h. finds_no_room send ring a st c.args.c c.args.l stands c.requires (e.no_room (ap Err (is ∙ ap Refused h))) in
     let r = stop_refusal (running_at past c.args.l) in
