@@ -117,10 +117,7 @@ fn if_some(buffer: &mut Buffer, number: Option<u64>) -> &[u8]
 fn widened(number: Option<u32>) -> Option<u64>
     ensures { result ≡ number }
 {
-    match number {
-        Some(number) => Some(number as u64),
-        None => None,
-    }
+    Some(number? as u64)
 }
 
 /// Bytes in lower-case hexadecimal.
