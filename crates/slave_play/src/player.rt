@@ -74,11 +74,11 @@ impl<R: Ring> Player<R> {
             }
             Line::Send => self.send(),
             Line::Lose => {
-                lose(&mut self.slave);
+                self.lose();
                 Ok(())
             }
             Line::HangUp => {
-                self.slave.hang_up();
+                self.hang_up();
                 Ok(())
             }
         }
@@ -130,6 +130,26 @@ impl<R: Ring> Player<R> {
             self.ends.push(after)?;
         }
         Ok(())
+    }
+
+    /// A transport refuses what waits.
+    fn lose(&mut self)
+        ensures loses { Advances R.Take.TakeEnd
+            (sending self.old.slave self.old.out.contents)
+            (sending self.new.slave self.new.out.contents) [] }
+        ensures refused_stays { self.new.refused ≡ self.old.refused }
+    {
+        lose(&mut self.slave);
+    }
+
+    /// The master hangs up.
+    fn hang_up(&mut self)
+        ensures hangs_up { Advances R.Take.TakeEnd
+            (sending self.old.slave self.old.out.contents)
+            (sending self.new.slave self.new.out.contents) [] }
+        ensures refused_stays { self.new.refused ≡ self.old.refused }
+    {
+        self.slave.hang_up();
     }
 
     /// The session ends: the slave hangs up, the tasks finish, all that came back is collected, and

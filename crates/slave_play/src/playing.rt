@@ -41,10 +41,7 @@ pub fn play_over<R: Ring>(
     ensures played { IfOk result (λ played. HasPlayed R.Take.TakeEnd R.Send profile
         (map line_data script.now) played.refused played.sent.contents) }
 {
-    let mut player = match open::<R>(alloc, profile) {
-        Ok(player) => player,
-        Err(fault) => return Err(fault),
-    };
+    let mut player = open::<R>(alloc, profile)?;
     let Ok(()) = play_all(&mut player, alloc, script) else {
         return Err(PlayFault::Memory);
     };

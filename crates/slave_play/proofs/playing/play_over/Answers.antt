@@ -9,17 +9,17 @@ use Rattle.slave_play.proofs.playing.play_over.Goals as goal
 pub returns : goal.returns
 returns g c =
     let take = g.R.Take.TakeEnd in
-    let opened = c.in-Ok.player in
+    let opened = c.in_ok-player.player in
     let last = c.play_all.new.player in
     let lines = map line_data c.args.script.now in
     let does = subst (λ n. Does take (sending opened.slave opened.out.contents) (sending last.slave last.out.contents) n last.refused lines)
-    c.in-Ok.ensures.none_refused c.in-Ok-play_all.ensures.does in
+    c.in_ok-player.ensures.none_refused c.in-Ok.ensures.does in
     record {
       played =
           if-ok-both _ _ _ (λ (came : Played). HasPlayed take g.row.R-Send.Denot c.args.profile lines came.refused came.sent.contents)
           (λ (came : Played) refused ends.
           subst (λ n. HasPlayed take g.row.R-Send.Denot c.args.profile lines n came.sent.contents) (sym refused)
           (played take c.args.profile (sending opened.slave opened.out.contents) (sending last.slave last.out.contents) (sending ends.0 came.sent.contents)
-          lines last.refused c.in-Ok.ensures.stands c.in-Ok.ensures.none_sent does ends.1))
+          lines last.refused c.in_ok-player.ensures.stands c.in_ok-player.ensures.none_sent does ends.1))
           c.finish.ensures.refused c.finish.ensures.ends;
     }

@@ -1,9 +1,8 @@
 use Rattle.std.proofs.Common.{[], ◌∷◌, sym, ap, subst, refl, arith}
 use Rattle.frame_writer.specs.MemoryOuts.{VecOutState}
-use Rattle.slave.specs.Log.{HungUp}
 use Rattle.slave_file.specs.Inner.{line_data}
 use Rattle.slave_play.specs.Playing.{Advances, masters, sending}
-use Rattle.slave_play.proofs.PlayLemmas.{does-other, nothing, on_ok, silent}
+use Rattle.slave_play.proofs.PlayLemmas.{does-other, nothing, on_ok}
 use Rattle.slave_play.proofs.player.Player.line.Goals as goal
 
 -- a trigger changes nothing of the slave
@@ -36,17 +35,19 @@ returns-in-Send g c =
 pub returns-in-Lose : goal.returns-in-Lose
 returns-in-Lose g c =
     let was = c.args.self.now in
+    let now = c.lose.new.self in
+    let stays = c.lose.ensures.refused_stays in
     record {
-      does = does-other g.R.Take.TakeEnd (sending was.slave was.out.contents) (sending c.lose.new.slave was.out.contents) was.refused was.refused (line_data c.args.line.now)
-          (ap (λ l. masters (line_data l ∷ [])) c.in-Lose.is) (omega arith) (omega arith) (c.lose.ensures.shows was.out.contents);
+      does = does-other g.R.Take.TakeEnd (sending was.slave was.out.contents) (sending now.slave now.out.contents) was.refused now.refused (line_data c.args.line.now)
+          (ap (λ l. masters (line_data l ∷ [])) c.in-Lose.is) (omega (arith, stays)) (omega (arith, stays)) c.lose.ensures.loses;
     }
 
 pub returns-in-HangUp : goal.returns-in-HangUp
 returns-in-HangUp g c =
-    let take = g.R.Take.TakeEnd in
     let was = c.args.self.now in
+    let now = c.hang_up.new.self in
+    let stays = c.hang_up.ensures.refused_stays in
     record {
-      does = does-other take (sending was.slave was.out.contents) (sending c.hang_up.new.self was.out.contents) was.refused was.refused (line_data c.args.line.now)
-          (ap (λ l. masters (line_data l ∷ [])) c.in-HangUp.is) (omega arith) (omega arith)
-          (silent take was.slave c.hang_up.new.self (HungUp ∷ []) was.out.contents [] c.hang_up.ensures.hangs_up refl refl);
+      does = does-other g.R.Take.TakeEnd (sending was.slave was.out.contents) (sending now.slave now.out.contents) was.refused now.refused (line_data c.args.line.now)
+          (ap (λ l. masters (line_data l ∷ [])) c.in-HangUp.is) (omega (arith, stays)) (omega (arith, stays)) c.hang_up.ensures.hangs_up;
     }
