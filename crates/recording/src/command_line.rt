@@ -1,211 +1,278 @@
-//! The program: from its words to its status.
-ghost use Rattle.std.specs.Prelude.{◌≡◌, ◌≤◌, ◌↔◌, IfOk, true};
+//! The command line.
+ghost use Rattle.std.specs.Prelude.{◌≡◌, ◌⊎◌, IfErr};
+ghost use Rattle.recording.specs.Faults.{want_of_memory};
+ghost use Rattle.recording.specs.declared.program_fault.ProgramFault.TheVariants as fault;
 
-use crate::explaining::{Recorded, explain_samples, tell_replies};
-use crate::messages::Messages;
+use crate::mode::Mode;
 use crate::program_fault::ProgramFault;
-use crate::recording::pass_replies;
-use crate::showing::show_samples;
-use crate::values::{Values, show_values};
-use crate::words::{Asked, Words, read_words};
-use a2l::{A2lFault, Description};
-use clap::Error;
-use daq_run::set_up;
-use daq_sim::{MAX_TEXT, TextFault, Why, front_from, run_or_why};
-use frame_writer::VecOut;
-use run_file::Run;
-use std::alloc::Global;
-use std::fs;
-use std::io::{BufWriter, Read, Write};
-use std::rt::Files;
+use clap::error::ErrorKind;
+use clap::{Arg, ArgAction, ArgMatches, Command, Error};
+use measured_values::tick_of;
+use measurement::Tick;
+use run_story::Why;
+use std::alloc::{AllocError, Global};
 
-/// The program over its arguments, without its name, its standard output and standard error. It
-/// returns its status.
-pub fn program<R: Files, W: Write + Drop, E: Write + Drop>(
-    rt: &R,
+/// What the command line asks for.
+#[derive(Drop)]
+pub enum CommandLine<'a> {
+    /// The help, which is the error's text.
+    Help(Error),
+    /// A recording.
+    Recording(Options<'a>),
+}
+
+/// Which recording is read, and how it is shown.
+#[derive(Clone, Copy)]
+pub struct Options<'a> {
+    /// How the samples are shown.
+    pub mode: Mode,
+    /// The run file that the recording was made of.
+    pub run: &'a str,
+    /// The file of the recording.
+    pub frames: &'a str,
+    /// Whether standard error is told how far it is read.
+    pub progress: bool,
+    /// Whether its replies and frames are printed in words, before a table.
+    pub explain: bool,
+    /// The A2L file that says which values are shown, if there is one.
+    pub a2l: Option<&'a str>,
+    /// The names of those that are shown, with commas between them; `None`: all.
+    pub only: Option<&'a str>,
+    /// How long a tick is, if that is said.
+    pub tick: Option<Tick>,
+}
+
+/// Reads the arguments, without the program's name.
+pub fn read_command_line<'a>(
     alloc: Global,
-    words: &[String],
-    out: W,
-    err: E,
-) -> u8
-    ensures { result ≤ 2 }
+    words: &'a [String],
+    why: &mut Why,
+) -> Result<CommandLine<'a>, ProgramFault>
+    ensures { IfErr result (λ f. (f ≡ fault.CommandLine) ⊎ (f ≡ want_of_memory)) }
 {
-    let mut messages = Messages::new(alloc, err, Why::new(alloc, words));
-    let answer = match BufWriter::new(alloc, out) {
-        Ok(out) => answer(rt, alloc, words, out, &mut messages),
-        Err(_) => Err(ProgramFault::MEMORY),
-    };
-    match answer {
-        Ok(status) => status,
-        Err(fault) => {
-            messages.tell_fault(fault);
-            fault.status()
-        }
+    match command(alloc)?.try_get_matches_from(words) {
+        Ok(matches) => recording_of(&matches, why),
+        Err(error) => match error.kind() {
+            ErrorKind::DisplayHelp => Ok(CommandLine::Help(error)),
+            ErrorKind::OutOfMemory => Err(ProgramFault::MEMORY),
+            _ => {
+                why.tell(error);
+                Err(ProgramFault::CommandLine)
+            }
+        },
     }
 }
 
-/// What the words ask for: the status once that is printed, or the fault that is still to be.
-fn answer<R: Files, W: Write + Drop, E: Write + Drop>(
-    rt: &R,
-    alloc: Global,
-    words: &[String],
-    out: W,
-    messages: &mut Messages<E>,
-) -> Result<u8, ProgramFault>
-    ensures { IfOk result (λ status. status ≤ 1) }
+/// The arguments that the program takes.
+fn command<'a>(alloc: Global) -> Result<Command<'a>, AllocError> {
+    let command = Command::new(alloc, "xcpread")
+        .about("Reads a recording back, and prints its samples")
+        .no_binary_name(true);
+    let command = with_modes(alloc, command)?;
+    let command = with_values(alloc, command)?;
+    with_files(alloc, with_progress(alloc, command)?)
+}
+
+/// A command that also takes the ways to show samples.
+fn with_modes<'a>(alloc: Global, command: Command<'a>) -> Result<Command<'a>, AllocError> {
+    let command = with_csv(alloc, with_summary(alloc, command)?)?;
+    with_explain(alloc, with_svg(alloc, command)?)
+}
+
+/// A command that also takes that a table is printed.
+fn with_summary<'a>(alloc: Global, command: Command<'a>) -> Result<Command<'a>, AllocError> {
+    let summary = Arg::new(alloc, "summary")
+        .long("summary")
+        .action(ArgAction::SetTrue)
+        .help("Print a table with a line for each DAQ list [default]");
+    command.arg(summary)
+}
+
+/// A command that also takes that CSV is printed.
+fn with_csv<'a>(alloc: Global, command: Command<'a>) -> Result<Command<'a>, AllocError> {
+    let csv = Arg::new(alloc, "csv")
+        .long("csv")
+        .action(ArgAction::SetTrue)
+        .conflicts_with("summary")?
+        .help("Print CSV with a row for each element of each sample, with its time and number");
+    command.arg(csv)
+}
+
+/// A command that also takes that a picture is printed.
+fn with_svg<'a>(alloc: Global, command: Command<'a>) -> Result<Command<'a>, AllocError> {
+    let svg = Arg::new(alloc, "svg")
+        .long("svg")
+        .action(ArgAction::SetTrue)
+        .conflicts_with("summary")?
+        .conflicts_with("csv")?
+        .help("Print a picture with a row for each DAQ list, as SVG");
+    command.arg(svg)
+}
+
+/// A command that also takes that replies and frames are printed in words.
+fn with_explain<'a>(alloc: Global, command: Command<'a>) -> Result<Command<'a>, AllocError> {
+    let explain = Arg::new(alloc, "explain")
+        .long("explain")
+        .action(ArgAction::SetTrue)
+        .conflicts_with("summary")?
+        .conflicts_with("csv")?
+        .conflicts_with("svg")?
+        .help("Print each reply and frame in words, then a table, and the reason behind a fault");
+    command.arg(explain)
+}
+
+/// A command that also takes what is shown by name.
+fn with_values<'a>(alloc: Global, command: Command<'a>) -> Result<Command<'a>, AllocError> {
+    let command = with_only(alloc, with_a2l(alloc, command)?)?;
+    with_long(alloc, with_tick(alloc, command)?)
+}
+
+/// A command that also takes the A2L file.
+fn with_a2l<'a>(alloc: Global, command: Command<'a>) -> Result<Command<'a>, AllocError> {
+    let a2l = Arg::new(alloc, "a2l")
+        .long("a2l")
+        .value_name("FILE")
+        .action(ArgAction::Set)
+        .conflicts_with("explain")?
+        .help("Show the measurements of this A2L file, by name and as physical values");
+    command.arg(a2l)
+}
+
+/// A command that also takes which measurements are shown.
+fn with_only<'a>(alloc: Global, command: Command<'a>) -> Result<Command<'a>, AllocError> {
+    let only = Arg::new(alloc, "only")
+        .long("only")
+        .value_name("NAMES")
+        .action(ArgAction::Set)
+        .help("With --a2l: show these measurements alone; commas between their names");
+    command.arg(only)
+}
+
+/// A command that also takes how long a tick is.
+fn with_tick<'a>(alloc: Global, command: Command<'a>) -> Result<Command<'a>, AllocError> {
+    let tick = Arg::new(alloc, "tick")
+        .long("tick")
+        .value_name("SECONDS")
+        .action(ArgAction::Set)
+        .help("With --a2l: how long a tick of a timestamp is, if the file doesn't say it");
+    command.arg(tick)
+}
+
+/// A command that also takes whether CSV has a row for each element in spite of an A2L file.
+fn with_long<'a>(alloc: Global, command: Command<'a>) -> Result<Command<'a>, AllocError> {
+    let long = Arg::new(alloc, "long")
+        .long("long")
+        .action(ArgAction::SetTrue)
+        .help("Only with --csv: print a row for each element, in spite of --a2l");
+    command.arg(long)
+}
+
+/// A command that also takes whether progress is told.
+fn with_progress<'a>(alloc: Global, command: Command<'a>) -> Result<Command<'a>, AllocError> {
+    let progress = Arg::new(alloc, "progress")
+        .long("progress")
+        .action(ArgAction::SetTrue)
+        .help("Say on standard error how far a long recording is read");
+    command.arg(progress)
+}
+
+/// A command that also takes the run file and the recording.
+fn with_files<'a>(alloc: Global, command: Command<'a>) -> Result<Command<'a>, AllocError> {
+    with_frames(alloc, with_run(alloc, command)?)
+}
+
+/// A command that also takes the run file.
+fn with_run<'a>(alloc: Global, command: Command<'a>) -> Result<Command<'a>, AllocError> {
+    let run = Arg::new(alloc, "run")
+        .value_name("RUN")
+        .required(true)
+        .action(ArgAction::Set)
+        .help("The run file that the recording was made of");
+    command.arg(run)
+}
+
+/// A command that also takes the recording.
+fn with_frames<'a>(alloc: Global, command: Command<'a>) -> Result<Command<'a>, AllocError> {
+    let frames = Arg::new(alloc, "frames")
+        .value_name("FRAMES")
+        .required(true)
+        .action(ArgAction::Set)
+        .help("The recording, as xcpdaq --out wrote it");
+    command.arg(frames)
+}
+
+/// What matched.
+fn recording_of<'a>(
+    matches: &ArgMatches<'a>,
+    why: &mut Why,
+) -> Result<CommandLine<'a>, ProgramFault>
+    ensures { IfErr result (λ f. f ≡ fault.CommandLine) }
 {
-    match read_words(alloc, words, &mut messages.why)? {
-        Asked::Help(text) => Ok(print_help(out, text)),
-        Asked::Recording(words) => show(rt, alloc, words, out, messages),
+    let Some(run) = matches.get_str("run") else {
+        return Err(ProgramFault::CommandLine);
+    };
+    let Some(frames) = matches.get_str("frames") else {
+        return Err(ProgramFault::CommandLine);
+    };
+    Ok(CommandLine::Recording(Options {
+        mode: mode_of(matches),
+        run,
+        frames,
+        progress: matches.get_flag("progress"),
+        explain: matches.get_flag("explain"),
+        a2l: a2l_of(matches, why)?,
+        only: matches.get_str("only"),
+        tick: tick_in(matches, why)?,
+    }))
+}
+
+/// The A2L file by which values are shown; none if rows of elements are asked for.
+fn a2l_of<'a>(matches: &ArgMatches<'a>, why: &mut Why) -> Result<Option<&'a str>, ProgramFault>
+    ensures { IfErr result (λ f. f ≡ fault.CommandLine) }
+{
+    let a2l = matches.get_str("a2l");
+    if a2l.is_none() && is_of_values(matches) {
+        why.tell("--only and --tick want --a2l\n");
+        return Err(ProgramFault::CommandLine);
     }
-}
-
-/// Prints the help, and returns the status.
-fn print_help<W: Write + Drop>(out: W, help: Error) -> u8
-    ensures { result ≤ 1 }
-{
-    let mut out = out;
-    let printing = write!(out, "{help}").and_then(|()| out.flush());
-    status_of(printing.is_ok())
-}
-
-/// Reads the recording that words name, and prints its samples.
-fn show<R: Files, W: Write + Drop, E: Write + Drop>(
-    rt: &R,
-    alloc: Global,
-    words: Words<'_>,
-    out: W,
-    messages: &mut Messages<E>,
-) -> Result<u8, ProgramFault>
-    ensures { IfOk result (λ status. status ≤ 1) }
-{
-    let run = run_of(rt, alloc, words.run, &mut messages.why)?;
-    let description = description_of(rt, alloc, words.a2l, messages)?;
-    let Ok((store, writer)) = set_up(alloc, &run, VecOut::new(alloc)) else {
-        return Err(ProgramFault::MEMORY);
-    };
-    let replies = writer.into_out();
-    if words.progress {
-        messages.want_progress();
+    if !matches.get_flag("long") {
+        return Ok(a2l);
     }
-    let mut file = match fs::open(rt, words.frames) {
-        Ok(file) => file,
-        Err(error) => {
-            let fault = TextFault::Unreadable.or_memory(&error);
-            messages.why.tell_file(words.frames, error);
-            return Err(ProgramFault::of_recording(fault));
-        }
-    };
-    let recorded = Recorded {
-        name: words.frames,
-        run: &run,
-        replies: replies.bytes(),
-        store: &store,
-    };
-    let described = description.as_ref();
-    show_file(
-        rt, alloc, words, described, &recorded, &mut file, out, messages,
-    )
+    if !matches.get_flag("csv") {
+        why.tell("--long wants --csv\n");
+        return Err(ProgramFault::CommandLine);
+    }
+    Ok(None)
 }
 
-/// What the A2L file says, if there is one.
-fn description_of<R: Files, E: Write + Drop>(
-    rt: &R,
-    alloc: Global,
-    path: Option<&str>,
-    messages: &mut Messages<E>,
-) -> Result<Option<Description>, ProgramFault> {
-    let Some(path) = path else {
+/// Whether an option stands there that speaks of values.
+fn is_of_values(matches: &ArgMatches<'_>) -> bool {
+    matches.get_str("only").is_some() || matches.get_str("tick").is_some()
+}
+
+/// How long a tick is, if that is said.
+fn tick_in(matches: &ArgMatches<'_>, why: &mut Why) -> Result<Option<Tick>, ProgramFault>
+    ensures { IfErr result (λ f. f ≡ fault.CommandLine) }
+{
+    let Some(text) = matches.get_str("tick") else {
         return Ok(None);
     };
-    let text = text_of(rt, alloc, path, messages)?;
-    match Description::read(alloc, &text) {
-        Ok(description) => Ok(Some(description)),
-        Err(A2lFault::Memory) => Err(ProgramFault::MEMORY),
-        Err(fault) => {
-            messages.detail(fault);
-            Err(ProgramFault::BadA2l)
+    match tick_of(text) {
+        Some(tick) => Ok(Some(tick)),
+        None => {
+            why.tell("--tick wants a number of seconds, such as 0.001 or 1e-6\n");
+            Err(ProgramFault::CommandLine)
         }
     }
 }
 
-/// The text of an A2L file.
-fn text_of<R: Files, E: Write + Drop>(
-    rt: &R,
-    alloc: Global,
-    path: &str,
-    messages: &mut Messages<E>,
-) -> Result<Vec<u8>, ProgramFault> {
-    let read = match fs::open(rt, path) {
-        Ok(mut file) => front_from(alloc, &mut file, MAX_TEXT),
-        Err(error) => Err(TextFault::Unreadable.or_memory(&error)),
-    };
-    match read {
-        Ok(text) => Ok(text),
-        Err(TextFault::Memory) => Err(ProgramFault::MEMORY),
-        Err(_) => {
-            messages.detail(path);
-            Err(ProgramFault::UnreadableA2l)
-        }
+/// How the samples are shown; a table where no mode is asked for.
+fn mode_of(matches: &ArgMatches<'_>) -> Mode {
+    if matches.get_flag("csv") {
+        return Mode::Csv;
     }
-}
-
-/// Reads the file of a recording, and prints its samples.
-fn show_file<R: Files, I: Read, W: Write + Drop, E: Write + Drop>(
-    rt: &R,
-    alloc: Global,
-    words: Words<'_>,
-    description: Option<&Description>,
-    recorded: &Recorded<'_>,
-    file: &mut I,
-    out: W,
-    messages: &mut Messages<E>,
-) -> Result<u8, ProgramFault>
-    ensures { IfOk result (λ status. status ≤ 1) }
-{
-    let frames = recorded.run.setup().len();
-    let mut piece = match pass_replies(alloc, file, recorded.replies, frames) {
-        Ok(piece) => piece,
-        Err(fault) => {
-            tell_replies(rt, alloc, recorded, fault, &mut messages.why);
-            return Err(fault);
-        }
-    };
-    let store = recorded.store;
-    let shown = match description {
-        Some(description) => {
-            let values = Values {
-                description,
-                only: words.only,
-                tick: words.tick.or(description.tick),
-                mode: words.mode,
-            };
-            show_values(alloc, store, values, file, &mut piece, out, messages)?
-        }
-        None if words.explain => {
-            explain_samples(alloc, recorded, file, &mut piece, out, messages)?
-        }
-        None => show_samples(alloc, store, words.mode, file, &mut piece, out, messages)?,
-    };
-    Ok(status_of(shown.is_some()))
-}
-
-/// The run of a file. Behind a fault `why` has the reason.
-fn run_of<R: Files>(rt: &R, alloc: Global, path: &str, why: &mut Why) -> Result<Run, ProgramFault> {
-    match fs::open(rt, path) {
-        Ok(mut file) => Ok(run_or_why(alloc, path, &mut file, why)?),
-        Err(error) => {
-            let fault = TextFault::Unreadable.or_memory(&error);
-            why.tell_file(path, error);
-            Err(ProgramFault::Text(fault))
-        }
+    if matches.get_flag("svg") {
+        return Mode::Svg;
     }
-}
-
-/// The status: 0 where all was printed, else 1.
-fn status_of(printed: bool) -> u8
-    ensures range { result ≤ 1 }
-    ensures well { (result ≡ 0) ↔ (printed ≡ true) }
-{
-    if printed { 0 } else { 1 }
+    Mode::Summary
 }
