@@ -63,142 +63,120 @@ pub fn read_command_line<'a>(
     }
 }
 
+/// An option of the command line.
+#[derive(Clone, Copy)]
+struct Choice<'a> {
+    name: &'a str,
+    /// The name of its value, if it has one.
+    value: Option<&'a str>,
+    /// The options that it doesn't stand with.
+    without: &'a [&'a str],
+    help: &'a str,
+}
+
+/// The options: the ways to show samples, what is shown by name, and whether progress is told.
+const CHOICES: [Choice; 9] = [
+    Choice {
+        name: "summary",
+        value: None,
+        without: &[],
+        help: "Print a table with a line for each DAQ list [default]",
+    },
+    Choice {
+        name: "csv",
+        value: None,
+        without: &["summary"],
+        help: "Print CSV with a row for each element of each sample, with its time and number",
+    },
+    Choice {
+        name: "svg",
+        value: None,
+        without: &["summary", "csv"],
+        help: "Print a picture with a row for each DAQ list, as SVG",
+    },
+    Choice {
+        name: "explain",
+        value: None,
+        without: &["summary", "csv", "svg"],
+        help: "Print each reply and frame in words, then a table, and the reason behind a fault",
+    },
+    Choice {
+        name: "a2l",
+        value: Some("FILE"),
+        without: &["explain"],
+        help: "Show the measurements of this A2L file, by name and as physical values",
+    },
+    Choice {
+        name: "only",
+        value: Some("NAMES"),
+        without: &[],
+        help: "With --a2l: show these measurements alone; commas between their names",
+    },
+    Choice {
+        name: "tick",
+        value: Some("SECONDS"),
+        without: &[],
+        help: "With --a2l: how long a tick of a timestamp is, if the file doesn't say it",
+    },
+    Choice {
+        name: "long",
+        value: None,
+        without: &[],
+        help: "Only with --csv: print a row for each element, in spite of --a2l",
+    },
+    Choice {
+        name: "progress",
+        value: None,
+        without: &[],
+        help: "Say on standard error how far a long recording is read",
+    },
+];
+
 /// The arguments that the program takes.
 fn command<'a>(alloc: Global) -> Result<Command<'a>, AllocError> {
-    let command = Command::new(alloc, "xcpread")
+    let mut command = Command::new(alloc, "xcpread")
         .about("Reads a recording back, and prints its samples")
         .no_binary_name(true);
-    let command = with_modes(alloc, command)?;
-    let command = with_values(alloc, command)?;
-    with_files(alloc, with_progress(alloc, command)?)
+    for choice in CHOICES {
+        command = with_choice(alloc, command, choice)?;
+    }
+    let run = "The run file that the recording was made of";
+    let command = with_file(alloc, command, "run", "RUN", run)?;
+    let frames = "The recording, as xcpdaq --out wrote it";
+    with_file(alloc, command, "frames", "FRAMES", frames)
 }
 
-/// A command that also takes the ways to show samples.
-fn with_modes<'a>(alloc: Global, command: Command<'a>) -> Result<Command<'a>, AllocError> {
-    let command = with_csv(alloc, with_summary(alloc, command)?)?;
-    with_explain(alloc, with_svg(alloc, command)?)
+/// A command that also takes an option.
+fn with_choice<'a>(
+    alloc: Global,
+    command: Command<'a>,
+    choice: Choice<'a>,
+) -> Result<Command<'a>, AllocError> {
+    let option = Arg::new(alloc, choice.name)
+        .long(choice.name)
+        .help(choice.help)
+        .conflicts_with_all(choice.without)?;
+    let option = match choice.value {
+        Some(value) => option.value_name(value).action(ArgAction::Set),
+        None => option.action(ArgAction::SetTrue),
+    };
+    command.arg(option)
 }
 
-/// A command that also takes that a table is printed.
-fn with_summary<'a>(alloc: Global, command: Command<'a>) -> Result<Command<'a>, AllocError> {
-    let summary = Arg::new(alloc, "summary")
-        .long("summary")
-        .action(ArgAction::SetTrue)
-        .help("Print a table with a line for each DAQ list [default]");
-    command.arg(summary)
-}
-
-/// A command that also takes that CSV is printed.
-fn with_csv<'a>(alloc: Global, command: Command<'a>) -> Result<Command<'a>, AllocError> {
-    let csv = Arg::new(alloc, "csv")
-        .long("csv")
-        .action(ArgAction::SetTrue)
-        .conflicts_with("summary")?
-        .help("Print CSV with a row for each element of each sample, with its time and number");
-    command.arg(csv)
-}
-
-/// A command that also takes that a picture is printed.
-fn with_svg<'a>(alloc: Global, command: Command<'a>) -> Result<Command<'a>, AllocError> {
-    let svg = Arg::new(alloc, "svg")
-        .long("svg")
-        .action(ArgAction::SetTrue)
-        .conflicts_with("summary")?
-        .conflicts_with("csv")?
-        .help("Print a picture with a row for each DAQ list, as SVG");
-    command.arg(svg)
-}
-
-/// A command that also takes that replies and frames are printed in words.
-fn with_explain<'a>(alloc: Global, command: Command<'a>) -> Result<Command<'a>, AllocError> {
-    let explain = Arg::new(alloc, "explain")
-        .long("explain")
-        .action(ArgAction::SetTrue)
-        .conflicts_with("summary")?
-        .conflicts_with("csv")?
-        .conflicts_with("svg")?
-        .help("Print each reply and frame in words, then a table, and the reason behind a fault");
-    command.arg(explain)
-}
-
-/// A command that also takes what is shown by name.
-fn with_values<'a>(alloc: Global, command: Command<'a>) -> Result<Command<'a>, AllocError> {
-    let command = with_only(alloc, with_a2l(alloc, command)?)?;
-    with_long(alloc, with_tick(alloc, command)?)
-}
-
-/// A command that also takes the A2L file.
-fn with_a2l<'a>(alloc: Global, command: Command<'a>) -> Result<Command<'a>, AllocError> {
-    let a2l = Arg::new(alloc, "a2l")
-        .long("a2l")
-        .value_name("FILE")
-        .action(ArgAction::Set)
-        .conflicts_with("explain")?
-        .help("Show the measurements of this A2L file, by name and as physical values");
-    command.arg(a2l)
-}
-
-/// A command that also takes which measurements are shown.
-fn with_only<'a>(alloc: Global, command: Command<'a>) -> Result<Command<'a>, AllocError> {
-    let only = Arg::new(alloc, "only")
-        .long("only")
-        .value_name("NAMES")
-        .action(ArgAction::Set)
-        .help("With --a2l: show these measurements alone; commas between their names");
-    command.arg(only)
-}
-
-/// A command that also takes how long a tick is.
-fn with_tick<'a>(alloc: Global, command: Command<'a>) -> Result<Command<'a>, AllocError> {
-    let tick = Arg::new(alloc, "tick")
-        .long("tick")
-        .value_name("SECONDS")
-        .action(ArgAction::Set)
-        .help("With --a2l: how long a tick of a timestamp is, if the file doesn't say it");
-    command.arg(tick)
-}
-
-/// A command that also takes whether CSV has a row for each element in spite of an A2L file.
-fn with_long<'a>(alloc: Global, command: Command<'a>) -> Result<Command<'a>, AllocError> {
-    let long = Arg::new(alloc, "long")
-        .long("long")
-        .action(ArgAction::SetTrue)
-        .help("Only with --csv: print a row for each element, in spite of --a2l");
-    command.arg(long)
-}
-
-/// A command that also takes whether progress is told.
-fn with_progress<'a>(alloc: Global, command: Command<'a>) -> Result<Command<'a>, AllocError> {
-    let progress = Arg::new(alloc, "progress")
-        .long("progress")
-        .action(ArgAction::SetTrue)
-        .help("Say on standard error how far a long recording is read");
-    command.arg(progress)
-}
-
-/// A command that also takes the run file and the recording.
-fn with_files<'a>(alloc: Global, command: Command<'a>) -> Result<Command<'a>, AllocError> {
-    with_frames(alloc, with_run(alloc, command)?)
-}
-
-/// A command that also takes the run file.
-fn with_run<'a>(alloc: Global, command: Command<'a>) -> Result<Command<'a>, AllocError> {
-    let run = Arg::new(alloc, "run")
-        .value_name("RUN")
+/// A command that also takes a file, which has to be named.
+fn with_file<'a>(
+    alloc: Global,
+    command: Command<'a>,
+    name: &'a str,
+    value: &'a str,
+    help: &'a str,
+) -> Result<Command<'a>, AllocError> {
+    let file = Arg::new(alloc, name)
+        .value_name(value)
         .required(true)
         .action(ArgAction::Set)
-        .help("The run file that the recording was made of");
-    command.arg(run)
-}
-
-/// A command that also takes the recording.
-fn with_frames<'a>(alloc: Global, command: Command<'a>) -> Result<Command<'a>, AllocError> {
-    let frames = Arg::new(alloc, "frames")
-        .value_name("FRAMES")
-        .required(true)
-        .action(ArgAction::Set)
-        .help("The recording, as xcpdaq --out wrote it");
-    command.arg(frames)
+        .help(help);
+    command.arg(file)
 }
 
 /// What matched.
