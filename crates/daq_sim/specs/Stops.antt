@@ -1,10 +1,8 @@
 -- Why the program stops.
 use Rattle.std.specs.Prelude.{ℕ, Bool, false, true, List, ⊤}
 use Rattle.frame_writer.specs.Shown.{OutState}
-use Rattle.run_file.specs.Outcomes.{IsOutcome, bad_key, bad_setup, bad_step, not_toml}
 use Rattle.run_file.specs.RunFile.{IsRunText, RunData}
-use Rattle.run_file.specs.declared.run_fault.RunFault.{RunFault}
-use Rattle.run_file.specs.declared.run_fault.RunFault.TheVariants as bad
+use Rattle.run_story.specs.RunTexts.{IsNoRun}
 use Rattle.daq_run.specs.Faults.{StandsAtFault}
 use Rattle.daq_run.specs.Threads.{ThreadsStandAtFault}
 use Rattle.daq_run.specs.declared.sim_fault.SimFault.{SimFault}
@@ -13,22 +11,6 @@ use Rattle.daq_sim.specs.Done.{nothing_written}
 use Rattle.daq_sim.specs.declared.program_fault.ProgramFault.{ProgramFault}
 use Rattle.daq_sim.specs.declared.program_fault.ProgramFault.TheVariants.{CommandLine, OutFile, Run}
 use Rattle.daq_sim.specs.declared.program_fault.ProgramFault.TheVariants.{Sim, Unreadable}
-use Rattle.daq_sim.specs.declared.text_fault.TextFault.{TextFault}
-use Rattle.daq_sim.specs.declared.text_fault.TextFault.TheVariants as none
-
--- the text comes to this fault, and to no run
-abbrev pub IsNoRun : List ℕ → RunFault → Type 0
-IsNoRun text bad.NotToml = IsOutcome text not_toml
-IsNoRun text bad.BadKey = IsOutcome text bad_key
-IsNoRun text (bad.BadSetup place) = IsOutcome text (bad_setup place)
-IsNoRun text (bad.BadStep place) = IsOutcome text (bad_step place)
-IsNoRun text bad.Memory = ⊥
-
--- a text stops for this: it can't be read, or is no run; of lack of memory nothing is said
-abbrev pub StopsText : List ℕ → TextFault → Type 0
-StopsText text none.Unreadable = ⊤
-StopsText text (none.Run fault) = IsNoRun text fault
-StopsText text none.Memory = ⊤
 
 -- a run was begun with a writer that had taken nothing, and this is what stands at its fault; of
 -- lack of memory nothing is said

@@ -42,7 +42,7 @@ pub fn to_file<R: Files + Threads + Wait + Sync, W: Write>(
         ..
     } = outcome_of(rt, alloc, run, threads, StdOut::new(file))?;
     let printing = print_outcome(out, None, refused, &report);
-    Ok(status_of(printing, report.failed))
+    Ok(status_of_printing(printing, report.failed))
 }
 
 /// Carries out a run whose frames are kept in memory, and prints them and the account.
@@ -66,7 +66,7 @@ pub fn to_memory<R: Threads + Wait + Sync, W: Write>(
     } = outcome_of(rt, alloc, run, threads, VecOut::new(alloc))?;
     let line = hex::encode(alloc, frames.bytes())?;
     let printing = print_outcome(out, Some(&line), refused, &report);
-    Ok(status_of(printing, report.failed))
+    Ok(status_of_printing(printing, report.failed))
 }
 
 /// What comes of a run, in one thread or with a thread for each event channel.
@@ -124,7 +124,7 @@ fn outcome_apart<R: Threads + Wait + Sync, O: Out + Drop>(
 }
 
 /// The status: 1 if the writer failed or the output can't be printed, else 0.
-pub fn status_of(printing: io::Result<()>, failed: bool) -> u8
+pub fn status_of_printing(printing: io::Result<()>, failed: bool) -> u8
     ensures range { result ≤ 1 }
     ensures well { (result ≡ 0) ↔ (IsOk printing × (failed ≡ false)) }
 {

@@ -4,9 +4,9 @@ ghost use Rattle.daq_sim.specs.Faults.{want_of_memory};
 ghost use Rattle.daq_sim.specs.declared.program_fault.ProgramFault.TheVariants as fault;
 
 use crate::program_fault::ProgramFault;
-use crate::why::Why;
 use clap::error::ErrorKind;
 use clap::{Arg, ArgAction, ArgMatches, Command, Error};
+use run_story::Why;
 use std::alloc::{AllocError, Global};
 
 /// What the command line asks for.

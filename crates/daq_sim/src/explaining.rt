@@ -5,19 +5,16 @@ ghost use Rattle.std.specs.Io.KnownBytes.{Keeps};
 ghost use Rattle.frame_writer.specs.Shown.{shown};
 ghost use Rattle.run_file.specs.RunFile.{IsRunText};
 ghost use Rattle.daq_sim.specs.Done.{CameTo, PrintsRun, PrintsText, nothing_written};
-ghost use Rattle.daq_sim.specs.Stops.{StopsAt, StopsOf, StopsRun, StopsText};
+ghost use Rattle.daq_sim.specs.Stops.{StopsAt, StopsOf, StopsRun};
 
-use crate::carrying::status_of;
+use crate::carrying::status_of_printing;
 use crate::command_line::Options;
 use crate::program_fault::ProgramFault;
 use crate::report_text::print_outcome;
-use crate::run_text::text_from;
-use crate::text_fault::TextFault;
-use crate::why::Why;
 use daq_run::{NoGate, Outcome, SimFault, run_threads, run_watched};
 use frame_writer::{Out, StdOut, VecOut};
 use run_file::Run;
-use run_story::{KeepingOut, StepLog, story_of};
+use run_story::{KeepingOut, StepLog, Why, run_or_why, story_of};
 use std::alloc::Global;
 use std::fs;
 use std::io::{Read, Write};
@@ -78,38 +75,6 @@ fn run_of<R: Files, I: Read + Drop>(
     }
 }
 
-/// Reads a run, from a text that has this name and is read to its end. After a fault `why` has the
-/// reason.
-pub fn run_or_why<I: Read>(
-    alloc: Global,
-    name: &str,
-    input: &mut I,
-    why: &mut Why,
-) -> Result<Run, TextFault>
-    ensures ok { IfOk result (λ run.
-        IfSome (I.remaining input.old) (λ text. IsRunText text run)) }
-    ensures stops { IfErr result (λ fault.
-        IfSome (I.remaining input.old) (λ text. StopsText text fault)) }
-{
-    let text = match text_from(alloc, input) {
-        Ok(text) => text,
-        Err(fault) => {
-            why.tell_file(
-                name,
-                "it can't be read, isn't UTF-8, or has over 67108864 bytes",
-            );
-            return Err(fault);
-        }
-    };
-    match Run::read(alloc, &text) {
-        Ok(run) => Ok(run),
-        Err(fault) => {
-            why.tell_text(name, &text, fault);
-            Err(TextFault::from(fault))
-        }
-    }
-}
-
 /// Carries out a run whose frames go to a file, which is made first.
 fn to_file<R: Files + Threads + Wait + Sync, W: Write>(
     rt: &R,
@@ -145,7 +110,7 @@ fn to_file<R: Files + Threads + Wait + Sync, W: Write>(
             let log = if threads { None } else { Some(&log) };
             let story = story_of(alloc, run, log, written)?;
             let printing = print_outcome(out, Some(&story), outcome.refused, &outcome.report);
-            Ok(status_of(printing, outcome.report.failed))
+            Ok(status_of_printing(printing, outcome.report.failed))
         }
         Err((fault, frames)) => {
             why.tell_set_up(run, frames.kept().unwrap_or(&[]));
@@ -176,7 +141,7 @@ fn to_memory<R: Threads + Wait + Sync, W: Write>(
             let log = if threads { None } else { Some(&log) };
             let story = story_of(alloc, run, log, outcome.out.bytes())?;
             let printing = print_outcome(out, Some(&story), outcome.refused, &outcome.report);
-            Ok(status_of(printing, outcome.report.failed))
+            Ok(status_of_printing(printing, outcome.report.failed))
         }
         Err((fault, frames)) => {
             why.tell_set_up(run, frames.bytes());

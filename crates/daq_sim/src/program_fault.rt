@@ -1,9 +1,9 @@
 ghost use Rattle.std.specs.Prelude.{◌≡◌, ◌≢◌};
 ghost use Rattle.std.specs.IoError.{error_kind};
 
-use crate::text_fault::TextFault;
 use daq_run::SimFault;
 use run_file::RunFault;
+use run_story::RunTextFault;
 use std::alloc::AllocError;
 use std::io::{self, ErrorKind};
 use thiserror::Error;
@@ -29,14 +29,14 @@ pub enum ProgramFault {
 }
 
 impl ProgramFault {
-    ghost use Rattle.daq_sim.specs.Faults.{status_of, want_of_memory};
+    ghost use Rattle.daq_sim.specs.Faults.{status_of_fault, want_of_memory};
 
     /// Lack of memory, wherever it was met.
     pub const MEMORY: ProgramFault = ProgramFault::Sim(SimFault::Memory);
 
     /// The status that the program ends with.
     pub fn status(self) -> u8
-        ensures { result ≡ status_of self }
+        ensures { result ≡ status_of_fault self }
     {
         match self {
             ProgramFault::Sim(_) => 1,
@@ -56,16 +56,16 @@ impl ProgramFault {
     }
 }
 
-impl From<TextFault> for ProgramFault {
+impl From<RunTextFault> for ProgramFault {
     ghost use Rattle.daq_sim.specs.Faults.{fault_of_text};
 
     ghost from_gives = { λ text fault. fault ≡ fault_of_text text };
 
-    fn from(fault: TextFault) -> ProgramFault {
+    fn from(fault: RunTextFault) -> ProgramFault {
         match fault {
-            TextFault::Unreadable => ProgramFault::Unreadable,
-            TextFault::Run(fault) => ProgramFault::Run(fault),
-            TextFault::Memory => ProgramFault::MEMORY,
+            RunTextFault::Unreadable => ProgramFault::Unreadable,
+            RunTextFault::Run(fault) => ProgramFault::Run(fault),
+            RunTextFault::Memory => ProgramFault::MEMORY,
         }
     }
 }

@@ -5,14 +5,13 @@ ghost use Rattle.run_file.specs.RunFile.{IsRunText};
 ghost use Rattle.daq_sim.specs.Done.{PrintsText, frames_line_of};
 ghost use Rattle.daq_sim.specs.Stops.{StopsAt};
 
-use crate::carrying::{status_of, to_file, to_memory};
+use crate::carrying::{status_of_printing, to_file, to_memory};
 use crate::command_line::{CommandLine, Options, read_command_line};
 use crate::explaining::explain;
 use crate::program_fault::ProgramFault;
-use crate::run_text::run_from;
-use crate::why::Why;
 use clap::Error;
 use run_file::Run;
+use run_story::{Why, run_from};
 use std::alloc::Global;
 use std::fs;
 use std::io::{BufWriter, Read, Write};
@@ -115,7 +114,7 @@ fn carry_out<R: Files + Threads + Wait + Sync, I: Read + Drop, W: Write>(
 fn print_help<W: Write>(out: &mut W, help: Error) -> u8
     ensures { result ≤ 1 }
 {
-    status_of(write!(out, "{help}").and_then(|()| out.flush()), false)
+    status_of_printing(write!(out, "{help}").and_then(|()| out.flush()), false)
 }
 
 /// The run of a file, or of standard input if no file is named.

@@ -1,7 +1,8 @@
 -- The faults of the program, and the status of each.
 use Rattle.std.specs.Prelude.{ℕ}
-use Rattle.daq_sim.specs.declared.text_fault.TextFault.{TextFault}
-use Rattle.daq_sim.specs.declared.text_fault.TextFault.TheVariants.{Memory}
+use Rattle.program_input.specs.declared.text_fault.TextFault.{TextFault}
+use Rattle.program_input.specs.declared.text_fault.TextFault.TheVariants as text
+use Rattle.run_story.specs.declared.run_text_fault.RunTextFault.TheVariants.{Memory}
 use Rattle.daq_reader.specs.declared.frame_fault.FrameFault.TheVariants.{Torn}
 use Rattle.daq_reader.specs.declared.read_fault.ReadFault.TheVariants.{Frame}
 use Rattle.recording.specs.declared.place.Place.{Place}
@@ -18,8 +19,8 @@ want_of_memory = Text Memory
 
 -- a recording isn't read: lack of memory, or else it can't be read
 abbrev pub fault_of_recording : TextFault → ProgramFault
-fault_of_recording Memory = want_of_memory
-fault_of_recording _ = Unreadable
+fault_of_recording text.Unreadable = Unreadable
+fault_of_recording text.Memory = want_of_memory
 
 -- the recording breaks off at a place
 abbrev pub breaks_off : Place → Reason → ProgramFault
@@ -31,9 +32,9 @@ torn = Read (Frame Torn)
 
 -- 1 for a recording that was read in part or is of another run, and for lack of memory; 2 for what
 -- is wrong with words or files
-abbrev pub status_of : ProgramFault → ℕ
-status_of (Text Memory) = 1
-status_of OtherRun = 1
-status_of InReplies = 1
-status_of (BreaksOff at) = 1
-status_of _ = 2
+abbrev pub status_of_fault : ProgramFault → ℕ
+status_of_fault (Text Memory) = 1
+status_of_fault OtherRun = 1
+status_of_fault InReplies = 1
+status_of_fault (BreaksOff at) = 1
+status_of_fault _ = 2

@@ -1,211 +1,256 @@
-//! The program: from its words to its status.
-ghost use Rattle.std.specs.Prelude.{◌≡◌, ◌≤◌, ◌↔◌, IfOk, true};
+//! The command line.
+ghost use Rattle.std.specs.Prelude.{◌≡◌, ◌⊎◌, IfErr};
+ghost use Rattle.recording.specs.Faults.{want_of_memory};
+ghost use Rattle.recording.specs.declared.program_fault.ProgramFault.TheVariants as fault;
 
-use crate::explaining::{Recorded, explain_samples, tell_replies};
-use crate::messages::Messages;
+use crate::mode::Mode;
 use crate::program_fault::ProgramFault;
-use crate::recording::pass_replies;
-use crate::showing::show_samples;
-use crate::values::{Values, show_values};
-use crate::words::{Asked, Words, read_words};
-use a2l::{A2lFault, Description};
-use clap::Error;
-use daq_run::set_up;
-use daq_sim::{MAX_TEXT, TextFault, Why, front_from, run_or_why};
-use frame_writer::VecOut;
-use run_file::Run;
-use std::alloc::Global;
-use std::fs;
-use std::io::{BufWriter, Read, Write};
-use std::rt::Files;
+use clap::error::ErrorKind;
+use clap::{Arg, ArgAction, ArgMatches, Command, Error};
+use measured_values::tick_of;
+use measurement::Tick;
+use run_story::Why;
+use std::alloc::{AllocError, Global};
 
-/// The program over its arguments, without its name, its standard output and standard error. It
-/// returns its status.
-pub fn program<R: Files, W: Write + Drop, E: Write + Drop>(
-    rt: &R,
+/// What the command line asks for.
+#[derive(Drop)]
+pub enum CommandLine<'a> {
+    /// The help, which is the error's text.
+    Help(Error),
+    /// A recording.
+    Recording(Options<'a>),
+}
+
+/// Which recording is read, and how it is shown.
+#[derive(Clone, Copy)]
+pub struct Options<'a> {
+    /// How the samples are shown.
+    pub mode: Mode,
+    /// The run file that the recording was made of.
+    pub run: &'a str,
+    /// The file of the recording.
+    pub frames: &'a str,
+    /// Whether standard error is told how far it is read.
+    pub progress: bool,
+    /// Whether its replies and frames are printed in words, before a table.
+    pub explain: bool,
+    /// The A2L file that says which values are shown, if there is one.
+    pub a2l: Option<&'a str>,
+    /// The names of those that are shown, with commas between them; `None`: all.
+    pub only: Option<&'a str>,
+    /// How long a tick is, if that is said.
+    pub tick: Option<Tick>,
+}
+
+/// Reads the arguments, without the program's name.
+pub fn read_command_line<'a>(
     alloc: Global,
-    words: &[String],
-    out: W,
-    err: E,
-) -> u8
-    ensures { result ≤ 2 }
+    words: &'a [String],
+    why: &mut Why,
+) -> Result<CommandLine<'a>, ProgramFault>
+    ensures { IfErr result (λ f. (f ≡ fault.CommandLine) ⊎ (f ≡ want_of_memory)) }
 {
-    let mut messages = Messages::new(alloc, err, Why::new(alloc, words));
-    let answer = match BufWriter::new(alloc, out) {
-        Ok(out) => answer(rt, alloc, words, out, &mut messages),
-        Err(_) => Err(ProgramFault::MEMORY),
-    };
-    match answer {
-        Ok(status) => status,
-        Err(fault) => {
-            messages.tell_fault(fault);
-            fault.status()
-        }
+    match command(alloc)?.try_get_matches_from(words) {
+        Ok(matches) => recording_of(&matches, why),
+        Err(error) => match error.kind() {
+            ErrorKind::DisplayHelp => Ok(CommandLine::Help(error)),
+            ErrorKind::OutOfMemory => Err(ProgramFault::MEMORY),
+            _ => {
+                why.tell(error);
+                Err(ProgramFault::CommandLine)
+            }
+        },
     }
 }
 
-/// What the words ask for: the status once that is printed, or the fault that is still to be.
-fn answer<R: Files, W: Write + Drop, E: Write + Drop>(
-    rt: &R,
-    alloc: Global,
-    words: &[String],
-    out: W,
-    messages: &mut Messages<E>,
-) -> Result<u8, ProgramFault>
-    ensures { IfOk result (λ status. status ≤ 1) }
-{
-    match read_words(alloc, words, &mut messages.why)? {
-        Asked::Help(text) => Ok(print_help(out, text)),
-        Asked::Recording(words) => show(rt, alloc, words, out, messages),
+/// An option of the command line.
+#[derive(Clone, Copy)]
+struct Choice<'a> {
+    name: &'a str,
+    /// The name of its value, if it has one.
+    value: Option<&'a str>,
+    /// The options that it doesn't stand with.
+    without: &'a [&'a str],
+    help: &'a str,
+}
+
+/// The options: the ways to show samples, what is shown by name, and whether progress is told.
+const CHOICES: [Choice; 9] = [
+    Choice {
+        name: "summary",
+        value: None,
+        without: &[],
+        help: "Print a table with a line for each DAQ list [default]",
+    },
+    Choice {
+        name: "csv",
+        value: None,
+        without: &["summary"],
+        help: "Print CSV with a row for each element of each sample, with its time and number",
+    },
+    Choice {
+        name: "svg",
+        value: None,
+        without: &["summary", "csv"],
+        help: "Print a picture with a row for each DAQ list, as SVG",
+    },
+    Choice {
+        name: "explain",
+        value: None,
+        without: &["summary", "csv", "svg"],
+        help: "Print each reply and frame in words, then a table, and the reason behind a fault",
+    },
+    Choice {
+        name: "a2l",
+        value: Some("FILE"),
+        without: &["explain"],
+        help: "Show the measurements of this A2L file, by name and as physical values",
+    },
+    Choice {
+        name: "only",
+        value: Some("NAMES"),
+        without: &[],
+        help: "With --a2l: show these measurements alone; commas between their names",
+    },
+    Choice {
+        name: "tick",
+        value: Some("SECONDS"),
+        without: &[],
+        help: "With --a2l: how long a tick of a timestamp is, if the file doesn't say it",
+    },
+    Choice {
+        name: "long",
+        value: None,
+        without: &[],
+        help: "Only with --csv: print a row for each element, in spite of --a2l",
+    },
+    Choice {
+        name: "progress",
+        value: None,
+        without: &[],
+        help: "Say on standard error how far a long recording is read",
+    },
+];
+
+/// The arguments that the program takes.
+fn command<'a>(alloc: Global) -> Result<Command<'a>, AllocError> {
+    let mut command = Command::new(alloc, "xcpread")
+        .about("Reads a recording back, and prints its samples")
+        .no_binary_name(true);
+    for choice in CHOICES {
+        command = with_choice(alloc, command, choice)?;
     }
+    let run = "The run file that the recording was made of";
+    let command = with_file(alloc, command, "run", "RUN", run)?;
+    let frames = "The recording, as xcpdaq --out wrote it";
+    with_file(alloc, command, "frames", "FRAMES", frames)
 }
 
-/// Prints the help, and returns the status.
-fn print_help<W: Write + Drop>(out: W, help: Error) -> u8
-    ensures { result ≤ 1 }
-{
-    let mut out = out;
-    let printing = write!(out, "{help}").and_then(|()| out.flush());
-    status_of(printing.is_ok())
-}
-
-/// Reads the recording that words name, and prints its samples.
-fn show<R: Files, W: Write + Drop, E: Write + Drop>(
-    rt: &R,
+/// A command that also takes an option.
+fn with_choice<'a>(
     alloc: Global,
-    words: Words<'_>,
-    out: W,
-    messages: &mut Messages<E>,
-) -> Result<u8, ProgramFault>
-    ensures { IfOk result (λ status. status ≤ 1) }
-{
-    let run = run_of(rt, alloc, words.run, &mut messages.why)?;
-    let description = description_of(rt, alloc, words.a2l, messages)?;
-    let Ok((store, writer)) = set_up(alloc, &run, VecOut::new(alloc)) else {
-        return Err(ProgramFault::MEMORY);
+    command: Command<'a>,
+    choice: Choice<'a>,
+) -> Result<Command<'a>, AllocError> {
+    let option = Arg::new(alloc, choice.name)
+        .long(choice.name)
+        .help(choice.help)
+        .conflicts_with_all(choice.without)?;
+    let option = match choice.value {
+        Some(value) => option.value_name(value).action(ArgAction::Set),
+        None => option.action(ArgAction::SetTrue),
     };
-    let replies = writer.into_out();
-    if words.progress {
-        messages.want_progress();
+    command.arg(option)
+}
+
+/// A command that also takes a file, which has to be named.
+fn with_file<'a>(
+    alloc: Global,
+    command: Command<'a>,
+    name: &'a str,
+    value: &'a str,
+    help: &'a str,
+) -> Result<Command<'a>, AllocError> {
+    let file = Arg::new(alloc, name)
+        .value_name(value)
+        .required(true)
+        .action(ArgAction::Set)
+        .help(help);
+    command.arg(file)
+}
+
+/// What matched.
+fn recording_of<'a>(
+    matches: &ArgMatches<'a>,
+    why: &mut Why,
+) -> Result<CommandLine<'a>, ProgramFault>
+    ensures { IfErr result (λ f. f ≡ fault.CommandLine) }
+{
+    let Some(run) = matches.get_str("run") else {
+        return Err(ProgramFault::CommandLine);
+    };
+    let Some(frames) = matches.get_str("frames") else {
+        return Err(ProgramFault::CommandLine);
+    };
+    Ok(CommandLine::Recording(Options {
+        mode: mode_of(matches),
+        run,
+        frames,
+        progress: matches.get_flag("progress"),
+        explain: matches.get_flag("explain"),
+        a2l: a2l_of(matches, why)?,
+        only: matches.get_str("only"),
+        tick: tick_in(matches, why)?,
+    }))
+}
+
+/// The A2L file by which values are shown; none if rows of elements are asked for.
+fn a2l_of<'a>(matches: &ArgMatches<'a>, why: &mut Why) -> Result<Option<&'a str>, ProgramFault>
+    ensures { IfErr result (λ f. f ≡ fault.CommandLine) }
+{
+    let a2l = matches.get_str("a2l");
+    if a2l.is_none() && is_of_values(matches) {
+        why.tell("--only and --tick want --a2l\n");
+        return Err(ProgramFault::CommandLine);
     }
-    let mut file = match fs::open(rt, words.frames) {
-        Ok(file) => file,
-        Err(error) => {
-            let fault = TextFault::Unreadable.or_memory(&error);
-            messages.why.tell_file(words.frames, error);
-            return Err(ProgramFault::of_recording(fault));
-        }
-    };
-    let recorded = Recorded {
-        name: words.frames,
-        run: &run,
-        replies: replies.bytes(),
-        store: &store,
-    };
-    let described = description.as_ref();
-    show_file(
-        rt, alloc, words, described, &recorded, &mut file, out, messages,
-    )
+    if !matches.get_flag("long") {
+        return Ok(a2l);
+    }
+    if !matches.get_flag("csv") {
+        why.tell("--long wants --csv\n");
+        return Err(ProgramFault::CommandLine);
+    }
+    Ok(None)
 }
 
-/// What the A2L file says, if there is one.
-fn description_of<R: Files, E: Write + Drop>(
-    rt: &R,
-    alloc: Global,
-    path: Option<&str>,
-    messages: &mut Messages<E>,
-) -> Result<Option<Description>, ProgramFault> {
-    let Some(path) = path else {
+/// Whether an option stands there that speaks of values.
+fn is_of_values(matches: &ArgMatches<'_>) -> bool {
+    matches.get_str("only").is_some() || matches.get_str("tick").is_some()
+}
+
+/// How long a tick is, if that is said.
+fn tick_in(matches: &ArgMatches<'_>, why: &mut Why) -> Result<Option<Tick>, ProgramFault>
+    ensures { IfErr result (λ f. f ≡ fault.CommandLine) }
+{
+    let Some(text) = matches.get_str("tick") else {
         return Ok(None);
     };
-    let text = text_of(rt, alloc, path, messages)?;
-    match Description::read(alloc, &text) {
-        Ok(description) => Ok(Some(description)),
-        Err(A2lFault::Memory) => Err(ProgramFault::MEMORY),
-        Err(fault) => {
-            messages.detail(fault);
-            Err(ProgramFault::BadA2l)
+    match tick_of(text) {
+        Some(tick) => Ok(Some(tick)),
+        None => {
+            why.tell("--tick wants a number of seconds, such as 0.001 or 1e-6\n");
+            Err(ProgramFault::CommandLine)
         }
     }
 }
 
-/// The text of an A2L file.
-fn text_of<R: Files, E: Write + Drop>(
-    rt: &R,
-    alloc: Global,
-    path: &str,
-    messages: &mut Messages<E>,
-) -> Result<Vec<u8>, ProgramFault> {
-    let read = match fs::open(rt, path) {
-        Ok(mut file) => front_from(alloc, &mut file, MAX_TEXT),
-        Err(error) => Err(TextFault::Unreadable.or_memory(&error)),
-    };
-    match read {
-        Ok(text) => Ok(text),
-        Err(TextFault::Memory) => Err(ProgramFault::MEMORY),
-        Err(_) => {
-            messages.detail(path);
-            Err(ProgramFault::UnreadableA2l)
-        }
+/// How the samples are shown; a table where no mode is asked for.
+fn mode_of(matches: &ArgMatches<'_>) -> Mode {
+    if matches.get_flag("csv") {
+        return Mode::Csv;
     }
-}
-
-/// Reads the file of a recording, and prints its samples.
-fn show_file<R: Files, I: Read, W: Write + Drop, E: Write + Drop>(
-    rt: &R,
-    alloc: Global,
-    words: Words<'_>,
-    description: Option<&Description>,
-    recorded: &Recorded<'_>,
-    file: &mut I,
-    out: W,
-    messages: &mut Messages<E>,
-) -> Result<u8, ProgramFault>
-    ensures { IfOk result (λ status. status ≤ 1) }
-{
-    let frames = recorded.run.setup().len();
-    let mut piece = match pass_replies(alloc, file, recorded.replies, frames) {
-        Ok(piece) => piece,
-        Err(fault) => {
-            tell_replies(rt, alloc, recorded, fault, &mut messages.why);
-            return Err(fault);
-        }
-    };
-    let store = recorded.store;
-    let shown = match description {
-        Some(description) => {
-            let values = Values {
-                description,
-                only: words.only,
-                tick: words.tick.or(description.tick),
-                mode: words.mode,
-            };
-            show_values(alloc, store, values, file, &mut piece, out, messages)?
-        }
-        None if words.explain => {
-            explain_samples(alloc, recorded, file, &mut piece, out, messages)?
-        }
-        None => show_samples(alloc, store, words.mode, file, &mut piece, out, messages)?,
-    };
-    Ok(status_of(shown.is_some()))
-}
-
-/// The run of a file. Behind a fault `why` has the reason.
-fn run_of<R: Files>(rt: &R, alloc: Global, path: &str, why: &mut Why) -> Result<Run, ProgramFault> {
-    match fs::open(rt, path) {
-        Ok(mut file) => Ok(run_or_why(alloc, path, &mut file, why)?),
-        Err(error) => {
-            let fault = TextFault::Unreadable.or_memory(&error);
-            why.tell_file(path, error);
-            Err(ProgramFault::Text(fault))
-        }
+    if matches.get_flag("svg") {
+        return Mode::Svg;
     }
-}
-
-/// The status: 0 where all was printed, else 1.
-fn status_of(printed: bool) -> u8
-    ensures range { result ≤ 1 }
-    ensures well { (result ≡ 0) ↔ (printed ≡ true) }
-{
-    if printed { 0 } else { 1 }
+    Mode::Summary
 }

@@ -6,20 +6,21 @@ use crate::reason::Reason;
 use crate::recording::read_frames;
 use crate::sample_lines::SampleLines;
 use crate::showing::concluded;
+use a2l::Description;
 use daq_reader::{Reader, reader_of, shapes_of};
-use daq_sim::{Why, front_from};
 use daq_store::Store;
+use program_input::front_from;
 use run_file::Run;
-use run_story::{Stop, set_up_story, why_broken, why_other_run};
+use run_story::{Stop, Why, set_up_story, why_broken, why_other_run};
 use sample_tables::Summary;
 use std::alloc::Global;
 use std::fs;
 use std::io::{Read, Write};
 use std::rt::Files;
 
-/// A recording, and what it begins with.
+/// A recording, what it begins with, and what is said of its values.
 #[derive(Clone, Copy)]
-pub struct Recorded<'a> {
+pub struct RunRecording<'a> {
     /// The name of its file.
     pub name: &'a str,
     /// The run that it was made of.
@@ -28,6 +29,8 @@ pub struct Recorded<'a> {
     pub replies: &'a [u8],
     /// The store that the set-up leaves.
     pub store: &'a Store,
+    /// What the A2L file says, if there is one.
+    pub description: Option<&'a Description>,
 }
 
 /// Prints the command packets of a recording with their replies, reads it behind these, and prints
@@ -35,7 +38,7 @@ pub struct Recorded<'a> {
 /// Behind a fault the reason is still to be told.
 pub fn explain_samples<I: Read, W: Write + Drop, E: Write + Drop>(
     alloc: Global,
-    recorded: &Recorded<'_>,
+    recorded: &RunRecording<'_>,
     input: &mut I,
     piece: &mut Piece,
     out: W,
@@ -102,7 +105,7 @@ fn tell_unread(name: &str, fault: ProgramFault, why: &mut Why) {
 pub fn tell_replies<R: Files>(
     rt: &R,
     alloc: Global,
-    recorded: &Recorded<'_>,
+    recorded: &RunRecording<'_>,
     fault: ProgramFault,
     why: &mut Why,
 ) {
@@ -116,7 +119,7 @@ pub fn tell_replies<R: Files>(
     let Ok(front) = front_from(alloc, &mut file, recorded.replies.len()) else {
         return;
     };
-    let Recorded {
+    let RunRecording {
         name,
         run,
         replies,

@@ -17,11 +17,11 @@ mod recording;
 mod sample_lines;
 mod showing;
 mod values;
-mod words;
+mod whole_program;
 
 pub use break_off::BreakOff;
-pub use command_line::program;
 pub use drawing::Drawing;
 pub use place::Place;
 pub use program_fault::ProgramFault;
 pub use reason::Reason;
+pub use whole_program::program;

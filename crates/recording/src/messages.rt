@@ -2,7 +2,7 @@ ghost use Rattle.std.specs.Prelude.{◌≡◌};
 ghost use Rattle.recording.specs.Messages.{is_next_step};
 
 use crate::program_fault::ProgramFault;
-use daq_sim::Why;
+use run_story::Why;
 use std::alloc::Global;
 use std::fmt::Display;
 use std::io::Write;

@@ -3,13 +3,13 @@ ghost use Rattle.std.specs.Prelude.{◌≡◌, ◌⊎◌, ◌-◌, ◌+◌, ◌<
 ghost use Rattle.std.specs.Prelude.{true};
 ghost use Rattle.std.specs.Io.{StartsWith, appended_bytes};
 ghost use Rattle.std.specs.Io.KnownBytes.{Consumes, IsAtEnd};
-ghost use Rattle.daq_sim.specs.declared.run_text.TheConstants.{MAX_TEXT};
+ghost use Rattle.program_input.specs.declared.reading.TheConstants.{MAX_TEXT_BYTES};
 ghost use Rattle.recording.specs.declared.program_fault.ProgramFault.TheVariants.{Unreadable};
 ghost use Rattle.recording.specs.Faults.{want_of_memory};
 
 use crate::place::Place;
 use crate::program_fault::ProgramFault;
-use daq_sim::is_read_to_end;
+use program_input::is_read_to_end;
 use std::io::Read;
 
 /// How many bytes are asked for in one read.
@@ -38,13 +38,13 @@ pub fn read_more<I: Read>(
     held: &mut Vec<u8>,
 ) -> Result<bool, ProgramFault>
     requires room { 0 < length chunk.old }
-    requires short { length held.old.items ≤ MAX_TEXT }
+    requires short { length held.old.items ≤ MAX_TEXT_BYTES }
     ensures appends { OnOk result (StartsWith held.new.items held.old.items) }
     ensures taken { OnOk result (Consumes (I.remaining input.old) (I.remaining input.new)
         (appended_bytes held.old.items held.new.items)) }
     ensures end { IfOk result (λ at_end. at_end ≡ true → IsAtEnd (I.remaining input.new)) }
     ensures nothing { IfOk result (λ at_end. at_end ≡ true → held.new.items ≡ held.old.items) }
-    ensures within { OnOk result (length held.new.items ≤ MAX_TEXT) }
+    ensures within { OnOk result (length held.new.items ≤ MAX_TEXT_BYTES) }
     ensures room_stays { length chunk.new ≡ length chunk.old }
     ensures fault { IfErr result (λ f. (f ≡ Unreadable) ⊎ (f ≡ want_of_memory)) }
 {

@@ -1,17 +1,18 @@
 use crate::break_off::BreakOff;
-use daq_sim::TextFault;
+use program_input::TextFault;
+use run_story::RunTextFault;
 use std::alloc::AllocError;
 use thiserror::Error;
 
 /// Why the program stops, as the line that it prints.
 #[derive(Clone, Copy, Debug, PartialEq, Eq, Error)]
 pub enum ProgramFault {
-    /// The words are no command line.
+    /// The arguments are no command line.
     #[error("xcpread: bad command line")]
     CommandLine,
     /// No run is read, or memory ran out.
     #[error("xcpread: {0}")]
-    Text(TextFault),
+    Text(RunTextFault),
     /// The A2L file can't be read.
     #[error("xcpread: cannot read a2l")]
     UnreadableA2l,
@@ -37,27 +38,27 @@ pub enum ProgramFault {
 
 impl ProgramFault {
     ghost use Rattle.std.specs.Prelude.{◌≡◌};
-    ghost use Rattle.recording.specs.Faults.{fault_of_recording, status_of};
+    ghost use Rattle.recording.specs.Faults.{fault_of_recording, status_of_fault};
 
     /// Lack of memory, wherever it was met.
-    pub const MEMORY: ProgramFault = ProgramFault::Text(TextFault::Memory);
+    pub const MEMORY: ProgramFault = ProgramFault::Text(RunTextFault::Memory);
 
     /// Why a recording isn't read, by the fault of reading a text.
     pub fn of_recording(fault: TextFault) -> ProgramFault
         ensures { result ≡ fault_of_recording fault }
     {
         match fault {
+            TextFault::Unreadable => ProgramFault::Unreadable,
             TextFault::Memory => ProgramFault::MEMORY,
-            _ => ProgramFault::Unreadable,
         }
     }
 
     /// The status that the program ends with.
     pub fn status(self) -> u8
-        ensures { result ≡ status_of self }
+        ensures { result ≡ status_of_fault self }
     {
         match self {
-            ProgramFault::Text(TextFault::Memory) => 1,
+            ProgramFault::Text(RunTextFault::Memory) => 1,
             ProgramFault::OtherRun => 1,
             ProgramFault::InReplies => 1,
             ProgramFault::BreaksOff(_) => 1,
@@ -66,13 +67,13 @@ impl ProgramFault {
     }
 }
 
-impl From<TextFault> for ProgramFault {
+impl From<RunTextFault> for ProgramFault {
     ghost use Rattle.std.specs.Prelude.{◌≡◌};
     ghost use Rattle.recording.specs.declared.program_fault.ProgramFault.TheVariants.{Text};
 
     ghost from_gives = { λ text fault. fault ≡ Text text };
 
-    fn from(fault: TextFault) -> ProgramFault {
+    fn from(fault: RunTextFault) -> ProgramFault {
         ProgramFault::Text(fault)
     }
 }

@@ -25,7 +25,7 @@ use crate::place::Place;
 use crate::program_fault::ProgramFault;
 use crate::reason::Reason;
 use daq_reader::{FrameFault, ReadFault, Reader, Samples, Unread, read};
-use daq_sim::front_from;
+use program_input::front_from;
 use std::alloc::Global;
 use std::io::{Read, Write};
 

@@ -1,5 +1,6 @@
 //! What became of a run, told line by line: its command packets with their replies, its steps with
-//! what came of each, and its frames; or why a text is no run, or a recording isn't read.
+//! what came of each, and its frames; or why a text is no run, or a recording isn't read. And reads
+//! a run from a text, with that reason.
 #![tactic(auto)]
 
 mod bad_run;
@@ -15,16 +16,22 @@ mod near_key;
 mod other_run;
 mod place_in_text;
 mod reply_text;
+mod run_text;
+mod run_text_fault;
 mod step_log;
 mod step_text;
 mod stop;
 mod story;
+mod why;
 
 pub use bad_run::why_no_run;
 pub use broken::why_broken;
 pub use frame_lines::write_sample;
 pub use keeping_out::KeepingOut;
 pub use other_run::why_other_run;
+pub use run_text::{run_from, run_or_why};
+pub use run_text_fault::RunTextFault;
 pub use step_log::StepLog;
 pub use stop::Stop;
 pub use story::{set_up_story, story_of};
+pub use why::Why;

@@ -23,8 +23,7 @@ pub fn why_other_run(
         frame: 0,
         rest: front,
     };
-    let packets = run.setup();
-    for i in 0..packets.len() {
+    for (i, packet) in run.setup().iter().enumerate() {
         let whole = unread.rest();
         let counter = unread.counter();
         let Ok(Some(reply)) = unread.next_packet() else {
@@ -36,7 +35,7 @@ pub fn why_other_run(
             let bytes = ByteText { bytes: frame };
             writeln!(why, "\nexpected: {bytes}")?;
             let mut expected = Unread::new(frame, counter);
-            write_packet(&mut why, i, packets[i].as_slice(), &mut expected)?;
+            write_packet(&mut why, i, packet.as_slice(), &mut expected)?;
             return Ok(why);
         }
         stop = behind(stop, frame.len());

@@ -42,10 +42,7 @@ fn reply_of(packet: &[u8]) -> Option<Reply>
 fn error_of(byte: u8) -> Option<Reply>
     ensures { IfSome result (λ reply. reply_bytes reply ≡ 254 ∷ byte ∷ []) }
 {
-    match code_of(byte) {
-        Some(code) => Some(Reply::Error(code)),
-        None => None,
-    }
+    Some(Reply::Error(code_of(byte)?))
 }
 
 /// The error that a byte stands for.

@@ -44,8 +44,8 @@ fn write_replies(
     packets: &[Vec<u8>],
     unread: &mut Unread<'_>,
 ) -> Result<(), AllocError> {
-    for i in 0..packets.len() {
-        write_packet(text, i, packets[i].as_slice(), unread)?;
+    for (i, packet) in packets.iter().enumerate() {
+        write_packet(text, i, packet.as_slice(), unread)?;
     }
     Ok(())
 }

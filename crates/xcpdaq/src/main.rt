@@ -1,7 +1,8 @@
 //! The program `xcpdaq`: it carries out a run file, and prints its frames and its account.
 #![tactic(auto)]
 
-use daq_sim::{arguments, program};
+use daq_sim::program;
+use program_input::arguments;
 use std::process::ExitCode;
 
 fn main(rt: HostRuntime) -> ExitCode {

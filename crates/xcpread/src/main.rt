@@ -1,7 +1,7 @@
 //! The program `xcpread`: it reads a recording back, and prints its samples.
 #![tactic(auto)]
 
-use daq_sim::arguments;
+use program_input::arguments;
 use recording::program;
 use std::process::ExitCode;
 

@@ -1,13 +1,13 @@
 //! The program `xcpslave`: it plays a session file, and prints what the slave sent and the account.
 #![tactic(auto)]
 
-mod program;
+mod command_line;
 mod session_fault;
 mod session_text;
-mod words;
+mod whole_program;
 
-use crate::program::carry_out;
-use daq_sim::arguments;
+use crate::whole_program::program;
+use program_input::arguments;
 use std::process::ExitCode;
 
 fn main(rt: HostRuntime) -> ExitCode {
@@ -18,7 +18,7 @@ fn main(rt: HostRuntime) -> ExitCode {
             return ExitCode::from(fault.status());
         }
     };
-    let status = carry_out(
+    let status = program(
         &rt,
         rt.alloc(),
         &words,

@@ -1,6 +1,6 @@
 ghost use Rattle.std.specs.Prelude.{◌≤◌};
 
-use daq_sim::TextFault;
+use program_input::TextFault;
 use session::ProfileFault;
 use slave_file::FileFault;
 use slave_play::PlayFault;
@@ -43,8 +43,8 @@ impl SessionFault {
     /// The fault of a text that can't be read.
     pub fn of_text(fault: TextFault) -> SessionFault {
         match fault {
+            TextFault::Unreadable => SessionFault::Unreadable,
             TextFault::Memory => SessionFault::Memory,
-            _ => SessionFault::Unreadable,
         }
     }
 

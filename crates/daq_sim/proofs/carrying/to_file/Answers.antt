@@ -7,4 +7,4 @@ use Rattle.daq_sim.proofs.carrying.to_file.Goals as goal
 pub returns-clause-printed : goal.returns-clause-printed
 returns-clause-printed g c =
     prints_run _ not_printed _ _ _ _ _ _ _ _ None c.in_ok-refused.ensures.ok refl
-    c.status_of.ensures.well.0 c.print_outcome-printing.ensures
+    c.status_of_printing.ensures.well.0 c.print_outcome-printing.ensures

@@ -8,5 +8,5 @@ returns-in-Ok-outcome_of-clause-printed g c =
     let story = c.deref.result.now in (
       story,
       prints_run _ (λ bytes. Some story) _ _ _ _ _ _ _ _ (Some story) c.in-Ok-outcome_of.ensures.ok refl
-          c.status_of.ensures.well.0 c.print_outcome-printing.ensures,
+          c.status_of_printing.ensures.well.0 c.print_outcome-printing.ensures,
     )

@@ -6,7 +6,7 @@ use std::alloc::{AllocError, Global};
 
 /// What the command line asks for.
 #[derive(Drop)]
-pub enum Asked<'a> {
+pub enum CommandLine<'a> {
     /// The help, which is the error's text.
     Help(Error),
     /// The session of a file; of standard input if there is none.
@@ -14,14 +14,14 @@ pub enum Asked<'a> {
 }
 
 /// Reads the arguments, without the program's name.
-pub fn read_words(alloc: Global, words: &[String]) -> Result<Asked<'_>, SessionFault> {
+pub fn read_command_line(alloc: Global, words: &[String]) -> Result<CommandLine<'_>, SessionFault> {
     let Ok(command) = command(alloc) else {
         return Err(SessionFault::Memory);
     };
     match command.try_get_matches_from(words) {
-        Ok(matches) => Ok(Asked::Session(matches.get_str("session"))),
+        Ok(matches) => Ok(CommandLine::Session(matches.get_str("session"))),
         Err(error) => match error.kind() {
-            ErrorKind::DisplayHelp => Ok(Asked::Help(error)),
+            ErrorKind::DisplayHelp => Ok(CommandLine::Help(error)),
             ErrorKind::OutOfMemory => Err(SessionFault::Memory),
             _ => Err(SessionFault::CommandLine),
         },

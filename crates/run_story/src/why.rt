@@ -1,5 +1,6 @@
+use crate::bad_run::why_no_run;
+use crate::story::set_up_story;
 use run_file::{Run, RunFault};
-use run_story::{set_up_story, why_no_run};
 use std::alloc::Global;
 use std::fmt::Display;
 

@@ -1,5 +1,5 @@
 ghost use Rattle.std.specs.Prelude.{◌≡◌};
-ghost use Rattle.daq_sim.specs.Faults.{status_of_arguments};
+ghost use Rattle.program_input.specs.Faults.{status_of_arguments};
 
 use thiserror::Error;
 

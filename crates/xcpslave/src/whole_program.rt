@@ -1,20 +1,20 @@
 //! The program: from its arguments and streams to its status.
 ghost use Rattle.std.specs.Prelude.{◌≤◌, IfOk};
 
+use crate::command_line::{CommandLine, read_command_line};
 use crate::session_fault::SessionFault;
 use crate::session_text::text_of;
-use crate::words::{Asked, read_words};
-use daq_sim::front_from;
+use program_input::{TextFault, text_from};
 use slave_file::SessionFile;
 use slave_play::play;
 use std::alloc::Global;
 use std::fs;
-use std::io::{self, ErrorKind, Read, Write};
+use std::io::{self, Read, Write};
 use std::rt::Files;
 
 /// The program over its arguments, without its name, its standard input, standard output and
 /// standard error. It returns its status.
-pub fn carry_out<R: Files, I: Read + Drop, W: Write + Drop, E: Write + Drop>(
+pub fn program<R: Files, I: Read + Drop, W: Write + Drop, E: Write + Drop>(
     rt: &R,
     alloc: Global,
     words: &[String],
@@ -45,9 +45,12 @@ fn answer<R: Files, I: Read + Drop, W: Write>(
 ) -> Result<u8, SessionFault>
     ensures { IfOk result (λ status. status ≤ 1) }
 {
-    match read_words(alloc, words)? {
-        Asked::Help(text) => Ok(status_of(write!(out, "{text}").and_then(|()| out.flush()))),
-        Asked::Session(path) => {
+    match read_command_line(alloc, words)? {
+        CommandLine::Help(text) => {
+            let printing = write!(out, "{text}").and_then(|()| out.flush());
+            Ok(status_of_printing(printing))
+        }
+        CommandLine::Session(path) => {
             let file = session_of(rt, alloc, path, input)?;
             print_session(alloc, file, out)
         }
@@ -62,18 +65,16 @@ fn print_session<W: Write>(
 ) -> Result<u8, SessionFault>
     ensures { IfOk result (λ status. status ≤ 1) }
 {
-    let played = match play(alloc, file) {
-        Ok(played) => played,
-        Err(fault) => return Err(SessionFault::of_play(fault)),
-    };
+    let played = play(alloc, file).map_err(SessionFault::of_play)?;
     let Ok(text) = text_of(alloc, &played) else {
         return Err(SessionFault::Memory);
     };
-    Ok(status_of(out.write_all(text.as_bytes()).and_then(|()| out.flush())))
+    let printing = out.write_all(text.as_bytes()).and_then(|()| out.flush());
+    Ok(status_of_printing(printing))
 }
 
 /// The status: 1 if the output can't be printed, else 0.
-fn status_of(printing: io::Result<()>) -> u8
+fn status_of_printing(printing: io::Result<()>) -> u8
     ensures { result ≤ 1 }
 {
     if printing.is_err() { 1 } else { 0 }
@@ -92,29 +93,12 @@ fn session_of<R: Files, I: Read + Drop>(
     };
     match fs::open(rt, path) {
         Ok(mut file) => session_from(alloc, &mut file),
-        Err(error) => Err(fault_of(&error)),
-    }
-}
-
-/// Why a file isn't opened.
-fn fault_of(error: &io::Error) -> SessionFault {
-    match error.kind() {
-        ErrorKind::OutOfMemory => SessionFault::Memory,
-        _ => SessionFault::Unreadable,
+        Err(error) => Err(SessionFault::of_text(TextFault::Unreadable.or_memory(&error))),
     }
 }
 
 /// Reads a session, from a text that is read to its end.
 fn session_from<I: Read>(alloc: Global, input: &mut I) -> Result<SessionFile, SessionFault> {
-    let bytes = match front_from(alloc, input, usize::MAX) {
-        Ok(bytes) => bytes,
-        Err(fault) => return Err(SessionFault::of_text(fault)),
-    };
-    let Ok(text) = String::from_utf8(bytes) else {
-        return Err(SessionFault::Unreadable);
-    };
-    match SessionFile::read(alloc, &text) {
-        Ok(file) => Ok(file),
-        Err(fault) => Err(SessionFault::of_file(fault)),
-    }
+    let text = text_from(alloc, input).map_err(SessionFault::of_text)?;
+    SessionFile::read(alloc, &text).map_err(SessionFault::of_file)
 }

@@ -1,6 +1,6 @@
 use Rattle.std.proofs.Common.{rules, [], refl}
 use Rattle.std.proofs.KnownBytes.{Consumes-more}
-use Rattle.daq_sim.proofs.run_text.front_from.Goals as goal
+use Rattle.program_input.proofs.reading.front_from.Goals as goal
 
 -- what was read before, and then by this read, is what is kept
 pub loop-preserved : goal.loop-preserved

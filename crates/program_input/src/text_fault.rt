@@ -1,20 +1,16 @@
 ghost use Rattle.std.specs.Prelude.{◌≡◌, ◌≢◌};
 ghost use Rattle.std.specs.IoError.{error_kind};
 
-use run_file::RunFault;
 use std::alloc::AllocError;
 use std::io::{self, ErrorKind};
 use thiserror::Error;
 
-/// Why no run is read from a text.
+/// Why a text isn't read.
 #[derive(Clone, Copy, Debug, PartialEq, Eq, Error)]
 pub enum TextFault {
-    /// The text can't be read.
-    #[error("cannot read run")]
+    /// It can't be read, or has too many bytes.
+    #[error("cannot read the text")]
     Unreadable,
-    /// The text is no run.
-    #[error("bad run: {0}")]
-    Run(RunFault),
     /// Memory ran out.
     #[error("want of memory")]
     Memory,
@@ -33,21 +29,8 @@ impl TextFault {
     }
 }
 
-impl From<RunFault> for TextFault {
-    ghost use Rattle.daq_sim.specs.Faults.{text_fault_of};
-
-    ghost from_gives = { λ run fault. fault ≡ text_fault_of run };
-
-    fn from(fault: RunFault) -> TextFault {
-        match fault {
-            RunFault::Memory => TextFault::Memory,
-            _ => TextFault::Run(fault),
-        }
-    }
-}
-
 impl From<AllocError> for TextFault {
-    ghost use Rattle.daq_sim.specs.declared.text_fault.TextFault.TheVariants.{Memory};
+    ghost use Rattle.program_input.specs.declared.text_fault.TextFault.TheVariants.{Memory};
 
     ghost from_gives = { λ _ fault. fault ≡ Memory };
 
