@@ -11,8 +11,11 @@ const THREE_FRAMES: [u8; 24] = [
     0x02, 0x00, 0x00, 0xAA, 0xBB, 0xFF, 0xFF, 0xFF,
 ];
 
-/// The frame that didn't fit.
-const FOURTH: [u8; 7] = [0x03, 0x00, 0x03, 0x00, 0x01, 0xCC, 0xDD];
+/// Then the frame that didn't fit stands in front, and behind it all is as it was.
+const FOURTH_FRAME: [u8; 24] = [
+    0x03, 0x00, 0x03, 0x00, 0x01, 0xCC, 0xDD, 0x03, 0x00, 0x01, 0x00, 0x01, 0xCC, 0xDD, 0x03, 0x00,
+    0x02, 0x00, 0x00, 0xAA, 0xBB, 0xFF, 0xFF, 0xFF,
+];
 
 #[test]
 fn what_does_not_fit_comes_first_in_the_next_buffer(rt: HostRuntime) -> Result<(), Fail> {
@@ -46,6 +49,6 @@ fn what_does_not_fit_comes_first_in_the_next_buffer(rt: HostRuntime) -> Result<(
         row,
         "taken, frames, bytes",
     );
-    same(&rt, &buffer[..7], &FOURTH[..], row, "frame");
+    same(&rt, buffer, FOURTH_FRAME, row, "buffer");
     Ok(())
 }
