@@ -39,7 +39,7 @@ impl<T: TakeEnd> Intake<T> {
     ghost use Rattle.std.specs.Prelude.{◌≡◌, ℕ, ◌+◌, ◌<◌, ◌≤◌, [], List, false, length};
     ghost use Rattle.xcp_base.specs.declared.limits.TheConstants.{MAX_LISTS};
     ghost use Rattle.frame_writer.specs.Writing.{state_of};
-    ghost use Rattle.frame_writer.specs.declared.layout.TheConstants.{MAX_TEXT};
+    ghost use Rattle.frame_writer.specs.declared.layout.TheConstants.{MAX_SAMPLE_BYTES};
     ghost use Rattle.transmitter.specs.Items.{count_of};
     ghost use Rattle.channel_intake.specs.Deeds.{Deed, Started, Stopped, passed};
     ghost use Rattle.channel_intake.specs.Intakes.{GoesOn, StandsAfter};
@@ -82,7 +82,7 @@ impl<T: TakeEnd> Intake<T> {
     /// laid out in the buffer from `at` on, and end at `limit` or before it; if they wouldn't,
     /// the sample stays in the ring.
     ///
-    /// It takes no memory. Behind `limit` the buffer has `MAX_TEXT` bytes at least.
+    /// It takes no memory. Behind `limit` the buffer has `MAX_SAMPLE_BYTES` bytes at least.
     pub fn step(
         &mut self,
         writer: &mut FrameWriter<SinkOut>,
@@ -92,7 +92,7 @@ impl<T: TakeEnd> Intake<T> {
     ) -> Step
         requires was_open { (state_of ⟦<SinkOut as Out>⟧ writer.old).closed ≡ false }
         requires within { at ≤ limit }
-        requires room { limit + MAX_TEXT ≤ length buffer.old }
+        requires room { limit + MAX_SAMPLE_BYTES ≤ length buffer.old }
         ensures means { StepMeans T.TakeEnd self.old self.new
             (record { writer = state_of ⟦<SinkOut as Out>⟧ writer.old; bytes = buffer.old })
             (record { writer = state_of ⟦<SinkOut as Out>⟧ writer.new; bytes = buffer.new })

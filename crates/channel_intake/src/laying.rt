@@ -3,13 +3,13 @@ ghost use Rattle.std.specs.Prelude.{◌≡◌, ℕ, ◌+◌, ◌≤◌, false, t
 ghost use Rattle.xcp_base.specs.declared.limits.TheConstants.{MAX_LISTS};
 ghost use Rattle.frame_writer.specs.Frame.{text};
 ghost use Rattle.frame_writer.specs.Writing.{state_of};
-ghost use Rattle.frame_writer.specs.declared.layout.TheConstants.{MAX_TEXT};
+ghost use Rattle.frame_writer.specs.declared.layout.TheConstants.{MAX_SAMPLE_BYTES};
 ghost use Rattle.channel_intake.specs.Inner.{LaysFirst, LaysSample};
 
 use crate::list_intake::{ListIntake, PLACES};
 use crate::step::Step;
 use channel_ring::TakeEnd;
-use frame_writer::{FrameWriter, MAX_TEXT, Out, SinkOut};
+use frame_writer::{FrameWriter, MAX_SAMPLE_BYTES, Out, SinkOut};
 use xcp_base::{Item, Packets, Sample};
 
 /// How many bytes the frames of packets have: a frame has a header of four bytes where a body has
@@ -32,7 +32,7 @@ fn lay_sample(
 ) -> Step
     requires was_open { (state_of ⟦<SinkOut as Out>⟧ writer.old).closed ≡ false }
     requires within { at ≤ limit }
-    requires room { limit + MAX_TEXT ≤ length buffer.old }
+    requires room { limit + MAX_SAMPLE_BYTES ≤ length buffer.old }
     ensures means { LaysSample passes sample.now
         (record { writer = state_of ⟦<SinkOut as Out>⟧ writer.old; bytes = buffer.old })
         (record { writer = state_of ⟦<SinkOut as Out>⟧ writer.new; bytes = buffer.new })
@@ -65,7 +65,7 @@ pub fn lay_first<T: TakeEnd>(
     requires places { length lists.now ≡ MAX_LISTS }
     requires was_open { (state_of ⟦<SinkOut as Out>⟧ writer.old).closed ≡ false }
     requires within { at ≤ limit }
-    requires room { limit + MAX_TEXT ≤ length buffer.old }
+    requires room { limit + MAX_SAMPLE_BYTES ≤ length buffer.old }
     ensures means { LaysFirst (T.known end.now) lists.now
         (record { writer = state_of ⟦<SinkOut as Out>⟧ writer.old; bytes = buffer.old })
         (record { writer = state_of ⟦<SinkOut as Out>⟧ writer.new; bytes = buffer.new })

@@ -1,4 +1,4 @@
--- The runs of an ODT copy the bytes of its entries, and there are as many as the ODT needs.
+-- The spans of an ODT copy the bytes of its entries, and there are as many as the ODT needs.
 use Rattle.std.proofs.Common.{inl, inr, Option, map, Bool, true, false, ◌==◌, not, cond, ◌≡◌, ◌≢◌, true≢false, ℕ, ◌+◌, ◌-◌, ◌<◌, ◌≤◌, List, [], ◌∷◌, ◌++◌, length, take, drop, zip, refl, sym, ap, ◌∙◌, append_assoc, arith}
 use Rattle.std.specs.Prelude.{All, slice_range, count_by}
 use Rattle.std.proofs.Math.Seq.{take-add}
@@ -6,30 +6,30 @@ use Rattle.std.proofs.lemmas.List.{drop-drop}
 use Rattle.std.proofs.lemmas.List.Sums.{sum_by-cons}
 use Rattle.std.proofs.lemmas.List.Elements.{All-nil, All-cons, All-head, All-tail}
 use Rattle.std.proofs.lemmas.Bool.Decides.{eqb_tells}
-use Rattle.xcp_base.specs.declared.run.Run.{Run}
+use Rattle.xcp_base.specs.declared.span.Span.{Span}
 use Rattle.daq_store.specs.declared.entry.Entry.{Entry}
 use Rattle.copy_plan.specs.Config.{OdtEntry, IsInside, written_entries}
 use Rattle.copy_plan.specs.Packet.{elements}
-use Rattle.copy_plan.specs.Runs.{continues, runs_needed}
-use Rattle.xcp_base.specs.Copied.{copied, IsRunInside}
-use Rattle.copy_plan.specs.Inner.Joined.{with_bytes, joined_runs}
+use Rattle.copy_plan.specs.Copies.{continues, copies_needed}
+use Rattle.xcp_base.specs.Copied.{copied, IsSpanInside}
+use Rattle.copy_plan.specs.Inner.Joined.{with_bytes, joined_spans}
 
--- bytes that end where the first run begins are joined with it, other bytes are a run of their own
-joins : (start end : ℕ) (r : Run) (rs : List Run) → r.start ≡ end → with_bytes start end (r ∷ rs) ≡ record { start = start; end = r.end } ∷ rs
+-- bytes that end where the first span begins are joined with it, other bytes are a span of their own
+joins : (start end : ℕ) (r : Span) (rs : List Span) → r.start ≡ end → with_bytes start end (r ∷ rs) ≡ record { start = start; end = r.end } ∷ rs
 joins start end r rs h =
     elim (eqb_tells r.start end) [ inl t ↦ rw t.0 refl | inr t ↦ absurd (t.1 h) ]
 
-stands_apart : (start end : ℕ) (r : Run) (rs : List Run) → r.start ≢ end → with_bytes start end (r ∷ rs) ≡ record { start = start; end = end } ∷ r ∷ rs
+stands_apart : (start end : ℕ) (r : Span) (rs : List Span) → r.start ≢ end → with_bytes start end (r ∷ rs) ≡ record { start = start; end = end } ∷ r ∷ rs
 stands_apart start end r rs h =
     elim (eqb_tells r.start end) [ inl t ↦ absurd (h t.1) | inr t ↦ rw t.0 refl ]
 
--- the first of the runs with bytes before them begins where these do
-pub record Begins (rs : List Run) (start : ℕ) : Type 0 where
+-- the first of the spans with bytes before them begins where these do
+pub record Begins (rs : List Span) (start : ℕ) : Type 0 where
   pub end : ℕ
-  pub rest : List Run
+  pub rest : List Span
   pub is : rs ≡ record { start = start; end = end } ∷ rest
 
-pub begins : (start end : ℕ) (rs : List Run) → Begins (with_bytes start end rs) start
+pub begins : (start end : ℕ) (rs : List Span) → Begins (with_bytes start end rs) start
 begins start end [] = record { end = end; rest = []; is = refl }
 begins start end (r ∷ rs) =
     elim (eqb_tells r.start end) [
@@ -38,7 +38,7 @@ begins start end (r ∷ rs) =
     ]
 
 -- an entry that begins at the end of the bytes before it is joined with them
-pub with_bytes-joined : (start mid end : ℕ) (rs : List Run) → with_bytes start mid (with_bytes mid end rs) ≡ with_bytes start end rs
+pub with_bytes-joined : (start mid end : ℕ) (rs : List Span) → with_bytes start mid (with_bytes mid end rs) ≡ with_bytes start end rs
 with_bytes-joined start mid end [] = joins start mid (record { start = mid; end = end }) [] refl
 with_bytes-joined start mid end (r ∷ rs) =
     elim (eqb_tells r.start end) [
@@ -53,7 +53,7 @@ with_bytes-joined start mid end (r ∷ rs) =
     ]
 
 -- one that begins elsewhere is not
-pub with_bytes-apart : (start end next last : ℕ) (rs : List Run) → next ≢ end → with_bytes start end (with_bytes next last rs) ≡ record { start = start; end = end } ∷ with_bytes next last rs
+pub with_bytes-apart : (start end next last : ℕ) (rs : List Span) → next ≢ end → with_bytes start end (with_bytes next last rs) ≡ record { start = start; end = end } ∷ with_bytes next last rs
 with_bytes-apart start end next last rs h =
     let first : Begins (with_bytes next last rs) next = begins next last rs in
     rw (first.is) (stands_apart start end (record { start = next; end = first.end }) first.rest h)
@@ -66,11 +66,11 @@ slice_range-join xs a b c h k =
     ∙ sym (take-add (b - a) (c - b) (drop a xs))
     ∙ ap (λ n. take n (drop a xs)) (omega arith)
 
--- what runs with bytes before them copy
-copied-with_bytes : (image : List ℕ) (start end : ℕ) (rs : List Run) → start ≤ end → All (λ (r : Run). r.start ≤ r.end) rs → copied image (with_bytes start end rs) ≡ slice_range image start end ++ copied image rs
+-- what spans with bytes before them copy
+copied-with_bytes : (image : List ℕ) (start end : ℕ) (rs : List Span) → start ≤ end → All (λ (r : Span). r.start ≤ r.end) rs → copied image (with_bytes start end rs) ≡ slice_range image start end ++ copied image rs
 copied-with_bytes image start end [] h each = refl
 copied-with_bytes image start end (r ∷ rs) h each =
-    let ordered : r.start ≤ r.end = All-head (λ (r : Run). r.start ≤ r.end) r rs each in
+    let ordered : r.start ≤ r.end = All-head (λ (r : Span). r.start ≤ r.end) r rs each in
     elim (eqb_tells r.start end) [
       | inl t ↦
           let there : slice_range image start end ++ slice_range image r.start r.end ≡ slice_range image start r.end
@@ -81,12 +81,12 @@ copied-with_bytes image start end (r ∷ rs) h each =
       | inr t ↦ ap (copied image) (stands_apart start end r rs t.1)
     ]
 
-ordered-with_bytes : (start end : ℕ) (rs : List Run) → start ≤ end → All (λ (r : Run). r.start ≤ r.end) rs → All (λ (r : Run). r.start ≤ r.end) (with_bytes start end rs)
+ordered-with_bytes : (start end : ℕ) (rs : List Span) → start ≤ end → All (λ (r : Span). r.start ≤ r.end) rs → All (λ (r : Span). r.start ≤ r.end) (with_bytes start end rs)
 ordered-with_bytes start end [] h each =
-    let P : Run → Type 0 = λ r. r.start ≤ r.end in
+    let P : Span → Type 0 = λ r. r.start ≤ r.end in
     All-cons P (record { start = start; end = end }) [] h each
 ordered-with_bytes start end (r ∷ rs) h each =
-    let P : Run → Type 0 = λ r. r.start ≤ r.end in
+    let P : Span → Type 0 = λ r. r.start ≤ r.end in
     let ordered : r.start ≤ r.end = All-head P r rs each in
     elim (eqb_tells r.start end) [
       | inl t ↦
@@ -94,78 +94,78 @@ ordered-with_bytes start end (r ∷ rs) h each =
       | inr t ↦ rw (stands_apart start end r rs t.1) (All-cons P (record { start = start; end = end }) (r ∷ rs) h each)
     ]
 
-pub ordered-joined_runs : (es : List OdtEntry) → All (λ (r : Run). r.start ≤ r.end) (joined_runs es)
-ordered-joined_runs [] = All-nil (λ (r : Run). r.start ≤ r.end)
-ordered-joined_runs (e ∷ es) = ordered-with_bytes e.0 (e.0 + e.1) (joined_runs es) (omega arith) (ordered-joined_runs es)
+pub ordered-joined_spans : (es : List OdtEntry) → All (λ (r : Span). r.start ≤ r.end) (joined_spans es)
+ordered-joined_spans [] = All-nil (λ (r : Span). r.start ≤ r.end)
+ordered-joined_spans (e ∷ es) = ordered-with_bytes e.0 (e.0 + e.1) (joined_spans es) (omega arith) (ordered-joined_spans es)
 
--- the runs copy what the entries are
-pub copied-joined_runs : (image : List ℕ) (es : List OdtEntry) → copied image (joined_runs es) ≡ elements image es
-copied-joined_runs image [] = refl
-copied-joined_runs image (e ∷ es) =
-    copied-with_bytes image e.0 (e.0 + e.1) (joined_runs es) (omega arith) (ordered-joined_runs es)
-    ∙ ap (λ bytes. slice_range image e.0 (e.0 + e.1) ++ bytes) (copied-joined_runs image es)
+-- the spans copy what the entries are
+pub copied-joined_spans : (image : List ℕ) (es : List OdtEntry) → copied image (joined_spans es) ≡ elements image es
+copied-joined_spans image [] = refl
+copied-joined_spans image (e ∷ es) =
+    copied-with_bytes image e.0 (e.0 + e.1) (joined_spans es) (omega arith) (ordered-joined_spans es)
+    ∙ ap (λ bytes. slice_range image e.0 (e.0 + e.1) ++ bytes) (copied-joined_spans image es)
 
--- runs of entries within the image lie within the image
-inside-with_bytes : (n start end : ℕ) (rs : List Run) → start ≤ end → end ≤ n → All (IsRunInside n) rs → All (IsRunInside n) (with_bytes start end rs)
+-- spans of entries within the image lie within the image
+inside-with_bytes : (n start end : ℕ) (rs : List Span) → start ≤ end → end ≤ n → All (IsSpanInside n) rs → All (IsSpanInside n) (with_bytes start end rs)
 inside-with_bytes n start end [] h k each =
-    All-cons (IsRunInside n) (record { start = start; end = end }) [] (record { ordered = h; inside = k }) each
+    All-cons (IsSpanInside n) (record { start = start; end = end }) [] (record { ordered = h; inside = k }) each
 inside-with_bytes n start end (r ∷ rs) h k each =
-    let here : IsRunInside n r = All-head (IsRunInside n) r rs each in
+    let here : IsSpanInside n r = All-head (IsSpanInside n) r rs each in
     elim (eqb_tells r.start end) [
       | inl t ↦
-          let long : IsRunInside n (record { start = start; end = r.end }) = record { ordered = omega (arith, h, here.ordered, t.1); inside = here.inside } in
-          rw (joins start end r rs t.1) (All-cons (IsRunInside n) (record { start = start; end = r.end }) rs long (All-tail (IsRunInside n) r rs each))
-      | inr t ↦ rw (stands_apart start end r rs t.1) (All-cons (IsRunInside n) (record { start = start; end = end }) (r ∷ rs) (record { ordered = h; inside = k }) each)
+          let long : IsSpanInside n (record { start = start; end = r.end }) = record { ordered = omega (arith, h, here.ordered, t.1); inside = here.inside } in
+          rw (joins start end r rs t.1) (All-cons (IsSpanInside n) (record { start = start; end = r.end }) rs long (All-tail (IsSpanInside n) r rs each))
+      | inr t ↦ rw (stands_apart start end r rs t.1) (All-cons (IsSpanInside n) (record { start = start; end = end }) (r ∷ rs) (record { ordered = h; inside = k }) each)
     ]
 
-pub inside-joined_runs : (n : ℕ) (es : List OdtEntry) → All (IsInside n) es → All (IsRunInside n) (joined_runs es)
-inside-joined_runs n [] each = All-nil (IsRunInside n)
-inside-joined_runs n (e ∷ es) each =
-    inside-with_bytes n e.0 (e.0 + e.1) (joined_runs es) (omega arith) (All-head (IsInside n) e es each) (inside-joined_runs n es (All-tail (IsInside n) e es each))
+pub inside-joined_spans : (n : ℕ) (es : List OdtEntry) → All (IsInside n) es → All (IsSpanInside n) (joined_spans es)
+inside-joined_spans n [] each = All-nil (IsSpanInside n)
+inside-joined_spans n (e ∷ es) each =
+    inside-with_bytes n e.0 (e.0 + e.1) (joined_spans es) (omega arith) (All-head (IsInside n) e es each) (inside-joined_spans n es (All-tail (IsInside n) e es each))
 
 count_by-cons : {X : Type 0} (p : X → Bool) (x : X) (xs : List X) → count_by p (x ∷ xs) ≡ cond (p x) 1 0 + count_by p xs
 count_by-cons p x xs = sum_by-cons (λ y. cond (p y) 1 0) x xs
 
--- there is one run for each entry that does not go on where the one before it ends
-pub length-joined_runs : (es : List OdtEntry) → 0 < length es → length (joined_runs es) ≡ runs_needed es
-length-joined_runs [] h = absurd (omega (arith, h))
-length-joined_runs (e ∷ []) h = refl
-length-joined_runs (e ∷ f ∷ es) h =
-    let first : Begins (joined_runs (f ∷ es)) f.0 = begins f.0 (f.0 + f.1) (joined_runs es) in
-    let ih : length (joined_runs (f ∷ es)) ≡ runs_needed (f ∷ es) = length-joined_runs (f ∷ es) (omega arith) in
-    let r : Run = record { start = f.0; end = first.end } in
-    let more : runs_needed (e ∷ f ∷ es) ≡ cond (not (continues (e, f))) 1 0 + runs_needed (f ∷ es)
+-- there is one span for each entry that does not go on where the one before it ends
+pub length-joined_spans : (es : List OdtEntry) → 0 < length es → length (joined_spans es) ≡ copies_needed es
+length-joined_spans [] h = absurd (omega (arith, h))
+length-joined_spans (e ∷ []) h = refl
+length-joined_spans (e ∷ f ∷ es) h =
+    let first : Begins (joined_spans (f ∷ es)) f.0 = begins f.0 (f.0 + f.1) (joined_spans es) in
+    let ih : length (joined_spans (f ∷ es)) ≡ copies_needed (f ∷ es) = length-joined_spans (f ∷ es) (omega arith) in
+    let r : Span = record { start = f.0; end = first.end } in
+    let more : copies_needed (e ∷ f ∷ es) ≡ cond (not (continues (e, f))) 1 0 + copies_needed (f ∷ es)
     = ap (λ n. 1 + n) (count_by-cons (λ (pair : OdtEntry × OdtEntry). not (continues pair)) (e, f) (zip (f ∷ es) es)) ∙ omega arith in
     elim (eqb_tells f.0 (e.0 + e.1)) [
       | inl t ↦
           let one : ◌≡◌ {A = ℕ} (cond (not (continues (e, f))) 1 0) 0 = rw t.0 refl in
-          let is : joined_runs (e ∷ f ∷ es) ≡ record { start = e.0; end = first.end } ∷ first.rest
+          let is : joined_spans (e ∷ f ∷ es) ≡ record { start = e.0; end = first.end } ∷ first.rest
           = ap (with_bytes e.0 (e.0 + e.1)) first.is ∙ joins e.0 (e.0 + e.1) r first.rest t.1 in
           omega (arith, ap length is, ap length first.is, ih, more, one)
       | inr t ↦
           let one : ◌≡◌ {A = ℕ} (cond (not (continues (e, f))) 1 0) 1 = rw t.0 refl in
-          let is : joined_runs (e ∷ f ∷ es) ≡ record { start = e.0; end = e.0 + e.1 } ∷ r ∷ first.rest
+          let is : joined_spans (e ∷ f ∷ es) ≡ record { start = e.0; end = e.0 + e.1 } ∷ r ∷ first.rest
           = ap (with_bytes e.0 (e.0 + e.1)) first.is ∙ stands_apart e.0 (e.0 + e.1) r first.rest t.1 in
           omega (arith, ap length is, ap length first.is, ih, more, one)
     ]
 
--- one entry more: apart from the bytes in hand, these become a run; else it is joined with them
-pub one_apart : (runs all : List Run) (start end : ℕ) (e : OdtEntry) (es : List OdtEntry) → runs ++ with_bytes start end (joined_runs (e ∷ es)) ≡ all → e.0 ≢ end → (runs ++ record { start = start; end = end } ∷ []) ++ with_bytes e.0 (e.0 + e.1) (joined_runs es) ≡ all
-one_apart runs all start end e es is h =
-    append_assoc runs (record { start = start; end = end } ∷ []) (with_bytes e.0 (e.0 + e.1) (joined_runs es))
-    ∙ ap (λ rs. runs ++ rs) (sym (with_bytes-apart start end e.0 (e.0 + e.1) (joined_runs es) h))
+-- one entry more: apart from the bytes in hand, these become a span; else it is joined with them
+pub one_apart : (spans all : List Span) (start end : ℕ) (e : OdtEntry) (es : List OdtEntry) → spans ++ with_bytes start end (joined_spans (e ∷ es)) ≡ all → e.0 ≢ end → (spans ++ record { start = start; end = end } ∷ []) ++ with_bytes e.0 (e.0 + e.1) (joined_spans es) ≡ all
+one_apart spans all start end e es is h =
+    append_assoc spans (record { start = start; end = end } ∷ []) (with_bytes e.0 (e.0 + e.1) (joined_spans es))
+    ∙ ap (λ rs. spans ++ rs) (sym (with_bytes-apart start end e.0 (e.0 + e.1) (joined_spans es) h))
     ∙ is
 
-pub one_joined : (runs all : List Run) (start end : ℕ) (e : OdtEntry) (es : List OdtEntry) → runs ++ with_bytes start end (joined_runs (e ∷ es)) ≡ all → e.0 ≡ end → runs ++ with_bytes start (e.0 + e.1) (joined_runs es) ≡ all
-one_joined runs all start end e es is h =
-    ap (λ rs. runs ++ rs) (sym (with_bytes-joined start e.0 (e.0 + e.1) (joined_runs es)))
-    ∙ ap (λ n. runs ++ with_bytes start n (joined_runs (e ∷ es))) h
+pub one_joined : (spans all : List Span) (start end : ℕ) (e : OdtEntry) (es : List OdtEntry) → spans ++ with_bytes start end (joined_spans (e ∷ es)) ≡ all → e.0 ≡ end → spans ++ with_bytes start (e.0 + e.1) (joined_spans es) ≡ all
+one_joined spans all start end e es is h =
+    ap (λ rs. spans ++ rs) (sym (with_bytes-joined start e.0 (e.0 + e.1) (joined_spans es)))
+    ∙ ap (λ n. spans ++ with_bytes start n (joined_spans (e ∷ es))) h
     ∙ is
 
--- the runs of each of some ODTs
-pub map-joined_runs-written_entries : (odts : List (List (Option Entry))) → map (λ es. joined_runs (written_entries es)) odts ≡ map joined_runs (map written_entries odts)
-map-joined_runs-written_entries [] = refl
-map-joined_runs-written_entries (es ∷ odts) = ap (λ rest. joined_runs (written_entries es) ∷ rest) (map-joined_runs-written_entries odts)
+-- the spans of each of some ODTs
+pub map-joined_spans-written_entries : (odts : List (List (Option Entry))) → map (λ es. joined_spans (written_entries es)) odts ≡ map joined_spans (map written_entries odts)
+map-joined_spans-written_entries [] = refl
+map-joined_spans-written_entries (es ∷ odts) = ap (λ rest. joined_spans (written_entries es) ∷ rest) (map-joined_spans-written_entries odts)
 
 -- what the test of two places tells
 pub apart_if : (a b : ℕ) → (a == b) ≡ false → a ≢ b

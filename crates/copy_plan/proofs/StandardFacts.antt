@@ -9,8 +9,8 @@ use Rattle.daq_store.specs.Configuration.{Configuration, is_ready}
 use Rattle.copy_plan.specs.Config.{ListPlan, OdtEntry, plan_of}
 use Rattle.copy_plan.specs.Packet.{packet, packets}
 use Rattle.copy_plan.specs.Pids.{pid}
-use Rattle.copy_plan.specs.Runs.{runs_needed}
-use Rattle.copy_plan.specs.Inner.Joined.{joined_runs}
+use Rattle.copy_plan.specs.Copies.{copies_needed}
+use Rattle.copy_plan.specs.Inner.Joined.{joined_spans}
 
 -- a list of two ODTs with a timestamp, as it is set in the store
 two_odts : Configuration
@@ -71,13 +71,13 @@ unfolding packets packet neighbours neighbours_plan
 packets-neighbours_marked = refl
 
 -- they need two copies, and these are
-runs_needed-neighbours : runs_needed neighbours ≡ 2
+copies_needed-neighbours : copies_needed neighbours ≡ 2
 unfolding neighbours
-runs_needed-neighbours = refl
+copies_needed-neighbours = refl
 
-joined_runs-neighbours : joined_runs neighbours ≡ record { start = 0; end = 4 } ∷ record { start = 8; end = 9 } ∷ []
+joined_spans-neighbours : joined_spans neighbours ≡ record { start = 0; end = 4 } ∷ record { start = 8; end = 9 } ∷ []
 unfolding neighbours
-joined_runs-neighbours = refl
+joined_spans-neighbours = refl
 
 -- the last of 124 ODTs: FIRST_PID 0x78, four ODTs
 last_plan : ListPlan

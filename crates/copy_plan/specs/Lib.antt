@@ -2,4 +2,4 @@ pub mod Config
 pub mod Inner
 pub mod Packet
 pub mod Pids
-pub mod Runs
+pub mod Copies

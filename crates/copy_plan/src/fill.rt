@@ -5,11 +5,11 @@ ghost use Rattle.xcp_base.specs.Packets.{last_packet, with_longer_last};
 ghost use Rattle.copy_plan.specs.Config.{IsPlan, odt};
 ghost use Rattle.copy_plan.specs.Packet.{packet, packets, timestamp};
 ghost use Rattle.copy_plan.specs.Pids.{field, pid};
-ghost use Rattle.copy_plan.specs.Runs.{runs_needed};
-ghost use Rattle.copy_plan.specs.Inner.Joined.{joined_runs};
+ghost use Rattle.copy_plan.specs.Copies.{copies_needed};
+ghost use Rattle.copy_plan.specs.Inner.Joined.{joined_spans};
 
 use crate::plan::CopyPlan;
-use crate::runs::Runs;
+use crate::spans::Spans;
 use xcp_base::Packets;
 use xcp_base::limits::{MAX_DTO, MAX_ODTS, MAX_STAMP};
 
@@ -38,7 +38,7 @@ impl CopyPlan {
 
     /// How many copies an ODT needs; `None` exactly where there is no such ODT.
     pub fn runs(&self, k: usize) -> Option<usize>
-        ensures { result ≡ option_map runs_needed (slice_get self.now.odts k) }
+        ensures { result ≡ option_map copies_needed (slice_get self.now.odts k) }
     {
         if k >= self.odts() {
             return None;
@@ -47,9 +47,9 @@ impl CopyPlan {
     }
 
     /// The copies that the packet of an ODT is made of: its entries, neighbours joined.
-    fn copies_of(&self, k: usize) -> &Runs
+    fn copies_of(&self, k: usize) -> &Spans
         requires { k < length self.now.odts }
-        ensures runs { result.now ≡ joined_runs (odt self.now k) }
+        ensures spans { result.now ≡ joined_spans (odt self.now k) }
         ensures plan { IsPlan self.now }
     {
         &self.odts[k]

@@ -4,6 +4,6 @@
 mod fill;
 pub mod laws;
 mod plan;
-mod runs;
+mod spans;
 
 pub use plan::{CopyPlan, PlanFault};

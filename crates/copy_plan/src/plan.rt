@@ -4,9 +4,9 @@ ghost use Rattle.daq_store.specs.Configuration.{is_ready};
 ghost use Rattle.copy_plan.specs.declared.plan.PlanFault.TheVariants.{Memory};
 ghost use Rattle.copy_plan.specs.Config.{IsPlan, plan_of, written_entries};
 ghost use Rattle.copy_plan.specs.Inner.Filled.{AreFilled};
-ghost use Rattle.copy_plan.specs.Inner.Joined.{joined_runs};
+ghost use Rattle.copy_plan.specs.Inner.Joined.{joined_spans};
 
-use crate::runs::Runs;
+use crate::spans::Spans;
 use daq_store::ListConf;
 use std::alloc::{AllocError, Global};
 use std::error::Error;
@@ -47,7 +47,7 @@ pub struct CopyPlan {
     pub(crate) form: PacketForm,
     pub(crate) stamped: bool,
     pub(crate) image_len: usize,
-    pub(crate) odts: Vec<Runs>,
+    pub(crate) odts: Vec<Spans>,
     pub(crate) conf: Snapshot<ListConf>,
 }
 
@@ -81,7 +81,7 @@ impl CopyPlan {
         ensures value { IfOk result (λ plan. plan ≡ plan_of list conf.now first_pid image_len) }
         ensures plan { IfOk result IsPlan }
     {
-        let odts = runs_of_odts(alloc, conf)?;
+        let odts = spans_of_odts(alloc, conf)?;
         Ok(CopyPlan {
             list,
             channel: conf.channel(),
@@ -158,16 +158,16 @@ impl CopyPlan {
     }
 }
 
-/// The runs of each ODT of a list.
-fn runs_of_odts(alloc: Global, conf: &ListConf) -> Result<Vec<Runs>, AllocError>
+/// The spans of each ODT of a list.
+fn spans_of_odts(alloc: Global, conf: &ListConf) -> Result<Vec<Spans>, AllocError>
     requires { AreFilled conf.now }
     ensures value { IfOk result (λ odts. odts.items
-        ≡ map (λ es. joined_runs (written_entries es)) conf.now.odts) }
+        ≡ map (λ es. joined_spans (written_entries es)) conf.now.odts) }
     ensures limit { length conf.now.odts ≤ MAX_ODTS }
 {
     let mut odts = Vec::with_capacity(alloc, conf.odts())?;
     for odt in 0..conf.odts() {
-        odts.push(Runs::of(alloc, conf, odt)?)?;
+        odts.push(Spans::of(alloc, conf, odt)?)?;
     }
     Ok(odts)
 }

@@ -1,5 +1,5 @@
 //! The limits of an outbox.
-use frame_writer::MAX_TEXT;
+use frame_writer::MAX_SAMPLE_BYTES;
 use xcp_base::limits::MAX_CTO;
 
 /// Samples are laid out up to so many bytes: what fits one datagram.
@@ -15,7 +15,7 @@ pub(crate) const MAX_REPLY: usize = 4 + MAX_CTO;
 pub(crate) const MOST: usize = PAGE + MAX_REPLIES * MAX_REPLY;
 
 /// The room for it, with that of the longest sample behind it.
-pub(crate) const ROOM: usize = MOST + MAX_TEXT;
+pub(crate) const ROOM: usize = MOST + MAX_SAMPLE_BYTES;
 
 /// The most replies and samples that wait: more than find room, since each has a frame of at least
 /// four bytes.

@@ -3,7 +3,7 @@ ghost use Rattle.std.specs.Prelude.{◌≡◌, ◌+◌, ◌≤◌, ◌++◌, dro
 ghost use Rattle.frame_writer.specs.Frame.{text};
 ghost use Rattle.frame_writer.specs.Writing.{after_text, state_of};
 
-use crate::layout::{MAX_TEXT, place_text};
+use crate::layout::{MAX_SAMPLE_BYTES, place_text};
 use crate::out::Out;
 use crate::sink_out::SinkOut;
 use crate::writer::FrameWriter;
@@ -18,14 +18,14 @@ impl FrameWriter<SinkOut> {
     /// they are copied once. It never fails, since the writer takes all.
     pub fn send_into(&mut self, buffer: &mut [u8], at: usize, packets: &Packets) -> usize
         requires was_open { (state_of ⟦<SinkOut as Out>⟧ self.old).closed ≡ false }
-        requires room { at + MAX_TEXT ≤ length buffer.old }
+        requires room { at + MAX_SAMPLE_BYTES ≤ length buffer.old }
         ensures sent { state_of ⟦<SinkOut as Out>⟧ self.new
             ≡ after_text (state_of ⟦<SinkOut as Out>⟧ self.old) packets.now }
         ensures frames { take result buffer.new ≡ take at buffer.old
             ++ text (state_of ⟦<SinkOut as Out>⟧ self.old).counter packets.now }
         ensures end { result ≡ at
             + length (text (state_of ⟦<SinkOut as Out>⟧ self.old).counter packets.now) }
-        ensures within { result ≤ at + MAX_TEXT }
+        ensures within { result ≤ at + MAX_SAMPLE_BYTES }
         ensures behind { drop result buffer.new ≡ drop result buffer.old }
         ensures len { length buffer.new ≡ length buffer.old }
     {

@@ -10,7 +10,7 @@ use xcp_base::limits::{MAX_DTO, MAX_ODTS};
 const MAX_FRAME: usize = 4 + MAX_DTO;
 
 /// The frames of a sample at their longest, in bytes.
-pub const MAX_TEXT: usize = MAX_ODTS * MAX_FRAME;
+pub const MAX_SAMPLE_BYTES: usize = MAX_ODTS * MAX_FRAME;
 
 /// LEN and CTR.
 fn header_of(len: u16, counter: u16) -> [u8; 4]
@@ -51,10 +51,10 @@ pub fn place_frame(room: &mut [u8], at: usize, counter: u16, packet: &[u8]) -> u
 /// Writes the frames of packets from `at` on, the first of them with this counter, and answers
 /// where they end.
 pub fn place_text(room: &mut [u8], at: usize, counter: u16, packets: &Packets) -> usize
-    requires room { at + MAX_TEXT ≤ length room.old }
+    requires room { at + MAX_SAMPLE_BYTES ≤ length room.old }
     ensures text { take result room.new ≡ take at room.old ++ text counter packets.now }
     ensures end { result ≡ at + text_len packets.now }
-    ensures within { result ≤ at + MAX_TEXT }
+    ensures within { result ≤ at + MAX_SAMPLE_BYTES }
     ensures behind { drop result room.new ≡ drop result room.old }
     ensures len { length room.new ≡ length room.old }
 {

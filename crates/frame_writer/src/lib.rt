@@ -18,7 +18,7 @@ mod writer;
 
 pub use byte_log::ByteLog;
 pub use fuse_out::FuseOut;
-pub use layout::MAX_TEXT;
+pub use layout::MAX_SAMPLE_BYTES;
 pub use out::{Out, OutFault};
 pub use reader::next_frame;
 pub use sink_out::SinkOut;

@@ -4,7 +4,7 @@ ghost use Rattle.std.specs.Prelude.{IfSome};
 ghost use Rattle.frame_writer.specs.Frame.{text};
 ghost use Rattle.frame_writer.specs.Writing.{after_text, state_of};
 
-use crate::layout::{MAX_TEXT, place, place_text};
+use crate::layout::{MAX_SAMPLE_BYTES, place, place_text};
 use crate::out::Out;
 use crate::sink_out::SinkOut;
 use crate::writer::FrameWriter;
@@ -28,7 +28,7 @@ impl FrameWriter<SinkOut> {
             ++ text (state_of ⟦<SinkOut as Out>⟧ self.old).counter packets.now) }
         ensures end { IfSome result (λ end. end ≡ at
             + length (text (state_of ⟦<SinkOut as Out>⟧ self.old).counter packets.now)) }
-        ensures few { IfSome result (λ end. end ≤ at + MAX_TEXT) }
+        ensures few { IfSome result (λ end. end ≤ at + MAX_SAMPLE_BYTES) }
         ensures inside { IfSome result (λ end. end ≤ length buffer.old) }
         ensures behind { IfSome result (λ end. drop end buffer.new ≡ drop end buffer.old) }
         ensures len { length buffer.new ≡ length buffer.old }
@@ -39,7 +39,7 @@ impl FrameWriter<SinkOut> {
             → state_of ⟦<SinkOut as Out>⟧ self.new ≡ state_of ⟦<SinkOut as Out>⟧ self.old }
         ensures buffer_stays { result ≡ None → buffer.new ≡ buffer.old }
     {
-        if buffer.len() - at >= MAX_TEXT {
+        if buffer.len() - at >= MAX_SAMPLE_BYTES {
             return Some(self.send_into(buffer, at, packets));
         }
         self.send_by_copy(buffer, at, packets)
@@ -55,7 +55,7 @@ impl FrameWriter<SinkOut> {
             ++ text (state_of ⟦<SinkOut as Out>⟧ self.old).counter packets.now) }
         ensures end { IfSome result (λ end. end ≡ at
             + length (text (state_of ⟦<SinkOut as Out>⟧ self.old).counter packets.now)) }
-        ensures few { IfSome result (λ end. end ≤ at + MAX_TEXT) }
+        ensures few { IfSome result (λ end. end ≤ at + MAX_SAMPLE_BYTES) }
         ensures inside { IfSome result (λ end. end ≤ length buffer.old) }
         ensures behind { IfSome result (λ end. drop end buffer.new ≡ drop end buffer.old) }
         ensures len { length buffer.new ≡ length buffer.old }

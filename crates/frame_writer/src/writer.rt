@@ -2,7 +2,7 @@ ghost use Rattle.std.specs.Prelude.{◌≡◌, ◌<◌, ◌≤◌, length};
 ghost use Rattle.frame_writer.specs.Inner.{BreaksOffAfter};
 ghost use Rattle.frame_writer.specs.Shown.{after_bytes, shown};
 
-use crate::layout::{MAX_TEXT, place_frame};
+use crate::layout::{MAX_SAMPLE_BYTES, place_frame};
 use crate::out::Out;
 use thiserror::Error;
 use xcp_base::limits::MAX_DTO;
@@ -26,7 +26,7 @@ pub struct FrameWriter<O> {
     pub(crate) counter: u16,
     pub(crate) closed: bool,
     // Where frames are laid out before the writer is handed them.
-    pub(crate) room: [u8; MAX_TEXT],
+    pub(crate) room: [u8; MAX_SAMPLE_BYTES],
 }
 
 impl<O: Out> FrameWriter<O> {
@@ -46,7 +46,7 @@ impl<O: Out> FrameWriter<O> {
             out,
             counter: 0,
             closed: false,
-            room: [0; MAX_TEXT],
+            room: [0; MAX_SAMPLE_BYTES],
         }
     }
 

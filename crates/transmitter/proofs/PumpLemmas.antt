@@ -13,7 +13,7 @@ use Rattle.xcp_base.specs.declared.item.Item.TheVariants.{Marker, Sample}
 use Rattle.xcp_base.specs.Lists.{has_list}
 use Rattle.xcp_base.specs.declared.limits.TheConstants.{MAX_ODTS}
 use Rattle.frame_writer.specs.Shown.{OutState}
-use Rattle.frame_writer.specs.declared.layout.TheConstants.{MAX_TEXT}
+use Rattle.frame_writer.specs.declared.layout.TheConstants.{MAX_SAMPLE_BYTES}
 use Rattle.transmitter.specs.Inner.Turns.{Lays}
 use Rattle.transmitter.specs.Items.{packets_of, samples}
 use Rattle.transmitter.specs.Merge.{AreRising, items_taken, of_ring, taken_from}
@@ -205,7 +205,7 @@ one_stop old new list l k is added = added ∙ (ap (λ n. has_list old k || nat_
 
 -- behind the turns at the rings below c, what was written since then stands in the front of a buffer, and nothing else changed
 pub record Placed (before now : OutState) (start buffer : List ℕ) (end c : ℕ) : Type 0 where
-  pub within : end ≤ MAX_TEXT * c
+  pub within : end ≤ MAX_SAMPLE_BYTES * c
   pub frames : before.contents ++ take end buffer ≡ now.contents
   pub behind : drop end buffer ≡ drop end start
   pub len : length buffer ≡ length start

@@ -5,13 +5,13 @@ use crate::pumped::Pumped;
 use crate::transmitter::Transmitter;
 use crate::turn::Turn;
 use channel_ring::TakeEnd;
-use frame_writer::{MAX_TEXT, Out, SinkOut};
+use frame_writer::{MAX_SAMPLE_BYTES, Out, SinkOut};
 use xcp_base::limits::{MAX_CHANNELS, MAX_TAKEN};
 use xcp_base::with_list;
 
 /// The bytes that a pump writes at most: the frames of a sample at their longest, for each event
 /// channel.
-pub const MAX_PUMP: usize = MAX_CHANNELS as usize * MAX_TEXT;
+pub const MAX_PUMP: usize = MAX_CHANNELS as usize * MAX_SAMPLE_BYTES;
 
 impl<T: TakeEnd> Transmitter<SinkOut, T> {
     ghost use Rattle.std.specs.Prelude.{◌≡◌, ◌≢◌, ◌≤◌, ◌++◌, drop, length, take};

@@ -9,7 +9,7 @@ ghost use Rattle.transmitter.specs.Written.{BreaksWithin};
 
 use crate::transmitter::Transmitter;
 use channel_ring::TakeEnd;
-use frame_writer::{FrameWriter, MAX_TEXT, Out, SinkOut};
+use frame_writer::{FrameWriter, MAX_SAMPLE_BYTES, Out, SinkOut};
 use xcp_base::{Item, Packets, Sample};
 
 /// What one turn at a ring came to.
@@ -76,7 +76,7 @@ impl<T: TakeEnd> Transmitter<SinkOut, T> {
         requires ring { c < vec_len self.old.ends }
         requires nothing_in_hand { self.old.hand ≡ None }
         requires taken { self.old.taken < 2 ^ 63 }
-        requires room { end.old + MAX_TEXT ≤ length buffer.old }
+        requires room { end.old + MAX_SAMPLE_BYTES ≤ length buffer.old }
         ensures turn { TurnMeans c (transmission ⟦<SinkOut as Out>⟧ T.TakeEnd self.old)
             (transmission ⟦<SinkOut as Out>⟧ T.TakeEnd self.new) result }
         ensures as_many { vec_len self.new.ends ≡ vec_len self.old.ends }
@@ -193,7 +193,7 @@ fn lay_all(
     packets: &Packets,
 ) -> usize
     requires was_open { (state_of ⟦<SinkOut as Out>⟧ writer.old).closed ≡ false }
-    requires room { at + MAX_TEXT ≤ length buffer.old }
+    requires room { at + MAX_SAMPLE_BYTES ≤ length buffer.old }
     ensures all { AfterText (state_of ⟦<SinkOut as Out>⟧ writer.old)
         (state_of ⟦<SinkOut as Out>⟧ writer.new) packets.now }
     ensures lays { Lays (state_of ⟦<SinkOut as Out>⟧ writer.old).out

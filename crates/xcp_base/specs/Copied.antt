@@ -1,29 +1,29 @@
--- Runs of an image, and what they copy.
+-- Spans of an image, and what they copy.
 use Rattle.std.specs.Prelude.{◌≡◌, ℕ, ◌-◌, ◌≤◌, List, map, replicate, slice_range, flat_map}
-use Rattle.xcp_base.specs.declared.run.Run.{Run}
+use Rattle.xcp_base.specs.declared.span.Span.{Span}
 use Rattle.xcp_base.specs.declared.stretch.Stretch.{Stretch}
 
--- what runs copy of an image: their bytes, joined in order
-abbrev pub copied : List ℕ → List Run → List ℕ
-copied image runs = flat_map (λ (r : Run). slice_range image r.start r.end) runs
+-- what spans copy of an image: their bytes, joined in order
+abbrev pub copied : List ℕ → List Span → List ℕ
+copied image spans = flat_map (λ (r : Span). slice_range image r.start r.end) spans
 
--- the run lies within an image of so many bytes
-pub record IsRunInside (image_len : ℕ) (r : Run) : Type 0 where
+-- the span lies within an image of so many bytes
+pub record IsSpanInside (image_len : ℕ) (r : Span) : Type 0 where
   pub ordered : r.start ≤ r.end
   pub inside : r.end ≤ image_len
 
--- the bytes of a run
-abbrev pub run_size : Run → ℕ
-run_size r = r.end - r.start
+-- the bytes of a span
+abbrev pub span_size : Span → ℕ
+span_size r = r.end - r.start
 
--- the run has so many bytes
-abbrev pub HasSize : ℕ → Run → Type 0
-HasSize size r = run_size r ≡ size
+-- the span has so many bytes
+abbrev pub HasSize : ℕ → Span → Type 0
+HasSize size r = span_size r ≡ size
 
--- the sizes of the runs of some stretches: of each stretch its size, as often as it has runs
+-- the sizes of the spans of some stretches: of each stretch its size, as often as it has spans
 abbrev pub sizes_in : List Stretch → List ℕ
 sizes_in stretches = flat_map (λ (s : Stretch). replicate s.count s.size) stretches
 
--- the stretches, laid out one behind another, are those of the runs: these have the same sizes
-abbrev pub AreStretches : List Stretch → List Run → Type 0
-AreStretches stretches runs = map run_size runs ≡ sizes_in stretches
+-- the stretches, laid out one behind another, are those of the spans: these have the same sizes
+abbrev pub AreStretches : List Stretch → List Span → Type 0
+AreStretches stretches spans = map span_size spans ≡ sizes_in stretches

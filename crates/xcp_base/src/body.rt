@@ -1,9 +1,9 @@
 ghost use Rattle.std.specs.Prelude.{◌≡◌, ◌+◌, ◌<◌, ◌≤◌, [], ◌++◌, All, length, slice_index};
-ghost use Rattle.std.specs.Prelude.{slice_set, take};
-ghost use Rattle.xcp_base.specs.Copied.{AreStretches, HasSize, IsRunInside, copied};
+ghost use Rattle.std.specs.Prelude.{slice_range, slice_set, take};
+ghost use Rattle.xcp_base.specs.Copied.{AreStretches, HasSize, IsSpanInside, copied};
 
 use crate::limits::MAX_BODY;
-use crate::run::Run;
+use crate::span::Span;
 use crate::stretch::Stretch;
 use std::marker::Model;
 
@@ -88,34 +88,39 @@ impl Body {
         put_by_size(&mut self.cells, start, bytes);
     }
 
-    /// Appends what runs copy of an image, for which there is room; `stretches` has their sizes.
-    pub(crate) fn extend_by_stretches(&mut self, image: &[u8], runs: &[Run], stretches: &[Stretch])
-        requires inside { All (IsRunInside (length image.now)) runs.now }
-        requires sizes { AreStretches stretches.now runs.now }
-        requires room { length self.old + length (copied image.now runs.now) ≤ MAX_BODY }
-        ensures { self.new ≡ self.old ++ copied image.now runs.now }
+    /// Appends what spans copy of an image, for which there is room; `stretches` has their sizes.
+    pub(crate) fn extend_by_stretches(
+        &mut self,
+        image: &[u8],
+        spans: &[Span],
+        stretches: &[Stretch],
+    )
+        requires inside { All (IsSpanInside (length image.now)) spans.now }
+        requires sizes { AreStretches stretches.now spans.now }
+        requires room { length self.old + length (copied image.now spans.now) ≤ MAX_BODY }
+        ensures { self.new ≡ self.old ++ copied image.now spans.now }
     {
-        self.len = put_stretches(&mut self.cells, self.len, image, runs, stretches);
+        self.len = put_stretches(&mut self.cells, self.len, image, spans, stretches);
     }
 }
 
-/// Writes what runs copy of an image from a place on, stretch by stretch, and answers where it
+/// Writes what spans copy of an image from a place on, stretch by stretch, and answers where it
 /// ends.
 fn put_stretches(
     cells: &mut [u8; MAX_BODY],
     start: usize,
     image: &[u8],
-    runs: &[Run],
+    spans: &[Span],
     stretches: &[Stretch],
 ) -> usize
-    requires inside { All (IsRunInside (length image.now)) runs.now }
-    requires sizes { AreStretches stretches.now runs.now }
-    requires room { start + length (copied image.now runs.now) ≤ MAX_BODY }
-    ensures end { result ≡ start + length (copied image.now runs.now) }
-    ensures front { take result cells.new ≡ take start cells.old ++ copied image.now runs.now }
+    requires inside { All (IsSpanInside (length image.now)) spans.now }
+    requires sizes { AreStretches stretches.now spans.now }
+    requires room { start + length (copied image.now spans.now) ≤ MAX_BODY }
+    ensures end { result ≡ start + length (copied image.now spans.now) }
+    ensures front { take result cells.new ≡ take start cells.old ++ copied image.now spans.now }
 {
     let mut at = start;
-    let mut rest = runs;
+    let mut rest = spans;
     for stretch in stretches {
         let (these, behind) = rest.split_at(stretch.count);
         at = put_stretch(cells, at, image, these, stretch.size);
@@ -124,66 +129,91 @@ fn put_stretches(
     at
 }
 
-/// Writes what runs of one size copy of an image from a place on, and answers where it ends.
+/// Writes what spans of one size copy of an image from a place on, and answers where it ends.
 fn put_stretch(
     cells: &mut [u8; MAX_BODY],
     start: usize,
     image: &[u8],
-    runs: &[Run],
+    spans: &[Span],
     size: usize,
 ) -> usize
-    requires inside { All (IsRunInside (length image.now)) runs.now }
-    requires sizes { All (HasSize size) runs.now }
-    requires room { start + length (copied image.now runs.now) ≤ MAX_BODY }
-    ensures end { result ≡ start + length (copied image.now runs.now) }
-    ensures front { take result cells.new ≡ take start cells.old ++ copied image.now runs.now }
+    requires inside { All (IsSpanInside (length image.now)) spans.now }
+    requires sizes { All (HasSize size) spans.now }
+    requires room { start + length (copied image.now spans.now) ≤ MAX_BODY }
+    ensures end { result ≡ start + length (copied image.now spans.now) }
+    ensures front { take result cells.new ≡ take start cells.old ++ copied image.now spans.now }
 {
     if size == 4 {
-        return put_runs_of::<4>(cells, start, image, runs);
+        return put_spans_of::<4>(cells, start, image, spans);
     }
     if size == 2 {
-        return put_runs_of::<2>(cells, start, image, runs);
+        return put_spans_of::<2>(cells, start, image, spans);
     }
     if size == 1 {
-        return put_runs_of::<1>(cells, start, image, runs);
+        return put_spans_of::<1>(cells, start, image, spans);
     }
     if size == 8 {
-        return put_runs_of::<8>(cells, start, image, runs);
+        return put_spans_of::<8>(cells, start, image, spans);
     }
-    put_runs(cells, start, image, runs)
+    put_spans(cells, start, image, spans)
 }
 
-/// Writes what runs of N bytes each copy of an image from a place on, and answers where it ends.
-fn put_runs_of<const N: usize>(
+/// Writes what spans of N bytes each copy of an image from a place on, and answers where it ends.
+fn put_spans_of<const N: usize>(
     cells: &mut [u8; MAX_BODY],
     start: usize,
     image: &[u8],
-    runs: &[Run],
+    spans: &[Span],
 ) -> usize
-    requires inside { All (IsRunInside (length image.now)) runs.now }
-    requires sizes { All (HasSize N) runs.now }
-    requires room { start + length (copied image.now runs.now) ≤ MAX_BODY }
-    ensures end { result ≡ start + length (copied image.now runs.now) }
-    ensures front { take result cells.new ≡ take start cells.old ++ copied image.now runs.now }
+    requires inside { All (IsSpanInside (length image.now)) spans.now }
+    requires sizes { All (HasSize N) spans.now }
+    requires room { start + length (copied image.now spans.now) ≤ MAX_BODY }
+    ensures end { result ≡ start + length (copied image.now spans.now) }
+    ensures front { take result cells.new ≡ take start cells.old ++ copied image.now spans.now }
 {
     let mut at = start;
-    for run in runs {
-        put(cells, at, &image[run.start..run.start + N]);
+    for span in spans {
+        put_number(cells, at, &bytes_at::<N>(image, span.start));
         at += N;
     }
     at
 }
 
-/// Writes what runs copy of an image from a place on, and answers where it ends.
-fn put_runs(cells: &mut [u8; MAX_BODY], start: usize, image: &[u8], runs: &[Run]) -> usize
-    requires inside { All (IsRunInside (length image.now)) runs.now }
-    requires room { start + length (copied image.now runs.now) ≤ MAX_BODY }
-    ensures end { result ≡ start + length (copied image.now runs.now) }
-    ensures front { take result cells.new ≡ take start cells.old ++ copied image.now runs.now }
+/// The N bytes of an image from a place on.
+#[inline]
+fn bytes_at<const N: usize>(image: &[u8], from: usize) -> [u8; N]
+    requires inside { from + N ≤ length image.now }
+    ensures { result ≡ slice_range image.now from (from + N) }
+{
+    let mut bytes = [0; N];
+    for k in 0..N {
+        bytes[k] = image[from + k];
+    }
+    bytes
+}
+
+/// Writes N bytes from a place on. All were read before, so that they can be moved as one number;
+/// a slice of them might lie over the cells.
+#[inline]
+fn put_number<const N: usize>(cells: &mut [u8; MAX_BODY], start: usize, bytes: &[u8; N])
+    requires room { start + N ≤ MAX_BODY }
+    ensures front { take (start + N) cells.new ≡ take start cells.old ++ bytes.now }
+{
+    for k in 0..N {
+        cells[start + k] = bytes[k];
+    }
+}
+
+/// Writes what spans copy of an image from a place on, and answers where it ends.
+fn put_spans(cells: &mut [u8; MAX_BODY], start: usize, image: &[u8], spans: &[Span]) -> usize
+    requires inside { All (IsSpanInside (length image.now)) spans.now }
+    requires room { start + length (copied image.now spans.now) ≤ MAX_BODY }
+    ensures end { result ≡ start + length (copied image.now spans.now) }
+    ensures front { take result cells.new ≡ take start cells.old ++ copied image.now spans.now }
 {
     let mut at = start;
-    for run in runs {
-        let bytes = &image[run.start..run.end];
+    for span in spans {
+        let bytes = &image[span.start..span.end];
         put_by_size(cells, at, bytes);
         at += bytes.len();
     }

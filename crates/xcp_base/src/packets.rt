@@ -3,14 +3,14 @@ ghost use Rattle.std.specs.Prelude.{true, false, All, IsNone, IsOk, OnErr, OnOk,
 ghost use Rattle.std.specs.Prelude.{slice_get, slice_index, slice_set, take};
 ghost use Rattle.std.specs.Option.{option_copied};
 ghost use Rattle.xcp_base.specs.Bodies.{IsBodyOf, body_of};
-ghost use Rattle.xcp_base.specs.Copied.{AreStretches, IsRunInside, copied};
+ghost use Rattle.xcp_base.specs.Copied.{AreStretches, IsSpanInside, copied};
 ghost use Rattle.xcp_base.specs.Inner.{BeginsWithPacket, EndsAt, HasLast};
 ghost use Rattle.xcp_base.specs.Packets.{ArePackets, IsPacket, last_packet, with_longer_last};
 
 use crate::body::Body;
 use crate::limits::{MAX_BODY, MAX_DTO, MAX_ODTS};
 use crate::packet_iter::PacketIter;
-use crate::run::Run;
+use crate::span::Span;
 use crate::stretch::Stretch;
 use std::marker::Model;
 use thiserror::Error;
@@ -109,7 +109,7 @@ impl Packets {
         requires fits { length (last_packet self.old) + length bytes.now ≤ MAX_DTO }
         ensures { self.new ≡ with_longer_last self.old bytes.now }
     {
-        let run = Run {
+        let span = Span {
             start: 0,
             end: bytes.len(),
         };
@@ -117,20 +117,20 @@ impl Packets {
             size: bytes.len(),
             count: 1,
         };
-        self.append_stretches(bytes, &[run], &[stretch]);
+        self.append_stretches(bytes, &[span], &[stretch]);
     }
 
-    /// Appends what runs copy of an image to the last packet, which is there and stays within
-    /// `MAX_DTO` bytes; `stretches` has the sizes of the runs.
-    pub fn append_stretches(&mut self, image: &[u8], runs: &[Run], stretches: &[Stretch])
+    /// Appends what spans copy of an image to the last packet, which is there and stays within
+    /// `MAX_DTO` bytes; `stretches` has the sizes of the spans.
+    pub fn append_stretches(&mut self, image: &[u8], spans: &[Span], stretches: &[Stretch])
         requires some { 0 < length self.old }
-        requires inside { All (IsRunInside (length image.now)) runs.now }
-        requires sizes { AreStretches stretches.now runs.now }
-        requires fits { length (last_packet self.old) + length (copied image.now runs.now)
+        requires inside { All (IsSpanInside (length image.now)) spans.now }
+        requires sizes { AreStretches stretches.now spans.now }
+        requires fits { length (last_packet self.old) + length (copied image.now spans.now)
             ≤ MAX_DTO }
-        ensures { self.new ≡ with_longer_last self.old (copied image.now runs.now) }
+        ensures { self.new ≡ with_longer_last self.old (copied image.now spans.now) }
     {
-        lengthen(&mut self.body, self.last, image, runs, stretches);
+        lengthen(&mut self.body, self.last, image, spans, stretches);
     }
 
     /// The packets, one behind another, each behind a byte that has its length.
@@ -201,21 +201,21 @@ fn append(body: &mut Body, packet: &[u8])
     body.extend(packet);
 }
 
-/// Appends what runs copy of an image to the packet that stands last in a body, whose length stands
+/// Appends what spans copy of an image to the packet that stands last in a body, whose length stands
 /// at `last`.
-fn lengthen(body: &mut Body, last: usize, image: &[u8], runs: &[Run], stretches: &[Stretch])
+fn lengthen(body: &mut Body, last: usize, image: &[u8], spans: &[Span], stretches: &[Stretch])
     requires at { last < length body.old }
-    requires inside { All (IsRunInside (length image.now)) runs.now }
-    requires sizes { AreStretches stretches.now runs.now }
-    requires room { length body.old + length (copied image.now runs.now) ≤ MAX_BODY }
-    requires fits { slice_index body.old last + length (copied image.now runs.now) ≤ MAX_DTO }
+    requires inside { All (IsSpanInside (length image.now)) spans.now }
+    requires sizes { AreStretches stretches.now spans.now }
+    requires room { length body.old + length (copied image.now spans.now) ≤ MAX_BODY }
+    requires fits { slice_index body.old last + length (copied image.now spans.now) ≤ MAX_DTO }
     ensures { body.new
         ≡ slice_set body.old last
-        (slice_index body.old last + length (copied image.now runs.now))
-        ++ copied image.now runs.now }
+        (slice_index body.old last + length (copied image.now spans.now))
+        ++ copied image.now spans.now }
 {
     let before = body.len();
-    body.extend_by_stretches(image, runs, stretches);
+    body.extend_by_stretches(image, spans, stretches);
     let more = body.len() - before;
     body.raise(last, more as u8);
 }

@@ -1,4 +1,4 @@
-/// So many runs, one behind another, that have the same size, in bytes.
+/// So many spans, one behind another, that have the same size, in bytes.
 #[derive(Clone, Copy, Debug, PartialEq, Eq)]
 pub struct Stretch {
     pub size: usize,

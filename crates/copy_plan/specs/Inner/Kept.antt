@@ -1,8 +1,8 @@
--- How `CopyPlan` keeps its configuration: the runs in place of the entries.
+-- How `CopyPlan` keeps its configuration: the spans in place of the entries.
 use Rattle.std.specs.Prelude.{◌≡◌, map}
 use Rattle.copy_plan.specs.declared.plan.CopyPlan.TheInside.{Inside}
 use Rattle.copy_plan.specs.Config.{ListPlan, IsPlan, written_entries}
-use Rattle.copy_plan.specs.Inner.Joined.{joined_runs}
+use Rattle.copy_plan.specs.Inner.Joined.{joined_spans}
 
 -- the configuration
 abbrev pub plan_view : Inside → ListPlan
@@ -17,7 +17,7 @@ plan_view a = record {
   image_len = a.image_len;
 }
 
--- a plan, with the runs of each ODT
+-- a plan, with the spans of each ODT
 pub record IsKept (a : Inside) : Type 0 where
   pub plan : IsPlan (plan_view a)
-  pub odts : a.odts.items ≡ map joined_runs (plan_view a).odts
+  pub odts : a.odts.items ≡ map joined_spans (plan_view a).odts

@@ -8,7 +8,7 @@ use Rattle.xcp_base.specs.declared.item.Item.TheVariants.{Sample, Marker}
 use Rattle.xcp_base.specs.declared.limits.TheConstants.{MAX_LISTS, MAX_ODTS}
 use Rattle.channel_ring.specs.declared.ends.RingEnd.{Ghosts as EndGhosts}
 use Rattle.channel_ring.specs.declared.ends.TakeEnd.{Ghosts as TakeGhosts}
-use Rattle.frame_writer.specs.declared.layout.TheConstants.{MAX_TEXT}
+use Rattle.frame_writer.specs.declared.layout.TheConstants.{MAX_SAMPLE_BYTES}
 use Rattle.frame_writer.specs.Shown.{OutState}
 use Rattle.sampler.specs.State.{SamplerEndState}
 use Rattle.transmitter.specs.Looks.{EndsStay}
@@ -36,7 +36,7 @@ pub record Lays (a b : OutState) (old new : List ℕ) (at end : ℕ) : Type 0 wh
   pub wrote : b.contents ≡ a.contents ++ text
   pub front : take end new ≡ take at old ++ text
   pub end_is : end ≡ at + length text
-  pub few : end ≤ at + MAX_TEXT
+  pub few : end ≤ at + MAX_SAMPLE_BYTES
   pub behind : drop end new ≡ drop end old
   pub len : length new ≡ length old
 

@@ -6,7 +6,7 @@ use Rattle.copy_plan.specs.Config.{IsInside, odt}
 use Rattle.copy_plan.specs.Pids.{field}
 use Rattle.copy_plan.specs.Packet.{elements, timestamp}
 use Rattle.xcp_base.specs.Copied.{copied}
-use Rattle.copy_plan.proofs.JoinedLemmas.{copied-joined_runs, inside-joined_runs}
+use Rattle.copy_plan.proofs.JoinedLemmas.{copied-joined_spans, inside-joined_spans}
 use Rattle.copy_plan.proofs.PacketLemmas.{field-limit, length-packet, packet-appended}
 use Rattle.copy_plan.proofs.plan.CopyPlan.append_packet.Goals as goal
 use Rattle.copy_plan.proofs.plan.CopyPlan.append_packet.Goals.{After-stretches}
@@ -29,7 +29,7 @@ stamped c =
 
 -- what the copies copy is the elements
 copied_is : (c : After-stretches) → copied c.args.image.now c.as_slice.result.now ≡ elements c.args.image.now (odt c.args.self.now c.args.k)
-copied_is c = ap (copied c.args.image.now) (c.as_slice.ensures ∙ c.copies_of-copies.ensures.runs) ∙ copied-joined_runs c.args.image.now (odt c.args.self.now c.args.k)
+copied_is c = ap (copied c.args.image.now) (c.as_slice.ensures ∙ c.copies_of-copies.ensures.spans) ∙ copied-joined_spans c.args.image.now (odt c.args.self.now c.args.k)
 
 pub append_stretches-requires : goal.append_stretches-requires
 append_stretches-requires c =
@@ -39,7 +39,7 @@ append_stretches-requires c =
     = rw c.requires.image (c.copies_of-copies.ensures.plan.inside c.args.k c.requires.odt) in
     record {
       some = omega (arith, ap length (stamped c), length-append c.args.sample.now ((first ++ ticks) ∷ []));
-      inside = rw (c.as_slice.ensures, c.copies_of-copies.ensures.runs) (inside-joined_runs (length c.args.image.now) (odt c.args.self.now c.args.k) inside);
+      inside = rw (c.as_slice.ensures, c.copies_of-copies.ensures.spans) (inside-joined_spans (length c.args.image.now) (odt c.args.self.now c.args.k) inside);
       sizes = rw c.as_slice.ensures c.stretches.ensures;
       fits = omega (arith, length-packet c.args.self.now c.args.image.now c.args.stamp c.args.k c.args.overload c.requires.image c.copies_of-copies.ensures.plan c.requires.odt, ap (λ qs. length (last_packet qs)) (stamped c), ap length (last_packet-push c.args.sample.now (first ++ ticks)), length-append first ticks, ap length (copied_is c));
     }

@@ -2,14 +2,14 @@ use Rattle.std.proofs.Common.{◌<◌, length, [], arith, ap, sym, ◌∙◌, So
 use Rattle.std.specs.Prelude.{option_map}
 use Rattle.std.proofs.lemmas.Option.{slice_get-get_or}
 use Rattle.copy_plan.specs.Config.{odt}
-use Rattle.copy_plan.specs.Runs.{runs_needed}
-use Rattle.copy_plan.proofs.JoinedLemmas.{length-joined_runs}
+use Rattle.copy_plan.specs.Copies.{copies_needed}
+use Rattle.copy_plan.proofs.JoinedLemmas.{length-joined_spans}
 use Rattle.copy_plan.proofs.plan.CopyPlan.runs.Goals as goal
 
--- each ODT of a plan has an entry, and as many runs as it needs
+-- each ODT of a plan has an entry, and as many spans as it needs
 pub returns : goal.returns
 returns c =
     let here : c.args.k < length c.args.self.now.odts = omega (arith, c.if-k-odts.false, c.odts.ensures.value) in
-    ap (λ rs. Some (length rs)) (c.as_slice.ensures ∙ c.copies_of.ensures.runs)
-    ∙ ap Some (length-joined_runs (odt c.args.self.now c.args.k) (c.odts.ensures.plan.entries c.args.k here))
-    ∙ sym (ap (option_map runs_needed) (slice_get-get_or c.args.self.now.odts c.args.k [] here))
+    ap (λ rs. Some (length rs)) (c.as_slice.ensures ∙ c.copies_of.ensures.spans)
+    ∙ ap Some (length-joined_spans (odt c.args.self.now c.args.k) (c.odts.ensures.plan.entries c.args.k here))
+    ∙ sym (ap (option_map copies_needed) (slice_get-get_or c.args.self.now.odts c.args.k [] here))

@@ -1,6 +1,6 @@
 /// Bytes of an image that lie side by side and are copied in one go: from `start` up to `end`.
 #[derive(Clone, Copy, Debug, PartialEq, Eq)]
-pub struct Run {
+pub struct Span {
     pub start: usize,
     pub end: usize,
 }

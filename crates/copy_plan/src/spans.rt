@@ -1,44 +1,44 @@
 ghost use Rattle.std.specs.Prelude.{◌≡◌, ◌==◌, ◌<◌, ◌≤◌, IfOk, IsSome, All, length};
 ghost use Rattle.xcp_base.specs.Copied.{AreStretches};
-ghost use Rattle.xcp_base.specs.declared.run.Run.{Run};
+ghost use Rattle.xcp_base.specs.declared.span.Span.{Span};
 ghost use Rattle.daq_store.specs.Configuration.{odt_entries};
 ghost use Rattle.copy_plan.specs.Config.{written_entries};
-ghost use Rattle.copy_plan.specs.Inner.Joined.{joined_runs};
+ghost use Rattle.copy_plan.specs.Inner.Joined.{joined_spans};
 
 use daq_store::ListConf;
 use std::alloc::{AllocError, Global};
 use std::marker::Model;
-use xcp_base::{Run, Stretch};
+use xcp_base::{Span, Stretch};
 
-/// The runs of one ODT: its entries in their order, neighbours joined; and the stretches of runs
+/// The spans of one ODT: its entries in their order, neighbours joined; and the stretches of spans
 /// of one size.
 #[derive(Drop)]
-pub struct Runs {
-    runs: Vec<Run>,
+pub struct Spans {
+    spans: Vec<Span>,
     stretches: Vec<Stretch>,
 }
 
-impl Model for Runs {
+impl Model for Spans {
     ghost use Rattle.std.specs.Prelude.{List};
-    ghost use Rattle.xcp_base.specs.declared.run.Run.{Run};
+    ghost use Rattle.xcp_base.specs.declared.span.Span.{Span};
     ghost use Rattle.xcp_base.specs.Copied.{AreStretches};
 
-    ghost Value = { List Run };
+    ghost Value = { List Span };
 
-    ghost view = { λ a. a.runs.items };
+    ghost view = { λ a. a.spans.items };
 
-    ghost invariant = { λ a. AreStretches a.stretches.items a.runs.items };
+    ghost invariant = { λ a. AreStretches a.stretches.items a.spans.items };
 }
 
-impl Runs {
-    /// The runs of an ODT whose entries are all written; there is at least one.
-    pub fn of(alloc: Global, conf: &ListConf, odt: usize) -> Result<Runs, AllocError>
+impl Spans {
+    /// The spans of an ODT whose entries are all written; there is at least one.
+    pub fn of(alloc: Global, conf: &ListConf, odt: usize) -> Result<Spans, AllocError>
         requires some { 0 < length (odt_entries conf.now odt) }
         requires written { All IsSome (odt_entries conf.now odt) }
-        ensures { IfOk result (λ runs. runs
-            ≡ joined_runs (written_entries (odt_entries conf.now odt))) }
+        ensures { IfOk result (λ spans. spans
+            ≡ joined_spans (written_entries (odt_entries conf.now odt))) }
     {
-        let mut runs = Vec::with_capacity(alloc, conf.entries(odt))?;
+        let mut spans = Vec::with_capacity(alloc, conf.entries(odt))?;
         let Some((address, size)) = conf.entry(odt, 0) else {
             unreachable!();
         };
@@ -50,25 +50,25 @@ impl Runs {
             };
             let next = address as usize;
             if !begins_at(next, end) {
-                runs.push(Run { start, end })?;
+                spans.push(Span { start, end })?;
                 start = next;
             }
             end = next + size as usize;
         }
-        let last = Run { start, end };
-        runs.push(last)?;
-        let stretches = stretches_of(alloc, &runs)?;
-        Ok(Runs { runs, stretches })
+        let last = Span { start, end };
+        spans.push(last)?;
+        let stretches = stretches_of(alloc, &spans)?;
+        Ok(Spans { spans, stretches })
     }
 
-    /// The runs in their order.
-    pub fn as_slice(&self) -> &[Run]
+    /// The spans in their order.
+    pub fn as_slice(&self) -> &[Span]
         ensures { result.now ≡ self.now }
     {
-        &self.runs
+        &self.spans
     }
 
-    /// The stretches of the runs.
+    /// The stretches of the spans.
     pub fn stretches(&self) -> &[Stretch]
         ensures { AreStretches result.now self.now }
     {
@@ -76,17 +76,17 @@ impl Runs {
     }
 }
 
-/// The stretches of some runs: neighbours of one size are in one.
-fn stretches_of(alloc: Global, runs: &[Run]) -> Result<Vec<Stretch>, AllocError>
-    requires some { 0 < length runs.now }
-    requires ordered { All (λ (r : Run). r.start ≤ r.end) runs.now }
-    ensures { IfOk result (λ stretches. AreStretches stretches.items runs.now) }
+/// The stretches of some spans: neighbours of one size are in one.
+fn stretches_of(alloc: Global, spans: &[Span]) -> Result<Vec<Stretch>, AllocError>
+    requires some { 0 < length spans.now }
+    requires ordered { All (λ (r : Span). r.start ≤ r.end) spans.now }
+    ensures { IfOk result (λ stretches. AreStretches stretches.items spans.now) }
 {
-    let mut stretches = Vec::with_capacity(alloc, runs.len())?;
-    let mut size = runs[0].end - runs[0].start;
+    let mut stretches = Vec::with_capacity(alloc, spans.len())?;
+    let mut size = spans[0].end - spans[0].start;
     let mut count = 0;
-    for run in runs {
-        let next = run.end - run.start;
+    for span in spans {
+        let next = span.end - span.start;
         if next != size {
             stretches.push(Stretch { size, count })?;
             size = next;

@@ -8,5 +8,5 @@ continues pair = pair.1.0 == pair.0.0 + pair.0.1
 
 -- one copy, and one more for each entry after the first that does not begin at the end of the entry
 -- before it
-abbrev pub runs_needed : List OdtEntry → ℕ
-runs_needed entries = 1 + count_by (λ pair. not (continues pair)) (zip entries (drop 1 entries))
+abbrev pub copies_needed : List OdtEntry → ℕ
+copies_needed entries = 1 + count_by (λ pair. not (continues pair)) (zip entries (drop 1 entries))
