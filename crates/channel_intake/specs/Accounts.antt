@@ -1,5 +1,5 @@
--- The line of a DAQ list in the account of a measurement, once what is left of its task's sampler is
--- back.
+-- The line of a DAQ list in the account of a measurement, once what is left of its task's sampler
+-- is back.
 use Rattle.std.specs.Prelude.{◌≡◌, ℕ, ◌+◌, List, count_by, not, nat_eq, slice_get, Some}
 use Rattle.copy_plan.specs.Config.{IsPlan, ListPlan}
 use Rattle.sampler.specs.Decisions.{Decided, pairs_of}

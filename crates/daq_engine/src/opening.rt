@@ -118,9 +118,11 @@ fn any_runs(store: &Store) -> bool
     (0..store.lists()).any(|l| store.running(l))
 }
 
-/// The sampler of one event channel of a store, and the take end of its ring, which has `cap` places.
+/// The sampler of one event channel of a store, and the take end of its ring, which has `cap`
+/// places.
 ///
-/// It has the DAQ lists of the channel that are ready, and of these run those that run in the store.
+/// It has the DAQ lists of the channel that are ready, and of these run those that run in the
+/// store.
 pub fn open_channel<R: Ring>(
     alloc: Global,
     store: &Store,

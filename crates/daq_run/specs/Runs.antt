@@ -68,8 +68,8 @@ pub record HasRun (run : RunData) (before : OutState) (refused : ℕ) : Type 0 w
   pub transmitter : TransmitterState
   pub taken : HasTaken writer transmitter (taken_in done)
   pub are_done :
-      AreDone run.channels (settings_of_run run) (map run_step run.steps) transmitter.writer.closed past
-      done
+      AreDone run.channels (settings_of_run run) (map run_step run.steps) transmitter.writer.closed
+      past done
 
 -- the engine of a run, whose transmitter had taken these items, was closed, after a drain if the
 -- run says so. The ends are those of its channels, and tell what these sent

@@ -16,7 +16,8 @@ fault_of_text none.Unreadable = Unreadable
 fault_of_text (none.Run fault) = Run fault
 fault_of_text none.Memory = want_of_memory
 
--- 1 for a run that was begun and for lack of memory, 2 for what is wrong with arguments, text or file
+-- 1 for a run that was begun and for lack of memory, 2 for what is wrong with arguments, text or
+-- file
 abbrev pub status_of_fault : ProgramFault → ℕ
 status_of_fault (Sim fault) = 1
 status_of_fault _ = 2

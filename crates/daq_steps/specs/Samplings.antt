@@ -13,7 +13,8 @@ use Rattle.daq_steps.specs.Answers.{Answered, AreAnswered, IsAnswer, Setting}
 use Rattle.daq_steps.specs.Steps.{Ask, Pump, RunStep}
 
 -- what a sampler goes by
-abbrev pub setting_of_sampler : {S E : Type 0} → SendGhosts S E → EndGhosts E → SamplerState S → Setting
+abbrev pub setting_of_sampler : {S E : Type 0} → SendGhosts S E → EndGhosts E → SamplerState S
+    → Setting
 setting_of_sampler send ring s = record {
   image_len = s.image_len;
   capacity = send.capacity s.end;

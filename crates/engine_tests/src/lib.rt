@@ -1,6 +1,6 @@
 //! The tests of whole engines, and of what else calls alone show: the fixed run over writers that
-//! fail, a send end over a list and one that can't be finished, orders, texts. As a library this crate
-//! is empty.
+//! fail, a send end over a list and one that can't be finished, orders, texts. As a library this
+//! crate is empty.
 #![tactic(auto)]
 
 #[cfg(test)]

@@ -27,7 +27,8 @@ use Rattle.handle_calls.specs.declared.ring_kind.RingKind.{RingKind}
 use Rattle.handle_calls.specs.declared.ring_kind.RingKind.TheVariants as kind
 use Rattle.handle_calls.specs.Kinds.{ring_of}
 use Rattle.handle_calls.specs.Lends.{Lends}
-use Rattle.handle_calls.specs.States.{ByteEngine, Bytes, EngineState, ItemEngine, Items, samplers_in}
+use Rattle.handle_calls.specs.States.{ByteEngine, Bytes, EngineState, ItemEngine, Items}
+use Rattle.handle_calls.specs.States.{samplers_in}
 use Rattle.handle_calls.specs.declared.status.Status.{Status}
 use Rattle.handle_calls.specs.declared.status.Status.TheVariants as status
 

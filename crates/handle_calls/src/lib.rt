@@ -1,4 +1,5 @@
-//! What the handles of C hold, and what each call for C does to them, with a status for each answer.
+//! What the handles of C hold, and what each call for C does to them, with a status for each
+//! answer.
 #![tactic(auto)]
 
 mod asked;

@@ -134,8 +134,8 @@ pub extern "C" fn ng_slave_sent(alloc: Global, slave: &mut Handle) -> u32
     sent_by(alloc, slave).number()
 }
 
-/// Closes a slave, and tells the account of its session: a line for each DAQ list that there may be,
-/// and whether the account is whole. The handle is empty then.
+/// Closes a slave, and tells the account of its session: a line for each DAQ list that there may
+/// be, and whether the account is whole. The handle is empty then.
 ///
 /// Refused in this order: no slave, room for less than 16 lines, a task that wasn't finished.
 #[unsafe(no_mangle)]

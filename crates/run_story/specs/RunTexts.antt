@@ -6,7 +6,8 @@ use Rattle.run_file.specs.Outcomes.{IsOutcome, bad_key, bad_setup, bad_step, not
 use Rattle.run_file.specs.declared.run_fault.RunFault.{RunFault}
 use Rattle.run_file.specs.declared.run_fault.RunFault.TheVariants as bad
 use Rattle.run_story.specs.declared.run_text_fault.RunTextFault.{RunTextFault}
-use Rattle.run_story.specs.declared.run_text_fault.RunTextFault.TheVariants.{Memory, Run, Unreadable}
+use Rattle.run_story.specs.declared.run_text_fault.RunTextFault.TheVariants.{Memory, Run}
+use Rattle.run_story.specs.declared.run_text_fault.RunTextFault.TheVariants.{Unreadable}
 
 abbrev pub fault_of_text : TextFault → RunTextFault
 fault_of_text text.Unreadable = Unreadable

@@ -5,8 +5,8 @@ ghost use Rattle.std.specs.Io.KnownBytes.{Appends};
 ghost use Rattle.csv.specs.Writing.{row_text, text_written};
 ghost use Rattle.hex.specs.Hex.{encode_lower};
 ghost use Rattle.sample_tables.specs.declared.row.TheConstants.{MAX_SIZE};
-ghost use Rattle.sample_tables.specs.Rows.{IsBetweenRows, column_names, if_some, one_or_zero, rfc_4180};
-ghost use Rattle.sample_tables.specs.Rows.{row_fields, unsigned_of};
+ghost use Rattle.sample_tables.specs.Rows.{IsBetweenRows, column_names, if_some, one_or_zero};
+ghost use Rattle.sample_tables.specs.Rows.{rfc_4180, row_fields, unsigned_of};
 
 use crate::spot::Spot;
 use csv::{Error, Writer};

@@ -3,8 +3,8 @@ ghost use Rattle.std.specs.Option.{option_copied};
 ghost use Rattle.std.specs.Io.KnownBytes.{Appends};
 ghost use Rattle.csv.specs.Writing.{row_text, text_written};
 ghost use Rattle.copy_plan.specs.Config.{OdtEntry, odt};
-ghost use Rattle.sample_tables.specs.Rows.{IsBetweenRows, column_names, csv_text, entry_text, odt_text};
-ghost use Rattle.sample_tables.specs.Rows.{rfc_4180, sample_text, text_at};
+ghost use Rattle.sample_tables.specs.Rows.{IsBetweenRows, column_names, csv_text, entry_text};
+ghost use Rattle.sample_tables.specs.Rows.{odt_text, rfc_4180, sample_text, text_at};
 
 use crate::row::{Row, write_names, write_row};
 use crate::spot::Spot;

@@ -2,8 +2,8 @@
 ghost use Rattle.std.specs.Prelude.{◌≡◌, ◌≤◌, ◌++◌, OnOk, length};
 ghost use Rattle.std.specs.Fmt.{decimal};
 ghost use Rattle.std.specs.Io.KnownBytes.{Appends};
-ghost use Rattle.sample_tables.specs.Tables.{column, head_line, right_aligned, table_text, tally_line};
-ghost use Rattle.sample_tables.specs.Tables.{ticks_text};
+ghost use Rattle.sample_tables.specs.Tables.{column, head_line, right_aligned, table_text};
+ghost use Rattle.sample_tables.specs.Tables.{tally_line, ticks_text};
 
 use crate::summary::Summary;
 use crate::tally::Tally;

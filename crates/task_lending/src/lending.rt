@@ -37,8 +37,8 @@ impl<R: Ring> LendingSlave<R> {
         self.slots[c] = Slot::Here(task);
     }
 
-    /// Takes what is left of tasks back, event channel by event channel up to the first whose task is
-    /// away; and returns whether there is none.
+    /// Takes what is left of tasks back, event channel by event channel up to the first whose task
+    /// is away; and returns whether there is none.
     pub fn collect(&mut self) -> bool
         ensures collects { Collects self.old self.new }
         ensures all { result ≡ true → NoneAway self.new }

@@ -12,8 +12,8 @@ use std::alloc::{AllocError, Global};
 use std::marker::Model;
 use tasks::Task;
 
-/// A slave, the stream of its master, and the tasks of its event channels: those that weren't handed
-/// out, the ways back of those that were, and what came back.
+/// A slave, the stream of its master, and the tasks of its event channels: those that weren't
+/// handed out, the ways back of those that were, and what came back.
 #[derive(Drop)]
 pub struct LendingSlave<R: Ring> {
     pub(crate) slave: Slave<R>,
@@ -47,8 +47,8 @@ fn slots_of<S: SendEnd>(alloc: Global, tasks: Vec<Task<S>>) -> Result<Vec<Slot<S
 }
 
 impl<R: Ring> LendingSlave<R> {
-    /// A slave with this profile, as `Slave::open` opens it. All its tasks are here, and no byte of a
-    /// master came.
+    /// A slave with this profile, as `Slave::open` opens it. All its tasks are here, and no byte of
+    /// a master came.
     pub fn open(alloc: Global, profile: Profile) -> Result<LendingSlave<R>, OpenFault>
         ensures { IfOk result (IsOpenedWith R.Take.TakeEnd profile) }
     {

@@ -1,5 +1,5 @@
-//! A slave that lends its tasks: each is handed out once, to a thread of its own, and what is left of
-//! it comes back to the slave.
+//! A slave that lends its tasks: each is handed out once, to a thread of its own, and what is left
+//! of it comes back to the slave.
 #![tactic(auto)]
 
 mod bytes;

@@ -13,8 +13,8 @@ use std::marker::Model;
 
 /// The slave's side of a task.
 ///
-/// At most two samplers are out: one that the task holds, and the newest. Nothing here waits for the
-/// task.
+/// At most two samplers are out: one that the task holds, and the newest. Nothing here waits for
+/// the task.
 #[derive(Drop)]
 pub struct TaskLink<S: SendEnd> {
     place: Place<Handed<S>>,
@@ -249,8 +249,8 @@ impl<S: SendEnd> TaskLink<S> {
         Ok(())
     }
 
-    /// Whether the sampler that was handed out last takes orders: it is out, and its measurement has
-    /// not ended.
+    /// Whether the sampler that was handed out last takes orders: it is out, and its measurement
+    /// has not ended.
     pub fn takes_orders(&self) -> bool
         ensures { result ≡ takes_orders self.now.newer }
     {
@@ -299,9 +299,9 @@ impl<S: SendEnd> TaskLink<S> {
         stop_of(&mut self.newer, l);
     }
 
-    /// Ends the measurement of the sampler that was handed out last, which takes no orders from then
-    /// on. If the task has not fetched it, it is taken back and finished at once; else an order to
-    /// end is sent, which always finds a place. If it takes no orders, nothing changes.
+    /// Ends the measurement of the sampler that was handed out last, which takes no orders from
+    /// then on. If the task has not fetched it, it is taken back and finished at once; else an order
+    /// to end is sent, which always finds a place. If it takes no orders, nothing changes.
     pub fn end(&mut self)
         ensures none { takes_orders self.old.newer ≡ false → self.new ≡ self.old }
         ensures ends { takes_orders self.old.newer ≡ true → EndsNewest self.old self.new }

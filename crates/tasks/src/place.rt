@@ -93,8 +93,8 @@ impl<T> Place<T> {
         self.queue.try_push_as::<Put>(&mut self.pass, value)
     }
 
-    /// Takes the value that lies in the place. It may find none, if the other end was in the way. It
-    /// frees no memory.
+    /// Takes the value that lies in the place. It may find none, if the other end was in the way.
+    /// It frees no memory.
     pub fn take(&mut self) -> Option<T>
         ensures some { IfSome result (λ value. self.new.taken ≡ self.old.taken ++ value ∷ []) }
         ensures none { IsNone result → self.new.taken ≡ self.old.taken }

@@ -77,7 +77,8 @@ fn trigger_held<S: SendEnd>(
     image: &[u8],
     stamp: u32,
 ) -> Result<Taken, TriggerFault>
-    ensures { TriggersHeld S.SendEnd S.End.RingEnd NONE_DUE held.old held.new image.now stamp result }
+    ensures { TriggersHeld S.SendEnd S.End.RingEnd NONE_DUE held.old held.new image.now stamp
+        result }
 {
     match held {
         Some(held) => held.trigger(image, stamp),
@@ -88,15 +89,17 @@ fn trigger_held<S: SendEnd>(
 impl<S: SendEnd> Task<S> {
     /// Takes the next sampler that was handed out, if one is there.
     ///
-    /// It stands out of line, as does all that a look seldom finds: a trigger then makes no room for
-    /// it on the stack.
+    /// It stands out of line, as does all that a look seldom finds: a trigger then makes no room
+    /// for it on the stack.
     #[inline(never)]
     fn receive(&mut self) -> bool
         requires none { self.old.held ≡ None }
         ensures some { result ≡ true
-            → Steps S.SendEnd S.End.RingEnd self.old.held self.new.held self.old.came self.new.came }
+            → Steps S.SendEnd S.End.RingEnd self.old.held self.new.held self.old.came
+            self.new.came }
         ensures none { result ≡ false
-            → Rests S.SendEnd S.End.RingEnd self.old.held self.new.held self.old.came self.new.came }
+            → Rests S.SendEnd S.End.RingEnd self.old.held self.new.held self.old.came
+            self.new.came }
     {
         let Some(handed) = self.coming.take() else {
             return false;
@@ -108,9 +111,11 @@ impl<S: SendEnd> Task<S> {
     /// Does the next that the slave ordered, if anything is there.
     fn step(&mut self) -> bool
         ensures some { result ≡ true
-            → Steps S.SendEnd S.End.RingEnd self.old.held self.new.held self.old.came self.new.came }
+            → Steps S.SendEnd S.End.RingEnd self.old.held self.new.held self.old.came
+            self.new.came }
         ensures none { result ≡ false
-            → Rests S.SendEnd S.End.RingEnd self.old.held self.new.held self.old.came self.new.came }
+            → Rests S.SendEnd S.End.RingEnd self.old.held self.new.held self.old.came
+            self.new.came }
     {
         if self.held.is_none() {
             return self.receive();
@@ -142,8 +147,8 @@ impl<S: SendEnd> Task<S> {
         trigger_held(&mut self.held, image, stamp)
     }
 
-    /// Finishes the task, and gives back what is left of what it holds. The answer is for the slave's
-    /// thread.
+    /// Finishes the task, and gives back what is left of what it holds. The answer is for the
+    /// slave's thread.
     pub fn finish(mut self) -> TaskEnd<S>
         ensures came { result.taken ≡ self.came }
     {

@@ -1,5 +1,5 @@
-//! What threads show of each other, by a gate that lets one step go after another; and in which order
-//! the gate is called, beside the steps and the pumps.
+//! What threads show of each other, by a gate that lets one step go after another; and in which
+//! order the gate is called, beside the steps and the pumps.
 use crate::in_order::{InOrder, Wrong};
 use crate::same::same;
 use crate::text::{

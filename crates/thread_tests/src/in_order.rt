@@ -24,8 +24,8 @@ pub enum Wrong {
     NoFrame,
 }
 
-/// Lets steps go in an order, each of which sends a sample of so many packets. Before a step it waits
-/// for two pumps that take nothing, and behind it for the frames of its sample.
+/// Lets steps go in an order, each of which sends a sample of so many packets. Before a step it
+/// waits for two pumps that take nothing, and behind it for the frames of its sample.
 #[derive(Drop)]
 pub struct InOrder<'a, R> {
     rt: &'a R,

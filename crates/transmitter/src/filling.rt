@@ -34,9 +34,9 @@ impl<T: TakeEnd> Transmitter<SinkOut, T> {
     /// the buffer.
     ///
     /// A sample that doesn't fit stays in its ring, and the next call goes on at this ring: so the
-    /// items are taken in the order in which pumps take them. A buffer of `MAX_SAMPLE_BYTES` bytes has room
-    /// for any sample. Refused as `pump_into` is; then nothing is taken, and the buffer is as it
-    /// was.
+    /// items are taken in the order in which pumps take them. A buffer of `MAX_SAMPLE_BYTES`
+    /// bytes has room for any sample. Refused as `pump_into` is; then nothing is taken, and the
+    /// buffer is as it was.
     pub fn pump_all(&mut self, buffer: &mut [u8]) -> Result<(PumpedAll, usize), PumpFault>
         ensures ok { IfOk result (λ done. Fills (next_of self.old) (next_of self.new)
             (length buffer.old) done.1

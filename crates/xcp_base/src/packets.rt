@@ -201,8 +201,8 @@ fn append(body: &mut Body, packet: &[u8])
     body.extend(packet);
 }
 
-/// Appends what spans copy of an image to the packet that stands last in a body, whose length stands
-/// at `last`.
+/// Appends what spans copy of an image to the packet that stands last in a body, whose length
+/// stands at `last`.
 fn lengthen(body: &mut Body, last: usize, image: &[u8], spans: &[Span], stretches: &[Stretch])
     requires at { last < length body.old }
     requires inside { All (IsSpanInside (length image.now)) spans.now }

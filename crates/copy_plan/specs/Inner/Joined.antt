@@ -3,7 +3,8 @@ use Rattle.std.specs.Prelude.{ℕ, ◌+◌, ◌==◌, if◌then◌else◌, List,
 use Rattle.xcp_base.specs.declared.span.Span.{Span}
 use Rattle.copy_plan.specs.Config.{OdtEntry}
 
--- some bytes and the spans behind them: one span with the first of these where it begins at their end
+-- some bytes and the spans behind them: one span with the first of these where it begins at their
+-- end
 abbrev pub with_bytes : ℕ → ℕ → List Span → List Span
 with_bytes start end [] = record { start = start; end = end } ∷ []
 with_bytes start end (r ∷ rs) =
