@@ -1,12 +1,16 @@
 -- The parts of a packet, their lengths, and the packet put together.
-use Rattle.std.proofs.Common.{Bool, true, false, if◌then◌else◌, ◌==◌, ◌&&◌, ◌≡◌, ℕ, ◌+◌, ◌-◌, ◌<◌, ◌≤◌, List, [], ◌∷◌, ◌++◌, length, refl, ap, ◌∙◌, arith, append_assoc, length-append, length-take, length-drop}
+use Rattle.std.proofs.Common.{Bool, true, false, if◌then◌else◌, ◌==◌, ◌&&◌, ◌≡◌, ℕ, ◌+◌, ◌-◌, ◌<◌, ◌≤◌, List, [], ◌∷◌, ◌++◌, length, take, refl, arith, length-append, length-take, length-drop}
 use Rattle.std.specs.Prelude.{All, slice_range, sum_by}
 use Rattle.std.proofs.lemmas.List.Sums.{sum_by-cons}
 use Rattle.std.proofs.lemmas.List.Elements.{All-head, All-tail}
+use Rattle.std.specs.Int.{bytes_low_first}
+use Rattle.xcp_base.specs.declared.stamp_size.StampSize.{StampSize}
+use Rattle.xcp_base.specs.declared.stamp_size.StampSize.TheVariants.{One, Two, Four}
 use Rattle.xcp_base.specs.Forms.{stamp_bytes, stamp_field}
-use Rattle.xcp_base.specs.Packets.{stamp_len, with_longer_last}
-use Rattle.xcp_base.proofs.FormLemmas.{field_len-limit, length-id_field, length-stamp_field}
-use Rattle.xcp_base.proofs.LastPacketLemmas.{with_longer_last-push}
+use Rattle.xcp_base.specs.Packets.{stamp_len}
+use Rattle.xcp_base.specs.Copied.{copied, copied_packet}
+use Rattle.xcp_base.specs.declared.span.Span.{Span}
+use Rattle.xcp_base.proofs.FormLemmas.{length-id_field, length-stamp_field}
 use Rattle.copy_plan.specs.Config.{ListPlan, IsPlan, OdtEntry, IsInside, odt}
 use Rattle.copy_plan.specs.Pids.{field}
 use Rattle.copy_plan.specs.Packet.{timestamp, elements, packet}
@@ -27,19 +31,23 @@ length-timestamp plan k stamp =
     elim (k == 0 && plan.stamped) as (λ v. ◌≡◌ {A = ℕ} (length (if v then stamp_field plan.form.stamp stamp else [])) (if v then stamp_bytes plan.form.stamp else 0)) [ true ↦ length-stamp_field plan.form.stamp stamp | false ↦ refl ]
 
 -- the packet has the length that the plan has for it
-pub length-packet : (plan : ListPlan) (image : List ℕ) (stamp k : ℕ) (overload : Bool) → length image ≡ plan.image_len → IsPlan plan → k < length plan.odts → length (field plan k overload) + length (timestamp plan k stamp) + length (elements image (odt plan k)) ≤ 64
+pub length-packet : (plan : ListPlan) (image : List ℕ) (stamp k : ℕ) (overload : Bool) → length image ≡ plan.image_len → IsPlan plan → k < length plan.odts → length (packet plan image stamp overload k) ≤ 64
+unfolding packet
 length-packet plan image stamp k overload h is here =
     let inside : All (IsInside (length image)) (odt plan k) = rw h (is.inside k here) in
-    omega (arith, is.short k here, length-id_field plan.form.id plan.first_pid plan.list k overload, length-timestamp plan k stamp, length-elements image (odt plan k) inside)
+    omega (arith, is.short k here, length-append (field plan k overload) (timestamp plan k stamp ++ elements image (odt plan k)), length-append (timestamp plan k stamp) (elements image (odt plan k)), length-id_field plan.form.id plan.first_pid plan.list k overload, length-timestamp plan k stamp, length-elements image (odt plan k) inside)
 
--- an identification field has 3 bytes at most
-pub field-limit : (plan : ListPlan) (k : ℕ) (overload : Bool) → length (field plan k overload) ≤ 3
-field-limit plan k overload = omega (arith, length-id_field plan.form.id plan.first_pid plan.list k overload, field_len-limit plan.form.id)
+stamp_front : (size : StampSize) (stamp : ℕ) → take (stamp_bytes size) (bytes_low_first 0 4 stamp) ≡ stamp_field size stamp
+stamp_front One stamp = refl
+stamp_front Two stamp = refl
+stamp_front Four stamp = refl
 
--- identification field, timestamp and elements, appended one after another, are the packet
-pub packet-appended : (ps : List (List ℕ)) (plan : ListPlan) (image : List ℕ) (stamp k : ℕ) (overload : Bool) → with_longer_last (with_longer_last (ps ++ field plan k overload ∷ []) (timestamp plan k stamp)) (elements image (odt plan k)) ≡ ps ++ packet plan image stamp overload k ∷ []
+-- the timestamp, as the bytes of its number from the least significant on
+pub timestamp-front : (plan : ListPlan) (k stamp : ℕ) → take (stamp_len plan.form.stamp plan.stamped k) (bytes_low_first 0 4 stamp) ≡ timestamp plan k stamp
+timestamp-front plan k stamp =
+    elim (k == 0 && plan.stamped) as (λ v. ◌≡◌ {A = List ℕ} (take (if v then stamp_bytes plan.form.stamp else 0) (bytes_low_first 0 4 stamp)) (if v then stamp_field plan.form.stamp stamp else [])) [ true ↦ stamp_front plan.form.stamp stamp | false ↦ refl ]
+
+-- a field, a timestamp and copies are the packet where each of them is its part
+pub packet_is : (plan : ListPlan) (image : List ℕ) (stamp k : ℕ) (overload : Bool) (first ticks : List ℕ) (spans : List Span) → first ≡ field plan k overload → ticks ≡ timestamp plan k stamp → copied image spans ≡ elements image (odt plan k) → copied_packet first ticks image spans ≡ packet plan image stamp overload k
 unfolding packet
-packet-appended ps plan image stamp k overload =
-    ap (λ qs. with_longer_last qs (elements image (odt plan k))) (with_longer_last-push ps (field plan k overload) (timestamp plan k stamp))
-    ∙ with_longer_last-push ps (field plan k overload ++ timestamp plan k stamp) (elements image (odt plan k))
-    ∙ ap (λ q. ps ++ q ∷ []) (append_assoc (field plan k overload) (timestamp plan k stamp) (elements image (odt plan k)))
+packet_is plan image stamp k overload first ticks spans a b c = cc

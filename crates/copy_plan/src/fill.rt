@@ -1,9 +1,10 @@
 //! The hot copy: from an image to the packets of a sample. It takes no memory.
-ghost use Rattle.std.specs.Prelude.{◌≡◌, ◌==◌, ◌&&◌, ◌+◌, ◌<◌, ◌≤◌, ◌++◌, [], ◌∷◌, All, length};
-ghost use Rattle.std.specs.Prelude.{slice_get, option_map};
-ghost use Rattle.xcp_base.specs.Packets.{last_packet, with_longer_last};
+ghost use Rattle.std.specs.Prelude.{◌≡◌, ◌<◌, ◌≤◌, ◌++◌, [], ◌∷◌, length};
+ghost use Rattle.std.specs.Prelude.{slice_get, option_map, take};
+ghost use Rattle.xcp_base.specs.Forms.{field_len};
+ghost use Rattle.xcp_base.specs.Packets.{stamp_len};
 ghost use Rattle.copy_plan.specs.Config.{IsPlan, odt};
-ghost use Rattle.copy_plan.specs.Packet.{packet, packets, timestamp};
+ghost use Rattle.copy_plan.specs.Packet.{packet, packets};
 ghost use Rattle.copy_plan.specs.Pids.{field, pid};
 ghost use Rattle.copy_plan.specs.Copies.{copies_needed};
 ghost use Rattle.copy_plan.specs.Inner.Joined.{joined_spans};
@@ -11,7 +12,7 @@ ghost use Rattle.copy_plan.specs.Inner.Joined.{joined_spans};
 use crate::plan::CopyPlan;
 use crate::spans::Spans;
 use xcp_base::Packets;
-use xcp_base::limits::{MAX_DTO, MAX_ODTS, MAX_STAMP};
+use xcp_base::limits::{MAX_ODTS, MAX_STAMP};
 
 impl CopyPlan {
     /// The packets of a sample, one for each ODT in their order, all from one image and one
@@ -78,39 +79,37 @@ impl CopyPlan {
         requires room { length sample.old < MAX_ODTS }
         ensures { sample.new ≡ sample.old ++ packet self.now image.now stamp overload k ∷ [] }
     {
-        self.push_field(sample, overload, k);
-        self.append_timestamp(sample, stamp, k);
+        let field = self.field(k, overload);
+        let stamp = stamp.to_le_bytes();
         let copies = self.copies_of(k);
-        sample.append_stretches(image, copies.as_slice(), copies.stretches());
-    }
-
-    /// Appends the packet of an ODT as far as its identification field.
-    fn push_field(&self, sample: &mut Packets, overload: bool, k: usize)
-        requires odt { k < length self.now.odts }
-        requires room { length sample.old < MAX_ODTS }
-        ensures { sample.new ≡ sample.old ++ field self.now k overload ∷ [] }
-    {
-        let field = self.form.id.field(self.pid(k, overload), self.list);
-        let Ok(()) = sample.push(&field[..self.form.id.field_len()]) else {
+        let Ok(()) = sample.push_copied(
+            &field[..self.form.id.field_len()],
+            &stamp[..self.stamp_len(k)],
+            image,
+            copies.as_slice(),
+            copies.stretches(),
+        ) else {
             unreachable!();
         };
     }
 
-    /// Appends the timestamp to the last packet, where the ODT's packet has one.
-    fn append_timestamp(&self, sample: &mut Packets, stamp: u32, k: usize)
-        requires some { 0 < length sample.old }
-        requires room { length (last_packet sample.old) + MAX_STAMP ≤ MAX_DTO }
-        ensures { sample.new ≡ with_longer_last sample.old (timestamp self.now k stamp) }
+    /// The identification field of an ODT: the first bytes.
+    fn field(&self, k: usize, overload: bool) -> [u8; 4]
+        requires odt { k < length self.now.odts }
+        ensures { take (field_len self.now.form.id) result ≡ field self.now k overload }
     {
-        if self.has_timestamp(k) {
-            sample.append(&stamp.to_le_bytes()[..self.form.stamp.bytes() as usize]);
-        }
+        self.form.id.field(self.pid(k, overload), self.list)
     }
 
-    /// Whether the packet of an ODT has a timestamp: in a stamped list that of ODT 0.
-    fn has_timestamp(&self, k: usize) -> bool
-        ensures { result ≡ (k == 0 && self.now.stamped) }
+    /// The bytes of the timestamp in the packet of an ODT: in a stamped list ODT 0 has one.
+    fn stamp_len(&self, k: usize) -> usize
+        ensures value { result ≡ stamp_len self.now.form.stamp self.now.stamped k }
+        ensures limit { result ≤ MAX_STAMP }
     {
-        k == 0 && self.stamped
+        if k == 0 && self.stamped {
+            self.form.stamp.bytes() as usize
+        } else {
+            0
+        }
     }
 }

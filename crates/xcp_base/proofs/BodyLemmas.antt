@@ -1,5 +1,5 @@
 -- Bodies of packets, read from the front.
-use Rattle.std.proofs.Common.{◌≡◌, ℕ, suc, ◌+◌, ◌-◌, ◌*◌, ◌<◌, ◌≤◌, List, [], ◌∷◌, ◌++◌, length, take, drop, get_or, refl, sym, ap, ◌∙◌, subst, append_assoc, arith, length-append, length-drop}
+use Rattle.std.proofs.Common.{◌≡◌, ℕ, suc, ◌+◌, ◌-◌, ◌*◌, ◌<◌, ◌≤◌, List, [], ◌∷◌, ◌++◌, length, take, drop, get_or, refl, sym, ap, ◌∙◌, subst, append_assoc, append-nil, arith, drop_of_length-le, length-append, length-drop}
 use Rattle.std.proofs.Math.Seq.{take-append_seam}
 use Rattle.std.proofs.lemmas.List.{append_cancel_left, drop-drop, drop_more, length-take-le, get_or-drop, get_or_append_left, take_at}
 use Rattle.std.proofs.lemmas.List.{take-append-drop}
@@ -7,9 +7,8 @@ use Rattle.std.proofs.lemmas.List.Elements.{All-from_get_or, All-head, All-nil, 
 use Rattle.std.specs.Prelude.{All}
 use Rattle.xcp_base.specs.Packets.{ArePackets, IsPacket}
 use Rattle.xcp_base.specs.Bodies.{IsBodyOf, body_of, packets_of_body}
-use Rattle.xcp_base.specs.Inner.{BeginsWithPacket, EndsAt, HasFront, HasLast, StandsAtLast}
+use Rattle.xcp_base.specs.Inner.{BeginsWithPacket, EndsAt, HasFront, HasPackets}
 use Rattle.xcp_base.proofs.PacketsLemmas.{body_of-push, length-body_of, packets_of_body-body_of}
-use Rattle.xcp_base.proofs.LastPacketLemmas.{last_packet-push}
 
 -- two lists of one length are equal where they begin the same bytes
 same_front : (a b x y : List ℕ) → length a ≡ length b → a ++ x ≡ b ++ y → (a ≡ b) × (x ≡ y)
@@ -42,14 +41,14 @@ nothing_behind (p ∷ ps) (q ∷ qs) rest count e =
     nothing_behind ps qs rest (omega (arith, count)) both.1
 
 -- no packet at the front of any bytes
-pub no_front : (bytes : List ℕ) → HasFront 0 0 0 bytes
+pub no_front : (bytes : List ℕ) → HasFront 0 0 bytes
 unfolding body_of
 no_front bytes =
-    record { packets = []; body = refl; count = refl; each = All-nil IsPacket; within = omega arith; at = λ some. absurd (omega (arith, some)) }
+    record { packets = []; body = refl; count = refl; each = All-nil IsPacket; within = omega arith }
 
 -- one packet more
-pub one_more_packet : (n last stop next : ℕ) (bytes : List ℕ) → HasFront n last stop bytes → EndsAt bytes stop next → HasFront (n + 1) stop next bytes
-one_more_packet n last stop next bytes f e =
+pub one_more_packet : (n stop next : ℕ) (bytes : List ℕ) → HasFront n stop bytes → EndsAt bytes stop next → HasFront (n + 1) next bytes
+one_more_packet n stop next bytes f e =
     let ps = f.packets ++ e.packet ∷ [] in
     record {
       packets = ps;
@@ -57,17 +56,16 @@ one_more_packet n last stop next bytes f e =
       count = omega (arith, f.count, length-append f.packets (e.packet ∷ []));
       each = All-push IsPacket f.packets e.packet f.each e.is_packet;
       within = e.within;
-      at = λ some. rw (last_packet-push f.packets e.packet) (sym e.next);
     }
 
 -- where the bytes are a body of more packets, there is another one
-pub no_body_without : (n last stop m : ℕ) (bytes : List ℕ) → HasFront n last stop bytes → n < m → ¬ BeginsWithPacket (drop stop bytes) → (qs : List (List ℕ)) → ¬ IsBodyOf m bytes qs
-no_body_without n last stop m bytes f few no_packet qs b =
+pub no_body_without : (n stop m : ℕ) (bytes : List ℕ) → HasFront n stop bytes → n < m → ¬ BeginsWithPacket (drop stop bytes) → (qs : List (List ℕ)) → ¬ IsBodyOf m bytes qs
+no_body_without n stop m bytes f few no_packet qs b =
     no_packet (begins_with_packet f.packets qs (drop stop bytes) b.each (omega (arith, f.count, b.count, few)) (sym b.body ∙ f.body))
 
 -- and nothing behind the last one
-pub no_body_with_more : (n last stop : ℕ) (bytes : List ℕ) → HasFront n last stop bytes → stop < length bytes → (qs : List (List ℕ)) → ¬ IsBodyOf n bytes qs
-no_body_with_more n last stop bytes f more qs b =
+pub no_body_with_more : (n stop : ℕ) (bytes : List ℕ) → HasFront n stop bytes → stop < length bytes → (qs : List (List ℕ)) → ¬ IsBodyOf n bytes qs
+no_body_with_more n stop bytes f more qs b =
     let none : drop stop bytes ≡ [] = nothing_behind f.packets qs (drop stop bytes) (omega (arith, f.count, b.count)) (sym b.body ∙ f.body) in
     let some = drop_more bytes stop 0 more in
     cc
@@ -108,26 +106,30 @@ length_at bytes start b =
     let long : length bytes - start ≡ 1 + (length b.packet + length b.rest) = omega (arith, length-drop start bytes, ap length b.is, length-append b.packet b.rest) in
     record { some = omega (arith, here, b.is_packet.some); fits = omega (arith, here, b.is_packet.fits); room = omega (arith, here, long) }
 
+-- and where nothing stands behind them, the bytes are their body
+pub all_packets : (n stop : ℕ) (bytes : List ℕ) → HasFront n stop bytes → length bytes ≤ stop → HasPackets n bytes
+all_packets n stop bytes f all =
+    let none : drop stop bytes ≡ [] = drop_of_length-le bytes all in
+    record { packets = f.packets; body = f.body ∙ ap (λ l. body_of f.packets ++ l) none ∙ append-nil (body_of f.packets); count = f.count; each = f.each }
+
 -- the packets of a body, read off it
-pub packets_read : (n last : ℕ) (bytes : List ℕ) (h : HasLast n last bytes) → packets_of_body n bytes ≡ h.packets
-packets_read n last bytes h =
+pub packets_read : (n : ℕ) (bytes : List ℕ) (h : HasPackets n bytes) → packets_of_body n bytes ≡ h.packets
+packets_read n bytes h =
     ap (λ (k : ℕ). packets_of_body k bytes) (sym h.count) ∙ ap (packets_of_body (length h.packets)) h.body ∙ packets_of_body-body_of h.packets
 
 -- and what `Packets` keeps of them
-pub record Reads (n last : ℕ) (bytes : List ℕ) : Type 0 where
+pub record Reads (n : ℕ) (bytes : List ℕ) : Type 0 where
   pub body : bytes ≡ body_of (packets_of_body n bytes)
   pub count : length (packets_of_body n bytes) ≡ n
   pub each : ArePackets (packets_of_body n bytes)
-  pub last_is : StandsAtLast last bytes (packets_of_body n bytes)
   pub short : length bytes ≤ 65 * n
 
-pub reads : (n last : ℕ) (bytes : List ℕ) → HasLast n last bytes → Reads n last bytes
-reads n last bytes h =
-    let is = packets_read n last bytes h in
+pub reads : (n : ℕ) (bytes : List ℕ) → HasPackets n bytes → Reads n bytes
+reads n bytes h =
+    let is = packets_read n bytes h in
     record {
       body = h.body ∙ ap body_of (sym is);
       count = ap length is ∙ h.count;
       each = subst ArePackets (sym is) h.each;
-      last_is = subst (StandsAtLast last bytes) (sym is) h.at;
       short = omega (arith, ap length h.body, length-body_of h.packets h.each, h.count);
     }

@@ -1,11 +1,16 @@
 -- Spans of an image, and what they copy.
-use Rattle.std.specs.Prelude.{◌≡◌, ℕ, ◌-◌, ◌≤◌, List, map, replicate, slice_range, flat_map}
+use Rattle.std.specs.Prelude.{◌≡◌, ℕ, ◌-◌, ◌≤◌, List, ◌++◌, map, replicate}
+use Rattle.std.specs.Prelude.{slice_range, flat_map}
 use Rattle.xcp_base.specs.declared.span.Span.{Span}
 use Rattle.xcp_base.specs.declared.stretch.Stretch.{Stretch}
 
 -- what spans copy of an image: their bytes, joined in order
 abbrev pub copied : List ℕ → List Span → List ℕ
 copied image spans = flat_map (λ (r : Span). slice_range image r.start r.end) spans
+
+-- the packet of a field, a timestamp, and what spans copy of an image
+abbrev pub copied_packet : List ℕ → List ℕ → List ℕ → List Span → List ℕ
+copied_packet field stamp image spans = field ++ (stamp ++ copied image spans)
 
 -- the span lies within an image of so many bytes
 pub record IsSpanInside (image_len : ℕ) (r : Span) : Type 0 where

@@ -1,18 +1,13 @@
 -- What no public clause cites: how `Packets` keeps its packets in one body.
-use Rattle.std.specs.Prelude.{◌≡◌, ℕ, ◌+◌, ◌<◌, ◌≤◌, List, ◌∷◌, ◌++◌, length, drop}
+use Rattle.std.specs.Prelude.{◌≡◌, ℕ, ◌+◌, ◌≤◌, List, ◌∷◌, ◌++◌, length, drop}
 use Rattle.xcp_base.specs.declared.limits.TheConstants.{MAX_ODTS}
 use Rattle.xcp_base.specs.declared.packets.Packets.TheInside.{Inside}
 use Rattle.xcp_base.specs.Bodies.{body_of, packets_of_body}
-use Rattle.xcp_base.specs.Packets.{ArePackets, IsPacket, last_packet}
+use Rattle.xcp_base.specs.Packets.{ArePackets, IsPacket}
 
 -- the packets that are kept
 abbrev pub packets_view : Inside → List (List ℕ)
 packets_view a = packets_of_body a.count a.body
-
--- the length of the last packet of a body stands at this place, if there is a packet
-abbrev pub StandsAtLast : ℕ → List ℕ → List (List ℕ) → Type 0
-StandsAtLast last body packets =
-    0 < length packets → last + 1 + length (last_packet packets) ≡ length body
 
 -- the body is that of the packets, of which there are at most MAX_ODTS
 pub record IsBody (a : Inside) : Type 0 where
@@ -20,7 +15,6 @@ pub record IsBody (a : Inside) : Type 0 where
   pub count : length (packets_view a) ≡ a.count
   pub room : a.count ≤ MAX_ODTS
   pub each : ArePackets (packets_view a)
-  pub last : StandsAtLast a.last a.body (packets_view a)
 
 -- some bytes begin with a packet behind its length
 pub record BeginsWithPacket (bytes : List ℕ) : Type 0 where
@@ -37,22 +31,20 @@ pub record EndsAt (bytes : List ℕ) (start stop : ℕ) : Type 0 where
   pub next : stop ≡ start + 1 + length packet
   pub within : stop ≤ length bytes
 
--- the bytes are the body of so many packets, the last of which begins at this place
-pub record HasLast (number last : ℕ) (bytes : List ℕ) : Type 0 where
+-- the bytes are the body of so many packets
+pub record HasPackets (number : ℕ) (bytes : List ℕ) : Type 0 where
   pub packets : List (List ℕ)
   pub body : bytes ≡ body_of packets
   pub count : length packets ≡ number
   pub each : ArePackets packets
-  pub at : StandsAtLast last bytes packets
 
 -- the same of the bytes in front of a place
-pub record HasFront (number last stop : ℕ) (bytes : List ℕ) : Type 0 where
+pub record HasFront (number stop : ℕ) (bytes : List ℕ) : Type 0 where
   pub packets : List (List ℕ)
   pub body : bytes ≡ body_of packets ++ drop stop bytes
   pub count : length packets ≡ number
   pub each : ArePackets packets
   pub within : stop ≤ length bytes
-  pub at : 0 < length packets → last + 1 + length (last_packet packets) ≡ stop
 
 -- all packets of a body, which has a byte at least for each
 abbrev pub packets_in : List ℕ → List (List ℕ)

@@ -1,7 +1,7 @@
 -- Packets (ASAM MCD-1 XCP, protocol layer, DTO): the bytes of each. Its length is at most
 -- MAX_DTO, and a timestamp stands in ODT 0 alone.
 use Rattle.std.specs.Prelude.{ℕ, ◌+◌, ◌<◌, ◌≤◌, ◌==◌, ◌&&◌, Bool, if◌then◌else◌}
-use Rattle.std.specs.Prelude.{All, List, [], ◌∷◌, ◌++◌, length}
+use Rattle.std.specs.Prelude.{All, List, length}
 use Rattle.xcp_base.specs.declared.limits.TheConstants.{MAX_DTO}
 use Rattle.xcp_base.specs.declared.packet_form.PacketForm.{PacketForm}
 use Rattle.xcp_base.specs.declared.stamp_size.StampSize.{StampSize}
@@ -16,18 +16,6 @@ pub record IsPacket (packet : List ℕ) : Type 0 where
 -- each has 1 to MAX_DTO bytes
 abbrev pub ArePackets : List (List ℕ) → Type 0
 ArePackets packets = All IsPacket packets
-
--- the last packet; where there is none, no bytes
-abbrev pub last_packet : List (List ℕ) → List ℕ
-last_packet [] = []
-last_packet (q ∷ []) = q
-last_packet (_ ∷ r ∷ qs) = last_packet (r ∷ qs)
-
--- the packets, the last one of them longer by some bytes
-abbrev pub with_longer_last : List (List ℕ) → List ℕ → List (List ℕ)
-with_longer_last [] bytes = []
-with_longer_last (q ∷ []) bytes = (q ++ bytes) ∷ []
-with_longer_last (q ∷ r ∷ qs) bytes = q ∷ with_longer_last (r ∷ qs) bytes
 
 -- the bytes of the timestamp in the packet of ODT k: there is one in ODT 0 of a stamped list
 abbrev pub stamp_len : StampSize → Bool → ℕ → ℕ

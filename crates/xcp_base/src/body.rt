@@ -1,8 +1,9 @@
-ghost use Rattle.std.specs.Prelude.{◌≡◌, ◌+◌, ◌<◌, ◌≤◌, [], ◌++◌, All, length, slice_index};
-ghost use Rattle.std.specs.Prelude.{slice_range, slice_set, take};
+ghost use Rattle.std.specs.Prelude.{◌≡◌, ◌+◌, ◌<◌, ◌≤◌, [], ◌∷◌, ◌++◌, All, length};
+ghost use Rattle.std.specs.Prelude.{slice_range, take};
 ghost use Rattle.xcp_base.specs.Copied.{AreStretches, HasSize, IsSpanInside, copied};
+ghost use Rattle.xcp_base.specs.Copied.{copied_packet};
 
-use crate::limits::MAX_BODY;
+use crate::limits::{MAX_BODY, MAX_DTO};
 use crate::span::Span;
 use crate::stretch::Stretch;
 use std::marker::Model;
@@ -69,15 +70,6 @@ impl Body {
         self.len = 0;
     }
 
-    /// Raises a byte by a number.
-    pub(crate) fn raise(&mut self, at: usize, by: u8)
-        requires at { at < length self.old }
-        requires fits { slice_index self.old at + by < 256 }
-        ensures { self.new ≡ slice_set self.old at (slice_index self.old at + by) }
-    {
-        self.cells[at] += by;
-    }
-
     /// Appends bytes, for which there is room.
     pub(crate) fn extend(&mut self, bytes: &[u8])
         requires room { length self.old + length bytes.now ≤ MAX_BODY }
@@ -88,20 +80,57 @@ impl Body {
         put_by_size(&mut self.cells, start, bytes);
     }
 
-    /// Appends what spans copy of an image, for which there is room; `stretches` has their sizes.
-    pub(crate) fn extend_by_stretches(
+    /// Appends a packet, for which there is room, behind its length: the field, the timestamp, and
+    /// what spans copy of an image; `stretches` has their sizes.
+    pub(crate) fn extend_by_packet(
         &mut self,
+        field: &[u8],
+        stamp: &[u8],
         image: &[u8],
         spans: &[Span],
         stretches: &[Stretch],
     )
         requires inside { All (IsSpanInside (length image.now)) spans.now }
         requires sizes { AreStretches stretches.now spans.now }
-        requires room { length self.old + length (copied image.now spans.now) ≤ MAX_BODY }
-        ensures { self.new ≡ self.old ++ copied image.now spans.now }
+        requires room { length self.old
+            + length (copied_packet field.now stamp.now image.now spans.now) < MAX_BODY }
+        requires fits { length (copied_packet field.now stamp.now image.now spans.now) ≤ MAX_DTO }
+        ensures { self.new
+            ≡ self.old ++ length (copied_packet field.now stamp.now image.now spans.now)
+            ∷ copied_packet field.now stamp.now image.now spans.now }
     {
-        self.len = put_stretches(&mut self.cells, self.len, image, spans, stretches);
+        let start = self.len;
+        let at = start + 1;
+        let end = put_packet(&mut self.cells, at, field, stamp, image, spans, stretches);
+        self.cells[start] = (end - at) as u8;
+        self.len = end;
     }
+}
+
+/// Writes a packet from a place on: a field, a timestamp, and what spans copy of an image. It
+/// answers where the packet ends.
+fn put_packet(
+    cells: &mut [u8; MAX_BODY],
+    start: usize,
+    field: &[u8],
+    stamp: &[u8],
+    image: &[u8],
+    spans: &[Span],
+    stretches: &[Stretch],
+) -> usize
+    requires inside { All (IsSpanInside (length image.now)) spans.now }
+    requires sizes { AreStretches stretches.now spans.now }
+    requires room { start + length (copied_packet field.now stamp.now image.now spans.now)
+        ≤ MAX_BODY }
+    ensures end { result
+        ≡ start + length (copied_packet field.now stamp.now image.now spans.now) }
+    ensures front { take result cells.new
+        ≡ take start cells.old ++ copied_packet field.now stamp.now image.now spans.now }
+{
+    put_by_size(cells, start, field);
+    let behind = start + field.len();
+    put_by_size(cells, behind, stamp);
+    put_stretches(cells, behind + stamp.len(), image, spans, stretches)
 }
 
 /// Writes what spans copy of an image from a place on, stretch by stretch, and answers where it
@@ -220,34 +249,43 @@ fn put_spans(cells: &mut [u8; MAX_BODY], start: usize, image: &[u8], spans: &[Sp
     at
 }
 
-/// Writes bytes from a place on: those of the sizes that most entries, and identification fields,
-/// have by their size.
+/// Writes bytes from a place on: those of the sizes that identification fields and timestamps have
+/// by their size.
 #[inline]
 fn put_by_size(cells: &mut [u8; MAX_BODY], start: usize, bytes: &[u8])
     requires room { start + length bytes.now ≤ MAX_BODY }
     ensures front { take (start + length bytes.now) cells.new ≡ take start cells.old ++ bytes.now }
 {
-    if bytes.len() == 4 {
-        put(cells, start, &bytes[..4]);
-        return;
-    }
-    if bytes.len() == 2 {
-        put(cells, start, &bytes[..2]);
+    if bytes.is_empty() {
         return;
     }
     if bytes.len() == 1 {
-        put(cells, start, &bytes[..1]);
+        put_whole::<1>(cells, start, bytes);
+        return;
+    }
+    if bytes.len() == 2 {
+        put_whole::<2>(cells, start, bytes);
         return;
     }
     if bytes.len() == 3 {
-        put(cells, start, &bytes[..3]);
+        put_whole::<3>(cells, start, bytes);
         return;
     }
-    if bytes.len() == 8 {
-        put(cells, start, &bytes[..8]);
+    if bytes.len() == 4 {
+        put_whole::<4>(cells, start, bytes);
         return;
     }
     put(cells, start, bytes);
+}
+
+/// Writes bytes, of which there are N, from a place on.
+#[inline]
+fn put_whole<const N: usize>(cells: &mut [u8; MAX_BODY], start: usize, bytes: &[u8])
+    requires size { length bytes.now ≡ N }
+    requires room { start + N ≤ MAX_BODY }
+    ensures front { take (start + length bytes.now) cells.new ≡ take start cells.old ++ bytes.now }
+{
+    put_number(cells, start, &bytes_at::<N>(bytes, 0));
 }
 
 /// Writes bytes from a place on.

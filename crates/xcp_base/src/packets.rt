@@ -1,11 +1,11 @@
 ghost use Rattle.std.specs.Prelude.{◌≡◌, ℕ, ◌<◌, ◌≤◌, ◌+◌, List, [], ◌∷◌, ◌++◌, ◌↔◌, IfSome};
 ghost use Rattle.std.specs.Prelude.{true, false, All, IsNone, IsOk, OnErr, OnOk, drop, length};
-ghost use Rattle.std.specs.Prelude.{slice_get, slice_index, slice_set, take};
+ghost use Rattle.std.specs.Prelude.{slice_get, slice_index, take};
 ghost use Rattle.std.specs.Option.{option_copied};
 ghost use Rattle.xcp_base.specs.Bodies.{IsBodyOf, body_of};
-ghost use Rattle.xcp_base.specs.Copied.{AreStretches, IsSpanInside, copied};
-ghost use Rattle.xcp_base.specs.Inner.{BeginsWithPacket, EndsAt, HasLast};
-ghost use Rattle.xcp_base.specs.Packets.{ArePackets, IsPacket, last_packet, with_longer_last};
+ghost use Rattle.xcp_base.specs.Copied.{AreStretches, IsSpanInside, copied_packet};
+ghost use Rattle.xcp_base.specs.Inner.{BeginsWithPacket, EndsAt, HasPackets};
+ghost use Rattle.xcp_base.specs.Packets.{ArePackets, IsPacket};
 
 use crate::body::Body;
 use crate::limits::{MAX_BODY, MAX_DTO, MAX_ODTS};
@@ -26,7 +26,6 @@ pub struct Full;
 pub struct Packets {
     body: Body,
     count: usize,
-    last: usize,
 }
 
 impl Model for Packets {
@@ -49,7 +48,6 @@ impl Packets {
         Packets {
             body: Body::new(),
             count: 0,
-            last: 0,
         }
     }
 
@@ -60,7 +58,6 @@ impl Packets {
         Packets {
             body: self.body.copied(),
             count: self.count,
-            last: self.last,
         }
     }
 
@@ -71,7 +68,6 @@ impl Packets {
     {
         self.body.clear();
         self.count = 0;
-        self.last = 0;
     }
 
     /// The number of packets.
@@ -93,44 +89,36 @@ impl Packets {
         ensures full { OnErr result (length self.old ≡ MAX_ODTS) }
         ensures err { OnErr result (self.new ≡ self.old) }
     {
+        self.push_copied(packet, &[], &[], &[], &[])
+    }
+
+    /// Appends a packet of an identification field, a timestamp, which may have no bytes, and what
+    /// spans copy of an image; `stretches` has the sizes of the spans. Refused as `push` is.
+    pub fn push_copied(
+        &mut self,
+        field: &[u8],
+        stamp: &[u8],
+        image: &[u8],
+        spans: &[Span],
+        stretches: &[Stretch],
+    ) -> Result<(), Full>
+        requires not_empty { 0 < length field.now }
+        requires inside { All (IsSpanInside (length image.now)) spans.now }
+        requires sizes { AreStretches stretches.now spans.now }
+        requires fits { length (copied_packet field.now stamp.now image.now spans.now) ≤ MAX_DTO }
+        ensures succeeds { IsOk result ↔ (length self.old < MAX_ODTS) }
+        ensures ok { OnOk result (self.new
+            ≡ self.old ++ copied_packet field.now stamp.now image.now spans.now ∷ []) }
+        ensures full { OnErr result (length self.old ≡ MAX_ODTS) }
+        ensures err { OnErr result (self.new ≡ self.old) }
+    {
         if self.count == MAX_ODTS {
             return Err(Full);
         }
-        let last = self.body.len();
-        append(&mut self.body, packet);
+        self.body
+            .extend_by_packet(field, stamp, image, spans, stretches);
         self.count += 1;
-        self.last = last;
         Ok(())
-    }
-
-    /// Appends bytes to the last packet, which is there and stays within `MAX_DTO` bytes.
-    pub fn append(&mut self, bytes: &[u8])
-        requires some { 0 < length self.old }
-        requires fits { length (last_packet self.old) + length bytes.now ≤ MAX_DTO }
-        ensures { self.new ≡ with_longer_last self.old bytes.now }
-    {
-        let span = Span {
-            start: 0,
-            end: bytes.len(),
-        };
-        let stretch = Stretch {
-            size: bytes.len(),
-            count: 1,
-        };
-        self.append_stretches(bytes, &[span], &[stretch]);
-    }
-
-    /// Appends what spans copy of an image to the last packet, which is there and stays within
-    /// `MAX_DTO` bytes; `stretches` has the sizes of the spans.
-    pub fn append_stretches(&mut self, image: &[u8], spans: &[Span], stretches: &[Stretch])
-        requires some { 0 < length self.old }
-        requires inside { All (IsSpanInside (length image.now)) spans.now }
-        requires sizes { AreStretches stretches.now spans.now }
-        requires fits { length (last_packet self.old) + length (copied image.now spans.now)
-            ≤ MAX_DTO }
-        ensures { self.new ≡ with_longer_last self.old (copied image.now spans.now) }
-    {
-        lengthen(&mut self.body, self.last, image, spans, stretches);
     }
 
     /// The packets, one behind another, each behind a byte that has its length.
@@ -154,13 +142,12 @@ impl Packets {
         if count > MAX_ODTS {
             return false;
         }
-        let Some(last) = last_in(body, count) else {
+        if !is_body_of(body, count) {
             return false;
-        };
+        }
         self.body.clear();
         self.body.extend(body);
         self.count = count;
-        self.last = last;
         true
     }
 
@@ -191,35 +178,6 @@ impl Packets {
     }
 }
 
-/// Appends a packet behind its length.
-fn append(body: &mut Body, packet: &[u8])
-    requires room { length body.old + length packet.now < MAX_BODY }
-    requires fits { length packet.now ≤ MAX_DTO }
-    ensures { body.new ≡ body.old ++ length packet.now ∷ packet.now }
-{
-    body.extend(&[packet.len() as u8]);
-    body.extend(packet);
-}
-
-/// Appends what spans copy of an image to the packet that stands last in a body, whose length
-/// stands at `last`.
-fn lengthen(body: &mut Body, last: usize, image: &[u8], spans: &[Span], stretches: &[Stretch])
-    requires at { last < length body.old }
-    requires inside { All (IsSpanInside (length image.now)) spans.now }
-    requires sizes { AreStretches stretches.now spans.now }
-    requires room { length body.old + length (copied image.now spans.now) ≤ MAX_BODY }
-    requires fits { slice_index body.old last + length (copied image.now spans.now) ≤ MAX_DTO }
-    ensures { body.new
-        ≡ slice_set body.old last
-        (slice_index body.old last + length (copied image.now spans.now))
-        ++ copied image.now spans.now }
-{
-    let before = body.len();
-    body.extend_by_stretches(image, spans, stretches);
-    let more = body.len() - before;
-    body.raise(last, more as u8);
-}
-
 /// Where the packet ends that begins at `start`, behind its length; `None` where there is none.
 fn packet_end(body: &[u8], start: usize) -> Option<usize>
     ensures some { IfSome result (λ end. EndsAt body.now start end) }
@@ -238,22 +196,22 @@ fn packet_end(body: &[u8], start: usize) -> Option<usize>
     Some(start + 1 + len)
 }
 
-/// Where the last of the packets begins that have this body, of which there are so many; `None`
-/// where it is no such body.
-fn last_in(body: &[u8], count: usize) -> Option<usize>
-    ensures some { IfSome result (λ last. HasLast count last body.now) }
-    ensures none { IsNone result → (qs : List (List ℕ)) → ¬ IsBodyOf count body.now qs }
+/// Whether bytes are the body of so many packets.
+fn is_body_of(body: &[u8], count: usize) -> bool
+    ensures yes { result ≡ true → HasPackets count body.now }
+    ensures no { result ≡ false → (qs : List (List ℕ)) → ¬ IsBodyOf count body.now qs }
 {
-    let mut last = 0;
     let mut end = 0;
     for _ in 0..count {
-        last = end;
-        end = packet_end(body, end)?;
+        let Some(next) = packet_end(body, end) else {
+            return false;
+        };
+        end = next;
     }
     if end < body.len() {
-        return None;
+        return false;
     }
-    Some(last)
+    true
 }
 
 /// The packet that stands first in a body.

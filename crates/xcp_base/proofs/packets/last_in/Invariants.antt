@@ -1,6 +1,0 @@
-use Rattle.xcp_base.specs.Inner.{HasFront}
-use Rattle.xcp_base.proofs.packets.last_in.Given as goal
-
--- the packets so far
-abbrev pub invariant-loop : goal.invariant-loop
-invariant-loop l = HasFront l.counter l.last l.end l.body
