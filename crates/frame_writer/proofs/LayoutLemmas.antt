@@ -2,8 +2,7 @@
 use Rattle.std.proofs.Common.{◌≡◌, ℕ, ◌+◌, ◌-◌, ◌*◌, ◌%◌, ◌≤◌, List, [], ◌∷◌, ◌++◌, drop, length, map, take, false, true, refl, sym, ap, ◌∙◌, arith, append_assoc, append-nil, length-append, Bor}
 use Rattle.std.proofs.lemmas.List.{drop-drop, drop-take, length-map, length-take-le, map_push}
 use Rattle.std.proofs.Math.Seq.{drop-append_seam}
-use Rattle.std.proofs.lemmas.List.Elements.{All-head, All-tail}
-use Rattle.xcp_base.specs.Packets.{ArePackets, IsPacket}
+use Rattle.xcp_base.specs.Bodies.{body_of}
 use Rattle.frame_writer.specs.Frame.{frame, text}
 use Rattle.frame_writer.specs.Inner.{BreaksOffAfter, ReachesInto, text_len}
 use Rattle.frame_writer.specs.Writing.{FailsWithinText, WriterState, after_text}
@@ -41,12 +40,16 @@ pub length-text : (n : ℕ) (qs : List (List ℕ)) → length (text n qs) ≡ te
 length-text n [] = refl
 length-text n (q ∷ qs) = omega (arith, length-text (n + 1) qs, length-append (frame n q) (text (n + 1) qs))
 
--- there is room for one frame more of those that a sample may have
-pub room_for : (done left : List (List ℕ)) (q : List ℕ) → ArePackets (done ++ q ∷ left) → text_len done + 68 * (length left + 1) ≤ 68 * length (done ++ q ∷ left)
-room_for [] left q each = omega arith
-room_for (x ∷ done) left q each =
-    let fits : length x ≤ 64 = (All-head IsPacket x (done ++ q ∷ left) each).fits in
-    omega (arith, fits, room_for done left q (All-tail IsPacket x (done ++ q ∷ left) each))
+-- what the frames of some packets have, of one, and of those behind it
+pub text_len-parts : (done left : List (List ℕ)) (q : List ℕ) → text_len (done ++ q ∷ left) ≡ text_len done + 4 + length q + text_len left
+text_len-parts [] left q = omega arith
+text_len-parts (x ∷ done) left q = omega (arith, text_len-parts done left q)
+
+-- a body has a byte for each packet where its frame has four
+pub text_len-body : (qs : List (List ℕ)) → text_len qs ≡ length (body_of qs) + 3 * length qs
+unfolding body_of
+text_len-body [] = omega arith
+text_len-body (q ∷ qs) = omega (arith, text_len-body qs, length-append q (body_of qs))
 
 -- the writer failed within what is written of packets, and the counter rose by the whole frames
 pub fails_within_text : (a b : WriterState) (qs : List (List ℕ)) (taken count : ℕ) → BreaksOffAfter taken a.out b.out (text a.counter qs) → ReachesInto qs taken count → b.counter ≡ (a.counter + count) % 65536 → a.closed ≡ false → b.closed ≡ true → FailsWithinText a b qs
@@ -81,13 +84,6 @@ fails_within_text a b qs taken count off into counter was_open closed =
 pub behind-next : (n end last : ℕ) (start before now : List ℕ) → drop last now ≡ drop last before → last ≡ end + n → drop end before ≡ drop end start → drop last now ≡ drop last start
 behind-next n end last start before now behind is was =
     behind ∙ ap (λ k. drop k before) is ∙ sym (drop-drop n end before) ∙ ap (drop n) was ∙ drop-drop n end start ∙ ap (λ k. drop k start) (sym is)
-
--- packets of a sample take up so many bytes at most
-pub few_bytes : (qs : List (List ℕ)) → ArePackets qs → text_len qs ≤ 68 * length qs
-few_bytes [] each = omega arith
-few_bytes (q ∷ qs) each =
-    let fits : length q ≤ 64 = (All-head IsPacket q qs each).fits in
-    omega (arith, fits, few_bytes qs (All-tail IsPacket q qs each))
 
 -- what was written from `at` on
 pub written_part : (at end : ℕ) (room old part : List ℕ) → at ≤ length old → at ≤ end → take end room ≡ take at old ++ part → take (end - at) (drop at room) ≡ part

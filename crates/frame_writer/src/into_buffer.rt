@@ -1,9 +1,10 @@
 //! The packets of a sample, laid out where their frames are wanted.
 ghost use Rattle.std.specs.Prelude.{◌≡◌, ◌+◌, ◌≤◌, ◌++◌, drop, false, length, take};
 ghost use Rattle.frame_writer.specs.Frame.{text};
+ghost use Rattle.frame_writer.specs.Inner.{text_len};
 ghost use Rattle.frame_writer.specs.Writing.{after_text, state_of};
 
-use crate::layout::{MAX_SAMPLE_BYTES, place_text};
+use crate::layout::{MAX_SAMPLE_BYTES, place_text, text_len};
 use crate::out::Out;
 use crate::sink_out::SinkOut;
 use crate::writer::FrameWriter;
@@ -12,6 +13,7 @@ use xcp_base::Packets;
 impl FrameWriter<SinkOut> {
     ghost use Rattle.std.specs.Prelude.{◌≡◌, ◌+◌, ◌≤◌, ◌++◌, drop, false, length, take};
     ghost use Rattle.frame_writer.specs.Frame.{text};
+    ghost use Rattle.frame_writer.specs.Inner.{text_len};
     ghost use Rattle.frame_writer.specs.Writing.{after_text, state_of};
 
     /// `send_all`, and lays the frames out in a buffer, from `at` on; answers where they end. So
@@ -26,6 +28,23 @@ impl FrameWriter<SinkOut> {
         ensures end { result ≡ at
             + length (text (state_of ⟦<SinkOut as Out>⟧ self.old).counter packets.now) }
         ensures within { result ≤ at + MAX_SAMPLE_BYTES }
+        ensures behind { drop result buffer.new ≡ drop result buffer.old }
+        ensures len { length buffer.new ≡ length buffer.old }
+    {
+        // for the proof: so many bytes are few
+        text_len(packets);
+        self.lay_out(buffer, at, packets)
+    }
+
+    /// The same in a buffer that has room for these frames.
+    pub(crate) fn lay_out(&mut self, buffer: &mut [u8], at: usize, packets: &Packets) -> usize
+        requires was_open { (state_of ⟦<SinkOut as Out>⟧ self.old).closed ≡ false }
+        requires room { at + text_len packets.now ≤ length buffer.old }
+        ensures sent { state_of ⟦<SinkOut as Out>⟧ self.new
+            ≡ after_text (state_of ⟦<SinkOut as Out>⟧ self.old) packets.now }
+        ensures frames { take result buffer.new ≡ take at buffer.old
+            ++ text (state_of ⟦<SinkOut as Out>⟧ self.old).counter packets.now }
+        ensures end { result ≡ at + text_len packets.now }
         ensures behind { drop result buffer.new ≡ drop result buffer.old }
         ensures len { length buffer.new ≡ length buffer.old }
     {

@@ -37,7 +37,7 @@ pub fn place(room: &mut [u8], at: usize, bytes: &[u8]) -> usize
 /// Writes the frame of a packet from `at` on, and answers where it ends.
 pub fn place_frame(room: &mut [u8], at: usize, counter: u16, packet: &[u8]) -> usize
     requires fits { length packet.now ≤ MAX_DTO }
-    requires room { at + MAX_FRAME ≤ length room.old }
+    requires room { at + 4 + length packet.now ≤ length room.old }
     ensures frame { take result room.new ≡ take at room.old ++ frame counter packet.now }
     ensures end { result ≡ at + 4 + length packet.now }
     ensures behind { drop result room.new ≡ drop result room.old }
@@ -51,10 +51,9 @@ pub fn place_frame(room: &mut [u8], at: usize, counter: u16, packet: &[u8]) -> u
 /// Writes the frames of packets from `at` on, the first of them with this counter, and answers
 /// where they end.
 pub fn place_text(room: &mut [u8], at: usize, counter: u16, packets: &Packets) -> usize
-    requires room { at + MAX_SAMPLE_BYTES ≤ length room.old }
+    requires room { at + text_len packets.now ≤ length room.old }
     ensures text { take result room.new ≡ take at room.old ++ text counter packets.now }
     ensures end { result ≡ at + text_len packets.now }
-    ensures within { result ≤ at + MAX_SAMPLE_BYTES }
     ensures behind { drop result room.new ≡ drop result room.old }
     ensures len { length room.new ≡ length room.old }
 {
@@ -65,6 +64,15 @@ pub fn place_text(room: &mut [u8], at: usize, counter: u16, packets: &Packets) -
         next = next.wrapping_add(1);
     }
     end
+}
+
+/// How many bytes the frames of packets have: of each packet its length, LEN and CTR, where a body
+/// has its length in one byte.
+pub fn text_len(packets: &Packets) -> usize
+    ensures value { result ≡ text_len packets.now }
+    ensures limit { result ≤ MAX_SAMPLE_BYTES }
+{
+    packets.body().len() + 3 * packets.len()
 }
 
 /// How many of the packets' frames are whole in the first `taken` bytes of what is written of them.

@@ -2,7 +2,7 @@
 ghost use Rattle.std.specs.Prelude.{◌≡◌, ◌↔◌, false, true, IsErrOf, OnOk};
 ghost use Rattle.frame_writer.specs.Writing.{FailsWithinText, after_text, state_of};
 
-use crate::layout::{place_text, whole_frames};
+use crate::layout::{place_text, text_len, whole_frames};
 use crate::out::Out;
 use crate::writer::{FrameWriter, WriteFault, put_all};
 use xcp_base::Packets;
@@ -30,6 +30,8 @@ impl<O: Out> FrameWriter<O> {
         if self.closed {
             return Err(WriteFault::Closed);
         }
+        // for the proof: so many bytes are few
+        text_len(packets);
         let end = place_text(&mut self.room, 0, self.counter, packets);
         let taken = put_all(&mut self.out, &self.room[..end]);
         if taken < end {

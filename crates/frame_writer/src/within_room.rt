@@ -4,7 +4,7 @@ ghost use Rattle.std.specs.Prelude.{IfSome};
 ghost use Rattle.frame_writer.specs.Frame.{text};
 ghost use Rattle.frame_writer.specs.Writing.{after_text, state_of};
 
-use crate::layout::{MAX_SAMPLE_BYTES, place, place_text};
+use crate::layout::{MAX_SAMPLE_BYTES, text_len};
 use crate::out::Out;
 use crate::sink_out::SinkOut;
 use crate::writer::FrameWriter;
@@ -39,40 +39,9 @@ impl FrameWriter<SinkOut> {
             → state_of ⟦<SinkOut as Out>⟧ self.new ≡ state_of ⟦<SinkOut as Out>⟧ self.old }
         ensures buffer_stays { result ≡ None → buffer.new ≡ buffer.old }
     {
-        if buffer.len() - at >= MAX_SAMPLE_BYTES {
-            return Some(self.send_into(buffer, at, packets));
-        }
-        self.send_by_copy(buffer, at, packets)
-    }
-
-    /// The same by way of the room of this writer, where there is room for any sample's frames.
-    fn send_by_copy(&mut self, buffer: &mut [u8], at: usize, packets: &Packets) -> Option<usize>
-        requires was_open { (state_of ⟦<SinkOut as Out>⟧ self.old).closed ≡ false }
-        requires inside { at ≤ length buffer.old }
-        ensures sent { IfSome result (λ _. state_of ⟦<SinkOut as Out>⟧ self.new
-            ≡ after_text (state_of ⟦<SinkOut as Out>⟧ self.old) packets.now) }
-        ensures frames { IfSome result (λ end. take end buffer.new ≡ take at buffer.old
-            ++ text (state_of ⟦<SinkOut as Out>⟧ self.old).counter packets.now) }
-        ensures end { IfSome result (λ end. end ≡ at
-            + length (text (state_of ⟦<SinkOut as Out>⟧ self.old).counter packets.now)) }
-        ensures few { IfSome result (λ end. end ≤ at + MAX_SAMPLE_BYTES) }
-        ensures inside { IfSome result (λ end. end ≤ length buffer.old) }
-        ensures behind { IfSome result (λ end. drop end buffer.new ≡ drop end buffer.old) }
-        ensures len { length buffer.new ≡ length buffer.old }
-
-        ensures too_long { result ≡ None → length buffer.old
-            < at + length (text (state_of ⟦<SinkOut as Out>⟧ self.old).counter packets.now) }
-        ensures stays { result ≡ None
-            → state_of ⟦<SinkOut as Out>⟧ self.new ≡ state_of ⟦<SinkOut as Out>⟧ self.old }
-        ensures buffer_stays { result ≡ None → buffer.new ≡ buffer.old }
-    {
-        let len = place_text(&mut self.room, 0, self.counter, packets);
-        if buffer.len() - at < len {
+        if buffer.len() - at < text_len(packets) {
             return None;
         }
-        let end = place(buffer, at, &self.room[..len]);
-        self.out.log.note(&self.room[..len]);
-        self.counter = self.counter.wrapping_add(packets.len() as u16);
-        Some(end)
+        Some(self.lay_out(buffer, at, packets))
     }
 }

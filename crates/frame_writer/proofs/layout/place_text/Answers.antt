@@ -1,18 +1,16 @@
-use Rattle.std.proofs.Common.{◌≡◌, ◌+◌, ◌++◌, [], ◌∷◌, List, ℕ, length, sym, ap, ◌∙◌, subst, append-nil, append_assoc, arith, length-append, take}
-use Rattle.xcp_base.specs.Packets.{ArePackets}
+use Rattle.std.proofs.Common.{◌≡◌, ◌+◌, ◌++◌, [], ◌∷◌, List, ℕ, length, sym, ap, ◌∙◌, append_assoc, arith, length-append, take}
 use Rattle.frame_writer.specs.Frame.{frame, text}
 use Rattle.frame_writer.specs.Inner.{text_len}
-use Rattle.frame_writer.proofs.LayoutLemmas.{behind-next, few_bytes, given-next, packets_given, room_for, text-given, text_len-given}
+use Rattle.frame_writer.proofs.LayoutLemmas.{behind-next, given-next, packets_given, text-given, text_len-given, text_len-parts}
 use Rattle.frame_writer.proofs.layout.place_text.Goals as goal
 
--- eight frames have room, and this packet is one of eight at most
+-- this frame is one of those that have room
 pub place_frame-end-requires-clause-room : goal.place_frame-end-requires-clause-room
 place_frame-end-requires-clause-room c =
     let before = c.loop-packet.invariant in
     let done = packets_given c.loop-packet.yielded in
     let all : c.args.packets.now ≡ done ++ c.in-Some.packet.now ∷ c.next.new.self = sym before.packets ∙ ap (λ qs. done ++ qs) c.in-Some.ensures.steps in
-    let room = room_for done c.next.new.self c.in-Some.packet.now (subst ArePackets all c.iter-packet-items.ensures.each) in
-    omega (arith, room, before.end, before.len, ap length all, c.iter-packet-items.ensures.few, c.requires.room)
+    omega (arith, text_len-parts done c.next.new.self c.in-Some.packet.now, ap text_len all, before.end, before.len, c.requires.room)
 
 -- one frame more stands behind those before
 pub loop-packet-preserved : goal.loop-packet-preserved
@@ -33,12 +31,3 @@ loop-packet-preserved c =
       len = c.place_frame-end.ensures.len ∙ before.len;
       next = omega (arith, before.next, length-append given (q ∷ []));
     }
-
--- the frames of a sample's packets are few bytes
-pub returns-clause-within : goal.returns-clause-within
-returns-clause-within c =
-    let before = c.loop-packet.invariant in
-    let given = c.iter-packet-items.ensures in
-    let done = packets_given c.loop-packet.yielded in
-    let all : c.args.packets.now ≡ done = sym before.packets ∙ ap (λ qs. done ++ qs) c.in-None.ensures.steps.0 ∙ append-nil done in
-    omega (arith, before.end, ap text_len all, few_bytes c.args.packets.now given.each, given.few)
