@@ -7,8 +7,8 @@ use Rattle.std.proofs.lemmas.Bool.Decides.{eqb_tells}
 use Rattle.std.proofs.lemmas.List.Elements.{All-head, All-tail}
 use Rattle.xcp_base.specs.declared.limits.TheConstants.{MAX_BYTE_RING, MAX_SAMPLE_RING, MIN_BYTE_RING}
 use Rattle.run_file.specs.Limits.{HasLimits, IsCap}
-use Rattle.run_file.specs.declared.ring_kind.RingKind.{RingKind}
-use Rattle.run_file.specs.declared.ring_kind.RingKind.TheVariants.{Bytes, Samples}
+use Rattle.xcp_base.specs.declared.ring_kind.RingKind.{RingKind}
+use Rattle.xcp_base.specs.declared.ring_kind.RingKind.TheVariants.{Bytes, Samples}
 use Rattle.daq_engine.specs.Openings.{fit_caps_of, is_byte_cap, is_cap}
 use Rattle.daq_store.specs.declared.command.Command.{Command}
 use Rattle.daq_store.specs.Calls.{Profile}

@@ -8,8 +8,8 @@ use Rattle.daq_store.specs.Standing.{IsStore, StoreState}
 use Rattle.frame_writer.specs.Shown.{OutState}
 use Rattle.frame_writer.specs.Writing.{WriterState}
 use Rattle.run_file.specs.RunFile.{RunData}
-use Rattle.run_file.specs.declared.ring_kind.RingKind.{RingKind}
-use Rattle.run_file.specs.declared.ring_kind.RingKind.TheVariants.{Bytes, Samples}
+use Rattle.xcp_base.specs.declared.ring_kind.RingKind.{RingKind}
+use Rattle.xcp_base.specs.declared.ring_kind.RingKind.TheVariants.{Bytes, Samples}
 use Rattle.sampler.specs.History.{due}
 use Rattle.sampler.specs.Past.{Past}
 use Rattle.sampler.specs.Standing.{DropsOnlyWhenFull}

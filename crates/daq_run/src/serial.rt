@@ -16,8 +16,9 @@ use channel_ring::{Beside, RingEnd, SampleRing, SendEnd, TakeEnd};
 use daq_engine::{Engine, Ring, Unclosed};
 use daq_steps::{NoWatch, Watch, do_watched};
 use frame_writer::Out;
-use run_file::{RingKind, Run};
+use run_file::Run;
 use std::alloc::Global;
+use xcp_base::RingKind;
 
 /// Carries out a run in one thread: its set-up, whose replies are the first frames, then its steps
 /// in order on one engine, over rings of the run's kind, and at the end a drain if the run says

@@ -21,7 +21,7 @@ use byte_ring::ByteRing;
 use channel_ring::{RingEnd, SampleRing, SendEnd, TakeEnd};
 use daq_engine::{CloseFault, Ring, drain_and_close};
 use frame_writer::Out;
-use run_file::{RingKind, Run};
+use run_file::Run;
 use sampler::{Sampler, SamplerEnd};
 use std::alloc::Global;
 use std::snapshot::Snapshot;
@@ -29,6 +29,7 @@ use std::sync::Wait;
 use std::sync::atomic::AtomicBool;
 use std::thread::{self, PromisedHandle, Scope, Threads};
 use transmitter::Transmitter;
+use xcp_base::RingKind;
 
 /// A thread of a sampler.
 type Worker<'a, S> = PromisedHandle<Worked<<S as SendEnd>::End>, WillWork<'a, S>>;

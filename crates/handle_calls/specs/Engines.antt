@@ -23,8 +23,8 @@ use Rattle.handle_calls.specs.declared.content.Content.TheVariants.{Sampler as O
 use Rattle.handle_calls.specs.declared.content.Content.TheVariants.{ByteSampler as OfBytes, Store}
 use Rattle.handle_calls.specs.declared.pumping.TheConstants.{PUMP_BYTES}
 use Rattle.handle_calls.specs.declared.pumped_out.PumpedOut.{PumpedOut}
-use Rattle.handle_calls.specs.declared.ring_kind.RingKind.{RingKind}
-use Rattle.handle_calls.specs.declared.ring_kind.RingKind.TheVariants as kind
+use Rattle.xcp_base.specs.declared.ring_kind.RingKind.{RingKind}
+use Rattle.xcp_base.specs.declared.ring_kind.RingKind.TheVariants as kind
 use Rattle.handle_calls.specs.Kinds.{ring_of}
 use Rattle.handle_calls.specs.Lends.{Lends}
 use Rattle.handle_calls.specs.States.{ByteEngine, Bytes, EngineState, ItemEngine, Items}
@@ -183,7 +183,7 @@ module _ (items : Items) (bytes : Bytes) where
   -- what an engine is opened to over a store, and over rings of this kind
   abbrev pub OpensAs
       : Option RingKind → StoreState → List ℕ → Option Content → Status → Type 0
-  OpensAs (Some kind.Items) s caps new result =
+  OpensAs (Some kind.Samples) s caps new result =
       OpensOver items.out items.give items.send items.ring items.may_have
       OverItems s caps new result
   OpensAs (Some kind.Bytes) s caps new result =

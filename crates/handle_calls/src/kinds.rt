@@ -1,8 +1,7 @@
 ghost use Rattle.std.specs.Prelude.{◌≡◌};
 ghost use Rattle.handle_calls.specs.Kinds.{kind_of, ring_of};
 
-use crate::ring_kind::RingKind;
-use xcp_base::IdKind;
+use xcp_base::{IdKind, RingKind};
 
 /// The identification field with this number, which is that of `ng_id_kind` in `nerthogal.h`; there
 /// are those of 0, 1 and 2.
@@ -23,7 +22,7 @@ pub fn ring_numbered(number: u32) -> Option<RingKind>
     ensures { result ≡ ring_of number }
 {
     match number {
-        0 => Some(RingKind::Items),
+        0 => Some(RingKind::Samples),
         1 => Some(RingKind::Bytes),
         _ => None,
     }

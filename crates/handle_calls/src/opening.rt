@@ -14,7 +14,6 @@ use crate::handle::Handle;
 use crate::held_ring::HeldRing;
 use crate::kinds::ring_numbered;
 use crate::lending::Lending;
-use crate::ring_kind::RingKind;
 use crate::status::Status;
 use byte_ring::ByteRing;
 use channel_ring::{SampleRing, SendEnd, TakeEnd};
@@ -24,6 +23,7 @@ use frame_writer::{FrameWriter, Out, SinkOut};
 use sampler::Sampler;
 use std::alloc::{AllocError, Global};
 use transmitter::Transmitter;
+use xcp_base::RingKind;
 use xcp_base::limits::MAX_LISTS;
 
 /// An engine of what was opened.
@@ -86,7 +86,7 @@ fn opened_as(
         (Some kind) store.now caps.now None Status.Memory }
 {
     match kind {
-        RingKind::Items => match opened::<SampleRing>(alloc, store, caps) {
+        RingKind::Samples => match opened::<SampleRing>(alloc, store, caps) {
             Ok(engine) => Ok(Content::Engine(engine)),
             Err(status) => Err(status),
         },

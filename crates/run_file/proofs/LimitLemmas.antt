@@ -5,8 +5,9 @@ use Rattle.std.proofs.lemmas.List.Elements.{All-cons, All-nil, All-same}
 use Rattle.toml.specs.Data.{Data, Items, no_items, item, Members, as_array, as_integer, as_str, get_member}
 use Rattle.xcp_base.specs.declared.limits.TheConstants.{MAX_CHANNELS, MAX_IMAGE_LEN}
 use Rattle.run_file.specs.declared.limits.TheConstants.{MAX_COMMAND_LEN, MAX_PACKETS, MAX_STEPS}
-use Rattle.run_file.specs.Keys.{all_of, at_key, bounded, cap_in, caps_in, caps_of, if_length, least_cap, most_cap, number_in, texts_at, texts_in}
-use Rattle.run_file.specs.declared.ring_kind.RingKind.{RingKind}
+use Rattle.run_file.specs.Keys.{all_of, at_key, bounded, cap_in, caps_in, caps_of, if_length, number_in, texts_at, texts_in}
+use Rattle.xcp_base.specs.Rings.{least_cap, most_cap}
+use Rattle.xcp_base.specs.declared.ring_kind.RingKind.{RingKind}
 use Rattle.run_file.specs.Limits.{HasLimits, IsCap, IsStepWithin}
 use Rattle.run_file.specs.RunFile.{IsPacketText, IsRunText, RunData}
 use Rattle.run_file.specs.Steps.{IsStepText, StepData, trigger, start, stop, pump}

@@ -5,7 +5,7 @@ use Rattle.toml.specs.Parse.{parse_document}
 use Rattle.toml.proofs.OnLiterals.{toml_on_literals}
 use Rattle.hex.specs.Hex.{decode_of}
 use Rattle.hex.proofs.OnLiterals.{hex_on_literals}
-use Rattle.run_file.specs.declared.ring_kind.RingKind.TheVariants.{Bytes, Samples}
+use Rattle.xcp_base.specs.declared.ring_kind.RingKind.TheVariants.{Bytes, Samples}
 use Rattle.xcp_base.specs.declared.id_kind.IdKind.TheVariants.{RelativeWord}
 use Rattle.xcp_base.specs.declared.stamp_size.StampSize.TheVariants.{Two}
 use Rattle.xcp_base.specs.Forms.{usual_form}

@@ -11,12 +11,11 @@ use Rattle.xcp_base.specs.declared.stamp_size.StampSize.{StampSize}
 use Rattle.xcp_base.specs.declared.stamp_size.StampSize.TheVariants.{Four}
 use Rattle.xcp_base.specs.declared.packet_form.PacketForm.{PacketForm}
 use Rattle.xcp_base.specs.Forms.{size_of}
+use Rattle.xcp_base.specs.Rings.{least_cap, most_cap}
 use Rattle.xcp_base.specs.declared.limits.TheConstants.{MAX_CHANNELS, MAX_IMAGE_LEN, MAX_STAMP}
-use Rattle.xcp_base.specs.declared.limits.TheConstants.{MAX_BYTE_RING, MAX_SAMPLE_RING}
-use Rattle.xcp_base.specs.declared.limits.TheConstants.{MIN_BYTE_RING}
 use Rattle.run_file.specs.declared.limits.TheConstants.{MAX_PACKETS, MAX_STEPS}
-use Rattle.run_file.specs.declared.ring_kind.RingKind.{RingKind}
-use Rattle.run_file.specs.declared.ring_kind.RingKind.TheVariants.{Bytes, Samples}
+use Rattle.xcp_base.specs.declared.ring_kind.RingKind.{RingKind}
+use Rattle.xcp_base.specs.declared.ring_kind.RingKind.TheVariants.{Bytes, Samples}
 
 -- the keys of a run file
 abbrev pub keys : List (List ℕ)
@@ -65,15 +64,6 @@ read_items f test ds = option_and_then (if_length test) (all_of f ds)
 
 abbrev pub texts_in : ℕ → Items → Option (List (List ℕ))
 texts_in most ds = read_items as_str (λ n. nat_le n most) ds
-
--- the least and the greatest capacity of a ring
-abbrev pub least_cap : RingKind → ℕ
-least_cap Samples = 1
-least_cap Bytes = MIN_BYTE_RING
-
-abbrev pub most_cap : RingKind → ℕ
-most_cap Samples = MAX_SAMPLE_RING
-most_cap Bytes = MAX_BYTE_RING
 
 abbrev pub cap_in : RingKind → Data → Option ℕ
 cap_in kind d = number_in (least_cap kind) (most_cap kind) d

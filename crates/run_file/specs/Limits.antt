@@ -2,8 +2,8 @@
 use Rattle.std.specs.Prelude.{◌≡◌, ◌<◌, ◌≤◌, ◌^◌, ℕ, All, length, ⊤}
 use Rattle.xcp_base.specs.declared.limits.TheConstants.{MAX_CHANNELS, MAX_IMAGE_LEN}
 use Rattle.run_file.specs.declared.limits.TheConstants.{MAX_COMMAND_LEN, MAX_PACKETS, MAX_STEPS}
-use Rattle.run_file.specs.declared.ring_kind.RingKind.{RingKind}
-use Rattle.run_file.specs.Keys.{least_cap, most_cap}
+use Rattle.xcp_base.specs.declared.ring_kind.RingKind.{RingKind}
+use Rattle.xcp_base.specs.Rings.{least_cap, most_cap}
 use Rattle.run_file.specs.RunFile.{RunData}
 use Rattle.run_file.specs.Steps.{StepData, trigger, start, stop, pump}
 

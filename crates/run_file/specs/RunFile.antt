@@ -5,7 +5,7 @@ use Rattle.toml.specs.Data.{Members}
 use Rattle.toml.specs.Parse.{parse_document}
 use Rattle.xcp_base.specs.declared.packet_form.PacketForm.{PacketForm}
 use Rattle.run_file.specs.declared.limits.TheConstants.{MAX_COMMAND_LEN}
-use Rattle.run_file.specs.declared.ring_kind.RingKind.{RingKind}
+use Rattle.xcp_base.specs.declared.ring_kind.RingKind.{RingKind}
 use Rattle.run_file.specs.Keys.{AreKeyValues, HasBadKey, KeyValues}
 use Rattle.run_file.specs.Reading.{AreTextsOf, IsFirstBad}
 use Rattle.run_file.specs.Steps.{IsStepText, StepData}

@@ -9,11 +9,10 @@ ghost use Rattle.run_file.specs.Keys.{is_among, ring_in, ring_named, ring_of, st
 ghost use Rattle.run_file.specs.Keys.{texts_at, texts_in};
 ghost use Rattle.run_file.specs.Inner.{text_in};
 
-use crate::ring_kind::RingKind;
 use std::alloc::{AllocError, Global};
 use toml::{Table, Value};
 use xcp_base::limits::MAX_STAMP;
-use xcp_base::{IdKind, PacketForm, StampSize};
+use xcp_base::{IdKind, PacketForm, RingKind, StampSize};
 
 /// Whether each key of a table is one of a run file.
 pub fn are_keys(table: &Table) -> bool

@@ -6,7 +6,6 @@ mod kept;
 mod keys;
 pub mod laws;
 pub mod limits;
-mod ring_kind;
 mod run;
 mod run_fault;
 mod step;
@@ -18,7 +17,6 @@ mod wording;
 
 pub use bad_key::BadKey;
 pub use keys::{array_at, id_of, is_key, number_at, number_in, ring_of, stamp_of, texts_at};
-pub use ring_kind::RingKind;
 pub use run::Run;
 pub use run_fault::RunFault;
 pub use step::Step;

@@ -7,7 +7,6 @@ ghost use Rattle.run_file.specs.Lent.{step_data};
 ghost use Rattle.run_file.specs.Limits.{HasLimits};
 ghost use Rattle.run_file.specs.RunFile.{HasBadKeyText, HasBadSetup, HasBadStep, IsRunText};
 
-use crate::ring_kind::RingKind;
 use crate::run_fault::RunFault;
 use crate::step::Step;
 use crate::step_list::StepList;
@@ -16,7 +15,7 @@ use crate::values::values_of;
 use std::alloc::Global;
 use std::marker::Model;
 use toml::Table;
-use xcp_base::PacketForm;
+use xcp_base::{PacketForm, RingKind};
 
 /// A run, as a file tells it: the event channels, the length of the images, the form of the
 /// packets, the kind and the capacities of the rings, the command packets of the set-up, the steps,

@@ -7,12 +7,11 @@ ghost use Rattle.run_file.specs.Inner.{values_data};
 
 use crate::keys::{are_keys, array_at, caps_in, drain_of, form_of, number_at, ring_of, texts_at};
 use crate::limits::{MAX_PACKETS, MAX_STEPS};
-use crate::ring_kind::RingKind;
 use crate::run_fault::RunFault;
 use std::alloc::Global;
 use toml::{Table, Value};
-use xcp_base::PacketForm;
 use xcp_base::limits::{MAX_CHANNELS, MAX_IMAGE_LEN};
+use xcp_base::{PacketForm, RingKind};
 
 /// The values of the keys, each of its type and within its limits. Packets and steps are still
 /// texts.

@@ -10,8 +10,8 @@ use Rattle.daq_store.specs.Calls.{Profile as ListsProfile}
 use Rattle.session.specs.declared.profile.Profile.{Profile}
 use Rattle.session.specs.declared.profile.TheConstants.{ADDRESSES}
 use Rattle.session.specs.declared.event_channel.EventChannel.{EventChannel}
-use Rattle.session.specs.declared.profile.RingKind.{RingKind}
-use Rattle.session.specs.declared.profile.RingKind.TheVariants as ring
+use Rattle.xcp_base.specs.declared.ring_kind.RingKind.{RingKind}
+use Rattle.xcp_base.specs.declared.ring_kind.RingKind.TheVariants as ring
 use Rattle.session.specs.declared.profile.ProfileFault.{ProfileFault}
 use Rattle.session.specs.declared.profile.ProfileFault.TheVariants as fault
 

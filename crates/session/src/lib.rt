@@ -21,7 +21,7 @@ mod writes;
 pub use cto::Cto;
 pub use event_channel::EventChannel;
 pub use exchange::{Arrived, answer_all};
-pub use profile::{Profile, ProfileFault, RingKind};
+pub use profile::{Profile, ProfileFault};
 pub use request::Request;
 pub use session::Session;
 pub use set_up::SetUp;

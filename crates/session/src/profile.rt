@@ -8,16 +8,7 @@ use thiserror::Error;
 use xcp_base::limits::{
     MAX_BYTE_RING, MAX_CHANNELS, MAX_IMAGE_LEN, MAX_SAMPLE_RING, MAX_UNIT, MIN_BYTE_RING,
 };
-use xcp_base::{IdKind, StampSize};
-
-/// The kind of the rings between the tasks and the transmitter.
-#[derive(Clone, Copy, Debug, PartialEq, Eq)]
-pub enum RingKind {
-    /// Rings of samples: a capacity is in items.
-    Samples,
-    /// Rings of bytes: a capacity is in bytes.
-    Bytes,
-}
+use xcp_base::{IdKind, RingKind, StampSize};
 
 /// What a slave is opened with.
 #[derive(Debug, Drop)]
@@ -33,6 +24,7 @@ pub struct Profile {
     pub ticks: u16,
     /// The address of the image's first byte, as a master knows it.
     pub base: u32,
+    /// The kind of the rings between the tasks and the transmitter.
     pub ring: RingKind,
     /// 0 to 56 bytes of ASCII, 0x20 to 0x7E.
     pub name: Vec<u8>,

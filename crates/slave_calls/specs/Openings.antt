@@ -6,8 +6,8 @@ use Rattle.handle_calls.specs.declared.content.Content.TheVariants as held
 use Rattle.handle_calls.specs.declared.status.Status.{Status}
 use Rattle.handle_calls.specs.declared.status.Status.TheVariants as status
 use Rattle.session.specs.declared.profile.Profile.{Profile}
-use Rattle.session.specs.declared.profile.RingKind.{RingKind}
-use Rattle.session.specs.declared.profile.RingKind.TheVariants as ring
+use Rattle.xcp_base.specs.declared.ring_kind.RingKind.{RingKind}
+use Rattle.xcp_base.specs.declared.ring_kind.RingKind.TheVariants as ring
 use Rattle.task_lending.specs.Lends.{IsOpenedWith}
 use Rattle.slave_calls.specs.Profiles.{IsGoodProfileOf, IsOutOfLimits}
 use Rattle.slave_calls.specs.declared.profile_in.EventIn.{EventIn}

@@ -1,16 +1,12 @@
 -- The profile that C asks for.
 use Rattle.std.specs.Prelude.{◌≡◌, ◌≢◌, ◌⊎◌, ℕ, ◌==◌, if◌then◌else◌, List, [], ◌∷◌, map}
-use Rattle.std.specs.Prelude.{Some, None, option_map}
+use Rattle.std.specs.Prelude.{Some, None}
 use Rattle.handle_calls.specs.Kinds.{kind_of, ring_of}
-use Rattle.handle_calls.specs.declared.ring_kind.RingKind.{RingKind as AskedRing}
-use Rattle.handle_calls.specs.declared.ring_kind.RingKind.TheVariants as asked
 use Rattle.handle_calls.specs.declared.status.Status.{Status}
 use Rattle.handle_calls.specs.declared.status.Status.TheVariants as status
 use Rattle.session.specs.Profiles.{profile_fault}
 use Rattle.session.specs.declared.event_channel.EventChannel.{EventChannel}
 use Rattle.session.specs.declared.profile.Profile.{Profile}
-use Rattle.session.specs.declared.profile.RingKind.{RingKind}
-use Rattle.session.specs.declared.profile.RingKind.TheVariants as ring
 use Rattle.slave_calls.specs.declared.profile_in.EventIn.{EventIn}
 use Rattle.slave_calls.specs.declared.profile_in.ProfileIn.{ProfileIn}
 
@@ -46,11 +42,6 @@ told_of e = record {
   priority = e.priority;
 }
 
--- the kind of rings, in a profile
-abbrev pub session_ring : AskedRing → RingKind
-session_ring asked.Items = ring.Samples
-session_ring asked.Bytes = ring.Bytes
-
 -- this is the profile that is asked for
 pub record IsProfileOf (p : ProfileIn) (events : List EventIn) (d : Profile) : Type 0 where
   pub image_len : d.image_len ≡ p.image_len
@@ -59,7 +50,7 @@ pub record IsProfileOf (p : ProfileIn) (events : List EventIn) (d : Profile) : T
   pub unit : d.unit ≡ p.unit
   pub ticks : d.ticks ≡ p.ticks
   pub base : d.base ≡ p.base
-  pub rings : option_map session_ring (ring_of p.ring) ≡ Some d.ring
+  pub rings : ring_of p.ring ≡ Some d.ring
   pub name : d.name.items ≡ text_of p.name
   pub channels : map told_of d.events.items ≡ map told_in events
 

@@ -8,9 +8,10 @@ use crate::profiles::good_profile;
 use byte_ring::ByteRing;
 use channel_ring::SampleRing;
 use handle_calls::{Content, Handle, HeldRing, Status};
-use session::{Profile, RingKind};
+use session::Profile;
 use std::alloc::Global;
 use task_lending::LendingSlave;
+use xcp_base::RingKind;
 
 /// A slave with this profile, over its kind of rings, as a handle holds it.
 fn opened_as(alloc: Global, profile: Profile) -> Result<Content, Status>

@@ -1,7 +1,7 @@
 //! The profile that is asked for.
 ghost use Rattle.std.specs.Prelude.{◌≡◌, IfErr, IfOk, map};
 ghost use Rattle.slave_calls.specs.Profiles.{IsGoodProfileOf, IsProfileOf, RefusesProfile};
-ghost use Rattle.slave_calls.specs.Profiles.{session_ring, text_of, told_in, told_of};
+ghost use Rattle.slave_calls.specs.Profiles.{text_of, told_in, told_of};
 
 use crate::profile_in::{EventIn, ProfileIn};
 use handle_calls::{Status, kind_numbered, ring_numbered};
@@ -48,16 +48,6 @@ fn events_of(alloc: Global, events: &[EventIn]) -> Result<Vec<EventChannel>, All
     Ok(made)
 }
 
-/// The kind of rings, in a profile.
-fn session_ring(ring: handle_calls::RingKind) -> session::RingKind
-    ensures { result ≡ session_ring ring }
-{
-    match ring {
-        handle_calls::RingKind::Items => session::RingKind::Samples,
-        handle_calls::RingKind::Bytes => session::RingKind::Bytes,
-    }
-}
-
 /// The profile that is asked for, if there are such an identification field and such rings.
 fn profile_of(alloc: Global, asked: &ProfileIn, events: &[EventIn]) -> Result<Profile, Status>
     ensures ok { IfOk result (IsProfileOf asked.now events.now) }
@@ -82,7 +72,7 @@ fn profile_of(alloc: Global, asked: &ProfileIn, events: &[EventIn]) -> Result<Pr
         unit: asked.unit,
         ticks: asked.ticks,
         base: asked.base,
-        ring: session_ring(ring),
+        ring,
         name,
         events,
     })

@@ -8,7 +8,7 @@ use Rattle.run_file.specs.Keys.{all_of}
 use Rattle.run_file.specs.Reading.{AreTextsOf, IsFirstBad}
 use Rattle.slave_file.specs.declared.session_file.SessionFile.{SessionFile}
 use Rattle.slave_file.specs.Events.{EventData, event_data, event_in, first_none}
-use Rattle.slave_file.specs.Inner.{kind_of, line_data}
+use Rattle.slave_file.specs.Inner.{line_data}
 use Rattle.slave_file.specs.Keys.{AreKeyValues, HasBadKey, KeyValues}
 use Rattle.slave_file.specs.Lines.{IsLineText}
 
@@ -20,7 +20,7 @@ pub record IsProfileOf (v : KeyValues) (p : Profile) : Type 0 where
   pub unit_is : p.unit ≡ v.unit
   pub ticks_are : p.ticks ≡ v.ticks
   pub base_is : p.base ≡ v.base
-  pub ring_is : p.ring ≡ kind_of v.ring
+  pub ring_is : p.ring ≡ v.ring
   pub name_is : p.name.items ≡ v.name
   pub events_are : all_of event_in v.events ≡ Some (map event_data p.events.items)
 

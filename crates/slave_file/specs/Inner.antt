@@ -2,10 +2,6 @@
 use Rattle.std.specs.Prelude.{map}
 use Rattle.toml.specs.View.{items_view}
 use Rattle.run_file.specs.Inner.{text_in}
-use Rattle.run_file.specs.declared.ring_kind.RingKind.{RingKind}
-use Rattle.run_file.specs.declared.ring_kind.RingKind.TheVariants as here
-use Rattle.session.specs.declared.profile.RingKind.{RingKind as ProfileKind}
-use Rattle.session.specs.declared.profile.RingKind.TheVariants as there
 use Rattle.slave_file.specs.declared.line.Line.{Line}
 use Rattle.slave_file.specs.declared.line.Line.TheVariants as held
 use Rattle.slave_file.specs.declared.values.Values.{Values}
@@ -34,8 +30,3 @@ values_data v = record {
   events = items_view v.events.now;
   script = map text_in v.script.now;
 }
-
--- the kind of ring of a run file, in a profile
-abbrev pub kind_of : RingKind → ProfileKind
-kind_of here.Samples = there.Samples
-kind_of here.Bytes = there.Bytes

@@ -7,7 +7,7 @@ use Rattle.xcp_base.specs.declared.stamp_size.StampSize.{StampSize}
 use Rattle.xcp_base.specs.declared.limits.TheConstants.{MAX_UNIT}
 use Rattle.run_file.specs.Keys.{at_key, id_of, image_len_of, is_among, number_in, ring_of, stamp_of}
 use Rattle.run_file.specs.Keys.{texts_at}
-use Rattle.run_file.specs.declared.ring_kind.RingKind.{RingKind}
+use Rattle.xcp_base.specs.declared.ring_kind.RingKind.{RingKind}
 use Rattle.slave_file.specs.declared.limits.TheConstants.{MAX_LINES}
 
 -- the keys of a session file, and of an event channel

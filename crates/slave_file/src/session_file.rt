@@ -4,7 +4,7 @@ ghost use Rattle.toml.specs.View.{table_view};
 ghost use Rattle.run_file.specs.Keys.{all_of};
 ghost use Rattle.slave_file.specs.declared.file_fault.FileFault.TheVariants.{Memory, NotToml};
 ghost use Rattle.slave_file.specs.Events.{event_data, event_in};
-ghost use Rattle.slave_file.specs.Inner.{kind_of, values_data};
+ghost use Rattle.slave_file.specs.Inner.{values_data};
 ghost use Rattle.slave_file.specs.Files.{HasBadEvent, HasBadKeyText, HasBadLine, IsProfileOf};
 ghost use Rattle.slave_file.specs.Files.{IsSessionText};
 
@@ -86,18 +86,8 @@ fn profile_of(
         unit: values.unit,
         ticks: values.ticks,
         base: values.base,
-        ring: kind_of(values.ring),
+        ring: values.ring,
         name: bytes_in(alloc, values.name)?,
         events,
     })
-}
-
-/// The kind of ring of a run file, in a profile.
-fn kind_of(ring: run_file::RingKind) -> session::RingKind
-    ensures { result ≡ kind_of ring }
-{
-    match ring {
-        run_file::RingKind::Samples => session::RingKind::Samples,
-        run_file::RingKind::Bytes => session::RingKind::Bytes,
-    }
 }

@@ -7,10 +7,10 @@ ghost use Rattle.slave_file.specs.Inner.{values_data};
 use crate::file_fault::FileFault;
 use crate::keys::{has_file_keys, number_or_0, text_or_empty};
 use crate::limits::MAX_LINES;
-use run_file::{RingKind, array_at, id_of, number_at, ring_of, stamp_of, texts_at};
+use run_file::{array_at, id_of, number_at, ring_of, stamp_of, texts_at};
 use toml::{Table, Value};
 use xcp_base::limits::{MAX_IMAGE_LEN, MAX_UNIT};
-use xcp_base::{IdKind, StampSize};
+use xcp_base::{IdKind, RingKind, StampSize};
 
 /// The values of the keys, each of its type and within its limits. Event channels are still values,
 /// and lines still texts.

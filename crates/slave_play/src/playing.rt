@@ -12,10 +12,11 @@ use byte_ring::ByteRing;
 use channel_ring::SampleRing;
 use daq_engine::Ring;
 use frame_writer::VecOut;
-use session::{Profile, ProfileFault, RingKind};
+use session::{Profile, ProfileFault};
 use slave::{OpenFault, Slave};
 use slave_file::{Line, SessionFile};
 use std::alloc::{AllocError, Global};
+use xcp_base::RingKind;
 
 /// Plays a session, line by line, and ends it: the slave hangs up, the tasks finish, and what came
 /// back is collected.

@@ -5,4 +5,5 @@ pub mod Forms
 pub mod Inner
 pub mod Lists
 pub mod Packets
+pub mod Rings
 pub mod Samples

@@ -1,5 +1,5 @@
 use Rattle.std.proofs.Common.{sym, ◌∙◌}
-use Rattle.run_file.specs.declared.ring_kind.RingKind.TheVariants.{Bytes, Samples}
+use Rattle.xcp_base.specs.declared.ring_kind.RingKind.TheVariants.{Bytes, Samples}
 use Rattle.daq_run.proofs.SetUpLemmas.{caps_of_kind}
 use Rattle.daq_run.proofs.serial.run_watched.Goals as goal
 

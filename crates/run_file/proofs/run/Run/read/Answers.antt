@@ -1,4 +1,4 @@
-use Rattle.std.proofs.Common.{◌≡◌, ◌≤◌, ◌+◌, ◌-◌, map, vec_items, arith}
+use Rattle.std.proofs.Common.{◌≡◌, ◌+◌, ◌-◌, map, vec_items, arith}
 use Rattle.toml.specs.View.{table_view}
 use Rattle.run_file.specs.declared.run_fault.RunFault.TheVariants.{BadSetup, BadStep}
 use Rattle.run_file.specs.Inner.{values_data}

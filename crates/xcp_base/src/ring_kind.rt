@@ -1,9 +1,9 @@
 ghost use Rattle.std.specs.Prelude.{◌≡◌};
-ghost use Rattle.run_file.specs.Keys.{least_cap, most_cap};
+ghost use Rattle.xcp_base.specs.Rings.{least_cap, most_cap};
 
-use xcp_base::limits::{MAX_BYTE_RING, MAX_SAMPLE_RING, MIN_BYTE_RING};
+use crate::limits::{MAX_BYTE_RING, MAX_SAMPLE_RING, MIN_BYTE_RING};
 
-/// Which kind of ring the event channels of a run have, and so what a capacity counts.
+/// Which kind of rings stands between samplers and transmitter, and so what a capacity counts.
 #[derive(Clone, Copy, Debug, PartialEq, Eq)]
 pub enum RingKind {
     /// A ring of samples; a capacity counts items.
