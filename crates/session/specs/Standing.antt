@@ -102,7 +102,7 @@ abbrev pub IsExchange : SessionState → SessionState → Exchange → Option (L
 IsExchange old new x reply =
     (past : Past) → SessionStandsAfter old past
     → (reply ≡ reply_in old.profile past x)
-      × SessionStandsAfter new (past_behind old.profile past x)
+    × SessionStandsAfter new (past_behind old.profile past x)
 
 pub record Exchanges
     (old new : SessionState) (packet : List ℕ) (clock : ℕ) (reply : Option (List ℕ))
