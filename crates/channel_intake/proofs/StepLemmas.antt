@@ -1,19 +1,22 @@
 -- A step of an intake, by its parts.
-use Rattle.std.proofs.Common.{◌≡◌, ℕ, ◌+◌, ◌*◌, Bool, true, false, List, [], ◌∷◌, ◌++◌, length, length-append, refl, sym, ap, ◌∙◌, subst, arith}
+use Rattle.std.proofs.Common.{◌≡◌, ℕ, ◌+◌, ◌*◌, ◌<◌, Bool, true, false, List, [], ◌∷◌, ◌++◌, get_or, length, length-append, refl, sym, ap, ◌∙◌, subst, arith}
 use Rattle.std.specs.Prelude.{slice_get}
+use Rattle.std.proofs.lemmas.Option.{slice_get-get_or}
 use mathlib.Core.List.{IsPrefix}
-use Rattle.xcp_base.specs.Samples.{SampleParts}
+use Rattle.xcp_base.specs.Samples.{MarkParts, SampleParts}
 use Rattle.xcp_base.specs.declared.item.Item.{Item}
 use Rattle.xcp_base.specs.declared.item.Item.TheVariants.{Marker, Sample}
 use Rattle.xcp_base.specs.Bodies.{body_of}
+use Rattle.xcp_base.specs.declared.limits.TheConstants.{MAX_LISTS}
 use Rattle.frame_writer.specs.Frame.{frame, text}
 use Rattle.channel_ring.specs.Ends.{PassesFirst}
 use Rattle.channel_ring.specs.declared.ends.TakeEnd.{Ghosts as TakeGhosts}
 use Rattle.transmitter.proofs.TakenLemmas.{same_first}
 use Rattle.channel_intake.specs.Deeds.{Deed, passes}
 use Rattle.channel_intake.specs.Intakes.{IntakeState, OnlyLooked, StandsAfter, list_after}
-use Rattle.channel_intake.specs.Inner.{BeginsWith, LaysFirst, Notes, lets_pass, takes_one}
+use Rattle.channel_intake.specs.Inner.{BeginsWith, LaysFirst, LaysSample, Notes, lets_pass, takes_one}
 use Rattle.channel_intake.specs.Steps.{IsHeldBack, Page, Passes, StepMeans}
+use Rattle.channel_intake.specs.declared.list_intake.ListIntake.{ListIntake}
 use Rattle.channel_intake.specs.declared.step.Step.{Step}
 use Rattle.channel_intake.specs.declared.step.Step.TheVariants.{Full, Marked, Nothing, Skipped, Wrote}
 use Rattle.channel_intake.proofs.DeedLemmas.{goes_on-marker, goes_on-skipped, goes_on-wrote, lets_pass-after, same_some}
@@ -24,6 +27,29 @@ unfolding body_of
 length-text_by n [] = refl
 length-text_by n (q ∷ qs) =
     omega (arith, length-text_by (n + 1) qs, length-append (frame n q) (text (n + 1) qs), length-append q (body_of qs))
+
+-- what the first item comes to is what its sample or its marker comes to
+pub begins-with : (known : List Item) (lists : List ListIntake) (s : SampleParts) (i : ℕ) (other : ListIntake) (may : Bool) → IsPrefix (Sample s ∷ []) known
+    → i ≡ s.list → i < MAX_LISTS → length lists ≡ MAX_LISTS → may ≡ lets_pass (get_or lists i other) → BeginsWith known lists s may
+begins-with known lists s i other may first is below places passed = record {
+  first = first;
+  below = subst (λ l. l < MAX_LISTS) is below;
+  kept = get_or lists i other;
+  found = ap (slice_get lists) (sym is) ∙ slice_get-get_or lists i other (omega (arith, below, places));
+  may_is = passed;
+}
+
+pub lays-marker : (known : List Item) (lists : List ListIntake) (m : MarkParts) (p : Page) (at limit l : ℕ) → IsPrefix (Marker m ∷ []) known
+    → l ≡ m.list → l < MAX_LISTS → LaysFirst known lists p p at limit (Marked l)
+lays-marker known lists m p at limit l first is below = (m, first, is, below, refl)
+
+pub lays-first : (known : List Item) (lists : List ListIntake) (s : SampleParts) (may : Bool) (p q : Page) (at limit : ℕ) (step : Step)
+    → BeginsWith known lists s may → LaysSample may s p q at limit step → LaysFirst known lists p q at limit step
+lays-first known lists s may p q at limit Nothing first lays = lays
+lays-first known lists s may p q at limit Full first lays = (s, may, first, lays)
+lays-first known lists s may p q at limit (Marked l) first lays = elim lays [ ]
+lays-first known lists s may p q at limit (Skipped l) first lays = (s, may, first, lays)
+lays-first known lists s may p q at limit (Wrote l end) first lays = (s, may, first, lays)
 
 module _ {T E : Type 0} (take : TakeGhosts T E) where
   -- whether the samples of a list pass is what is kept of it

@@ -1,14 +1,15 @@
 -- A packet more: the list that it is of takes it, and the samples of each list go on.
-use Rattle.std.proofs.Common.{inl, inr, ◌⊎◌, Bool, true, false, if◌then◌else◌, ◌==◌, ◌≡◌, ◌≢◌, ℕ, zero, suc, ◌<◌, ◌≤◌, List, [], ◌∷◌, ◌++◌, length, get_or, map, set, refl, sym, ap, subst, ◌∙◌, arith, append_assoc, Option, Some, None, length-append}
-use Rattle.std.specs.Prelude.{All, filter, flat_map, slice_get}
+use Rattle.std.proofs.Common.{inl, inr, ◌⊎◌, Bool, true, false, if◌then◌else◌, ◌==◌, ◌≡◌, ◌≢◌, ℕ, zero, suc, ◌<◌, ◌≤◌, List, [], ◌∷◌, ◌++◌, length, get_or, map, set, refl, sym, ap, subst, ◌∙◌, arith, append_assoc, Option, Some, None, Result, Ok, Err, length-append}
+use Rattle.std.specs.Prelude.{All, OnErr, filter, flat_map, slice_get}
 use Rattle.std.proofs.Math.Seq.{map-set_same}
 use Rattle.std.proofs.lemmas.Bool.Decides.{nat_tests}
 use Rattle.std.proofs.lemmas.Grind.{flat_map-append}
 use Rattle.std.proofs.lemmas.List.{append-nil, length-set}
 use Rattle.std.proofs.lemmas.List.Elements.{All-append, All-cons, All-nil, filter-append}
-use Rattle.std.proofs.lemmas.Option.{get_or_from_slice_get, slice_get_read, slice_get_within}
+use Rattle.std.proofs.lemmas.Option.{get_or_from_slice_get, slice_get_past, slice_get_read, slice_get_within}
 use Rattle.copy_plan.specs.Config.{ListPlan}
 use Rattle.daq_reader.specs.declared.packet_fault.PacketFault.{PacketFault}
+use Rattle.daq_reader.specs.declared.packet_fault.PacketFault.TheVariants.{OtherList}
 use Rattle.daq_reader.specs.Faults.{fault_of}
 use Rattle.daq_reader.specs.Laws.{AreRead}
 use Rattle.daq_reader.specs.Lists.{Stands, StandsWith, Takes, fault_at, given, of_place, place_in, plans_of, refusal}
@@ -247,3 +248,11 @@ whole_at old now q whole i t is =
     let place : ℕ = place_in (plans_of old) q in
     let at : slice_get now place ≡ Some t.after = ap (λ (xs : List Reading). slice_get xs place) t.others ∙ get_set old place t.after (slice_get_within old place t.before t.at) in
     whole_if now i place t.after (is_whole t.after) at refl (sym is ∙ t.sample)
+
+-- a packet that is of no list
+pub refused_past : (old : List Reading) (q : List ℕ) → place_in (plans_of old) q ≡ length old → refusal old q ≡ Some OtherList
+refused_past old q past = ap (λ a. fault_at a q) (slice_get_past old (place_in (plans_of old) q) (omega (arith, past)))
+
+pub on_err : {T E P : Type 0} (r : Result T E) → P → OnErr r P
+on_err (Ok x) p = tt
+on_err (Err e) p = p

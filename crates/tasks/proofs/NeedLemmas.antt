@@ -1,6 +1,7 @@
 -- How many lists are in a set, and the places that orders about them take.
 use Rattle.std.proofs.Common.{◌≡◌, ◌≢◌, ℕ, zero, suc, ◌+◌, ◌<◌, ◌≤◌, Bool, true, false, ◌&&◌, ◌||◌, not, nat_eq, refl, sym, ap, ◌∙◌, subst, inl, inr, arith}
-use Rattle.std.proofs.lemmas.Bool.{false≢true}
+use Rattle.std.proofs.Math.Dec.{leb}
+use Rattle.std.proofs.lemmas.Bool.{false≢true, le-leb, leb-true, true≢false}
 use Rattle.std.proofs.lemmas.Bool.Decides.{eqb_tells}
 use Rattle.xcp_base.specs.declared.limits.TheConstants.{MAX_LISTS}
 use Rattle.xcp_base.specs.Lists.{has_list}
@@ -87,6 +88,14 @@ places-same p q lists same =
     let all : how_many MAX_LISTS (λ l. p l || lists l) ≡ how_many MAX_LISTS (λ l. q l || lists l)
     = how_many-same MAX_LISTS (λ l. p l || lists l) (λ l. q l || lists l) (λ k h. ap (λ b. b || lists k) (same k h)) in
     omega (arith, all)
+
+-- a test tells whether as many places are free
+pub test-fits : (needed places room free : ℕ) → needed ≡ places → room ≡ free → leb needed room ≡ true → places ≤ free
+test-fits needed places room free needs has is = omega (arith, needs, has, leb-true needed room is)
+
+pub test-misses : (needed places room free : ℕ) → needed ≡ places → room ≡ free → leb needed room ≡ false → places ≤ free → ⊥
+test-misses needed places room free needs has is fits =
+    true≢false (sym (le-leb needed room (omega (arith, needs, has, fits))) ∙ is)
 
 -- once a list was started, the stops of those that run find places
 pub start-leaves : (run now lists : ℕ → Bool) (l free left : ℕ) → l < MAX_LISTS → lists l ≡ true

@@ -13,7 +13,7 @@ use Rattle.sampler.specs.declared.faults.TriggerFault.{TriggerFault}
 use Rattle.tasks.specs.Deeds.{Obeyed, Took, past_after}
 use Rattle.tasks.specs.Orders.{TakeState}
 use Rattle.tasks.specs.Tasks.{Idles, Obeys, ObeysNext}
-use Rattle.tasks.specs.Ways.{Follows, HasCome, IsLeftOf, IsOf, IsUnderWay, ring_in}
+use Rattle.tasks.specs.Ways.{Follows, HasCome, IsLeftAfterDeeds, IsOf, IsUnderWay, ring_in}
 use Rattle.tasks.specs.declared.obeyed.Obeyed.{Obeyed as Answer}
 use Rattle.tasks.specs.declared.obeyed.Obeyed.TheVariants as obeyed
 use Rattle.tasks.specs.declared.order.Order.{Order}
@@ -47,15 +47,15 @@ module _ {S E : Type 0} where
 
   module _ (send : SendGhosts S E) (ring : EndGhosts E) where
     left-follows : (t : SamplerState S) (xs : List (Return S E)) (e : SamplerEndState E) (o : TakeState)
-        → IsOf t xs → Follows send ring xs (Left e o) → IsLeftOf send ring t (ring_in xs) e o
+        → IsOf t xs → Follows send ring xs (Left e o) → IsLeftAfterDeeds send ring t (ring_in xs) e o
     left-follows t [] e o is f = elim is [ ]
     left-follows t (Left x p ∷ xs) e o is f = elim is [ ]
-    left-follows t (Begun s p ∷ []) e o is f = subst (λ (u : SamplerState S). IsLeftOf send ring u p.ring e o) is f
+    left-follows t (Begun s p ∷ []) e o is f = subst (λ (u : SamplerState S). IsLeftAfterDeeds send ring u p.ring e o) is f
     left-follows t (Begun s p ∷ y ∷ ys) e o is f = elim f [ ]
 
     -- what came out is left of the sampler that went first
     pub left-popped : (t : SamplerState S) (old mid : List (Return S E)) (x : Return S E) (e : SamplerEndState E) (o : TakeState)
-        → mid ≡ old → x ≡ Left e o → Follows send ring mid x → IsOf t old → IsLeftOf send ring t (ring_in old) e o
+        → mid ≡ old → x ≡ Left e o → Follows send ring mid x → IsOf t old → IsLeftAfterDeeds send ring t (ring_in old) e o
     left-popped t old mid x e o same is f of =
         left-follows t old e o of
         (subst (λ (y : Return S E). Follows send ring old y) is (subst (λ (xs : List (Return S E)). Follows send ring xs x) same f))

@@ -1,7 +1,26 @@
-use Rattle.std.proofs.Common.{sym, ◌∙◌}
+use Rattle.std.proofs.Common.{Bool, subst, sym, ◌∙◌}
 use Rattle.xcp_base.specs.Lists.{has_list}
-use Rattle.slave_channel.proofs.OrderingLemmas.{can-same, from-here, from-other, from-without}
+use Rattle.channel_intake.specs.Deeds.{Started}
+use Rattle.tasks.specs.declared.order.Order.TheVariants.{Start}
+use Rattle.slave_channel.specs.Ordering.{OrdersAll, from_on, one_if}
+use Rattle.slave_channel.proofs.OrderingLemmas.{can-same, from-here, from-other, from-without, no-order, one-start}
 use Rattle.slave_channel.proofs.channel.Channel.start_one.Goals as goal
+
+pub start-requires-clause-checked : goal.start-requires-clause-checked
+start-requires-clause-checked g c =
+    let set = has_list c.args.lists in
+    (from_on c.args.l set, from-here set c.args.l (sym c.has_list.ensures ∙ c.if-has_list.true), c.requires.checked)
+
+-- one start was ordered, or none
+pub returns-then-has_list-clause-orders : goal.returns-then-has_list-clause-orders
+returns-then-has_list-clause-orders g c =
+    subst (λ (b : Bool). OrdersAll g.R.Take.TakeEnd c.args.self.now c.start.new.self (one_if b (Start c.args.l)) (one_if b (Started c.args.l))) (sym c.if-has_list.true ∙ c.has_list.ensures)
+    (one-start g.R.Take.TakeEnd _ _ c.args.l _ c.requires.checked c.start.ensures.orders)
+
+pub returns-else-has_list-clause-orders : goal.returns-else-has_list-clause-orders
+returns-else-has_list-clause-orders g c =
+    subst (λ (b : Bool). OrdersAll g.R.Take.TakeEnd c.args.self.now c.args.self.now (one_if b (Start c.args.l)) (one_if b (Started c.args.l))) (sym c.if-has_list.false ∙ c.has_list.ensures)
+    (no-order g.R.Take.TakeEnd c.args.self.now)
 
 -- what can be started behind this list
 pub returns-then-has_list-clause-behind : goal.returns-then-has_list-clause-behind

@@ -1,7 +1,25 @@
-use Rattle.std.proofs.Common.{◌≡◌, ◌<◌, ◌≤◌, length, ap, arith}
-use Rattle.slave_channels.proofs.EachLemmas.{front-next}
+use Rattle.std.proofs.Common.{◌≡◌, ◌<◌, ◌≤◌, length, ap, arith, sym, subst, ◌∙◌}
+use Rattle.std.proofs.lemmas.List.{length-set}
+use Rattle.xcp_base.specs.declared.limits.TheConstants.{MAX_CHANNELS}
+use Rattle.slave_channels.proofs.EachLemmas.{front-next, front-seen}
 use Rattle.slave_channels.proofs.CallLemmas.{FindsPlaces, all-find, all-looked, finds-places, last-looked, no-places}
 use Rattle.slave_channels.proofs.channels.Channels.can_start.Goals as goal
+
+-- as many as before
+pub invariant_of-self : goal.invariant_of-self
+invariant_of-self g c =
+    let view : length c.self.inside.all.items ≡ length c.args.self.now = ap length c.self.view_is in
+    subst (λ n. n ≤ MAX_CHANNELS) (view ∙ sym c.loop-c.invariant.as_many) c.self.invariant
+
+pub invariant_of-self-then-not-can_start_one : goal.invariant_of-self-then-not-can_start_one
+invariant_of-self-then-not-can_start_one g c =
+    let view : length c.self.inside.all.items ≡ length c.args.self.now = ap length c.self.view_is in
+    let same = length-set c.loop-c.self-inside.all.items c.loop-c.c c.can_start_one.new.channel in
+    subst (λ n. n ≤ MAX_CHANNELS) (view ∙ sym c.loop-c.invariant.as_many ∙ sym same) c.self.invariant
+
+-- no channel yet
+pub loop-c-init : goal.loop-c-init
+loop-c-init g c = front-seen (FindsPlaces c.args.lists.now) c.self.inside.all.items c.args.self.now c.self.view_is
 
 -- there are none at this channel
 pub returns-then-not-can_start_one-clause-no : goal.returns-then-not-can_start_one-clause-no

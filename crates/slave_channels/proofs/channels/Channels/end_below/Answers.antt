@@ -1,9 +1,20 @@
-use Rattle.std.proofs.Common.{◌≡◌, ◌<◌, ◌≢◌, arith, length, subst}
+use Rattle.std.proofs.Common.{◌≡◌, ◌<◌, ◌≤◌, ◌≢◌, ap, arith, length, subst, sym, ◌∙◌}
+use Rattle.xcp_base.specs.declared.limits.TheConstants.{MAX_CHANNELS}
 use Rattle.slave_channels.specs.Calls.{Ends}
 use Rattle.slave_channels.specs.Inner.{EndsAt, IsFront}
-use Rattle.slave_channels.proofs.EachLemmas.{front-next}
+use Rattle.slave_channels.proofs.EachLemmas.{front-next, front-seen}
 use Rattle.slave_channels.proofs.CallLemmas.{at-place}
 use Rattle.slave_channels.proofs.channels.Channels.end_below.Goals as goal
+
+-- as many as before
+pub invariant_of-self : goal.invariant_of-self
+invariant_of-self g c =
+    let view : length c.self.inside.all.items ≡ length c.args.self.now = ap length c.self.view_is in
+    subst (λ n. n ≤ MAX_CHANNELS) (view ∙ sym c.loop-c.invariant.as_many) c.self.invariant
+
+-- no channel yet
+pub loop-c-init : goal.loop-c-init
+loop-c-init g c = front-seen (EndsAt c.args.lists.now) c.self.inside.all.items c.args.self.now c.self.view_is
 
 -- one channel more
 pub loop-c-preserved : goal.loop-c-preserved

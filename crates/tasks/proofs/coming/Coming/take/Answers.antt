@@ -1,6 +1,6 @@
 use Rattle.std.proofs.Common.{◌∙◌, ap, subst}
 use Rattle.channel_ring.specs.Ends.{RingName}
-use Rattle.tasks.specs.Ways.{ComingState, IsLeftOf}
+use Rattle.tasks.specs.Ways.{ComingState, IsLeftAfterDeeds}
 use Rattle.tasks.proofs.WayLemmas.{left-popped, of-popped, ring-popped}
 use Rattle.tasks.proofs.coming.Coming.take.Goals as goal
 
@@ -25,5 +25,5 @@ returns-clause-stays g c =
 
 pub returns-in-Left-clause-left : goal.returns-in-Left-clause-left
 returns-in-Left-clause-left g c =
-    subst (λ (v : ComingState _). IsLeftOf g.S.SendEnd g.S.End.RingEnd v.sampler v.orders c.in-Left.end c.in-Left.orders) c.self.view_is
+    subst (λ (v : ComingState _). IsLeftAfterDeeds g.S.SendEnd g.S.End.RingEnd v.sampler v.orders c.in-Left.end c.in-Left.orders) c.self.view_is
     (left-popped g.S.SendEnd g.S.End.RingEnd _ _ _ _ _ _ c.is_abandoned.ensures.1 c.in-Left.is c.in-Ok.ensures.ok.2 c.self.invariant)

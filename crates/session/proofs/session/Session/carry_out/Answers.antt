@@ -1,0 +1,42 @@
+use Rattle.session.proofs.session.Session.carry_out.Goals as goal
+
+-- a request is answered as the function says that carries it out
+pub returns-in-Disconnect-clause-ok : goal.returns-in-Disconnect-clause-ok
+returns-in-Disconnect-clause-ok c = rw c.in-Disconnect.is c.disconnect.ensures.reply
+
+pub returns-in-Upload-clause-ok : goal.returns-in-Upload-clause-ok
+returns-in-Upload-clause-ok c = rw c.in-Upload.is c.upload.ensures.reply
+
+pub returns-in-GetDaqEventInfo-clause-ok : goal.returns-in-GetDaqEventInfo-clause-ok
+returns-in-GetDaqEventInfo-clause-ok c = rw c.in-GetDaqEventInfo.is c.event_info.ensures.reply
+
+pub returns-in-Lists-clause-ok : goal.returns-in-Lists-clause-ok
+returns-in-Lists-clause-ok c = rw c.in-Lists.is c.set_lists.ensures.ok
+
+-- the others leave the session as it was
+pub returns-in-Connect-clause-ok : goal.returns-in-Connect-clause-ok
+returns-in-Connect-clause-ok c = λ past stands. rw c.in-Connect.is (c.connect_again.ensures past stands, stands)
+
+pub returns-in-GetStatus-clause-ok : goal.returns-in-GetStatus-clause-ok
+returns-in-GetStatus-clause-ok c = λ past stands. rw c.in-GetStatus.is (c.status.ensures past stands, stands)
+
+pub returns-in-GetId-clause-ok : goal.returns-in-GetId-clause-ok
+returns-in-GetId-clause-ok c = λ past stands. rw c.in-GetId.is (c.id.ensures past stands, stands)
+
+pub returns-in-GetDaqListMode-clause-ok : goal.returns-in-GetDaqListMode-clause-ok
+returns-in-GetDaqListMode-clause-ok c = λ past stands. rw c.in-GetDaqListMode.is (c.list_mode.ensures past stands, stands)
+
+pub returns-in-GetDaqProcessorInfo-clause-ok : goal.returns-in-GetDaqProcessorInfo-clause-ok
+returns-in-GetDaqProcessorInfo-clause-ok c = λ past stands. rw c.in-GetDaqProcessorInfo.is (c.processor_info.ensures past stands, stands)
+
+pub returns-in-GetDaqResolutionInfo-clause-ok : goal.returns-in-GetDaqResolutionInfo-clause-ok
+returns-in-GetDaqResolutionInfo-clause-ok c = λ past stands. rw c.in-GetDaqResolutionInfo.is (c.resolution_info.ensures past stands, stands)
+
+pub returns-in-GetDaqListInfo-clause-ok : goal.returns-in-GetDaqListInfo-clause-ok
+returns-in-GetDaqListInfo-clause-ok c = λ past stands. rw c.in-GetDaqListInfo.is (c.list_info.ensures past stands, stands)
+
+pub returns-in-Synch-clause-ok : goal.returns-in-Synch-clause-ok
+returns-in-Synch-clause-ok c = λ past stands. rw c.in-Synch.is (c.error.ensures, stands)
+
+pub returns-in-GetCommModeInfo-clause-ok : goal.returns-in-GetCommModeInfo-clause-ok
+returns-in-GetCommModeInfo-clause-ok c = λ past stands. rw c.in-GetCommModeInfo.is (c.positive.ensures, stands)
