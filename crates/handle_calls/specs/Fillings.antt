@@ -1,6 +1,7 @@
 -- What pumps that fill a buffer answer and what they leave, by their status.
 use Rattle.std.specs.Prelude.{◌≡◌, ℕ, ◌<◌, ◌≤◌, List, ◌++◌, length, take, drop, Option, Err}
 use Rattle.channel_ring.specs.declared.ends.TakeEnd.{Ghosts as TakeGhosts}
+use Rattle.frame_writer.specs.declared.layout.TheConstants.{MAX_SAMPLE_BYTES}
 use Rattle.frame_writer.specs.declared.out.Out.{Ghosts as OutGhosts}
 use Rattle.frame_writer.specs.declared.sink_out.SinkOut.{SinkOut}
 use Rattle.transmitter.specs.Fills.{Fills}
@@ -11,7 +12,6 @@ use Rattle.transmitter.specs.declared.pumped_all.PumpedAll.{PumpedAll}
 use Rattle.handle_calls.specs.Engines.{OnEngine}
 use Rattle.handle_calls.specs.States.{Bytes, EngineState, Items}
 use Rattle.handle_calls.specs.declared.content.Content.{Content}
-use Rattle.handle_calls.specs.declared.filling.TheConstants.{FILL_BYTES}
 use Rattle.handle_calls.specs.declared.pumped_all_out.PumpedAllOut.{PumpedAllOut}
 use Rattle.handle_calls.specs.declared.status.Status.{Status}
 use Rattle.handle_calls.specs.declared.status.Status.TheVariants as status
@@ -31,7 +31,7 @@ module _ {S T E : Type 0} (out : OutGhosts SinkOut) (give : TakeGhosts T E) wher
   -- an engine pumps until nothing is left or the next sample doesn't fit. All that it writes stands
   -- in the front of the buffer and nothing else, and its length is told
   pub record FillsOut (s t : EngineState S T E) (before after : FillRoom) : Type 0 where
-    pub room : FILL_BYTES ≤ length before.buffer
+    pub room : MAX_SAMPLE_BYTES ≤ length before.buffer
     pub pumped : PumpedAll
     pub fills :
         Fills (next_of s.transmitter) (next_of t.transmitter) (length before.buffer) after.len
@@ -46,7 +46,7 @@ module _ {S T E : Type 0} (out : OutGhosts SinkOut) (give : TakeGhosts T E) wher
 
   -- an engine took so many items that it takes no more
   pub record FillsNoMore (s t : EngineState S T E) (before after : FillRoom) : Type 0 where
-    pub room : FILL_BYTES ≤ length before.buffer
+    pub room : MAX_SAMPLE_BYTES ≤ length before.buffer
     pub pump :
         IsPump (transmission out give s.transmitter) (transmission out give t.transmitter)
         (Err fault.Spent)
@@ -60,7 +60,7 @@ module _ {S T E : Type 0} (out : OutGhosts SinkOut) (give : TakeGhosts T E) wher
   FillsEngine s t before after status.Ok = FillsOut s t before after
   FillsEngine s t before after status.Spent = FillsNoMore s t before after
   FillsEngine s t before after status.SmallBuffer =
-      (length before.buffer < FILL_BYTES) × (t ≡ s) × (after ≡ before)
+      (length before.buffer < MAX_SAMPLE_BYTES) × (t ≡ s) × (after ≡ before)
   FillsEngine s t before after _ = ⊥
 
 module _ (items : Items) (bytes : Bytes) where

@@ -8,10 +8,7 @@ use crate::pumped_all_out::PumpedAllOut;
 use crate::status::Status;
 use channel_ring::TakeEnd;
 use daq_engine::Ring;
-use frame_writer::{Out, SinkOut};
-
-/// The bytes of the longest sample: of 8 packets of 64 bytes behind a header of 4.
-pub const FILL_BYTES: usize = 544;
+use frame_writer::{MAX_SAMPLE_BYTES, Out, SinkOut};
 
 /// Pumps until nothing is left or the next sample doesn't fit, and puts the frames into the front
 /// of the buffer.
@@ -25,7 +22,7 @@ pub fn fill<R: Ring>(
         (record { buffer = buffer.old; len = len.old; pumped = pumped.old })
         (record { buffer = buffer.new; len = len.new; pumped = pumped.new }) result }
 {
-    if buffer.len() < FILL_BYTES {
+    if buffer.len() < MAX_SAMPLE_BYTES {
         return Status::SmallBuffer;
     }
     match engine.transmitter.pump_all(buffer) {

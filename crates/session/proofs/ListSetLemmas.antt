@@ -12,6 +12,10 @@ HasBelow set n test = (k : ℕ) → has_list set k ≡ (nat_lt k n && test k)
 pub empty_has_none : (k : ℕ) → has_list 0 k ≡ false
 empty_has_none k = ap (λ n. nat_eq n 1) (bit_at-zero k)
 
+-- so has a set that is empty
+pub zero_has_none : (set k : ℕ) → set ≡ 0 → has_list set k ≡ false
+zero_has_none set k is = ap (λ n. has_list n k) is ∙ empty_has_none k
+
 -- a list is the one that is added, and another
 added_here : (a f : Bool) → ((a && f) || (f && true)) ≡ f
 added_here true true = refl

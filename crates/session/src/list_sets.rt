@@ -7,30 +7,30 @@ ghost use Rattle.session.specs.Starts.{is_on_after, shows_on};
 
 use daq_store::Store;
 use daq_store::command::Command;
+use list_set::ListSet;
 use xcp_base::limits::MAX_LISTS;
-use xcp_base::with_list_if;
 
 /// The lists that run.
-pub fn running_of(store: &Store) -> u16
+pub fn running_of(store: &Store) -> ListSet
     ensures { (calls : List Command) → StoreStandsAfter store.now calls
         → (l : ℕ) → l < MAX_LISTS → has_list result l ≡ is_active calls l }
 {
-    let mut set = 0;
+    let mut set = ListSet::none();
     for l in 0..MAX_LISTS {
-        set = with_list_if(set, l as u8, store.running(l));
+        set = set.with_list_if(l as u8, store.running(l));
     }
     set
 }
 
 /// The selected lists that don't run.
-pub fn waiting_of(store: &Store) -> u16
+pub fn waiting_of(store: &Store) -> ListSet
     ensures { (calls : List Command) → StoreStandsAfter store.now calls
         → (l : ℕ) → l < MAX_LISTS
         → has_list result l ≡ (is_chosen calls l && not (is_active calls l)) }
 {
-    let mut set = 0;
+    let mut set = ListSet::none();
     for l in 0..MAX_LISTS {
-        set = with_list_if(set, l as u8, waits(store, l));
+        set = set.with_list_if(l as u8, waits(store, l));
     }
     set
 }
@@ -46,15 +46,15 @@ fn waits(store: &Store, list: u16) -> bool
 }
 
 /// The lists that are there, ready, and whose mode names this event channel.
-pub fn ready_on(store: &Store, channel: u8) -> u16
+pub fn ready_on(store: &Store, channel: u8) -> ListSet
     ensures shown { (l : ℕ) → l < MAX_LISTS → has_list result l ≡ shows_on store.now channel l }
     ensures after { (calls : List Command) → StoreStandsAfter store.now calls
         → (l : ℕ) → l < MAX_LISTS
         → has_list result l ≡ is_on_after store.now.profile calls channel l }
 {
-    let mut set = 0;
+    let mut set = ListSet::none();
     for l in 0..MAX_LISTS {
-        set = with_list_if(set, l as u8, is_on(store, channel, l));
+        set = set.with_list_if(l as u8, is_on(store, channel, l));
     }
     set
 }

@@ -9,6 +9,7 @@ ghost use Rattle.session.specs.Starts.{is_on, runs, shows_on};
 use crate::list_sets;
 use crate::session::Session;
 use daq_store::Store;
+use list_set::ListSet;
 use xcp_base::limits::MAX_LISTS;
 
 impl Session {
@@ -21,7 +22,7 @@ impl Session {
     }
 
     /// The set of the DAQ lists that run.
-    pub fn running(&self) -> u16
+    pub fn running(&self) -> ListSet
         ensures value { (past : Past) → SessionStandsAfter self.now past
             → (l : ℕ) → l < MAX_LISTS → has_list result l ≡ runs past l }
     {
@@ -29,7 +30,7 @@ impl Session {
     }
 
     /// The set of the DAQ lists that are there, ready, and whose mode names this event channel.
-    pub fn lists_on(&self, channel: u8) -> u16
+    pub fn lists_on(&self, channel: u8) -> ListSet
         ensures value { (past : Past) → SessionStandsAfter self.now past
             → (l : ℕ) → l < MAX_LISTS
             → has_list result l ≡ is_on self.now.profile past channel l }

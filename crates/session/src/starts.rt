@@ -14,32 +14,32 @@ use crate::request::{self, Request};
 use crate::session::Session;
 use daq_store::Store;
 use daq_store::command::Command;
+use list_set::ListSet;
 use xcp_base::limits::MAX_LISTS;
-use xcp_base::with_list_if;
 
 impl Session {
     /// The set of the DAQ lists that this packet would start if it came now: they don't run before
     /// it, and run after it.
-    pub fn starts_of(&self, packet: &[u8]) -> u16
+    pub fn starts_of(&self, packet: &[u8]) -> ListSet
         ensures value { (past : Past) → SessionStandsAfter self.now past
             → (l : ℕ) → l < MAX_LISTS
             → has_list result l ≡ starts self.now.profile past packet.now l }
     {
         if !self.connected {
-            return 0;
+            return ListSet::none();
         }
         let Ok(asked) = request::read(packet, self.profile.base) else {
-            return 0;
+            return ListSet::none();
         };
         let Request::Lists(command) = asked else {
-            return 0;
+            return ListSet::none();
         };
         started_by(&self.store, command)
     }
 }
 
 /// The lists that a command starts.
-fn started_by(store: &Store, command: Command) -> u16
+fn started_by(store: &Store, command: Command) -> ListSet
     ensures { (calls : List Command) → StoreStandsAfter store.now calls
         → (l : ℕ) → l < MAX_LISTS
         → has_list result l ≡ call_starts store.now.profile calls command l }
@@ -47,25 +47,25 @@ fn started_by(store: &Store, command: Command) -> u16
     match command {
         Command::StartStopDaqList { mode, list } => started_by_list(store, mode, list),
         Command::StartStopSynch { mode } => started_by_synch(store, mode),
-        _ => 0,
+        _ => ListSet::none(),
     }
 }
 
 /// START_STOP_DAQ_LIST of mode 1: its list, if it is there, ready, and doesn't run.
-fn started_by_list(store: &Store, mode: u8, list: u16) -> u16
+fn started_by_list(store: &Store, mode: u8, list: u16) -> ListSet
     ensures { (calls : List Command) → StoreStandsAfter store.now calls
         → (l : ℕ) → l < MAX_LISTS
         → has_list result l
         ≡ call_starts store.now.profile calls (Command.StartStopDaqList mode list) l }
 {
     if mode != START {
-        return 0;
+        return ListSet::none();
     }
     if list >= store.lists() {
-        return 0;
+        return ListSet::none();
     }
     let starts = would_start(store, list);
-    with_list_if(0, list as u8, starts)
+    ListSet::none().with_list_if(list as u8, starts)
 }
 
 /// Whether a list is there, ready, and doesn't run.
@@ -79,17 +79,17 @@ fn would_start(store: &Store, list: u16) -> bool
 }
 
 /// START_STOP_SYNCH of mode 1: the selected lists that don't run, if each selected list is ready.
-fn started_by_synch(store: &Store, mode: u8) -> u16
+fn started_by_synch(store: &Store, mode: u8) -> ListSet
     ensures { (calls : List Command) → StoreStandsAfter store.now calls
         → (l : ℕ) → l < MAX_LISTS
         → has_list result l
         ≡ call_starts store.now.profile calls (Command.StartStopSynch mode) l }
 {
     if mode != START {
-        return 0;
+        return ListSet::none();
     }
     if selects_unready(store) {
-        return 0;
+        return ListSet::none();
     }
     list_sets::waiting_of(store)
 }

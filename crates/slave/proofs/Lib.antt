@@ -11,7 +11,6 @@ pub mod OrderLemmas
 pub mod StandingLemmas
 pub mod SettlingLemmas
 pub mod AnsweringLemmas
-pub mod BitLemmas
 pub mod PlanLemmas
 pub mod SetsLemmas
 pub mod PreparingLemmas

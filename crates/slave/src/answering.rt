@@ -6,9 +6,9 @@ ghost use Rattle.slave.specs.Hearing.{GoesBy};
 ghost use Rattle.slave.specs.Inner.{Answers, LaysReply, Settles};
 ghost use Rattle.slave.specs.Log.{HungUp};
 
-use crate::sets::{but, is_empty};
 use crate::slave::Slave;
 use daq_engine::Ring;
+use list_set::ListSet;
 use session::Cto;
 use xcp_base::ErrCode;
 
@@ -36,12 +36,12 @@ impl<R: Ring> Slave<R> {
     }
 
     /// Stops the lists that ran before and don't now, and ends the measurement where none runs.
-    fn settle(&mut self, before: u16, now: u16)
+    fn settle(&mut self, before: ListSet, now: ListSet)
         ensures settles { Settles R.Take.TakeEnd self.old.channels self.new.channels before now }
         ensures rest_stays { self.new ≡ record self.old { channels = self.new.channels } }
     {
-        self.channels.stop_all(but(before, now));
-        if is_empty(now) {
+        self.channels.stop_all(before.difference(now));
+        if now.is_empty() {
             self.channels.end();
         }
     }
@@ -65,6 +65,6 @@ impl<R: Ring> Slave<R> {
     {
         let before = self.session.running();
         self.session.hang_up();
-        self.settle(before, 0);
+        self.settle(before, ListSet::none());
     }
 }

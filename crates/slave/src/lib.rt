@@ -9,7 +9,6 @@ pub mod laws;
 mod opening;
 mod plan;
 mod sending;
-mod sets;
 mod slave;
 mod starting;
 

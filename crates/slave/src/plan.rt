@@ -4,10 +4,10 @@ ghost use Rattle.xcp_base.specs.Lists.{has_list};
 ghost use Rattle.slave.specs.Plans.{IsSame, plan_of};
 
 use daq_store::Store;
+use list_set::ListSet;
 use session::SetUp;
 use std::alloc::{AllocError, Global};
 use std::marker::Model;
-use xcp_base::has_list;
 use xcp_base::limits::MAX_LISTS;
 
 /// How the DAQ lists were set up where a measurement was opened.
@@ -50,7 +50,7 @@ impl Plan {
     }
 
     /// Whether each of these lists is there and set up as it was.
-    pub fn stands(&self, store: &Store, lists: u16) -> bool
+    pub fn stands(&self, store: &Store, lists: ListSet) -> bool
         ensures yes { result ≡ true → (l : ℕ) → l < MAX_LISTS → has_list lists l ≡ true
             → IsSame self.now store.now l }
         ensures no { result ≡ false → (l : ℕ) × (l < MAX_LISTS) × (has_list lists l ≡ true)
@@ -65,13 +65,13 @@ impl Plan {
     }
 
     /// Whether a list is there and set up as it was, if it is one of these.
-    fn stands_if(&self, store: &Store, lists: u16, l: u8) -> bool
+    fn stands_if(&self, store: &Store, lists: ListSet, l: u8) -> bool
         requires below { l < MAX_LISTS }
         ensures yes { result ≡ true → has_list lists l ≡ true → IsSame self.now store.now l }
         ensures no { result ≡ false → (has_list lists l ≡ true)
             × (¬ IsSame self.now store.now l) }
     {
-        if !has_list(lists, l) {
+        if !lists.has_list(l) {
             return true;
         }
         self.is_same(store, l)

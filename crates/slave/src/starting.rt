@@ -9,16 +9,13 @@ ghost use Rattle.slave.specs.Inner.{StartsInVain, StartsLists};
 ghost use Rattle.slave.specs.Plans.{plan_of};
 
 use crate::plan::Plan;
-use crate::sets::{common, is_empty};
 use crate::slave::Slave;
 use daq_engine::Ring;
+use list_set::ListSet;
 use std::alloc::Global;
 use tasks::HandFault;
 use xcp_base::ErrCode;
 use xcp_base::limits::MAX_CHANNELS;
-
-/// The set of all lists.
-const ALL: u16 = 0xFFFF;
 
 /// What a start is refused with where a measurement can't be opened.
 fn code_of(fault: HandFault) -> ErrCode
@@ -33,13 +30,13 @@ fn code_of(fault: HandFault) -> ErrCode
 impl<R: Ring> Slave<R> {
     /// Orders the starts of these lists, if they are any, in a measurement that is opened if none
     /// is there.
-    pub(crate) fn prepare(&mut self, alloc: Global, lists: u16) -> Result<(), ErrCode>
+    pub(crate) fn prepare(&mut self, alloc: Global, lists: ListSet) -> Result<(), ErrCode>
         ensures ok { OnOk result (Prepares R.Take.TakeEnd self.old self.new lists) }
         ensures err { IfErr result (StartsInVain R.Take.TakeEnd self.old self.new lists) }
         ensures session_stays { self.new.session ≡ self.old.session }
         ensures outbox_stays { self.new.outbox ≡ self.old.outbox }
     {
-        if is_empty(lists) {
+        if lists.is_empty() {
             return Ok(());
         }
         if self.is_idle() {
@@ -56,11 +53,11 @@ impl<R: Ring> Slave<R> {
         ensures idle { result ≡ true → Idle self.now.session }
         ensures busy { result ≡ false → Busy self.now.session }
     {
-        is_empty(self.session.running())
+        self.session.running().is_empty()
     }
 
     /// Starts these lists in a new measurement, once what came back of those before was taken back.
-    fn start_anew(&mut self, alloc: Global, lists: u16) -> Result<(), ErrCode>
+    fn start_anew(&mut self, alloc: Global, lists: ListSet) -> Result<(), ErrCode>
         requires idle { Idle self.old.session }
         requires some { HasSome lists }
         ensures ok { OnOk result (Prepares R.Take.TakeEnd self.old self.new lists) }
@@ -74,7 +71,7 @@ impl<R: Ring> Slave<R> {
 
     /// Opens a measurement, and orders the starts of these lists. Where that isn't possible it ends
     /// again.
-    fn start_new(&mut self, alloc: Global, lists: u16) -> Result<(), ErrCode>
+    fn start_new(&mut self, alloc: Global, lists: ListSet) -> Result<(), ErrCode>
         requires idle { Idle self.old.session }
         requires some { HasSome lists }
         ensures ok { OnOk result (Prepares R.Take.TakeEnd self.old self.new lists) }
@@ -118,7 +115,7 @@ impl<R: Ring> Slave<R> {
         ensures err { OnErr result (OpensInVain
             R.Send.SendEnd R.Send.End.RingEnd R.Take.TakeEnd self.old self.new) }
     {
-        let sets = self.sets_of(ALL);
+        let sets = self.sets_of(ListSet::all());
         let lists = &sets[..self.channels.len()];
         let number = self.number;
         self.number = number.wrapping_add(1);
@@ -127,7 +124,7 @@ impl<R: Ring> Slave<R> {
     }
 
     /// Orders the starts of these lists, if all find places.
-    fn start(&mut self, lists: u16) -> Result<(), ErrCode>
+    fn start(&mut self, lists: ListSet) -> Result<(), ErrCode>
         ensures ok { OnOk result (StartsLists R.Take.TakeEnd self.old self.new lists) }
         ensures busy { IfErr result (IsBusy self.old self.new lists) }
         ensures err { OnErr result (LooksAtAll self.old self.new) }
@@ -142,13 +139,13 @@ impl<R: Ring> Slave<R> {
     }
 
     /// Those of the lists that are ready, by the event channel that their modes name.
-    fn sets_of(&self, lists: u16) -> [u16; MAX_CHANNELS as usize]
+    fn sets_of(&self, lists: ListSet) -> [ListSet; MAX_CHANNELS as usize]
         ensures sets { AreSets self.now.session lists result }
         ensures many { length result ≡ MAX_CHANNELS }
     {
-        let mut sets = [0; MAX_CHANNELS as usize];
+        let mut sets = [ListSet::none(); MAX_CHANNELS as usize];
         for c in 0..MAX_CHANNELS as usize {
-            sets[c] = common(lists, self.session.lists_on(c as u8));
+            sets[c] = lists.intersection(self.session.lists_on(c as u8));
         }
         sets
     }

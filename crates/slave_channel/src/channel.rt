@@ -5,6 +5,7 @@ use channel_ring::{SendEnd, TakeEnd};
 use daq_engine::{Ring, open_channel};
 use daq_store::Store;
 use frame_outbox::Outbox;
+use list_set::ListSet;
 use sampler::SamplerEnd;
 use std::alloc::{AllocError, Global};
 use std::marker::Model;
@@ -167,7 +168,7 @@ impl<R: Ring> Channel<R> {
     }
 
     /// The set of the DAQ lists that run by the orders that were sent.
-    pub fn running(&self) -> u16
+    pub fn running(&self) -> ListSet
         ensures { (l : ℕ) → l < MAX_LISTS
             → has_list result l ≡ is_running self.now.link.newer l }
     {
@@ -176,7 +177,7 @@ impl<R: Ring> Channel<R> {
 
     /// Whether starts of all these lists find places at the task, with the stops of all lists that
     /// then run and an order to end.
-    pub fn can_start(&mut self, lists: u16) -> bool
+    pub fn can_start(&mut self, lists: ListSet) -> bool
         ensures yes { result ≡ true → CanStart self.new.link.newer (has_list lists) }
         ensures no { result ≡ false → ¬ CanStart self.new.link.newer (has_list lists) }
         ensures looked { LooksAtNewest self.old.link.newer self.new.link.newer }

@@ -10,21 +10,13 @@ ghost use Rattle.slave_channel.specs.Ordering.{starts_noted, starts_sent, stops_
 
 use crate::channel::Channel;
 use daq_engine::Ring;
-use xcp_base::has_list;
+use list_set::ListSet;
 use xcp_base::limits::MAX_LISTS;
-
-/// Whether a list is in both sets.
-fn is_in_both(a: u16, b: u16, l: u8) -> bool
-    requires below { l < MAX_LISTS }
-    ensures { result ≡ (has_list a l && has_list b l) }
-{
-    has_list(a, l) && has_list(b, l)
-}
 
 impl<R: Ring> Channel<R> {
     /// Orders the starts of these DAQ lists if all find places, and returns whether they do; else
     /// none is ordered. It takes no memory.
-    pub fn start_all(&mut self, lists: u16) -> bool
+    pub fn start_all(&mut self, lists: ListSet) -> bool
         ensures yes { result ≡ true → OrdersAll R.Take.TakeEnd self.old self.new
             (starts_sent (has_list lists) MAX_LISTS) (starts_noted (has_list lists) MAX_LISTS) }
         ensures no { result ≡ false → ¬ CanStart self.new.link.newer (has_list lists) }
@@ -42,7 +34,7 @@ impl<R: Ring> Channel<R> {
     }
 
     /// Orders the starts of these DAQ lists, which were checked by `can_start`. It takes no memory.
-    pub fn start_checked(&mut self, lists: u16)
+    pub fn start_checked(&mut self, lists: ListSet)
         requires checked { CanStart self.old.link.newer (has_list lists) }
         ensures orders { OrdersAll R.Take.TakeEnd self.old self.new
             (starts_sent (has_list lists) MAX_LISTS) (starts_noted (has_list lists) MAX_LISTS) }
@@ -54,26 +46,26 @@ impl<R: Ring> Channel<R> {
 
     /// Orders the stops of those of these DAQ lists that run. They always find places, and take no
     /// memory.
-    pub fn stop_all(&mut self, lists: u16)
+    pub fn stop_all(&mut self, lists: ListSet)
         ensures orders { OrdersAll R.Take.TakeEnd self.old self.new
             (stops_sent (λ l. has_list lists l && is_running self.old.link.newer l) MAX_LISTS)
             (stops_noted (λ l. has_list lists l && is_running self.old.link.newer l) MAX_LISTS) }
     {
-        let running = self.running();
+        let stopped = lists.intersection(self.running());
         for l in 0..MAX_LISTS as u8 {
-            self.stop_one(is_in_both(lists, running, l), l);
+            self.stop_one(stopped.has_list(l), l);
         }
     }
 
     /// Orders the start of a list, if it is among these; those behind it can still be started.
-    fn start_one(&mut self, lists: u16, l: u8)
+    fn start_one(&mut self, lists: ListSet, l: u8)
         requires below { l < MAX_LISTS }
         requires checked { CanStart self.old.link.newer (from_on l (has_list lists)) }
         ensures orders { OrdersAll R.Take.TakeEnd self.old self.new
             (one_if (has_list lists l) (Start l)) (one_if (has_list lists l) (Started l)) }
         ensures behind { CanStart self.new.link.newer (from_on (l + 1) (has_list lists)) }
     {
-        if has_list(lists, l) {
+        if lists.has_list(l) {
             self.start(l);
         }
     }

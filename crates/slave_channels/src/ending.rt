@@ -5,6 +5,7 @@ ghost use Rattle.slave_channels.specs.Each.{IsEach};
 
 use crate::channels::Channels;
 use daq_engine::Ring;
+use list_set::ListSet;
 use slave_channel::Channel;
 
 /// Ends the measurement that is there at an event channel, if one is.
@@ -17,7 +18,7 @@ pub(crate) fn end_one<R: Ring>(channel: &mut Channel<R>)
 impl<R: Ring> Channels<R> {
     /// Orders, at each event channel, the stops of those of these DAQ lists that run. They always
     /// find places, and take no memory.
-    pub fn stop_all(&mut self, lists: u16)
+    pub fn stop_all(&mut self, lists: ListSet)
         ensures orders { IsEach (λ c. StopsAll R.Take.TakeEnd lists) self.old self.new }
     {
         for c in 0..self.all.len() {

@@ -9,6 +9,7 @@ use crate::channels::Channels;
 use crate::ending::end_one;
 use daq_engine::Ring;
 use daq_store::Store;
+use list_set::ListSet;
 use slave_channel::Channel;
 use std::alloc::Global;
 use tasks::HandFault;
@@ -20,7 +21,7 @@ fn open_one<R: Ring>(
     store: &Store,
     c: u8,
     cap: usize,
-    set: u16,
+    set: ListSet,
     number: u64,
 ) -> Result<(), HandFault>
     requires channel { c < MAX_CHANNELS }
@@ -28,18 +29,18 @@ fn open_one<R: Ring>(
         store.now number c cap set channel.old channel.new) }
     ensures err { OnErr result (channel.new ≡ channel.old) }
 {
-    if set == 0 {
+    if set.is_empty() {
         return Ok(());
     }
     channel.open(alloc, store, c, cap, number)
 }
 
 /// Ends an event channel's part of a measurement, if it has lists of it.
-fn end_if_any<R: Ring>(channel: &mut Channel<R>, set: u16)
+fn end_if_any<R: Ring>(channel: &mut Channel<R>, set: ListSet)
     ensures none { set ≡ 0 → channel.new ≡ channel.old }
     ensures ends { set ≢ 0 → Ends channel.old channel.new }
 {
-    if set != 0 {
+    if !set.is_empty() {
         end_one(channel);
     }
 }
@@ -55,7 +56,7 @@ impl<R: Ring> Channels<R> {
         alloc: Global,
         store: &Store,
         caps: &[usize],
-        lists: &[u16],
+        lists: &[ListSet],
         number: u64,
     ) -> Result<(), HandFault>
         requires caps { length caps.now ≡ length self.old }
@@ -83,7 +84,7 @@ impl<R: Ring> Channels<R> {
         store: &Store,
         c: usize,
         cap: usize,
-        set: u16,
+        set: ListSet,
         number: u64,
     ) -> Result<(), HandFault>
         requires channel { c < length self.old }
@@ -96,7 +97,7 @@ impl<R: Ring> Channels<R> {
     }
 
     /// Ends the measurement at those of the first `n` event channels that have lists of it.
-    fn end_below(&mut self, lists: &[u16], n: usize)
+    fn end_below(&mut self, lists: &[ListSet], n: usize)
         requires lists { length lists.now ≡ length self.old }
         requires below { n ≤ length self.old }
         ensures ends { IsFront (EndsAt lists.now) n self.old self.new }

@@ -7,27 +7,28 @@ ghost use Rattle.slave_channels.specs.Each.{IsEach};
 
 use crate::channels::Channels;
 use daq_engine::Ring;
+use list_set::ListSet;
 use slave_channel::Channel;
 
 /// Whether starts of these lists find places at an event channel, if they are any.
-fn can_start_one<R: Ring>(channel: &mut Channel<R>, set: u16) -> bool
+fn can_start_one<R: Ring>(channel: &mut Channel<R>, set: ListSet) -> bool
     ensures yes { result ≡ true → set ≢ 0 → CanStart channel.new.link.newer (has_list set) }
     ensures some { result ≡ false → set ≢ 0 }
     ensures no { result ≡ false → ¬ CanStart channel.new.link.newer (has_list set) }
     ensures looked { Looks channel.old channel.new }
 {
-    if set == 0 {
+    if set.is_empty() {
         return true;
     }
     channel.can_start(set)
 }
 
 /// Orders the starts of these lists at an event channel, if they are any.
-fn start_one<R: Ring>(channel: &mut Channel<R>, set: u16)
+fn start_one<R: Ring>(channel: &mut Channel<R>, set: ListSet)
     requires checked { set ≢ 0 → CanStart channel.old.link.newer (has_list set) }
     ensures starts { Starts R.Take.TakeEnd set channel.old channel.new }
 {
-    if set != 0 {
+    if !set.is_empty() {
         channel.start_checked(set);
     }
 }
@@ -35,7 +36,7 @@ fn start_one<R: Ring>(channel: &mut Channel<R>, set: u16)
 impl<R: Ring> Channels<R> {
     /// Whether starts of the lists `lists[c]` find places at the task of each event channel `c`,
     /// with the stops of all lists that then run and an order to end. An empty set asks for none.
-    pub fn can_start(&mut self, lists: &[u16]) -> bool
+    pub fn can_start(&mut self, lists: &[ListSet]) -> bool
         requires lists { length lists.now ≡ length self.old }
         ensures yes { result ≡ true → CanStartAll lists.now self.new }
         ensures no { result ≡ false → HasNoPlaces lists.now self.new }
@@ -51,7 +52,7 @@ impl<R: Ring> Channels<R> {
 
     /// Orders the starts of the lists `lists[c]` at each event channel `c` if all find places, and
     /// returns whether they do; else none is ordered at any channel. It takes no memory.
-    pub fn start_all(&mut self, lists: &[u16]) -> bool
+    pub fn start_all(&mut self, lists: &[ListSet]) -> bool
         requires lists { length lists.now ≡ length self.old }
         ensures yes { result ≡ true
             → IsEach (StartsAt R.Take.TakeEnd lists.now) self.old self.new }
@@ -66,7 +67,7 @@ impl<R: Ring> Channels<R> {
     }
 
     /// Orders the starts of the lists `lists[c]` at each event channel `c`, which were checked.
-    pub fn start_checked(&mut self, lists: &[u16])
+    pub fn start_checked(&mut self, lists: &[ListSet])
         requires lists { length lists.now ≡ length self.old }
         requires checked { CanStartAll lists.now self.old }
         ensures starts { IsEach (StartsAt R.Take.TakeEnd lists.now) self.old self.new }

@@ -7,7 +7,8 @@ use Rattle.xcp_base.specs.declared.limits.TheConstants.{MAX_LISTS}
 use Rattle.xcp_base.specs.Lists.{has_list}
 use Rattle.tasks.specs.Links.{without}
 use Rattle.tasks.specs.declared.orders.TheConstants.{MAX_ORDERS}
-use Rattle.tasks.specs.Needs.{how_many, one_if, places_for}
+use Rattle.list_set.specs.Counts.{how_many, one_if}
+use Rattle.tasks.specs.Needs.{places_for}
 
 or_false : (b : Bool) → (b || false) ≡ b
 or_false true = refl

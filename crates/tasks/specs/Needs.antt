@@ -1,15 +1,7 @@
 -- The places that orders about DAQ lists take in a ring of orders.
-use Rattle.std.specs.Prelude.{ℕ, zero, suc, ◌+◌, Bool, true, false, ◌||◌}
+use Rattle.std.specs.Prelude.{ℕ, ◌+◌, Bool, ◌||◌}
 use Rattle.xcp_base.specs.declared.limits.TheConstants.{MAX_LISTS}
-
-abbrev pub one_if : Bool → ℕ
-one_if true = 1
-one_if false = 0
-
--- how many of the lists below n are in a set
-abbrev pub how_many : ℕ → (ℕ → Bool) → ℕ
-how_many zero set = 0
-how_many (suc n) set = how_many n set + one_if (set n)
+use Rattle.list_set.specs.Counts.{how_many}
 
 -- the places that starts of these lists take, with the stops of all lists that then run and an
 -- order to end

@@ -1,11 +1,11 @@
 use crate::coming::Coming;
+use crate::needs::places_for;
 use crate::order::Order;
 use crate::orders::OrderSend;
-use crate::running::{places_for, without_list};
 use channel_ring::SendEnd;
+use list_set::ListSet;
 use sampler::SamplerEnd;
 use std::marker::Model;
-use xcp_base::with_list;
 
 /// What the slave keeps of a sampler that is out: its end of the orders, the set of the DAQ lists
 /// that run by those that were sent, and its end of the way back.
@@ -13,7 +13,7 @@ use xcp_base::with_list;
 pub struct Away<S: SendEnd> {
     pub(crate) orders: OrderSend,
     pub(crate) coming: Coming<S>,
-    pub(crate) running: u16,
+    pub(crate) running: ListSet,
     pub(crate) ended: bool,
 }
 
@@ -22,8 +22,8 @@ impl<S: SendEnd> Model for Away<S> {
     ghost use Rattle.xcp_base.specs.declared.limits.TheConstants.{MAX_LISTS};
     ghost use Rattle.xcp_base.specs.Lists.{has_list};
     ghost use Rattle.sampler.specs.State.{runs_in};
+    ghost use Rattle.list_set.specs.Counts.{how_many};
     ghost use Rattle.tasks.specs.Links.{AwayState, runs_by};
-    ghost use Rattle.tasks.specs.Needs.{how_many};
 
     ghost Value = { AwayState S };
 
@@ -57,15 +57,19 @@ impl<S: SendEnd> Away<S> {
     }
 
     /// The set of the lists that run by the orders that were sent; none, if it takes no orders.
-    pub fn running(&self) -> u16
+    pub fn running(&self) -> ListSet
         ensures { (l : ℕ) → l < MAX_LISTS
             → has_list result l ≡ (not self.now.ended && runs_of self.now l) }
     {
-        if self.ended { 0 } else { self.running }
+        if self.ended {
+            ListSet::none()
+        } else {
+            self.running
+        }
     }
 
     /// Looks at the ring of orders, and returns whether starts of these lists find places.
-    pub fn can_start(&mut self, lists: u16) -> bool
+    pub fn can_start(&mut self, lists: ListSet) -> bool
         ensures yes { result ≡ true → HasPlacesFor self.new (has_list lists) }
         ensures no { result ≡ false → ¬ HasPlacesFor self.new (has_list lists) }
         ensures looked { LooksAtOrders self.old self.new }
@@ -86,7 +90,7 @@ impl<S: SendEnd> Away<S> {
             → HasPlacesFor self.new (without l lists) }
     {
         self.orders.send(Order::Start(l));
-        self.running = with_list(self.running, l);
+        self.running = self.running.with_list(l);
     }
 
     /// Sends the stop of a list that runs.
@@ -97,7 +101,7 @@ impl<S: SendEnd> Away<S> {
         ensures sends { SendsOrder self.old self.new (Stop l) }
     {
         self.orders.send(Order::Stop(l));
-        self.running = without_list(self.running, l);
+        self.running = self.running.without_list(l);
     }
 
     /// Sends an order to end.

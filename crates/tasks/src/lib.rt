@@ -8,12 +8,12 @@ mod coming;
 mod fault;
 mod handed;
 mod link;
+mod needs;
 mod obeyed;
 mod order;
 mod orders;
 mod place;
 mod returns;
-mod running;
 mod task;
 mod task_end;
 

@@ -6,6 +6,7 @@ use crate::place::{Place, new_place};
 use crate::returns::Returns;
 use crate::task::Task;
 use channel_ring::SendEnd;
+use list_set::ListSet;
 use rtrb::RingBuffer;
 use sampler::{Sampler, SamplerEnd};
 use std::alloc::{AllocError, Global};
@@ -60,7 +61,7 @@ fn ready<S: SendEnd>(alloc: Global, sampler: Sampler<S>) -> Result<(Handed<S>, A
     let Ok((producer, consumer)) = RingBuffer::with_protocol::<Global, Returns>(alloc, 1) else {
         return Err(sampler);
     };
-    let running = sampler.running();
+    let running = ListSet::from_bits(sampler.running());
     let (handed, coming) = Handed::over(producer, consumer, sampler, take);
     let away = Away {
         orders,
@@ -89,17 +90,17 @@ fn are_two_out<S: SendEnd>(older: &Option<Away<S>>, newer: &Option<Away<S>>) -> 
 }
 
 /// The set of the lists that run by the orders sent to the newest.
-fn running_of<S: SendEnd>(newer: &Option<Away<S>>) -> u16
+fn running_of<S: SendEnd>(newer: &Option<Away<S>>) -> ListSet
     ensures { (l : ℕ) → l < MAX_LISTS → has_list result l ≡ is_running newer.now l }
 {
     match newer {
         Some(away) => away.running(),
-        None => 0,
+        None => ListSet::none(),
     }
 }
 
 /// Whether starts of these lists find places at the newest.
-fn newest_can_start<S: SendEnd>(newer: &mut Option<Away<S>>, lists: u16) -> bool
+fn newest_can_start<S: SendEnd>(newer: &mut Option<Away<S>>, lists: ListSet) -> bool
     ensures yes { result ≡ true → CanStart newer.new (has_list lists) }
     ensures no { result ≡ false → ¬ CanStart newer.new (has_list lists) }
     ensures looked { LooksAtNewest newer.old newer.new }
@@ -258,7 +259,7 @@ impl<S: SendEnd> TaskLink<S> {
     }
 
     /// The set of the DAQ lists that run by the orders that were sent to it.
-    pub fn running(&self) -> u16
+    pub fn running(&self) -> ListSet
         ensures { (l : ℕ) → l < MAX_LISTS → has_list result l ≡ is_running self.now.newer l }
     {
         running_of(&self.newer)
@@ -267,7 +268,7 @@ impl<S: SendEnd> TaskLink<S> {
     /// Looks at the ring of its orders, and returns whether starts of all these lists find places,
     /// with the stops of all lists that then run and an order to end: then at most `MAX_ORDERS`
     /// starts and stops wait.
-    pub fn can_start(&mut self, lists: u16) -> bool
+    pub fn can_start(&mut self, lists: ListSet) -> bool
         ensures yes { result ≡ true → CanStart self.new.newer (has_list lists) }
         ensures no { result ≡ false → ¬ CanStart self.new.newer (has_list lists) }
         ensures looked { LooksAtNewest self.old.newer self.new.newer }
@@ -300,8 +301,8 @@ impl<S: SendEnd> TaskLink<S> {
     }
 
     /// Ends the measurement of the sampler that was handed out last, which takes no orders from
-    /// then on. If the task has not fetched it, it is taken back and finished at once; else an order
-    /// to end is sent, which always finds a place. If it takes no orders, nothing changes.
+    /// then on. If the task has not fetched it, it is taken back and finished at once; else an
+    /// order to end is sent, which always finds a place. If it takes no orders, nothing changes.
     pub fn end(&mut self)
         ensures none { takes_orders self.old.newer ≡ false → self.new ≡ self.old }
         ensures ends { takes_orders self.old.newer ≡ true → EndsNewest self.old self.new }

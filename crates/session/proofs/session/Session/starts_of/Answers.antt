@@ -1,7 +1,7 @@
 use Rattle.std.proofs.Common.{◌≡◌, ◌∙◌, Ok, true, false, ap, sym}
 use Rattle.session.specs.Requests.{request}
 use Rattle.session.specs.Standing.{SessionState}
-use Rattle.session.proofs.ListSetLemmas.{empty_has_none}
+use Rattle.session.proofs.ListSetLemmas.{zero_has_none}
 use Rattle.session.proofs.StartLemmas.{other_packet, unconnected_packet}
 use Rattle.session.proofs.session.Session.starts_of.Goals as goal
 
@@ -10,7 +10,7 @@ pub returns-then-not-self : goal.returns-then-not-self
 returns-then-not-self c = record {
   value = λ past h l inside.
       let off : past.connected ≡ false = sym h.connected ∙ sym (ap (λ (s : SessionState). s.connected) c.self.view_is) ∙ c.if-not-self.true in
-      empty_has_none l ∙ sym (unconnected_packet c.args.self.now.profile past c.args.packet.now l off);
+      zero_has_none c.none.result l c.none.ensures ∙ sym (unconnected_packet c.args.self.now.profile past c.args.packet.now l off);
 }
 
 -- a request that is no command to the store starts nothing
@@ -21,5 +21,5 @@ returns-in_default-asked c = record {
       let base : c.self.inside.profile.base ≡ c.args.self.now.profile.base = ap (λ (s : SessionState). s.profile.base) c.self.view_is in
       let reads : request c.args.self.now.profile.base c.args.packet.now ≡ Ok c.in-Ok.asked =
       ap (λ b. request b c.args.packet.now) (sym base) ∙ sym c.read.ensures ∙ c.in-Ok.is in
-      empty_has_none l ∙ sym (other_packet c.args.self.now.profile past c.args.packet.now c.in-Ok.asked l connected reads c.in_default-asked.not-Lists);
+      zero_has_none c.none-in_default-asked.result l c.none-in_default-asked.ensures ∙ sym (other_packet c.args.self.now.profile past c.args.packet.now c.in-Ok.asked l connected reads c.in_default-asked.not-Lists);
 }

@@ -14,10 +14,10 @@ loop-c-preserved g c =
     let view = ap (λ s. s.session) c.self.view_is in
     let below : c.loop-c.c < MAX_CHANNELS = omega (arith, c.loop-c-test.true) in
     record {
-      many = length-set c.loop-c.sets c.loop-c.c c.common.result ∙ c.loop-c.invariant.many;
+      many = length-set c.loop-c.sets c.loop-c.c c.intersection.result ∙ c.loop-c.invariant.many;
       are = λ past stands.
-          more-sets c.args.lists c.args.self.now.session.profile past c.loop-c.sets c.loop-c.c c.common.result (omega (arith, below, c.loop-c.invariant.many)) (c.loop-c.invariant.are past stands)
-          (λ l h. c.common.ensures l ∙ ap (λ b. has_list c.args.lists l && b) (c.lists_on.ensures.value past (subst (λ x. SessionStandsAfter x past) (sym view) stands) l h ∙ ap (λ x. is_on x.profile past c.loop-c.c l) view));
+          more-sets c.args.lists c.args.self.now.session.profile past c.loop-c.sets c.loop-c.c c.intersection.result (omega (arith, below, c.loop-c.invariant.many)) (c.loop-c.invariant.are past stands)
+          (λ l h. c.intersection.ensures l ∙ ap (λ b. has_list c.args.lists l && b) (c.lists_on.ensures.value past (subst (λ x. SessionStandsAfter x past) (sym view) stands) l h ∙ ap (λ x. is_on x.profile past c.loop-c.c l) view));
     }
 
 pub returns-clause-sets : goal.returns-clause-sets

@@ -1,6 +1,9 @@
-use Rattle.std.proofs.Common.{◌≡◌, ◌<◌, ◌≤◌, length, ap, arith, sym, subst, ◌∙◌}
+use Rattle.std.proofs.Common.{◌≡◌, ◌≢◌, ◌<◌, ◌≤◌, get_or, length, ap, arith, sym, subst, ◌∙◌}
+use Rattle.std.proofs.lemmas.Grind.{get_or_default_zero}
 use Rattle.std.proofs.lemmas.List.{length-set}
 use Rattle.xcp_base.specs.declared.limits.TheConstants.{MAX_CHANNELS}
+use Rattle.xcp_base.specs.Lists.{has_list}
+use Rattle.tasks.specs.Links.{CanStart}
 use Rattle.slave_channels.proofs.EachLemmas.{front-next, front-seen}
 use Rattle.slave_channels.proofs.CallLemmas.{FindsPlaces, all-find, all-looked, finds-places, last-looked, no-places}
 use Rattle.slave_channels.proofs.channels.Channels.can_start.Goals as goal
@@ -26,8 +29,11 @@ pub returns-then-not-can_start_one-clause-no : goal.returns-then-not-can_start_o
 returns-then-not-can_start_one-clause-no g c = λ _.
     let view : length c.self.inside.all.items ≡ length c.args.self.now = ap length c.self.view_is in
     let here : c.loop-c.c < length c.args.self.now = omega (arith, c.loop-c-test.true, c.loop-c.auto.c-end, c.len-c-end.ensures, c.self.inside.all.ok.0, view) in
-    no-places c.args.lists.now c.loop-c.c c.loop-c.self-inside.all.items c.can_start_one.new.channel (omega (arith, here, c.requires.lists)) (omega (arith, here, c.loop-c.invariant.as_many))
-    (c.can_start_one.ensures.some c.if-not-can_start_one.true) (c.can_start_one.ensures.no c.if-not-can_start_one.true)
+    let within : c.loop-c.c < length c.args.lists.now = omega (arith, here, c.requires.lists) in
+    let set : c.index-lists-c.result ≡ get_or c.args.lists.now c.loop-c.c 0 = c.index-lists-c.is ∙ get_or_default_zero c.args.lists.now c.loop-c.c c.index-lists-c.result within in
+    no-places c.args.lists.now c.loop-c.c c.loop-c.self-inside.all.items c.can_start_one.new.channel within (omega (arith, here, c.loop-c.invariant.as_many))
+    (subst (λ n. n ≢ 0) set (c.can_start_one.ensures.some c.if-not-can_start_one.true))
+    (subst (λ n. ¬ CanStart c.can_start_one.new.channel.link.newer (has_list n)) set (c.can_start_one.ensures.no c.if-not-can_start_one.true))
 
 -- and the channels behind it are as they were
 pub returns-then-not-can_start_one-clause-looked : goal.returns-then-not-can_start_one-clause-looked
@@ -42,9 +48,11 @@ pub loop-c-preserved : goal.loop-c-preserved
 loop-c-preserved g c =
     let view : length c.self.inside.all.items ≡ length c.args.self.now = ap length c.self.view_is in
     let here : c.loop-c.c < length c.args.self.now = omega (arith, c.loop-c-test.true, c.loop-c.auto.c-end, c.len-c-end.ensures, c.self.inside.all.ok.0, view) in
+    let within : c.loop-c.c < length c.args.lists.now = omega (arith, here, c.requires.lists) in
+    let set : c.index-lists-c.result ≡ get_or c.args.lists.now c.loop-c.c 0 = c.index-lists-c.is ∙ get_or_default_zero c.args.lists.now c.loop-c.c c.index-lists-c.result within in
     front-next (FindsPlaces c.args.lists.now) c.loop-c.c _ _ c.index_mut.result.now c.can_start_one.new.channel c.index_mut.ensures.value (omega (arith, here, c.loop-c.invariant.as_many)) c.loop-c.invariant
-    (finds-places c.args.lists.now c.loop-c.c c.index_mut.result.now c.can_start_one.new.channel (omega (arith, here, c.requires.lists)) c.can_start_one.ensures.looked
-    (c.can_start_one.ensures.yes c.if-not-can_start_one.false))
+    (finds-places c.args.lists.now c.loop-c.c c.index_mut.result.now c.can_start_one.new.channel within c.can_start_one.ensures.looked
+    (subst (λ n. n ≢ 0 → CanStart c.can_start_one.new.channel.link.newer (has_list n)) set (c.can_start_one.ensures.yes c.if-not-can_start_one.false)))
 
 -- these are all
 pub returns-clause-yes : goal.returns-clause-yes

@@ -1,5 +1,7 @@
-use Rattle.std.proofs.Common.{◌<◌, ◌≤◌, arith, length}
-use Rattle.slave_channels.specs.Calls.{OpensAt}
+use Rattle.std.proofs.Common.{◌≡◌, ◌<◌, ◌≤◌, arith, get_or, length, subst, ◌∙◌}
+use Rattle.std.proofs.lemmas.Grind.{get_or_default_zero}
+use Rattle.slave_channels.specs.Calls.{OpensAt, OpensIfAny}
+use Rattle.slave_channels.specs.Each.{IsOnlyAt}
 use Rattle.slave_channels.proofs.EachLemmas.{front-all, front-only}
 use Rattle.slave_channels.proofs.CallLemmas.{opened-ended, opens-at}
 use Rattle.slave_channels.proofs.channels.Channels.open.Goals as goal
@@ -14,9 +16,12 @@ returns-in-Err-clause-err g c =
 pub loop-c-preserved : goal.loop-c-preserved
 loop-c-preserved g c =
     let here : c.loop-c.c < length c.args.self.now = omega (arith, c.loop-c-test.true, c.loop-c.auto.c-end, c.len-c-end.ensures.value) in
+    let within : c.loop-c.c < length c.args.lists.now = omega (arith, here, c.requires.lists) in
+    let set : c.index-lists-c.result ≡ get_or c.args.lists.now c.loop-c.c 0 = c.index-lists-c.is ∙ get_or_default_zero c.args.lists.now c.loop-c.c c.index-lists-c.result within in
     front-only (OpensAt g.R.Send.SendEnd g.R.Send.End.RingEnd g.R.Take.TakeEnd c.args.store.now c.args.number c.args.caps.now c.args.lists.now) _ c.loop-c.c _ c.loop-c.self _
-    (opens-at g.R.Send.SendEnd g.R.Send.End.RingEnd g.R.Take.TakeEnd c.args.store.now c.args.number c.args.caps.now c.args.lists.now c.loop-c.c (omega (arith, here, c.requires.caps)) (omega (arith, here, c.requires.lists)))
-    c.loop-c.invariant c.in_default.ensures.ok
+    (opens-at g.R.Send.SendEnd g.R.Send.End.RingEnd g.R.Take.TakeEnd c.args.store.now c.args.number c.args.caps.now c.args.lists.now c.loop-c.c (omega (arith, here, c.requires.caps)) within)
+    c.loop-c.invariant
+    (subst (λ n. IsOnlyAt (OpensIfAny g.R.Send.SendEnd g.R.Send.End.RingEnd g.R.Take.TakeEnd c.args.store.now c.args.number c.loop-c.c (get_or c.args.caps.now c.loop-c.c 0) n) c.loop-c.c c.loop-c.self c.open_at.new.self) set c.in_default.ensures.ok)
 
 -- these are all
 pub returns-clause-ok : goal.returns-clause-ok

@@ -1,4 +1,5 @@
-use Rattle.std.proofs.Common.{◌≡◌, ◌<◌, ◌≤◌, length, ap, arith, sym, subst, ◌∙◌}
+use Rattle.std.proofs.Common.{◌≡◌, ℕ, ◌<◌, ◌≤◌, get_or, length, ap, arith, sym, subst, ◌∙◌}
+use Rattle.std.proofs.lemmas.Grind.{get_or_default_zero}
 use Rattle.xcp_base.specs.declared.limits.TheConstants.{MAX_CHANNELS}
 use Rattle.slave_channels.specs.Calls.{Starts, StartsAt}
 use Rattle.slave_channels.proofs.EachLemmas.{front-all, front-next, front-seen}
@@ -20,8 +21,11 @@ pub loop-c-preserved : goal.loop-c-preserved
 loop-c-preserved g c =
     let view : length c.self.inside.all.items ≡ length c.args.self.now = ap length c.self.view_is in
     let here : c.loop-c.c < length c.args.self.now = omega (arith, c.loop-c-test.true, c.loop-c.auto.c-end, c.len-c-end.ensures, c.self.inside.all.ok.0, view) in
+    let within : c.loop-c.c < length c.args.lists.now = omega (arith, here, c.requires.lists) in
+    let set : c.index-lists-c.result ≡ get_or c.args.lists.now c.loop-c.c 0 = c.index-lists-c.is ∙ get_or_default_zero c.args.lists.now c.loop-c.c c.index-lists-c.result within in
+    let starts = λ (n : ℕ). Starts g.R.Take.TakeEnd n c.index_mut.result.now c.start_one.new.channel in
     front-next (StartsAt g.R.Take.TakeEnd c.args.lists.now) c.loop-c.c _ _ c.index_mut.result.now c.start_one.new.channel c.index_mut.ensures.value (omega (arith, here, c.loop-c.invariant.as_many)) c.loop-c.invariant
-    (at-place (λ n. Starts g.R.Take.TakeEnd n c.index_mut.result.now c.start_one.new.channel) c.args.lists.now c.loop-c.c (omega (arith, here, c.requires.lists)) c.start_one.ensures.starts)
+    (at-place starts c.args.lists.now c.loop-c.c within (subst starts set c.start_one.ensures.starts))
 
 -- these are all
 pub returns : goal.returns
