@@ -6,7 +6,7 @@ use Rattle.frame_writer.specs.declared.out.Out.{Ghosts as OutGhosts}
 use Rattle.frame_writer.specs.declared.sink_out.SinkOut.{SinkOut}
 use Rattle.transmitter.specs.Fills.{Fills}
 use Rattle.transmitter.specs.Pumps.{IsPump}
-use Rattle.transmitter.specs.Written.{TransmitterState, next_of, transmission}
+use Rattle.transmitter.specs.Written.{next_of, transmission}
 use Rattle.transmitter.specs.declared.faults.PumpFault.TheVariants as fault
 use Rattle.transmitter.specs.declared.pumped_all.PumpedAll.{PumpedAll}
 use Rattle.handle_calls.specs.Engines.{OnEngine}

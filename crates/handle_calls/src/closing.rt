@@ -8,8 +8,8 @@ ghost use Rattle.handle_calls.specs.Ends.{StaysHeld, StaysOpen};
 ghost use Rattle.handle_calls.specs.Lendings.{AreBack};
 
 use crate::content::Content;
-use crate::engine::Engine;
 use crate::handle::Handle;
+use crate::held_engine::HeldEngine;
 use crate::held_ring::HeldRing;
 use crate::lending::Lending;
 use crate::report_out::ReportOut;
@@ -22,7 +22,7 @@ use std::alloc::Global;
 use xcp_base::limits::MAX_LISTS;
 
 /// Closes an engine, and tells its account.
-fn close<R: Ring>(engine: Engine<R>, lines: &mut [ListReport], report: &mut ReportOut)
+fn close<R: Ring>(engine: HeldEngine<R>, lines: &mut [ListReport], report: &mut ReportOut)
     requires back { AreBack R.Send.SendEnd R.Send.End.RingEnd engine.lending }
     requires room { MOST_LISTS ≤ length lines.old }
     ensures { (told : ReportOf) × IsAccountOf ⟦<SinkOut as Out>⟧ R.Take.TakeEnd
@@ -30,7 +30,7 @@ fn close<R: Ring>(engine: Engine<R>, lines: &mut [ListReport], report: &mut Repo
         (record { lines = lines.old; report = report.old })
         (record { lines = lines.new; report = report.new }) told }
 {
-    let Engine {
+    let HeldEngine {
         transmitter,
         lending,
         lines: room,
@@ -52,7 +52,7 @@ fn close<R: Ring>(engine: Engine<R>, lines: &mut [ListReport], report: &mut Repo
 
 /// Whether an engine may be closed with so much room for lines, since all its samplers came back;
 /// or why not.
-fn may_close<R: Ring>(engine: &mut Engine<R>, room: usize) -> Result<(), Status>
+fn may_close<R: Ring>(engine: &mut HeldEngine<R>, room: usize) -> Result<(), Status>
     ensures ok { OnOk result
         (MayClose R.Send.SendEnd R.Send.End.RingEnd engine.old engine.new room) }
     ensures err { IfErr result (StaysOpen engine.old engine.new room) }

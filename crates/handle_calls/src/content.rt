@@ -1,6 +1,6 @@
 ghost use Rattle.std.specs.Prelude.{◌≡◌, IfErr, IfOk};
 
-use crate::engine::Engine;
+use crate::held_engine::HeldEngine;
 use crate::lent::Lent;
 use crate::status::Status;
 use byte_ring::{ByteRing, ByteSend};
@@ -17,11 +17,11 @@ pub enum Content {
     /// The sampler of an event channel, over a ring of items.
     Sampler(Lent<SampleRing>),
     /// An engine over rings of items.
-    Engine(Engine<SampleRing>),
+    Engine(HeldEngine<SampleRing>),
     /// The sampler of an event channel, over a ring of bytes.
     ByteSampler(Lent<ByteRing>),
     /// An engine over rings of bytes.
-    ByteEngine(Engine<ByteRing>),
+    ByteEngine(HeldEngine<ByteRing>),
     /// A slave over rings of items.
     Slave(LendingSlave<SampleRing>),
     /// The task of an event channel, over a ring of items.

@@ -3,7 +3,7 @@
 ghost use Rattle.std.specs.Prelude.{◌≡◌};
 ghost use Rattle.handle_calls.specs.Ends.{DrainsEngine};
 
-use crate::engine::Engine;
+use crate::held_engine::HeldEngine;
 use crate::pumped_out::PumpedOut;
 use crate::pumping::{PUMP_BYTES, pump};
 use crate::status::Status;
@@ -12,7 +12,7 @@ use frame_writer::{Out, SinkOut};
 
 /// Looks at all that was sent, and pumps where something is left.
 pub fn drain<R: Ring>(
-    engine: &mut Engine<R>,
+    engine: &mut HeldEngine<R>,
     buffer: &mut [u8],
     len: &mut usize,
     pumped: &mut PumpedOut,

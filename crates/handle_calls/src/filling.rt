@@ -3,7 +3,7 @@
 ghost use Rattle.std.specs.Prelude.{◌≡◌};
 ghost use Rattle.handle_calls.specs.Fillings.{FillsEngine};
 
-use crate::engine::Engine;
+use crate::held_engine::HeldEngine;
 use crate::pumped_all_out::PumpedAllOut;
 use crate::status::Status;
 use channel_ring::TakeEnd;
@@ -13,7 +13,7 @@ use frame_writer::{MAX_SAMPLE_BYTES, Out, SinkOut};
 /// Pumps until nothing is left or the next sample doesn't fit, and puts the frames into the front
 /// of the buffer.
 pub fn fill<R: Ring>(
-    engine: &mut Engine<R>,
+    engine: &mut HeldEngine<R>,
     buffer: &mut [u8],
     len: &mut usize,
     pumped: &mut PumpedAllOut,

@@ -7,8 +7,8 @@ ghost use Rattle.handle_calls.specs.Engines.{OnEngine};
 ghost use Rattle.handle_calls.specs.States.{EngineState};
 
 use crate::content::Content;
-use crate::engine::Engine;
 use crate::handle::Handle;
+use crate::held_engine::HeldEngine;
 use crate::lent::Lent;
 use crate::status::Status;
 use byte_ring::ByteRing;
@@ -17,7 +17,7 @@ use daq_engine::Ring;
 use std::alloc::Global;
 
 /// The next sampler of an engine, which is out then.
-fn next_of<R: Ring>(alloc: Global, engine: &mut Engine<R>) -> Result<Lent<R>, Status>
+fn next_of<R: Ring>(alloc: Global, engine: &mut HeldEngine<R>) -> Result<Lent<R>, Status>
     ensures ok { IfOk result (LendsOut engine.old engine.new) }
     ensures err { IfErr result (LendsNone engine.old engine.new) }
 {
@@ -29,7 +29,7 @@ fn next_of<R: Ring>(alloc: Global, engine: &mut Engine<R>) -> Result<Lent<R>, St
 }
 
 /// Takes the sampler back that an engine handed out last.
-fn take_back<R: Ring>(engine: &mut Engine<R>, lent: Lent<R>)
+fn take_back<R: Ring>(engine: &mut HeldEngine<R>, lent: Lent<R>)
     requires { (before : EngineState R.Send R.Take R.Send.End)
         × LendsOut before engine.old lent }
     ensures { (before : EngineState R.Send R.Take R.Send.End) →
@@ -54,7 +54,7 @@ pub fn put_in(alloc: Global, given: Content, handle: &mut Handle) -> Result<(), 
 }
 
 /// Hands the next sampler over a ring of items out, into an empty handle.
-fn hand_out(alloc: Global, engine: &mut Engine<SampleRing>, sampler: &mut Handle) -> Status
+fn hand_out(alloc: Global, engine: &mut HeldEngine<SampleRing>, sampler: &mut Handle) -> Status
     requires empty { sampler.old.held ≡ None }
     ensures { HandsSampler held.Sampler engine.old engine.new sampler.new.held result }
 {
@@ -75,7 +75,7 @@ fn hand_out(alloc: Global, engine: &mut Engine<SampleRing>, sampler: &mut Handle
 }
 
 /// Hands the next sampler over a ring of bytes out, into an empty handle.
-fn hand_out_bytes(alloc: Global, engine: &mut Engine<ByteRing>, sampler: &mut Handle) -> Status
+fn hand_out_bytes(alloc: Global, engine: &mut HeldEngine<ByteRing>, sampler: &mut Handle) -> Status
     requires empty { sampler.old.held ≡ None }
     ensures { HandsSampler held.ByteSampler engine.old engine.new sampler.new.held result }
 {

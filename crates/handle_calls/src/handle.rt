@@ -78,10 +78,8 @@ impl Handle {
         ensures { MatchOption result (self.held ≡ None)
             (λ content. self.held ≡ Some content.value) }
     {
-        match self.into_parts(alloc) {
-            Some(parts) => Some(parts.into_box()),
-            None => None,
-        }
+        let parts = self.into_parts(alloc)?;
+        Some(parts.into_box())
     }
 
     /// Takes out what is held, and leaves the handle empty.

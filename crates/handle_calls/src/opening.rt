@@ -9,8 +9,8 @@ ghost use Rattle.handle_calls.specs.Lendings.{WasOpened};
 ghost use Rattle.handle_calls.specs.States.{samplers_in};
 
 use crate::content::Content;
-use crate::engine::Engine;
 use crate::handle::Handle;
+use crate::held_engine::HeldEngine;
 use crate::held_ring::HeldRing;
 use crate::kinds::ring_numbered;
 use crate::lending::Lending;
@@ -31,7 +31,7 @@ fn engine_of<R: Ring>(
     alloc: Global,
     samplers: Vec<Sampler<R::Send>>,
     transmitter: Transmitter<SinkOut, R::Take>,
-) -> Result<Engine<R>, AllocError>
+) -> Result<HeldEngine<R>, AllocError>
     requires rings { (transmission ⟦<SinkOut as Out>⟧ R.Take.TakeEnd transmitter).rings
         ≡ map (λ s. R.Send.ring s.end) samplers.items }
     requires is_open { (transmission ⟦<SinkOut as Out>⟧ R.Take.TakeEnd transmitter).writer.closed
@@ -44,7 +44,7 @@ fn engine_of<R: Ring>(
 {
     let lines = Vec::with_capacity(alloc, MAX_LISTS as usize)?;
     let lending = Lending::new(alloc, samplers)?;
-    Ok(Engine {
+    Ok(HeldEngine {
         transmitter,
         lending,
         lines,
@@ -52,7 +52,11 @@ fn engine_of<R: Ring>(
 }
 
 /// Opens an engine over a store.
-pub fn opened<R: Ring>(alloc: Global, store: &Store, caps: &[usize]) -> Result<Engine<R>, Status>
+pub fn opened<R: Ring>(
+    alloc: Global,
+    store: &Store,
+    caps: &[usize],
+) -> Result<HeldEngine<R>, Status>
     ensures ok { IfOk result (λ engine. IsOpened ⟦<SinkOut as Out>⟧ R.Take.TakeEnd
         R.Send.SendEnd R.Send.End.RingEnd R.is_cap store.now caps.now engine) }
     ensures err { IfErr result (λ status. IsRefused R.is_cap store.now caps.now status) }
@@ -86,14 +90,14 @@ fn opened_as(
         (Some kind) store.now caps.now None Status.Memory }
 {
     match kind {
-        RingKind::Samples => match opened::<SampleRing>(alloc, store, caps) {
-            Ok(engine) => Ok(Content::Engine(engine)),
-            Err(status) => Err(status),
-        },
-        RingKind::Bytes => match opened::<ByteRing>(alloc, store, caps) {
-            Ok(engine) => Ok(Content::ByteEngine(engine)),
-            Err(status) => Err(status),
-        },
+        RingKind::Samples => {
+            let engine = opened::<SampleRing>(alloc, store, caps)?;
+            Ok(Content::Engine(engine))
+        }
+        RingKind::Bytes => {
+            let engine = opened::<ByteRing>(alloc, store, caps)?;
+            Ok(Content::ByteEngine(engine))
+        }
     }
 }
 
@@ -114,10 +118,7 @@ fn opened_on_heap(
     let Some(kind) = ring_numbered(ring) else {
         return Err(Status::BadLimits);
     };
-    match opened_as(alloc, store, kind, caps) {
-        Ok(content) => content.boxed(alloc),
-        Err(status) => Err(status),
-    }
+    opened_as(alloc, store, kind, caps)?.boxed(alloc)
 }
 
 /// Opens an engine over what is held, if it is a store.

@@ -3,7 +3,7 @@
 ghost use Rattle.std.specs.Prelude.{◌≡◌};
 ghost use Rattle.handle_calls.specs.Engines.{PumpsEngine};
 
-use crate::engine::Engine;
+use crate::held_engine::HeldEngine;
 use crate::pumped_out::PumpedOut;
 use crate::status::Status;
 use channel_ring::TakeEnd;
@@ -16,7 +16,7 @@ pub const PUMP_BYTES: usize = 4352;
 
 /// Pumps, and puts the frames into the front of the buffer.
 pub fn pump<R: Ring>(
-    engine: &mut Engine<R>,
+    engine: &mut HeldEngine<R>,
     buffer: &mut [u8],
     len: &mut usize,
     pumped: &mut PumpedOut,

@@ -50,10 +50,7 @@ fn write_fault(
 
 /// Writes what a step's numbers are.
 fn write_channels(why: &mut String, table: &Table) -> Result<(), AllocError> {
-    let channels = match table.get("channels") {
-        Some(value) => value.as_integer(),
-        None => None,
-    };
+    let channels = table.get("channels").and_then(|value| value.as_integer());
     writeln!(
         why,
         "one space between words, C below {}, L 0 to 255, STAMP 0 to 4294967295, IMAGE hexadecimal",

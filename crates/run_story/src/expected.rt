@@ -21,14 +21,8 @@ pub fn write_expected(why: &mut String, bad: BadKey, table: &Table) -> Result<()
 
 /// Writes what the capacities should be.
 fn write_caps(why: &mut String, table: &Table) -> Result<(), AllocError> {
-    let channels = match table.get("channels") {
-        Some(value) => value.as_integer(),
-        None => None,
-    };
-    let ring = match table.get("ring") {
-        Some(value) => value.as_str(),
-        None => None,
-    };
+    let channels = table.get("channels").and_then(|value| value.as_integer());
+    let ring = table.get("ring").and_then(|value| value.as_str());
     let bounds = match ring {
         Some("bytes") => "532 to 65536",
         _ => "1 to 1024",

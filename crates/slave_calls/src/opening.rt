@@ -43,14 +43,8 @@ fn opened_on_heap(
         asked.now events.now it.value) }
     ensures err { IfErr result (RefusesProfile asked.now events.now) }
 {
-    let profile = match good_profile(alloc, asked, events) {
-        Ok(profile) => profile,
-        Err(status) => return Err(status),
-    };
-    match opened_as(alloc, profile) {
-        Ok(content) => content.boxed(alloc),
-        Err(status) => Err(status),
-    }
+    let profile = good_profile(alloc, asked, events)?;
+    opened_as(alloc, profile)?.boxed(alloc)
 }
 
 /// Opens a slave with the profile that is asked for, into an empty handle.

@@ -83,10 +83,7 @@ pub fn good_profile(alloc: Global, asked: &ProfileIn, events: &[EventIn]) -> Res
     ensures ok { IfOk result (IsGoodProfileOf asked.now events.now) }
     ensures err { IfErr result (RefusesProfile asked.now events.now) }
 {
-    let profile = match profile_of(alloc, asked, events) {
-        Ok(profile) => profile,
-        Err(status) => return Err(status),
-    };
+    let profile = profile_of(alloc, asked, events)?;
     match profile.fault() {
         None => Ok(profile),
         Some(_) => Err(Status::BadLimits),

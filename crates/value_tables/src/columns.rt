@@ -44,12 +44,8 @@ pub fn unknown_name<'a>(
     ensures { option_copied result
         ≡ unknown_in description.now shapes.now (option_copied only.entry) }
 {
-    match only {
-        Some(only) => only
-            .split(',')
-            .find(|name| !is_known(description, shapes, name)),
-        None => None,
-    }
+    let mut names = only?.split(',');
+    names.find(|name| !is_known(description, shapes, name))
 }
 
 /// Whether a measurement of this name has its bytes in some list.
@@ -103,20 +99,15 @@ fn conversion_of<'a>(
 ) -> Option<&'a Conversion>
     ensures { option_copied result ≡ conversion_in description.now measurement.now }
 {
-    match method_at(&description.methods, measurement.method) {
-        Some(method) => Some(&method.conversion),
-        None => None,
-    }
+    let method = method_at(&description.methods, measurement.method)?;
+    Some(&method.conversion)
 }
 
 /// The method at a place, if there is one.
 fn method_at(methods: &[Method], place: Option<usize>) -> Option<&Method>
     ensures { option_copied result ≡ method_at methods.now place }
 {
-    match place {
-        Some(place) => methods.get(place),
-        None => None,
-    }
+    methods.get(place?)
 }
 
 /// Whether a measurement is shown.

@@ -145,10 +145,7 @@ impl<'a, W: Write + Drop> Samples for ValueRows<'a, W> {
 fn shape_of(list: Option<&ListColumns>) -> Option<&ListShape>
     ensures { option_copied result ≡ option_map (λ l. l.shape) (option_copied list.entry) }
 {
-    match list {
-        Some(list) => Some(&list.shape),
-        None => None,
-    }
+    Some(&list?.shape)
 }
 
 /// Writes the row of a sample, of a list if there is one, unless something failed before, and tells

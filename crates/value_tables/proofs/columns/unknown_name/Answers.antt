@@ -8,14 +8,14 @@ use Rattle.value_tables.specs.Columns.{is_known, names_in, unknown_in}
 use Rattle.value_tables.proofs.columns.unknown_name.Goals as goal
 
 -- the names are asked one after another
-pub returns-in-Some : goal.returns-in-Some
-returns-in-Some c =
+pub returns : goal.returns
+returns c =
     let d = c.args.description.now in
     let plans = c.args.shapes.now in
-    let text = c.in-Some.only.now in
-    let cut = c.split.ensures in
+    let text = c.in_ok-only.field-0.now in
+    let cut = c.split-names.ensures in
     let first : option_copied c.find.result ≡ find (λ n. not (is_known d plans n)) (names_in text) =
     find_from_yields_List (λ n. not (is_known d plans n)) _ _ _ c.find.ensures.ran
     (YieldsList-from_str_split 44 text (lit< tt) cut.text cut.has_more cut.pattern)
     (λ x b q k. search (rules, tests)) in
-    first ∙ sym (ap (λ o. unknown_in d plans (option_copied o)) c.in-Some.is)
+    first ∙ sym (ap (λ o. unknown_in d plans (option_copied o)) c.in_ok-only.was)

@@ -46,7 +46,7 @@ use Rattle.task_lending.proofs.SendLemmas.{lending_slave_send, lent_task_send}
 use Rattle.task_lending.specs.contracts.lending_slave.LendingSlave as LendingSlave
 use Rattle.task_lending.specs.contracts.lent_task.LentTask as LentTask
 use Rattle.handle_calls.specs.contracts.coming_back.ComingBack as ComingBack
-use Rattle.handle_calls.specs.contracts.engine.Engine as Engine
+use Rattle.handle_calls.specs.contracts.held_engine.HeldEngine as Engine
 use Rattle.handle_calls.specs.contracts.lending.Lending as Lending
 use Rattle.handle_calls.specs.contracts.lent.Lent as Lent
 use Rattle.handle_calls.specs.contracts.returns.Return as Return

@@ -1,5 +1,5 @@
 use Rattle.std.proofs.Common.{take as first, refl, ap, subst, sym, ◌∙◌, arith}
-use Rattle.slave.specs.Inner.{AreSets, WantsPlaces}
+use Rattle.slave.specs.Inner.{AreSets}
 use Rattle.slave.proofs.PreparingLemmas.{are-front, front-many, looks-of, starts-of}
 use Rattle.slave.proofs.slave.Slave.start.Goals as goal
 

@@ -8,13 +8,13 @@ use transmitter::Transmitter;
 /// An engine that was opened over rings of one kind: its transmitter, its samplers, and the room
 /// for the lines of its report.
 #[derive(Drop)]
-pub struct Engine<R: Ring> {
+pub struct HeldEngine<R: Ring> {
     pub(crate) transmitter: Transmitter<SinkOut, R::Take>,
     pub(crate) lending: Lending<R>,
     pub(crate) lines: Vec<ListReport>,
 }
 
-impl<R: Ring> Model for Engine<R> {
+impl<R: Ring> Model for HeldEngine<R> {
     ghost use Rattle.std.specs.Prelude.{◌≡◌, ◌≤◌, false, length, vec_capacity, vec_len};
     ghost use Rattle.xcp_base.specs.declared.limits.TheConstants.{MAX_LISTS};
     ghost use Rattle.transmitter.specs.Written.{transmission};
