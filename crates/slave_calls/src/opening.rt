@@ -44,7 +44,8 @@ fn opened_on_heap(
     ensures err { IfErr result (RefusesProfile asked.now events.now) }
 {
     let profile = good_profile(alloc, asked, events)?;
-    opened_as(alloc, profile)?.boxed(alloc)
+    let content = opened_as(alloc, profile)?;
+    content.boxed(alloc)
 }
 
 /// Opens a slave with the profile that is asked for, into an empty handle.

@@ -6,12 +6,12 @@ use Rattle.slave_calls.proofs.OnLemmas.{bytes, items}
 use Rattle.slave_calls.proofs.opening.opened_on_heap.Goals as goal
 
 -- the slave is in the box
-pub returns-in-Ok-opened_as-clause-ok : goal.returns-in-Ok-opened_as-clause-ok
-returns-in-Ok-opened_as-clause-ok c =
+pub returns-clause-ok : goal.returns-clause-ok
+returns-clause-ok c =
     IfOk-weaker c.boxed.result _ _ (λ it is. record {
-      profile = c.in-Ok.profile;
-      good = c.in-Ok.ensures.ok;
+      profile = c.in_ok-profile.profile;
+      good = c.in_ok-profile.ensures.ok;
       opened =
-          subst (λ (content : Content). IsSlaveOf items bytes c.in-Ok.profile.ring c.in-Ok.profile content) (sym is)
-          c.in-Ok-opened_as.ensures.ok;
+          subst (λ (content : Content). IsSlaveOf items bytes c.in_ok-profile.profile.ring c.in_ok-profile.profile content) (sym is)
+          c.in_ok-content.ensures.ok;
     }) c.boxed.ensures.ok
