@@ -1,96 +1,17 @@
 -- Pumps, one after another, into one buffer.
-use Rattle.std.proofs.Common.{◌≡◌, ℕ, inl, inr, ◌+◌, ◌<◌, ◌≤◌, ◌||◌, List, [], ◌∷◌, ◌++◌, length, None, refl, sym, ap, ◌∙◌, subst, arith, append-nil, append_assoc, length-append, below_more, drop, take}
-use Rattle.std.specs.List.{list_any}
+use Rattle.std.proofs.Common.{◌≡◌, ℕ, inl, inr, ◌+◌, ◌*◌, ◌<◌, ◌≤◌, List, [], ◌∷◌, ◌++◌, length, None, refl, sym, ap, ◌∙◌, subst, arith, append-nil, append_assoc, length-append, drop, take}
 use Rattle.std.proofs.lemmas.List.{drop-drop}
-use Rattle.std.proofs.lemmas.List.Folds.{list_any-append}
 use Rattle.xcp_base.specs.declared.item.Item.{Item}
-use Rattle.xcp_base.specs.Lists.{has_list}
 use Rattle.frame_writer.specs.Shown.{OutState}
 use Rattle.transmitter.specs.Fills.{ArePumps, Fills, FindsNoRoom, TakesTurns, Tells, all_taken, ring_behind}
 use Rattle.transmitter.specs.Inner.Fits.{HasTurns, LaysOn}
 use Rattle.transmitter.specs.Inner.Turns.{Lays}
-use Rattle.transmitter.specs.Items.{packets_of, samples}
-use Rattle.transmitter.specs.Merge.{items_taken, of_ring}
-use Rattle.transmitter.specs.Pumps.{CanPump, Leads, is_marker_of}
+use Rattle.transmitter.specs.Pumps.{CanPump, Leads}
 use Rattle.xcp_base.specs.declared.limits.TheConstants.{MAX_TAKEN}
 use Rattle.transmitter.specs.Written.{TransmitterState}
 use Rattle.transmitter.specs.declared.pumped_all.PumpedAll.{PumpedAll}
-use Rattle.transmitter.proofs.PumpLemmas.{AreBelow, below-next, below-push, empty_has_none, frames-append, none_above, refused, rising-push, taken_before, taken_here}
-use Rattle.transmitter.proofs.TakenLemmas.{items_taken-push}
+use Rattle.transmitter.proofs.PumpLemmas.{refused, tells-nothing}
 use Rattle.transmitter.proofs.WrittenLemmas.{leads-append}
-
--- one item more is told
-tells-push : (p q : PumpedAll) (qs : List (ℕ × Item)) (c : ℕ) (x : Item) → Tells p qs → q.taken ≡ p.taken + 1 → q.frames ≡ p.frames + length (packets_of (samples (x ∷ []))) → ((l : ℕ) → has_list q.stopped l ≡ (has_list p.stopped l || list_any (is_marker_of l) (x ∷ []))) → Tells q (qs ++ (c, x) ∷ [])
-tells-push p q qs c x t taken frames stopped = record {
-  taken = omega (arith, taken, t.taken, length-append qs ((c, x) ∷ []));
-  frames = rw (items_taken-push qs c x, frames-append (items_taken qs) (x ∷ []), frames, t.frames) refl;
-  stopped = λ l. rw (items_taken-push qs c x, list_any-append (is_marker_of l) (items_taken qs) (x ∷ [])) (stopped l ∙ ap (λ b. b || list_any (is_marker_of l) (x ∷ [])) (t.stopped l));
-}
-
--- nothing was taken yet
-pub tells-nothing : (p : PumpedAll) → p.taken ≡ 0 → p.frames ≡ 0 → p.stopped ≡ 0 → Tells p []
-tells-nothing p taken frames stopped = record { taken = taken; frames = frames; stopped = λ l. rw stopped (empty_has_none l) }
-
--- before the first turn
-pub no_turns : (low high : ℕ) (a : TransmitterState) (p : PumpedAll) → high ≤ low → a.hand ≡ None → HasTurns low high a a p p
-no_turns low high a p h hand = record {
-  hand = hand;
-  items = [];
-  turns = record { rising = tt; below = tt; leads = refused a; known = λ e b l. absurd (omega (arith, h, b, l)) };
-  tells = λ before t. subst (Tells p) (sym (append-nil before)) t;
-  count = omega arith;
-}
-
--- a turn that took an item
-pub item_more : (low c : ℕ) (a b d : TransmitterState) (p q r : PumpedAll) (x : Item) → HasTurns low c a b p q → low ≤ c → Leads b ((c, x) ∷ []) d → d.hand ≡ None → r.taken ≡ q.taken + 1 → r.frames ≡ q.frames + length (packets_of (samples (x ∷ []))) → ((l : ℕ) → has_list r.stopped l ≡ (has_list q.stopped l || list_any (is_marker_of l) (x ∷ []))) → HasTurns low (c + 1) a d p r
-item_more low c a b d p q r x s above leads hand taken frames stopped = record {
-  hand = hand;
-  items = s.items ++ (c, x) ∷ [];
-  turns = record {
-    rising = rising-push low s.items c x s.turns.rising s.turns.below above;
-    below = below-push s.items c x s.turns.below;
-    leads = leads-append a b d s.items ((c, x) ∷ []) s.turns.leads leads;
-    known = below_more _ _ (λ e h l k. taken_before c e s.items x (s.turns.known e h l k)) (λ l k. taken_here c s.items x);
-  };
-  tells = λ before t. subst (Tells r) (append_assoc before s.items ((c, x) ∷ [])) (tells-push q r (before ++ s.items) c x (s.tells before t) taken frames stopped);
-  count = omega (arith, taken, s.count, length-append s.items ((c, x) ∷ []));
-}
-
--- what was known of a ring that gave nothing: nothing
-none_left : (a b : TransmitterState) (c : ℕ) (qs : List (ℕ × Item)) → Leads a qs b → AreBelow c qs → of_ring b.known c ≡ [] → 0 < length (of_ring a.known c) → ⊥
-none_left a b c qs leads below none some =
-    let front = leads.takes.first c in
-    let all : of_ring a.known c ++ front.0 ≡ [] = front.1 ∙ (ap (λ t. t ++ of_ring b.known c) (none_above c c qs below (omega arith)) ∙ none) in
-    omega (arith, some, ap length all ∙ refl, length-append (of_ring a.known c) front.0)
-
--- nothing more was taken
-leads-idle : (a b d : TransmitterState) (qs : List (ℕ × Item)) → Leads a qs b → Leads b [] d → Leads a qs d
-leads-idle a b d qs leads none = subst (λ ps. Leads a ps d) (append-nil qs) (leads-append a b d qs [] leads none)
-
--- a turn at a ring that gave nothing
-pub idle_more : (low c : ℕ) (a b d : TransmitterState) (p q : PumpedAll) → HasTurns low c a b p q → Leads b [] d → d.hand ≡ None → of_ring b.known c ≡ [] → HasTurns low (c + 1) a d p q
-idle_more low c a b d p q s leads hand none = record {
-  hand = hand;
-  items = s.items;
-  turns = record {
-    rising = s.turns.rising;
-    below = below-next s.items c s.turns.below;
-    leads = leads-idle a b d s.items s.turns.leads leads;
-    known = below_more _ _ s.turns.known (λ l k. absurd (none_left a b c s.items s.turns.leads s.turns.below none k));
-  };
-  tells = s.tells;
-  count = s.count;
-}
-
--- a look at a ring whose item stays there
-pub look_more : (low c : ℕ) (a b d : TransmitterState) (p q : PumpedAll) → HasTurns low c a b p q → Leads b [] d → d.hand ≡ None → HasTurns low c a d p q
-look_more low c a b d p q s leads hand = record {
-  hand = hand;
-  items = s.items;
-  turns = record { rising = s.turns.rising; below = s.turns.below; leads = leads-idle a b d s.items s.turns.leads leads; known = s.turns.known };
-  tells = s.tells;
-  count = s.count;
-}
 
 -- nothing was laid out
 pub lays_nothing : (a : OutState) (buffer : List ℕ) (at : ℕ) → at ≤ length buffer → LaysOn a a buffer buffer at at
@@ -220,3 +141,7 @@ fills_spent from now room end a b p could f spent = record {
   leads = subst (λ ps. Leads a ps b) (sym (append-nil (all_taken f.pumps))) f.leads;
   tells = subst (Tells p) (sym (append-nil (all_taken f.pumps))) f.tells;
 }
+
+-- in a buffer with room for the frames of a sample for each ring, turns stop at no ring
+pub all_fit : (stop n room end : ℕ) → (stop < n → room < end + 544) → end ≤ 544 * stop → 544 * 8 ≤ room → n ≤ 8 → n ≤ stop
+all_fit stop n room end short bytes enough few = grind (arith, short, bytes, enough, few)

@@ -1,5 +1,7 @@
 -- A frame writer that was handed the packets of a sample.
 use Rattle.std.proofs.Common.{◌≡◌, ℕ, ◌+◌, ◌*◌, ◌≤◌, List, [], ◌∷◌, ◌++◌, IfSome, Option, None, Some, length, refl, sym, ap, ◌∙◌, arith, append_assoc, length-append}
+use Rattle.std.proofs.lemmas.List.Elements.{All-head, All-tail}
+use Rattle.xcp_base.specs.Packets.{ArePackets, IsPacket}
 use Rattle.frame_writer.specs.Frame.{frame, text}
 use Rattle.frame_writer.specs.Shown.{OutState, after_bytes}
 use Rattle.frame_writer.specs.Writing.{AfterText, FailsWithinText, WriterState, after_text}
@@ -42,3 +44,10 @@ long_text n (q ∷ qs) = omega (arith, long_text (n + 1) qs, length-append (fram
 pub long_end : (end : Option ℕ) (at n : ℕ) (qs : List (List ℕ)) → IfSome end (λ e. e ≡ at + length (text n qs)) → IfSome end (λ e. at + 4 * length qs ≤ e)
 long_end None at n qs is = tt
 long_end (Some e) at n qs is = omega (arith, is, long_text n qs)
+
+-- no frame is longer than this
+pub short_text : (n : ℕ) (qs : List (List ℕ)) → ArePackets qs → length (text n qs) ≤ 68 * length qs
+short_text n [] each = omega arith
+short_text n (q ∷ qs) each =
+    let fits : length q ≤ 64 = (All-head IsPacket q qs each).fits in
+    omega (arith, fits, short_text (n + 1) qs (All-tail IsPacket q qs each), length-append (frame n q) (text (n + 1) qs))

@@ -1,46 +1,34 @@
--- A pump that has had one more turn.
-use Rattle.std.proofs.Common.{◌≡◌, ℕ, zero, suc, ◌+◌, ◌*◌, ◌<◌, ◌≤◌, false, ◌||◌, cond, eqb, nat_eq, List, [], ◌∷◌, ◌++◌, length, Some, None, Ok, Err, refl, ap, ◌∙◌, subst, arith, append-nil, append_assoc, length-append, below_more, true, inl, inr, sym, Bool, Option, drop, take}
+-- A pump's turns at the rings, one after another.
+use Rattle.std.proofs.Common.{◌≡◌, ℕ, zero, suc, ◌+◌, ◌<◌, ◌≤◌, false, ◌||◌, cond, eqb, nat_eq, List, [], ◌∷◌, ◌++◌, length, Some, None, Ok, Err, refl, ap, ◌∙◌, subst, arith, append-nil, append_assoc, length-append, below_more, true, inl, inr, sym, Bool, Option}
 use Rattle.std.specs.List.{AllByRecursion, list_any}
 use Rattle.std.specs.Option.{is_some}
 use Rattle.std.proofs.lemmas.List.Folds.{list_any-append}
 use Rattle.std.proofs.lemmas.Bool.{false≢true}
-use Rattle.std.proofs.lemmas.List.{drop-drop}
 use Rattle.std.proofs.lemmas.Bool.Decides.{eqb_tells, nat_tests}
 use Rattle.std.proofs.lemmas.Nat.Bits.{bit_at-zero}
 use Rattle.xcp_base.specs.Samples.{MarkParts, SampleParts}
 use Rattle.xcp_base.specs.declared.item.Item.{Item}
 use Rattle.xcp_base.specs.declared.item.Item.TheVariants.{Marker, Sample}
 use Rattle.xcp_base.specs.Lists.{has_list}
-use Rattle.xcp_base.specs.declared.limits.TheConstants.{MAX_ODTS}
-use Rattle.frame_writer.specs.Shown.{OutState}
-use Rattle.frame_writer.specs.declared.layout.TheConstants.{MAX_SAMPLE_BYTES}
-use Rattle.transmitter.specs.Inner.Turns.{Lays}
+use Rattle.transmitter.specs.Fills.{TakesTurns, Tells}
+use Rattle.transmitter.specs.Inner.Fits.{HasTurns}
 use Rattle.transmitter.specs.Items.{packets_of, samples}
 use Rattle.transmitter.specs.Merge.{AreRising, items_taken, of_ring, taken_from}
 use Rattle.transmitter.specs.Written.{TransmitterState}
-use Rattle.transmitter.specs.Pumps.{StopsAreLast, CanPump, IsPump, IsSetOfStops, Leads, TakesKnownBelow, is_marker_of}
+use Rattle.transmitter.specs.Pumps.{StopsAreLast, CanPump, IsPump, IsSetOfStops, Leads, is_marker_of}
 use Rattle.transmitter.specs.declared.pumped.Pumped.{Pumped}
+use Rattle.transmitter.specs.declared.pumped_all.PumpedAll.{PumpedAll}
 use Rattle.transmitter.specs.declared.faults.PumpFault.TheVariants.{Failed}
 use Rattle.transmitter.proofs.TakenLemmas.{items_taken-push, one_each, some_first, packets_of-append, samples-append, taken_from-append, takes-none}
 use Rattle.transmitter.proofs.WrittenLemmas.{leads-append, leads-none}
 
+-- what is told before the first turn
+abbrev pub nothing : PumpedAll
+nothing = record { taken = 0; frames = 0; stopped = 0 }
+
 -- all are of rings below c
 abbrev pub AreBelow : ℕ → List (ℕ × Item) → Type 0
 AreBelow c qs = AllByRecursion (λ (p : ℕ × Item). p.0 < c) qs
-
--- a pump that has had its turns at the rings below c
-pub record SoFar (a b : TransmitterState) (c : ℕ) (p : Pumped) : Type 0 where
-  pub items : List (ℕ × Item)
-  pub rising : AreRising 0 items
-  pub below : AllByRecursion (λ (p : ℕ × Item). p.0 < c) items
-  pub hand : b.hand ≡ None
-  pub leads : Leads a items b
-  pub count : p.taken ≡ length items
-  pub few : p.taken ≤ c
-  pub few_frames : p.frames ≤ MAX_ODTS * c
-  pub frames : p.frames ≡ length (packets_of (samples (items_taken items)))
-  pub stops : IsSetOfStops p.stopped (items_taken items)
-  pub known : TakesKnownBelow c a.known items
 
 pub rising-push : (low : ℕ) (qs : List (ℕ × Item)) (c : ℕ) (x : Item) → AreRising low qs → AreBelow c qs → low ≤ c → AreRising low (qs ++ (c, x) ∷ [])
 rising-push low [] c x r b h = (h, tt)
@@ -85,68 +73,90 @@ some_within [] e h = absurd (omega (arith, h))
 some_within (xs ∷ lists) zero h = omega arith
 some_within (xs ∷ lists) (suc e) h = omega (arith, some_within lists e h)
 
+-- a pump that is refused takes nothing
+pub refused : (a : TransmitterState) → Leads a [] a
+refused a = leads-none a a refl (takes-none a.received a.known) refl refl refl refl
+
+-- one item more is told
+tells-push : (p q : PumpedAll) (qs : List (ℕ × Item)) (c : ℕ) (x : Item) → Tells p qs → q.taken ≡ p.taken + 1 → q.frames ≡ p.frames + length (packets_of (samples (x ∷ []))) → ((l : ℕ) → has_list q.stopped l ≡ (has_list p.stopped l || list_any (is_marker_of l) (x ∷ []))) → Tells q (qs ++ (c, x) ∷ [])
+tells-push p q qs c x t taken frames stopped = record {
+  taken = omega (arith, taken, t.taken, length-append qs ((c, x) ∷ []));
+  frames = rw (items_taken-push qs c x, frames-append (items_taken qs) (x ∷ []), frames, t.frames) refl;
+  stopped = λ l. rw (items_taken-push qs c x, list_any-append (is_marker_of l) (items_taken qs) (x ∷ [])) (stopped l ∙ ap (λ b. b || list_any (is_marker_of l) (x ∷ [])) (t.stopped l));
+}
+
+-- nothing was taken yet
+pub tells-nothing : (p : PumpedAll) → p.taken ≡ 0 → p.frames ≡ 0 → p.stopped ≡ 0 → Tells p []
+tells-nothing p taken frames stopped = record { taken = taken; frames = frames; stopped = λ l. rw stopped (empty_has_none l) }
+
 -- before the first turn
-pub first_turn : (a : TransmitterState) (p : Pumped) → a.hand ≡ None → p.taken ≡ 0 → p.frames ≡ 0 → p.stopped ≡ 0 → SoFar a a 0 p
-first_turn a p hand taken frames stopped = record {
-  items = [];
-  rising = tt;
-  below = tt;
+pub no_turns : (low high : ℕ) (a : TransmitterState) (p : PumpedAll) → high ≤ low → a.hand ≡ None → HasTurns low high a a p p
+no_turns low high a p h hand = record {
   hand = hand;
-  leads = leads-none a a refl (takes-none a.received a.known) refl refl refl refl;
-  count = taken;
-  few = omega (arith, taken);
-  few_frames = omega (arith, frames);
-  frames = frames;
-  stops = λ l. rw stopped (empty_has_none l);
-  known = λ e h. absurd (omega arith);
+  items = [];
+  turns = record { rising = tt; below = tt; leads = refused a; known = λ e b l. absurd (omega (arith, h, b, l)) };
+  tells = λ before t. subst (Tells p) (sym (append-nil before)) t;
+  count = omega arith;
 }
 
 -- a turn that took an item
-pub item_turn : (a b d : TransmitterState) (c : ℕ) (p q : Pumped) (x : Item) → SoFar a b c p → Leads b ((c, x) ∷ []) d → d.hand ≡ None → q.taken ≡ p.taken + 1 → q.frames ≡ p.frames + length (packets_of (samples (x ∷ []))) → length (packets_of (samples (x ∷ []))) ≤ MAX_ODTS → ((l : ℕ) → has_list q.stopped l ≡ (has_list p.stopped l || list_any (is_marker_of l) (x ∷ []))) → SoFar a d (c + 1) q
-item_turn a b d c p q x s leads hand taken frames few stopped = record {
-  items = s.items ++ (c, x) ∷ [];
-  rising = rising-push 0 s.items c x s.rising s.below (omega arith);
-  below = below-push s.items c x s.below;
+pub item_more : (low c : ℕ) (a b d : TransmitterState) (p q r : PumpedAll) (x : Item) → HasTurns low c a b p q → low ≤ c → Leads b ((c, x) ∷ []) d → d.hand ≡ None → r.taken ≡ q.taken + 1 → r.frames ≡ q.frames + length (packets_of (samples (x ∷ []))) → ((l : ℕ) → has_list r.stopped l ≡ (has_list q.stopped l || list_any (is_marker_of l) (x ∷ []))) → HasTurns low (c + 1) a d p r
+item_more low c a b d p q r x s above leads hand taken frames stopped = record {
   hand = hand;
-  leads = leads-append a b d s.items ((c, x) ∷ []) s.leads leads;
+  items = s.items ++ (c, x) ∷ [];
+  turns = record {
+    rising = rising-push low s.items c x s.turns.rising s.turns.below above;
+    below = below-push s.items c x s.turns.below;
+    leads = leads-append a b d s.items ((c, x) ∷ []) s.turns.leads leads;
+    known = below_more _ _ (λ e h l k. taken_before c e s.items x (s.turns.known e h l k)) (λ l k. taken_here c s.items x);
+  };
+  tells = λ before t. subst (Tells r) (append_assoc before s.items ((c, x) ∷ [])) (tells-push q r (before ++ s.items) c x (s.tells before t) taken frames stopped);
   count = omega (arith, taken, s.count, length-append s.items ((c, x) ∷ []));
-  few = omega (arith, taken, s.few);
-  few_frames = omega (arith, frames, few, s.few_frames);
-  frames = rw (items_taken-push s.items c x, frames-append (items_taken s.items) (x ∷ []), frames, s.frames) refl;
-  stops = λ l. rw (items_taken-push s.items c x, list_any-append (is_marker_of l) (items_taken s.items) (x ∷ [])) (stopped l ∙ ap (λ t. t || list_any (is_marker_of l) (x ∷ [])) (s.stops l));
-  known = below_more _ _ (λ e h k. taken_before c e s.items x (s.known e h k)) (λ k. taken_here c s.items x);
 }
 
 -- what was known of a ring that gave nothing: nothing
-nothing_left : (a b : TransmitterState) (c : ℕ) (p : Pumped) (s : SoFar a b c p) → of_ring b.known c ≡ [] → 0 < length (of_ring a.known c) → ⊥
-nothing_left a b c p s none some =
-    let front = s.leads.takes.first c in
-    let all : of_ring a.known c ++ front.0 ≡ [] = front.1 ∙ (ap (λ t. t ++ of_ring b.known c) (none_above c c s.items s.below (omega arith)) ∙ none) in
+none_left : (a b : TransmitterState) (c : ℕ) (qs : List (ℕ × Item)) → Leads a qs b → AreBelow c qs → of_ring b.known c ≡ [] → 0 < length (of_ring a.known c) → ⊥
+none_left a b c qs leads below none some =
+    let front = leads.takes.first c in
+    let all : of_ring a.known c ++ front.0 ≡ [] = front.1 ∙ (ap (λ t. t ++ of_ring b.known c) (none_above c c qs below (omega arith)) ∙ none) in
     omega (arith, some, ap length all ∙ refl, length-append (of_ring a.known c) front.0)
 
+-- nothing more was taken
+leads-idle : (a b d : TransmitterState) (qs : List (ℕ × Item)) → Leads a qs b → Leads b [] d → Leads a qs d
+leads-idle a b d qs leads none = subst (λ ps. Leads a ps d) (append-nil qs) (leads-append a b d qs [] leads none)
+
 -- a turn at a ring that gave nothing
-pub idle_turn : (a b d : TransmitterState) (c : ℕ) (p : Pumped) → SoFar a b c p → Leads b [] d → d.hand ≡ None → of_ring b.known c ≡ [] → SoFar a d (c + 1) p
-idle_turn a b d c p s leads hand none = record {
-  items = s.items;
-  rising = s.rising;
-  below = below-next s.items c s.below;
+pub idle_more : (low c : ℕ) (a b d : TransmitterState) (p q : PumpedAll) → HasTurns low c a b p q → Leads b [] d → d.hand ≡ None → of_ring b.known c ≡ [] → HasTurns low (c + 1) a d p q
+idle_more low c a b d p q s leads hand none = record {
   hand = hand;
-  leads = subst (λ qs. Leads a qs d) (append-nil s.items) (leads-append a b d s.items [] s.leads leads);
+  items = s.items;
+  turns = record {
+    rising = s.turns.rising;
+    below = below-next s.items c s.turns.below;
+    leads = leads-idle a b d s.items s.turns.leads leads;
+    known = below_more _ _ s.turns.known (λ l k. absurd (none_left a b c s.items s.turns.leads s.turns.below none k));
+  };
+  tells = s.tells;
   count = s.count;
-  few = omega (arith, s.few);
-  few_frames = omega (arith, s.few_frames);
-  frames = s.frames;
-  stops = s.stops;
-  known = below_more _ _ s.known (λ k. absurd (nothing_left a b c p s none k));
+}
+
+-- a look at a ring whose item stays there
+pub look_more : (low c : ℕ) (a b d : TransmitterState) (p q : PumpedAll) → HasTurns low c a b p q → Leads b [] d → d.hand ≡ None → HasTurns low c a d p q
+look_more low c a b d p q s leads hand = record {
+  hand = hand;
+  items = s.items;
+  turns = record { rising = s.turns.rising; below = s.turns.below; leads = leads-idle a b d s.items s.turns.leads leads; known = s.turns.known };
+  tells = s.tells;
+  count = s.count;
 }
 
 -- a turn at which the writer failed
-pub failed_turn : (a b d : TransmitterState) (c : ℕ) (p : Pumped) (r : SampleParts) → SoFar a b c p → Leads b ((c, Sample r) ∷ []) d → d.hand ≡ Some r → CanPump a → IsPump a d (Err Failed)
-failed_turn a b d c p r s leads hand can = record {
+pub failed_pump : (a b d : TransmitterState) (c : ℕ) (p q : PumpedAll) (r : SampleParts) → HasTurns 0 c a b p q → Leads b ((c, Sample r) ∷ []) d → d.hand ≡ Some r → CanPump a → IsPump a d (Err Failed)
+failed_pump a b d c p q r s leads hand can = record {
   taken = s.items ++ (c, Sample r) ∷ [];
-  rising = rising-push 0 s.items c (Sample r) s.rising s.below (omega arith);
-  leads = leads-append a b d s.items ((c, Sample r) ∷ []) s.leads leads;
-  answers = record { could = can; sample = r; ring = c; before = s.items; hand = hand; last = refl; known = s.known };
+  rising = rising-push 0 s.items c (Sample r) s.turns.rising s.turns.below (omega arith);
+  leads = leads-append a b d s.items ((c, Sample r) ∷ []) s.turns.leads leads;
+  answers = record { could = can; sample = r; ring = c; before = s.items; hand = hand; last = refl; known = λ e h some. s.turns.known e h (omega arith) some };
 }
 
 -- the first of some items that is a marker of list l, among the others
@@ -178,18 +188,25 @@ stops_last a b qs set leads rising stops l has =
     let one = subst (λ xs. length xs ≤ 1) here (one_each 0 f.0 qs rising) in
     (f.0, f.1, of_ring a.received f.0, f.4, leads.takes.gains f.0 ∙ ap (λ xs. of_ring a.received f.0 ++ xs) (here ∙ alone (taken_from f.0 f.2) (taken_from f.0 f.3) (Marker f.1) one))
 
--- after the last turn
-pub last_turn : (a b : TransmitterState) (c : ℕ) (p : Pumped) → SoFar a b c p → length a.known ≤ c → CanPump a → IsPump a b (Ok p)
-last_turn a b c p s all can = record {
-  taken = s.items;
-  rising = s.rising;
-  leads = s.leads;
-  answers = record { could = can; hand = s.hand; taken = s.count; frames = s.frames; stopped = s.stops; last = stops_last a b s.items p.stopped s.leads s.rising s.stops; known = λ e k. s.known e (omega (arith, some_within a.known e k, all)) k };
-}
-
--- a pump that is refused takes nothing
-pub refused : (a : TransmitterState) → Leads a [] a
-refused a = leads-none a a refl (takes-none a.received a.known) refl refl refl refl
+-- turns at all rings are a pump
+pub one_pump : (n : ℕ) (a b : TransmitterState) (q : PumpedAll) (one : Pumped) → CanPump a → HasTurns 0 n a b nothing q → length a.known ≤ n → one.taken ≡ q.taken → one.frames ≡ q.frames → one.stopped ≡ q.stopped → IsPump a b (Ok one)
+one_pump n a b q one could s all taken frames stopped =
+    let tells = s.tells [] (tells-nothing nothing refl refl refl) in
+    let stops : IsSetOfStops one.stopped (items_taken s.items) = λ l. ap (λ set. has_list set l) stopped ∙ tells.stopped l in
+    record {
+      taken = s.items;
+      rising = s.turns.rising;
+      leads = s.turns.leads;
+      answers = record {
+        could = could;
+        hand = s.hand;
+        taken = taken ∙ tells.taken;
+        frames = frames ∙ tells.frames;
+        stopped = stops;
+        last = stops_last a b s.items one.stopped s.turns.leads s.turns.rising stops;
+        known = λ e some. s.turns.known e (omega (arith, some_within a.known e some, all)) (omega arith) some;
+      };
+    }
 
 pub none_of : {X : Type 0} → (o : Option X) → is_some o ≡ false → o ≡ None
 none_of None e = refl
@@ -202,36 +219,3 @@ or_false false = refl
 -- a set with one list more, which is the marker's
 pub one_stop : (old new list l k : ℕ) → l ≡ list → has_list new k ≡ (has_list old k || nat_eq l k) → has_list new k ≡ (has_list old k || (nat_eq list k || false))
 one_stop old new list l k is added = added ∙ (ap (λ n. has_list old k || nat_eq n k) is ∙ ap (λ b. has_list old k || b) (or_false (nat_eq list k)))
-
--- behind the turns at the rings below c, what was written since then stands in the front of a buffer, and nothing else changed
-pub record Placed (before now : OutState) (start buffer : List ℕ) (end c : ℕ) : Type 0 where
-  pub within : end ≤ MAX_SAMPLE_BYTES * c
-  pub frames : before.contents ++ take end buffer ≡ now.contents
-  pub behind : drop end buffer ≡ drop end start
-  pub len : length buffer ≡ length start
-
--- before the first turn
-pub nothing_placed : (a : OutState) (start : List ℕ) → Placed a a start start 0 0
-nothing_placed a start = record { within = omega arith; frames = append-nil a.contents; behind = refl; len = refl }
-
--- a turn that wrote nothing
-pub placed_none : (a b d : OutState) (start buffer new : List ℕ) (end last c : ℕ) → Placed a b start buffer end c → (d ≡ b) × (new ≡ buffer) × (last ≡ end) → Placed a d start new last (c + 1)
-placed_none a b d start buffer new end last c p same = record {
-  within = omega (arith, p.within, same.2);
-  frames = rw (same.1, same.2) (p.frames ∙ ap (λ (o : OutState). o.contents) (sym same.0));
-  behind = rw (same.1, same.2) p.behind;
-  len = rw same.1 p.len;
-}
-
--- a turn that laid some text out
-pub placed_text : (a b d : OutState) (start buffer new : List ℕ) (end last c : ℕ) → Placed a b start buffer end c → Lays b d buffer new end last → Placed a d start new last (c + 1)
-placed_text a b d start buffer new end last c p l =
-    let text = l.text in
-    let same : drop (end + length text) buffer ≡ drop (end + length text) start =
-    sym (drop-drop (length text) end buffer) ∙ ap (drop (length text)) p.behind ∙ drop-drop (length text) end start in
-    record {
-      within = omega (arith, p.within, l.few);
-      frames = ap (λ t. a.contents ++ t) l.front ∙ sym (append_assoc a.contents (take end buffer) text) ∙ ap (λ t. t ++ text) p.frames ∙ sym l.wrote;
-      behind = l.behind ∙ ap (λ n. drop n buffer) l.end_is ∙ same ∙ ap (λ n. drop n start) (sym l.end_is);
-      len = l.len ∙ p.len;
-    }

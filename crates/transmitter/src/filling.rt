@@ -4,7 +4,7 @@ ghost use Rattle.std.specs.Prelude.{◌≡◌, ◌↔◌, IsTrue};
 
 use crate::faults::PumpFault;
 use crate::fit_turn::Fit;
-use crate::pumped_all::PumpedAll;
+use crate::pumped_all::{NOTHING, PumpedAll};
 use crate::transmitter::Transmitter;
 use channel_ring::TakeEnd;
 use frame_writer::{Out, SinkOut};
@@ -24,8 +24,9 @@ impl<T: TakeEnd> Transmitter<SinkOut, T> {
     ghost use Rattle.xcp_base.specs.declared.item.Item.{Item};
     ghost use Rattle.xcp_base.specs.declared.limits.TheConstants.{MAX_TAKEN};
     ghost use Rattle.frame_writer.specs.Writing.{state_of};
+    ghost use Rattle.frame_writer.specs.declared.layout.TheConstants.{MAX_SAMPLE_BYTES};
     ghost use Rattle.transmitter.specs.Fills.{Fills, FindsNoRoom};
-    ghost use Rattle.transmitter.specs.Inner.Fits.{HasTurns, LaysOn};
+    ghost use Rattle.transmitter.specs.Inner.Fits.{AreFew, HasTurns, LaysOn};
     ghost use Rattle.transmitter.specs.Pumps.{IsPump};
     ghost use Rattle.transmitter.specs.Written.{next_of, transmission};
 
@@ -62,11 +63,7 @@ impl<T: TakeEnd> Transmitter<SinkOut, T> {
         if self.taken >= MAX_TAKEN {
             return Err(PumpFault::Spent);
         }
-        let mut pumped = PumpedAll {
-            taken: 0,
-            frames: 0,
-            stopped: 0,
-        };
+        let mut pumped = NOTHING;
         let mut end = 0;
         let mut from = self.next;
         while self.taken < MAX_TAKEN {
@@ -88,7 +85,7 @@ impl<T: TakeEnd> Transmitter<SinkOut, T> {
 
     /// A pump's turns at the rings from `from` on; answers the ring at which the frames don't fit,
     /// or the number of rings.
-    fn pump_on(
+    pub(crate) fn pump_on(
         &mut self,
         from: usize,
         buffer: &mut [u8],
@@ -105,10 +102,13 @@ impl<T: TakeEnd> Transmitter<SinkOut, T> {
         ensures lays { LaysOn (state_of ⟦<SinkOut as Out>⟧ self.old.writer).out
             (state_of ⟦<SinkOut as Out>⟧ self.new.writer).out
             buffer.old buffer.new end.old end.new }
+        ensures few { AreFew result pumped.old pumped.new end.old end.new }
         ensures few_frames { 4 * pumped.new.frames ≤ end.new }
         ensures stop { result ≤ vec_len self.old.ends }
         ensures no_room { result < vec_len self.old.ends → FindsNoRoom result
             (transmission ⟦<SinkOut as Out>⟧ T.TakeEnd self.new) (length buffer.old) end.new }
+        ensures short { result < vec_len self.old.ends
+            → length buffer.old < end.new + MAX_SAMPLE_BYTES }
         ensures as_many { vec_len self.new.ends ≡ vec_len self.old.ends }
     {
         let rings = self.ends.len();

@@ -29,8 +29,8 @@ impl<T: TakeEnd> Transmitter<SinkOut, T> {
     ghost use Rattle.transmitter.specs.Written.{transmission};
     ghost use Rattle.transmitter.specs.Inner.Fits.{FitLays, FitMeans};
 
-    /// `turn_into` a buffer that may be too short. A sample whose frames don't fit stays in its
-    /// ring.
+    /// `turn`, with the frames laid out in a buffer from `end` on, which is then where they end. A
+    /// sample whose frames don't fit stays in its ring.
     pub(crate) fn fit_turn(&mut self, c: usize, buffer: &mut [u8], end: &mut usize) -> Fit
         requires ring { c < vec_len self.old.ends }
         requires nothing_in_hand { self.old.hand ≡ None }

@@ -2,12 +2,11 @@
 
 use crate::faults::PumpFault;
 use crate::pumped::Pumped;
+use crate::pumped_all::NOTHING;
 use crate::transmitter::Transmitter;
-use crate::turn::Turn;
 use channel_ring::TakeEnd;
 use frame_writer::{MAX_SAMPLE_BYTES, Out, SinkOut};
 use xcp_base::limits::{MAX_CHANNELS, MAX_TAKEN};
-use xcp_base::with_list;
 
 /// The bytes that a pump writes at most: the frames of a sample at their longest, for each event
 /// channel.
@@ -51,27 +50,11 @@ impl<T: TakeEnd> Transmitter<SinkOut, T> {
         if self.taken >= MAX_TAKEN {
             return Err(PumpFault::Spent);
         }
-        let mut pumped = Pumped {
-            taken: 0,
-            frames: 0,
-            stopped: 0,
-        };
+        let mut pumped = NOTHING;
         let mut end = 0;
-        for c in 0..self.ends.len() {
-            match self.turn_into(c, buffer, &mut end) {
-                Turn::Nothing => {}
-                Turn::Wrote(frames) => {
-                    pumped.taken += 1;
-                    pumped.frames += frames;
-                }
-                Turn::Stopped(list) => {
-                    pumped.taken += 1;
-                    pumped.stopped = with_list(pumped.stopped, list);
-                }
-                Turn::Broke => unreachable!(),
-            }
-        }
+        // all fits, so each ring has its turn
+        self.pump_on(0, buffer, &mut end, &mut pumped);
         self.next = 0;
-        Ok((pumped, end))
+        Ok((pumped.as_one(), end))
     }
 }

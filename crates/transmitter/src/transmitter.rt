@@ -4,6 +4,7 @@ ghost use Rattle.frame_writer.specs.Writing.{is_closed};
 
 use crate::faults::PumpFault;
 use crate::pumped::Pumped;
+use crate::pumped_all::NOTHING;
 use crate::turn::Turn;
 use channel_ring::{Beside, TakeEnd};
 use frame_writer::{FrameWriter, Out};
@@ -86,17 +87,13 @@ impl<O: Out, T: TakeEnd> Transmitter<O, T> {
         if self.taken >= MAX_TAKEN {
             return Err(PumpFault::Spent);
         }
-        let mut pumped = Pumped {
-            taken: 0,
-            frames: 0,
-            stopped: 0,
-        };
+        let mut pumped = NOTHING;
         for c in 0..self.ends.len() {
             match self.turn(c) {
                 Turn::Nothing => {}
                 Turn::Wrote(frames) => {
                     pumped.taken += 1;
-                    pumped.frames += frames;
+                    pumped.frames += frames as u64;
                 }
                 Turn::Stopped(list) => {
                     pumped.taken += 1;
@@ -106,7 +103,7 @@ impl<O: Out, T: TakeEnd> Transmitter<O, T> {
             }
         }
         self.next = 0;
-        Ok(pumped)
+        Ok(pumped.as_one())
     }
 
     /// The number of rings, and so of event channels.

@@ -1,15 +1,15 @@
 //! A turn of a pump at one ring.
-ghost use Rattle.std.specs.Prelude.{◌≡◌, ◌+◌, ◌<◌, ◌≤◌, ◌↔◌, [], ◌∷◌, false, IsTrue, length};
+ghost use Rattle.std.specs.Prelude.{◌≡◌, ◌<◌, ◌↔◌, [], ◌∷◌, false, IsTrue, length};
 ghost use Rattle.std.specs.Prelude.{map, slice_index_or, true, vec_len};
 ghost use mathlib.Core.List.{IsPrefix};
 ghost use Rattle.frame_writer.specs.Writing.{AfterText, state_of};
 ghost use Rattle.transmitter.specs.Merge.{Takes, of_ring};
-ghost use Rattle.transmitter.specs.Inner.Turns.{BeginsWithSample, HoldsFirst, Lays, TakesFirst};
+ghost use Rattle.transmitter.specs.Inner.Turns.{BeginsWithSample, HoldsFirst, TakesFirst};
 ghost use Rattle.transmitter.specs.Written.{BreaksWithin};
 
 use crate::transmitter::Transmitter;
 use channel_ring::TakeEnd;
-use frame_writer::{FrameWriter, MAX_SAMPLE_BYTES, Out, SinkOut};
+use frame_writer::{FrameWriter, Out};
 use xcp_base::{Item, Packets, Sample};
 
 /// What one turn at a ring came to.
@@ -60,47 +60,6 @@ impl<O: Out, T: TakeEnd> Transmitter<O, T> {
                     hold(&mut self.ends, c, &mut self.hand);
                     Turn::Broke
                 }
-            }
-        }
-    }
-}
-
-impl<T: TakeEnd> Transmitter<SinkOut, T> {
-    ghost use Rattle.std.specs.Prelude.{◌≡◌, ◌+◌, ◌^◌, ◌<◌, ◌≤◌, None, length, vec_len};
-    ghost use Rattle.frame_writer.specs.Writing.{state_of};
-    ghost use Rattle.transmitter.specs.Written.{transmission};
-    ghost use Rattle.transmitter.specs.Inner.Turns.{TurnLays, TurnMeans};
-
-    /// `turn`, with the frames laid out in a buffer from `end` on, which is then where they end.
-    pub(crate) fn turn_into(&mut self, c: usize, buffer: &mut [u8], end: &mut usize) -> Turn
-        requires ring { c < vec_len self.old.ends }
-        requires nothing_in_hand { self.old.hand ≡ None }
-        requires taken { self.old.taken < 2 ^ 63 }
-        requires room { end.old + MAX_SAMPLE_BYTES ≤ length buffer.old }
-        ensures turn { TurnMeans c (transmission ⟦<SinkOut as Out>⟧ T.TakeEnd self.old)
-            (transmission ⟦<SinkOut as Out>⟧ T.TakeEnd self.new) result }
-        ensures as_many { vec_len self.new.ends ≡ vec_len self.old.ends }
-        ensures lays { TurnLays (state_of ⟦<SinkOut as Out>⟧ self.old.writer).out
-            (state_of ⟦<SinkOut as Out>⟧ self.new.writer).out
-            buffer.old buffer.new end.old end.new result }
-    {
-        if !look_for(&mut self.ends, c) {
-            return Turn::Nothing;
-        }
-        self.taken += 1;
-        match first_of(&self.ends, c) {
-            Item::Marker(marker) => {
-                let list = marker.list();
-                let_go(&mut self.ends, c);
-                Turn::Stopped(list)
-            }
-            Item::Sample(sample) => {
-                let list = sample.list() as usize;
-                let frames = sample.packets().len() as u8;
-                *end = lay_all(&mut self.writer, buffer, *end, sample.packets());
-                let_go(&mut self.ends, c);
-                self.written[list] += 1;
-                Turn::Wrote(frames)
             }
         }
     }
@@ -183,21 +142,4 @@ fn write_all<O: Out>(writer: &mut FrameWriter<O>, packets: &Packets) -> bool
         Ok(()) => true,
         Err(_) => false,
     }
-}
-
-/// Lays all packets out as frames from `at` on, and answers where they end.
-fn lay_all(
-    writer: &mut FrameWriter<SinkOut>,
-    buffer: &mut [u8],
-    at: usize,
-    packets: &Packets,
-) -> usize
-    requires was_open { (state_of ⟦<SinkOut as Out>⟧ writer.old).closed ≡ false }
-    requires room { at + MAX_SAMPLE_BYTES ≤ length buffer.old }
-    ensures all { AfterText (state_of ⟦<SinkOut as Out>⟧ writer.old)
-        (state_of ⟦<SinkOut as Out>⟧ writer.new) packets.now }
-    ensures lays { Lays (state_of ⟦<SinkOut as Out>⟧ writer.old).out
-        (state_of ⟦<SinkOut as Out>⟧ writer.new).out buffer.old buffer.new at result }
-{
-    writer.send_into(buffer, at, packets)
 }

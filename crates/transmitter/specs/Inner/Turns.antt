@@ -40,13 +40,6 @@ pub record Lays (a b : OutState) (old new : List ℕ) (at end : ℕ) : Type 0 wh
   pub behind : drop end new ≡ drop end old
   pub len : length new ≡ length old
 
--- what a turn wrote stands in the buffer, which else is as it was
-abbrev pub TurnLays : OutState → OutState → List ℕ → List ℕ → ℕ → ℕ → Turn → Type 0
-TurnLays a b old new at end Nothing = (b ≡ a) × (new ≡ old) × (end ≡ at)
-TurnLays a b old new at end (Wrote n) = Lays a b old new at end
-TurnLays a b old new at end (Stopped l) = (b ≡ a) × (new ≡ old) × (end ≡ at)
-TurnLays a b old new at end Broke = ⊥
-
 -- the first item known of ring c was taken, whatever it is
 abbrev pub TakesFirst :
     ℕ → List (List Item) → List (List Item) → List (List Item) → List (List Item) → Type 0

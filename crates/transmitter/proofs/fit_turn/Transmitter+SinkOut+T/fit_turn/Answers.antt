@@ -3,9 +3,10 @@ use Rattle.std.proofs.lemmas.Bool.{false≢true}
 use Rattle.xcp_base.specs.Packets.{ArePackets}
 use Rattle.frame_writer.specs.contracts.sink_out.SinkOutOut.TheImpl.{ghosts as out}
 use mathlib.Core.List.{IsPrefix}
-use Rattle.frame_writer.specs.Writing.{WriterState}
+use Rattle.frame_writer.specs.Writing.{WriterState, state_of}
 use Rattle.transmitter.specs.Merge.{of_ring}
 use Rattle.transmitter.specs.Written.{transmission}
+use Rattle.transmitter.proofs.PacketLemmas.{short_text}
 use Rattle.transmitter.proofs.TakenLemmas.{none_known}
 use Rattle.transmitter.proofs.TurnLemmas.{one_more, takes_that}
 use Rattle.transmitter.proofs.WrittenLemmas.{leads-marker, leads-none, leads-sample}
@@ -56,4 +57,8 @@ returns-in_default-clause-turn g c =
         first = subst (λ x. IsPrefix (x ∷ []) (of_ring known c.args.c)) c.in-Sample.is c.first_of.ensures;
         too_long = rw (ap (λ (w : WriterState). w.counter) stays) long;
       };
+      short =
+          let qs = c.packets.ensures.value in
+          let each = subst ArePackets qs c.len-frames.ensures.each in
+          omega (arith, long, short_text (state_of out c.args.self.now.writer).counter c.in-Sample.sample.packets each, c.len-frames.ensures.limit, c.len-frames.ensures.value, ap length qs);
     }

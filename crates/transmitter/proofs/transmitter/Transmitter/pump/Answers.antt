@@ -3,7 +3,7 @@ use Rattle.std.proofs.lemmas.List.{length-map}
 use Rattle.xcp_base.specs.declared.item.Item.TheVariants.{Sample, Marker}
 use Rattle.xcp_base.specs.Lists.{has_list}
 use Rattle.transmitter.specs.Written.{transmission}
-use Rattle.transmitter.proofs.PumpLemmas.{failed_turn, first_turn, idle_turn, item_turn, last_turn, none_of, one_stop, or_false}
+use Rattle.transmitter.proofs.PumpLemmas.{failed_pump, idle_more, item_more, no_turns, none_of, nothing, one_pump, one_stop, or_false}
 use Rattle.transmitter.proofs.transmitter.Transmitter.pump.Goals as goal
 use Rattle.transmitter.proofs.transmitter.Transmitter.pump.Goals.{in-Nothing, in-Wrote, in-Stopped}
 
@@ -12,31 +12,42 @@ pub loop-c-init : goal.loop-c-init
 loop-c-init g c =
     let s = c.args.self.now in
     let none = none_of s.hand (sym s.held ∙ (sym c.closed.ensures ∙ c.if-closed.false)) in
-    record { turns = first_turn (transmission g.O.Out g.T.TakeEnd s) _ none refl refl refl; as_many = refl }
+    record {
+      turns = no_turns 0 0 (transmission g.O.Out g.T.TakeEnd s) nothing (omega arith) none;
+      few = record { taken = omega arith; frames = omega arith; bytes = omega arith };
+      as_many = refl;
+    }
 
 pub returns-in-Broke-clause-pumps : goal.returns-in-Broke-clause-pumps
 returns-in-Broke-clause-pumps g c =
     let t = c.in-Broke.ensures.turn in
-    failed_turn _ _ _ c.loop-c.c c.loop-c.pumped t.0 c.loop-c.invariant.turns t.2 t.1 (sym c.closed.ensures ∙ c.if-closed.false, c.if-self-ge-MAX_TAKEN.false)
+    failed_pump _ _ _ c.loop-c.c nothing c.loop-c.pumped t.0 c.loop-c.invariant.turns t.2 t.1 (sym c.closed.ensures ∙ c.if-closed.false, c.if-self-ge-MAX_TAKEN.false)
 
 -- one turn more
 pub loop-c-preserved : goal.loop-c-preserved
 loop-c-preserved g c =
     let i = c.loop-c.invariant in
+    let f = i.few in
     elim c.match-turn.branch [
       | in-Nothing w ↦
           let t = w.in-Nothing.ensures.turn in
-          record { turns = rw w.pumped-is (idle_turn _ _ _ c.loop-c.c c.loop-c.pumped i.turns t.1 t.0 t.2); as_many = w.in-Nothing.ensures.as_many ∙ i.as_many }
+          record {
+            turns = rw w.pumped-is (idle_more 0 c.loop-c.c _ _ _ nothing c.loop-c.pumped i.turns t.1 t.0 t.2);
+            few = rw w.pumped-is (record { taken = omega (arith, f.taken); frames = omega (arith, f.frames); bytes = omega arith });
+            as_many = w.in-Nothing.ensures.as_many ∙ i.as_many;
+          }
       | in-Wrote w ↦
           let t = w.in-Wrote.ensures.turn in
           record {
-            turns = rw w.pumped-is (item_turn _ _ _ c.loop-c.c c.loop-c.pumped _ (Sample t.0) i.turns t.2 t.1 refl (rw (append-nil t.0.packets, t.3) refl) (rw (append-nil t.0.packets, ← t.3) t.4) (λ l. or_false (has_list c.loop-c.pumped.stopped l)));
+            turns = rw w.pumped-is (item_more 0 c.loop-c.c _ _ _ nothing c.loop-c.pumped _ (Sample t.0) i.turns (omega arith) t.2 t.1 refl (rw (append-nil t.0.packets, t.3) refl) (λ l. or_false (has_list c.loop-c.pumped.stopped l)));
+            few = rw w.pumped-is (record { taken = omega (arith, f.taken); frames = omega (arith, f.frames, t.4); bytes = omega arith });
             as_many = w.in-Wrote.ensures.as_many ∙ i.as_many;
           }
       | in-Stopped w ↦
           let t = w.in-Stopped.ensures.turn in
           record {
-            turns = rw w.pumped-is (item_turn _ _ _ c.loop-c.c c.loop-c.pumped _ (Marker t.0) i.turns t.2 t.1 refl (omega arith) (omega arith) (λ k. one_stop c.loop-c.pumped.stopped w.with_list.result t.0.list w.in-Stopped.list k t.3 (w.with_list.ensures k)));
+            turns = rw w.pumped-is (item_more 0 c.loop-c.c _ _ _ nothing c.loop-c.pumped _ (Marker t.0) i.turns (omega arith) t.2 t.1 refl (omega arith) (λ k. one_stop c.loop-c.pumped.stopped w.with_list.result t.0.list w.in-Stopped.list k t.3 (w.with_list.ensures k)));
+            few = rw w.pumped-is (record { taken = omega (arith, f.taken); frames = omega (arith, f.frames); bytes = omega arith });
             as_many = w.in-Stopped.ensures.as_many ∙ i.as_many;
           }
     ]
@@ -47,4 +58,5 @@ returns-clause-pumps g c =
     let t = g.T.TakeEnd in
     let ends = c.args.self.now.ends in
     let all : length (map t.known ends.items) ≤ c.loop-c.c = omega (arith, length-map ends.items t.known, ends.ok.0, c.loop-c.invariant.as_many, c.loop-c.auto.c-end, c.loop-c-test.false, c.len-c-end.ensures) in
-    last_turn _ _ c.loop-c.c c.loop-c.pumped c.loop-c.invariant.turns all (sym c.closed.ensures ∙ c.if-closed.false, c.if-self-ge-MAX_TAKEN.false)
+    let one = c.as_one.ensures in
+    one_pump c.loop-c.c _ _ c.loop-c.pumped c.as_one.result (sym c.closed.ensures ∙ c.if-closed.false, c.if-self-ge-MAX_TAKEN.false) c.loop-c.invariant.turns all one.taken one.frames one.stopped
