@@ -10,7 +10,7 @@ use Rattle.xcp_base.specs.Samples.{MarkParts, SampleParts}
 use Rattle.xcp_base.specs.declared.item.Item.{Item}
 use Rattle.xcp_base.specs.declared.item.Item.TheVariants.{Marker, Sample}
 use Rattle.xcp_base.specs.Lists.{has_list}
-use Rattle.transmitter.specs.Fills.{TakesTurns, Tells}
+use Rattle.transmitter.specs.Fills.{Tells}
 use Rattle.transmitter.specs.Inner.Fits.{HasTurns}
 use Rattle.transmitter.specs.Items.{packets_of, samples}
 use Rattle.transmitter.specs.Merge.{AreRising, items_taken, of_ring, taken_from}

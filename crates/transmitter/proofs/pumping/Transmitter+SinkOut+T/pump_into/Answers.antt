@@ -1,4 +1,4 @@
-use Rattle.std.proofs.Common.{◌≡◌, ◌≤◌, vec_len, sym, ap, ◌∙◌, arith, ◌++◌, length, map, take}
+use Rattle.std.proofs.Common.{◌≤◌, vec_len, sym, ap, ◌∙◌, arith, ◌++◌, length, map}
 use Rattle.std.proofs.lemmas.List.{length-map}
 use Rattle.frame_writer.specs.Writing.{state_of}
 use Rattle.frame_writer.specs.contracts.sink_out.SinkOutOut.TheImpl.{ghosts as out}
