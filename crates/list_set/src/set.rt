@@ -5,6 +5,7 @@ ghost use Rattle.xcp_base.specs.declared.limits.TheConstants.{MAX_LISTS};
 ghost use Rattle.xcp_base.specs.Lists.{has_list};
 ghost use Rattle.list_set.specs.Counts.{how_many, one_if};
 
+use crate::id::ListId;
 use std::marker::Model;
 use xcp_base::limits::MAX_LISTS;
 use xcp_base::{has_list, with_list, with_list_if};
@@ -48,41 +49,37 @@ impl ListSet {
     }
 
     /// Whether a list is in the set.
-    pub fn has_list(self, l: u8) -> bool
-        requires { l < MAX_LISTS }
+    pub fn has_list(self, l: ListId) -> bool
         ensures { result ≡ has_list self l }
     {
-        has_list(self.bits, l)
+        has_list(self.bits, l.byte())
     }
 
     /// The set with this list, beside those that are in it.
-    pub fn with_list(self, l: u8) -> ListSet
-        requires { l < MAX_LISTS }
+    pub fn with_list(self, l: ListId) -> ListSet
         ensures { (k : ℕ) → has_list result k ≡ (has_list self k || nat_eq l k) }
     {
         ListSet {
-            bits: with_list(self.bits, l),
+            bits: with_list(self.bits, l.byte()),
         }
     }
 
     /// The set with this list beside those that are in it, if the list is wanted; else the set.
-    pub fn with_list_if(self, l: u8, wanted: bool) -> ListSet
-        requires { l < MAX_LISTS }
+    pub fn with_list_if(self, l: ListId, wanted: bool) -> ListSet
         ensures { (k : ℕ) → has_list result k ≡ (has_list self k || (wanted && nat_eq l k)) }
     {
         ListSet {
-            bits: with_list_if(self.bits, l, wanted),
+            bits: with_list_if(self.bits, l.byte(), wanted),
         }
     }
 
     /// The set without this list.
-    pub fn without_list(self, l: u8) -> ListSet
-        requires { l < MAX_LISTS }
+    pub fn without_list(self, l: ListId) -> ListSet
         ensures { (k : ℕ) → k < MAX_LISTS
             → has_list result k ≡ (has_list self k && not (nat_eq l k)) }
     {
         ListSet {
-            bits: self.bits & !(1 << l),
+            bits: self.bits & !(1 << l.byte()),
         }
     }
 
@@ -130,15 +127,14 @@ impl ListSet {
         ensures few { result ≤ MAX_LISTS }
     {
         let mut found = 0;
-        for l in 0..MAX_LISTS as u8 {
-            found += self.counted(l);
+        for l in 0..MAX_LISTS {
+            found += self.counted(ListId::new(l));
         }
         found
     }
 
     /// What a list adds to the number of those in the set.
-    fn counted(self, l: u8) -> usize
-        requires { l < MAX_LISTS }
+    fn counted(self, l: ListId) -> usize
         ensures { result ≡ one_if (has_list self l) }
     {
         if self.has_list(l) { 1 } else { 0 }

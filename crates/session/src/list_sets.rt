@@ -7,7 +7,7 @@ ghost use Rattle.session.specs.Starts.{is_on_after, shows_on};
 
 use daq_store::Store;
 use daq_store::command::Command;
-use list_set::ListSet;
+use list_set::{ListId, ListSet};
 use xcp_base::limits::MAX_LISTS;
 
 /// The lists that run.
@@ -17,7 +17,7 @@ pub fn running_of(store: &Store) -> ListSet
 {
     let mut set = ListSet::none();
     for l in 0..MAX_LISTS {
-        set = set.with_list_if(l as u8, store.running(l));
+        set = set.with_list_if(ListId::new(l), store.running(l));
     }
     set
 }
@@ -30,7 +30,7 @@ pub fn waiting_of(store: &Store) -> ListSet
 {
     let mut set = ListSet::none();
     for l in 0..MAX_LISTS {
-        set = set.with_list_if(l as u8, waits(store, l));
+        set = set.with_list_if(ListId::new(l), waits(store, l));
     }
     set
 }
@@ -54,7 +54,7 @@ pub fn ready_on(store: &Store, channel: u8) -> ListSet
 {
     let mut set = ListSet::none();
     for l in 0..MAX_LISTS {
-        set = set.with_list_if(l as u8, is_on(store, channel, l));
+        set = set.with_list_if(ListId::new(l), is_on(store, channel, l));
     }
     set
 }

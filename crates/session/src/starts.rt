@@ -14,7 +14,7 @@ use crate::request::{self, Request};
 use crate::session::Session;
 use daq_store::Store;
 use daq_store::command::Command;
-use list_set::ListSet;
+use list_set::{ListId, ListSet};
 use xcp_base::limits::MAX_LISTS;
 
 impl Session {
@@ -65,7 +65,7 @@ fn started_by_list(store: &Store, mode: u8, list: u16) -> ListSet
         return ListSet::none();
     }
     let starts = would_start(store, list);
-    ListSet::none().with_list_if(list as u8, starts)
+    ListSet::none().with_list_if(ListId::new(list), starts)
 }
 
 /// Whether a list is there, ready, and doesn't run.

@@ -5,5 +5,6 @@ use Rattle.list_set.proofs.set.ListSet.without_list.Goals as goal
 
 pub returns : goal.returns
 returns c = λ k below.
-    has-without c.self.inside.bits c.args.l k c.requires below
-    ∙ ap (λ n. has_list n k && not (nat_eq c.args.l k)) c.self.view_is
+    has-without c.self.inside.bits c.byte.result k c.byte.ensures.below below
+    ∙ ap (λ n. has_list n k && not (nat_eq c.byte.result k)) c.self.view_is
+    ∙ ap (λ n. has_list c.args.self k && not (nat_eq n k)) c.byte.ensures.value

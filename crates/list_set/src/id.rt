@@ -1,0 +1,68 @@
+//! The number of a DAQ list.
+ghost use Rattle.std.specs.Prelude.{◌≡◌, ◌<◌};
+ghost use Rattle.xcp_base.specs.declared.limits.TheConstants.{MAX_LISTS};
+
+use std::marker::Model;
+
+/// The number of a DAQ list that there may be: it is below `MAX_LISTS`. A contract sees it as this
+/// number.
+#[derive(Clone, Copy, Debug, PartialEq, Eq)]
+pub struct ListId {
+    number: u8,
+}
+
+impl Model for ListId {
+    ghost use Rattle.std.specs.Prelude.{ℕ, ◌<◌};
+    ghost use Rattle.xcp_base.specs.declared.limits.TheConstants.{MAX_LISTS};
+
+    ghost Value = { ℕ };
+
+    ghost view = { λ l. l.number };
+
+    ghost invariant = { λ l. l.number < MAX_LISTS };
+
+    ghost inverse = { λ n. record { number = n } };
+}
+
+impl ListId {
+    /// The DAQ list of this number in a WORD.
+    pub fn new(number: u16) -> ListId
+        requires { number < MAX_LISTS }
+        ensures { result ≡ number }
+    {
+        ListId {
+            number: number as u8,
+        }
+    }
+
+    /// The DAQ list of this number in a byte.
+    pub fn from_byte(number: u8) -> ListId
+        requires { number < MAX_LISTS }
+        ensures { result ≡ number }
+    {
+        ListId { number }
+    }
+
+    /// Its number in a WORD, as commands have it.
+    pub fn number(self) -> u16
+        ensures { result ≡ self }
+    {
+        self.number as u16
+    }
+
+    /// Its number in a byte, as samples, orders and accounts have it.
+    pub fn byte(self) -> u8
+        ensures value { result ≡ self }
+        ensures below { result < MAX_LISTS }
+    {
+        self.number
+    }
+
+    /// Its place in a table of all DAQ lists.
+    pub fn index(self) -> usize
+        ensures value { result ≡ self }
+        ensures below { result < MAX_LISTS }
+    {
+        self.number as usize
+    }
+}
