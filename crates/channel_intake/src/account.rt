@@ -2,13 +2,12 @@
 use crate::intake::Intake;
 use channel_ring::TakeEnd;
 use daq_engine::ListReport;
+use list_set::ListId;
 use sampler::SamplerEnd;
-use xcp_base::limits::MAX_LISTS;
 
 impl<T: TakeEnd> Intake<T> {
-    ghost use Rattle.std.specs.Prelude.{◌≡◌, ◌<◌, ◌++◌, IfSome, IsNone, List, None, length};
+    ghost use Rattle.std.specs.Prelude.{◌≡◌, ◌++◌, IfSome, IsNone, List, None, length};
     ghost use mathlib.Core.List.{IsPrefix};
-    ghost use Rattle.xcp_base.specs.declared.limits.TheConstants.{MAX_LISTS};
     ghost use Rattle.sampler.specs.Past.{Past};
     ghost use Rattle.sampler.specs.Standing.{EndStandsAfter};
     ghost use Rattle.sampler.specs.State.{counts_at, joined};
@@ -47,8 +46,7 @@ impl<T: TakeEnd> Intake<T> {
     /// What became of the samples of a DAQ list, if it is of the event channel.
     ///
     /// What was taken and not written is left, like what wasn't taken.
-    pub fn line(&self, end: &SamplerEnd<T::End>, l: u8) -> Option<ListReport>
-        requires list { l < MAX_LISTS }
+    pub fn line(&self, end: &SamplerEnd<T::End>, l: ListId) -> Option<ListReport>
         ensures none { IsNone result → counts_at end.now l ≡ None }
         // none of its samples was due then, so its line would be of zeros
         ensures nothing { IsNone result → (past : Past) (deeds : List Deed)
@@ -62,10 +60,11 @@ impl<T: TakeEnd> Intake<T> {
             → HasPlans past → IsPrefix (taken deeds) (items_of past)
             → IsLineOf past deeds l line) }
     {
-        let counts = end.counts(l)?;
+        let list = l.byte();
+        let counts = end.counts(list)?;
         let written = self.written(l);
         Some(ListReport {
-            list: l,
+            list,
             due: counts.due,
             written,
             dropped: counts.dropped,

@@ -8,6 +8,7 @@ use crate::list_intake::{FIRST, ListIntake, PLACES};
 use crate::step::Step;
 use channel_ring::TakeEnd;
 use frame_writer::{FrameWriter, Out, SinkOut};
+use list_set::ListId;
 use std::marker::Model;
 
 /// The slave's end of an event channel's ring, in one measurement.
@@ -58,8 +59,7 @@ impl<T: TakeEnd> Intake<T> {
     }
 
     /// A start of a DAQ list is ordered now.
-    pub fn start(&mut self, l: u8)
-        requires list { l < MAX_LISTS }
+    pub fn start(&mut self, l: ListId)
         ensures goes_on { GoesOn T.TakeEnd self.old self.new (Started l) }
         ensures end_stays { self.new.end ≡ self.old.end }
     {
@@ -69,8 +69,7 @@ impl<T: TakeEnd> Intake<T> {
 
     /// A stop of a DAQ list is ordered now: no sample of it is written until it is started again,
     /// and then none that was sent before its task saw this order.
-    pub fn stop(&mut self, l: u8)
-        requires list { l < MAX_LISTS }
+    pub fn stop(&mut self, l: ListId)
         ensures goes_on { GoesOn T.TakeEnd self.old self.new (Stopped l) }
         ensures end_stays { self.new.end ≡ self.old.end }
     {
@@ -110,8 +109,7 @@ impl<T: TakeEnd> Intake<T> {
     }
 
     /// How many samples of a DAQ list were written.
-    pub fn written(&self, l: u8) -> u64
-        requires list { l < MAX_LISTS }
+    pub fn written(&self, l: ListId) -> u64
         ensures after { (deeds : List Deed) → StandsAfter T.TakeEnd self.now deeds
             → result ≡ count_of l (passed deeds) }
     {
@@ -120,23 +118,21 @@ impl<T: TakeEnd> Intake<T> {
 }
 
 /// Changes what is kept of a list.
-fn note(lists: &mut [ListIntake; PLACES], l: u8, kept: ListIntake)
+fn note(lists: &mut [ListIntake; PLACES], l: ListId, kept: ListIntake)
     requires places { length lists.old ≡ MAX_LISTS }
-    requires list { l < MAX_LISTS }
     ensures here { slice_get lists.new l ≡ Some kept }
     ensures others { (k : ℕ) → k ≢ l → slice_get lists.new k ≡ slice_get lists.old k }
     ensures places_stay { length lists.new ≡ MAX_LISTS }
 {
-    lists[l as usize] = kept;
+    lists[l.index()] = kept;
 }
 
 /// What is kept of a list.
-fn kept_of(lists: &[ListIntake; PLACES], l: u8) -> ListIntake
+fn kept_of(lists: &[ListIntake; PLACES], l: ListId) -> ListIntake
     requires places { length lists.now ≡ MAX_LISTS }
-    requires list { l < MAX_LISTS }
     ensures { slice_get lists.now l ≡ Some result }
 {
-    lists[l as usize]
+    lists[l.index()]
 }
 
 /// Notes what a step took.
@@ -148,12 +144,14 @@ fn note_step(lists: &mut [ListIntake; PLACES], step: Step)
 {
     match step {
         Step::Marked(l) => {
-            let kept = kept_of(lists, l).marked();
-            note(lists, l, kept);
+            let list = ListId::from_byte(l);
+            let kept = kept_of(lists, list).marked();
+            note(lists, list, kept);
         }
         Step::Wrote(l, _) => {
-            let kept = kept_of(lists, l).wrote();
-            note(lists, l, kept);
+            let list = ListId::from_byte(l);
+            let kept = kept_of(lists, list).wrote();
+            note(lists, list, kept);
         }
         Step::Nothing | Step::Full | Step::Skipped(_) => {}
     }

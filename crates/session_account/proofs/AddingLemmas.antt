@@ -91,16 +91,6 @@ unsent-stands old new l n few changes entries unsent stands = record {
     subst (λ u. AreTotals entries u k t) (sym (ap (λ b. if b then unsent k + n else unsent k) not_k)) are,
   )
 
--- of a list that there can't be nothing is said
-pub unsent-elsewhere : (account : List Totals) (l n : ℕ) → MAX_LISTS ≤ l → (entries : List Entry) (unsent : ℕ → ℕ) → AccountStandsAfter account entries unsent → AccountStandsAfter account entries (more_unsent l n unsent)
-unsent-elsewhere account l n over entries unsent stands = record {
-  entries_are = stands.entries_are;
-  lists = λ k below. elim (eqb_tells k l) [
-    | inl w ↦ absurd (omega (arith, below, over, w.1))
-    | inr w ↦ subst (λ u. (t : Totals) × (slice_get account k ≡ Some t) × AreTotals entries u k t) (sym (ap (λ b. if b then unsent k + n else unsent k) w.0)) (stands.lists k below)
-  ];
-}
-
 module _ {E T F : Type 0} (ring : EndGhosts E) (take : TakeGhosts T F) (f : FinishedState E T) where
   pub added-none : (old : List Totals) → AddsBelow ring take f 0 old old
   added-none old = record { below = λ l less. absurd (omega (arith, less)); others = λ l over. refl }

@@ -5,6 +5,7 @@ ghost use Rattle.session_account.specs.Inner.{AddsBelow, ChangesBy, moved, plus}
 
 use crate::totals::{NONE, PLACES, Totals};
 use daq_engine::{ListReport, Ring};
+use list_set::ListId;
 use slave_channel::Finished;
 use std::marker::Model;
 use xcp_base::limits::MAX_LISTS;
@@ -34,14 +35,13 @@ impl Model for Account {
 
 /// The line of a list in a part that came back; of zeros, if its event channel doesn't have the
 /// list.
-fn line_of<R: Ring>(finished: &Finished<R>, l: u8) -> ListReport
-    requires list { l < MAX_LISTS }
+fn line_of<R: Ring>(finished: &Finished<R>, l: ListId) -> ListReport
     ensures line { HasLine R.Send.End.RingEnd R.Take.TakeEnd finished.now l result }
 {
     match finished.line(l) {
         Some(line) => line,
         None => ListReport {
-            list: l,
+            list: l.byte(),
             due: 0,
             written: 0,
             dropped: 0,
@@ -51,29 +51,26 @@ fn line_of<R: Ring>(finished: &Finished<R>, l: u8) -> ListReport
 }
 
 /// Changes the totals of a list.
-fn note(lists: &mut [Totals; PLACES], l: u8, totals: Totals)
+fn note(lists: &mut [Totals; PLACES], l: ListId, totals: Totals)
     requires places { length lists.old ≡ MAX_LISTS }
-    requires list { l < MAX_LISTS }
     ensures here { slice_get lists.new l ≡ Some totals }
     ensures others { (k : ℕ) → k ≢ l → slice_get lists.new k ≡ slice_get lists.old k }
     ensures places_stay { length lists.new ≡ MAX_LISTS }
 {
-    lists[l as usize] = totals;
+    lists[l.index()] = totals;
 }
 
 /// The totals of a list.
-fn totals_of(lists: &[Totals; PLACES], l: u8) -> Totals
+fn totals_of(lists: &[Totals; PLACES], l: ListId) -> Totals
     requires places { length lists.now ≡ MAX_LISTS }
-    requires list { l < MAX_LISTS }
     ensures { slice_get lists.now l ≡ Some result }
 {
-    lists[l as usize]
+    lists[l.index()]
 }
 
 /// Adds a line to the totals of a list.
-fn add_line(lists: &mut [Totals; PLACES], l: u8, line: ListReport)
+fn add_line(lists: &mut [Totals; PLACES], l: ListId, line: ListReport)
     requires places { length lists.old ≡ MAX_LISTS }
-    requires list { l < MAX_LISTS }
     ensures changes { ChangesBy lists.old lists.new l (λ totals. plus totals line) }
     ensures places_stay { length lists.new ≡ MAX_LISTS }
 {
@@ -82,9 +79,8 @@ fn add_line(lists: &mut [Totals; PLACES], l: u8, line: ListReport)
 }
 
 /// So many of the samples of a list that were written are left.
-fn move_some(lists: &mut [Totals; PLACES], l: u8, n: u64)
+fn move_some(lists: &mut [Totals; PLACES], l: ListId, n: u64)
     requires places { length lists.old ≡ MAX_LISTS }
-    requires list { l < MAX_LISTS }
     ensures changes { ChangesBy lists.old lists.new l (λ totals. moved totals n) }
     ensures places_stay { length lists.new ≡ MAX_LISTS }
 {
@@ -99,13 +95,14 @@ fn add_lines<R: Ring>(lists: &mut [Totals; PLACES], finished: &Finished<R>)
         lists.old lists.new }
     ensures places_stay { length lists.new ≡ MAX_LISTS }
 {
-    for l in 0..MAX_LISTS as u8 {
-        add_line(lists, l, line_of(finished, l));
+    for l in 0..MAX_LISTS {
+        let list = ListId::new(l);
+        add_line(lists, list, line_of(finished, list));
     }
 }
 
 impl Account {
-    ghost use Rattle.std.specs.Prelude.{◌≡◌, ℕ, ◌≤◌, ◌↔◌, [], ◌∷◌, List, IfSome, IsNone};
+    ghost use Rattle.std.specs.Prelude.{◌≡◌, ℕ, [], ◌∷◌, List};
     ghost use Rattle.xcp_base.specs.declared.limits.TheConstants.{MAX_LISTS};
     ghost use Rattle.channel_intake.specs.Intakes.{StandsAfter};
     ghost use Rattle.slave_channel.specs.Channels.{IsPastOf};
@@ -134,36 +131,28 @@ impl Account {
     }
 
     /// So many samples of a list that were counted as written were not sent after all: they are
-    /// left. Of a list number of 16 or more, nothing changes.
-    pub fn unsent(&mut self, l: u8, n: u64)
+    /// left.
+    pub fn unsent(&mut self, l: ListId, n: u64)
         ensures unsent { (entries : List Entry) (unsent : ℕ → ℕ)
             → AccountStandsAfter self.old entries unsent
             → AccountStandsAfter self.new entries (more_unsent l n unsent) }
-        ensures none { MAX_LISTS ≤ l → self.new ≡ self.old }
     {
-        if l as u16 >= MAX_LISTS {
-            return;
-        }
         move_some(&mut self.lists, l, n);
     }
 
-    /// The totals of a list, as a line; `None` for a list number of 16 or more.
-    pub fn line(&self, l: u8) -> Option<ListReport>
-        ensures none { IsNone result ↔ MAX_LISTS ≤ l }
-        ensures line { IfSome result (λ line. (entries : List Entry) (unsent : ℕ → ℕ)
+    /// The totals of a list, as a line.
+    pub fn line(&self, l: ListId) -> ListReport
+        ensures line { (entries : List Entry) (unsent : ℕ → ℕ)
             → AccountStandsAfter self.now entries unsent
-            → IsTotalLine entries unsent l line) }
+            → IsTotalLine entries unsent l result }
     {
-        if l as u16 >= MAX_LISTS {
-            return None;
-        }
         let totals = totals_of(&self.lists, l);
-        Some(ListReport {
-            list: l,
+        ListReport {
+            list: l.byte(),
             due: totals.due,
             written: totals.written,
             dropped: totals.dropped,
             left: totals.left,
-        })
+        }
     }
 }

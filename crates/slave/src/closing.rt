@@ -7,6 +7,7 @@ ghost use Rattle.slave.specs.Closing.{Closes};
 use crate::slave::Slave;
 use daq_engine::Ring;
 use frame_outbox::Outbox;
+use list_set::ListId;
 use session_account::Account;
 use tasks::TaskEnd;
 use xcp_base::limits::MAX_LISTS;
@@ -33,8 +34,9 @@ fn leave(account: &mut Account, outbox: &Outbox)
     ensures leaves { (entries : List Entry) → AccountStandsAfter account.old entries (λ l. 0)
         → AccountStandsAfter account.new entries (λ l. samples_of l outbox.now.units) }
 {
-    for l in 0..MAX_LISTS as u8 {
-        account.unsent(l, outbox.waiting_of(l) as u64);
+    for l in 0..MAX_LISTS {
+        let list = ListId::new(l);
+        account.unsent(list, outbox.waiting_of(list.byte()) as u64);
     }
 }
 

@@ -4,7 +4,7 @@ ghost use Rattle.xcp_base.specs.Lists.{has_list};
 ghost use Rattle.slave.specs.Plans.{IsSame, plan_of};
 
 use daq_store::Store;
-use list_set::ListSet;
+use list_set::{ListId, ListSet};
 use session::SetUp;
 use std::alloc::{AllocError, Global};
 use std::marker::Model;
@@ -56,8 +56,8 @@ impl Plan {
         ensures no { result ≡ false → (l : ℕ) × (l < MAX_LISTS) × (has_list lists l ≡ true)
             × (¬ IsSame self.now store.now l) }
     {
-        for l in 0..MAX_LISTS as u8 {
-            if !self.stands_if(store, lists, l) {
+        for l in 0..MAX_LISTS {
+            if !self.stands_if(store, lists, ListId::new(l)) {
                 return false;
             }
         }
@@ -65,8 +65,7 @@ impl Plan {
     }
 
     /// Whether a list is there and set up as it was, if it is one of these.
-    fn stands_if(&self, store: &Store, lists: ListSet, l: u8) -> bool
-        requires below { l < MAX_LISTS }
+    fn stands_if(&self, store: &Store, lists: ListSet, l: ListId) -> bool
         ensures yes { result ≡ true → has_list lists l ≡ true → IsSame self.now store.now l }
         ensures no { result ≡ false → (has_list lists l ≡ true)
             × (¬ IsSame self.now store.now l) }
@@ -78,13 +77,13 @@ impl Plan {
     }
 
     /// Whether a list is there and set up as it was.
-    fn is_same(&self, store: &Store, l: u8) -> bool
+    fn is_same(&self, store: &Store, l: ListId) -> bool
         ensures value { (result ≡ true) ↔ IsSame self.now store.now l }
     {
-        let Some(set_up) = self.lists.get(l as usize) else {
+        let Some(set_up) = self.lists.get(l.index()) else {
             return false;
         };
-        let Some(conf) = store.conf(l as u16) else {
+        let Some(conf) = store.conf(l.number()) else {
             return false;
         };
         set_up.stands(conf)

@@ -79,9 +79,7 @@ impl<R: Ring> Slave<R> {
         ensures session_stays { self.new.session ≡ self.old.session }
         ensures outbox_stays { self.new.outbox ≡ self.old.outbox }
     {
-        if let Err(code) = self.open_measurement(alloc) {
-            return Err(code);
-        }
+        self.open_measurement(alloc)?;
         if let Err(code) = self.start(lists) {
             self.channels.end();
             return Err(code);

@@ -5,7 +5,7 @@ use channel_ring::{SendEnd, TakeEnd};
 use daq_engine::{Ring, open_channel};
 use daq_store::Store;
 use frame_outbox::Outbox;
-use list_set::ListSet;
+use list_set::{ListId, ListSet};
 use sampler::SamplerEnd;
 use std::alloc::{AllocError, Global};
 use std::marker::Model;
@@ -54,8 +54,7 @@ fn keep<T: Drop>(older: &mut Option<Share<T>>, newer: &mut Option<Share<T>>, sha
 }
 
 /// The intake of the newest part is told of a start.
-fn note_start<T: TakeEnd>(newer: &mut Option<Share<T>>, l: u8)
-    requires below { l < MAX_LISTS }
+fn note_start<T: TakeEnd>(newer: &mut Option<Share<T>>, l: ListId)
     ensures goes_on { IsSome newer.old → NewestGoesOn T.TakeEnd newer.old newer.new (Started l) }
     ensures end_stays { EndStays newer.old newer.new }
 {
@@ -65,8 +64,7 @@ fn note_start<T: TakeEnd>(newer: &mut Option<Share<T>>, l: u8)
 }
 
 /// The intake of the newest part is told of a stop.
-fn note_stop<T: TakeEnd>(newer: &mut Option<Share<T>>, l: u8)
-    requires below { l < MAX_LISTS }
+fn note_stop<T: TakeEnd>(newer: &mut Option<Share<T>>, l: ListId)
     ensures goes_on { IsSome newer.old → NewestGoesOn T.TakeEnd newer.old newer.new (Stopped l) }
     ensures end_stays { EndStays newer.old newer.new }
 {
@@ -190,8 +188,7 @@ impl<R: Ring> Channel<R> {
 
     /// Orders the start of a list that was checked by `can_start`, alone or with others, which then
     /// still find places. It takes no memory.
-    pub fn start(&mut self, l: u8)
-        requires below { l < MAX_LISTS }
+    pub fn start(&mut self, l: ListId)
         requires checked { (lists : ℕ → Bool) × (lists l ≡ true)
             × CanStart self.old.link.newer lists }
         ensures orders { Orders R.Take.TakeEnd self.old self.new (Start l) (Started l) }
@@ -204,8 +201,7 @@ impl<R: Ring> Channel<R> {
 
     /// Orders the stop of a list that runs. It always finds a place, and takes no memory: from then
     /// on no sample of the list is written until its next start.
-    pub fn stop(&mut self, l: u8)
-        requires below { l < MAX_LISTS }
+    pub fn stop(&mut self, l: ListId)
         requires runs { is_running self.old.link.newer l ≡ true }
         ensures orders { Orders R.Take.TakeEnd self.old self.new (Stop l) (Stopped l) }
     {

@@ -1,9 +1,9 @@
 use channel_intake::Intake;
 use channel_ring::{SendEnd, TakeEnd};
 use daq_engine::{ListReport, Ring};
+use list_set::ListId;
 use sampler::SamplerEnd;
 use std::marker::Model;
-use xcp_base::limits::MAX_LISTS;
 
 /// An event channel's part of a measurement that has ended, with what is left of its sampler: what
 /// became of the samples of each of its DAQ lists.
@@ -26,8 +26,7 @@ impl<R: Ring> Model for Finished<R> {
 }
 
 impl<R: Ring> Finished<R> {
-    ghost use Rattle.std.specs.Prelude.{◌≡◌, ◌<◌, IfSome, IsNone, None};
-    ghost use Rattle.xcp_base.specs.declared.limits.TheConstants.{MAX_LISTS};
+    ghost use Rattle.std.specs.Prelude.{◌≡◌, IfSome, IsNone, None};
     ghost use Rattle.sampler.specs.State.{counts_at};
     ghost use Rattle.channel_intake.specs.Accounts.{no_line};
     ghost use Rattle.slave_channel.specs.Channels.{HasLine, IsFinished};
@@ -43,8 +42,7 @@ impl<R: Ring> Finished<R> {
 
     /// What became of the samples of a DAQ list, if it is of the event channel. What was taken off
     /// the ring and not written is left, like what wasn't taken.
-    pub fn line(&self, l: u8) -> Option<ListReport>
-        requires list { l < MAX_LISTS }
+    pub fn line(&self, l: ListId) -> Option<ListReport>
         ensures none { IsNone result → counts_at self.now.end l ≡ None }
         // none of its samples was due then, so its line would be of zeros
         ensures nothing { IsNone result

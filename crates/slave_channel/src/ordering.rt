@@ -10,7 +10,7 @@ ghost use Rattle.slave_channel.specs.Ordering.{starts_noted, starts_sent, stops_
 
 use crate::channel::Channel;
 use daq_engine::Ring;
-use list_set::ListSet;
+use list_set::{ListId, ListSet};
 use xcp_base::limits::MAX_LISTS;
 
 impl<R: Ring> Channel<R> {
@@ -39,8 +39,8 @@ impl<R: Ring> Channel<R> {
         ensures orders { OrdersAll R.Take.TakeEnd self.old self.new
             (starts_sent (has_list lists) MAX_LISTS) (starts_noted (has_list lists) MAX_LISTS) }
     {
-        for l in 0..MAX_LISTS as u8 {
-            self.start_one(lists, l);
+        for l in 0..MAX_LISTS {
+            self.start_one(lists, ListId::new(l));
         }
     }
 
@@ -52,14 +52,14 @@ impl<R: Ring> Channel<R> {
             (stops_noted (λ l. has_list lists l && is_running self.old.link.newer l) MAX_LISTS) }
     {
         let stopped = lists.intersection(self.running());
-        for l in 0..MAX_LISTS as u8 {
-            self.stop_one(stopped.has_list(l), l);
+        for l in 0..MAX_LISTS {
+            let list = ListId::new(l);
+            self.stop_one(stopped.has_list(list), list);
         }
     }
 
     /// Orders the start of a list, if it is among these; those behind it can still be started.
-    fn start_one(&mut self, lists: ListSet, l: u8)
-        requires below { l < MAX_LISTS }
+    fn start_one(&mut self, lists: ListSet, l: ListId)
         requires checked { CanStart self.old.link.newer (from_on l (has_list lists)) }
         ensures orders { OrdersAll R.Take.TakeEnd self.old self.new
             (one_if (has_list lists l) (Start l)) (one_if (has_list lists l) (Started l)) }
@@ -71,8 +71,7 @@ impl<R: Ring> Channel<R> {
     }
 
     /// Orders the stop of a list, if it is wanted.
-    fn stop_one(&mut self, wanted: bool, l: u8)
-        requires below { l < MAX_LISTS }
+    fn stop_one(&mut self, wanted: bool, l: ListId)
         requires runs { wanted ≡ true → is_running self.old.link.newer l ≡ true }
         ensures orders { OrdersAll R.Take.TakeEnd self.old self.new
             (one_if wanted (Stop l)) (one_if wanted (Stopped l)) }

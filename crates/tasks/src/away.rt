@@ -3,7 +3,7 @@ use crate::needs::places_for;
 use crate::order::Order;
 use crate::orders::OrderSend;
 use channel_ring::SendEnd;
-use list_set::ListSet;
+use list_set::{ListId, ListSet};
 use sampler::SamplerEnd;
 use std::marker::Model;
 
@@ -82,25 +82,23 @@ impl<S: SendEnd> Away<S> {
     }
 
     /// Sends the start of a list that was checked.
-    pub fn start(&mut self, l: u8)
-        requires below { l < MAX_LISTS }
+    pub fn start(&mut self, l: ListId)
         requires checked { (lists : ℕ → Bool) × (lists l ≡ true) × HasPlacesFor self.old lists }
         ensures sends { SendsOrder self.old self.new (Start l) }
         ensures others { (lists : ℕ → Bool) → lists l ≡ true → HasPlacesFor self.old lists
             → HasPlacesFor self.new (without l lists) }
     {
-        self.orders.send(Order::Start(l));
+        self.orders.send(Order::Start(l.byte()));
         self.running = self.running.with_list(l);
     }
 
     /// Sends the stop of a list that runs.
-    pub fn stop(&mut self, l: u8)
-        requires below { l < MAX_LISTS }
+    pub fn stop(&mut self, l: ListId)
         requires takes_orders { self.old.ended ≡ false }
         requires runs { runs_of self.old l ≡ true }
         ensures sends { SendsOrder self.old self.new (Stop l) }
     {
-        self.orders.send(Order::Stop(l));
+        self.orders.send(Order::Stop(l.byte()));
         self.running = self.running.without_list(l);
     }
 

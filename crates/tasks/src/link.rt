@@ -6,7 +6,7 @@ use crate::place::{Place, new_place};
 use crate::returns::Returns;
 use crate::task::Task;
 use channel_ring::SendEnd;
-use list_set::ListSet;
+use list_set::{ListId, ListSet};
 use rtrb::RingBuffer;
 use sampler::{Sampler, SamplerEnd};
 use std::alloc::{AllocError, Global};
@@ -112,8 +112,7 @@ fn newest_can_start<S: SendEnd>(newer: &mut Option<Away<S>>, lists: ListSet) -> 
 }
 
 /// Sends a start to the newest.
-fn start_of<S: SendEnd>(newer: &mut Option<Away<S>>, l: u8)
-    requires below { l < MAX_LISTS }
+fn start_of<S: SendEnd>(newer: &mut Option<Away<S>>, l: ListId)
     requires checked { (lists : ℕ → Bool) × (lists l ≡ true) × CanStart newer.old lists }
     ensures sends { SendsToNewest newer.old newer.new (Start l) }
     ensures others { (lists : ℕ → Bool) → lists l ≡ true → CanStart newer.old lists
@@ -125,8 +124,7 @@ fn start_of<S: SendEnd>(newer: &mut Option<Away<S>>, l: u8)
 }
 
 /// Sends a stop to the newest.
-fn stop_of<S: SendEnd>(newer: &mut Option<Away<S>>, l: u8)
-    requires below { l < MAX_LISTS }
+fn stop_of<S: SendEnd>(newer: &mut Option<Away<S>>, l: ListId)
     requires runs { is_running newer.old l ≡ true }
     ensures { SendsToNewest newer.old newer.new (Stop l) }
 {
@@ -279,8 +277,7 @@ impl<S: SendEnd> TaskLink<S> {
 
     /// Sends the start of a list that was checked by `can_start`, alone or with others, which then
     /// still find places. It takes no memory.
-    pub fn start(&mut self, l: u8)
-        requires below { l < MAX_LISTS }
+    pub fn start(&mut self, l: ListId)
         requires checked { (lists : ℕ → Bool) × (lists l ≡ true) × CanStart self.old.newer lists }
         ensures sends { SendsToNewest self.old.newer self.new.newer (Start l) }
         ensures others { (lists : ℕ → Bool) → lists l ≡ true → CanStart self.old.newer lists
@@ -291,8 +288,7 @@ impl<S: SendEnd> TaskLink<S> {
     }
 
     /// Sends the stop of a list that runs. It always finds a place, and takes no memory.
-    pub fn stop(&mut self, l: u8)
-        requires below { l < MAX_LISTS }
+    pub fn stop(&mut self, l: ListId)
         requires runs { is_running self.old.newer l ≡ true }
         ensures sends { SendsToNewest self.old.newer self.new.newer (Stop l) }
         ensures rest_stays { self.new ≡ record self.old { newer = self.new.newer } }

@@ -9,7 +9,7 @@ loop-l-init g c = record { adds = added-none _ _ _ c.args.lists.now; places = c.
 
 pub loop-l-preserved : goal.loop-l-preserved
 loop-l-preserved g c = record {
-  adds = added-more _ _ _ c.loop-l.l c.args.lists.now c.loop-l.lists c.add_line.new.lists c.line_of.result c.loop-l.invariant.adds c.line_of.ensures.line c.add_line.ensures.changes;
+  adds = added-more _ _ _ c.loop-l.l c.args.lists.now c.loop-l.lists c.add_line.new.lists c.line_of.result c.loop-l.invariant.adds (rw c.new-list.ensures at c.line_of.ensures.line) (rw c.new-list.ensures at c.add_line.ensures.changes);
   places = c.add_line.ensures.places_stay;
 }
 

@@ -9,9 +9,10 @@ loop-l-init c = λ entries stands. same-unsent c.args.account.now entries (λ k.
 
 pub loop-l-preserved : goal.loop-l-preserved
 loop-l-preserved c = λ entries stands.
+    let waits = rw (c.byte.ensures.value ∙ c.new-list.ensures) at c.waiting_of.ensures in
     same-unsent c.unsent.new.self entries _ _
-    (λ k below. ap (λ n. more_unsent c.loop-l.l n (so_far c.loop-l.l (λ j. samples_of j c.args.outbox.now.units)) k) c.waiting_of.ensures ∙ so-far-more c.loop-l.l (λ j. samples_of j c.args.outbox.now.units) k)
-    (c.unsent.ensures.unsent entries _ (c.loop-l.invariant entries stands))
+    (λ k below. ap (λ n. more_unsent c.loop-l.l n (so_far c.loop-l.l (λ j. samples_of j c.args.outbox.now.units)) k) waits ∙ so-far-more c.loop-l.l (λ j. samples_of j c.args.outbox.now.units) k)
+    (rw c.new-list.ensures at c.unsent.ensures.unsent entries _ (c.loop-l.invariant entries stands))
 
 pub returns : goal.returns
 returns c = record {

@@ -3,10 +3,10 @@ use Rattle.tasks.specs.Links.{AwayState, CanStart, SendsToNewest}
 use Rattle.tasks.specs.declared.order.Order.TheVariants.{Start}
 use Rattle.tasks.proofs.link.start_of.Goals as goal
 
-pub start-requires-clause-checked : goal.start-requires-clause-checked
-start-requires-clause-checked g c =
+pub start-requires : goal.start-requires
+start-requires g c =
     let checked = c.requires.checked in
-    (checked.0, checked.1, subst (λ (newer : Option (AwayState _)). CanStart newer checked.0) c.in-Some.is checked.2)
+    record { checked = (checked.0, checked.1, subst (λ (newer : Option (AwayState _)). CanStart newer checked.0) c.in-Some.is checked.2) }
 
 pub returns-in-Some-clause-sends : goal.returns-in-Some-clause-sends
 returns-in-Some-clause-sends g c =

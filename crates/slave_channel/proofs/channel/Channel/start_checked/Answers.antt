@@ -17,8 +17,8 @@ loop-l-preserved g c =
     record {
       orders =
           orders-same g.R.Take.TakeEnd _ _ _ _ _ _ (starts_sent-next set c.loop-l.l) (starts_noted-next set c.loop-l.l)
-          (orders-more g.R.Take.TakeEnd _ _ _ _ _ _ _ c.loop-l.invariant.orders c.start_one.ensures.orders);
-      behind = c.start_one.ensures.behind;
+          (orders-more g.R.Take.TakeEnd _ _ _ _ _ _ _ c.loop-l.invariant.orders (rw c.new.ensures at c.start_one.ensures.orders));
+      behind = rw c.new.ensures at c.start_one.ensures.behind;
     }
 
 pub returns : goal.returns

@@ -6,10 +6,10 @@ use Rattle.slave_channel.specs.Ordering.{OrdersAll, from_on, one_if}
 use Rattle.slave_channel.proofs.OrderingLemmas.{can-same, from-here, from-other, from-without, no-order, one-start}
 use Rattle.slave_channel.proofs.channel.Channel.start_one.Goals as goal
 
-pub start-requires-clause-checked : goal.start-requires-clause-checked
-start-requires-clause-checked g c =
+pub start-requires : goal.start-requires
+start-requires g c =
     let set = has_list c.args.lists in
-    (from_on c.args.l set, from-here set c.args.l (sym c.has_list.ensures ∙ c.if-has_list.true), c.requires.checked)
+    record { checked = (from_on c.args.l set, from-here set c.args.l (sym c.has_list.ensures ∙ c.if-has_list.true), c.requires.checked) }
 
 -- one start was ordered, or none
 pub returns-then-has_list-clause-orders : goal.returns-then-has_list-clause-orders

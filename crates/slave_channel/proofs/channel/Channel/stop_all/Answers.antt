@@ -25,8 +25,8 @@ loop-l-preserved g c =
       orders =
           orders-same g.R.Take.TakeEnd _ _ _ _ _ _ (stops_sent-next set c.loop-l.l) (stops_noted-next set c.loop-l.l)
           (orders-more g.R.Take.TakeEnd _ _ _ _ _ _ _ c.loop-l.invariant.orders
-          (subst (λ b. OrdersAll g.R.Take.TakeEnd c.loop-l.self c.stop_one.new.self (one_if b (Stop c.loop-l.l)) (one_if b (Stopped c.loop-l.l))) c.has_list.ensures c.stop_one.ensures.orders));
-      behind = λ k from below one. c.stop_one.ensures.others k (λ e. omega (arith, e, from)) ∙ c.loop-l.invariant.behind k (omega (arith, from)) below one;
+          (subst (λ b. OrdersAll g.R.Take.TakeEnd c.loop-l.self c.stop_one.new.self (one_if b (Stop c.loop-l.l)) (one_if b (Stopped c.loop-l.l))) (rw c.new-list.ensures at c.has_list.ensures) (rw c.new-list.ensures at c.stop_one.ensures.orders)));
+      behind = λ k from below one. c.stop_one.ensures.others k (λ e. omega (arith, e, from, c.new-list.ensures)) ∙ c.loop-l.invariant.behind k (omega (arith, from)) below one;
     }
 
 pub returns : goal.returns

@@ -10,8 +10,10 @@ use Rattle.tasks.proofs.away.Away.stop.Goals as goal
 -- the place that the stop took was kept for it
 pub invariant_of-self : goal.invariant_of-self
 invariant_of-self g c =
-    let runs = c.self.invariant.1 c.args.l c.requires.below ∙ ap (λ (a : AwayState _). runs_of a c.args.l) c.self.view_is ∙ c.requires.runs in (
+    let below = rw c.byte.ensures.value at c.byte.ensures.below in
+    let sends = rw c.byte.ensures.value at c.send.ensures.sends in
+    let runs = c.self.invariant.1 c.args.l below ∙ ap (λ (a : AwayState _). runs_of a c.args.l) c.self.view_is ∙ c.requires.runs in (
       c.send.ensures.ring_stays ∙ c.self.invariant.0,
-      running-sent _ _ _ _ (Stop c.args.l) (λ l. runs_in c.self.inside.coming.sampler l) c.send.ensures.sends c.self.invariant.1 c.without_list-self-inside.ensures,
-      λ is. stop-leaves (has_list c.self.inside.running) (has_list c.without_list-self-inside.result) c.args.l _ _ c.requires.below runs c.send.ensures.spent c.without_list-self-inside.ensures (c.self.invariant.2 is),
+      running-sent _ _ _ _ (Stop c.args.l) (λ l. runs_in c.self.inside.coming.sampler l) sends c.self.invariant.1 c.without_list-self-inside.ensures,
+      λ is. stop-leaves (has_list c.self.inside.running) (has_list c.without_list-self-inside.result) c.args.l _ _ below runs c.send.ensures.spent c.without_list-self-inside.ensures (c.self.invariant.2 is),
     )
