@@ -58,8 +58,5 @@ fn takes_in(row: &TextRow, number: f64) -> bool
 fn other_text(table: &TextTable) -> Option<&str>
     ensures { option_copied result ≡ other_text table.now }
 {
-    match &table.other {
-        Some(text) => Some(text.as_str()),
-        None => None,
-    }
+    Some(table.other.as_ref()?.as_str())
 }

@@ -1,9 +1,8 @@
 //! Reads a text, or the front of one, from a file or from standard input.
-ghost use Rattle.std.specs.Prelude.{◌≡◌, ◌⊎◌, ◌<◌, ◌≤◌, IfErr, IfOk, OnOk, length};
+ghost use Rattle.std.specs.Prelude.{◌≡◌, ◌<◌, ◌≤◌, IfOk, OnOk, length};
 ghost use Rattle.std.specs.Prelude.{string_bytes, true};
 ghost use Rattle.std.specs.Io.{StartsWith, appended_bytes};
 ghost use Rattle.std.specs.Io.KnownBytes.{Consumes, IsAtEnd};
-ghost use Rattle.program_input.specs.declared.text_fault.TextFault.TheVariants.{Memory, Unreadable};
 
 use crate::text_fault::TextFault;
 use std::alloc::Global;
@@ -28,7 +27,6 @@ pub fn text_from<I: Read>(alloc: Global, input: &mut I) -> Result<String, TextFa
         Consumes (I.remaining input.old) (I.remaining input.new) (string_bytes text)) }
     ensures end { OnOk result (IsAtEnd (I.remaining input.new)) }
     ensures within { IfOk result (λ text. length (string_bytes text) ≤ MAX_TEXT_BYTES) }
-    ensures fault { IfErr result (λ f. (f ≡ Unreadable) ⊎ (f ≡ Memory)) }
 {
     let bytes = bytes_from(alloc, input)?;
     String::from_utf8(bytes).map_err(|_| TextFault::Unreadable)
@@ -40,7 +38,6 @@ pub fn bytes_from<I: Read>(alloc: Global, input: &mut I) -> Result<Vec<u8>, Text
         Consumes (I.remaining input.old) (I.remaining input.new) bytes.items) }
     ensures end { OnOk result (IsAtEnd (I.remaining input.new)) }
     ensures within { IfOk result (λ bytes. length bytes.items ≤ MAX_TEXT_BYTES) }
-    ensures fault { IfErr result (λ f. (f ≡ Unreadable) ⊎ (f ≡ Memory)) }
 {
     front_from(alloc, input, usize::MAX)
 }
@@ -56,7 +53,6 @@ pub fn front_from<I: Read>(alloc: Global, input: &mut I, len: usize) -> Result<V
     ensures all { IfOk result (λ bytes.
         length bytes.items < len → IsAtEnd (I.remaining input.new)) }
     ensures within { IfOk result (λ bytes. length bytes.items ≤ MAX_TEXT_BYTES) }
-    ensures fault { IfErr result (λ f. (f ≡ Unreadable) ⊎ (f ≡ Memory)) }
 {
     let mut bytes = Vec::new(alloc);
     let mut chunk = [0; CHUNK];
@@ -89,7 +85,6 @@ pub fn is_read_to_end<I: Read>(
     ensures nothing { IfOk result (λ at_end. at_end ≡ true → bytes.new.items ≡ bytes.old.items) }
     ensures within { OnOk result (length bytes.new.items ≤ MAX_TEXT_BYTES) }
     ensures room_stays { length chunk.new ≡ length chunk.old }
-    ensures fault { IfErr result (λ f. (f ≡ Unreadable) ⊎ (f ≡ Memory)) }
 {
     let count = match input.read(chunk) {
         Ok(count) => count,

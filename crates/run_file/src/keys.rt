@@ -41,10 +41,7 @@ pub fn number_at(table: &Table, key: &str, least: usize, most: usize) -> Option<
     ensures value { result ≡ at_key (number_in least most) key.now (table_view table.now) }
     ensures within { IfSome result (λ n. (least ≤ n) × (n ≤ most)) }
 {
-    match table.get(key) {
-        Some(value) => number_in(value, least, most),
-        None => None,
-    }
+    number_in(table.get(key)?, least, most)
 }
 
 /// The integer of a value, if it is within bounds.
@@ -70,10 +67,7 @@ pub fn array_at<'a>(table: &'a Table, key: &str) -> Option<&'a [Value]>
     ensures { option_map (λ values. items_view values.now) result
         ≡ at_key as_array key.now (table_view table.now) }
 {
-    match table.get(key) {
-        Some(value) => items_in(value),
-        None => None,
-    }
+    items_in(table.get(key)?)
 }
 
 /// The values of the array of a key, if they are strings and no more than `most`.

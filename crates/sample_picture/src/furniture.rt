@@ -66,7 +66,8 @@ pub fn push_head(text: &mut String, rows: &[Row]) -> Result<(), AllocError> {
 /// The title and the legend.
 const LEGEND: &str = "<text class=\"h\" x=\"20\" y=\"35\">Samples of the DAQ lists</text>
 <path class=\"s\" d=\"M263.7 30h2\"/><text class=\"m\" x=\"273\" y=\"34\">sample</text>
-<path class=\"l\" d=\"M322 32h18\"/><path class=\"o\" d=\"M339.8 32h2.2\"/><path class=\"t\" d=\"M340.9 17l-3.5-6h7z\"/>
+<path class=\"l\" d=\"M322 32h18\"/><path class=\"o\" d=\"M339.8 32h2.2\"/>\
+<path class=\"t\" d=\"M340.9 17l-3.5-6h7z\"/>
 <text class=\"m\" x=\"350\" y=\"34\">overload: samples were dropped before it</text>
 <path class=\"b\" d=\"M606 30h30\"/><text class=\"m\" x=\"644\" y=\"34\">no sample</text>
 ";
