@@ -3,6 +3,7 @@ ghost use Rattle.std.specs.Prelude.{OnOk};
 ghost use Rattle.slave_channel.specs.Channels.{IsFinished};
 
 use daq_engine::{ListReport, Ring};
+use list_set::ListId;
 use slave_channel::Finished;
 use std::alloc::{AllocError, Global};
 use xcp_base::limits::MAX_LISTS;
@@ -35,8 +36,8 @@ impl Parts {
             (IsFinished R.Send.End.RingEnd R.Take.TakeEnd finished.now) }
     {
         let measurement = finished.number();
-        for l in 0..MAX_LISTS as u8 {
-            if let Some(line) = finished.line(l) {
+        for l in 0..MAX_LISTS {
+            if let Some(line) = finished.line(ListId::new(l)) {
                 self.lines.push(PartLine { measurement, line })?;
             }
         }
