@@ -9,6 +9,7 @@ use byte_ring::ByteRing;
 use channel_ring::{SampleRing, TakeEnd};
 use daq_engine::{ListReport, Ring};
 use handle_calls::{Content, Handle, HeldRing, Status};
+use list_set::ListId;
 use session_account::Account;
 use slave::Closed;
 use std::alloc::Global;
@@ -20,11 +21,9 @@ fn tell(account: &Account, lines: &mut [ListReport])
     requires room { MOST_LISTS ≤ length lines.old }
     ensures { HasLines account.now MOST_LISTS lines.old lines.new }
 {
-    for l in 0..MAX_LISTS as u8 {
-        let Some(line) = account.line(l) else {
-            unreachable!()
-        };
-        lines[l as usize] = line;
+    for l in 0..MAX_LISTS {
+        let list = ListId::new(l);
+        lines[list.index()] = account.line(list);
     }
 }
 

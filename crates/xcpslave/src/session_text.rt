@@ -1,5 +1,6 @@
 //! What came of a session, in words.
 use daq_engine::ListReport;
+use list_set::ListId;
 use slave_play::Played;
 use std::alloc::{AllocError, Global};
 use xcp_base::limits::MAX_LISTS;
@@ -46,8 +47,8 @@ fn write_parts(text: &mut String, played: &Played) -> Result<(), AllocError> {
 
 /// The sums of the lists.
 fn write_sums(text: &mut String, played: &Played) -> Result<(), AllocError> {
-    for l in 0..MAX_LISTS as u8 {
-        if let Some(line) = sum_of(played, l) {
+    for l in 0..MAX_LISTS {
+        if let Some(line) = sum_of(played, ListId::new(l)) {
             write_line(text, &line)?;
         }
     }
@@ -55,11 +56,11 @@ fn write_sums(text: &mut String, played: &Played) -> Result<(), AllocError> {
 }
 
 /// The sums of a list, if a part of a measurement had it.
-fn sum_of(played: &Played, list: u8) -> Option<ListReport> {
-    if !played.parts.have(list) {
+fn sum_of(played: &Played, list: ListId) -> Option<ListReport> {
+    if !played.parts.have(list.byte()) {
         return None;
     }
-    played.account.line(list)
+    Some(played.account.line(list))
 }
 
 /// The line of a list.
