@@ -4,6 +4,7 @@
 
 mod decoded;
 mod fault;
+mod fronts;
 mod gap;
 mod in_text;
 mod kind;
@@ -11,7 +12,6 @@ pub mod laws;
 mod number;
 mod parts;
 mod place;
-mod run;
 mod token;
 mod word;
 mod words;

@@ -1,4 +1,4 @@
-ghost use Rattle.std.specs.Prelude.{◌≡◌, ◌<◌, ◌≤◌, ◌++◌, drop, length, false, IfSome, IfNone};
+ghost use Rattle.std.specs.Prelude.{◌≡◌, ◌<◌, ◌≤◌, ◌++◌, drop, length, IfSome, IfNone};
 ghost use Rattle.a2l_words.specs.Kinds.{kind_of};
 ghost use Rattle.a2l_words.specs.Faults.{IsFault};
 ghost use Rattle.a2l_words.specs.Tokens.{unquoted, spelling, IsWord};
@@ -7,9 +7,9 @@ ghost use Rattle.a2l_words.specs.declared.kind.Kind.TheVariants.{Text as TextKin
 ghost use Rattle.a2l_words.specs.declared.kind.Kind.TheVariants.{Plain as PlainKind};
 
 use crate::fault::WordFault;
+use crate::fronts::plain_len;
 use crate::in_text::in_text_len;
 use crate::parts::{before, behind};
-use crate::run::plain_len;
 use crate::word::Word;
 
 /// A word, and how many bytes it has in its text.

@@ -1,10 +1,11 @@
-// The fronts of a text that go on to the first place of some kind.
+//! How far the plain word, the line or the block comment at the front of a text goes.
 ghost use Rattle.std.specs.Prelude.{◌≡◌, ◌≤◌, take, drop, length, IfSome, IfNone, ◌∷◌, ◌+◌};
 ghost use Rattle.a2l_words.specs.Fronts.{IsUpTo, NeverEnds, ends_plain, ends_line, ends_block};
 
 use crate::kind::{Kind, kind_at};
 use crate::parts::behind;
 
+/// Whether no byte of a plain word stands at the front.
 #[inline(always)]
 #[tactic(auto, unfolding(crate::specs::Fronts::ends_plain))]
 fn ends_plain(text: &[u8]) -> bool
@@ -39,6 +40,7 @@ pub(crate) fn line_len(text: &[u8]) -> usize
     text.len()
 }
 
+/// Whether `*/` stands at the front, the end of a block comment.
 #[inline(always)]
 fn ends_block(text: &[u8]) -> bool
     ensures { result ≡ ends_block text.now }

@@ -1,7 +1,7 @@
 use Rattle.std.proofs.Common.{sym, ap, ◌∙◌, arith}
 use Rattle.a2l_words.specs.Fronts.{ends_block}
 use Rattle.a2l_words.proofs.FrontLemmas.{up_to_at, never_at, block_ends}
-use Rattle.a2l_words.proofs.run.block_len.Goals as goal
+use Rattle.a2l_words.proofs.fronts.block_len.Goals as goal
 
 -- the first place that ends the comment
 pub returns-then-ends_block-clause-block : goal.returns-then-ends_block-clause-block

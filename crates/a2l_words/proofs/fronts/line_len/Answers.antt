@@ -1,7 +1,7 @@
 use Rattle.std.proofs.Common.{refl, arith}
 use Rattle.a2l_words.specs.Fronts.{ends_line}
 use Rattle.a2l_words.proofs.FrontLemmas.{up_to_at, up_to_end, line_ends}
-use Rattle.a2l_words.proofs.run.line_len.Goals as goal
+use Rattle.a2l_words.proofs.fronts.line_len.Goals as goal
 
 -- the first line feed
 pub returns-then-byte-eq10-clause-line : goal.returns-then-byte-eq10-clause-line

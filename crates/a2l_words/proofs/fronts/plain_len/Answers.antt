@@ -1,7 +1,7 @@
 use Rattle.std.proofs.Common.{sym, ap, ◌∙◌, arith}
 use Rattle.a2l_words.specs.Fronts.{ends_plain}
 use Rattle.a2l_words.proofs.FrontLemmas.{up_to_at, up_to_end, plain_ends}
-use Rattle.a2l_words.proofs.run.plain_len.Goals as goal
+use Rattle.a2l_words.proofs.fronts.plain_len.Goals as goal
 
 -- the first place that ends the word
 pub returns-then-ends_plain-clause-plain : goal.returns-then-ends_plain-clause-plain
