@@ -1,5 +1,5 @@
 -- What a store shows is what is read off the calls that it stands after.
-use Rattle.std.proofs.Common.{inl, inr, slice_get, unwrap_or, option_map, suc, Some, None, nat_lt, [], Option, ◌≡◌, ℕ, ◌<◌, ◌≤◌, Bool, true, false, ◌&&◌, List, length, get_or, take, sum_by, refl, sym, ◌∙◌, ap, arith, zero-add, All}
+use Rattle.std.proofs.Common.{inl, inr, slice_get, unwrap_or, option_map, suc, Some, None, nat_lt, [], Option, ◌≡◌, ℕ, ◌<◌, ◌≤◌, Bool, true, false, ◌&&◌, List, length, get_or, take, sum_by, refl, sym, ◌∙◌, ◌↔◌, ap, arith, zero-add, All}
 use Rattle.std.specs.List.{list_any}
 use Rattle.std.proofs.lemmas.List.FromFn.{length-map-range_with_len, get_or-map-range_with_len, take-map-range_with_len}
 use Rattle.std.proofs.lemmas.Option.{slice_get-get_or, slice_get_past}
@@ -189,17 +189,6 @@ running_at s l x inside is =
     let got : slice_get s.lists l ≡ Some x = slice_get-get_or s.lists l x inside ∙ ap Some (sym is) in
     rw got refl
 
-pub selected_at : (s : StoreState) (l : ℕ) (x : ListState) → l < length s.lists → x ≡ get_or s.lists l x → x.selected ≡ shows_selected s l
-selected_at s l x inside is =
-    let got : slice_get s.lists l ≡ Some x = slice_get-get_or s.lists l x inside ∙ ap Some (sym is) in
-    rw got refl
-
-pub running_past : (s : StoreState) (l : ℕ) → length s.lists ≤ l → false ≡ shows_running s l
-running_past s l past = rw (slice_get_past s.lists l past) refl
-
-pub selected_past : (s : StoreState) (l : ℕ) → length s.lists ≤ l → false ≡ shows_selected s l
-selected_past s l past = rw (slice_get_past s.lists l past) refl
-
 -- the ODTs of a list and of those before it are no more than there may be
 pub room : (s : StoreState) (l : ℕ) → IsStore s → l < length s.lists → FitsFirstPid s.profile.form.id (length (conf_of s l).odts) (first_pid_of s l)
 room s l store inside =
@@ -225,15 +214,16 @@ conf_after s calls l h inside =
 abbrev pub IsReadyAt : StoreState → ℕ → Type 0
 IsReadyAt s l = (l < length s.lists) × (is_ready s.profile.image_len (conf_of s l) ≡ true)
 
-pub ready_after : (s : StoreState) (calls : List Command) (l : ℕ) → StoreStandsAfter s calls → IsReadyAt s l
-    → (is_list calls l && list_is_ready s.profile calls l) ≡ true
-ready_after s calls l h ready =
-    let there : is_list calls l ≡ true = is_list_stands s calls l h ∙ below_is l (length s.lists) ready.0 in
-    rw (there, ready_stands s calls l h ready.0) ready.1
-
-pub ready_before : (s : StoreState) (calls : List Command) (l : ℕ) → StoreStandsAfter s calls
-    → (is_list calls l && list_is_ready s.profile calls l) ≡ true → IsReadyAt s l
-ready_before s calls l h both =
-    let there : shows_list s l ≡ true = sym (is_list_stands s calls l h) ∙ and_left _ _ both in
-    let inside : l < length s.lists = below_from _ _ there in
-    (inside, sym (ready_stands s calls l h inside) ∙ and_right _ _ both)
+-- what holds exactly there holds exactly where the list is there and ready after the calls
+pub ready_after : (s : StoreState) (calls : List Command) (l : ℕ) {P : Type 0} → StoreStandsAfter s calls → P ↔ IsReadyAt s l
+    → P ↔ ((is_list calls l && list_is_ready s.profile calls l) ≡ true)
+ready_after s calls l h at = (
+  λ p.
+      let ready : IsReadyAt s l = at.0 p in
+      let there : is_list calls l ≡ true = is_list_stands s calls l h ∙ below_is l (length s.lists) ready.0 in
+      rw (there, ready_stands s calls l h ready.0) ready.1,
+  λ both.
+      let there : shows_list s l ≡ true = sym (is_list_stands s calls l h) ∙ and_left _ _ both in
+      let inside : l < length s.lists = below_from _ _ there in
+      at.1 (inside, sym (ready_stands s calls l h inside) ∙ and_right _ _ both),
+)

@@ -4,14 +4,12 @@
 ghost use Rattle.std.specs.Prelude.{◌≡◌, ◌+◌, ◌*◌, ◌<◌, ◌≤◌, ◌&&◌, ◌==◌, true, false};
 ghost use Rattle.std.specs.Prelude.{IfErr, IfOk, OnOk, Some, length};
 ghost use Rattle.std.specs.List.{list_any};
-ghost use Rattle.xcp_base.specs.Forms.{most_odts};
+ghost use Rattle.xcp_base.specs.Forms.{FitsFirstPid, most_odts};
 ghost use Rattle.daq_store.specs.Answer.{is_bad_entry};
 ghost use Rattle.daq_store.specs.Inner.Effects.{some_runs, shows_list, shows_odt, shows_entry};
 ghost use Rattle.daq_store.specs.Inner.Effects.{other_odts, shows_too_many, shows_unready};
-ghost use Rattle.daq_store.specs.Inner.Effects.{is_unready};
-ghost use Rattle.daq_store.specs.Inner.Effects.{is_bad_target, is_bad_mode, allocation_fault};
-ghost use Rattle.daq_store.specs.Inner.Effects.{Passes};
-ghost use Rattle.daq_store.specs.Inner.Effects.{Fails};
+ghost use Rattle.daq_store.specs.Inner.Effects.{is_unready, is_bad_target, is_bad_mode};
+ghost use Rattle.daq_store.specs.Inner.Effects.{allocation_fault, Passes, Fails};
 
 use crate::command::Command;
 use crate::list_state::{SELECT, START};
@@ -23,7 +21,7 @@ use xcp_base::limits::{
 };
 
 impl Store {
-    ghost use Rattle.daq_store.specs.Standing.{first_pid_of, odts_shown, shows_running};
+    ghost use Rattle.daq_store.specs.Standing.{conf_of, first_pid_of, odts_shown, shows_running};
 
     /// The checks of ALLOC_DAQ.
     pub(crate) fn check_alloc_daq(&self, count: u16) -> Result<(), ErrCode>
@@ -239,30 +237,25 @@ impl Store {
     }
 
     /// Whether there is such a list.
-    fn is_list(&self, list: u16) -> bool
+    pub(crate) fn is_list(&self, list: u16) -> bool
         ensures { result ≡ shows_list self.now list }
     {
-        (list as usize) < self.lists.len()
+        self.state(list).is_some()
     }
 
     /// Whether there is such an ODT.
     fn has_odt(&self, list: u16, odt: u8) -> bool
         ensures { result ≡ shows_odt self.now list odt }
     {
-        match self.lists.get(list as usize) {
-            Some(list) => (odt as usize) < list.conf.odts(),
-            None => false,
-        }
+        self.state(list)
+            .is_some_and(|list| (odt as usize) < list.conf.odts())
     }
 
     /// Whether there is such an entry.
     fn has_entry(&self, list: u16, odt: u8, entry: u8) -> bool
         ensures { result ≡ shows_entry self.now list odt entry }
     {
-        match self.lists.get(list as usize) {
-            Some(list) => (entry as usize) < list.conf.entries(odt as usize),
-            None => false,
-        }
+        (entry as usize) < self.entries(list, odt)
     }
 
     /// The number of the ODTs of the lists before a list.
@@ -279,11 +272,13 @@ impl Store {
     }
 
     /// FIRST_PID of a list that is there.
-    pub(crate) fn first_pid_at(&self, list: usize) -> u8
+    pub(crate) fn first_pid_at(&self, list: u16) -> u8
         requires { list ≤ length self.now.lists }
-        ensures { result ≡ first_pid_of self.now list }
+        ensures value { result ≡ first_pid_of self.now list }
+        ensures room { list < length self.now.lists
+            → FitsFirstPid self.now.profile.form.id (length (conf_of self.now list).odts) result }
     {
-        self.form.id.first_pid(self.odts_before(list)) as u8
+        self.form.id.first_pid(self.odts_before(list as usize)) as u8
     }
 
     /// The number of the ODTs of all lists but one.
@@ -292,7 +287,7 @@ impl Store {
         ensures limit { result ≤ MAX_LISTS * MAX_ODTS }
     {
         let odts = self.odts_before(self.lists.len());
-        match self.lists.get(list as usize) {
+        match self.state(list) {
             Some(list) => odts - list.conf.odts(),
             None => odts,
         }

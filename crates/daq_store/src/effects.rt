@@ -1,16 +1,16 @@
 //! What each accepted call changes.
 
 ghost use Rattle.std.specs.Prelude.{◌≡◌, ◌+◌, ◌<◌, ◌≤◌, ◌&&◌, ◌==◌, true, false, OnOk, OnErr};
-ghost use Rattle.std.specs.Prelude.{length, map, nat_lt, if◌then◌else◌};
+ghost use Rattle.std.specs.Prelude.{length, map, nat_lt, slice_index_or, if◌then◌else◌};
+ghost use Rattle.std.specs.Borrow.{sem};
 ghost use Rattle.std.specs.List.{list_any};
 ghost use Rattle.xcp_base.specs.Forms.{most_odts};
 ghost use Rattle.daq_store.specs.Configuration.{IsMode};
 ghost use Rattle.daq_store.specs.Inner.Effects.{some_runs, shows_odt, shows_entry, shows_unready};
 ghost use Rattle.daq_store.specs.Inner.Effects.{is_unready, other_odts, lists_put, odts_put};
-ghost use Rattle.daq_store.specs.Inner.Effects.{entries_put};
-ghost use Rattle.daq_store.specs.Inner.Effects.{entry_put, mode_put, start_stop_put, synch_put};
-ghost use Rattle.daq_store.specs.Inner.Effects.{cleared_put, moved_on};
-ghost use Rattle.daq_store.specs.Inner.Effects.{synched};
+ghost use Rattle.daq_store.specs.Inner.Effects.{entries_put, entry_put, mode_put, start_stop_put};
+ghost use Rattle.daq_store.specs.Inner.Effects.{synch_put, cleared_put, moved_on, synched};
+ghost use Rattle.daq_store.specs.Inner.Lending.{LendsList};
 
 use crate::entry::Entry;
 use crate::list_state::{ListState, fresh_lists};
@@ -46,7 +46,7 @@ impl Store {
         ensures err { OnErr result (self.new ≡ self.old) }
     {
         let alloc = self.alloc;
-        let state = &mut self.lists[list as usize];
+        let state = state_mut(&mut self.lists, list);
         state.conf.allocate_odts(alloc, count as usize)?;
         self.pointer = None;
         self.phase = Phase::Odt;
@@ -62,7 +62,7 @@ impl Store {
         ensures err { OnErr result (self.new ≡ self.old) }
     {
         let alloc = self.alloc;
-        let state = &mut self.lists[list as usize];
+        let state = state_mut(&mut self.lists, list);
         state
             .conf
             .allocate_entries(alloc, odt as usize, count as usize)?;
@@ -87,7 +87,7 @@ impl Store {
         requires size { (0 < value.size) × (value.size ≤ MAX_ENTRY_SIZE) }
         ensures { self.new ≡ entry_put self.old list odt entry value }
     {
-        let state = &mut self.lists[list as usize];
+        let state = state_mut(&mut self.lists, list);
         let entries = state.conf.entries(odt as usize);
         state.conf.write(odt as usize, entry as usize, value);
         self.pointer = next_place(list, odt, entry, entries);
@@ -101,7 +101,7 @@ impl Store {
         requires channel { mode.channel < self.old.profile.channels }
         ensures { self.new ≡ mode_put self.old list mode }
     {
-        let state = &mut self.lists[list as usize];
+        let state = state_mut(&mut self.lists, list);
         state.conf.set_mode(mode);
     }
 
@@ -110,7 +110,7 @@ impl Store {
         requires { shows_entry self.old list odt entry ≡ true }
         ensures { self.new ≡ moved_on self.old list odt entry }
     {
-        let entries = self.lists[list as usize].conf.entries(odt as usize);
+        let entries = self.entries(list, odt);
         self.pointer = next_place(list, odt, entry, entries);
     }
 
@@ -119,7 +119,7 @@ impl Store {
         requires { list < length self.old.lists }
         ensures { self.new ≡ cleared_put self.old list }
     {
-        let state = &mut self.lists[list as usize];
+        let state = state_mut(&mut self.lists, list);
         state.clear();
         self.pointer = None;
     }
@@ -130,7 +130,7 @@ impl Store {
         requires ready { (mode == 1 && shows_unready self.old list) ≡ false }
         ensures { self.new ≡ start_stop_put self.old mode list }
     {
-        let state = &mut self.lists[list as usize];
+        let state = state_mut(&mut self.lists, list);
         state.start_stop(mode);
     }
 
@@ -142,6 +142,17 @@ impl Store {
     {
         synch_all(&mut self.lists, mode);
     }
+}
+
+/// The state of a list that is there, to be changed in place.
+//
+// Out of the whole vector: with a slice of it each caller would have to show that its length stays.
+fn state_mut(lists: &mut Vec<ListState>, list: u16) -> &mut ListState
+    requires { list < length lists.old.items }
+    ensures* writes_back { sem 𝓛 (LendsList lists.entry list result) }
+    ensures value { result.now ≡ slice_index_or lists.old.items list result.now }
+{
+    &mut lists[list as usize]
 }
 
 /// Stops or starts the lists of a table as START_STOP_SYNCH does.

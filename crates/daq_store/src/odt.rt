@@ -1,6 +1,5 @@
 ghost use Rattle.std.specs.Prelude.{◌≡◌, ◌*◌, ◌<◌, ◌≤◌, [], None, Some, IfOk, length};
-ghost use Rattle.std.specs.Prelude.{option_and_then};
-ghost use Rattle.std.specs.Prelude.{replicate, slice_get, slice_set, sum_by};
+ghost use Rattle.std.specs.Prelude.{option_and_then, replicate, slice_get, slice_set, sum_by};
 ghost use Rattle.std.specs.List.{list_all};
 ghost use Rattle.daq_store.specs.Configuration.{entry_len, is_filled, is_within};
 ghost use Rattle.daq_store.specs.Inner.Effects.{unwritten};

@@ -1,24 +1,25 @@
 //! What the store shows.
 
-ghost use Rattle.std.specs.Prelude.{◌≡◌, ◌+◌, ◌<◌, ◌≤◌, ◌↔◌, ◌&&◌, List, true, IsTrue, IsSome};
-ghost use Rattle.std.specs.Prelude.{IfSome, is_some, length, option_map};
+ghost use Rattle.std.specs.Prelude.{◌≡◌, ◌<◌, ◌≤◌, ◌↔◌, ◌&&◌, List, true, IsTrue, IsSome};
+ghost use Rattle.std.specs.Prelude.{IfSome, is_some, length, option_copied, option_map, slice_get};
 ghost use Rattle.xcp_base.specs.Forms.{FitsFirstPid, stamp_bytes};
 ghost use Rattle.daq_store.specs.Shape.{list_count, is_list};
 ghost use Rattle.daq_store.specs.Pointer.{pointer};
 ghost use Rattle.daq_store.specs.Running.{any_list, is_active, is_chosen, is_running};
 ghost use Rattle.daq_store.specs.Configuration.{channel_of, configuration, entry_of, is_ready};
-ghost use Rattle.daq_store.specs.Configuration.{list_is_ready};
+ghost use Rattle.daq_store.specs.Configuration.{list_is_ready, odt_entries};
 ghost use Rattle.daq_store.specs.Inner.Effects.{shows_entry};
 
 use crate::command::Command;
 use crate::list_conf::ListConf;
+use crate::list_state::ListState;
 use crate::store::Store;
 use xcp_base::IdKind;
-use xcp_base::limits::{MAX_CHANNELS, MAX_IMAGE_LEN, MAX_LISTS};
+use xcp_base::limits::{MAX_CHANNELS, MAX_ENTRIES, MAX_IMAGE_LEN, MAX_LISTS};
 
 impl Store {
     ghost use Rattle.daq_store.specs.Standing.{StoreStandsAfter, conf_of, first_pid_of};
-    ghost use Rattle.daq_store.specs.Standing.{first_pid_after};
+    ghost use Rattle.daq_store.specs.Standing.{first_pid_after, RunsReady};
     ghost use Rattle.daq_store.specs.Standing.{shows_running, shows_selected};
 
     /// The number of event channels.
@@ -71,8 +72,7 @@ impl Store {
         ensures after { (calls : List Command) → StoreStandsAfter self.now calls
             → result ≡ first_pid_after self.now.profile.form calls list }
     {
-        let list = list as usize;
-        if list >= self.lists.len() {
+        if !self.is_list(list) {
             return None;
         }
         Some(self.first_pid_at(list))
@@ -86,10 +86,7 @@ impl Store {
         ensures after { (calls : List Command) → StoreStandsAfter self.now calls
             → result ≡ is_active calls list }
     {
-        match self.lists.get(list as usize) {
-            Some(list) => list.running,
-            None => false,
-        }
+        self.state(list).is_some_and(|list| list.running)
     }
 
     /// Whether a DAQ list is selected; not where there is no such list.
@@ -98,10 +95,7 @@ impl Store {
         ensures after { (calls : List Command) → StoreStandsAfter self.now calls
             → result ≡ is_chosen calls list }
     {
-        match self.lists.get(list as usize) {
-            Some(list) => list.selected,
-            None => false,
-        }
+        self.state(list).is_some_and(|list| list.selected)
     }
 
     /// The DAQ pointer, if it is defined: list, ODT and entry.
@@ -131,7 +125,7 @@ impl Store {
             → IfSome result
             (λ conf. conf.now ≡ configuration self.now.profile.form calls list) }
     {
-        let list = self.lists.get(list as usize)?;
+        let list = self.state(list)?;
         Some(&list.conf)
     }
 
@@ -141,9 +135,7 @@ impl Store {
         ensures { result ≡ option_map (λ x. (x.address, x.size))
             (entry_of (conf_of self.now list) odt entry) }
     {
-        self.lists[list as usize]
-            .conf
-            .entry(odt as usize, entry as usize)
+        self.state(list)?.conf.entry(odt as usize, entry as usize)
     }
 
     /// What is set of a DAQ list that is there and ready.
@@ -160,11 +152,35 @@ impl Store {
             → IfSome result
             (λ conf. conf.now ≡ configuration self.now.profile.form calls list) }
     {
-        let list = self.lists.get(list as usize)?;
+        let list = self.state(list)?;
         if list.conf.ready(self.image_len) {
             Some(&list.conf)
         } else {
             None
+        }
+    }
+
+    /// The state of a DAQ list, if there is one.
+    pub(crate) fn state(&self, list: u16) -> Option<&ListState>
+        ensures there { IsSome result ↔ (list < length self.now.lists) }
+        ensures value { option_copied result ≡ slice_get self.now.lists list }
+        ensures conf { IfSome result (λ state. state.now.conf ≡ conf_of self.now list) }
+        ensures channel { IfSome result
+            (λ state. channel_of state.now.conf.mode < self.now.profile.channels) }
+        ensures ready { IfSome result
+            (λ state. RunsReady self.now.profile.image_len state.now) }
+    {
+        self.lists.get(list as usize)
+    }
+
+    /// The number of entries of an ODT; 0 if there is no such ODT.
+    pub(crate) fn entries(&self, list: u16, odt: u8) -> usize
+        ensures count { result ≡ length (odt_entries (conf_of self.now list) odt) }
+        ensures limit { result ≤ MAX_ENTRIES }
+    {
+        match self.state(list) {
+            Some(list) => list.conf.entries(odt as usize),
+            None => 0,
         }
     }
 }

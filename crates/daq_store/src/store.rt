@@ -316,7 +316,7 @@ impl Store {
         ensures profile_stays { self.new.profile ≡ self.old.profile }
     {
         self.check_start_stop(mode, list)?;
-        let first_pid = self.first_pid_at(list as usize);
+        let first_pid = self.first_pid_at(list);
         self.put_start_stop(mode, list);
         Ok(first_pid)
     }

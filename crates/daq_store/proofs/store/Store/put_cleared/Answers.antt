@@ -6,4 +6,4 @@ use Rattle.daq_store.proofs.store.Store.put_cleared.Goals as goal
 pub invariant_of-self : goal.invariant_of-self
 invariant_of-self c =
     let inside = rw (← c.self.view_is) at c.requires in
-    rw c.clear.ensures (clear_keeps (the_view c.self.inside) c.args.list c.index_mut-state.result.now c.self.invariant inside c.index_mut-state.ensures.value)
+    rw c.clear.ensures (clear_keeps (the_view c.self.inside) c.args.list c.state_mut-state.result.now c.self.invariant inside c.state_mut-state.ensures.value)

@@ -11,5 +11,5 @@ invariant_of-self c =
     let stopped = rw (← c.self.view_is) at c.requires.stopped in
     let channel = rw (← c.self.view_is) at c.requires.channel in
     rw c.set_mode.ensures
-    (mode_keeps (the_view c.self.inside) c.args.list c.index_mut-state.result.now c.args.mode c.self.invariant inside c.index_mut-state.ensures.value
-    (running_at (the_view c.self.inside) c.args.list c.index_mut-state.result.now inside c.index_mut-state.ensures.value ∙ stopped) channel)
+    (mode_keeps (the_view c.self.inside) c.args.list c.state_mut-state.result.now c.args.mode c.self.invariant inside c.state_mut-state.ensures.value
+    (running_at (the_view c.self.inside) c.args.list c.state_mut-state.result.now inside c.state_mut-state.ensures.value ∙ stopped) channel)

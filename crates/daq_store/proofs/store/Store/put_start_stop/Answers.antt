@@ -10,8 +10,8 @@ pub invariant_of-self : goal.invariant_of-self
 invariant_of-self c =
     let inside = rw (← c.self.view_is) at c.requires.there in
     let ready = rw (← c.self.view_is) at c.requires.ready in
-    let conf : c.index_mut-state.result.now.conf ≡ conf_of (the_view c.self.inside) c.args.list
-    = conf_at (the_view c.self.inside) c.args.list c.index_mut-state.result.now c.self.invariant.forms inside c.index_mut-state.ensures.value in
+    let conf : c.state_mut-state.result.now.conf ≡ conf_of (the_view c.self.inside) c.args.list
+    = conf_at (the_view c.self.inside) c.args.list c.state_mut-state.result.now c.self.invariant.forms inside c.state_mut-state.ensures.value in
     rw c.start_stop.ensures
-    (start_stop_keeps (the_view c.self.inside) c.args.list c.args.mode c.index_mut-state.result.now c.self.invariant inside
-    c.index_mut-state.ensures.value (rw conf ready))
+    (start_stop_keeps (the_view c.self.inside) c.args.list c.args.mode c.state_mut-state.result.now c.self.invariant inside
+    c.state_mut-state.ensures.value (rw conf ready))

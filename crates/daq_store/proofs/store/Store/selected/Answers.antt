@@ -1,21 +1,11 @@
 -- what is shown of a list is read off the calls
-use Rattle.std.proofs.Common.{◌≡◌, ◌∙◌, ◌<◌, ◌≤◌, length, slice_index_or, sym, arith}
+use Rattle.std.proofs.Common.{◌≡◌, ◌∙◌, sym, arith}
 use Rattle.std.proofs.lemmas.Grind.{common_steps}
-use Rattle.daq_store.proofs.StandingLemmas.{chosen_stands, selected_at, selected_past}
+use Rattle.daq_store.specs.Standing.{shows_selected}
+use Rattle.daq_store.proofs.StandingLemmas.{chosen_stands}
 use Rattle.daq_store.proofs.store.Store.selected.Goals as goal
 
-pub returns-in-Some-clause-after : goal.returns-in-Some-clause-after
-returns-in-Some-clause-after c = λ calls h.
-    let inside : c.args.list < length c.args.self.now.lists = grind (arith, common_steps) in
-    let is : c.in-Some.list.now ≡ slice_index_or c.args.self.now.lists c.args.list c.in-Some.list.now = grind (arith, common_steps) in
-    selected_at c.args.self.now c.args.list c.in-Some.list.now inside is ∙ sym (chosen_stands c.args.self.now calls c.args.list h)
-
-pub returns-in-None-clause-value : goal.returns-in-None-clause-value
-returns-in-None-clause-value c =
-    let past : length c.args.self.now.lists ≤ c.args.list = grind (arith, common_steps) in
-    selected_past c.args.self.now c.args.list past
-
-pub returns-in-None-clause-after : goal.returns-in-None-clause-after
-returns-in-None-clause-after c = λ calls h.
-    let past : length c.args.self.now.lists ≤ c.args.list = grind (arith, common_steps) in
-    selected_past c.args.self.now c.args.list past ∙ sym (chosen_stands c.args.self.now calls c.args.list h)
+pub returns-clause-after : goal.returns-clause-after
+returns-clause-after c = λ calls h.
+    let value : c.is_some_and.result ≡ shows_selected c.args.self.now c.args.list = grind (arith, common_steps) in
+    value ∙ sym (chosen_stands c.args.self.now calls c.args.list h)

@@ -17,7 +17,7 @@ pub returns-clause-accepted : goal.returns-clause-accepted
 returns-clause-accepted c = λ calls h.
     let here : c.args.list ≤ list_count calls = omega (arith, count_stands c.args.self.now calls h, c.in_ok-check_start_stop.ensures.there) in
     let pid : c.first_pid_at-first_pid.result ≡ first_pid_behind c.args.self.now.profile.form.id (odts_before calls c.args.list)
-    = c.first_pid_at-first_pid.ensures ∙ first_pid_stands c.args.self.now calls c.args.list h here in (
+    = c.first_pid_at-first_pid.ensures.value ∙ first_pid_stands c.args.self.now calls c.args.list h here in (
       answer_passes c.args.self.now calls (StartStopDaqList c.args.mode c.args.list) h c.in_ok-check_start_stop.ensures.passes ∙ ap Started (sym pid),
       rw c.put_start_stop.ensures (start_stop_put_stands c.args.self.now calls _ _ h c.in_ok-check_start_stop.ensures.there),
     )
