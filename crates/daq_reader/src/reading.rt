@@ -1,14 +1,13 @@
 ghost use Rattle.std.specs.Prelude.{◌≡◌, ◌≢◌, ◌↔◌, List, ℕ, [], ◌∷◌, ◌++◌, IfErr, IsOk, None};
-ghost use Rattle.std.specs.Prelude.{Err, Ok, OnErr, OnOk, Some, true, false};
+ghost use Rattle.std.specs.Prelude.{Ok, OnErr, OnOk, Some, true, false};
 ghost use Rattle.frame_writer.specs.Frame.{frame};
 ghost use Rattle.frame_writer.specs.Split.{Fits};
-ghost use Rattle.daq_reader.specs.Frames.{HasFrame, IsNext, Unread};
+ghost use Rattle.daq_reader.specs.Frames.{IsNext};
 ghost use Rattle.daq_reader.specs.Lists.{Stands, plans_of, refusal};
-ghost use Rattle.daq_reader.specs.Reads.{HasRead};
+ghost use Rattle.daq_reader.specs.Reads.{HasRead, IsFaultOf};
 ghost use Rattle.daq_reader.specs.Recorded.{Recorded};
 ghost use Rattle.daq_reader.specs.Recording.{AreGivenBack, IsRecordingOf};
 
-use crate::frame_fault::FrameFault;
 use crate::packet_fault::PacketFault;
 use crate::read_fault::ReadFault;
 use crate::reader::Reader;
@@ -32,16 +31,9 @@ pub fn read<S: Samples>(
         → Stands reader.old before (S.handed samples.old)
         → IsRecordingOf (plans_of reader.old) written before unread.old
         → IsOk result × AreGivenBack reader.new written (S.handed samples.new) }
+    ensures fault { IfErr result (IsFaultOf reader.new unread.new) }
     ensures lists { plans_of reader.new ≡ plans_of reader.old }
     ensures kept { S.kept samples.new ≡ S.kept samples.old }
-
-    ensures torn { result ≡ Err (ReadFault.Frame FrameFault.Torn)
-        → (unread.new.rest ≢ []) × ((n : ℕ) → ¬ HasFrame unread.new n) }
-    ensures jump { result ≡ Err (ReadFault.Frame FrameFault.Jump)
-        → (n : ℕ) × (n ≢ unread.new.counter) × HasFrame unread.new n }
-    ensures packet { (fault : PacketFault) → result ≡ Err (ReadFault.Packet fault)
-        → (q : List ℕ) × (behind : Unread) × IsNext unread.new behind q
-        × (refusal reader.new q ≡ Some fault) }
 {
     while read_frame(reader, unread, samples)? {}
     Ok(())
@@ -60,18 +52,9 @@ pub fn read_frame<S: Samples>(
         → unread.old.rest ≡ frame unread.old.counter q ++ behind
         → refusal reader.old q ≡ None → result ≡ Ok true }
     ensures end { (result ≡ Ok false) ↔ (unread.old.rest ≡ []) }
-    ensures end_stays { result ≡ Ok false → (unread.new ≡ unread.old)
-        × (reader.new ≡ reader.old) × (S.handed samples.new ≡ S.handed samples.old) }
-
-    ensures torn { result ≡ Err (ReadFault.Frame FrameFault.Torn)
-        → (unread.old.rest ≢ []) × ((n : ℕ) → ¬ HasFrame unread.old n) }
-    ensures jump { result ≡ Err (ReadFault.Frame FrameFault.Jump)
-        → (n : ℕ) × (n ≢ unread.old.counter) × HasFrame unread.old n }
-    ensures packet { (fault : PacketFault) → result ≡ Err (ReadFault.Packet fault)
-        → (q : List ℕ) × (behind : Unread) × IsNext unread.old behind q
-        × (refusal reader.old q ≡ Some fault) }
-    ensures err { OnErr result ((unread.new ≡ unread.old) × (reader.new ≡ reader.old)
-        × (S.handed samples.new ≡ S.handed samples.old)) }
+    ensures fault { IfErr result (IsFaultOf reader.old unread.old) }
+    ensures stays { result ≢ Ok true → (unread.new ≡ unread.old) × (reader.new ≡ reader.old)
+        × (S.handed samples.new ≡ S.handed samples.old) }
     ensures lists { plans_of reader.new ≡ plans_of reader.old }
     ensures kept { S.kept samples.new ≡ S.kept samples.old }
 {

@@ -1,7 +1,7 @@
-ghost use Rattle.std.specs.Prelude.{◌≡◌, ◌≢◌, ◌↔◌, ◌++◌, ℕ, List, [], None, Ok, IfOk};
-ghost use Rattle.std.specs.Prelude.{IfSome, IsErrOf, IsOkAnd, IsSomeAnd, OnErr};
+ghost use Rattle.std.specs.Prelude.{◌≡◌, ◌↔◌, ◌++◌, ℕ, List, [], None, Ok, IfErr, IfOk};
+ghost use Rattle.std.specs.Prelude.{IfSome, IsOkAnd, IsSomeAnd, OnErr};
 ghost use Rattle.frame_writer.specs.Frame.{IsFrame, frame};
-ghost use Rattle.daq_reader.specs.Frames.{HasFrame, IsNext};
+ghost use Rattle.daq_reader.specs.Frames.{IsFrameFaultOf, IsNext};
 
 use crate::frame_fault::FrameFault;
 use frame_writer::next_frame;
@@ -45,10 +45,7 @@ impl<'a> Unread<'a> {
             → IsOkAnd result (λ packet. IsSomeAnd packet (λ p. p.now ≡ q)) }
         ensures end_stays { result ≡ Ok None → self.new ≡ self.old }
 
-        ensures torn { IsErrOf result FrameFault.Torn
-            → (self.old.rest ≢ []) × ((n : ℕ) → ¬ HasFrame self.old n) }
-        ensures jump { IsErrOf result FrameFault.Jump
-            → (n : ℕ) × (n ≢ self.old.counter) × HasFrame self.old n }
+        ensures fault { IfErr result (IsFrameFaultOf self.old) }
         ensures err { OnErr result (self.new ≡ self.old) }
     {
         if self.rest.is_empty() {

@@ -1,19 +1,14 @@
 -- The bytes and the counter behind some frames.
 use Rattle.std.proofs.Common.{◌≡◌, ℕ, ◌+◌, ◌%◌, ◌<◌, ◌≤◌, ◌≢◌, List, [], ◌++◌, length, drop, Result, Ok, Err, Some, refl, sym, ap, subst, ◌∙◌, arith, length-append}
 use Rattle.std.proofs.Math.Seq.{drop-append_seam}
-use Rattle.std.specs.Prelude.{IfErr}
 use Rattle.frame_writer.specs.Frame.{text, two_bytes}
-use Rattle.daq_reader.specs.declared.frame_fault.FrameFault.TheVariants.{Jump, Torn}
-use Rattle.daq_reader.specs.declared.packet_fault.PacketFault.{PacketFault}
-use Rattle.daq_reader.specs.declared.read_fault.ReadFault.{ReadFault}
-use Rattle.daq_reader.specs.declared.read_fault.ReadFault.TheVariants.{Frame, Packet}
-use Rattle.daq_reader.specs.Frames.{HasFrame, IsNext, Unread}
-use Rattle.daq_reader.specs.Lists.{Stands, refusal}
+use Rattle.daq_reader.specs.Frames.{HasFrame, Unread}
+use Rattle.daq_reader.specs.Lists.{Stands}
 use Rattle.daq_reader.specs.Reading.{Reading}
 use Rattle.daq_reader.specs.Reads.{HasRead}
 use Rattle.daq_reader.specs.Recorded.{Recorded}
 use Rattle.recording.specs.declared.place.Place.{Place}
-use Rattle.recording.specs.Pieces.{IsFaultOf, StandSomewhere, counter_at, place_behind, unread_at}
+use Rattle.recording.specs.Pieces.{StandSomewhere, counter_at, place_behind, unread_at}
 
 -- what is left is no longer than what was there
 pub no_longer : (lists : List Reading) (qs : List (List ℕ)) (gs : List (ℕ × Recorded)) (a b : Unread) → HasRead lists qs gs a b → length b.rest ≤ length a.rest
@@ -42,17 +37,6 @@ left_at lists qs gs place held left a b taken frames h first rest size small cou
 -- what was read, where both are said by the bytes
 pub read_at : (lists : List Reading) (qs : List (List ℕ)) (gs : List (ℕ × Recorded)) (a b c d : Unread) → HasRead lists qs gs a b → a ≡ c → b ≡ d → HasRead lists qs gs c d
 read_at lists qs gs a b c d h first last = subst (HasRead lists qs gs c) last (subst (λ u. HasRead lists qs gs u b) first h)
-
--- the fault that ended the reading, of the bytes that are left
-pub fault_is : (result : Result (Unit {0}) ReadFault) (lists : List Reading) (a b : Unread) → a ≡ b
-    → (result ≡ Err (Frame Torn) → (a.rest ≢ []) × ((n : ℕ) → HasFrame a n → ⊥))
-    → (result ≡ Err (Frame Jump) → (n : ℕ) × (n ≢ a.counter) × HasFrame a n)
-    → ((fault : PacketFault) → result ≡ Err (Packet fault) → (q : List ℕ) × (behind : Unread) × IsNext a behind q × (refusal lists q ≡ Some fault))
-    → IfErr result (IsFaultOf lists b)
-fault_is (Ok done) lists a b same torn jump packet = tt
-fault_is (Err (Frame Torn)) lists a b same torn jump packet = subst (λ u. IsFaultOf lists u (Frame Torn)) same (torn refl)
-fault_is (Err (Frame Jump)) lists a b same torn jump packet = subst (λ u. IsFaultOf lists u (Frame Jump)) same (jump refl)
-fault_is (Err (Packet fault)) lists a b same torn jump packet = subst (λ u. IsFaultOf lists u (Packet fault)) same (packet fault refl)
 
 absurd_frame : (head packet behind : List ℕ) → 0 ≡ length ((head ++ packet) ++ behind) → 0 < length head → ⊥
 absurd_frame head packet behind h some = omega (arith, h, some, length-append (head ++ packet) behind, length-append head packet)

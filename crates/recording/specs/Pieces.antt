@@ -1,15 +1,14 @@
 -- A recording that is read piece by piece.
-use Rattle.std.specs.Prelude.{◌≡◌, ◌≢◌, ◌⊎◌, ℕ, ◌+◌, ◌%◌, ◌^◌, ◌≤◌, List, [], ◌++◌, length}
+use Rattle.std.specs.Prelude.{◌≡◌, ◌⊎◌, ℕ, ◌+◌, ◌%◌, ◌^◌, ◌≤◌, List, [], ◌++◌, length}
 use Rattle.std.specs.Prelude.{Option, Some}
 use Rattle.std.specs.Io.KnownBytes.{Consumes, IsAtEnd}
-use Rattle.daq_reader.specs.Frames.{HasFrame, IsNext, Unread}
-use Rattle.daq_reader.specs.Lists.{NoneWaits, Stands, refusal}
+use Rattle.daq_reader.specs.Frames.{Unread}
+use Rattle.daq_reader.specs.Lists.{NoneWaits, Stands}
 use Rattle.daq_reader.specs.Reading.{Reading}
-use Rattle.daq_reader.specs.Reads.{HasRead}
+use Rattle.daq_reader.specs.Reads.{HasRead, IsFaultOf}
 use Rattle.daq_reader.specs.Recorded.{Recorded}
-use Rattle.daq_reader.specs.declared.frame_fault.FrameFault.TheVariants.{Jump, Torn}
-use Rattle.daq_reader.specs.declared.read_fault.ReadFault.{ReadFault}
-use Rattle.daq_reader.specs.declared.read_fault.ReadFault.TheVariants.{Frame, Packet}
+use Rattle.daq_reader.specs.declared.frame_fault.FrameFault.TheVariants.{Torn}
+use Rattle.daq_reader.specs.declared.read_fault.ReadFault.TheVariants.{Frame}
 use Rattle.recording.specs.declared.piece.Piece.{Piece}
 use Rattle.recording.specs.declared.piece.TheConstants.{MAX_FRAME}
 use Rattle.recording.specs.declared.place.Place.{Place}
@@ -72,17 +71,9 @@ pub record StandSomewhere (lists : List Reading) (samples : List (ℕ × Recorde
   pub packets : List (List ℕ)
   pub stands : Stands lists packets samples
 
--- the bytes at hand don't begin with the next frame for this: no whole frame stands there; one
--- does, with another counter; or it has a packet that is refused for this
-abbrev pub IsFaultOf : List Reading → Unread → ReadFault → Type 0
-IsFaultOf lists left (Frame Torn) = (left.rest ≢ []) × ((n : ℕ) → ¬ HasFrame left n)
-IsFaultOf lists left (Frame Jump) = (n : ℕ) × (n ≢ left.counter) × HasFrame left n
-IsFaultOf lists left (Packet fault) =
-    (q : List ℕ) × (behind : Unread) × IsNext left behind q × (refusal lists q ≡ Some fault)
-
--- a recording is read no further for this: the bytes at hand don't begin with the next frame, and
--- where they don't with any whole one, nothing is left behind them, or they are at least as many as
--- the longest frame has; or no byte is left at all, and packets of some list wait for others
+-- a recording is read no further for this: the bytes at hand have this fault, and where they begin
+-- with no whole frame, nothing is left behind them, or they are at least as many as the longest
+-- frame has; or no byte is left at all, and packets of some list wait for others
 abbrev pub IsReason : List Reading → Unread → Option (List ℕ) → Reason → Type 0
 IsReason lists left rest (Read fault) =
     IsFaultOf lists left fault

@@ -1,4 +1,4 @@
-use Rattle.std.proofs.Common.{rules, ap, refl, ◌∙◌, Ok}
+use Rattle.std.proofs.Common.{ap, refl, ◌∙◌, Ok}
 use Rattle.daq_reader.proofs.ReadsLemmas.{one_read}
 use Rattle.daq_reader.proofs.RecordingLemmas.{all_given, goes_on, not_failed, one_within}
 use Rattle.daq_reader.proofs.reading.read.Goals as goal
@@ -20,17 +20,11 @@ returns-in_err-read_frame-clause-whole g c = λ before written h is.
     let ok = goes_on written c.loop.reader (g.S.Samples.handed c.loop.samples) c.loop.unread c.read_frame.result within c.read_frame.ensures.end.1 c.read_frame.ensures.takes in
     absurd (not_failed c.read_frame.result c.in_err-read_frame.field-0.0 ok c.in_err-read_frame.was)
 
--- where no frame is read the bytes that are left stay
-pub returns-in_err-read_frame-clause-torn : goal.returns-in_err-read_frame-clause-torn
-returns-in_err-read_frame-clause-torn g c = λ is.
-    let torn = c.in_err-read_frame.ensures.torn (search rules) in
-    rw (c.in_err-read_frame.ensures.err.0) torn
-
 -- at its end all is given back
 pub returns-clause-whole : goal.returns-clause-whole
 returns-clause-whole g c = λ before written h is.
     let within = c.loop.invariant.1 before written h is in
     let ends = c.in_ok-read_frame.was ∙ ap Ok c.if-branch.false in
-    let stays = c.read_frame.ensures.end_stays ends in
+    let stays = c.read_frame.ensures.stays (λ more. absurd (cc (ends, more))) in
     let given = all_given written c.loop.reader (g.S.Samples.handed c.loop.samples) c.loop.unread within (c.read_frame.ensures.end.0 ends) in
     (refl, rw (stays.1, stays.2) given)

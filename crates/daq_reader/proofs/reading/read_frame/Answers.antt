@@ -5,7 +5,3 @@ pub returns-clause-read : goal.returns-clause-read
 returns-clause-read g c = λ ok.
     let next = rw c.in-Ok-Some.field-0-is at c.in-Ok-Some.ensures.next in
     (c.in-Ok-Some.packet.now, next, λ qs h. c.in_default.ensures.stands qs h)
-
--- what is left doesn't begin with a frame
-pub returns-in-Err-clause-torn : goal.returns-in-Err-clause-torn
-returns-in-Err-clause-torn g c = λ same. c.in-Err.ensures.torn (cc (same))

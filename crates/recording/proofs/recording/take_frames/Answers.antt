@@ -1,6 +1,8 @@
-use Rattle.std.proofs.Common.{rules, ◌≡◌, ◌≤◌, ◌<◌, ap, sym, ◌∙◌, length, arith}
+use Rattle.std.proofs.Common.{rules, ◌≡◌, ◌≤◌, ◌<◌, ap, sym, subst, ◌∙◌, length, arith}
+use Rattle.std.specs.Prelude.{IfErr}
+use Rattle.daq_reader.specs.Reads.{IsFaultOf}
 use Rattle.recording.specs.Pieces.{counter_at, unread_at}
-use Rattle.recording.proofs.PieceLemmas.{fault_is, left_at, no_longer, read_at}
+use Rattle.recording.proofs.PieceLemmas.{left_at, no_longer, read_at}
 use Rattle.recording.proofs.recording.take_frames.Given.{Over}
 use Rattle.recording.proofs.recording.take_frames.Goals as goal
 
@@ -38,4 +40,4 @@ returns-clause-read g c = λ qs stands.
 
 -- a fault is one of the bytes that are kept
 pub returns-clause-fault : goal.returns-clause-fault
-returns-clause-fault g c = fault_is c.read-outcome.result c.read-outcome.new.reader c.read-outcome.new.unread _ (left_behind g c) c.read-outcome.ensures.torn c.read-outcome.ensures.jump c.read-outcome.ensures.packet
+returns-clause-fault g c = subst (λ u. IfErr c.read-outcome.result (IsFaultOf c.read-outcome.new.reader u)) (left_behind g c) c.read-outcome.ensures.fault

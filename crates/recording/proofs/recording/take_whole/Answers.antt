@@ -1,5 +1,6 @@
 use Rattle.std.proofs.Common.{subst}
-use Rattle.recording.specs.Pieces.{IsFaultOf, unread_of}
+use Rattle.daq_reader.specs.Reads.{IsFaultOf}
+use Rattle.recording.specs.Pieces.{unread_of}
 use Rattle.recording.proofs.recording.take_whole.Goals as goal
 
 -- a torn frame is one that isn't whole yet
