@@ -1,7 +1,7 @@
 //! Pumps of an engine in one thread, whose frames go straight to a buffer, as many as it has room
 //! for.
-ghost use Rattle.std.specs.Prelude.{◌≡◌, ◌≢◌, ◌≤◌, ◌++◌, Err, IfErr, IfOk, OnErr};
-ghost use Rattle.std.specs.Prelude.{drop, length, take};
+ghost use Rattle.std.specs.Prelude.{◌≡◌, ◌≢◌, Err, IfErr, IfOk, OnErr, length};
+ghost use Rattle.transmitter.specs.Fills.{IsInFront};
 ghost use Rattle.transmitter.specs.Written.{next_of, transmission};
 ghost use Rattle.daq_engine.specs.Fillings.{IsFillStep};
 ghost use Rattle.daq_engine.specs.PumpSteps.{IsPumpStep};
@@ -19,8 +19,6 @@ impl<T: Beside> Engine<SinkOut, T>
 where
     T::Send: SendEnd<End = T::End>,
 {
-    ghost use Rattle.std.specs.Prelude.{◌≡◌, ◌≢◌, ◌≤◌, ◌++◌, Err, IfErr, IfOk, OnErr};
-    ghost use Rattle.std.specs.Prelude.{drop, length, take};
     ghost use Rattle.daq_engine.specs.Engines.{engine_state};
     ghost use Rattle.daq_engine.specs.Events.{PumpsOn};
     ghost use Rattle.daq_engine.specs.Fillings.{FillsOn, next_ring};
@@ -37,12 +35,10 @@ where
             (next_ring self.old) (next_ring self.new) (length buffer.old) done.1
             (engine_state ⟦<SinkOut as Out>⟧ T.TakeEnd self.old)
             (engine_state ⟦<SinkOut as Out>⟧ T.TakeEnd self.new) done.0) }
-        ensures within { IfOk result (λ done. done.1 ≤ length buffer.old) }
-        ensures frames { IfOk result (λ done.
-            (engine_state ⟦<SinkOut as Out>⟧ T.TakeEnd self.old).transmitter.writer.out.contents
-            ++ take done.1 buffer.new ≡
-            (engine_state ⟦<SinkOut as Out>⟧ T.TakeEnd self.new).transmitter.writer.out.contents) }
-        ensures behind { IfOk result (λ done. drop done.1 buffer.new ≡ drop done.1 buffer.old) }
+        ensures front { IfOk result (λ done. IsInFront
+            (engine_state ⟦<SinkOut as Out>⟧ T.TakeEnd self.old).transmitter.writer.out
+            (engine_state ⟦<SinkOut as Out>⟧ T.TakeEnd self.new).transmitter.writer.out
+            buffer.old buffer.new done.1) }
 
         ensures err { IfErr result (λ fault. PumpsOn T.Send.SendEnd T.End.RingEnd
             (engine_state ⟦<SinkOut as Out>⟧ T.TakeEnd self.old)
@@ -74,12 +70,10 @@ fn fill_step<T: Beside>(
         (transmission ⟦<SinkOut as Out>⟧ T.TakeEnd transmitter.new) done.0) }
     ensures roomy { AreRoomy T.Send.SendEnd T.Send.End.RingEnd samplers.new.items
         (transmission ⟦<SinkOut as Out>⟧ T.TakeEnd transmitter.new) }
-    ensures within { IfOk result (λ done. done.1 ≤ length buffer.old) }
-    ensures frames { IfOk result (λ done.
-        (transmission ⟦<SinkOut as Out>⟧ T.TakeEnd transmitter.old).writer.out.contents
-        ++ take done.1 buffer.new
-        ≡ (transmission ⟦<SinkOut as Out>⟧ T.TakeEnd transmitter.new).writer.out.contents) }
-    ensures behind { IfOk result (λ done. drop done.1 buffer.new ≡ drop done.1 buffer.old) }
+    ensures front { IfOk result (λ done. IsInFront
+        (transmission ⟦<SinkOut as Out>⟧ T.TakeEnd transmitter.old).writer.out
+        (transmission ⟦<SinkOut as Out>⟧ T.TakeEnd transmitter.new).writer.out
+        buffer.old buffer.new done.1) }
 
     ensures err { IfErr result (λ fault. IsPumpStep (length samplers.old.items)
         (of_ring (sent_of_each T.Send.SendEnd samplers.old.items))

@@ -1,6 +1,6 @@
 -- What the calls of an engine's handle answer and what they leave, by their status.
-use Rattle.std.specs.Prelude.{◌≡◌, ◌⊎◌, ℕ, ◌<◌, ◌≤◌, Bool, false, true, List, [], ◌∷◌, ◌++◌}
-use Rattle.std.specs.Prelude.{length, take, drop, Option, Some, None, Ok, Err}
+use Rattle.std.specs.Prelude.{◌≡◌, ◌⊎◌, ℕ, ◌<◌, ◌≤◌, Bool, false, true, List, [], ◌∷◌}
+use Rattle.std.specs.Prelude.{length, Option, Some, None, Ok, Err}
 use Rattle.channel_ring.specs.declared.ends.SendEnd.{Ghosts as SendGhosts}
 use Rattle.channel_ring.specs.declared.ends.RingEnd.{Ghosts as EndGhosts}
 use Rattle.channel_ring.specs.declared.ends.TakeEnd.{Ghosts as TakeGhosts}
@@ -12,8 +12,9 @@ use Rattle.sampler.specs.History.{Opening}
 use Rattle.sampler.specs.State.{SamplerState}
 use Rattle.transmitter.specs.declared.faults.PumpFault.TheVariants as fault
 use Rattle.transmitter.specs.declared.pumped.Pumped.{Pumped}
+use Rattle.transmitter.specs.Fills.{IsInFront}
 use Rattle.transmitter.specs.Pumps.{IsPump}
-use Rattle.transmitter.specs.Written.{TransmitterState, next_of, transmission}
+use Rattle.transmitter.specs.Written.{next_of, transmission}
 use Rattle.daq_engine.specs.Openings.{AreOpened, CanOpenOver, IsPaired, fit_caps_of}
 use Rattle.daq_engine.specs.Openings.{some_list_runs}
 use Rattle.handle_calls.specs.declared.content.Content.{Content}
@@ -42,13 +43,6 @@ pub record FrameRoom : Type 0 where
   pub buffer : List ℕ
   pub len : ℕ
   pub pumped : PumpedOut
-
--- what was written stands in the front of the buffer, all of it and nothing else, and its length
--- is told
-pub record GivesFrames (s t : TransmitterState) (before after : FrameRoom) : Type 0 where
-  pub fits : after.len ≤ length before.buffer
-  pub front : t.writer.out.contents ≡ s.writer.out.contents ++ take after.len after.buffer
-  pub behind : drop after.len after.buffer ≡ drop after.len before.buffer
 
 module _ {S T E : Type 0} where
   -- an engine hands the first sampler out that it has
@@ -95,9 +89,9 @@ module _ {S T E : Type 0} (out : OutGhosts SinkOut) (give : TakeGhosts T E) wher
     pub pump :
         IsPump (transmission out give s.transmitter) (transmission out give t.transmitter)
         (Ok pumped)
-    pub frames :
-        GivesFrames (transmission out give s.transmitter) (transmission out give t.transmitter)
-        before after
+    pub front :
+        IsInFront (transmission out give s.transmitter).writer.out
+        (transmission out give t.transmitter).writer.out before.buffer after.buffer after.len
     pub told : after.pumped ≡ pumped_out pumped
     -- each ring had its turn
     pub next : next_of t.transmitter ≡ 0

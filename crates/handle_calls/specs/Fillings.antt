@@ -1,10 +1,10 @@
 -- What pumps that fill a buffer answer and what they leave, by their status.
-use Rattle.std.specs.Prelude.{◌≡◌, ℕ, ◌<◌, ◌≤◌, List, ◌++◌, length, take, drop, Option, Err}
+use Rattle.std.specs.Prelude.{◌≡◌, ℕ, ◌<◌, ◌≤◌, List, length, Option, Err}
 use Rattle.channel_ring.specs.declared.ends.TakeEnd.{Ghosts as TakeGhosts}
 use Rattle.frame_writer.specs.declared.layout.TheConstants.{MAX_SAMPLE_BYTES}
 use Rattle.frame_writer.specs.declared.out.Out.{Ghosts as OutGhosts}
 use Rattle.frame_writer.specs.declared.sink_out.SinkOut.{SinkOut}
-use Rattle.transmitter.specs.Fills.{Fills}
+use Rattle.transmitter.specs.Fills.{Fills, IsInFront}
 use Rattle.transmitter.specs.Pumps.{IsPump}
 use Rattle.transmitter.specs.Written.{next_of, transmission}
 use Rattle.transmitter.specs.declared.faults.PumpFault.TheVariants as fault
@@ -36,11 +36,9 @@ module _ {S T E : Type 0} (out : OutGhosts SinkOut) (give : TakeGhosts T E) wher
     pub fills :
         Fills (next_of s.transmitter) (next_of t.transmitter) (length before.buffer) after.len
         (transmission out give s.transmitter) (transmission out give t.transmitter) pumped
-    pub fits : after.len ≤ length before.buffer
     pub front :
-        (transmission out give s.transmitter).writer.out.contents ++ take after.len after.buffer
-        ≡ (transmission out give t.transmitter).writer.out.contents
-    pub behind : drop after.len after.buffer ≡ drop after.len before.buffer
+        IsInFront (transmission out give s.transmitter).writer.out
+        (transmission out give t.transmitter).writer.out before.buffer after.buffer after.len
     pub told : after.pumped ≡ pumped_all_out pumped
     pub lending : t.lending ≡ s.lending
 

@@ -1,21 +1,25 @@
 -- Pumps, one after another, into one buffer.
-use Rattle.std.proofs.Common.{◌≡◌, ℕ, inl, inr, ◌+◌, ◌*◌, ◌<◌, ◌≤◌, List, [], ◌∷◌, ◌++◌, length, None, refl, sym, ap, ◌∙◌, subst, arith, append-nil, append_assoc, length-append, drop, take}
+use Rattle.std.proofs.Common.{◌≡◌, ℕ, inl, inr, ◌+◌, ◌<◌, ◌≤◌, List, [], ◌∷◌, ◌++◌, length, None, refl, sym, ap, ◌∙◌, subst, arith, append-nil, append_assoc, length-append, drop, take}
 use Rattle.std.proofs.lemmas.List.{drop-drop}
 use Rattle.xcp_base.specs.declared.item.Item.{Item}
 use Rattle.frame_writer.specs.Shown.{OutState}
-use Rattle.transmitter.specs.Fills.{ArePumps, Fills, FindsNoRoom, TakesTurns, Tells, all_taken, ring_behind}
+use Rattle.transmitter.specs.Fills.{ArePumps, Fills, FindsNoRoom, IsInFront, TakesTurns, Tells, all_taken, ring_behind}
 use Rattle.transmitter.specs.Inner.Fits.{HasTurns, LaysOn}
 use Rattle.transmitter.specs.Inner.Turns.{Lays}
 use Rattle.transmitter.specs.Pumps.{CanPump, Leads}
 use Rattle.xcp_base.specs.declared.limits.TheConstants.{MAX_TAKEN}
 use Rattle.transmitter.specs.Written.{TransmitterState}
 use Rattle.transmitter.specs.declared.pumped_all.PumpedAll.{PumpedAll}
-use Rattle.transmitter.proofs.PumpLemmas.{refused, tells-nothing}
+use Rattle.transmitter.proofs.PumpLemmas.{nothing, refused, tells-nothing}
 use Rattle.transmitter.proofs.WrittenLemmas.{leads-append}
 
 -- nothing was laid out
 pub lays_nothing : (a : OutState) (buffer : List ℕ) (at : ℕ) → at ≤ length buffer → LaysOn a a buffer buffer at at
 lays_nothing a buffer at h = record { text = []; wrote = sym (append-nil a.contents); front = sym (append-nil (take at buffer)); end_is = omega arith; behind = refl; len = refl; inside = h }
+
+-- what was laid out from the front on stands there
+pub lays-front : (a b : OutState) (old new : List ℕ) (end : ℕ) → LaysOn a b old new 0 end → IsInFront a b old new end
+lays-front a b old new end l = record { within = l.inside; written = ap (λ t. a.contents ++ t) l.front ∙ sym l.wrote; behind = l.behind }
 
 -- text was laid out, and then more
 pub lays-append : (a b d : OutState) (start buffer new : List ℕ) (at end last : ℕ) → LaysOn a b start buffer at end → LaysOn b d buffer new end last → LaysOn a d start new at last
@@ -69,14 +73,14 @@ pub record Filled (n from : ℕ) (a b : TransmitterState) (now : ℕ) (p : Pumpe
   pub tells : Tells p (all_taken pumps)
 
 -- before the first
-pub filled_none : (n from : ℕ) (a : TransmitterState) (p : PumpedAll) → a.hand ≡ None → p.taken ≡ 0 → p.frames ≡ 0 → p.stopped ≡ 0 → Filled n from a a from p
-filled_none n from a p hand taken frames stopped = record {
+pub filled_none : (n from : ℕ) (a : TransmitterState) → a.hand ≡ None → Filled n from a a from nothing
+filled_none n from a hand = record {
   hand = hand;
   pumps = [];
   are = refl;
   at = refl;
   leads = refused a;
-  tells = tells-nothing p taken frames stopped;
+  tells = tells-nothing nothing refl refl refl;
 }
 
 -- one more
@@ -112,7 +116,7 @@ none_more (x ∷ qs) p q same more = absurd (omega (arith, same, more))
 
 -- the last was a whole one that found nothing
 pub fills_all : (from now stop room end : ℕ) (a b d : TransmitterState) (p q : PumpedAll) → CanPump a → Filled (length a.rings) from a b now p → HasTurns now stop b d p q → stop ≡ length a.rings → (now ≡ 0) × (q.taken ≡ p.taken) → Fills from 0 room end a d q
-fills_all from now stop room end a b d p q could f s whole nothing = record {
+fills_all from now stop room end a b d p q could f s whole none = record {
   could = could;
   hand = s.hand;
   pumps = f.pumps;
@@ -121,7 +125,7 @@ fills_all from now stop room end a b d p q could f s whole nothing = record {
   before = f.are;
   stop = stop;
   turns = subst (λ k. TakesTurns k stop b d s.items) f.at s.turns;
-  why = inr (inl (whole, refl, sym f.at ∙ nothing.0, none_more s.items p.taken q.taken nothing.1 s.count));
+  why = inr (inl (whole, refl, sym f.at ∙ none.0, none_more s.items p.taken q.taken none.1 s.count));
   leads = leads-append a b d (all_taken f.pumps) s.items f.leads s.turns.leads;
   tells = s.tells (all_taken f.pumps) f.tells;
 }
@@ -141,7 +145,3 @@ fills_spent from now room end a b p could f spent = record {
   leads = subst (λ ps. Leads a ps b) (sym (append-nil (all_taken f.pumps))) f.leads;
   tells = subst (Tells p) (sym (append-nil (all_taken f.pumps))) f.tells;
 }
-
--- in a buffer with room for the frames of a sample for each ring, turns stop at no ring
-pub all_fit : (stop n room end : ℕ) → (stop < n → room < end + 544) → end ≤ 544 * stop → 544 * 8 ≤ room → n ≤ 8 → n ≤ stop
-all_fit stop n room end short bytes enough few = grind (arith, short, bytes, enough, few)

@@ -2,6 +2,7 @@
 use Rattle.std.proofs.Common.{◌≡◌, ℕ, ◌+◌, ◌*◌, ◌≤◌, List, [], ◌∷◌, ◌++◌, IfSome, Option, None, Some, length, refl, sym, ap, ◌∙◌, arith, append_assoc, length-append}
 use Rattle.std.proofs.lemmas.List.Elements.{All-head, All-tail}
 use Rattle.xcp_base.specs.Packets.{ArePackets, IsPacket}
+use Rattle.xcp_base.specs.declared.limits.TheConstants.{MAX_DTO}
 use Rattle.frame_writer.specs.Frame.{frame, text}
 use Rattle.frame_writer.specs.Shown.{OutState, after_bytes}
 use Rattle.frame_writer.specs.Writing.{AfterText, FailsWithinText, WriterState, after_text}
@@ -46,8 +47,8 @@ long_end None at n qs is = tt
 long_end (Some e) at n qs is = omega (arith, is, long_text n qs)
 
 -- no frame is longer than this
-pub short_text : (n : ℕ) (qs : List (List ℕ)) → ArePackets qs → length (text n qs) ≤ 68 * length qs
+pub short_text : (n : ℕ) (qs : List (List ℕ)) → ArePackets qs → length (text n qs) ≤ (4 + MAX_DTO) * length qs
 short_text n [] each = omega arith
 short_text n (q ∷ qs) each =
-    let fits : length q ≤ 64 = (All-head IsPacket q qs each).fits in
+    let fits : length q ≤ MAX_DTO = (All-head IsPacket q qs each).fits in
     omega (arith, fits, short_text (n + 1) qs (All-tail IsPacket q qs each), length-append (frame n q) (text (n + 1) qs))

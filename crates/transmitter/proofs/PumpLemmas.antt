@@ -1,5 +1,5 @@
 -- A pump's turns at the rings, one after another.
-use Rattle.std.proofs.Common.{◌≡◌, ℕ, zero, suc, ◌+◌, ◌<◌, ◌≤◌, false, ◌||◌, cond, eqb, nat_eq, List, [], ◌∷◌, ◌++◌, length, Some, None, Ok, Err, refl, ap, ◌∙◌, subst, arith, append-nil, append_assoc, length-append, below_more, true, inl, inr, sym, Bool, Option}
+use Rattle.std.proofs.Common.{◌≡◌, ℕ, zero, suc, ◌+◌, ◌*◌, ◌<◌, ◌≤◌, false, ◌||◌, cond, eqb, nat_eq, List, [], ◌∷◌, ◌++◌, length, Some, None, Ok, Err, refl, ap, ◌∙◌, subst, arith, append-nil, append_assoc, length-append, below_more, true, inl, inr, sym, Bool, Option}
 use Rattle.std.specs.List.{AllByRecursion, list_any}
 use Rattle.std.specs.Option.{is_some}
 use Rattle.std.proofs.lemmas.List.Folds.{list_any-append}
@@ -10,6 +10,8 @@ use Rattle.xcp_base.specs.Samples.{MarkParts, SampleParts}
 use Rattle.xcp_base.specs.declared.item.Item.{Item}
 use Rattle.xcp_base.specs.declared.item.Item.TheVariants.{Marker, Sample}
 use Rattle.xcp_base.specs.Lists.{has_list}
+use Rattle.xcp_base.specs.declared.limits.TheConstants.{MAX_CHANNELS}
+use Rattle.frame_writer.specs.declared.layout.TheConstants.{MAX_SAMPLE_BYTES}
 use Rattle.transmitter.specs.Fills.{Tells}
 use Rattle.transmitter.specs.Inner.Fits.{HasTurns}
 use Rattle.transmitter.specs.Items.{packets_of, samples}
@@ -219,3 +221,7 @@ or_false false = refl
 -- a set with one list more, which is the marker's
 pub one_stop : (old new list l k : ℕ) → l ≡ list → has_list new k ≡ (has_list old k || nat_eq l k) → has_list new k ≡ (has_list old k || (nat_eq list k || false))
 one_stop old new list l k is added = added ∙ (ap (λ n. has_list old k || nat_eq n k) is ∙ ap (λ b. has_list old k || b) (or_false (nat_eq list k)))
+
+-- in a buffer with room for the frames of a sample for each ring, turns stop at no ring
+pub all_fit : (stop n room end : ℕ) → (stop < n → room < end + MAX_SAMPLE_BYTES) → end ≤ MAX_SAMPLE_BYTES * stop → MAX_SAMPLE_BYTES * MAX_CHANNELS ≤ room → n ≤ MAX_CHANNELS → n ≤ stop
+all_fit stop n room end short bytes enough few = grind (arith, short, bytes, enough, few)

@@ -1,5 +1,6 @@
 -- Pumps, one after another, that write into one buffer as far as it has room.
 use Rattle.std.specs.Prelude.{ℕ, ◌+◌, ◌<◌, ◌≤◌, ◌≡◌, ◌⊎◌, List, [], ◌∷◌, ◌++◌, length, None}
+use Rattle.std.specs.Prelude.{drop, take}
 use Rattle.std.specs.List.{AllByRecursion}
 use mathlib.Core.List.{IsPrefix}
 use Rattle.xcp_base.specs.declared.limits.TheConstants.{MAX_TAKEN}
@@ -7,6 +8,7 @@ use Rattle.xcp_base.specs.Samples.{SampleParts}
 use Rattle.xcp_base.specs.declared.item.Item.{Item}
 use Rattle.xcp_base.specs.declared.item.Item.TheVariants.{Sample}
 use Rattle.frame_writer.specs.Frame.{text}
+use Rattle.frame_writer.specs.Shown.{OutState}
 use Rattle.transmitter.specs.Items.{packets_of, samples}
 use Rattle.transmitter.specs.Merge.{AreRising, items_taken, of_ring, taken_from}
 use Rattle.transmitter.specs.Pumps.{CanPump, IsSetOfStops, Leads}
@@ -48,6 +50,13 @@ pub record FindsNoRoom (c : ℕ) (t : TransmitterState) (room end : ℕ) : Type 
   pub sample : SampleParts
   pub first : IsPrefix (Sample sample ∷ []) (of_ring t.known c)
   pub too_long : room < end + length (text t.writer.counter sample.packets)
+
+-- what was written between these two stands in the front of a buffer, in so many bytes and nothing
+-- else; behind it the buffer is as it was
+pub record IsInFront (a b : OutState) (old new : List ℕ) (n : ℕ) : Type 0 where
+  pub within : n ≤ length old
+  pub written : a.contents ++ take n new ≡ b.contents
+  pub behind : drop n new ≡ drop n old
 
 -- how many items and frames these are, and which stop markers are among them
 pub record Tells (p : PumpedAll) (qs : List (ℕ × Item)) : Type 0 where

@@ -19,13 +19,12 @@ fn found_nothing(from: usize, before: u64, taken: u64) -> bool
 }
 
 impl<T: TakeEnd> Transmitter<SinkOut, T> {
-    ghost use Rattle.std.specs.Prelude.{◌≡◌, ◌≢◌, ℕ, ◌+◌, ◌*◌, ◌<◌, ◌≤◌, ◌++◌, List, drop, length};
-    ghost use Rattle.std.specs.Prelude.{take, Err, None, IfErr, IfOk, OnErr, vec_len};
-    ghost use Rattle.xcp_base.specs.declared.item.Item.{Item};
+    ghost use Rattle.std.specs.Prelude.{◌≡◌, ◌≢◌, ◌+◌, ◌*◌, ◌<◌, ◌≤◌, length};
+    ghost use Rattle.std.specs.Prelude.{Err, None, IfErr, IfOk, OnErr, vec_len};
     ghost use Rattle.xcp_base.specs.declared.limits.TheConstants.{MAX_TAKEN};
     ghost use Rattle.frame_writer.specs.Writing.{state_of};
     ghost use Rattle.frame_writer.specs.declared.layout.TheConstants.{MAX_SAMPLE_BYTES};
-    ghost use Rattle.transmitter.specs.Fills.{Fills, FindsNoRoom};
+    ghost use Rattle.transmitter.specs.Fills.{Fills, FindsNoRoom, IsInFront};
     ghost use Rattle.transmitter.specs.Inner.Fits.{AreFew, HasTurns, LaysOn};
     ghost use Rattle.transmitter.specs.Pumps.{IsPump};
     ghost use Rattle.transmitter.specs.Written.{next_of, transmission};
@@ -43,12 +42,10 @@ impl<T: TakeEnd> Transmitter<SinkOut, T> {
             (length buffer.old) done.1
             (transmission ⟦<SinkOut as Out>⟧ T.TakeEnd self.old)
             (transmission ⟦<SinkOut as Out>⟧ T.TakeEnd self.new) done.0) }
-        ensures within { IfOk result (λ done. done.1 ≤ length buffer.old) }
-        ensures frames { IfOk result (λ done.
-            (transmission ⟦<SinkOut as Out>⟧ T.TakeEnd self.old).writer.out.contents
-            ++ take done.1 buffer.new
-            ≡ (transmission ⟦<SinkOut as Out>⟧ T.TakeEnd self.new).writer.out.contents) }
-        ensures behind { IfOk result (λ done. drop done.1 buffer.new ≡ drop done.1 buffer.old) }
+        ensures front { IfOk result (λ done. IsInFront
+            (transmission ⟦<SinkOut as Out>⟧ T.TakeEnd self.old).writer.out
+            (transmission ⟦<SinkOut as Out>⟧ T.TakeEnd self.new).writer.out
+            buffer.old buffer.new done.1) }
 
         ensures err { IfErr result (λ fault. IsPump
             (transmission ⟦<SinkOut as Out>⟧ T.TakeEnd self.old)
@@ -96,14 +93,14 @@ impl<T: TakeEnd> Transmitter<SinkOut, T> {
         requires taken { self.old.taken < MAX_TAKEN }
         requires inside { end.old ≤ length buffer.old }
         requires count { pumped.old.taken ≤ self.old.taken }
-        requires few_frames { 4 * pumped.old.frames ≤ end.old }
+        requires long { 4 * pumped.old.frames ≤ end.old }
         ensures turns { HasTurns from result (transmission ⟦<SinkOut as Out>⟧ T.TakeEnd self.old)
             (transmission ⟦<SinkOut as Out>⟧ T.TakeEnd self.new) pumped.old pumped.new }
         ensures lays { LaysOn (state_of ⟦<SinkOut as Out>⟧ self.old.writer).out
             (state_of ⟦<SinkOut as Out>⟧ self.new.writer).out
             buffer.old buffer.new end.old end.new }
         ensures few { AreFew result pumped.old pumped.new end.old end.new }
-        ensures few_frames { 4 * pumped.new.frames ≤ end.new }
+        ensures long { 4 * pumped.new.frames ≤ end.new }
         ensures stop { result ≤ vec_len self.old.ends }
         ensures no_room { result < vec_len self.old.ends → FindsNoRoom result
             (transmission ⟦<SinkOut as Out>⟧ T.TakeEnd self.new) (length buffer.old) end.new }

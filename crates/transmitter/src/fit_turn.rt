@@ -1,5 +1,5 @@
 //! A turn at one ring, if the frames fit.
-ghost use Rattle.std.specs.Prelude.{◌≡◌, ◌+◌, ◌*◌, ◌<◌, ◌≤◌, ◌++◌, IfSome, None, false, length};
+ghost use Rattle.std.specs.Prelude.{◌≡◌, ◌+◌, ◌*◌, ◌<◌, ◌≤◌, IfSome, None, false, length};
 ghost use Rattle.frame_writer.specs.Frame.{text};
 ghost use Rattle.frame_writer.specs.Writing.{AfterText, state_of};
 ghost use Rattle.transmitter.specs.Inner.Turns.{Lays};

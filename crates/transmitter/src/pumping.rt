@@ -13,8 +13,8 @@ use xcp_base::limits::{MAX_CHANNELS, MAX_TAKEN};
 pub const MAX_PUMP: usize = MAX_CHANNELS as usize * MAX_SAMPLE_BYTES;
 
 impl<T: TakeEnd> Transmitter<SinkOut, T> {
-    ghost use Rattle.std.specs.Prelude.{◌≡◌, ◌≢◌, ◌≤◌, ◌++◌, drop, length, take};
-    ghost use Rattle.std.specs.Prelude.{Err, Ok, IfErr, IfOk, OnErr, OnOk};
+    ghost use Rattle.std.specs.Prelude.{◌≡◌, ◌≢◌, ◌≤◌, length, Err, Ok, IfErr, IfOk, OnErr, OnOk};
+    ghost use Rattle.transmitter.specs.Fills.{IsInFront};
     ghost use Rattle.transmitter.specs.Pumps.{IsPump};
     ghost use Rattle.transmitter.specs.Written.{next_of, transmission};
 
@@ -30,11 +30,10 @@ impl<T: TakeEnd> Transmitter<SinkOut, T> {
             (transmission ⟦<SinkOut as Out>⟧ T.TakeEnd self.old)
             (transmission ⟦<SinkOut as Out>⟧ T.TakeEnd self.new) (Ok done.0)) }
         ensures within { IfOk result (λ done. done.1 ≤ MAX_PUMP) }
-        ensures frames { IfOk result (λ done.
-            (transmission ⟦<SinkOut as Out>⟧ T.TakeEnd self.old).writer.out.contents
-            ++ take done.1 buffer.new
-            ≡ (transmission ⟦<SinkOut as Out>⟧ T.TakeEnd self.new).writer.out.contents) }
-        ensures behind { IfOk result (λ done. drop done.1 buffer.new ≡ drop done.1 buffer.old) }
+        ensures front { IfOk result (λ done. IsInFront
+            (transmission ⟦<SinkOut as Out>⟧ T.TakeEnd self.old).writer.out
+            (transmission ⟦<SinkOut as Out>⟧ T.TakeEnd self.new).writer.out
+            buffer.old buffer.new done.1) }
         ensures next { OnOk result (next_of self.new ≡ 0) }
 
         ensures err { IfErr result (λ fault. IsPump

@@ -140,8 +140,7 @@ impl<O: Out, T: TakeEnd> Transmitter<O, T> {
 }
 
 impl<O: Out, T: Beside> Transmitter<O, T> {
-    ghost use Rattle.std.specs.Prelude.{◌≡◌, ◌+◌, ◌≤◌, ◌++◌};
-    ghost use Rattle.std.specs.Prelude.{Some, length, slice_get};
+    ghost use Rattle.std.specs.Prelude.{◌≡◌, ◌+◌, ◌≤◌, ◌++◌, Some, length, slice_get};
     ghost use Rattle.channel_ring.specs.Room.{units};
     ghost use Rattle.sampler.specs.Stays.{OnlyLooked};
     ghost use Rattle.transmitter.specs.Looks.{LookedAt};

@@ -26,7 +26,7 @@ pub enum Turn {
 }
 
 impl<O: Out, T: TakeEnd> Transmitter<O, T> {
-    ghost use Rattle.std.specs.Prelude.{◌≡◌, ◌+◌, ◌^◌, ◌<◌, ◌≤◌, None, length, vec_len};
+    ghost use Rattle.std.specs.Prelude.{◌≡◌, ◌+◌, ◌^◌, ◌<◌, None, vec_len};
     ghost use Rattle.transmitter.specs.Written.{transmission};
     ghost use Rattle.transmitter.specs.Inner.Turns.{TurnMeans};
 

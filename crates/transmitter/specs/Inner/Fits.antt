@@ -47,7 +47,7 @@ abbrev pub FitLays : OutState → OutState → List ℕ → List ℕ → ℕ →
 FitLays a b old new at end (Wrote n) = Lays a b old new at end × (at + 4 * n ≤ end)
 FitLays a b old new at end _ = (b ≡ a) × (new ≡ old) × (end ≡ at)
 
--- what turns at n rings took and wrote, and the bytes of its frames, at most
+-- what turns at n rings took and wrote, and the bytes of their frames, at most
 pub record AreFew (n : ℕ) (p q : PumpedAll) (at end : ℕ) : Type 0 where
   pub taken : q.taken ≤ p.taken + n
   pub frames : q.frames ≤ p.frames + MAX_ODTS * n

@@ -3,7 +3,7 @@ use Rattle.std.proofs.lemmas.List.{length-map}
 use Rattle.frame_writer.specs.Writing.{state_of}
 use Rattle.frame_writer.specs.contracts.sink_out.SinkOutOut.TheImpl.{ghosts as out}
 use Rattle.transmitter.specs.Written.{transmission}
-use Rattle.transmitter.proofs.FillLemmas.{filled_more, filled_none, fills_all, fills_no_room, fills_spent, lays-append, lays_nothing}
+use Rattle.transmitter.proofs.FillLemmas.{filled_more, filled_none, fills_all, fills_no_room, fills_spent, lays-append, lays-front, lays_nothing}
 use Rattle.transmitter.proofs.PumpLemmas.{none_of}
 use Rattle.transmitter.proofs.filling.Transmitter+SinkOut+T.pump_all.Goals as goal
 
@@ -13,9 +13,9 @@ loop-self-init g c =
     let s = c.args.self.now in
     let none = none_of s.hand (sym s.held ∙ (sym c.closed.ensures ∙ c.if-closed.false)) in
     record {
-      filled = filled_none _ _ (transmission out g.T.TakeEnd s) _ none refl refl refl;
+      filled = filled_none _ _ (transmission out g.T.TakeEnd s) none;
       lays = lays_nothing (state_of out s.writer).out c.args.buffer.now 0 (omega arith);
-      few_frames = omega arith;
+      long = omega arith;
       count = omega arith;
       as_many = refl;
     }
@@ -31,10 +31,10 @@ returns-then-stop-len-clause-ok g c =
     let finds = rw i.lays.len at e.no_room short in
     fills_no_room _ _ _ _ _ _ _ _ _ _ (sym c.closed.ensures ∙ c.if-closed.false, omega (arith, c.if-self-ge-MAX_TAKEN.false)) i.filled e.turns few finds
 
-pub returns-then-stop-len-clause-behind : goal.returns-then-stop-len-clause-behind
-returns-then-stop-len-clause-behind g c =
+pub returns-then-stop-len-clause-front : goal.returns-then-stop-len-clause-front
+returns-then-stop-len-clause-front g c =
     let s = c.args.self.now in
-    (lays-append (state_of out s.writer).out _ _ c.args.buffer.now c.loop-self.buffer _ 0 c.loop-self.end _ c.loop-self.invariant.lays c.pump_on-stop.ensures.lays).behind
+    lays-front _ _ _ _ _ (lays-append (state_of out s.writer).out _ _ c.args.buffer.now c.loop-self.buffer _ 0 c.loop-self.end _ c.loop-self.invariant.lays c.pump_on-stop.ensures.lays)
 
 -- a whole pump found nothing
 pub returns-then-found_nothing-clause-ok : goal.returns-then-found_nothing-clause-ok
@@ -45,10 +45,10 @@ returns-then-found_nothing-clause-ok g c =
     let whole : c.pump_on-stop.result ≡ length (map g.T.TakeEnd.ring ends.items) = omega (arith, e.stop, c.if-stop-len.false, c.len.ensures, e.as_many, i.as_many, length-map ends.items g.T.TakeEnd.ring, ends.ok.0) in
     fills_all _ _ _ _ _ _ _ _ _ _ (sym c.closed.ensures ∙ c.if-closed.false, omega (arith, c.if-self-ge-MAX_TAKEN.false)) i.filled e.turns whole (c.found_nothing.ensures.0 c.if-found_nothing.true)
 
-pub returns-then-found_nothing-clause-behind : goal.returns-then-found_nothing-clause-behind
-returns-then-found_nothing-clause-behind g c =
+pub returns-then-found_nothing-clause-front : goal.returns-then-found_nothing-clause-front
+returns-then-found_nothing-clause-front g c =
     let s = c.args.self.now in
-    (lays-append (state_of out s.writer).out _ _ c.args.buffer.now c.loop-self.buffer _ 0 c.loop-self.end _ c.loop-self.invariant.lays c.pump_on-stop.ensures.lays).behind
+    lays-front _ _ _ _ _ (lays-append (state_of out s.writer).out _ _ c.args.buffer.now c.loop-self.buffer _ 0 c.loop-self.end _ c.loop-self.invariant.lays c.pump_on-stop.ensures.lays)
 
 -- one pump more
 pub loop-self-preserved : goal.loop-self-preserved
@@ -61,7 +61,7 @@ loop-self-preserved g c =
     record {
       filled = filled_more _ _ _ _ _ _ _ _ _ i.filled e.turns whole;
       lays = lays-append (state_of out s.writer).out _ _ c.args.buffer.now c.loop-self.buffer _ 0 c.loop-self.end _ i.lays e.lays;
-      few_frames = e.few_frames;
+      long = e.long;
       count = omega (arith, i.count, e.turns.count, e.turns.turns.leads.taken);
       as_many = e.as_many ∙ i.as_many;
     }
@@ -70,3 +70,6 @@ loop-self-preserved g c =
 pub returns-clause-ok : goal.returns-clause-ok
 returns-clause-ok g c =
     fills_spent _ _ _ _ _ _ _ (sym c.closed.ensures ∙ c.if-closed.false, omega (arith, c.if-self-ge-MAX_TAKEN.false)) c.loop-self.invariant.filled (omega (arith, c.loop-self-test.false))
+
+pub returns-clause-front : goal.returns-clause-front
+returns-clause-front g c = lays-front _ _ _ _ _ c.loop-self.invariant.lays

@@ -12,7 +12,7 @@ abbrev pub invariant-loop-self : goal.invariant-loop-self
 invariant-loop-self g l = record {
   filled : Filled (length (transmission out g.T.TakeEnd l.fn.self).rings) l.fn.self.next (transmission out g.T.TakeEnd l.fn.self) (transmission out g.T.TakeEnd l.self) l.from l.pumped;
   lays : LaysOn (state_of out l.fn.self.writer).out (state_of out l.self.writer).out l.fn.buffer l.buffer 0 l.end;
-  few_frames : 4 * l.pumped.frames ≤ l.end;
+  long : 4 * l.pumped.frames ≤ l.end;
   count : l.pumped.taken ≤ l.self.taken;
   as_many : vec_len l.self.ends ≡ vec_len l.fn.self.ends;
 }

@@ -22,7 +22,7 @@ loop-c-init g c =
     record {
       turns = no_turns _ _ (transmission out g.T.TakeEnd s) _ (omega arith) c.requires.nothing_in_hand;
       lays = lays_nothing (state_of out s.writer).out c.args.buffer.now c.args.end.now c.requires.inside;
-      few_frames = c.requires.few_frames;
+      long = c.requires.long;
       few = record { taken = omega arith; frames = omega arith; bytes = omega arith };
       few_items = omega arith;
       as_many = refl;
@@ -47,7 +47,7 @@ loop-c-preserved g c =
           record {
             turns = rw w.pumped-is (idle_more _ c.loop-c.c _ _ _ _ c.loop-c.pumped i.turns t.1 t.0 t.2);
             lays = lays_same a _ _ c.args.buffer.now c.loop-c.buffer _ _ c.loop-c.end _ i.lays same;
-            few_frames = rw w.pumped-is (omega (arith, i.few_frames, same.2));
+            long = rw w.pumped-is (omega (arith, i.long, same.2));
             few = rw w.pumped-is (record { taken = omega (arith, f.taken); frames = omega (arith, f.frames); bytes = omega (arith, f.bytes, same.2) });
             few_items = omega (arith, i.few_items, t.1.taken);
             as_many = w.in-Nothing.ensures.as_many ∙ i.as_many;
@@ -58,7 +58,7 @@ loop-c-preserved g c =
           record {
             turns = rw w.pumped-is (item_more _ c.loop-c.c _ _ _ _ c.loop-c.pumped _ (Sample t.0) i.turns (omega arith) t.2 t.1 refl (rw (append-nil t.0.packets, t.3) refl) (λ l. or_false (has_list c.loop-c.pumped.stopped l)));
             lays = lays_more a _ _ c.args.buffer.now c.loop-c.buffer _ _ c.loop-c.end _ i.lays laid.0 w.in-Wrote.ensures.inside;
-            few_frames = rw w.pumped-is (omega (arith, i.few_frames, laid.1));
+            long = rw w.pumped-is (omega (arith, i.long, laid.1));
             few = rw w.pumped-is (record { taken = omega (arith, f.taken); frames = omega (arith, f.frames, t.4); bytes = omega (arith, f.bytes, laid.0.few) });
             few_items = omega (arith, i.few_items, t.2.taken);
             as_many = w.in-Wrote.ensures.as_many ∙ i.as_many;
@@ -69,7 +69,7 @@ loop-c-preserved g c =
           record {
             turns = rw w.pumped-is (item_more _ c.loop-c.c _ _ _ _ c.loop-c.pumped _ (Marker t.0) i.turns (omega arith) t.2 t.1 refl (omega arith) (λ k. one_stop c.loop-c.pumped.stopped w.with_list-pumped.result t.0.list w.in-Stopped.list k t.3 (w.with_list-pumped.ensures k)));
             lays = lays_same a _ _ c.args.buffer.now c.loop-c.buffer _ _ c.loop-c.end _ i.lays same;
-            few_frames = rw w.pumped-is (omega (arith, i.few_frames, same.2));
+            long = rw w.pumped-is (omega (arith, i.long, same.2));
             few = rw w.pumped-is (record { taken = omega (arith, f.taken); frames = omega (arith, f.frames); bytes = omega (arith, f.bytes, same.2) });
             few_items = omega (arith, i.few_items, t.2.taken);
             as_many = w.in-Stopped.ensures.as_many ∙ i.as_many;

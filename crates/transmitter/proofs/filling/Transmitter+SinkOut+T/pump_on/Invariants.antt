@@ -10,7 +10,7 @@ abbrev pub invariant-loop-c : goal.invariant-loop-c
 invariant-loop-c g l = record {
   turns : HasTurns l.fn.from l.c (transmission out g.T.TakeEnd l.fn.self) (transmission out g.T.TakeEnd l.self) l.fn.pumped l.pumped;
   lays : LaysOn (state_of out l.fn.self.writer).out (state_of out l.self.writer).out l.fn.buffer l.buffer l.fn.end l.end;
-  few_frames : 4 * l.pumped.frames ≤ l.end;
+  long : 4 * l.pumped.frames ≤ l.end;
   few : AreFew l.c l.fn.pumped l.pumped l.fn.end l.end;
   few_items : l.self.taken ≤ l.fn.self.taken + l.c;
   as_many : vec_len l.self.ends ≡ vec_len l.fn.self.ends;

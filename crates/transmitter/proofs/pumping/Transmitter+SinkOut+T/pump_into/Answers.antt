@@ -1,9 +1,7 @@
-use Rattle.std.proofs.Common.{◌≤◌, vec_len, sym, ap, ◌∙◌, arith, ◌++◌, length, map}
+use Rattle.std.proofs.Common.{◌≤◌, vec_len, sym, ◌∙◌, arith, length, map}
 use Rattle.std.proofs.lemmas.List.{length-map}
-use Rattle.frame_writer.specs.Writing.{state_of}
-use Rattle.frame_writer.specs.contracts.sink_out.SinkOutOut.TheImpl.{ghosts as out}
-use Rattle.transmitter.proofs.FillLemmas.{all_fit}
-use Rattle.transmitter.proofs.PumpLemmas.{none_of, one_pump}
+use Rattle.transmitter.proofs.FillLemmas.{lays-front}
+use Rattle.transmitter.proofs.PumpLemmas.{all_fit, none_of, one_pump}
 use Rattle.transmitter.proofs.pumping.Transmitter+SinkOut+T.pump_into.Goals as goal
 
 -- nothing is in hand while the writer is open
@@ -24,7 +22,5 @@ returns-clause-ok g c =
     let one = c.as_one.ensures in
     one_pump c.pump_on.result _ _ c.pump_on.new.pumped c.as_one.result (sym c.closed.ensures ∙ c.if-closed.false, omega (arith, c.if-self-ge-MAX_TAKEN.false)) e.turns all one.taken one.frames one.stopped
 
-pub returns-clause-frames : goal.returns-clause-frames
-returns-clause-frames g c =
-    let l = c.pump_on.ensures.lays in
-    ap (λ t. (state_of out c.args.self.now.writer).out.contents ++ t) l.front ∙ sym l.wrote
+pub returns-clause-front : goal.returns-clause-front
+returns-clause-front g c = lays-front _ _ _ _ _ c.pump_on.ensures.lays
