@@ -1,14 +1,14 @@
 -- What was received, what is held, and what is left.
 use Rattle.std.proofs.Common.{◌≡◌, ◌↔◌, ℕ, ◌+◌, ◌-◌, ◌%◌, ◌^◌, ◌<◌, ◌≤◌, Bool, true, false, List, [], ◌∷◌, ◌++◌, length, take, drop, refl, sym, ap, ◌∙◌, subst, append_assoc, append-nil, arith, length-append}
 use Rattle.std.proofs.lemmas.Bool.{false≢true}
-use Rattle.std.proofs.lemmas.List.{append_cancel_left, length-take, take-append-drop, take-append-le, take-take, take_all}
+use Rattle.std.proofs.lemmas.List.{append_cancel_left, take-append-drop, take-take, take_all}
 use Rattle.std.specs.Prelude.{IsTrue}
 use mathlib.Core.List.{IsPrefix}
-use Rattle.rtrb.specs.Ring.{known_items, received}
+use Rattle.rtrb.specs.Ring.{known_items}
 use Rattle.rtrb.specs.declared.consumer.Consumer.{Consumer}
 use Rattle.xcp_base.specs.declared.item.Item.{Item}
 use Rattle.byte_ring.specs.declared.front.Front.{Front}
-use Rattle.byte_ring.specs.Fronts.{IsFirst, IsReady, known_of, part, place_of, seen}
+use Rattle.byte_ring.specs.Fronts.{IsFirst, IsReady, known_of, part}
 use Rattle.byte_ring.specs.Held.{AreRecords, IsHeld, Place, Pulls}
 use Rattle.byte_ring.specs.Reading.{items_in}
 use Rattle.byte_ring.specs.Records.{IsItem, record_len, record_of, records_of}

@@ -16,7 +16,7 @@ use Rattle.xcp_base.specs.declared.item.Item.TheVariants.{Sample, Marker}
 use Rattle.byte_ring.specs.Records.{IsItem, record_of, records_of}
 use Rattle.byte_ring.specs.Reading.{items_in}
 use Rattle.byte_ring.specs.Fronts.{seen}
-use Rattle.byte_ring.specs.Held.{Place, Pulls, least, least_body, least_record}
+use Rattle.byte_ring.specs.Held.{least, least_body, least_record}
 use Rattle.byte_ring.proofs.RecordLemmas.{Reads, eq_test_false, items_in-record, length-number, lt_test, reads}
 
 -- ---- what the code computes

@@ -8,7 +8,7 @@ use crate::byte_left::ByteLeft;
 use crate::record::{MAX_RECORD, record_len, write_record, write_sample};
 use channel_ring::SendEnd;
 use rtrb::Producer;
-use xcp_base::{Item, Packets};
+use xcp_base::{ChannelId, Item, ListId, Packets};
 
 /// The send end of a ring of bytes.
 #[derive(Drop)]
@@ -60,7 +60,13 @@ impl SendEnd for ByteSend {
         }
     }
 
-    fn offer_sample(&mut self, channel: u8, list: u8, number: u64, packets: &Packets) -> bool {
+    fn offer_sample(
+        &mut self,
+        channel: ChannelId,
+        list: ListId,
+        number: u64,
+        packets: &Packets,
+    ) -> bool {
         let len = write_sample(&mut self.spelled, channel, list, number, packets);
         push_whole(&mut self.producer, &mut self.count, &self.spelled[..len])
     }

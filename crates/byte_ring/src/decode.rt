@@ -1,14 +1,13 @@
 //! Records, read again.
-ghost use Rattle.std.specs.Prelude.{◌≡◌, ◌≢◌, ◌↔◌, ℕ, ◌<◌, ◌≤◌, List, length, slice_index};
-ghost use Rattle.std.specs.Prelude.{true, false, IsTrue};
+ghost use Rattle.std.specs.Prelude.{◌≡◌, ◌≢◌, ℕ, ◌<◌, ◌≤◌, List, length, slice_index, true, false};
 ghost use Rattle.xcp_base.specs.Bodies.{IsBodyOf};
 ghost use Rattle.xcp_base.specs.declared.item.Item.{Item};
+ghost use Rattle.xcp_base.specs.declared.limits.TheConstants.{MAX_CHANNELS, MAX_LISTS};
 ghost use Rattle.byte_ring.specs.Records.{IsItem, record_of};
 ghost use Rattle.byte_ring.specs.Reads.{IsSampleRead};
 
 use crate::record::{HEAD, MARKER, MARKER_LEN, SAMPLE};
-use xcp_base::limits::{MAX_CHANNELS, MAX_LISTS};
-use xcp_base::{Item, Packets, Sample, StopMark};
+use xcp_base::{ChannelId, Item, ListId, Packets, Sample, StopMark};
 
 /// Any stop marker.
 pub(crate) fn any_marker() -> Item {
@@ -26,9 +25,14 @@ fn any_sample() -> Sample {
 
 /// Puts a sample in the place of a stop marker, or of any item: it is moved once more than if a
 /// sample is there.
-fn put_sample(item: &mut Item, channel: u8, list: u8, number: u64, count: u8, body: &[u8]) -> bool
-    requires channel_below { channel < MAX_CHANNELS }
-    requires list_below { list < MAX_LISTS }
+fn put_sample(
+    item: &mut Item,
+    channel: ChannelId,
+    list: ListId,
+    number: u64,
+    count: u8,
+    body: &[u8],
+) -> bool
     ensures yes { result ≡ true → IsSampleRead channel list number count body.now item.new }
     ensures no { result ≡ false
         → (qs : List (List ℕ)) → 0 < length qs → ¬ IsBodyOf count body.now qs }
@@ -40,9 +44,14 @@ fn put_sample(item: &mut Item, channel: u8, list: u8, number: u64, count: u8, bo
 }
 
 /// Reads a sample in the place of an item.
-fn read_into(item: &mut Item, channel: u8, list: u8, number: u64, count: u8, body: &[u8]) -> bool
-    requires channel_below { channel < MAX_CHANNELS }
-    requires list_below { list < MAX_LISTS }
+fn read_into(
+    item: &mut Item,
+    channel: ChannelId,
+    list: ListId,
+    number: u64,
+    count: u8,
+    body: &[u8],
+) -> bool
     ensures yes { result ≡ true → IsSampleRead channel list number count body.now item.new }
     ensures no { result ≡ false
         → (qs : List (List ℕ)) → 0 < length qs → ¬ IsBodyOf count body.now qs }
@@ -53,13 +62,13 @@ fn read_into(item: &mut Item, channel: u8, list: u8, number: u64, count: u8, bod
     }
 }
 
-/// Reads the sample whose record these bytes are, behind a kind, an event channel and a DAQ list
-/// that are right.
-fn read_sample(item: &mut Item, bytes: &[u8]) -> bool
+/// Reads the sample whose record these bytes are: its kind, its event channel and its DAQ list were
+/// read.
+fn read_sample(item: &mut Item, channel: ChannelId, list: ListId, bytes: &[u8]) -> bool
     requires long { 3 ≤ length bytes.now }
     requires kind { slice_index bytes.now 0 ≡ 1 }
-    requires channel { slice_index bytes.now 1 < MAX_CHANNELS }
-    requires list { slice_index bytes.now 2 < MAX_LISTS }
+    requires channel { (slice_index bytes.now 1 ≡ channel) × (channel < MAX_CHANNELS) }
+    requires list { (slice_index bytes.now 2 ≡ list) × (list < MAX_LISTS) }
     ensures yes { result ≡ true → record_of item.new ≡ bytes.now }
     ensures item { result ≡ true → IsItem item.new }
     ensures no { result ≡ false → (x : Item) → IsItem x → record_of x ≢ bytes.now }
@@ -73,14 +82,7 @@ fn read_sample(item: &mut Item, bytes: &[u8]) -> bool
     let number = u64::from_le_bytes([
         bytes[3], bytes[4], bytes[5], bytes[6], bytes[7], bytes[8], bytes[9], bytes[10],
     ]);
-    read_into(item, bytes[1], bytes[2], number, bytes[11], &bytes[HEAD..])
-}
-
-/// Whether a number is that of an event channel, and another that of a DAQ list.
-fn are_within(channel: u8, list: u8) -> bool
-    ensures { IsTrue result ↔ ((channel < MAX_CHANNELS) × (list < MAX_LISTS)) }
-{
-    (channel as u16) < MAX_CHANNELS && (list as u16) < MAX_LISTS
+    read_into(item, channel, list, number, bytes[11], &bytes[HEAD..])
 }
 
 /// Reads the item whose record these bytes are, in the place of another one; false if they are
@@ -93,11 +95,14 @@ pub(crate) fn read_item(item: &mut Item, bytes: &[u8]) -> bool
     if bytes.len() < MARKER_LEN {
         return false;
     }
-    if !are_within(bytes[1], bytes[2]) {
+    let Some(channel) = ChannelId::of_byte(bytes[1]) else {
         return false;
-    }
+    };
+    let Some(list) = ListId::of_byte(bytes[2]) else {
+        return false;
+    };
     if bytes[0] == SAMPLE {
-        return read_sample(item, bytes);
+        return read_sample(item, channel, list, bytes);
     }
     if bytes[0] != MARKER {
         return false;
@@ -105,6 +110,6 @@ pub(crate) fn read_item(item: &mut Item, bytes: &[u8]) -> bool
     if bytes.len() != MARKER_LEN {
         return false;
     }
-    *item = Item::Marker(StopMark::new(bytes[1], bytes[2]));
+    *item = Item::Marker(StopMark::of(channel, list));
     true
 }

@@ -1,5 +1,5 @@
 //! How long a record is, told from its first bytes.
-ghost use Rattle.std.specs.Prelude.{◌≡◌, ℕ, ◌+◌, ◌-◌, ◌*◌, ◌≤◌, drop, length};
+ghost use Rattle.std.specs.Prelude.{◌≡◌, ℕ, ◌+◌, ◌-◌, ◌≤◌, drop};
 ghost use Rattle.byte_ring.specs.Held.{least, least_body};
 
 use crate::record::{HEAD, MARKER_LEN, MAX_RECORD, SAMPLE};

@@ -4,8 +4,8 @@ ghost use Rattle.std.specs.Int.{to_le_bytes, w64};
 ghost use Rattle.channel_ring.specs.Ends.{sample_item};
 ghost use Rattle.byte_ring.specs.Records.{IsItem, record_of};
 
-use xcp_base::limits::{MAX_CHANNELS, MAX_LISTS, MIN_BYTE_RING};
-use xcp_base::{Item, Packets};
+use xcp_base::limits::MIN_BYTE_RING;
+use xcp_base::{ChannelId, Item, ListId, Packets};
 
 /// The longest record, in bytes: the smallest ring has room for it.
 pub(crate) const MAX_RECORD: usize = MIN_BYTE_RING;
@@ -34,9 +34,10 @@ pub(crate) fn record_len(item: &Item) -> usize
 }
 
 /// What stands in front of the packets in the record of a sample.
-fn head_of(channel: u8, list: u8, number: u64, count: u8) -> [u8; HEAD]
+fn head_of(channel: ChannelId, list: ListId, number: u64, count: u8) -> [u8; HEAD]
     ensures { result ≡ 1 ∷ channel ∷ list ∷ (to_le_bytes w64 number ++ count ∷ []) }
 {
+    let (channel, list) = (channel.byte(), list.byte());
     let [a, b, c, d, e, f, g, h] = number.to_le_bytes();
     [SAMPLE, channel, list, a, b, c, d, e, f, g, h, count]
 }
@@ -45,13 +46,11 @@ fn head_of(channel: u8, list: u8, number: u64, count: u8) -> [u8; HEAD]
 #[tactic(auto, unfolding(crate::specs::Records::record_of))]
 pub(crate) fn write_sample(
     out: &mut [u8; MAX_RECORD],
-    channel: u8,
-    list: u8,
+    channel: ChannelId,
+    list: ListId,
     number: u64,
     packets: &Packets,
 ) -> usize
-    requires channel_below { channel < MAX_CHANNELS }
-    requires list_below { list < MAX_LISTS }
     requires some { 0 < length packets.now }
     ensures bytes { take result out.new ≡ record_of (sample_item channel list number packets.now) }
     ensures item { IsItem (sample_item channel list number packets.now) }
@@ -73,7 +72,8 @@ pub(crate) fn write_record(out: &mut [u8; MAX_RECORD], item: &Item) -> usize
 {
     match item {
         Item::Sample(sample) => {
-            let (channel, list) = (sample.channel(), sample.list());
+            let channel = ChannelId::from_byte(sample.channel());
+            let list = ListId::from_byte(sample.list());
             write_sample(out, channel, list, sample.number(), sample.packets())
         }
         Item::Marker(marker) => {

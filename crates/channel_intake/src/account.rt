@@ -2,8 +2,8 @@
 use crate::intake::Intake;
 use channel_ring::TakeEnd;
 use daq_engine::ListReport;
-use list_set::ListId;
 use sampler::SamplerEnd;
+use xcp_base::ListId;
 
 impl<T: TakeEnd> Intake<T> {
     ghost use Rattle.std.specs.Prelude.{◌≡◌, ◌++◌, IfSome, IsNone, List, None, length};

@@ -8,8 +8,8 @@ use crate::list_intake::{FIRST, ListIntake, PLACES};
 use crate::step::Step;
 use channel_ring::TakeEnd;
 use frame_writer::{FrameWriter, Out, SinkOut};
-use list_set::ListId;
 use std::marker::Model;
+use xcp_base::ListId;
 
 /// The slave's end of an event channel's ring, in one measurement.
 ///
@@ -37,8 +37,7 @@ impl<T> Model for Intake<T> {
 }
 
 impl<T: TakeEnd> Intake<T> {
-    ghost use Rattle.std.specs.Prelude.{◌≡◌, ℕ, ◌+◌, ◌<◌, ◌≤◌, [], List, false, length};
-    ghost use Rattle.xcp_base.specs.declared.limits.TheConstants.{MAX_LISTS};
+    ghost use Rattle.std.specs.Prelude.{◌≡◌, ◌+◌, ◌<◌, ◌≤◌, [], List, false, length};
     ghost use Rattle.frame_writer.specs.Writing.{state_of};
     ghost use Rattle.frame_writer.specs.declared.layout.TheConstants.{MAX_SAMPLE_BYTES};
     ghost use Rattle.transmitter.specs.Items.{count_of};

@@ -18,6 +18,7 @@ use frame_writer::{FrameWriter, Out};
 use sampler::Sampler;
 use std::alloc::{AllocError, Global};
 use transmitter::Transmitter;
+use xcp_base::ChannelId;
 
 /// Opens an engine over a store: a sampler for each event channel, in rising order, and the
 /// transmitter of their rings.
@@ -126,10 +127,9 @@ fn any_runs(store: &Store) -> bool
 pub fn open_channel<R: Ring>(
     alloc: Global,
     store: &Store,
-    c: u8,
+    c: ChannelId,
     cap: usize,
 ) -> Result<(Sampler<R::Send>, R::Take), AllocError>
-    requires channel { c < MAX_CHANNELS }
     ensures opened { IfOk result (λ r. (opening : Opening)
         × IsOpenedAt R.Send.SendEnd R.Send.End.RingEnd R.Take.TakeEnd
         store.now c cap r.0 r.1 opening) }
@@ -141,7 +141,7 @@ pub fn open_channel<R: Ring>(
         return Err(AllocError);
     };
     let running = running_of(store, plans.as_slice());
-    let sampler = Sampler::new(c, plans, send, store.image_len(), running);
+    let sampler = Sampler::new(c.byte(), plans, send, store.image_len(), running);
     Ok((sampler, take))
 }
 
@@ -158,11 +158,12 @@ fn samplers_of<R: Ring>(
     ensures some { 1 ≤ store.now.profile.channels }
     ensures few { store.now.profile.channels ≤ MAX_CHANNELS }
 {
-    let channels = store.channels() as u8;
+    let channels = store.channels();
     let mut samplers = Vec::with_capacity(alloc, channels as usize)?;
     let mut ends = Vec::with_capacity(alloc, channels as usize)?;
     for c in 0..channels {
-        let (sampler, take) = open_channel::<R>(alloc, store, c, caps[c as usize])?;
+        let id = ChannelId::new(c);
+        let (sampler, take) = open_channel::<R>(alloc, store, id, caps[id.index()])?;
         samplers.push_reserved(sampler);
         ends.push_reserved(take);
     }

@@ -5,7 +5,7 @@ ghost use Rattle.channel_ring.specs.Ends.{no_ring};
 use channel_ring::SendEnd;
 use sampler::Sampler;
 use std::test::Fail;
-use xcp_base::{Item, Packets};
+use xcp_base::{ChannelId, Item, ListId, Packets};
 
 /// A send end without any room, of which nothing is left once it is finished.
 #[derive(Drop)]
@@ -28,7 +28,13 @@ impl SendEnd for NoEnd {
         Err(item)
     }
 
-    fn offer_sample(&mut self, _channel: u8, _list: u8, _number: u64, _packets: &Packets) -> bool {
+    fn offer_sample(
+        &mut self,
+        _channel: ChannelId,
+        _list: ListId,
+        _number: u64,
+        _packets: &Packets,
+    ) -> bool {
         false
     }
 

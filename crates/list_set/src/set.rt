@@ -5,10 +5,9 @@ ghost use Rattle.xcp_base.specs.declared.limits.TheConstants.{MAX_LISTS};
 ghost use Rattle.xcp_base.specs.Lists.{has_list};
 ghost use Rattle.list_set.specs.Counts.{how_many, one_if};
 
-use crate::id::ListId;
 use std::marker::Model;
 use xcp_base::limits::MAX_LISTS;
-use xcp_base::{has_list, with_list, with_list_if};
+use xcp_base::{ListId, has_list, with_list, with_list_if};
 
 /// A set of DAQ lists. A contract sees it as the number in which bit `l` stands for list `l`.
 #[derive(Clone, Copy, Debug)]

@@ -1,5 +1,5 @@
 -- What is kept at the opening, and the sets of lists.
-use Rattle.std.proofs.Common.{◌≡◌, ℕ, zero, suc, ◌+◌, ◌%◌, ◌<◌, ◌≤◌, Bool, true, false, ◌&&◌, ◌||◌, List, [], ◌∷◌, ◌++◌, length, get_or, set, take, map, refl, sym, ap, ◌∙◌, arith, nat_eq, cond}
+use Rattle.std.proofs.Common.{◌≡◌, ℕ, zero, suc, ◌+◌, ◌<◌, ◌≤◌, Bool, true, false, ◌&&◌, ◌||◌, List, [], ◌∷◌, ◌++◌, length, get_or, set, take, map, refl, sym, ap, ◌∙◌, arith, nat_eq, cond}
 use Rattle.std.specs.Prelude.{Option, Some, None, if◌then◌else◌}
 use Rattle.std.specs.Option.{option_and_then}
 use Rattle.std.specs.Prelude.{slice_get}
@@ -131,9 +131,8 @@ first-fit channel image_len running (plan ∷ plans) (t ∷ tracks) a is =
     let rest : take (length plans) tracks ≡ map (λ (plan : ListPlan). first_track running plan.list) plans = cc in
     (rw first (omega arith, refl), first-fit channel image_len running plans tracks a.1 rest)
 
-pub first-sampler : (channel image_len running : ℕ) (plans : List ListPlan) (tracks : List Track) (soonest : ℕ) → channel < 8 → ArePlansOf channel image_len plans → RiseFrom 0 plans → length tracks ≡ 16 → take (length plans) tracks ≡ map (λ (plan : ListPlan). first_track running plan.list) plans → NoneDueBefore soonest (take (length plans) tracks) → IsSampler channel image_len plans tracks 0 soonest 0
-first-sampler channel image_len running plans tracks soonest below a r places is none = record {
-  channel_below = below;
+pub first-sampler : (channel image_len running : ℕ) (plans : List ListPlan) (tracks : List Track) (soonest : ℕ) → ArePlansOf channel image_len plans → RiseFrom 0 plans → length tracks ≡ 16 → take (length plans) tracks ≡ map (λ (plan : ListPlan). first_track running plan.list) plans → NoneDueBefore soonest (take (length plans) tracks) → IsSampler channel image_len plans tracks 0 soonest 0
+first-sampler channel image_len running plans tracks soonest a r places is none = record {
   plans_of = a;
   rising = r;
   room = omega (arith, rise-length channel image_len 0 plans r a (omega arith));

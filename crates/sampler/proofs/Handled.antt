@@ -1,5 +1,5 @@
 -- A trigger that has handled one list more.
-use Rattle.std.proofs.Common.{◌≡◌, ℕ, zero, suc, ◌+◌, ◌<◌, ◌≤◌, Bool, true, false, not, ◌&&◌, ◌||◌, List, [], ◌∷◌, ◌++◌, length, get_or, set, take, drop, map, refl, sym, ap, ◌∙◌, arith, subst, nat_eq, append_assoc, length-append, length-take, mod-lt, ◌%◌, ◌^◌, inl, inr}
+use Rattle.std.proofs.Common.{◌≡◌, ℕ, zero, suc, ◌+◌, ◌<◌, ◌≤◌, Bool, true, false, not, ◌&&◌, ◌||◌, List, [], ◌∷◌, ◌++◌, length, get_or, set, take, drop, map, refl, sym, ap, ◌∙◌, arith, subst, nat_eq, append_assoc, length-append, length-take, ◌^◌, inl, inr}
 use Rattle.std.specs.Prelude.{if◌then◌else◌}
 use Rattle.std.specs.List.{list_any}
 use Rattle.std.proofs.Math.Seq.{take-suc, drop-cons}
@@ -226,7 +226,6 @@ rows-fit channel image_len n (r ∷ rows) (plan ∷ plans) (t ∷ before) rest o
 
 pub IsSampler-handled : {S E : Type 0} (send : SendGhosts S E) (ring : EndGhosts E) (m : MomentParts) (image_len : ℕ) (plans : List ListPlan) (first last : Stage S) (triggers soonest later : ℕ) → IsSampler m.channel image_len plans first.tracks triggers soonest first.next → HandlesLists send ring m plans first last → last.next ≤ first.next + length plans → length last.tracks ≡ length first.tracks → triggers < 2 ^ 59 → NoneDueBefore later (take (length plans) last.tracks) → IsSampler m.channel image_len plans last.tracks (triggers + 1) later last.next
 IsSampler-handled send ring m image_len plans first last triggers soonest later s t limit same below none = record {
-  channel_below = s.channel_below;
   plans_of = s.plans_of;
   rising = s.rising;
   room = s.room;

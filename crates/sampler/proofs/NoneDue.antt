@@ -1,5 +1,5 @@
 -- A trigger at which no list is due.
-use Rattle.std.proofs.Common.{◌≡◌, ℕ, zero, suc, ◌+◌, ◌^◌, ◌<◌, ◌≤◌, Bool, true, false, ◌||◌, List, [], ◌∷◌, ◌++◌, length, take, drop, map, refl, sym, ap, ◌∙◌, arith, nat_eq}
+use Rattle.std.proofs.Common.{◌≡◌, ℕ, ◌+◌, ◌^◌, ◌<◌, ◌≤◌, Bool, true, false, List, [], ◌∷◌, ◌++◌, length, take, drop, map, refl, sym, ap, ◌∙◌, arith, nat_eq}
 use Rattle.std.proofs.lemmas.Nat.Bits.{bit_at-zero}
 use Rattle.channel_ring.specs.declared.ends.SendEnd.{Ghosts as SendGhosts}
 use Rattle.channel_ring.specs.declared.ends.RingEnd.{Ghosts as EndGhosts}
@@ -102,7 +102,6 @@ handles-none_due send ring m plans end tracks number soonest fits before none = 
 -- and the sampler keeps to its limits
 pub IsSampler-none_due : (channel image_len : ℕ) (plans : List ListPlan) (tracks : List Track) (triggers soonest accepted : ℕ) → IsSampler channel image_len plans tracks triggers soonest accepted → triggers < 2 ^ 59 → IsSampler channel image_len plans tracks (triggers + 1) soonest accepted
 IsSampler-none_due channel image_len plans tracks triggers soonest accepted s below = record {
-  channel_below = s.channel_below;
   plans_of = s.plans_of;
   rising = s.rising;
   room = s.room;

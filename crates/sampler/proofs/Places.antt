@@ -1,5 +1,5 @@
 -- The place of a list among plans whose numbers rise.
-use Rattle.std.proofs.Common.{◌≡◌, ℕ, zero, suc, ◌+◌, ◌<◌, ◌≤◌, true, false, List, [], ◌∷◌, length, get_or, set, take, map, refl, sym, ap, ◌∙◌, arith, nat_eq, length-take}
+use Rattle.std.proofs.Common.{◌≡◌, ℕ, zero, suc, ◌+◌, ◌<◌, ◌≤◌, true, false, List, [], ◌∷◌, length, get_or, set, take, map, refl, ap, ◌∙◌, arith, nat_eq, length-take}
 use Rattle.std.specs.Prelude.{Some, slice_get}
 use Rattle.std.specs.Option.{option_and_then}
 use Rattle.std.proofs.lemmas.List.{get_or-take}
@@ -95,7 +95,6 @@ TracksFit-set triggers (plan ∷ plans) (x ∷ tracks) (suc i) t f c = (f.0, Tra
 
 pub IsSampler-set : (channel image_len : ℕ) (plans : List ListPlan) (tracks : List Track) (triggers soonest accepted i : ℕ) (t : Track) (sooner : ℕ) → IsSampler channel image_len plans tracks triggers soonest accepted → t.counts ≡ (get_or tracks i no_track).counts → NoneDueBefore sooner (take (length plans) (set tracks i t)) → IsSampler channel image_len plans (set tracks i t) triggers sooner accepted
 IsSampler-set channel image_len plans tracks triggers soonest accepted i t sooner s c none = record {
-  channel_below = s.channel_below;
   plans_of = s.plans_of;
   rising = s.rising;
   room = s.room;

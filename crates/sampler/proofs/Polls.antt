@@ -2,7 +2,6 @@
 use Rattle.std.proofs.Common.{◌≡◌, List, [], ◌∷◌, ◌++◌, flat_map, append_assoc, append-nil, sym, ap, ◌∙◌}
 use Rattle.std.proofs.lemmas.List.Concat.{flat_map-cons}
 use Rattle.control_ring.specs.Orders.{TakeState}
-use Rattle.control_ring.specs.declared.order.Order.{Order}
 use Rattle.sampler.specs.declared.polled.Polled.{Polled}
 use Rattle.sampler.specs.Control.{ArePolled, OrdersAreAnsweredInOrder, answered}
 

@@ -1,5 +1,5 @@
 -- The rows of a trigger, and what the history and the decisions say of it.
-use Rattle.std.proofs.Common.{◌≡◌, ℕ, suc, ◌+◌, ◌*◌, ◌/◌, ◌%◌, ◌<◌, ◌≤◌, Bool, true, false, cond, not, ◌&&◌, List, [], ◌∷◌, ◌++◌, length, map, refl, sym, ap, ◌∙◌, arith, subst, nat_eq, length-append}
+use Rattle.std.proofs.Common.{◌≡◌, ℕ, suc, ◌+◌, ◌%◌, ◌<◌, ◌≤◌, Bool, true, false, cond, not, ◌&&◌, List, [], ◌∷◌, ◌++◌, length, map, refl, sym, ap, ◌∙◌, arith, subst, nat_eq, length-append}
 use Rattle.std.specs.Prelude.{filter, zip, Option, Some, None, count_by, if◌then◌else◌}
 use Rattle.std.specs.List.{last_or}
 use Rattle.std.proofs.lemmas.Bool.{ne_eqb}

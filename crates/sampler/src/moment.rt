@@ -1,18 +1,17 @@
 use std::marker::Model;
+use xcp_base::ChannelId;
 
 /// What the samples of one trigger have in common: the event channel, the number of triggers that
 /// it accepted before, the memory image, and the timestamp in ticks.
 #[derive(Drop)]
 pub struct Moment<'a> {
-    pub channel: u8,
+    pub channel: ChannelId,
     pub trigger: u64,
     pub image: &'a [u8],
     pub stamp: u32,
 }
 
 impl<'a> Model for Moment<'a> {
-    ghost use Rattle.std.specs.Prelude.{◌<◌};
-    ghost use Rattle.xcp_base.specs.declared.limits.TheConstants.{MAX_CHANNELS};
     ghost use Rattle.sampler.specs.Inner.Moments.{MomentParts};
 
     ghost Value = { MomentParts };
@@ -23,6 +22,4 @@ impl<'a> Model for Moment<'a> {
       image = m.image.now;
       stamp = m.stamp;
     } };
-
-    ghost invariant = { λ m. m.channel < MAX_CHANNELS };
 }

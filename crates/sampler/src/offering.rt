@@ -4,7 +4,7 @@ ghost use Rattle.sampler.specs.Inner.AtTrigger.{item_of};
 use crate::moment::Moment;
 use channel_ring::SendEnd;
 use copy_plan::CopyPlan;
-use xcp_base::Packets;
+use xcp_base::{ListId, Packets};
 
 /// Offers the sample of a list, and returns whether it was accepted. Its packets are made in a
 /// value that is kept from sample to sample.
@@ -31,7 +31,7 @@ pub fn offer_sample<S: SendEnd>(
     ensures capacity_stays { S.capacity end.new ≡ S.capacity end.old }
     ensures ring_stays { S.ring end.new ≡ S.ring end.old }
 {
-    let list = plan.list();
+    let list = ListId::from_byte(plan.list());
     plan.fill_into(packets, moment.image, moment.stamp, marked);
     end.offer_sample(moment.channel, list, number, packets)
 }

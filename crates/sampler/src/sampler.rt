@@ -1,6 +1,5 @@
-ghost use Rattle.std.specs.Prelude.{◌≡◌, ℕ, ◌<◌, ◌≤◌, ◌+◌, ◌↔◌, ◌≢◌, ◌&&◌, true, [], ◌++◌};
-ghost use Rattle.std.specs.Prelude.{None, IfOk, IfSome, OnErr, OnOk};
-ghost use Rattle.std.specs.Prelude.{length, map, nat_eq, option_map};
+ghost use Rattle.std.specs.Prelude.{◌≡◌, ℕ, ◌<◌, ◌≤◌, ◌+◌, ◌↔◌, ◌≢◌, ◌&&◌, true, [], ◌++◌, None};
+ghost use Rattle.std.specs.Prelude.{IfOk, IfSome, OnErr, OnOk, length, map, nat_eq, option_map};
 ghost use Rattle.std.specs.List.{list_any};
 ghost use Rattle.std.specs.Result.{result_err};
 ghost use Rattle.xcp_base.specs.declared.limits.TheConstants.{MAX_CHANNELS};
@@ -30,7 +29,7 @@ use channel_ring::{Beside, SendEnd};
 use copy_plan::CopyPlan;
 use std::marker::Model;
 use xcp_base::limits::MAX_TRIGGERS;
-use xcp_base::{Item, Packets, StopMark};
+use xcp_base::{ChannelId, Item, Packets, StopMark};
 
 /// The sampler of one event channel: it takes the triggers, decides which DAQ lists are due, and
 /// sends their samples.
@@ -40,7 +39,7 @@ use xcp_base::{Item, Packets, StopMark};
 /// each list that was due, in order, true if its sample was accepted.
 #[derive(Drop)]
 pub struct Sampler<S: SendEnd> {
-    channel: u8,
+    channel: ChannelId,
     image_len: usize,
     lists: Lists,
     end: S,
@@ -53,7 +52,7 @@ pub struct Sampler<S: SendEnd> {
 }
 
 impl<S: SendEnd> Model for Sampler<S> {
-    ghost use Rattle.std.specs.Prelude.{◌≡◌, ◌<◌, ◌≤◌, ◌+◌, ◌^◌, ◌*◌, length, take};
+    ghost use Rattle.std.specs.Prelude.{◌<◌, length, take};
     ghost use Rattle.sampler.specs.State.{SamplerState};
     ghost use Rattle.sampler.specs.Inner.Fits.{IsSampler};
 
@@ -100,7 +99,7 @@ impl<S: SendEnd> Sampler<S> {
         let lists = Lists::new(plans, running);
         let soonest = lists.soonest();
         Sampler {
-            channel,
+            channel: ChannelId::from_byte(channel),
             image_len,
             lists,
             end,
@@ -218,7 +217,7 @@ impl<S: SendEnd> Sampler<S> {
         if !self.lists.tracks[place].running {
             return Err(StopFault::NotRunning);
         }
-        let marker = Item::Marker(StopMark::new(self.channel, l));
+        let marker = Item::Marker(StopMark::new(self.channel.byte(), l));
         let Ok(()) = self.end.offer(marker) else {
             return Err(StopFault::NoRoom);
         };
@@ -241,7 +240,7 @@ impl<S: SendEnd> Sampler<S> {
     pub fn channel(&self) -> u8
         ensures { result ≡ self.now.channel }
     {
-        self.channel
+        self.channel.byte()
     }
 
     /// The set of the channel's DAQ lists.

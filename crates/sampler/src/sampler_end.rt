@@ -11,12 +11,13 @@ use crate::counts::ListCounts;
 use crate::lists::Lists;
 use channel_ring::{RingEnd, TakeEnd};
 use std::marker::Model;
+use xcp_base::ChannelId;
 
 /// What is left of a sampler that was finished: its event channel, its DAQ lists and their counts,
 /// and the end of its ring.
 #[derive(Drop)]
 pub struct SamplerEnd<E> {
-    pub(crate) channel: u8,
+    pub(crate) channel: ChannelId,
     pub(crate) lists: Lists,
     pub(crate) end: E,
     pub(crate) capacity: usize,
@@ -24,7 +25,7 @@ pub struct SamplerEnd<E> {
 
 impl<E> Model for SamplerEnd<E> {
     ghost use Rattle.std.specs.Prelude.{◌≡◌, ◌<◌, ◌≤◌, length, take, map};
-    ghost use Rattle.xcp_base.specs.declared.limits.TheConstants.{MAX_CHANNELS, MAX_LISTS};
+    ghost use Rattle.xcp_base.specs.declared.limits.TheConstants.{MAX_LISTS};
     ghost use Rattle.sampler.specs.declared.track.Track.{Track};
     ghost use Rattle.sampler.specs.State.{SamplerEndState};
 
@@ -40,8 +41,7 @@ impl<E> Model for SamplerEnd<E> {
     } };
 
     ghost invariant = { λ s.
-        (s.channel < MAX_CHANNELS)
-        × (length s.lists.plans.items ≤ MAX_LISTS)
+        (length s.lists.plans.items ≤ MAX_LISTS)
         × (length s.lists.tracks ≡ MAX_LISTS) };
 }
 
@@ -51,7 +51,7 @@ impl<E> SamplerEnd<E> {
         ensures value { result ≡ self.now.channel }
         ensures below { result < MAX_CHANNELS }
     {
-        self.channel
+        self.channel.byte()
     }
 
     /// The set of the channel's DAQ lists.

@@ -1,4 +1,3 @@
-ghost use Rattle.std.specs.Prelude.{◌≡◌};
 ghost use Rattle.sampler.specs.Inner.AtTrigger.{Adds, row_of};
 ghost use Rattle.sampler.specs.declared.track.Track.{Track};
 

@@ -1,4 +1,4 @@
-ghost use Rattle.std.specs.Prelude.{◌≡◌, ◌+◌, ◌<◌, ◌≤◌, true, false};
+ghost use Rattle.std.specs.Prelude.{◌≡◌, ◌+◌, ◌≤◌, true, false};
 ghost use Rattle.xcp_base.specs.declared.limits.TheConstants.{MAX_TRIGGERS};
 ghost use Rattle.sampler.specs.Inner.AtTrigger.{due_now, triggered};
 

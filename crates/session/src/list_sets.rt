@@ -7,8 +7,9 @@ ghost use Rattle.session.specs.Starts.{is_on_after, shows_on};
 
 use daq_store::Store;
 use daq_store::command::Command;
-use list_set::{ListId, ListSet};
+use list_set::ListSet;
 use xcp_base::limits::MAX_LISTS;
+use xcp_base::{ChannelId, ListId};
 
 /// The lists that run.
 pub fn running_of(store: &Store) -> ListSet
@@ -46,7 +47,7 @@ fn waits(store: &Store, list: u16) -> bool
 }
 
 /// The lists that are there, ready, and whose mode names this event channel.
-pub fn ready_on(store: &Store, channel: u8) -> ListSet
+pub fn ready_on(store: &Store, channel: ChannelId) -> ListSet
     ensures shown { (l : ℕ) → l < MAX_LISTS → has_list result l ≡ shows_on store.now channel l }
     ensures after { (calls : List Command) → StoreStandsAfter store.now calls
         → (l : ℕ) → l < MAX_LISTS
@@ -60,7 +61,7 @@ pub fn ready_on(store: &Store, channel: u8) -> ListSet
 }
 
 /// Whether a list is there, ready, and its mode names this event channel.
-fn is_on(store: &Store, channel: u8, list: u16) -> bool
+fn is_on(store: &Store, channel: ChannelId, list: u16) -> bool
     ensures shown { result ≡ shows_on store.now channel list }
     ensures after { (calls : List Command) → StoreStandsAfter store.now calls
         → result ≡ is_on_after store.now.profile calls channel list }
@@ -68,5 +69,5 @@ fn is_on(store: &Store, channel: u8, list: u16) -> bool
     let Some(conf) = store.plan(list) else {
         return false;
     };
-    conf.channel() == channel
+    conf.channel() == channel.byte()
 }

@@ -1,5 +1,5 @@
 //! The replies to requests that change nothing.
-ghost use Rattle.std.specs.Prelude.{◌≡◌, ◌≤◌, map, length, max};
+ghost use Rattle.std.specs.Prelude.{◌≡◌, map, length, max};
 ghost use Rattle.session.specs.Replies.{most_of};
 ghost use Rattle.session.specs.Standing.{Looks};
 

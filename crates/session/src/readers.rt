@@ -10,6 +10,7 @@ use crate::list_sets;
 use crate::session::Session;
 use daq_store::Store;
 use list_set::ListSet;
+use xcp_base::ChannelId;
 use xcp_base::limits::MAX_LISTS;
 
 impl Session {
@@ -30,7 +31,7 @@ impl Session {
     }
 
     /// The set of the DAQ lists that are there, ready, and whose mode names this event channel.
-    pub fn lists_on(&self, channel: u8) -> ListSet
+    pub fn lists_on(&self, channel: ChannelId) -> ListSet
         ensures value { (past : Past) → SessionStandsAfter self.now past
             → (l : ℕ) → l < MAX_LISTS
             → has_list result l ≡ is_on self.now.profile past channel l }

@@ -1,4 +1,4 @@
-ghost use Rattle.std.specs.Prelude.{◌≡◌, ◌≤◌, [], IfErr, IfOk, IfSome, OnErr, OnOk, Some};
+ghost use Rattle.std.specs.Prelude.{◌≡◌, [], IfErr, IfOk, IfSome, OnErr, OnOk, Some};
 ghost use Rattle.session.specs.Fields.{IsReplyPacket};
 ghost use Rattle.session.specs.Past.{new_past};
 ghost use Rattle.session.specs.Profiles.{profile_fault};

@@ -1,5 +1,5 @@
 //! Which DAQ lists a packet starts.
-ghost use Rattle.std.specs.Prelude.{◌≡◌, ℕ, ◌<◌, ◌&&◌, ◌==◌, not, List};
+ghost use Rattle.std.specs.Prelude.{◌≡◌, ℕ, ◌<◌, ◌&&◌, not, List};
 ghost use Rattle.xcp_base.specs.Lists.{has_list};
 ghost use Rattle.daq_store.specs.Answer.{selects_unready};
 ghost use Rattle.daq_store.specs.Running.{any_list, is_active};
@@ -14,7 +14,8 @@ use crate::request::{self, Request};
 use crate::session::Session;
 use daq_store::Store;
 use daq_store::command::Command;
-use list_set::{ListId, ListSet};
+use list_set::ListSet;
+use xcp_base::ListId;
 use xcp_base::limits::MAX_LISTS;
 
 impl Session {

@@ -5,9 +5,9 @@ ghost use Rattle.session_account.specs.Inner.{AddsBelow, ChangesBy, moved, plus}
 
 use crate::totals::{NONE, PLACES, Totals};
 use daq_engine::{ListReport, Ring};
-use list_set::ListId;
 use slave_channel::Finished;
 use std::marker::Model;
+use xcp_base::ListId;
 use xcp_base::limits::MAX_LISTS;
 
 /// The account of many measurements: of each DAQ list number the sums, over all parts of
@@ -102,8 +102,7 @@ fn add_lines<R: Ring>(lists: &mut [Totals; PLACES], finished: &Finished<R>)
 }
 
 impl Account {
-    ghost use Rattle.std.specs.Prelude.{◌≡◌, ℕ, [], ◌∷◌, List};
-    ghost use Rattle.xcp_base.specs.declared.limits.TheConstants.{MAX_LISTS};
+    ghost use Rattle.std.specs.Prelude.{ℕ, [], ◌∷◌, List};
     ghost use Rattle.channel_intake.specs.Intakes.{StandsAfter};
     ghost use Rattle.slave_channel.specs.Channels.{IsPastOf};
     ghost use Rattle.session_account.specs.Accounts.{AccountStandsAfter, Entry, IsTotalLine};

@@ -7,9 +7,9 @@ ghost use Rattle.slave.specs.Closing.{Closes};
 use crate::slave::Slave;
 use daq_engine::Ring;
 use frame_outbox::Outbox;
-use list_set::ListId;
 use session_account::Account;
 use tasks::TaskEnd;
+use xcp_base::ListId;
 use xcp_base::limits::MAX_LISTS;
 
 /// What a slave leaves.

@@ -4,10 +4,11 @@ ghost use Rattle.xcp_base.specs.Lists.{has_list};
 ghost use Rattle.slave.specs.Plans.{IsSame, plan_of};
 
 use daq_store::Store;
-use list_set::{ListId, ListSet};
+use list_set::ListSet;
 use session::SetUp;
 use std::alloc::{AllocError, Global};
 use std::marker::Model;
+use xcp_base::ListId;
 use xcp_base::limits::MAX_LISTS;
 
 /// How the DAQ lists were set up where a measurement was opened.

@@ -1,10 +1,8 @@
 //! Lists are started, in a measurement that is opened where none is there.
-ghost use Rattle.std.specs.Prelude.{◌≡◌, ℕ, ◌<◌, IfErr, OnErr, OnOk, length, true, false};
-ghost use Rattle.xcp_base.specs.Lists.{has_list};
-ghost use Rattle.xcp_base.specs.declared.limits.TheConstants.{MAX_CHANNELS, MAX_LISTS};
+ghost use Rattle.std.specs.Prelude.{◌≡◌, ◌<◌, IfErr, OnErr, OnOk, length, true, false};
+ghost use Rattle.xcp_base.specs.declared.limits.TheConstants.{MAX_CHANNELS};
 ghost use Rattle.slave.specs.Inner.{AreSets, Busy, HasSome, Idle, IsBusy, IsPlaceRefusal};
-ghost use Rattle.slave.specs.Inner.{LooksAtAll};
-ghost use Rattle.slave.specs.Inner.{OpensAll, OpensInVain, OpensNone, Prepares};
+ghost use Rattle.slave.specs.Inner.{LooksAtAll, OpensAll, OpensInVain, OpensNone, Prepares};
 ghost use Rattle.slave.specs.Inner.{StartsInVain, StartsLists};
 ghost use Rattle.slave.specs.Plans.{plan_of};
 
@@ -14,8 +12,8 @@ use daq_engine::Ring;
 use list_set::ListSet;
 use std::alloc::Global;
 use tasks::HandFault;
-use xcp_base::ErrCode;
 use xcp_base::limits::MAX_CHANNELS;
+use xcp_base::{ChannelId, ErrCode};
 
 /// What a start is refused with where a measurement can't be opened.
 fn code_of(fault: HandFault) -> ErrCode
@@ -143,7 +141,7 @@ impl<R: Ring> Slave<R> {
     {
         let mut sets = [ListSet::none(); MAX_CHANNELS as usize];
         for c in 0..MAX_CHANNELS as usize {
-            sets[c] = lists.intersection(self.session.lists_on(c as u8));
+            sets[c] = lists.intersection(self.session.lists_on(ChannelId::at(c)));
         }
         sets
     }

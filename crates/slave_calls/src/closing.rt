@@ -1,6 +1,6 @@
 //! The slave of a handle is closed, and its account told.
 
-ghost use Rattle.std.specs.Prelude.{◌≡◌, ◌≤◌, IfErr, OnOk, Some, length};
+ghost use Rattle.std.specs.Prelude.{◌≤◌, IfErr, OnOk, Some, length};
 ghost use Rattle.xcp_base.specs.declared.limits.TheConstants.{MAX_LISTS as MOST_LISTS};
 ghost use Rattle.slave_calls.specs.Ends.{ClosesSlaveOf, HasLines, MayClose, MayCloseHeld};
 ghost use Rattle.slave_calls.specs.Ends.{StaysHeld, StaysOpen, TellsAccount};
@@ -9,11 +9,11 @@ use byte_ring::ByteRing;
 use channel_ring::{SampleRing, TakeEnd};
 use daq_engine::{ListReport, Ring};
 use handle_calls::{Content, Handle, HeldRing, Status};
-use list_set::ListId;
 use session_account::Account;
 use slave::Closed;
 use std::alloc::Global;
 use task_lending::LendingSlave;
+use xcp_base::ListId;
 use xcp_base::limits::MAX_LISTS;
 
 /// Tells the lines of an account, each at the place of its list.

@@ -5,12 +5,13 @@ use channel_ring::{SendEnd, TakeEnd};
 use daq_engine::{Ring, open_channel};
 use daq_store::Store;
 use frame_outbox::Outbox;
-use list_set::{ListId, ListSet};
+use list_set::ListSet;
 use sampler::SamplerEnd;
 use std::alloc::{AllocError, Global};
 use std::marker::Model;
 use tasks::{HandFault, Task, TaskLink};
 use xcp_base::limits::MAX_LISTS;
+use xcp_base::{ChannelId, ListId};
 
 /// The slave's side of one event channel.
 ///
@@ -37,7 +38,7 @@ impl<R: Ring> Model for Channel<R> {
 
 ghost use Rattle.std.specs.Prelude.{◌≡◌, ℕ, ◌<◌, Bool, [], None, Some, true, false};
 ghost use Rattle.std.specs.Prelude.{IfOk, IfSome, IsNone, IsSome, OnErr, OnOk};
-ghost use Rattle.xcp_base.specs.declared.limits.TheConstants.{MAX_CHANNELS, MAX_LISTS};
+ghost use Rattle.xcp_base.specs.declared.limits.TheConstants.{MAX_LISTS};
 ghost use Rattle.xcp_base.specs.Lists.{has_list};
 ghost use Rattle.channel_intake.specs.Deeds.{Started, Stopped};
 ghost use Rattle.slave_channel.specs.Channels.{NewestGoesOn, part_before};
@@ -127,11 +128,10 @@ impl<R: Ring> Channel<R> {
         &mut self,
         alloc: Global,
         store: &Store,
-        c: u8,
+        c: ChannelId,
         cap: usize,
         number: u64,
     ) -> Result<(), HandFault>
-        requires channel { c < MAX_CHANNELS }
         ensures ok { OnOk result (Opens R.Send.SendEnd R.Send.End.RingEnd R.Take.TakeEnd
             self.old self.new store.now c cap number) }
         ensures err { OnErr result (self.new ≡ self.old) }

@@ -1,9 +1,9 @@
 use channel_intake::Intake;
 use channel_ring::{SendEnd, TakeEnd};
 use daq_engine::{ListReport, Ring};
-use list_set::ListId;
 use sampler::SamplerEnd;
 use std::marker::Model;
+use xcp_base::ListId;
 
 /// An event channel's part of a measurement that has ended, with what is left of its sampler: what
 /// became of the samples of each of its DAQ lists.

@@ -1,5 +1,5 @@
 //! Orders of one command about many DAQ lists.
-ghost use Rattle.std.specs.Prelude.{◌≡◌, ◌≢◌, ℕ, ◌+◌, ◌<◌, ◌≤◌, ◌&&◌, Bool, true, false};
+ghost use Rattle.std.specs.Prelude.{◌≡◌, ◌≢◌, ℕ, ◌+◌, ◌<◌, ◌&&◌, true, false};
 ghost use Rattle.xcp_base.specs.declared.limits.TheConstants.{MAX_LISTS};
 ghost use Rattle.xcp_base.specs.Lists.{has_list};
 ghost use Rattle.channel_intake.specs.Deeds.{Started, Stopped};
@@ -10,7 +10,8 @@ ghost use Rattle.slave_channel.specs.Ordering.{starts_noted, starts_sent, stops_
 
 use crate::channel::Channel;
 use daq_engine::Ring;
-use list_set::{ListId, ListSet};
+use list_set::ListSet;
+use xcp_base::ListId;
 use xcp_base::limits::MAX_LISTS;
 
 impl<R: Ring> Channel<R> {

@@ -1,5 +1,4 @@
 //! A measurement is stopped or ended at all event channels.
-ghost use Rattle.std.specs.Prelude.{◌≡◌};
 ghost use Rattle.slave_channels.specs.Calls.{Ends, StopsAll};
 ghost use Rattle.slave_channels.specs.Each.{IsEach};
 

@@ -1,6 +1,5 @@
 //! A measurement is opened at all event channels that have lists of it, or at none.
 ghost use Rattle.std.specs.Prelude.{◌≡◌, ◌≢◌, ◌<◌, ◌≤◌, OnErr, OnOk, length};
-ghost use Rattle.xcp_base.specs.declared.limits.TheConstants.{MAX_CHANNELS};
 ghost use Rattle.slave_channels.specs.Calls.{Ends, OpenedAndEnded, OpensAt, OpensIfAny};
 ghost use Rattle.slave_channels.specs.Each.{IsEach, IsOnlyAt};
 ghost use Rattle.slave_channels.specs.Inner.{EndsAt, IsFront};
@@ -13,18 +12,18 @@ use list_set::ListSet;
 use slave_channel::Channel;
 use std::alloc::Global;
 use tasks::HandFault;
+use xcp_base::ChannelId;
 
 /// Opens an event channel's part of a measurement, if it has lists of it.
 fn open_one<R: Ring>(
     channel: &mut Channel<R>,
     alloc: Global,
     store: &Store,
-    c: u8,
+    c: ChannelId,
     cap: usize,
     set: ListSet,
     number: u64,
 ) -> Result<(), HandFault>
-    requires channel { c < MAX_CHANNELS }
     ensures ok { OnOk result (OpensIfAny R.Send.SendEnd R.Send.End.RingEnd R.Take.TakeEnd
         store.now number c cap set channel.old channel.new) }
     ensures err { OnErr result (channel.new ≡ channel.old) }
@@ -93,7 +92,8 @@ impl<R: Ring> Channels<R> {
             store.now number c cap set) c self.old self.new) }
         ensures err { OnErr result (self.new ≡ self.old) }
     {
-        open_one(&mut self.all[c], alloc, store, c as u8, cap, set, number)
+        let channel = &mut self.all[c];
+        open_one(channel, alloc, store, ChannelId::at(c), cap, set, number)
     }
 
     /// Ends the measurement at those of the first `n` event channels that have lists of it.

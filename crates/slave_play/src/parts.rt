@@ -3,9 +3,9 @@ ghost use Rattle.std.specs.Prelude.{OnOk};
 ghost use Rattle.slave_channel.specs.Channels.{IsFinished};
 
 use daq_engine::{ListReport, Ring};
-use list_set::ListId;
 use slave_channel::Finished;
 use std::alloc::{AllocError, Global};
+use xcp_base::ListId;
 use xcp_base::limits::MAX_LISTS;
 
 /// What became of the samples of a DAQ list in one measurement.

@@ -1,6 +1,6 @@
 //! What a transport does with a slave: it sends what waits, or refuses it; and what came back of
 //! measurements is collected.
-ghost use Rattle.std.specs.Prelude.{◌≡◌, [], ℕ, List, OnOk};
+ghost use Rattle.std.specs.Prelude.{[], ℕ, List, OnOk};
 ghost use Rattle.slave_play.specs.Playing.{Advances, sending};
 
 use crate::parts::Parts;

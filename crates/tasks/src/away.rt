@@ -3,9 +3,10 @@ use crate::needs::places_for;
 use crate::order::Order;
 use crate::orders::OrderSend;
 use channel_ring::SendEnd;
-use list_set::{ListId, ListSet};
+use list_set::ListSet;
 use sampler::SamplerEnd;
 use std::marker::Model;
+use xcp_base::ListId;
 
 /// What the slave keeps of a sampler that is out: its end of the orders, the set of the DAQ lists
 /// that run by those that were sent, and its end of the way back.

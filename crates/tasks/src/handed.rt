@@ -34,8 +34,7 @@ impl<S: SendEnd> Model for Handed<S> {
 
 ghost use Rattle.std.specs.Prelude.{◌≡◌, ◌≢◌, [], ◌∷◌, ◌<◌, true, false};
 ghost use mathlib.Core.List.{IsPrefix};
-ghost use Rattle.tasks.specs.declared.order.Order.TheVariants.{Start as ToStart};
-ghost use Rattle.tasks.specs.declared.order.Order.TheVariants.{Stop as ToStop};
+ghost use Rattle.tasks.specs.declared.order.Order.TheVariants.{Start as ToStart, Stop as ToStop};
 ghost use Rattle.rtrb.specs.Ring.{IsPair, known_free, received, sent};
 ghost use Rattle.tasks.specs.Tasks.{ObeysNext, TriggersSampler};
 

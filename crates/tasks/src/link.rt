@@ -6,11 +6,12 @@ use crate::place::{Place, new_place};
 use crate::returns::Returns;
 use crate::task::Task;
 use channel_ring::SendEnd;
-use list_set::{ListId, ListSet};
+use list_set::ListSet;
 use rtrb::RingBuffer;
 use sampler::{Sampler, SamplerEnd};
 use std::alloc::{AllocError, Global};
 use std::marker::Model;
+use xcp_base::ListId;
 
 /// The slave's side of a task.
 ///

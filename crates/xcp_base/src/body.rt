@@ -1,7 +1,6 @@
 ghost use Rattle.std.specs.Prelude.{◌≡◌, ◌+◌, ◌<◌, ◌≤◌, [], ◌∷◌, ◌++◌, All, length};
 ghost use Rattle.std.specs.Prelude.{slice_range, take};
-ghost use Rattle.xcp_base.specs.Copied.{AreStretches, HasSize, IsSpanInside, copied};
-ghost use Rattle.xcp_base.specs.Copied.{copied_packet};
+ghost use Rattle.xcp_base.specs.Copied.{AreStretches, HasSize, IsSpanInside, copied, copied_packet};
 
 use crate::limits::{MAX_BODY, MAX_DTO};
 use crate::span::Span;

@@ -1,12 +1,14 @@
 //! What every layer speaks of: the limits of the profile, its error codes, the form of packets,
-//! packets, samples, items, and sets of DAQ lists.
+//! packets, samples, items, the numbers of DAQ lists and event channels, and sets of DAQ lists.
 #![tactic(auto)]
 
 mod body;
+mod channel_id;
 mod err_code;
 mod id_kind;
 mod item;
 pub mod limits;
+mod list_id;
 mod list_set;
 mod packet_form;
 mod packet_iter;
@@ -18,9 +20,11 @@ mod stamp_size;
 mod stop_mark;
 mod stretch;
 
+pub use channel_id::ChannelId;
 pub use err_code::ErrCode;
 pub use id_kind::IdKind;
 pub use item::Item;
+pub use list_id::ListId;
 pub use list_set::{has_list, with_list, with_list_if};
 pub use packet_form::PacketForm;
 pub use packet_iter::PacketIter;

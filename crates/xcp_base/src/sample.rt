@@ -2,15 +2,17 @@ ghost use Rattle.std.specs.Prelude.{◌≡◌, ℕ, ◌<◌, List, true, false, 
 ghost use Rattle.xcp_base.specs.Bodies.{IsBodyOf};
 ghost use Rattle.xcp_base.specs.Samples.{HasParts};
 
+use crate::channel_id::ChannelId;
 use crate::limits::{MAX_CHANNELS, MAX_LISTS};
+use crate::list_id::ListId;
 use crate::packets::Packets;
 use std::marker::Model;
 
 /// The packets of one DAQ list, made at one trigger of its event channel.
 #[derive(Debug, Drop)]
 pub struct Sample {
-    channel: u8,
-    list: u8,
+    channel: ChannelId,
+    list: ListId,
     number: u64,
     packets: Packets,
 }
@@ -48,6 +50,20 @@ impl Sample {
           packets = packets;
         } }
     {
+        let channel = ChannelId::from_byte(channel);
+        Sample::of(channel, ListId::from_byte(list), number, packets)
+    }
+
+    /// A sample, as `new` makes it.
+    pub fn of(channel: ChannelId, list: ListId, number: u64, packets: Packets) -> Sample
+        requires some { 0 < length packets }
+        ensures { result ≡ record {
+          channel = channel;
+          list = list;
+          number = number;
+          packets = packets;
+        } }
+    {
         Sample {
             channel,
             list,
@@ -58,9 +74,14 @@ impl Sample {
 
     /// Puts another sample in its place, whose packets are read off their body. Bytes that are no
     /// body of so many packets, and a body of none, are refused, and nothing changes then.
-    pub fn read(&mut self, channel: u8, list: u8, number: u64, count: u8, body: &[u8]) -> bool
-        requires channel_below { channel < MAX_CHANNELS }
-        requires list_below { list < MAX_LISTS }
+    pub fn read(
+        &mut self,
+        channel: ChannelId,
+        list: ListId,
+        number: u64,
+        count: u8,
+        body: &[u8],
+    ) -> bool
         ensures yes { result ≡ true → HasParts channel list number self.new }
         ensures body { result ≡ true → IsBodyOf count body.now self.new.packets }
         ensures no { result ≡ false
@@ -84,7 +105,7 @@ impl Sample {
         ensures value { result ≡ self.now.channel }
         ensures below { result < MAX_CHANNELS }
     {
-        self.channel
+        self.channel.byte()
     }
 
     /// The number of the DAQ list.
@@ -92,7 +113,7 @@ impl Sample {
         ensures value { result ≡ self.now.list }
         ensures below { result < MAX_LISTS }
     {
-        self.list
+        self.list.byte()
     }
 
     /// The number of samples that the event channel accepted before this one.

@@ -1,14 +1,16 @@
 ghost use Rattle.std.specs.Prelude.{◌≡◌, ◌<◌};
 
+use crate::channel_id::ChannelId;
 use crate::limits::{MAX_CHANNELS, MAX_LISTS};
+use crate::list_id::ListId;
 use std::marker::Model;
 
 /// Marks the place in an event channel's ring at which a DAQ list was stopped. It writes no
 /// bytes.
 #[derive(Debug, Drop)]
 pub struct StopMark {
-    channel: u8,
-    list: u8,
+    channel: ChannelId,
+    list: ListId,
 }
 
 impl Model for StopMark {
@@ -28,6 +30,13 @@ impl StopMark {
         requires list_below { list < MAX_LISTS }
         ensures { result ≡ record { channel = channel; list = list } }
     {
+        StopMark::of(ChannelId::from_byte(channel), ListId::from_byte(list))
+    }
+
+    /// The marker of a DAQ list of an event channel, as `new` makes it.
+    pub fn of(channel: ChannelId, list: ListId) -> StopMark
+        ensures { result ≡ record { channel = channel; list = list } }
+    {
         StopMark { channel, list }
     }
 
@@ -36,7 +45,7 @@ impl StopMark {
         ensures value { result ≡ self.now.channel }
         ensures below { result < MAX_CHANNELS }
     {
-        self.channel
+        self.channel.byte()
     }
 
     /// The number of the DAQ list.
@@ -44,6 +53,6 @@ impl StopMark {
         ensures value { result ≡ self.now.list }
         ensures below { result < MAX_LISTS }
     {
-        self.list
+        self.list.byte()
     }
 }

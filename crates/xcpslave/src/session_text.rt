@@ -1,8 +1,8 @@
 //! What came of a session, in words.
 use daq_engine::ListReport;
-use list_set::ListId;
 use slave_play::Played;
 use std::alloc::{AllocError, Global};
+use xcp_base::ListId;
 use xcp_base::limits::MAX_LISTS;
 
 /// A line of hexadecimal digits for each datagram, an empty line, and the account. Lack of memory

@@ -1,7 +1,7 @@
 -- What is kept of the lists of a channel, and what it fits.
-use Rattle.std.specs.Prelude.{◌≡◌, ℕ, ◌+◌, ◌*◌, ◌<◌, ◌≤◌, Bool, false, length, List, [], ◌∷◌}
+use Rattle.std.specs.Prelude.{◌≡◌, ℕ, ◌+◌, ◌*◌, ◌≤◌, Bool, false, length, List, [], ◌∷◌}
 use Rattle.std.specs.Prelude.{take, if◌then◌else◌}
-use Rattle.xcp_base.specs.declared.limits.TheConstants.{MAX_CHANNELS, MAX_LISTS, MAX_TRIGGERS}
+use Rattle.xcp_base.specs.declared.limits.TheConstants.{MAX_LISTS, MAX_TRIGGERS}
 use Rattle.copy_plan.specs.Config.{ListPlan}
 use Rattle.xcp_base.specs.Lists.{has_list}
 use Rattle.sampler.specs.State.{ArePlansOf, RiseFrom, found_at, track_runs}
@@ -40,7 +40,6 @@ pub record IsSampler
     (channel image_len : ℕ) (plans : List ListPlan) (tracks : List Track)
     (triggers soonest accepted : ℕ)
     : Type 0 where
-  pub channel_below : channel < MAX_CHANNELS
   pub plans_of : ArePlansOf channel image_len plans
   pub rising : RiseFrom 0 plans
   pub room : length plans ≤ MAX_LISTS

@@ -11,10 +11,16 @@ returns-then-bytes-lt-MARKER_LEN-clause-no c = λ _ x h is.
     let f = front_of x c.args.bytes.now h is in
     omega (arith, f.three)
 
-pub returns-then-not-are_within-clause-no : goal.returns-then-not-are_within-clause-no
-returns-then-not-are_within-clause-no c = λ _ x h is.
+pub returns-in_default-clause-no : goal.returns-in_default-clause-no
+returns-in_default-clause-no c = λ _ x h is.
     let f = front_of x c.args.bytes.now h is in
-    let within = c.are_within.ensures.1 (f.channel, f.list) in
+    let within = c.in_default.ensures.there.1 f.channel in
+    grind (arith, common_steps, within)
+
+pub returns-in_default-of_byte-clause-no : goal.returns-in_default-of_byte-clause-no
+returns-in_default-of_byte-clause-no c = λ _ x h is.
+    let f = front_of x c.args.bytes.now h is in
+    let within = c.in_default-of_byte.ensures.there.1 f.list in
     grind (arith, common_steps, within)
 
 pub returns-then-bytes-ne-MARKER-clause-no : goal.returns-then-bytes-ne-MARKER-clause-no
@@ -28,4 +34,4 @@ returns-then-bytes-ne-MARKER_LEN-clause-no c = λ _ x h is.
     omega (arith, m.1)
 
 pub returns-clause-yes : goal.returns-clause-yes
-returns-clause-yes c = λ _. ap (λ x. record_of (Marker x)) c.new.ensures ∙ marker_record_is c.args.bytes.now (omega arith) (omega arith)
+returns-clause-yes c = λ _. ap (λ x. record_of (Marker x)) c.of.ensures ∙ rw (c.in-Some.ensures.value, c.in-Some-of_byte.ensures.value) (marker_record_is c.args.bytes.now (omega arith) (omega arith))

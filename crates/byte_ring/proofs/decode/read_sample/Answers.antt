@@ -20,14 +20,14 @@ returns-then-bytes-eq0-clause-no c = λ _ x h is.
 pub returns-clause-yes : goal.returns-clause-yes
 returns-clause-yes c = λ yes_read.
     let n = c.from_le_bytes-number.result in
-    let read = subst (λ b. IsSampleRead (get_or c.args.bytes.now 1 0) (get_or c.args.bytes.now 2 0) n (get_or c.args.bytes.now 11 0) b c.read_into.new.item) (take_rest c.args.bytes.now 12) (c.read_into.ensures.yes yes_read) in
-    (sample_read c.args.bytes.now n c.read_into.new.item c.if-bytes-lt-HEAD.false (λ i. omega (arith, c.type_inv.bytes i)) c.requires.kind (omega (arith, c.requires.channel)) (omega (arith, c.requires.list)) c.if-bytes-eq0.false (omega (arith, c.from_le_bytes-number.type_inv)) c.from_le_bytes-number.ensures read).0
+    let read = subst (λ b. IsSampleRead (get_or c.args.bytes.now 1 0) (get_or c.args.bytes.now 2 0) n (get_or c.args.bytes.now 11 0) b c.read_into.new.item) (take_rest c.args.bytes.now 12) (rw (c.requires.channel.0, c.requires.list.0) (c.read_into.ensures.yes yes_read)) in
+    (sample_read c.args.bytes.now n c.read_into.new.item c.if-bytes-lt-HEAD.false (λ i. omega (arith, c.type_inv.bytes i)) c.requires.kind (omega (arith, c.requires.channel.0, c.requires.channel.1)) (omega (arith, c.requires.list.0, c.requires.list.1)) c.if-bytes-eq0.false (omega (arith, c.from_le_bytes-number.type_inv)) c.from_le_bytes-number.ensures read).0
 
 pub returns-clause-item : goal.returns-clause-item
 returns-clause-item c = λ yes_read.
     let n = c.from_le_bytes-number.result in
-    let read = subst (λ b. IsSampleRead (get_or c.args.bytes.now 1 0) (get_or c.args.bytes.now 2 0) n (get_or c.args.bytes.now 11 0) b c.read_into.new.item) (take_rest c.args.bytes.now 12) (c.read_into.ensures.yes yes_read) in
-    (sample_read c.args.bytes.now n c.read_into.new.item c.if-bytes-lt-HEAD.false (λ i. omega (arith, c.type_inv.bytes i)) c.requires.kind (omega (arith, c.requires.channel)) (omega (arith, c.requires.list)) c.if-bytes-eq0.false (omega (arith, c.from_le_bytes-number.type_inv)) c.from_le_bytes-number.ensures read).1
+    let read = subst (λ b. IsSampleRead (get_or c.args.bytes.now 1 0) (get_or c.args.bytes.now 2 0) n (get_or c.args.bytes.now 11 0) b c.read_into.new.item) (take_rest c.args.bytes.now 12) (rw (c.requires.channel.0, c.requires.list.0) (c.read_into.ensures.yes yes_read)) in
+    (sample_read c.args.bytes.now n c.read_into.new.item c.if-bytes-lt-HEAD.false (λ i. omega (arith, c.type_inv.bytes i)) c.requires.kind (omega (arith, c.requires.channel.0, c.requires.channel.1)) (omega (arith, c.requires.list.0, c.requires.list.1)) c.if-bytes-eq0.false (omega (arith, c.from_le_bytes-number.type_inv)) c.from_le_bytes-number.ensures read).1
 
 -- its packets would have been read
 pub returns-clause-no : goal.returns-clause-no

@@ -1,4 +1,4 @@
-use Rattle.std.proofs.Common.{◌≡◌, ◌+◌, ◌≤◌, ℕ, length, get_or, take, arith, subst, suc}
+use Rattle.std.proofs.Common.{◌≡◌, ◌+◌, ◌≤◌, ℕ, get_or, take, arith, subst, suc}
 use Rattle.std.proofs.Math.Nat.{min-le_left, min-le_right}
 use Rattle.sampler.specs.Inner.Fits.{NoneDueBefore}
 use Rattle.sampler.specs.declared.track.Track.{Track}

@@ -52,7 +52,7 @@ returns-clause-ok g c = λ past stands.
     let R = g.S.End.RingEnd in
     let P : SamplerState g.row.S.Denot → Type 0 = λ s. StandsAfter E R s past in
     let w : In-Some g = (goal.at.returns-clause-ok g c).In-Some in
-    stop-inside E R c.self.inside.channel c.self.inside.image_len c.self.inside.lists.plans.items c.self.inside.end c.offer.new.self c.self.inside.lists.tracks c.stopped.result c.self.inside.triggers c.self.inside.accepted c.args.l c.in-Some.place c.self.invariant.rising (at_place g w) past c.stopped.ensures (c.in-Ok.ensures.ok ∙ ap (λ m. E.sent c.self.inside.end ++ Marker m ∷ []) c.new.ensures) c.offer.ensures.capacity_stays (subst P (sym c.self.view_is) stands)
+    stop-inside E R c.self.inside.channel c.self.inside.image_len c.self.inside.lists.plans.items c.self.inside.end c.offer.new.self c.self.inside.lists.tracks c.stopped.result c.self.inside.triggers c.self.inside.accepted c.args.l c.in-Some.place c.self.invariant.rising (at_place g w) past c.stopped.ensures (c.in-Ok.ensures.ok ∙ ap (λ m. E.sent c.self.inside.end ++ Marker m ∷ []) (rw c.byte.ensures.value at c.new.ensures)) c.offer.ensures.capacity_stays (subst P (sym c.self.view_is) stands)
 
 pub invariant_of-self-2 : goal.invariant_of-self-2
 invariant_of-self-2 g c =

@@ -17,7 +17,7 @@ loop-c-preserved g c =
       many = length-set c.loop-c.sets c.loop-c.c c.intersection.result ∙ c.loop-c.invariant.many;
       are = λ past stands.
           more-sets c.args.lists c.args.self.now.session.profile past c.loop-c.sets c.loop-c.c c.intersection.result (omega (arith, below, c.loop-c.invariant.many)) (c.loop-c.invariant.are past stands)
-          (λ l h. c.intersection.ensures l ∙ ap (λ b. has_list c.args.lists l && b) (c.lists_on.ensures.value past (subst (λ x. SessionStandsAfter x past) (sym view) stands) l h ∙ ap (λ x. is_on x.profile past c.loop-c.c l) view));
+          (λ l h. c.intersection.ensures l ∙ ap (λ b. has_list c.args.lists l && b) ((rw c.at.ensures at c.lists_on.ensures.value) past (subst (λ x. SessionStandsAfter x past) (sym view) stands) l h ∙ ap (λ x. is_on x.profile past c.loop-c.c l) view));
     }
 
 pub returns-clause-sets : goal.returns-clause-sets

@@ -1,7 +1,8 @@
 //! The number of a DAQ list.
-ghost use Rattle.std.specs.Prelude.{◌≡◌, ◌<◌};
+ghost use Rattle.std.specs.Prelude.{◌≡◌, ℕ, ◌<◌, ◌↔◌, IfSome, IsSome};
 ghost use Rattle.xcp_base.specs.declared.limits.TheConstants.{MAX_LISTS};
 
+use crate::limits::MAX_LISTS;
 use std::marker::Model;
 
 /// The number of a DAQ list that there may be: it is below `MAX_LISTS`. A contract sees it as this
@@ -12,9 +13,6 @@ pub struct ListId {
 }
 
 impl Model for ListId {
-    ghost use Rattle.std.specs.Prelude.{ℕ, ◌<◌};
-    ghost use Rattle.xcp_base.specs.declared.limits.TheConstants.{MAX_LISTS};
-
     ghost Value = { ℕ };
 
     ghost view = { λ l. l.number };
@@ -41,6 +39,18 @@ impl ListId {
         ensures { result ≡ number }
     {
         ListId { number }
+    }
+
+    /// The DAQ list of this number in a byte, if there may be one.
+    pub fn of_byte(number: u8) -> Option<ListId>
+        ensures there { IsSome result ↔ (number < MAX_LISTS) }
+        ensures value { IfSome result (λ l. l ≡ number) }
+    {
+        if (number as u16) < MAX_LISTS {
+            Some(ListId { number })
+        } else {
+            None
+        }
     }
 
     /// Its number in a WORD, as commands have it.
