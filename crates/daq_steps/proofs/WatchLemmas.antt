@@ -1,18 +1,8 @@
 -- What a watch is told of steps.
-use Rattle.std.proofs.Common.{◌≡◌, ℕ, ◌+◌, List, [], ◌∷◌, ◌++◌, cond, refl, sym, subst, arith, length-append}
-use Rattle.std.specs.Option.{is_some}
+use Rattle.std.proofs.Common.{ℕ, ◌+◌, List, [], ◌∷◌, ◌++◌, refl, sym, subst, arith, length-append}
 use Rattle.std.proofs.lemmas.List.Sums.{sum_by-append}
 use Rattle.daq_steps.specs.declared.came.Came.{Came}
-use Rattle.daq_steps.specs.declared.came.Came.TheVariants.{Pumped, Refused, Stuck, Switched, Taken}
-use Rattle.daq_steps.specs.Watched.{IsTold, TellsSteps, cause_of, refusals}
-
--- what is refused has a cause
-pub refusals_of : (came : Came) → ◌≡◌ {A = ℕ} (refusals came) (cond (is_some (cause_of came)) 1 0)
-refusals_of (Taken taken) = refl
-refusals_of Switched = refl
-refusals_of (Refused cause) = refl
-refusals_of (Pumped pumped) = refl
-refusals_of (Stuck fault) = refl
+use Rattle.daq_steps.specs.Watched.{IsTold, TellsSteps, refusals}
 
 module _ {W : Type 0} (notes : W → Came → W → Type 0) where
   told-more : (a b c : W) (cames : List Came) (came : Came) → IsTold notes a b cames → notes b came c → IsTold notes a c (cames ++ came ∷ [])

@@ -15,7 +15,7 @@ use Rattle.frame_writer.specs.Writing.{WriterState}
 use Rattle.transmitter.specs.Merge.{of_ring, taken_from}
 use Rattle.transmitter.specs.Rounds.{round}
 use Rattle.daq_engine.specs.Asking.{image_len_at}
-use Rattle.daq_engine.specs.Engines.{EngineState, Standing, Stands}
+use Rattle.daq_engine.specs.Engines.{EngineState, Standing, Stands, StaysBut}
 use Rattle.daq_engine.specs.Events.{with_event}
 use Rattle.daq_steps.specs.declared.cause.Cause.{Cause}
 use Rattle.daq_steps.specs.Answers.{Answered, AreAnswered, IsAnswer, Setting, accepted, until}
@@ -115,6 +115,15 @@ AnswersAt send ring before after c e answer =
     (st : Standing) → Stands send ring before st
     → IsAnswer (settings_of_samplers send ring before.samplers c) (st.past c) e answer
     × ((ds : List Bool) × Stands send ring after (after_answer c e ds answer st))
+
+-- an engine was asked for what a step asks, and answered so; of the other channels nothing changed.
+-- A pump step asks nothing
+abbrev pub AnswersStepAt :
+    {S E : Type 0} → SendGhosts S E → EndGhosts E → EngineState S → EngineState S → RunStep
+    → Option Cause → Type 0
+AnswersStepAt send ring before after (Ask c e) answer =
+    AnswersAt send ring before after c e answer × StaysBut send c before after
+AnswersStepAt send ring before after Pump answer = answer ≡ None
 
 -- since its opening an engine did these steps, of which so many were refused
 pub record HasDone {S E : Type 0} (send : SendGhosts S E) (ring : EndGhosts E) (e : EngineState S)

@@ -5,15 +5,15 @@ ghost use Rattle.sampler.specs.History.{Opening};
 ghost use Rattle.run_file.specs.Lent.{step_data};
 ghost use Rattle.daq_engine.specs.Engines.{Stands, engine_state, first_standing};
 ghost use Rattle.daq_engine.specs.Samplers.{StayThose};
-ghost use Rattle.daq_steps.specs.Runs.{DoesStep, HasDone, IsStepOf};
+ghost use Rattle.daq_steps.specs.Runs.{AnswersStepAt, DoesStep, HasDone, IsStepOf};
 ghost use Rattle.daq_steps.specs.Steps.{run_step};
-ghost use Rattle.daq_steps.specs.Watched.{TellsSteps, refusals};
+ghost use Rattle.daq_steps.specs.Watched.{TellsSteps, cause_of, refusals};
 
-use crate::asking::{start, stop, trigger};
 use crate::came::Came;
+use crate::cause::Cause;
 use crate::watch::{NoWatch, Watch};
 use channel_ring::{Beside, RingEnd, SendEnd, TakeEnd};
-use daq_engine::Engine;
+use daq_engine::{ChannelFault, Engine};
 use frame_writer::Out;
 use run_file::{Run, Step};
 
@@ -26,6 +26,9 @@ where
     ensures does { DoesStep T.Send.SendEnd T.End.RingEnd
         (engine_state O.Out T.TakeEnd engine.old) (engine_state O.Out T.TakeEnd engine.new)
         (run_step (step_data step.entry)) (refusals result) }
+    ensures answers { AnswersStepAt T.Send.SendEnd T.End.RingEnd
+        (engine_state O.Out T.TakeEnd engine.old) (engine_state O.Out T.TakeEnd engine.new)
+        (run_step (step_data step.entry)) (cause_of result) }
     ensures samplers_stay { StayThose T.Send.SendEnd
         (engine_state O.Out T.TakeEnd engine.old).samplers
         (engine_state O.Out T.TakeEnd engine.new).samplers }
@@ -35,9 +38,21 @@ where
             channel,
             stamp,
             image,
-        } => trigger(engine, channel as usize, image, stamp),
-        Step::Start { channel, list } => start(engine, channel as usize, list),
-        Step::Stop { channel, list } => stop(engine, channel as usize, list),
+        } => match engine.trigger(channel as usize, image, stamp) {
+            Ok(taken) => Came::Taken(taken),
+            Err(ChannelFault::Refused(fault)) => Came::Refused(Cause::Trigger(fault)),
+            Err(ChannelFault::NoChannel) => unreachable!(),
+        },
+        Step::Start { channel, list } => match engine.start(channel as usize, list) {
+            Ok(()) => Came::Switched,
+            Err(ChannelFault::Refused(fault)) => Came::Refused(Cause::Start(fault)),
+            Err(ChannelFault::NoChannel) => unreachable!(),
+        },
+        Step::Stop { channel, list } => match engine.stop(channel as usize, list) {
+            Ok(()) => Came::Switched,
+            Err(ChannelFault::Refused(fault)) => Came::Refused(Cause::Stop(fault)),
+            Err(ChannelFault::NoChannel) => unreachable!(),
+        },
         Step::Pump => match engine.pump() {
             Ok(pumped) => Came::Pumped(pumped),
             Err(fault) => Came::Stuck(fault),

@@ -2,7 +2,6 @@
 //! of it, and what the pumps take.
 #![tactic(auto)]
 
-mod asking;
 mod came;
 mod cause;
 mod doing;
