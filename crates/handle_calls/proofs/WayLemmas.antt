@@ -1,20 +1,22 @@
 -- A way back on which a sampler went, and what came of it.
 use Rattle.std.proofs.Common.{◌≡◌, ℕ, Bool, List, [], ◌∷◌, ◌++◌, refl, sym, ap, ◌∙◌, subst}
+use Rattle.std.specs.Prelude.{IfOk, OnErr, OnOk, Result, Ok, Err}
 use Rattle.std.proofs.lemmas.List.{append_assoc, append-nil}
 use Rattle.channel_ring.specs.declared.ends.SendEnd.{Ghosts as SendGhosts}
 use Rattle.channel_ring.specs.declared.ends.RingEnd.{Ghosts as EndGhosts}
 use Rattle.sampler.specs.History.{Event, Start, Stop, Trigger}
 use Rattle.sampler.specs.Past.{Past, one_more}
-use Rattle.sampler.specs.Standing.{StandsAfter, decisions_of}
+use Rattle.sampler.specs.Standing.{GoesOn, StandsAfter, TakesTrigger, decisions_of}
 use Rattle.sampler.specs.State.{SamplerEndState, SamplerState}
 use Rattle.sampler.specs.Stays.{KeepsSetUp, OnlyLooked}
-use Rattle.handle_calls.specs.Samplers.{IsLeftOf, StartsList, StopsList, TriggersSampler}
+use Rattle.sampler.specs.declared.faults.StartFault.{StartFault}
+use Rattle.sampler.specs.declared.faults.StopFault.{StopFault}
+use Rattle.sampler.specs.declared.faults.TriggerFault.{TriggerFault}
+use Rattle.sampler.specs.declared.taken.Taken.{Taken}
+use Rattle.handle_calls.specs.Samplers.{IsLeftOf}
 use Rattle.handle_calls.specs.Ways.{Follows, GoesOnFrom, HasGiven, IsBegunBy, IsEndOf, IsLaterOf, WasBegunBy}
 use Rattle.handle_calls.specs.declared.returns.Return.{Return}
 use Rattle.handle_calls.specs.declared.returns.Return.TheVariants.{End, Sampler}
-use Rattle.handle_calls.specs.declared.status.Status.{Status}
-use Rattle.handle_calls.specs.declared.status.Status.TheVariants as status
-use Rattle.handle_calls.specs.declared.taken_out.TakenOut.{TakenOut}
 
 -- a past goes on from itself, and on with one event more
 pub goes-on-here : (past : Past) → GoesOnFrom past past
@@ -112,29 +114,22 @@ module _ {S E : Type 0} where
     }
 
     -- after each call it is still later
-    pub later-trigger : (s t u : SamplerState S) (image : List ℕ) (stamp : ℕ) (before after : TakenOut) (result : Status)
-        → TriggersSampler send ring t u image stamp before after result → IsLaterOf send ring s t → IsLaterOf send ring s u
-    later-trigger s t u image stamp before after status.Ok does later =
-        later-by s t u (Trigger image stamp) (λ past. decisions_of does.2.0 past (Trigger image stamp)) does.1
-        (λ past st. (does.2.2 past st).stands) later
-    later-trigger s t u image stamp before after status.WrongImage does later = later-same s t u does.1 later
-    later-trigger s t u image stamp before after status.Spent does later = later-same s t u does.2 later
-    later-trigger s t u image stamp before after _ does later = absurd does
+    pub later-trigger : (s t u : SamplerState S) (image : List ℕ) (stamp : ℕ) (result : Result Taken TriggerFault)
+        → IfOk result (λ taken. (past : Past) → StandsAfter send ring t past → TakesTrigger send ring t u taken past image stamp)
+        → OnErr result (u ≡ t) → KeepsSetUp send t u → IsLaterOf send ring s t → IsLaterOf send ring s u
+    later-trigger s t u image stamp (Ok taken) takes same keeps later =
+        later-by s t u (Trigger image stamp) (λ past. decisions_of taken past (Trigger image stamp)) keeps (λ past st. (takes past st).stands) later
+    later-trigger s t u image stamp (Err fault) takes same keeps later = later-same s t u same later
 
-    pub later-start : (s t u : SamplerState S) (l : ℕ) (result : Status)
-        → StartsList send ring t u l result → IsLaterOf send ring s t → IsLaterOf send ring s u
-    later-start s t u l status.Ok does later = later-by s t u (Start l) (λ past. []) does.1 does.0 later
-    later-start s t u l status.NotOfChannel does later = later-same s t u does.1 later
-    later-start s t u l status.Running does later = later-same s t u does.1 later
-    later-start s t u l _ does later = absurd does
+    pub later-start : (s t u : SamplerState S) (l : ℕ) (result : Result (Unit {0}) StartFault)
+        → OnOk result (GoesOn send ring t u (Start l)) → OnErr result (u ≡ t) → KeepsSetUp send t u → IsLaterOf send ring s t → IsLaterOf send ring s u
+    later-start s t u l (Ok done) goes same keeps later = later-by s t u (Start l) (λ past. []) keeps goes later
+    later-start s t u l (Err fault) goes same keeps later = later-same s t u same later
 
-    pub later-stop : (s t u : SamplerState S) (l : ℕ) (result : Status)
-        → StopsList send ring t u l result → IsLaterOf send ring s t → IsLaterOf send ring s u
-    later-stop s t u l status.Ok does later = later-by s t u (Stop l) (λ past. []) does.1 does.0 later
-    later-stop s t u l status.NotOfChannel does later = later-same s t u does.1 later
-    later-stop s t u l status.NotRunning does later = later-same s t u does.1 later
-    later-stop s t u l status.NoRoom does later = later-looked s t u does.1 later
-    later-stop s t u l _ does later = absurd does
+    pub later-stop : (s t u : SamplerState S) (l : ℕ) (result : Result (Unit {0}) StopFault)
+        → OnOk result (GoesOn send ring t u (Stop l)) → OnErr result (OnlyLooked send ring t u) → KeepsSetUp send t u → IsLaterOf send ring s t → IsLaterOf send ring s u
+    later-stop s t u l (Ok done) goes looked keeps later = later-by s t u (Stop l) (λ past. []) keeps goes later
+    later-stop s t u l (Err fault) goes looked keeps later = later-looked s t u looked later
 
     -- what is left of it is left of the one that it was
     pub left-end : (s t : SamplerState S) (e : SamplerEndState E) → IsLaterOf send ring s t → IsLeftOf send ring t e → IsEndOf send ring s e

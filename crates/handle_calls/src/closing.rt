@@ -1,6 +1,6 @@
 //! The account of an engine whose samplers were all finished.
 
-ghost use Rattle.std.specs.Prelude.{◌≡◌, ◌≤◌, IfErr, OnOk, Some, length};
+ghost use Rattle.std.specs.Prelude.{◌≤◌, IfErr, OnOk, Some, length};
 ghost use Rattle.xcp_base.specs.declared.limits.TheConstants.{MAX_LISTS as MOST_LISTS};
 ghost use Rattle.daq_engine.specs.declared.report.Report.{Report as ReportOf};
 ghost use Rattle.handle_calls.specs.Ends.{Closes, IsAccountOf, MayClose, MayCloseHeld};

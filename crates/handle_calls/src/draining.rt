@@ -1,6 +1,5 @@
 //! The rings of an engine whose samplers were all finished, emptied in rounds.
 
-ghost use Rattle.std.specs.Prelude.{◌≡◌};
 ghost use Rattle.handle_calls.specs.Ends.{DrainsEngine};
 
 use crate::held_engine::HeldEngine;

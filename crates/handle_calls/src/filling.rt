@@ -1,6 +1,5 @@
 //! Pumps, as many as a buffer has room for.
 
-ghost use Rattle.std.specs.Prelude.{◌≡◌};
 ghost use Rattle.handle_calls.specs.Fillings.{FillsEngine};
 
 use crate::held_engine::HeldEngine;

@@ -1,4 +1,3 @@
-ghost use Rattle.std.specs.Prelude.{◌≡◌};
 
 use crate::coming_back::ComingBack;
 use crate::lent::Lent;

@@ -1,16 +1,14 @@
-ghost use Rattle.std.specs.Prelude.{◌≡◌};
 ghost use Rattle.handle_calls.specs.Samplers.{FinishesSampler};
 
 use crate::coming_back::ComingBack;
 use crate::counts_out::CountsOut;
 use crate::returns::{Return, Returns};
-use crate::sampling::{counts_of, start, stop, trigger};
 use crate::status::Status;
 use crate::taken_out::TakenOut;
 use crate::way_back::{Given, WayBack};
 use daq_engine::Ring;
 use rtrb::{Consumer, Producer};
-use sampler::Sampler;
+use sampler::{Sampler, StartFault, StopFault, TriggerFault};
 use std::alloc::Global;
 use std::marker::Model;
 use std::snapshot::Snapshot;
@@ -35,7 +33,7 @@ impl<R: Ring> Model for Lent<R> {
 
 impl<R: Ring> Lent<R> {
     ghost use Rattle.std.specs.Prelude.{◌≡◌, [], ◌<◌, IfErr, IfOk};
-    ghost use Rattle.rtrb.specs.Ring.{IsPair, known_free, known_items, received, sent};
+    ghost use Rattle.rtrb.specs.Ring.{IsPair, known_free, received, sent};
     ghost use Rattle.handle_calls.specs.Samplers.{CountsList, IsLeftOf, StartsList, StopsList};
     ghost use Rattle.handle_calls.specs.Samplers.{TriggersSampler};
 
@@ -75,7 +73,14 @@ impl<R: Ring> Lent<R> {
         ensures { TriggersSampler R.Send.SendEnd R.Send.End.RingEnd
             self.old self.new image.now stamp taken.old taken.new result }
     {
-        trigger(&mut self.sampler, image, stamp, taken)
+        match self.sampler.trigger(image, stamp) {
+            Ok(sets) => {
+                *taken = TakenOut::of(sets);
+                Status::Ok
+            }
+            Err(TriggerFault::WrongImage) => Status::WrongImage,
+            Err(TriggerFault::Spent) => Status::Spent,
+        }
     }
 
     /// Starts a DAQ list.
@@ -83,7 +88,11 @@ impl<R: Ring> Lent<R> {
         ensures { StartsList R.Send.SendEnd R.Send.End.RingEnd
             self.old self.new list result }
     {
-        start(&mut self.sampler, list)
+        match self.sampler.start(list) {
+            Ok(()) => Status::Ok,
+            Err(StartFault::NotOfChannel) => Status::NotOfChannel,
+            Err(StartFault::Running) => Status::Running,
+        }
     }
 
     /// Stops a DAQ list.
@@ -91,7 +100,12 @@ impl<R: Ring> Lent<R> {
         ensures { StopsList R.Send.SendEnd R.Send.End.RingEnd
             self.old self.new list result }
     {
-        stop(&mut self.sampler, list)
+        match self.sampler.stop(list) {
+            Ok(()) => Status::Ok,
+            Err(StopFault::NotOfChannel) => Status::NotOfChannel,
+            Err(StopFault::NotRunning) => Status::NotRunning,
+            Err(StopFault::NoRoom) => Status::NoRoom,
+        }
     }
 
     /// Tells a DAQ list's counts.
@@ -99,7 +113,13 @@ impl<R: Ring> Lent<R> {
         ensures { CountsList R.Send.SendEnd R.Send.End.RingEnd
             self.now list counts.old counts.new result }
     {
-        counts_of(&self.sampler, list, counts)
+        match self.sampler.counts(list) {
+            Some(told) => {
+                *counts = CountsOut::of(told);
+                Status::Ok
+            }
+            None => Status::NotOfChannel,
+        }
     }
 
     /// Finishes the sampler, and gives what is left of it back. Refused with `NoEngine` if the

@@ -29,7 +29,6 @@ mod pumping;
 mod report_out;
 mod returns;
 mod sampler_calls;
-mod sampling;
 mod status;
 mod store;
 mod taken_out;

@@ -1,6 +1,5 @@
 //! A pump, and its frames into a buffer.
 
-ghost use Rattle.std.specs.Prelude.{◌≡◌};
 ghost use Rattle.handle_calls.specs.Engines.{PumpsEngine};
 
 use crate::held_engine::HeldEngine;
