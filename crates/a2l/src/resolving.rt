@@ -1,4 +1,4 @@
-ghost use Rattle.std.specs.Prelude.{◌≡◌, ℕ, List, IfOk, map, option_map, string_bytes};
+ghost use Rattle.std.specs.Prelude.{◌≡◌, IfOk, map, option_map, string_bytes};
 ghost use Rattle.std.specs.BTreeMap.{get_by_text};
 ghost use Rattle.a2l_entries.specs.Gives.{Gives};
 ghost use Rattle.a2l.specs.Names.{ArePlaces};
@@ -6,10 +6,9 @@ ghost use Rattle.a2l_entries.specs.MeasurementSaid.{measurement_seen, name_of};
 ghost use Rattle.a2l_entries.specs.MethodSaid.{method_seen, rule_seen};
 ghost use Rattle.a2l_entries.specs.TableSaid.{table_seen, texts_seen, row_seen};
 ghost use Rattle.a2l.specs.Resolved.{described_method, conversion_seen, table_named, rule_of};
-ghost use Rattle.a2l.specs.Resolved.{method_of, methods_of};
-ghost use Rattle.a2l.specs.Resolved.{described_measurement, kept_address, method_place, value_at};
-ghost use Rattle.a2l.specs.Resolved.{value_of, values_of};
-ghost use Rattle.a2l.specs.Resolved.{with_front, kept_behind};
+ghost use Rattle.a2l.specs.Resolved.{method_of, methods_of, described_measurement, kept_address};
+ghost use Rattle.a2l.specs.Resolved.{method_place, value_at, value_of, values_of, with_front};
+ghost use Rattle.a2l.specs.Resolved.{kept_behind};
 
 use crate::description::{Measurement, Method};
 use crate::names::{Places, note, place_of};

@@ -6,9 +6,8 @@ ghost use Rattle.a2l_words.specs.Tokens.{begin, end};
 ghost use Rattle.a2l_words.specs.State.{rest_of};
 ghost use Rattle.a2l_blocks.specs.Ahead.{gathered_with};
 ghost use Rattle.a2l_blocks.specs.Steps.{WordIs, NameIs, HasNoWords, HasNoName, plain_bytes};
-ghost use Rattle.a2l_blocks.specs.Steps.{token_at};
-ghost use Rattle.a2l_blocks.specs.Steps.{Reaches, StepIs, StopsAt, NextIs, coming, coming_behind};
-ghost use Rattle.a2l_blocks.specs.Steps.{cleared};
+ghost use Rattle.a2l_blocks.specs.Steps.{token_at, Reaches, StepIs, StopsAt, NextIs, coming};
+ghost use Rattle.a2l_blocks.specs.Steps.{coming_behind, cleared};
 ghost use Rattle.a2l_blocks.specs.States.{state_of};
 ghost use Rattle.a2l_blocks.specs.declared.role.Role.TheVariants.{File};
 

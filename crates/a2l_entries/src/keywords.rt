@@ -2,11 +2,10 @@ ghost use Rattle.std.specs.Prelude.{◌≡◌, option_map};
 ghost use Rattle.a2l_entries.specs.Gives.{Gives};
 ghost use Rattle.a2l_entries.specs.Said.{token_at, tokens_of};
 ghost use Rattle.a2l_entries.specs.Keywords.{measurement_keyword, measurement_keyword_of};
-ghost use Rattle.a2l_entries.specs.Keywords.{other_keyword_of, arguments_of};
-ghost use Rattle.a2l_entries.specs.Keywords.{method_keyword, method_keyword_of};
-ghost use Rattle.a2l_entries.specs.Keywords.{method_arguments_of, kind_said, kind_of};
-ghost use Rattle.a2l_entries.specs.Keywords.{data_type_said, data_type_of, order_said, is_keyword};
-ghost use Rattle.a2l_entries.specs.Keywords.{behind_keyword, default_said};
+ghost use Rattle.a2l_entries.specs.Keywords.{other_keyword_of, arguments_of, method_keyword};
+ghost use Rattle.a2l_entries.specs.Keywords.{method_keyword_of, method_arguments_of, kind_said};
+ghost use Rattle.a2l_entries.specs.Keywords.{kind_of, data_type_said, data_type_of, order_said};
+ghost use Rattle.a2l_entries.specs.Keywords.{is_keyword, behind_keyword, default_said};
 
 use crate::entry_fault::{Awaited, Refused};
 use crate::left::Left;

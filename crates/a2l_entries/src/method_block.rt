@@ -2,8 +2,7 @@ ghost use Rattle.std.specs.Prelude.{◌≡◌};
 ghost use Rattle.a2l_entries.specs.Gives.{Gives};
 ghost use Rattle.a2l_entries.specs.Said.{tokens_of};
 ghost use Rattle.a2l_entries.specs.MethodSaid.{method_seen, method_said, rule_seen, rule_said};
-ghost use Rattle.a2l_entries.specs.MethodSaid.{rational, is_straight, is_zero};
-ghost use Rattle.a2l_entries.specs.MethodSaid.{method_options_seen};
+ghost use Rattle.a2l_entries.specs.MethodSaid.{rational, is_straight, is_zero, method_options_seen};
 
 use crate::entry_fault::Awaited;
 use crate::keywords::{MethodKind, method_kind};
@@ -16,11 +15,15 @@ use std::alloc::Global;
 /// How physical values come of raw ones, before the tables are known.
 #[derive(Drop)]
 pub enum Rule {
+    /// IDENTICAL.
     Identical,
+    /// LINEAR, by COEFFS_LINEAR.
     Linear { factor: f64, offset: f64 },
+    /// RAT_FUNC of a straight line, by COEFFS: the raw value is `(b * physical + c) / f`.
     Rational { b: f64, c: f64, f: f64 },
-    /// By the table of this name.
+    /// TAB_VERB, by the table of this name.
     Texts(Reference),
+    /// A method that isn't carried out.
     Other,
 }
 
@@ -104,6 +107,7 @@ fn is_straight(coefficients: Coefficients) -> bool
     !is_zero(coefficients.f)
 }
 
+/// Whether a coefficient is 0.
 fn is_zero(number: f64) -> bool
     ensures { result ≡ is_zero number }
 {

@@ -1,5 +1,4 @@
 //! What stands round the rows: the card, the title, the legend and the axis.
-ghost use Rattle.std.specs.Prelude.{◌≤◌};
 
 use crate::axis::CurveAxis;
 use crate::scale::Scale;

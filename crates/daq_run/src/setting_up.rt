@@ -1,5 +1,5 @@
 //! A run's set-up, and the opening of its engine.
-ghost use Rattle.std.specs.Prelude.{◌≡◌, ℕ, IfErr, IfOk, IsOk, [], false, length, true};
+ghost use Rattle.std.specs.Prelude.{◌≡◌, IfErr, IfOk, IsOk, [], false, true};
 ghost use Rattle.std.specs.List.{list_all};
 ghost use Rattle.daq_store.specs.Standing.{StoreStandsAfter};
 ghost use Rattle.frame_writer.specs.Shown.{shown};

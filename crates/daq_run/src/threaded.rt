@@ -1,6 +1,5 @@
 //! A whole run with a thread for each event channel.
-ghost use Rattle.std.specs.Prelude.{◌≡◌, ◌≤◌, All, IfErr, IfOk, map};
-ghost use Rattle.std.specs.Prelude.{true, vec_capacity, vec_len};
+ghost use Rattle.std.specs.Prelude.{◌≡◌, ◌≤◌, All, IfErr, IfOk, map, true, vec_capacity, vec_len};
 ghost use Rattle.xcp_base.specs.declared.limits.TheConstants.{MAX_CHANNELS};
 ghost use Rattle.std.specs.List.{list_all};
 ghost use Rattle.frame_writer.specs.Shown.{shown};

@@ -1,5 +1,5 @@
 //! What the thread of one event channel does.
-ghost use Rattle.std.specs.Prelude.{◌≡◌, ◌≤◌, length, map};
+ghost use Rattle.std.specs.Prelude.{◌≡◌, ◌≤◌, map};
 ghost use Rattle.run_file.specs.Lent.{step_data};
 ghost use Rattle.run_file.specs.declared.limits.TheConstants.{MAX_STEPS};
 ghost use Rattle.sampler.specs.Stays.{KeepsSetUp};

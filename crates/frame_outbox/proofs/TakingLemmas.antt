@@ -1,5 +1,5 @@
 -- An item is taken off a ring.
-use Rattle.std.proofs.Common.{◌≡◌, ℕ, ◌+◌, ◌<◌, ◌≤◌, List, length, take, refl, sym, ap, ◌∙◌, arith}
+use Rattle.std.proofs.Common.{◌≡◌, ℕ, ◌≤◌, List, length, take, refl, sym, ap, ◌∙◌, arith}
 use Rattle.std.proofs.lemmas.List.{length-take-le}
 use Rattle.channel_ring.specs.declared.ends.TakeEnd.{Ghosts as TakeGhosts}
 use Rattle.channel_intake.specs.Intakes.{IntakeState}

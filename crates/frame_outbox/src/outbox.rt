@@ -1,4 +1,4 @@
-ghost use Rattle.std.specs.Prelude.{◌≡◌, ◌<◌, ◌≤◌, IfOk};
+ghost use Rattle.std.specs.Prelude.{◌<◌};
 
 use crate::front::{Front, front_of, how_many, samples_of};
 use crate::limits::{MAX_REPLIES, MAX_REPLY, MAX_UNITS, MOST, ROOM};
@@ -48,8 +48,7 @@ impl Outbox {
     ghost use Rattle.std.specs.Prelude.{IfOk, drop, length, take};
     ghost use Rattle.xcp_base.specs.declared.limits.TheConstants.{MAX_CTO};
     ghost use Rattle.frame_writer.specs.Frame.{text};
-    ghost use Rattle.frame_outbox.specs.Outboxes.{Laid, LaysOut, Shows, StandsAfter};
-    ghost use Rattle.frame_outbox.specs.Outboxes.{has_room, packets_in};
+    ghost use Rattle.frame_outbox.specs.Outboxes.{Laid, LaysOut, Shows, StandsAfter, has_room};
     ghost use Rattle.frame_outbox.specs.Units.{how_many, samples_of};
     ghost use Rattle.frame_outbox.specs.declared.limits.TheConstants.{MAX_UNITS, MOST};
 

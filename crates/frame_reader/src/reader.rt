@@ -1,5 +1,5 @@
-ghost use Rattle.std.specs.Prelude.{◌≡◌, ◌≤◌, ◌<◌, ℕ, List, [], ◌∷◌, ◌++◌, IsErr, IfOk, OnErr};
-ghost use Rattle.std.specs.Prelude.{IsSome, IsNone, length, drop, take, true, false};
+ghost use Rattle.std.specs.Prelude.{◌≡◌, ◌≤◌, ◌<◌, [], ◌∷◌, IsErr, IfOk, OnErr};
+ghost use Rattle.std.specs.Prelude.{IsSome, IsNone, length, take, true, false};
 ghost use Rattle.frame_reader.specs.Reading.{ReaderStandsAfter, Leads, packet_list};
 ghost use Rattle.frame_reader.specs.Reading.{IsBadAfter, given_of};
 

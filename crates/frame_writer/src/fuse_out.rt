@@ -1,5 +1,4 @@
-ghost use Rattle.std.specs.Prelude.{◌≡◌, ◌+◌, ◌<◌, ◌≤◌, ◌++◌, IfOk, IsErr, OnErr, OnOk, length};
-ghost use Rattle.std.specs.Prelude.{take};
+ghost use Rattle.std.specs.Prelude.{◌≡◌, ◌+◌, ◌<◌, ◌++◌, IfOk, IsErr, OnErr, OnOk, length, take};
 ghost use Rattle.frame_writer.specs.Counts.{counted, is_stall, raised};
 ghost use Rattle.frame_writer.specs.MemoryOuts.{fuse_takes, unburnt};
 

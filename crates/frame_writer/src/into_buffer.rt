@@ -1,8 +1,4 @@
 //! The packets of a sample, laid out where their frames are wanted.
-ghost use Rattle.std.specs.Prelude.{◌≡◌, ◌+◌, ◌≤◌, ◌++◌, drop, false, length, take};
-ghost use Rattle.frame_writer.specs.Frame.{text};
-ghost use Rattle.frame_writer.specs.Inner.{text_len};
-ghost use Rattle.frame_writer.specs.Writing.{after_text, state_of};
 
 use crate::layout::{MAX_SAMPLE_BYTES, place_text, text_len};
 use crate::out::Out;

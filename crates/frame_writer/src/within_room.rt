@@ -1,8 +1,4 @@
 //! The packets of a sample, laid out in a buffer that may be too short for them.
-ghost use Rattle.std.specs.Prelude.{◌≡◌, ◌+◌, ◌≤◌, ◌<◌, ◌++◌, drop, false, length, take, None};
-ghost use Rattle.std.specs.Prelude.{IfSome};
-ghost use Rattle.frame_writer.specs.Frame.{text};
-ghost use Rattle.frame_writer.specs.Writing.{after_text, state_of};
 
 use crate::layout::{MAX_SAMPLE_BYTES, text_len};
 use crate::out::Out;

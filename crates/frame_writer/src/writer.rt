@@ -30,8 +30,8 @@ pub struct FrameWriter<O> {
 }
 
 impl<O: Out> FrameWriter<O> {
-    ghost use Rattle.std.specs.Prelude.{◌≡◌, ◌+◌, ◌%◌, ◌<◌, ◌≤◌, ◌↔◌, ◌++◌, false, true, IsErrOf};
-    ghost use Rattle.std.specs.Prelude.{IsTrue, OnOk, length};
+    ghost use Rattle.std.specs.Prelude.{◌≡◌, ◌+◌, ◌%◌, ◌<◌, ◌≤◌, ◌↔◌, false, true, IsErrOf};
+    ghost use Rattle.std.specs.Prelude.{OnOk, length};
     ghost use Rattle.frame_writer.specs.Frame.{frame};
     ghost use Rattle.frame_writer.specs.Shown.{shown};
     ghost use Rattle.frame_writer.specs.Writing.{FailsWithin, after_frame, fresh_writer};

@@ -1,5 +1,5 @@
 ghost use Rattle.std.specs.Prelude.{◌≡◌};
-ghost use Rattle.measured_values.specs.Physicals.{Shown, number_of_shown, shown_of, Value};
+ghost use Rattle.measured_values.specs.Physicals.{number_of_shown, shown_of, Value};
 
 use crate::raw::Raw;
 use std::num::{f32_to_f64_with_nan, nearest_i64_to_f64, nearest_u64_to_f64};

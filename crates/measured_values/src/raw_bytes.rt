@@ -1,6 +1,5 @@
 //! From bytes to a raw value.
-ghost use Rattle.std.specs.Prelude.{◌≡◌, ◌+◌, ◌-◌, ◌*◌, ◌<◌, ◌≤◌, ◌^◌, ◌↔◌, ◌-ℤ◌, pos};
-ghost use Rattle.std.specs.Prelude.{IfSome, IsSome, length};
+ghost use Rattle.std.specs.Prelude.{◌≡◌, ◌-◌, ◌*◌, ◌<◌, ◌≤◌, ◌^◌, ◌↔◌, IfSome, IsSome, length};
 ghost use Rattle.measurement.specs.Encodings.{size_of};
 ghost use Rattle.measured_values.specs.Raws.{IsSize, masked, number_of_bytes, raw_in, raw_value};
 ghost use Rattle.measured_values.specs.Raws.{signed_in, twos_complement, unsigned_in};

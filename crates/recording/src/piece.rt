@@ -1,6 +1,5 @@
 //! The bytes of a recording that were read and not yet taken.
-ghost use Rattle.std.specs.Prelude.{◌≡◌, ◌⊎◌, ◌-◌, ◌+◌, ◌<◌, ◌≤◌, IfErr, IfOk, OnOk, drop, length};
-ghost use Rattle.std.specs.Prelude.{true};
+ghost use Rattle.std.specs.Prelude.{◌≡◌, ◌⊎◌, ◌-◌, ◌<◌, ◌≤◌, IfErr, IfOk, OnOk, drop, length, true};
 ghost use Rattle.std.specs.Io.{StartsWith, appended_bytes};
 ghost use Rattle.std.specs.Io.KnownBytes.{Consumes, IsAtEnd};
 ghost use Rattle.program_input.specs.declared.reading.TheConstants.{MAX_TEXT_BYTES};

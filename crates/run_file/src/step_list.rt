@@ -4,8 +4,7 @@ ghost use Rattle.std.specs.Prelude.{◌≤◌, Some, drop, length, option_map, s
 ghost use Rattle.run_file.specs.declared.step_fault.StepFault.TheVariants.{Memory};
 ghost use Rattle.run_file.specs.Inner.{BeginsWith, GainsAction, GainsImage, next_from};
 ghost use Rattle.run_file.specs.Lent.{step_data};
-ghost use Rattle.run_file.specs.Inner.{step_with};
-ghost use Rattle.run_file.specs.Inner.{Gains};
+ghost use Rattle.run_file.specs.Inner.{step_with, Gains};
 ghost use Rattle.run_file.specs.StepOf.{image_of, with_image};
 ghost use Rattle.run_file.specs.Steps.{trigger};
 ghost use Rattle.run_file.specs.Inner.{wording_data};

@@ -1,5 +1,5 @@
 //! Reads the command packets and the steps of a run file from their texts.
-ghost use Rattle.std.specs.Prelude.{◌≡◌, ◌+◌, ◌⊎◌, ℕ, IfErr, IfOk, IsErrOf, OnErr, OnOk, map};
+ghost use Rattle.std.specs.Prelude.{◌≡◌, ◌+◌, ◌⊎◌, ℕ, IfErr, IfOk, IsErrOf, OnOk, map};
 ghost use Rattle.std.specs.Prelude.{option_map, vec_items};
 ghost use Rattle.run_file.specs.declared.run_fault.RunFault.TheVariants.{BadSetup, BadStep, Memory};
 ghost use Rattle.run_file.specs.Inner.{Gains};

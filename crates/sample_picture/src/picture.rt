@@ -1,5 +1,5 @@
 //! A picture of the samples of DAQ lists.
-ghost use Rattle.std.specs.Prelude.{◌≡◌, ◌<◌, ◌≤◌, ◌+◌, ◌/◌, ◌^◌, ◌++◌, ◌∷◌, ℕ, List, []};
+ghost use Rattle.std.specs.Prelude.{◌≡◌, ◌<◌, ◌≤◌, ◌+◌, ◌/◌, ◌^◌, ◌∷◌, ℕ, List, []};
 ghost use Rattle.std.specs.Prelude.{OnErr, OnOk, length, map, min, max};
 ghost use Rattle.std.specs.Io.KnownBytes.{Appends};
 ghost use Rattle.sample_picture.specs.Gathered.{AreRowsOf, Given, IsPictureOf};

@@ -1,5 +1,5 @@
 //! What is gathered of one DAQ list.
-ghost use Rattle.std.specs.Prelude.{◌≡◌, ◌+◌, ◌^◌, ◌<◌, ◌≤◌, length};
+ghost use Rattle.std.specs.Prelude.{◌≡◌, ◌+◌, ◌^◌, ◌<◌, ◌≤◌};
 ghost use Rattle.sample_picture.specs.Inner.{doubled_row, fresh_row, merged, noted};
 
 use crate::mark::Mark;

@@ -1,5 +1,5 @@
 //! Where a place stands on the plot, and the round numbers below it.
-ghost use Rattle.std.specs.Prelude.{◌≡◌, ◌<◌, ◌≤◌};
+ghost use Rattle.std.specs.Prelude.{◌<◌, ◌≤◌};
 
 /// The width of the plot, in tenths of a unit.
 pub const PLOT: u64 = 7200;

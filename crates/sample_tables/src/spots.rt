@@ -1,7 +1,6 @@
 //! Where the samples of several DAQ lists stand, one after another.
 ghost use Rattle.std.specs.Prelude.{◌≡◌, ◌<◌, ◌∷◌, ◌%◌, ◌^◌, [], ℕ, List, IfOk, IsSome, Some};
-ghost use Rattle.std.specs.Prelude.{length};
-ghost use Rattle.std.specs.Prelude.{replicate, slice_get};
+ghost use Rattle.std.specs.Prelude.{length, replicate, slice_get};
 ghost use Rattle.std.specs.Option.{option_copied};
 ghost use Rattle.copy_plan.specs.Config.{ListPlan};
 ghost use Rattle.daq_reader.specs.Lists.{given};

@@ -1,4 +1,4 @@
-ghost use Rattle.std.specs.Prelude.{◌≡◌, []};
+ghost use Rattle.std.specs.Prelude.{◌≡◌};
 ghost use Rattle.sample_tables.specs.Tallies.{first_of, tally_with};
 
 /// What there is of the samples of one DAQ list.

@@ -1,7 +1,7 @@
 //! The times of samples: the ticks of their timestamps, with those that wrapped.
 ghost use Rattle.std.specs.Prelude.{◌≡◌, ◌<◌, ◌≤◌, [], ℕ, List, IfOk, IfSome, length, replicate};
 ghost use Rattle.sample_tables.specs.declared.times.Stand.{Stand};
-ghost use Rattle.sample_tables.specs.Times.{KnowsLast, last_of_list, later, nearest, stands_with};
+ghost use Rattle.sample_tables.specs.Times.{KnowsLast, later, nearest, stands_with};
 ghost use Rattle.sample_tables.specs.Times.{ticks_on, time_at, time_behind};
 
 use std::alloc::{AllocError, Global};

@@ -1,4 +1,4 @@
-ghost use Rattle.std.specs.Prelude.{◌≡◌, ◌≤◌, IfErr, IfOk};
+ghost use Rattle.std.specs.Prelude.{◌≡◌, IfErr, IfOk};
 ghost use Rattle.toml.specs.View.{table_view};
 ghost use Rattle.slave_file.specs.declared.file_fault.FileFault.TheVariants.{BadKey};
 ghost use Rattle.slave_file.specs.Keys.{AreKeyValues, HasBadKey};

@@ -1,4 +1,4 @@
-ghost use Rattle.std.specs.Prelude.{◌≡◌, IfOk, length};
+ghost use Rattle.std.specs.Prelude.{IfOk};
 ghost use Rattle.task_lending.specs.Lends.{IsOpenedWith};
 ghost use Rattle.task_lending.specs.Slots.{AllHere};
 

@@ -1,7 +1,7 @@
 //! Writes a row of CSV field by field.
-ghost use Rattle.std.specs.Prelude.{◌≡◌, ◌<◌, ◌≤◌, ◌-◌, ◌^◌, [], ℕ, List, OnOk, Option, length};
+ghost use Rattle.std.specs.Prelude.{◌<◌, ◌≤◌, ◌-◌, ℕ, List, OnOk, Option, length};
 ghost use Rattle.std.specs.Io.KnownBytes.{Appends};
-ghost use Rattle.csv.specs.Writing.{fields_written, row_text, text_written};
+ghost use Rattle.csv.specs.Writing.{row_text, text_written};
 ghost use Rattle.sample_tables.specs.Rows.{IsBetweenRows, rfc_4180};
 ghost use Rattle.value_tables.specs.Fields.{HasFieldMore, HasFields};
 

@@ -1,5 +1,5 @@
 //! The columns that are shown, as they stand in the samples of DAQ lists.
-ghost use Rattle.std.specs.Prelude.{◌≡◌, All, IfOk, map, slice_get};
+ghost use Rattle.std.specs.Prelude.{◌≡◌, All, IfOk, slice_get};
 ghost use Rattle.std.specs.Option.{option_copied};
 ghost use Rattle.value_tables.specs.Lists.{HasSources, plans_of};
 ghost use Rattle.value_tables.specs.Values.{source_for, sources_for};

@@ -1,5 +1,5 @@
 //! Prints what there is of the values of each column.
-ghost use Rattle.std.specs.Prelude.{◌≡◌, ◌++◌, ◌∷◌, ℕ, List, OnOk, string_bytes};
+ghost use Rattle.std.specs.Prelude.{ℕ, List, OnOk, string_bytes};
 ghost use Rattle.std.specs.Float.{Float, binary64};
 ghost use Rattle.std.specs.Fmt.{decimal};
 ghost use Rattle.std.specs.Io.KnownBytes.{Appends};

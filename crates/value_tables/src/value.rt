@@ -1,13 +1,10 @@
 //! The value of a column in a sample.
-ghost use Rattle.std.specs.Prelude.{◌≡◌, ◌≤◌, IfNone, IfSome, IsSome, None, OnOk, Option, length};
+ghost use Rattle.std.specs.Prelude.{◌≡◌, IfSome, None, OnOk, Option, length};
 ghost use Rattle.std.specs.Prelude.{option_map, string_bytes};
 ghost use Rattle.std.specs.Option.{option_copied};
-ghost use Rattle.measurement.specs.Encodings.{size_of};
 ghost use Rattle.measured_values.specs.Physicals.{converted, shown_of};
-ghost use Rattle.measured_values.specs.Texts.{IsTextOf};
 ghost use Rattle.value_tables.specs.ValueTallies.{number_of};
-ghost use Rattle.value_tables.specs.Values.{IsCellOf, bytes_at, conversion_of, raw_at};
-ghost use Rattle.value_tables.specs.Values.{width_of};
+ghost use Rattle.value_tables.specs.Values.{IsCellOf, bytes_at, conversion_of, raw_at, width_of};
 
 use crate::column::Column;
 use crate::source::Source;
