@@ -1,4 +1,3 @@
-
 use crate::coming_back::ComingBack;
 use crate::lent::Lent;
 use crate::returns::Returns;
