@@ -13,4 +13,5 @@ use Rattle.daq_store.specs.contracts.list_state.ListState as state
 -- what is last left behind the second reference stands in the place of list l
 abbrev pub LendsList : MutBor (Vec ListState Global) → ℕ → MutBor ListState → Fml
 LendsList lists l list =
-    Lends (vec.the_row state.the_row global.the_row ghosts) state.the_row lists list (with_item lists.now l)
+    Lends (vec.the_row state.the_row global.the_row ghosts) state.the_row lists list
+    (with_item lists.now l)
