@@ -11,7 +11,8 @@
  * Link with libnerthogal_c.a, and with liblibc_c.a of the Rattle toolchain, which connects it to
  * the C library's malloc, realloc and free.
  *
- * The comment on each call says what is proved of it. The proofs assume that the caller keeps the
+ * The comment on each call says what is proved of it, and what is only tested. The tests are the
+ * programs NAME_test.c of examples/c, which .ci/c runs. The proofs assume that the caller keeps the
  * rules below. The library can't check them.
  *
  * Bytes
@@ -284,8 +285,9 @@ ng_status ng_store_free(ng_store *store);
  *   NG_MEMORY           malloc failed
  *   NG_OK               *engine holds the new engine
  *
- * They are checked in this order. Except on NG_OK, *engine is unchanged. Proved: all of this,
- * except that malloc failed, and that it is called last. Calls malloc and free. */
+ * They are checked in this order. Except on NG_OK, *engine is unchanged. Proved: all of this, but
+ * not that malloc failed if NG_MEMORY is returned, nor that this is checked last, which the tests
+ * show. Calls malloc and free. */
 ng_status ng_open(ng_store *store, ng_ring ring, const size_t *caps, size_t caps_len,
                   ng_engine *engine);
 
@@ -364,9 +366,10 @@ ng_status ng_pump(ng_engine *engine, uint8_t *buffer, size_t buffer_cap, size_t 
  * They are checked in this order. Except on NG_OK, nothing changes. On NG_OK, the first *len bytes
  * of the buffer are whole frames of whole samples, and the bytes after them are unchanged. While
  * samplers go on in other threads, a call goes on with what they send until the buffer is full; a
- * stop takes no bytes of it. Proved: all of this, and what was taken and written: the items that
- * such pumps take, in their order. The tests show that it calls neither malloc nor realloc, and
- * that its bytes are those of ng_pump. */
+ * stop takes no bytes of it. Proved: all of this, but that it begins at event channel 0 after
+ * ng_drain only if something was left there; and what was taken and written: the items that such
+ * pumps take, in their order. The tests show that it calls neither malloc nor realloc, and that its
+ * bytes are those of ng_pump. */
 ng_status ng_pump_all(ng_engine *engine, uint8_t *buffer, size_t buffer_cap, size_t *len,
                       ng_pumped_all *pumped);
 
@@ -379,9 +382,9 @@ ng_status ng_pump_all(ng_engine *engine, uint8_t *buffer, size_t buffer_cap, siz
  *   NG_NO_ENGINE  the engine was freed, and with it what was in the ring
  *   NG_OK         what is left of the sampler went back
  *
- * Proved: all of this, and that what is left has the event channel, the DAQ lists with their
- * counts, and all that the sampler sent; but not that NG_NO_ENGINE is returned only if the engine
- * was freed. Calls free. */
+ * Proved: NG_EMPTY exactly if there is no sampler, and that *sampler is then empty. Only tested, by
+ * engine_test.c and threads_test.c: what is left, that it goes back, and that NG_NO_ENGINE is
+ * returned only if the engine was freed. Calls free. */
 ng_status ng_finish(ng_sampler *sampler);
 
 /* Looks at all that the finished samplers of an engine sent, and pumps once, as ng_pump does, if
@@ -415,8 +418,9 @@ ng_status ng_drain(ng_engine *engine, uint8_t *buffer, size_t buffer_cap, size_t
  * They are checked in this order. Except on NG_OK, the engine keeps all that it has, and lines and
  * *report are unchanged. On NG_OK, the elements of lines after the account are unchanged. Proved:
  * all of this, and each number of the account, from what was written and from what came back of the
- * samplers that the engine was opened with: due = written + dropped + left; but not that
- * NG_UNFINISHED is returned only in those cases, which the tests show. Calls free. */
+ * samplers that the engine was opened with: due = written + dropped + left. Only tested, by
+ * engine_test.c and threads_test.c: that what came back counts the triggers that ng_trigger took,
+ * and that NG_UNFINISHED is returned only in those cases. Calls free. */
 ng_status ng_close(ng_engine *engine, ng_line *lines, size_t lines_cap, ng_report *report);
 
 /* Free an engine, with the samplers that weren't handed out; and free a sampler. What is left in
@@ -425,7 +429,13 @@ ng_status ng_close(ng_engine *engine, ng_line *lines, size_t lines_cap, ng_repor
 ng_status ng_engine_free(ng_engine *engine);
 ng_status ng_sampler_free(ng_sampler *sampler);
 
-/* ---- a slave that a master connects to */
+/* ---- a slave that a master connects to
+ *
+ * Of these calls it is proved which statuses come, in which order, what is then unchanged, and how
+ * many bytes are taken. What a slave answers, which frames it lays out, and its account are only
+ * tested, by session_test.c, tasks_test.c and measurements_test.c of examples/c, and by .ci/live:
+ * the contracts speak of acts of the slave that the code of a call may pick, and promise nothing if
+ * these are more than 2^57. docs/PROVED.md says what is proved of the parts of a slave. */
 
 /* Opens a slave with a profile, and with so many event channels: events[c] is event channel c. No
  * master is connected, there is no DAQ list, and nothing waits. Its CTR begins at 0.
@@ -437,8 +447,8 @@ ng_status ng_sampler_free(ng_sampler *sampler);
  *   NG_OK          *slave holds the new slave
  *
  * NG_IN_USE is checked first; the next two come in either order. Except on NG_OK, *slave is
- * unchanged. Proved: all of this, except that malloc failed if NG_MEMORY is returned. Calls malloc,
- * realloc and free. */
+ * unchanged. Proved: all of this, but not that malloc failed if NG_MEMORY is returned, nor that the
+ * rings have their capacities, which is only tested. Calls malloc, realloc and free. */
 ng_status ng_slave_open(const ng_profile *profile, const ng_event *events, size_t channels,
                         ng_slave *slave);
 
@@ -452,9 +462,9 @@ ng_status ng_slave_open(const ng_profile *profile, const ng_event *events, size_
  *   NG_OK          *task holds the task
  *
  * They are checked in this order. Except on NG_OK, nothing changes. Proved: all of this, except
- * that malloc failed, and that the tasks were made in the order of the event channels, which the
- * tests show. Calls malloc three times, but not on the first four statuses; and free on
- * NG_MEMORY. */
+ * that malloc failed, and that the tasks are those of this slave, in the order of the event
+ * channels, which the tests show. Calls malloc three times, but not on the first four statuses; and
+ * free on NG_MEMORY. */
 ng_status ng_slave_task(ng_slave *slave, uint16_t channel, ng_task *task);
 
 /* Takes bytes of a master's stream, as TCP has it, in whatever pieces they come. Each packet that
@@ -467,23 +477,25 @@ ng_status ng_slave_task(ng_slave *slave, uint16_t channel, ng_task *task);
  *   NG_OK         the first *taken bytes were taken: all of them, or those up to the end of a frame
  *                 behind which no reply finds room. Pass the others again once replies were sent
  *
- * They are checked in this order. Except on NG_OK, *taken is unchanged. Proved: all of this, which
- * packets were answered, and each reply, from the definitions of the commands and all that the
- * slave did before; but not that malloc or realloc failed if a reply is ERR_MEMORY_OVERFLOW. Calls
- * malloc, realloc and free, for allocations, and where measurements begin and end. */
+ * They are checked in this order. Except on NG_OK, *taken is unchanged. Proved: the statuses, in
+ * whatever pieces the bytes come; and how many bytes are taken. Only tested: that the packets are
+ * answered, each reply, and that the lists stop at a bad frame. Calls malloc, realloc and free, for
+ * allocations, and where measurements begin and end. */
 ng_status ng_slave_receive(ng_slave *slave, const uint8_t *bytes, size_t len, uint32_t clock,
                            size_t *taken);
 
 /* The same of one datagram, as UDP has it, which holds whole frames. A part of a frame at the end,
  * or a frame with LEN 0 or over 64, drops what is left of the datagram, and nothing else. NG_EMPTY
- * if *slave is empty; then *taken is unchanged. Proved: all of this, as for ng_slave_receive. */
+ * if *slave is empty; then *taken is unchanged. Proved and only tested: as for ng_slave_receive. */
 ng_status ng_slave_datagram(ng_slave *slave, const uint8_t *bytes, size_t len, uint32_t clock,
                             size_t *taken);
 
 /* The transport was lost: all DAQ lists stop and are freed, and no master is connected, as after
  * DISCONNECT; but nothing is replied. What is held of a frame is dropped: the next byte of a stream
- * is the first of a frame. What waits to be sent waits on. NG_EMPTY if *slave is empty. Proved: all
- * of this. Calls free. */
+ * is the first of a frame. What waits to be sent waits on. NG_EMPTY if *slave is empty. Proved:
+ * the statuses, and that the next byte is the first of a frame. The rest is proved of a slave that
+ * stands after its log (docs/PROVED.md); behind ng_slave_receive, ng_slave_datagram or
+ * ng_slave_peek it is only tested. Calls free. */
 ng_status ng_slave_hang_up(ng_slave *slave);
 
 /* Takes samples off the rings, and lays frames that wait out in buffer[0] to buffer[*len - 1]: as
@@ -495,12 +507,13 @@ ng_status ng_slave_hang_up(ng_slave *slave);
  *   NG_OK            the frames stand in the buffer; *len is 0 if nothing waits
  *
  * They are checked in this order. Except on NG_OK, nothing changes. On NG_OK, the bytes after the
- * first *len are unchanged. A buffer of 1400 bytes fits a datagram. Proved: all of this, and which
- * frames they are. The tests show that it calls neither malloc nor realloc. */
+ * first *len are unchanged. A buffer of 1400 bytes fits a datagram. Proved: the statuses, and what
+ * is unchanged. Only tested: which frames they are, that they are whole and wait on, and that it
+ * calls neither malloc nor realloc. */
 ng_status ng_slave_peek(ng_slave *slave, uint8_t *buffer, size_t buffer_cap, size_t *len);
 
 /* What the last ng_slave_peek laid out was sent, and waits no more. NG_EMPTY if *slave is empty.
- * Proved: all of this. Calls neither malloc nor realloc. */
+ * Proved: the statuses; the rest as of ng_slave_hang_up. Calls neither malloc nor realloc. */
 ng_status ng_slave_sent(ng_slave *slave);
 
 /* Does what the slave ordered of this task, and then takes a trigger of its event channel, as
@@ -512,12 +525,15 @@ ng_status ng_slave_sent(ng_slave *slave);
  *   NG_OK           *taken says what it did
  *
  * They are checked in this order. Except on NG_OK, *taken is unchanged, and no trigger is taken.
- * Proved: all of this. The tests show that it calls neither malloc nor realloc nor free. */
+ * Proved: all of this, but not that it finds what the slave ordered, nor that what is left of a
+ * measurement goes back. The tests show that, and that it calls neither malloc nor realloc nor
+ * free. */
 ng_status ng_task_trigger(ng_task *task, const uint8_t *image, size_t image_len, uint32_t stamp,
                           ng_taken *taken);
 
 /* Finishes a task. What is left of it goes back to its slave, which is still open. *task is then
- * empty. NG_EMPTY if *task is empty. Proved: all of this. Calls free. */
+ * empty. NG_EMPTY if *task is empty. Proved: all of this, but not that what is left goes back,
+ * which is only tested. Calls free. */
 ng_status ng_task_finish(ng_task *task);
 
 /* Closes a slave, and returns the account of its session: lines[l] is the line of DAQ list l, over
@@ -533,9 +549,8 @@ ng_status ng_task_finish(ng_task *task);
  *
  * They are checked in this order. Except on NG_OK, the slave keeps all that it has, and lines and
  * *whole are unchanged. On NG_OK, the elements of lines after the account are unchanged. Proved:
- * all of this, and each number of the account, from what was sent and from what came back of the
- * tasks; but not that NG_UNFINISHED is returned only if a task isn't finished, which the tests
- * show. Calls free. */
+ * the statuses, and what is unchanged. Only tested: that all lists stop, each number of the
+ * account, *whole, and that NG_UNFINISHED is returned only if a task isn't finished. Calls free. */
 ng_status ng_slave_close(ng_slave *slave, ng_line *lines, size_t lines_cap, bool *whole);
 
 #ifdef __cplusplus
