@@ -1,5 +1,5 @@
 -- What contracts see of a ring of orders.
-use Rattle.std.specs.Prelude.{ℕ, List}
+use Rattle.std.specs.Prelude.{◌≡◌, ℕ, ◌≤◌, List, []}
 use Rattle.channel_ring.specs.Ends.{RingName}
 use Rattle.control_ring.specs.declared.order.Order.{Order}
 
@@ -21,3 +21,17 @@ pub record TakeState : Type 0 where
 pub record EndedState : Type 0 where
   pub sent : List Order
   pub ring : RingName
+
+-- the two ends of a new ring with so many places, which are free
+pub record AreEnds (places : ℕ) (s : SendState) (t : TakeState) : Type 0 where
+  pub one_ring : s.ring ≡ t.ring
+  pub sent : s.sent ≡ []
+  pub capacity : s.capacity ≡ places
+  pub free : s.free ≡ places
+  pub received : t.received ≡ []
+  pub known : t.known ≡ []
+
+-- a look at the other end of a ring: more places may be known to be free
+pub record LooksForRoom (a b : SendState) : Type 0 where
+  pub rest : b ≡ record a { free = b.free }
+  pub grows : a.free ≤ b.free

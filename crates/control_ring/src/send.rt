@@ -1,5 +1,6 @@
-ghost use Rattle.std.specs.Prelude.{◌≡◌, ◌+◌, ◌≤◌, [], ◌∷◌, ◌++◌};
+ghost use Rattle.std.specs.Prelude.{◌≡◌, ◌+◌, ◌<◌, ◌≤◌, [], ◌∷◌, ◌++◌};
 ghost use Rattle.std.specs.Prelude.{IfErr, IfSome, IsOk, OnErr, OnOk, length};
+ghost use Rattle.control_ring.specs.Orders.{LooksForRoom};
 
 use crate::ended::ControlEnded;
 use crate::order::Order;
@@ -50,6 +51,25 @@ impl ControlSend {
             Ok(()) => Ok(()),
             Err(PushError::Full(order)) => Err(order),
         }
+    }
+
+    /// Looks at the other end, and returns the places known to be free from then on.
+    pub fn room(&mut self) -> usize
+        ensures value { result ≡ self.new.free }
+        ensures looked { LooksForRoom self.old self.new }
+    {
+        self.producer.slots()
+    }
+
+    /// Sends an order for which a place is known to be free. It takes no memory.
+    pub fn send_reserved(&mut self, order: Order)
+        requires place { 0 < self.old.free }
+        ensures sends { self.new.sent ≡ self.old.sent ++ order ∷ [] }
+        ensures spent { self.old.free ≡ self.new.free + 1 }
+        ensures capacity_stays { self.new.capacity ≡ self.old.capacity }
+        ensures ring_stays { self.new.ring ≡ self.old.ring }
+    {
+        self.producer.push_reserved(order);
     }
 
     /// Gives the end up. What was sent stays in the ring. `None` if the take end was dropped

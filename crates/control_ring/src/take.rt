@@ -1,8 +1,10 @@
 ghost use Rattle.std.specs.Prelude.{◌≡◌, ◌<◌, [], ◌∷◌, ◌++◌, length, IfSome, IsNone, IsSome};
 ghost use mathlib.Core.List.{IsPrefix};
+ghost use Rattle.control_ring.specs.Orders.{LooksForRoom};
 
 use crate::ended::ControlEnded;
 use crate::order::Order;
+use crate::send::ControlSend;
 use rtrb::Consumer;
 use std::marker::Model;
 
@@ -62,6 +64,20 @@ impl ControlTake {
         ensures ring_stays { self.new.ring ≡ self.old.ring }
     {
         self.consumer.pop().ok()
+    }
+
+    /// Looks at all that was sent through the send end of this ring, which is beside, and returns
+    /// how many orders are left.
+    pub fn beside(&mut self, send: &mut ControlSend) -> usize
+        requires one_ring { send.old.ring ≡ self.old.ring }
+        ensures count { result ≡ length self.new.known }
+        ensures left { self.new.received ++ self.new.known ≡ send.new.sent }
+
+        ensures received_stays { self.new.received ≡ self.old.received }
+        ensures ring_stays { self.new.ring ≡ self.old.ring }
+        ensures looked { LooksForRoom send.old send.new }
+    {
+        self.consumer.slots_beside(&mut send.producer)
     }
 
     /// Looks at all that was sent through the finished send end of this ring, and returns how many

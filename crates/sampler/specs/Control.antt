@@ -7,7 +7,7 @@ use Rattle.channel_ring.specs.declared.ends.RingEnd.{Ghosts as EndGhosts}
 use Rattle.control_ring.specs.Orders.{TakeState}
 use Rattle.control_ring.specs.declared.order.Order.{Order}
 use Rattle.control_ring.specs.declared.order.Order.TheVariants as order
-use Rattle.sampler.specs.History.{Event, Start, Stop}
+use Rattle.sampler.specs.History.{Start, Stop}
 use Rattle.sampler.specs.Items.{marker_of}
 use Rattle.sampler.specs.Past.{Past}
 use Rattle.sampler.specs.Refusals.{running_at, start_refusal, stop_refusal}
@@ -17,16 +17,20 @@ use Rattle.sampler.specs.Stays.{HasNoRoomFor, OnlyLooked}
 use Rattle.sampler.specs.declared.polled.Polled.{Polled}
 use Rattle.sampler.specs.declared.polled.Polled.TheVariants.{Done, Nothing, Refused, Waiting}
 
--- the event that an order asks for
-abbrev pub event_of : Order → Event
-event_of (order.Start l) = Start l
-event_of (order.Stop l) = Stop l
+-- what an order that is carried out is to a sampler: a start or a stop is one event more; an order
+-- to end is for who holds the sampler, which stays as it was
+abbrev pub CarriesOut :
+    {S E : Type 0} → SendGhosts S E → EndGhosts E → SamplerState S → SamplerState S → Order → Type 0
+CarriesOut send ring s t (order.Start l) = GoesOn send ring s t (Start l)
+CarriesOut send ring s t (order.Stop l) = GoesOn send ring s t (Stop l)
+CarriesOut send ring s t order.End = t ≡ s
 
 -- whether an order is refused, whatever room there is: a start if the list isn't of the channel
--- or runs, a stop if it isn't or doesn't
+-- or runs, a stop if it isn't or doesn't; an order to end never is
 abbrev pub is_refused : Past → Order → Bool
 is_refused past (order.Start l) = is_some (start_refusal (running_at past l))
 is_refused past (order.Stop l) = is_some (stop_refusal (running_at past l))
+is_refused past order.End = false
 
 -- the order that was taken off
 abbrev pub answered : Polled → List Order
@@ -52,13 +56,13 @@ pub record IsTakenOff (a b : TakeState) (o : Order) : Type 0 where
   pub taken : b.received ≡ a.received ++ o ∷ []
   pub first : IsPrefix a.known (o ∷ b.known)
 
--- an order was carried out: the sampler stands after one event more
+-- an order was carried out
 pub record IsDone {S E : Type 0} (send : SendGhosts S E) (ring : EndGhosts E)
     (s t : SamplerState S) (a b : TakeState) (o : Order)
     : Type 0 where
   pub off : IsTakenOff a b o
   pub not_refused : Refuses send ring s o false
-  pub goes_on : GoesOn send ring s t (event_of o)
+  pub carried_out : CarriesOut send ring s t o
 
 -- an order was refused: the sampler is as it was
 pub record IsRefused {S E : Type 0} (send : SendGhosts S E) (ring : EndGhosts E)
@@ -86,8 +90,8 @@ abbrev pub Polls :
 Polls send ring s t a b Nothing = IsIdle s t a b
 Polls send ring s t a b (Done o) = IsDone send ring s t a b o
 Polls send ring s t a b (Refused o) = IsRefused send ring s t a b o
-Polls send ring s t a b (Waiting (order.Start l)) = ⊥
 Polls send ring s t a b (Waiting (order.Stop l)) = Waits send ring s t a b l
+Polls send ring s t a b (Waiting _) = ⊥
 
 -- looks at a ring of orders, one behind another, with these answers, if nothing else takes from
 -- it

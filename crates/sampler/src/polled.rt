@@ -5,7 +5,7 @@ use control_ring::Order;
 pub enum Polled {
     /// No order was there.
     Nothing,
-    /// The order was taken off and carried out.
+    /// The order was taken off and carried out; an order to end is for who holds the sampler.
     Done(Order),
     /// The order was taken off and refused, for another cause than lack of room. The sampler is
     /// unchanged.

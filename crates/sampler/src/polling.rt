@@ -16,7 +16,8 @@ impl<S: SendEnd> Sampler<S> {
     /// Carries out the order at the front of a control ring, if one is there.
     ///
     /// A start or a stop that is refused is taken off too; but a stop whose marker finds no room
-    /// stays at the front, and the orders behind it wait with it. It takes no memory.
+    /// stays at the front, and the orders behind it wait with it. An order to end is taken off, and
+    /// told: the sampler does nothing then. It takes no memory.
     pub fn poll_control(&mut self, ctl: &mut ControlTake) -> Polled
         ensures polled { Polls S.SendEnd S.End.RingEnd self.old self.new ctl.old ctl.new result }
         ensures orders { ctl.new.received ≡ ctl.old.received ++ answered result }
@@ -27,10 +28,15 @@ impl<S: SendEnd> Sampler<S> {
             None => Polled::Nothing,
             Some(Order::Start(l)) => self.start_ordered(ctl, l),
             Some(Order::Stop(l)) => self.stop_ordered(ctl, l),
+            Some(Order::End) => {
+                ctl.take();
+                Polled::Done(Order::End)
+            }
         }
     }
 
     /// Carries out the start at the front.
+    #[inline(never)]
     fn start_ordered(&mut self, ctl: &mut ControlTake, l: u8) -> Polled
         requires front { IsPrefix (ToStart l ∷ []) ctl.old.known }
         ensures polled { Polls S.SendEnd S.End.RingEnd self.old self.new ctl.old ctl.new result }
@@ -47,6 +53,7 @@ impl<S: SendEnd> Sampler<S> {
     }
 
     /// Carries out the stop at the front, unless its marker finds no room.
+    #[inline(never)]
     fn stop_ordered(&mut self, ctl: &mut ControlTake, l: u8) -> Polled
         requires front { IsPrefix (ToStop l ∷ []) ctl.old.known }
         ensures polled { Polls S.SendEnd S.End.RingEnd self.old self.new ctl.old ctl.new result }
