@@ -88,8 +88,8 @@ module _ {S E : Type 0} (send : SendGhosts S E) (ring : EndGhosts E) where
     pub stands :
         (past : Past) → StandsAfter send ring s past → EndStandsAfter (joined ring e) past
 
-  -- a sampler is finished, and what is left of it goes back (`Lent::finish` says where); or its
-  -- engine is gone
+  -- a sampler is finished, or its engine is gone. Of what is left of it this says that it is there;
+  -- that it goes back is said by `Lent::finish` alone
   abbrev pub FinishesSampler : SamplerState S → Status → Type 0
   FinishesSampler s status.Ok = (e : SamplerEndState E) × IsLeftOf s e
   FinishesSampler s status.NoEngine = Unit {0}

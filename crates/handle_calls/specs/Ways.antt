@@ -1,5 +1,5 @@
 -- The way on which what is left of a sampler goes back to its engine.
-use Rattle.std.specs.Prelude.{◌≡◌, List, [], ◌∷◌}
+use Rattle.std.specs.Prelude.{◌≡◌}
 use mathlib.Core.List.{IsPrefix}
 use Rattle.channel_ring.specs.declared.ends.SendEnd.{Ghosts as SendGhosts}
 use Rattle.channel_ring.specs.declared.ends.RingEnd.{Ghosts as EndGhosts}
@@ -7,8 +7,6 @@ use Rattle.sampler.specs.Past.{Past}
 use Rattle.sampler.specs.Standing.{EndStandsAfter, StandsAfter}
 use Rattle.sampler.specs.State.{SamplerEndState, SamplerState, joined}
 use Rattle.sampler.specs.Stays.{KeepsSetUp}
-use Rattle.handle_calls.specs.declared.returns.Return.{Return}
-use Rattle.handle_calls.specs.declared.returns.Return.TheVariants.{End, Sampler}
 
 -- a past goes on from an earlier one of the same opening
 pub record GoesOnFrom (past later : Past) : Type 0 where
@@ -34,30 +32,3 @@ module _ {S E : Type 0} (send : SendGhosts S E) (ring : EndGhosts E) where
     pub stands :
         (past : Past) → StandsAfter send ring s past
         → (later : Past) × GoesOnFrom past later × EndStandsAfter (joined ring e) later
-
-  -- the sampler itself goes first; then what is left of it. Nothing follows
-  abbrev pub Follows : List (Return S E) → Return S E → Type 0
-  Follows [] (Sampler s) = Unit {0}
-  Follows (Sampler s ∷ []) (End e) = IsEndOf s e
-  Follows _ _ = ⊥
-
--- what is known where something was given back: the sampler that went first, and what is left of it
-pub record GivenState (S E : Type 0) : Type 0 where
-  pub began : SamplerState S
-  pub end : SamplerEndState E
-
-module _ {S E : Type 0} where
-  -- this sampler went, and what is left of it didn't yet
-  abbrev pub IsBegunBy : SamplerState S → List (Return S E) → Type 0
-  IsBegunBy t (Sampler s ∷ []) = s ≡ t
-  IsBegunBy t _ = ⊥
-
-  -- this sampler went, and perhaps what is left of it
-  abbrev pub WasBegunBy : SamplerState S → List (Return S E) → Type 0
-  WasBegunBy t (Sampler s ∷ _) = s ≡ t
-  WasBegunBy t _ = ⊥
-
-  -- this sampler went, and then what is left of it
-  abbrev pub HasGiven : GivenState S E → List (Return S E) → Type 0
-  HasGiven given (Sampler s ∷ End e ∷ []) = (s ≡ given.began) × (e ≡ given.end)
-  HasGiven given _ = ⊥

@@ -1,10 +1,9 @@
-use crate::coming_back::ComingBack;
 use crate::lent::Lent;
-use crate::returns::Returns;
+use crate::rule::{EngineWay, LaterPast};
 use channel_ring::{SendEnd, TakeEnd};
 use daq_engine::Ring;
 use frame_writer::{Out, SinkOut};
-use rtrb::RingBuffer;
+use hand_over::hand_over;
 use sampler::{Sampler, SamplerEnd};
 use std::alloc::{AllocError, Global};
 use std::marker::Model;
@@ -17,7 +16,7 @@ use transmitter::Transmitter;
 pub struct Lending<R: Ring> {
     // in falling order of their event channels, so that the first one is popped
     pub(crate) samplers: Vec<Sampler<R::Send>>,
-    pub(crate) ways: Vec<ComingBack<R::Send>>,
+    pub(crate) ways: Vec<EngineWay<R::Send>>,
     pub(crate) ends: Vec<SamplerEnd<<R::Send as SendEnd>::End>>,
     // all of them, as they were at the opening
     pub(crate) began: Snapshot<Vec<Sampler<R::Send>>>,
@@ -83,13 +82,16 @@ impl<R: Ring> Lending<R> {
         let Some(sampler) = self.samplers.pop() else {
             return Ok(None);
         };
-        let Ok((producer, consumer)) = RingBuffer::with_protocol::<Global, Returns>(alloc, 1) else {
-            self.samplers.push_reserved(sampler);
-            return Err(AllocError);
-        };
-        let (lent, way) = Lent::over(producer, consumer, sampler);
-        self.ways.push_reserved(way);
-        Ok(Some(lent))
+        match hand_over::<_, _, LaterPast>(alloc, sampler) {
+            Ok((sampler, way, coming)) => {
+                self.ways.push_reserved(coming);
+                Ok(Some(Lent { sampler, way }))
+            }
+            Err(sampler) => {
+                self.samplers.push_reserved(sampler);
+                Err(AllocError)
+            }
+        }
     }
 
     /// Takes the sampler back that was handed out last, as though it hadn't been.

@@ -1,23 +1,18 @@
 ghost use Rattle.handle_calls.specs.Samplers.{FinishesSampler};
 
-use crate::coming_back::ComingBack;
 use crate::counts_out::CountsOut;
-use crate::returns::{Return, Returns};
+use crate::rule::{GivenBack, SamplerWay};
 use crate::status::Status;
 use crate::taken_out::TakenOut;
-use crate::way_back::{Given, WayBack};
 use daq_engine::Ring;
-use rtrb::{Consumer, Producer};
 use sampler::{Sampler, StartFault, StopFault, TriggerFault};
-use std::alloc::Global;
 use std::marker::Model;
-use std::snapshot::Snapshot;
 
 /// A sampler that was handed out, and its way back to its engine.
 #[derive(Drop)]
 pub struct Lent<R: Ring> {
     pub(crate) sampler: Sampler<R::Send>,
-    pub(crate) way: WayBack<R::Send>,
+    pub(crate) way: SamplerWay<R::Send>,
 }
 
 impl<R: Ring> Model for Lent<R> {
@@ -32,41 +27,9 @@ impl<R: Ring> Model for Lent<R> {
 }
 
 impl<R: Ring> Lent<R> {
-    ghost use Rattle.std.specs.Prelude.{◌≡◌, [], ◌<◌, IfErr, IfOk};
-    ghost use Rattle.rtrb.specs.Ring.{IsPair, known_free, received, sent};
+    ghost use Rattle.std.specs.Prelude.{◌≡◌, IfErr, IfOk};
     ghost use Rattle.handle_calls.specs.Samplers.{CountsList, IsLeftOf, StartsList, StopsList};
     ghost use Rattle.handle_calls.specs.Samplers.{TriggersSampler};
-
-    /// A sampler with its way back, and the other end of that.
-    pub fn over(
-        mut producer: Producer<Return<R::Send>, Global, Returns>,
-        mut consumer: Consumer<Return<R::Send>, Global, Returns>,
-        sampler: Sampler<R::Send>,
-    ) -> (Lent<R>, ComingBack<R::Send>)
-        requires pair { IsPair producer consumer }
-        requires room { 0 < known_free producer }
-        requires nothing_sent { sent producer ≡ [] }
-        requires nothing_received { received consumer ≡ [] }
-        ensures sampler { result.0 ≡ sampler }
-        ensures coming { result.1 ≡ sampler }
-    {
-        let began = Snapshot::of(&sampler);
-        let kept = Snapshot::of(&sampler);
-        // for the proof: pushed and popped at once, so that both ends of the way know the sampler
-        producer.push_reserved(Return::Sampler(sampler));
-        let _ = consumer.slots_beside(&mut producer);
-        let Return::Sampler(sampler) = consumer.pop_known() else {
-            unreachable!()
-        };
-        // for the proof: the place on the way is known to be free again
-        let _ = producer.slots_beside(&mut consumer);
-        let way = WayBack { producer, began };
-        let coming = ComingBack {
-            consumer,
-            began: kept,
-        };
-        (Lent { sampler, way }, coming)
-    }
 
     /// Takes a trigger.
     pub fn trigger(&mut self, image: &[u8], stamp: u32, taken: &mut TakenOut) -> Status
@@ -124,9 +87,9 @@ impl<R: Ring> Lent<R> {
 
     /// Finishes the sampler, and gives what is left of it back. Refused with `NoEngine` if the
     /// engine was freed: then nothing is left.
-    pub fn finish(self) -> Result<Given<R::Send>, Status>
+    pub fn finish(self) -> Result<GivenBack<R::Send>, Status>
         ensures ok { IfOk result (λ given.
-            IsLeftOf R.Send.SendEnd R.Send.End.RingEnd self given.end) }
+            IsLeftOf R.Send.SendEnd R.Send.End.RingEnd self given.left) }
         ensures err { IfErr result (λ status. status ≡ Status.NoEngine) }
     {
         let Lent { sampler, way } = self;

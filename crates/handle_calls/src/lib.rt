@@ -5,7 +5,6 @@
 mod asked;
 mod carrying;
 mod closing;
-mod coming_back;
 mod content;
 mod counts_out;
 mod draining;
@@ -27,12 +26,11 @@ mod pumped_all_out;
 mod pumped_out;
 mod pumping;
 mod report_out;
-mod returns;
+mod rule;
 mod sampler_calls;
 mod status;
 mod store;
 mod taken_out;
-mod way_back;
 
 pub use asked::Asked;
 pub use closing::close_by;

@@ -9,8 +9,8 @@ use Rattle.channel_intake.specs.Deeds.{Deed}
 use Rattle.channel_intake.specs.Deeds.{runs as runs_there}
 use Rattle.channel_intake.specs.Intakes.{StandsAfter}
 use Rattle.tasks.specs.Links.{AwayState, EndsNewest, EndsUnordered, LinkState, LooksAtNewest, SendsToNewest, is_running, runs_by, runs_of, takes_orders}
-use Rattle.tasks.specs.declared.order.Order.{Order}
-use Rattle.tasks.specs.declared.order.Order.TheVariants as order
+use Rattle.control_ring.specs.declared.order.Order.{Order}
+use Rattle.control_ring.specs.declared.order.Order.TheVariants as order
 use Rattle.slave_channel.specs.Channels.{ChannelState, ShareState}
 use Rattle.slave_channel.specs.Ordering.{GoesOnBy, OrdersAll, SendsAll}
 use Rattle.slave_channels.specs.Calls.{Ends, Looks}

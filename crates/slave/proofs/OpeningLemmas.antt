@@ -16,7 +16,8 @@ use Rattle.sampler.specs.State.{SamplerState, runs_in}
 use Rattle.sampler.proofs.Readers.{sampler-runs}
 use Rattle.daq_engine.specs.Opened.{IsOpenedAt}
 use Rattle.tasks.specs.Links.{is_running, takes_orders}
-use Rattle.slave_channel.specs.Channels.{ChannelState, Opens, ShareState, part_before}
+use Rattle.hand_over.specs.Newest.{one_before}
+use Rattle.slave_channel.specs.Channels.{ChannelState, Opens, ShareState}
 use Rattle.slave_channels.specs.Calls.{Ends, OpensIfAny}
 use Rattle.slave.specs.Standing.{ChannelHas}
 use Rattle.slave.proofs.ChannelLemmas.{channel-ends, channel-more, takes-ended}
@@ -25,7 +26,7 @@ and_false : (b : Bool) → (b && false) ≡ false
 and_false true = refl
 and_false false = refl
 
-part-before : {T : Type 0} (older newer : Option (ShareState T)) (p : ShareState T) → part_before older newer ≡ Some p → (older ≡ Some p) ⊎ (newer ≡ Some p)
+part-before : {T : Type 0} (older newer : Option (ShareState T)) (p : ShareState T) → one_before older newer ≡ Some p → (older ≡ Some p) ⊎ (newer ≡ Some p)
 part-before older None p is = inl is
 part-before older (Some q) p is = inr is
 

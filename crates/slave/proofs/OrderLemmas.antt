@@ -4,7 +4,7 @@ use Rattle.std.proofs.lemmas.Bool.Decides.{eqb_tells}
 use Rattle.xcp_base.specs.declared.limits.TheConstants.{MAX_LISTS}
 use Rattle.channel_intake.specs.Deeds.{Started, Stopped}
 use Rattle.tasks.specs.Links.{runs_by}
-use Rattle.tasks.specs.declared.order.Order.TheVariants.{Start, Stop}
+use Rattle.control_ring.specs.declared.order.Order.TheVariants.{Start, Stop}
 use Rattle.slave_channel.specs.Ordering.{one_if, starts_noted, starts_sent, stops_noted, stops_sent}
 use Rattle.slave.proofs.ChannelLemmas.{Sets, runs_by-all}
 use Rattle.slave.proofs.RunLemmas.{apart, here, runs-not-started, runs-not-stopped, runs-started, runs-stopped}

@@ -8,8 +8,9 @@ use Rattle.channel_ring.specs.declared.ends.RingEnd.{Ghosts as EndGhosts}
 use Rattle.channel_ring.specs.declared.ends.TakeEnd.{Ghosts as TakeGhosts}
 use Rattle.channel_intake.specs.Deeds.{Deed}
 use Rattle.daq_store.specs.Standing.{StoreState}
-use Rattle.tasks.specs.declared.order.Order.{Order}
-use Rattle.slave_channel.specs.Channels.{ChannelState, Opens, ShareState, part_before}
+use Rattle.control_ring.specs.declared.order.Order.{Order}
+use Rattle.hand_over.specs.Newest.{one_before}
+use Rattle.slave_channel.specs.Channels.{ChannelState, Opens, ShareState}
 use Rattle.slave_channel.specs.Ordering.{GoesOnBy, OrdersAll}
 use Rattle.slave_channels.specs.Calls.{Ends, Looks, OpensIfAny}
 use Rattle.slave_channels.specs.Each.{IsEach}
@@ -33,7 +34,7 @@ pub record KeepsParts {S T : Type 0} (a b : ChannelState S T) : Type 0 where
   pub newer : number_of b.newer ≡ number_of a.newer
   pub older : number_of b.older ≡ number_of a.older
 
-number-before : {T : Type 0} (older newer : Option (ShareState T)) (m : ℕ) → number_of (part_before older newer) ≡ Some m → (number_of older ≡ Some m) ⊎ (number_of newer ≡ Some m)
+number-before : {T : Type 0} (older newer : Option (ShareState T)) (m : ℕ) → number_of (one_before older newer) ≡ Some m → (number_of older ≡ Some m) ⊎ (number_of newer ≡ Some m)
 number-before older None m is = inl is
 number-before older (Some q) m is = inr is
 
@@ -131,7 +132,7 @@ choose {X} (y ∷ ys) P Q each =
 
 -- the part that was kept before is kept behind another, where there was room
 before-kept : {T : Type 0} (older newer : Option (ShareState T)) (m : ℕ) → (older ≡ None) ⊎ (newer ≡ None)
-    → (number_of newer ≡ Some m) ⊎ (number_of older ≡ Some m) → number_of (part_before older newer) ≡ Some m
+    → (number_of newer ≡ Some m) ⊎ (number_of older ≡ Some m) → number_of (one_before older newer) ≡ Some m
 before-kept None None m room (inl w) = w
 before-kept None None m room (inr w) = w
 before-kept (Some p) None m room (inl w) = absurd (none_some m w) where

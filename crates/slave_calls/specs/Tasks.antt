@@ -16,7 +16,7 @@ use Rattle.task_lending.specs.Slots.{SlotState, with_task}
 use Rattle.task_lending.specs.States.{LendingSlaveState}
 use Rattle.task_lending.specs.declared.lend_fault.LendFault.{LendFault}
 use Rattle.task_lending.specs.declared.lend_fault.LendFault.TheVariants as refusal
-use Rattle.tasks.specs.Places.{PlaceState}
+use Rattle.hand_over.specs.Places.{PlaceState}
 use Rattle.tasks.specs.Tasks.{HeldState, TakesTurn, TaskState}
 use Rattle.slave_calls.specs.OnHandles.{OnSlave, OnTask}
 
@@ -68,7 +68,8 @@ module _ {S E : Type 0} (send : SendGhosts S E) (ring : EndGhosts E) where
       × (after ≡ before)
   TriggersTask s t image stamp before after _ = ⊥
 
--- a task is finished, and what is left of it goes back (`LentTask::finish` says where)
+-- a task is finished. Of what is left of it this says that it is there; that it goes back is said by
+-- `LentTask::finish` alone
 abbrev pub FinishesTask : {S : Type 0} → TaskState S → Status → Type 0
 FinishesTask s result =
     (result ≡ status.Ok) × ((end : PlaceState (HeldState _)) × (end.taken ≡ s.came))

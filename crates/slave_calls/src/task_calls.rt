@@ -73,7 +73,7 @@ fn holds_task(content: &Content) -> bool
 fn finish<S: SendEnd>(task: LentTask<S>) -> Status
     ensures { FinishesTask task result }
 {
-    // for the proof: there is such a value only if what is left went back
+    // there is such a value only if what is left went back; no clause of this call says so
     let _given = task.finish();
     Status::Ok
 }

@@ -9,8 +9,8 @@ use Rattle.channel_intake.specs.Deeds.{Deed, Started, Stopped}
 use Rattle.channel_intake.specs.Intakes.{StandsAfter}
 use Rattle.tasks.specs.Links.{AwayState, CanStart, LinkState, LooksAtNewest, SendsToNewest, is_end, is_running, runs_of, without}
 use Rattle.tasks.specs.Needs.{places_for}
-use Rattle.tasks.specs.declared.order.Order.{Order}
-use Rattle.tasks.specs.declared.order.Order.TheVariants.{Start, Stop}
+use Rattle.control_ring.specs.declared.order.Order.{Order}
+use Rattle.control_ring.specs.declared.order.Order.TheVariants.{Start, Stop}
 use Rattle.tasks.proofs.NeedLemmas.{how_many-same}
 use Rattle.tasks.proofs.RunningLemmas.{runs-sent}
 use Rattle.slave_channel.specs.Channels.{ChannelState, NewestGoesOn, Orders, ShareState}

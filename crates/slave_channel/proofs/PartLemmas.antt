@@ -23,13 +23,14 @@ use Rattle.channel_intake.specs.Deeds.{Deed as IntakeDeed, taken}
 use Rattle.channel_intake.specs.Intakes.{IntakeState, StandsAfter}
 use Rattle.tasks.specs.Deeds.{Deed, Obeyed, Took, past_after, past_after_deed, unless_refused}
 use Rattle.tasks.specs.Links.{AwayState, CameBack}
-use Rattle.tasks.specs.declared.order.Order.TheVariants as order
+use Rattle.control_ring.specs.declared.order.Order.TheVariants as order
 use Rattle.daq_store.specs.Standing.{StoreState}
 use Rattle.daq_engine.specs.Opened.{IsOpenedAt}
 use Rattle.sampler.specs.History.{Opening}
 use Rattle.tasks.specs.Links.{AnswersHandOut, HandsOut, LinkState, SendsToNewest, first_refusal, hand_refusal, takes_orders}
-use Rattle.tasks.specs.declared.order.Order.{Order}
-use Rattle.slave_channel.specs.Channels.{ChannelState, FinishedState, Fits, IsBack, IsBackOf, IsFinished, IsShareOf, Opens, ShareState, part_before}
+use Rattle.control_ring.specs.declared.order.Order.{Order}
+use Rattle.hand_over.specs.Newest.{one_before}
+use Rattle.slave_channel.specs.Channels.{ChannelState, FinishedState, Fits, IsBack, IsBackOf, IsFinished, IsShareOf, Opens, ShareState}
 use Rattle.slave_channel.specs.Inner.{ComesOf, EndStays, FinishesAs}
 
 -- no deed changes what a channel was opened with
@@ -145,7 +146,7 @@ room-of send ring take l (Some s) (Some t) r done old new answers = absurd (two-
 -- a part was opened
 pub opens : {S E T F : Type 0} (send : SendGhosts S E) (ring : EndGhosts E) (take : TakeGhosts T F) (a : ChannelState S T) (was now : LinkState S) (older newer older_now newer_now : Option (ShareState T)) (s : StoreState) (c cap number : ℕ)
     (sampler : SamplerState S) (end : T) (intake : IntakeState T) → record { link = was; older = older; newer = newer } ≡ a → ((opening : Opening) × IsOpenedAt send ring take s c cap sampler end opening)
-    → HandsOut was now sampler → newer_now ≡ Some (record { number = number; intake = intake }) → older_now ≡ part_before older newer → StandsAfter take intake [] → intake.end ≡ end → (older ≡ None) ⊎ (newer ≡ None)
+    → HandsOut was now sampler → newer_now ≡ Some (record { number = number; intake = intake }) → older_now ≡ one_before older newer → StandsAfter take intake [] → intake.end ≡ end → (older ≡ None) ⊎ (newer ≡ None)
     → Opens send ring take a (record { link = now; older = older_now; newer = newer_now }) s c cap number
 opens send ring take a was now older newer older_now newer_now s c cap number sampler end intake is opened handed one before stands same room =
     subst (λ x. Opens send ring take x (record { link = now; older = older_now; newer = newer_now }) s c cap number) is

@@ -25,8 +25,9 @@ use Rattle.channel_intake.specs.declared.step.Step.{Step}
 use Rattle.channel_intake.specs.declared.step.Step.TheVariants.{Nothing}
 use Rattle.frame_outbox.specs.Outboxes.{OutboxState}
 use Rattle.frame_outbox.specs.Taking.{TakesItem}
+use Rattle.hand_over.specs.Newest.{one_before}
 use Rattle.tasks.specs.Links.{AwayState, CameBack, HandsOut, LinkState, SendsToNewest}
-use Rattle.tasks.specs.declared.order.Order.{Order}
+use Rattle.control_ring.specs.declared.order.Order.{Order}
 
 -- an event channel's part of a measurement: the measurement's number, and the intake of its ring
 pub record ShareState (T : Type 0) : Type 0 where
@@ -108,12 +109,6 @@ module _ {S E T F : Type 0} (send : SendGhosts S E) (ring : EndGhosts E)
   IsBackOf (Some a) (Some s) f = IsBack a s f
   IsBackOf _ _ f = ⊥
 
--- the part that is the older once another is opened
-abbrev pub part_before :
-    {T : Type 0} → Option (ShareState T) → Option (ShareState T) → Option (ShareState T)
-part_before older None = older
-part_before older (Some newer) = Some newer
-
 -- a part of a measurement was opened over a store: its sampler went out, opened as the store has
 -- the event channel; nothing was ordered of its lists, and nothing was taken; and no part before it
 -- was forgotten
@@ -128,7 +123,7 @@ pub record Opens {S E T F : Type 0} (send : SendGhosts S E) (ring : EndGhosts E)
   pub newer : b.newer ≡ Some share
   pub number_is : share.number ≡ number
   pub stands : StandsAfter take share.intake []
-  pub older : b.older ≡ part_before a.older a.newer
+  pub older : b.older ≡ one_before a.older a.newer
   pub room : (a.older ≡ None) ⊎ (a.newer ≡ None)
 
 module _ {T F : Type 0} (take : TakeGhosts T F) where

@@ -6,8 +6,8 @@ use Rattle.channel_ring.specs.declared.ends.TakeEnd.{Ghosts as TakeGhosts}
 use Rattle.channel_intake.specs.Deeds.{Deed, Started, Stopped}
 use Rattle.channel_intake.specs.Intakes.{StandsAfter}
 use Rattle.tasks.specs.Links.{AwayState}
-use Rattle.tasks.specs.declared.order.Order.{Order}
-use Rattle.tasks.specs.declared.order.Order.TheVariants.{Start, Stop}
+use Rattle.control_ring.specs.declared.order.Order.{Order}
+use Rattle.control_ring.specs.declared.order.Order.TheVariants.{Start, Stop}
 use Rattle.slave_channel.specs.Channels.{ChannelState, ShareState}
 
 -- one, if it is so

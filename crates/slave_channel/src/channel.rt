@@ -5,6 +5,7 @@ use channel_ring::{SendEnd, TakeEnd};
 use daq_engine::{Ring, open_channel};
 use daq_store::Store;
 use frame_outbox::Outbox;
+use hand_over::keep_newest;
 use list_set::ListSet;
 use sampler::SamplerEnd;
 use std::alloc::{AllocError, Global};
@@ -41,18 +42,8 @@ ghost use Rattle.std.specs.Prelude.{IfOk, IfSome, IsNone, IsSome, OnErr, OnOk};
 ghost use Rattle.xcp_base.specs.declared.limits.TheConstants.{MAX_LISTS};
 ghost use Rattle.xcp_base.specs.Lists.{has_list};
 ghost use Rattle.channel_intake.specs.Deeds.{Started, Stopped};
-ghost use Rattle.slave_channel.specs.Channels.{NewestGoesOn, part_before};
+ghost use Rattle.slave_channel.specs.Channels.{NewestGoesOn};
 ghost use Rattle.slave_channel.specs.Inner.{ComesOf, EndStays, FinishesAs};
-
-/// Keeps another part, before which the newest is the older.
-fn keep<T: Drop>(older: &mut Option<Share<T>>, newer: &mut Option<Share<T>>, share: Share<T>)
-    ensures newer { newer.new ≡ Some share }
-    ensures older { older.new ≡ part_before older.old newer.old }
-{
-    if let Some(before) = newer.replace(share) {
-        *older = Some(before);
-    }
-}
 
 /// The intake of the newest part is told of a start.
 fn note_start<T: TakeEnd>(newer: &mut Option<Share<T>>, l: ListId)
@@ -98,7 +89,7 @@ impl<R: Ring> Channel<R> {
     ghost use Rattle.slave_channel.specs.Channels.{Opens, Orders, IsBackOf, keeps_part};
     ghost use Rattle.tasks.specs.Links.{CanStart, EndsNewest, LooksAtNewest, is_running};
     ghost use Rattle.tasks.specs.Links.{takes_orders, without};
-    ghost use Rattle.tasks.specs.declared.order.Order.TheVariants.{Start, Stop};
+    ghost use Rattle.control_ring.specs.declared.order.Order.TheVariants.{Start, Stop};
 
     /// The slave's side of an event channel, and its task. No measurement is there.
     pub fn new(alloc: Global) -> Result<(Channel<R>, Task<R::Send>), AllocError>
@@ -146,7 +137,7 @@ impl<R: Ring> Channel<R> {
             number,
             intake: Intake::new(take),
         };
-        keep(&mut self.older, &mut self.newer, share);
+        keep_newest(&mut self.older, &mut self.newer, share);
         Ok(())
     }
 

@@ -4,7 +4,7 @@ ghost use Rattle.xcp_base.specs.declared.limits.TheConstants.{MAX_LISTS};
 ghost use Rattle.xcp_base.specs.Lists.{has_list};
 ghost use Rattle.channel_intake.specs.Deeds.{Started, Stopped};
 ghost use Rattle.tasks.specs.Links.{CanStart, LooksAtNewest, is_running};
-ghost use Rattle.tasks.specs.declared.order.Order.TheVariants.{Start, Stop};
+ghost use Rattle.control_ring.specs.declared.order.Order.TheVariants.{Start, Stop};
 ghost use Rattle.slave_channel.specs.Ordering.{OrdersAll, from_on, one_if};
 ghost use Rattle.slave_channel.specs.Ordering.{starts_noted, starts_sent, stops_noted, stops_sent};
 

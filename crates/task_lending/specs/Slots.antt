@@ -1,10 +1,8 @@
 -- The task of an event channel, as its slave has it.
-use Rattle.std.specs.Prelude.{◌≡◌, ◌⊎◌, Bool, false, true, not, ◌&&◌, List, map}
+use Rattle.std.specs.Prelude.{◌≡◌, ◌⊎◌, Bool, false, true, not, ◌&&◌}
 use Rattle.std.specs.Prelude.{Option, Some, None}
 use Rattle.std.specs.Option.{is_some}
 use Rattle.tasks.specs.Tasks.{TaskState}
-use Rattle.task_lending.specs.declared.slot.Slot.{Slot}
-use Rattle.task_lending.specs.declared.slot.Slot.TheVariants as slot
 
 -- the task, if it wasn't handed out; and whether what is left of it came back
 pub record SlotState (S : Type 0) : Type 0 where
@@ -30,12 +28,9 @@ module _ {S : Type 0} where
   abbrev pub MayComeBack : SlotState S → SlotState S → Type 0
   MayComeBack a b = (b ≡ a) ⊎ ((a ≡ away) × (b ≡ came_back))
 
--- what a slot says
-abbrev pub in_slot : {S E : Type 0} → Slot S E → SlotState S
-in_slot (slot.Here task) = with_task task
-in_slot (slot.Away way) = away
-in_slot (slot.Back end) = came_back
-
--- each task is in the slot of its place
-abbrev pub AllHere : {S E : Type 0} → List (TaskState S) → List (Slot S E) → Type 0
-AllHere tasks slots = map in_slot slots ≡ map with_task tasks
+-- of what a slot may hold, the task, its way back and what is left of it, there is one
+abbrev pub IsOneOf : Bool → Bool → Bool → Type 0
+IsOneOf true false false = Unit {0}
+IsOneOf false true false = Unit {0}
+IsOneOf false false true = Unit {0}
+IsOneOf _ _ _ = ⊥

@@ -34,7 +34,7 @@ impl<R: Ring> LendingSlave<R> {
             LendsTask before self.old c lent → self.new ≡ before }
     {
         let LentTask { task, way: _ } = lent;
-        self.slots[c] = Slot::Here(task);
+        self.slots[c] = Slot::of(task);
     }
 
     /// Takes what is left of tasks back, event channel by event channel up to the first whose task

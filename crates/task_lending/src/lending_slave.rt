@@ -1,6 +1,6 @@
-ghost use Rattle.std.specs.Prelude.{IfOk};
+ghost use Rattle.std.specs.Prelude.{◌≡◌, IfOk, map};
 ghost use Rattle.task_lending.specs.Lends.{IsOpenedWith};
-ghost use Rattle.task_lending.specs.Slots.{AllHere};
+ghost use Rattle.task_lending.specs.Slots.{with_task};
 
 use crate::slot::Slot;
 use channel_ring::SendEnd;
@@ -22,8 +22,6 @@ pub struct LendingSlave<R: Ring> {
 }
 
 impl<R: Ring> Model for LendingSlave<R> {
-    ghost use Rattle.std.specs.Prelude.{map};
-    ghost use Rattle.task_lending.specs.Slots.{in_slot};
     ghost use Rattle.task_lending.specs.States.{LendingSlaveState};
 
     ghost Value = { LendingSlaveState R.Send R.Take };
@@ -31,17 +29,17 @@ impl<R: Ring> Model for LendingSlave<R> {
     ghost view = { λ l. record {
       slave = l.slave;
       stream = l.stream;
-      tasks = map in_slot l.slots.items;
+      tasks = l.slots.items;
     } };
 }
 
 /// A slot for each task, in their order.
 fn slots_of<S: SendEnd>(alloc: Global, tasks: Vec<Task<S>>) -> Result<Vec<Slot<S>>, AllocError>
-    ensures { IfOk result (λ slots. AllHere tasks.items slots.items) }
+    ensures { IfOk result (λ slots. slots.items ≡ map with_task tasks.items) }
 {
     let mut slots = Vec::with_capacity(alloc, tasks.len())?;
     for task in tasks {
-        slots.push(Slot::Here(task))?;
+        slots.push(Slot::of(task))?;
     }
     Ok(slots)
 }

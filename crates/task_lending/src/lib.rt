@@ -13,4 +13,4 @@ mod slot;
 
 pub use lend_fault::LendFault;
 pub use lending_slave::LendingSlave;
-pub use lent_task::{GivenEnd, LentTask};
+pub use lent_task::LentTask;

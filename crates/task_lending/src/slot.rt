@@ -1,87 +1,103 @@
-ghost use Rattle.std.specs.Prelude.{◌≡◌, IfErr, IfOk, None, OnErr, OnOk, false, true};
-ghost use Rattle.tasks.specs.Tasks.{TaskState};
+ghost use Rattle.std.specs.Prelude.{◌≡◌, IfErr, IfOk, OnErr, OnOk, false, true};
 ghost use Rattle.task_lending.specs.Lends.{RefusesAt};
-ghost use Rattle.task_lending.specs.Slots.{MayComeBack, away, in_slot, is_away, with_task};
+ghost use Rattle.task_lending.specs.Slots.{MayComeBack, away, is_away, with_task};
 
 use crate::lend_fault::LendFault;
 use crate::lent_task::LentTask;
 use channel_ring::SendEnd;
-use rtrb::{AnyItems, Consumer, RingBuffer};
+use hand_over::{AnyLeft, ComingBack, hand_over};
 use std::alloc::Global;
-use std::mem::replace;
+use std::marker::Model;
 use tasks::{Task, TaskEnd};
 
-/// The task of an event channel, as its slave has it.
+/// The task of an event channel, as its slave has it. It wasn't handed out; or it was, and what is
+/// left of it comes back; or that came back.
 #[derive(Drop)]
-pub enum Slot<S: SendEnd> {
-    /// It wasn't handed out.
-    Here(Task<S>),
-    /// It was handed out: what is left of it comes back on this way.
-    Away(Consumer<TaskEnd<S>, Global, AnyItems>),
-    /// It was finished: this is left of it.
-    Back(TaskEnd<S>),
+pub struct Slot<S: SendEnd> {
+    here: Option<Task<S>>,
+    coming: Option<ComingBack<Task<S>, TaskEnd<S>, AnyLeft>>,
+    back: Option<TaskEnd<S>>,
 }
 
-/// What came back on a way, once the task has let go of its end. So it is this end that frees the
-/// way, and not the task's.
-fn come_back<S: SendEnd>(way: &mut Consumer<TaskEnd<S>, Global, AnyItems>) -> Option<TaskEnd<S>> {
-    if !way.is_abandoned() {
-        return None;
+impl<S: SendEnd> Model for Slot<S> {
+    ghost use Rattle.std.specs.Option.{is_some};
+    ghost use Rattle.task_lending.specs.Slots.{IsOneOf, SlotState};
+
+    ghost Value = { SlotState S };
+
+    ghost view = { λ s. record { here = s.here; back = is_some s.back } };
+
+    ghost invariant = { λ s. IsOneOf (is_some s.here) (is_some s.coming) (is_some s.back) };
+}
+
+/// Finishes a task that wasn't handed out, if there is one, and gives back what was handed to it.
+fn finish<S: SendEnd>(here: Option<Task<S>>) {
+    if let Some(task) = here {
+        task.finish().give_back();
     }
-    way.pop().ok()
 }
 
 impl<S: SendEnd> Slot<S> {
-    /// Whether the task wasn't handed out.
-    fn is_here(&self) -> bool
-        ensures yes { result ≡ true → (task : TaskState S)
-            × (in_slot self.now ≡ with_task task) }
-        ensures no { result ≡ false → (in_slot self.now).here ≡ None }
+    /// Of a task that wasn't handed out.
+    pub fn of(task: Task<S>) -> Slot<S>
+        ensures { result ≡ with_task task }
     {
-        matches!(self, Slot::Here(_))
+        Slot {
+            here: Some(task),
+            coming: None,
+            back: None,
+        }
     }
 
     /// Hands the task out.
     pub fn lend(&mut self, alloc: Global) -> Result<LentTask<S>, LendFault>
-        ensures task { IfOk result (λ task. in_slot self.old ≡ with_task task) }
-        ensures away { OnOk result (in_slot self.new ≡ away) }
-        ensures refused { IfErr result (RefusesAt (in_slot self.old)) }
+        ensures task { IfOk result (λ task. self.old ≡ with_task task) }
+        ensures away { OnOk result (self.new ≡ away) }
+        ensures refused { IfErr result (RefusesAt self.old) }
         ensures err { OnErr result (self.new ≡ self.old) }
     {
-        if !self.is_here() {
+        let Some(task) = self.here.take() else {
             return Err(LendFault::Lent);
+        };
+        match hand_over::<_, _, AnyLeft>(alloc, task) {
+            Ok((task, way, coming)) => {
+                self.coming = Some(coming);
+                Ok(LentTask { task, way })
+            }
+            Err(task) => {
+                self.here = Some(task);
+                Err(LendFault::Memory)
+            }
         }
-        let Ok((way, coming)) = RingBuffer::with_protocol::<Global, AnyItems>(alloc, 1) else {
-            return Err(LendFault::Memory);
-        };
-        let Slot::Here(task) = replace(self, Slot::Away(coming)) else {
-            unreachable!()
-        };
-        Ok(LentTask { task, way })
     }
 
     /// Takes what is left of the task back, if it was finished; and returns whether it isn't away.
     pub fn collect(&mut self) -> bool
-        ensures may { MayComeBack (in_slot self.old) (in_slot self.new) }
-        ensures yes { result ≡ true → is_away (in_slot self.new) ≡ false }
-        ensures no { result ≡ false → is_away (in_slot self.new) ≡ true }
+        ensures may { MayComeBack self.old self.new }
+        ensures yes { result ≡ true → is_away self.new ≡ false }
+        ensures no { result ≡ false → is_away self.new ≡ true }
     {
-        let Slot::Away(coming) = self else {
+        let Some(coming) = &mut self.coming else {
             return true;
         };
-        let Some(end) = come_back(coming) else {
+        let Some(end) = coming.take() else {
             return false;
         };
-        *self = Slot::Back(end);
+        self.coming = None;
+        self.back = Some(end);
         true
     }
 
     /// Gives back to the slave what was handed to the task and was not fetched any more.
     pub fn give_back(self) {
-        match self {
-            Slot::Here(task) => task.finish().give_back(),
-            Slot::Away(_) => {}
-            Slot::Back(end) => end.give_back(),
+        let Slot {
+            here,
+            coming: _,
+            back,
+        } = self;
+        finish(here);
+        if let Some(end) = back {
+            end.give_back();
         }
     }
 }

@@ -2,7 +2,8 @@
 use Rattle.std.proofs.Common.{◌≡◌, Bool, true, false, true≢false, [], ◌∷◌, ◌++◌, Option, Some, None, Result, Ok, Err, inl, refl, sym, ap, ◌∙◌, subst}
 use Rattle.std.specs.Prelude.{IfErr}
 use Rattle.sampler.specs.State.{SamplerState}
-use Rattle.tasks.specs.Links.{AnswersHandOut, AwayState, EndsNewest, EndsUnordered, HandsOut, LinkState, first_refusal, just_out, one_before}
+use Rattle.hand_over.specs.Newest.{one_before}
+use Rattle.tasks.specs.Links.{AnswersHandOut, AwayState, EndsNewest, EndsUnordered, HandsOut, LinkState, first_refusal, just_out}
 use Rattle.tasks.specs.Tasks.{HeldState}
 use Rattle.tasks.specs.declared.fault.HandFault.{HandFault}
 use Rattle.tasks.specs.declared.fault.HandFault.TheVariants.{Busy, Memory, NotEnded}

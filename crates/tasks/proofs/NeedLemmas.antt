@@ -6,7 +6,7 @@ use Rattle.std.proofs.lemmas.Bool.Decides.{eqb_tells}
 use Rattle.xcp_base.specs.declared.limits.TheConstants.{MAX_LISTS}
 use Rattle.xcp_base.specs.Lists.{has_list}
 use Rattle.tasks.specs.Links.{without}
-use Rattle.tasks.specs.declared.orders.TheConstants.{MAX_ORDERS}
+use Rattle.xcp_base.specs.declared.limits.TheConstants.{MAX_CONTROL_RING}
 use Rattle.list_set.specs.Counts.{how_many, one_if}
 use Rattle.tasks.specs.Needs.{places_for}
 
@@ -144,7 +144,7 @@ stop-leaves run now l free left below there spent less fits =
     omega (arith, one, spent, fits)
 
 -- at the beginning there are places for all stops
-pub places-begin : (set free : ℕ) → free ≡ MAX_ORDERS + 1 → 1 + how_many MAX_LISTS (has_list set) ≤ free
+pub places-begin : (set free : ℕ) → free ≡ MAX_CONTROL_RING + 1 → 1 + how_many MAX_LISTS (has_list set) ≤ free
 places-begin set free is =
     let few = how_many-le MAX_LISTS (has_list set) in
     omega (arith, is, few)

@@ -1,9 +1,7 @@
 -- A task may go to another thread, and what is left of it may come back, where the ends of its rings
 -- of samples may. For callers that move them there.
 use denote.RattleType.{RattleType}
-use denote.Param.Send.{IsSend, IsSync, sendable, struct_send, struct_sync, recorded_send, recorded_sync}
-use denote.Struct.Declared.{shape}
-use denote.Builtin.{unit}
+use denote.Param.Send.{IsSend, sendable}
 use Rattle.std.proofs.Crossing.{crosses}
 use Rattle.channel_ring.proofs.SendLemmas.{item, ring_end, send_half}
 use Rattle.channel_ring.specs.contracts.sample_ring.SendHalf as SendHalf
@@ -18,19 +16,15 @@ use Rattle.xcp_base.specs.contracts.item.Item as Item
 use Rattle.channel_ring.specs.declared.ends.SendEnd.{Ghosts as SendGhosts}
 use Rattle.channel_ring.specs.declared.ends.RingEnd.{Ghosts as EndGhosts}
 use Rattle.copy_plan.specs.contracts.plan.CopyPlan as CopyPlan
-use Rattle.tasks.specs.contracts.order.Order as Order
-use Rattle.tasks.specs.contracts.orders.OrderTake as OrderTake
-use Rattle.tasks.specs.contracts.returns.Return as Return
+use Rattle.control_ring.specs.contracts.order.Order as Order
+use Rattle.control_ring.specs.contracts.send.ControlSend as ControlSend
+use Rattle.control_ring.specs.contracts.take.ControlTake as ControlTake
+use Rattle.hand_over.proofs.SendLemmas.{coming_send, place_send, way_send}
+use Rattle.tasks.specs.contracts.away.Away as Away
 use Rattle.tasks.specs.contracts.handed.Handed as Handed
+use Rattle.tasks.specs.contracts.link.TaskLink as TaskLink
 use Rattle.tasks.specs.contracts.task.Task as Task
 use Rattle.tasks.specs.contracts.task_end.TaskEnd as TaskEnd
-use Rattle.tasks.specs.contracts.place.Place as Place
-use Rattle.atomic_table.specs.declared.shared.TableRule.{Ghosts as RuleGhosts}
-use Rattle.atomic_table.specs.contracts.owned.Table as Table
-use Rattle.crossbeam_queue.specs.contracts.array_queue.Slotted as Slotted
-use Rattle.atomic_table.proofs.shared.Seat.TheSendSync.{the_send as seat_send}
-use Rattle.atomic_table.proofs.shared.Shared.TheSendSync.{the_send as shared_send, the_sync as shared_sync}
-use Rattle.atomic_table.proofs.send_lease.SendLease.TheSendSync.{the_send as lease_send, the_sync as lease_sync}
 
 copy_plan : IsSend CopyPlan.the_row
 copy_plan = search (sendable, crosses) depth 40
@@ -38,42 +32,27 @@ copy_plan = search (sendable, crosses) depth 40
 order_send : IsSend Order.the_row
 order_send = search (sendable, crosses) depth 40
 
-take_send : IsSend OrderTake.the_row
+take_send : IsSend ControlTake.the_row
 take_send = search (sendable, crosses, ring_end, order_send) depth 60 fits 20000
 
--- a table of the queue, and the queue, which threads share
-module _ (S V P : RattleType) (g : RuleGhosts P.Denot S.Denot V.Denot Unit) (goes : IsSend S) where
-  table_send : IsSend (Table.the_field S V unit P Global.the_row g heap_ghosts).row
-  table_send = search (sendable, crosses, shared_send, lease_send) depth 60 fits 20000
-
-  table_sync : IsSync (Table.the_field S V unit P Global.the_row g heap_ghosts).row
-  table_sync = search (sendable, crosses, shared_sync, lease_sync) depth 60 fits 20000
-
-  queue_send : IsSend (Slotted.the_row S V P Global.the_row g heap_ghosts)
-  queue_send =
-      let queue = Slotted.the_type S V P Global.the_row g heap_ghosts in
-      recorded_send _ _ _ queue.to_one (struct_send (shape queue) (table_send, (search sendable, (search sendable, tt))))
-
-  queue_sync : IsSync (Slotted.the_row S V P Global.the_row g heap_ghosts)
-  queue_sync =
-      let queue = Slotted.the_type S V P Global.the_row g heap_ghosts in
-      recorded_sync _ _ _ queue.to_one (struct_sync (shape queue) (table_sync, (search sendable, (search sendable, tt))))
-
-place_send : (T : RattleType) → IsSend T → IsSend (Place.the_row T)
-place_send T goes = search (sendable, crosses, seat_send, queue_send, queue_sync) depth 60 fits 20000
+sending_send : IsSend ControlSend.the_row
+sending_send = search (sendable, crosses, ring_end, order_send) depth 60 fits 20000
 
 module _ (S E : RattleType) (send : SendGhosts S.Denot E.Denot) (ring : EndGhosts E.Denot) (s_goes : IsSend S) (e_goes : IsSend E) where
-  return_send : IsSend (Return.the_row S E send ring)
-  return_send = search (sendable, crosses, copy_plan, take_send) depth 60 fits 20000
-
   handed_send : IsSend (Handed.the_row S E send ring)
-  handed_send = search (sendable, crosses, copy_plan, take_send, ring_end, return_send) depth 60 fits 20000
+  handed_send = search (sendable, crosses, copy_plan, take_send, way_send) depth 60 fits 20000
 
   pub task_send : IsSend (Task.the_row S E send ring)
   task_send = search (sendable, crosses, place_send, handed_send) depth 60 fits 20000
 
   pub task_end_send : IsSend (TaskEnd.the_row S E send ring)
   task_end_send = search (sendable, crosses, place_send, handed_send) depth 60 fits 20000
+
+  away_send : IsSend (Away.the_row S E send ring)
+  away_send = search (sendable, crosses, copy_plan, take_send, sending_send, coming_send, ring_end) depth 60 fits 20000
+
+  pub link_send : IsSend (TaskLink.the_row S E send ring)
+  link_send = search (sendable, crosses, place_send, handed_send, away_send) depth 60 fits 20000
 
 -- what is left of the send end of a ring of items
 abbrev Left : RattleType

@@ -8,11 +8,14 @@ use Rattle.sampler.specs.Past.{Past}
 use Rattle.sampler.specs.Standing.{StandsAfter, TakesTrigger}
 use Rattle.sampler.specs.State.{SamplerState}
 use Rattle.sampler.specs.Stays.{KeepsSetUp}
+use Rattle.sampler.specs.declared.polled.Polled.{Polled}
+use Rattle.sampler.specs.declared.polled.Polled.TheVariants.{Done, Nothing, Refused, Waiting}
 use Rattle.sampler.specs.declared.taken.Taken.{Taken}
 use Rattle.sampler.specs.declared.faults.TriggerFault.{TriggerFault}
 use Rattle.sampler.specs.declared.faults.TriggerFault.TheVariants.{Spent, WrongImage}
+use Rattle.control_ring.specs.declared.order.Order.{Order}
+use Rattle.control_ring.specs.declared.order.Order.TheVariants as order
 use Rattle.tasks.specs.Tasks.{HeldState, ObeysHeld, RestsHeld, Steps, StepsFrom, StepsThrough, TaskState, TriggersSampler}
-use Rattle.tasks.specs.declared.obeyed.Obeyed.TheVariants as obeyed
 
 -- what there is, with something weaker known of it
 pub some-with : {A : Type 0} {P Q : A → Type 0} → ((x : A) → P x → Q x) → (o : Option A) → IfSome o P → IfSome o Q
@@ -30,27 +33,40 @@ module _ {S E : Type 0} (send : SendGhosts S E) (ring : EndGhosts E) where
   triggers s t image stamp (Err WrongImage) ok wrong spent err keeps = (wrong.0 refl, err)
   triggers s t image stamp (Err Spent) ok wrong spent err keeps = ((spent.0 refl).0, (spent.0 refl).1, err)
 
-  -- an order that was carried out
-  pub done-steps : (a b : Option (HeldState S)) → ObeysHeld send ring a b obeyed.Done
+  -- an order that was taken off
+  pub done-steps : (a b : Option (HeldState S)) (o : Order) → ObeysHeld send ring a b (Done o)
       → (h : HeldState S) × (a ≡ Some h) × StepsFrom send ring h b
-  done-steps None None does = elim does [ ]
-  done-steps None (Some k) does = elim does [ ]
-  done-steps (Some h) None does = elim does [ ]
-  done-steps (Some h) (Some k) does = (h, refl, does)
+  done-steps None None o does = elim does [ ]
+  done-steps None (Some k) o does = elim does [ ]
+  done-steps (Some h) None o does = elim does [ ]
+  done-steps (Some h) (Some k) o does = (h, refl, (o, does))
+
+  pub refused-steps : (a b : Option (HeldState S)) (o : Order) → ObeysHeld send ring a b (Refused o)
+      → (h : HeldState S) × (a ≡ Some h) × StepsFrom send ring h b
+  refused-steps None None o does = elim does [ ]
+  refused-steps None (Some k) o does = elim does [ ]
+  refused-steps (Some h) None o does = elim does [ ]
+  refused-steps (Some h) (Some k) o does = (h, refl, (o, does))
 
   -- an order to end
-  pub ended-steps : (a b : Option (HeldState S)) → ObeysHeld send ring a b obeyed.Ended
+  pub ended-steps : (a b : Option (HeldState S)) → ObeysHeld send ring a b (Done order.End)
       → (h : HeldState S) × (a ≡ Some h) × StepsFrom send ring h None
   ended-steps None None does = elim does [ ]
   ended-steps None (Some k) does = elim does [ ]
   ended-steps (Some h) None does = elim does [ ]
   ended-steps (Some h) (Some k) does = (h, refl, (k, does))
 
-  pub nothing-rests : (a b : Option (HeldState S)) → ObeysHeld send ring a b obeyed.Nothing → RestsHeld send ring a b
+  pub nothing-rests : (a b : Option (HeldState S)) → ObeysHeld send ring a b Nothing → RestsHeld send ring a b
   nothing-rests None None does = does
   nothing-rests None (Some k) does = does
   nothing-rests (Some h) None does = does
   nothing-rests (Some h) (Some k) does = does
+
+  pub waiting-rests : (a b : Option (HeldState S)) (o : Order) → ObeysHeld send ring a b (Waiting o) → RestsHeld send ring a b
+  waiting-rests None None o does = elim does [ ]
+  waiting-rests None (Some k) o does = does
+  waiting-rests (Some h) None o does = does
+  waiting-rests (Some h) (Some k) o does = does
 
   -- what is held steps, and no other came
   pub held-steps : (a b : Option (HeldState S)) (came : List (HeldState S))

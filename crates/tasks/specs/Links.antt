@@ -8,14 +8,15 @@ use Rattle.channel_ring.specs.declared.ends.RingEnd.{Ghosts as EndGhosts}
 use Rattle.sampler.specs.Past.{Past}
 use Rattle.sampler.specs.Standing.{EndStandsAfter, StandsAfter}
 use Rattle.sampler.specs.State.{SamplerEndState, SamplerState, joined, runs_in}
+use Rattle.hand_over.specs.Newest.{one_before}
 use Rattle.tasks.specs.Deeds.{Deed, orders_in, past_after}
 use Rattle.tasks.specs.Needs.{places_for}
 use Rattle.tasks.specs.Tasks.{HeldState}
 use Rattle.tasks.specs.declared.fault.HandFault.{HandFault}
 use Rattle.tasks.specs.declared.fault.HandFault.TheVariants.{Busy, NotEnded}
-use Rattle.tasks.specs.declared.order.Order.{Order}
-use Rattle.tasks.specs.declared.order.Order.TheVariants as order
-use Rattle.tasks.specs.declared.orders.TheConstants.{MAX_ORDERS}
+use Rattle.control_ring.specs.declared.order.Order.{Order}
+use Rattle.control_ring.specs.declared.order.Order.TheVariants as order
+use Rattle.xcp_base.specs.declared.limits.TheConstants.{MAX_CONTROL_RING}
 
 -- a sampler that was handed out, as it was then; the orders that were sent behind it; how many
 -- places for orders are known to be free; and whether its measurement has ended
@@ -122,14 +123,9 @@ module _ {S : Type 0} where
         × EndsUnordered a.newer b.newer)
         ⊎ ((b.taken_back ≡ a.taken_back) × SendsToNewest a.newer b.newer order.End)
 
-  -- the one that is the older once another is handed out
-  abbrev pub one_before : Option (AwayState S) → Option (AwayState S) → Option (AwayState S)
-  one_before older None = older
-  one_before older (Some newer) = Some newer
-
   -- a sampler that was just handed out
   abbrev pub just_out : SamplerState S → AwayState S
-  just_out s = record { sampler = s; orders = []; free = MAX_ORDERS + 1; ended = false }
+  just_out s = record { sampler = s; orders = []; free = MAX_CONTROL_RING + 1; ended = false }
 
   -- a sampler was handed out
   pub record HandsOut (a b : LinkState S) (s : SamplerState S) : Type 0 where

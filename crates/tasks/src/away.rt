@@ -1,8 +1,7 @@
-use crate::coming::Coming;
 use crate::needs::places_for;
-use crate::order::Order;
-use crate::orders::OrderSend;
+use crate::rule::SlaveWay;
 use channel_ring::SendEnd;
+use control_ring::{ControlSend, Order};
 use list_set::ListSet;
 use sampler::SamplerEnd;
 use std::marker::Model;
@@ -12,8 +11,8 @@ use xcp_base::ListId;
 /// that run by those that were sent, and its end of the way back.
 #[derive(Drop)]
 pub struct Away<S: SendEnd> {
-    pub(crate) orders: OrderSend,
-    pub(crate) coming: Coming<S>,
+    pub(crate) orders: ControlSend,
+    pub(crate) coming: SlaveWay<S>,
     pub(crate) running: ListSet,
     pub(crate) ended: bool,
 }
@@ -29,16 +28,16 @@ impl<S: SendEnd> Model for Away<S> {
     ghost Value = { AwayState S };
 
     ghost view = { λ a. record {
-      sampler = a.coming.sampler;
+      sampler = a.coming.0;
       orders = a.orders.sent;
       free = a.orders.free;
       ended = a.ended;
     } };
 
     ghost invariant = { λ a.
-        (a.orders.ring ≡ a.coming.orders)
+        (a.orders.ring ≡ a.coming.1.ring)
         × ((l : ℕ) → l < MAX_LISTS → has_list a.running l
-        ≡ runs_by a.orders.sent (runs_in a.coming.sampler l) l)
+        ≡ runs_by a.orders.sent (runs_in a.coming.0 l) l)
         × (a.ended ≡ false → 1 + how_many MAX_LISTS (has_list a.running) ≤ a.orders.free) };
 }
 
@@ -48,7 +47,7 @@ impl<S: SendEnd> Away<S> {
     ghost use Rattle.xcp_base.specs.Lists.{has_list};
     ghost use Rattle.tasks.specs.Links.{CameBack, HasPlacesFor, LooksAtOrders, SendsOrder};
     ghost use Rattle.tasks.specs.Links.{runs_of, without};
-    ghost use Rattle.tasks.specs.declared.order.Order.TheVariants.{Start, Stop, End};
+    ghost use Rattle.control_ring.specs.declared.order.Order.TheVariants.{Start, Stop, End};
 
     /// Whether it takes orders.
     pub fn takes_orders(&self) -> bool
@@ -89,7 +88,7 @@ impl<S: SendEnd> Away<S> {
         ensures others { (lists : ℕ → Bool) → lists l ≡ true → HasPlacesFor self.old lists
             → HasPlacesFor self.new (without l lists) }
     {
-        self.orders.send(Order::Start(l.byte()));
+        self.orders.send_reserved(Order::Start(l.byte()));
         self.running = self.running.with_list(l);
     }
 
@@ -99,7 +98,7 @@ impl<S: SendEnd> Away<S> {
         requires runs { runs_of self.old l ≡ true }
         ensures sends { SendsOrder self.old self.new (Stop l) }
     {
-        self.orders.send(Order::Stop(l.byte()));
+        self.orders.send_reserved(Order::Stop(l.byte()));
         self.running = self.running.without_list(l);
     }
 
@@ -108,7 +107,7 @@ impl<S: SendEnd> Away<S> {
         requires takes_orders { self.old.ended ≡ false }
         ensures sends { SendsOrder self.old self.new End }
     {
-        self.orders.send(Order::End);
+        self.orders.send_reserved(Order::End);
         self.ended = true;
     }
 

@@ -4,23 +4,16 @@
 
 mod apart;
 mod away;
-mod coming;
 mod fault;
 mod handed;
 mod link;
 mod needs;
-mod obeyed;
-mod order;
-mod orders;
-mod place;
-mod returns;
+mod rule;
 mod task;
 mod task_end;
 
 pub use apart::finish_apart;
 pub use fault::HandFault;
 pub use link::TaskLink;
-pub use order::Order;
-pub use orders::MAX_ORDERS;
 pub use task::Task;
 pub use task_end::TaskEnd;

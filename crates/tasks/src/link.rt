@@ -1,17 +1,17 @@
 use crate::away::Away;
 use crate::fault::HandFault;
 use crate::handed::Handed;
-use crate::orders::order_ring;
-use crate::place::{Place, new_place};
-use crate::returns::Returns;
+use crate::rule::AfterDeeds;
 use crate::task::Task;
 use channel_ring::SendEnd;
+use control_ring::ControlRing;
+use hand_over::{Place, hand_over, keep_newest, new_place};
 use list_set::ListSet;
-use rtrb::RingBuffer;
 use sampler::{Sampler, SamplerEnd};
 use std::alloc::{AllocError, Global};
 use std::marker::Model;
 use xcp_base::ListId;
+use xcp_base::limits::MAX_CONTROL_RING;
 
 /// The slave's side of a task.
 ///
@@ -45,8 +45,8 @@ ghost use Rattle.xcp_base.specs.Lists.{has_list};
 ghost use Rattle.tasks.specs.Links.{AnswersHandOut, AwayState, CameBack, CanStart};
 ghost use Rattle.tasks.specs.Links.{EndsNewest, EndsUnordered, HandsOut, LooksAtNewest};
 ghost use Rattle.tasks.specs.Links.{SendsToNewest, hand_refusal, is_running, just_out};
-ghost use Rattle.tasks.specs.Links.{one_before, takes_orders, without};
-ghost use Rattle.tasks.specs.declared.order.Order.TheVariants.{Start, Stop, End};
+ghost use Rattle.tasks.specs.Links.{takes_orders, without};
+ghost use Rattle.control_ring.specs.declared.order.Order.TheVariants.{Start, Stop, End};
 
 /// A sampler to be handed out, and what the slave keeps of it; or it comes back, if there is no
 /// memory.
@@ -56,16 +56,24 @@ fn ready<S: SendEnd>(alloc: Global, sampler: Sampler<S>) -> Result<(Handed<S>, A
     ensures no_order { IfOk result (λ made. made.0.orders.received ≡ []) }
     ensures back { IfErr result (λ back. back ≡ sampler) }
 {
-    let Ok((orders, take)) = order_ring(alloc) else {
-        return Err(sampler);
-    };
-    let Ok((producer, consumer)) = RingBuffer::with_protocol::<Global, Returns>(alloc, 1) else {
+    let Ok((send, take)) = ControlRing::with_end(alloc, MAX_CONTROL_RING) else {
         return Err(sampler);
     };
     let running = ListSet::from_bits(sampler.running());
-    let (handed, coming) = Handed::over(producer, consumer, sampler, take);
-    let away = Away {
+    let ((sampler, orders), way, coming) = match hand_over::<_, _, AfterDeeds>(
+        alloc,
+        (sampler, take),
+    ) {
+        Ok(gone) => gone,
+        Err((sampler, _)) => return Err(sampler),
+    };
+    let handed = Handed {
+        sampler,
         orders,
+        way,
+    };
+    let away = Away {
+        orders: send,
         coming,
         running,
         ended: false,
@@ -154,16 +162,6 @@ fn end_unordered<S: SendEnd>(newer: &mut Option<Away<S>>)
     }
 }
 
-/// Keeps another one, before which the newest is the older.
-fn keep<S: SendEnd>(older: &mut Option<Away<S>>, newer: &mut Option<Away<S>>, away: Away<S>)
-    ensures newer { newer.new ≡ Some away }
-    ensures older { older.new ≡ one_before older.old newer.old }
-{
-    if let Some(before) = newer.replace(away) {
-        *older = Some(before);
-    }
-}
-
 /// What came back of a sampler that is out, which stays where it is.
 fn found_of<S: SendEnd>(away: &mut Option<Away<S>>) -> Option<(SamplerEnd<S::End>, usize)>
     ensures back { IfSome result (λ back. (a : AwayState S) × (away.old ≡ Some a)
@@ -245,7 +243,7 @@ impl<S: SendEnd> TaskLink<S> {
         if let Err(handed) = self.place.put(handed) {
             return Err((HandFault::Busy, handed.into_sampler()));
         }
-        keep(&mut self.older, &mut self.newer, away);
+        keep_newest(&mut self.older, &mut self.newer, away);
         Ok(())
     }
 
@@ -265,7 +263,7 @@ impl<S: SendEnd> TaskLink<S> {
     }
 
     /// Looks at the ring of its orders, and returns whether starts of all these lists find places,
-    /// with the stops of all lists that then run and an order to end: then at most `MAX_ORDERS`
+    /// with the stops of all lists that then run and an order to end: then at most `MAX_CONTROL_RING`
     /// starts and stops wait.
     pub fn can_start(&mut self, lists: ListSet) -> bool
         ensures yes { result ≡ true → CanStart self.new.newer (has_list lists) }

@@ -1,9 +1,9 @@
 use crate::handed::Handed;
-use crate::obeyed::Obeyed;
-use crate::place::Place;
 use crate::task_end::TaskEnd;
 use channel_ring::SendEnd;
-use sampler::{Taken, TriggerFault};
+use control_ring::Order;
+use hand_over::Place;
+use sampler::{Polled, Taken, TriggerFault};
 use std::marker::Model;
 
 /// The sampling task of one event channel. It takes and frees no memory.
@@ -36,12 +36,12 @@ const NONE_DUE: Taken = Taken {
 };
 
 /// Takes off the next order of what is held.
-fn obey_held<S: SendEnd>(held: &mut Option<Handed<S>>) -> Obeyed
+fn obey_held<S: SendEnd>(held: &mut Option<Handed<S>>) -> Polled
     ensures { ObeysHeld S.SendEnd S.End.RingEnd held.old held.new result }
 {
     match held {
         Some(held) => held.obey(),
-        None => Obeyed::Nothing,
+        None => Polled::Nothing,
     }
 }
 
@@ -62,12 +62,14 @@ fn next_of<S: SendEnd>(held: &mut Option<Handed<S>>) -> bool
     ensures none { result ≡ false → RestsHeld S.SendEnd S.End.RingEnd held.old held.new }
 {
     match obey_held(held) {
-        Obeyed::Nothing => false,
-        Obeyed::Done => true,
-        Obeyed::Ended => {
+        Polled::Nothing => false,
+        Polled::Waiting(_) => false,
+        Polled::Refused(_) => true,
+        Polled::Done(Order::End) => {
             give_back(held);
             true
         }
+        Polled::Done(_) => true,
     }
 }
 

@@ -1,6 +1,6 @@
 use crate::handed::Handed;
-use crate::place::Place;
 use channel_ring::SendEnd;
+use hand_over::Place;
 use std::marker::Model;
 
 /// What is left of a task that was finished: its end of the place. The slave's thread frees it.
@@ -10,7 +10,7 @@ pub struct TaskEnd<S: SendEnd> {
 }
 
 impl<S: SendEnd> Model for TaskEnd<S> {
-    ghost use Rattle.tasks.specs.Places.{PlaceState};
+    ghost use Rattle.hand_over.specs.Places.{PlaceState};
     ghost use Rattle.tasks.specs.Tasks.{HeldState};
 
     ghost Value = { PlaceState (HeldState S) };

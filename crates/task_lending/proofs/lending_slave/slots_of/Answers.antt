@@ -1,7 +1,6 @@
 use Rattle.std.proofs.Common.{◌≡◌, ◌∷◌, [], ◌++◌, length, map, sym, ap, ◌∙◌, append_assoc, append-nil, arith, rules}
 use Rattle.std.specs.Vec.Iter.{into_iter_items}
 use Rattle.task_lending.specs.Slots.{with_task}
-use Rattle.task_lending.specs.declared.slot.Slot.TheVariants as slot
 use Rattle.task_lending.proofs.OpenLemmas.{nothing-left, one-slot-more}
 use Rattle.task_lending.proofs.lending_slave.slots_of.Goals as goal
 
@@ -11,7 +10,7 @@ loop-task-preserved g c =
     let at = c.loop-task in
     let x = c.in-Some.task in
     let steps : into_iter_items at.task-iterator ≡ x ∷ into_iter_items c.next.new.self = c.in-Some.ensures.steps.0 in
-    let pushed : c.push.new.self.items ≡ at.slots.items ++ slot.Here x ∷ [] = search (rules, c.push.ensures.items) in (
+    let pushed : c.push.new.self.items ≡ at.slots.items ++ with_task x ∷ [] = c.in_ok-push.ensures.items ∙ ap (λ s. at.slots.items ++ s ∷ []) c.of.ensures in (
       append_assoc at.yielded (x ∷ []) _ ∙ rw (← steps) at.invariant.0,
       one-slot-more at.slots.items c.push.new.self.items at.yielded x pushed at.invariant.1,
       let was = at.invariant.2 in

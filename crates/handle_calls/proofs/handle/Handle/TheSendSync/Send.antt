@@ -42,15 +42,13 @@ use Rattle.channel_ring.specs.declared.ends.RingEnd.{Ghosts as EndGhosts}
 use Rattle.channel_ring.specs.declared.ends.TakeEnd.{Ghosts as TakeGhosts}
 use Rattle.daq_engine.specs.declared.ring.Ring.{Ghosts as RingGhosts}
 use Rattle.frame_writer.specs.contracts.byte_log.ByteLog as Log
+use Rattle.hand_over.proofs.SendLemmas.{coming_send, way_send}
 use Rattle.task_lending.proofs.SendLemmas.{lending_slave_send, lent_task_send}
 use Rattle.task_lending.specs.contracts.lending_slave.LendingSlave as LendingSlave
 use Rattle.task_lending.specs.contracts.lent_task.LentTask as LentTask
-use Rattle.handle_calls.specs.contracts.coming_back.ComingBack as ComingBack
 use Rattle.handle_calls.specs.contracts.held_engine.HeldEngine as Engine
 use Rattle.handle_calls.specs.contracts.lending.Lending as Lending
 use Rattle.handle_calls.specs.contracts.lent.Lent as Lent
-use Rattle.handle_calls.specs.contracts.returns.Return as Return
-use Rattle.handle_calls.specs.contracts.way_back.WayBack as WayBack
 use Rattle.handle_calls.specs.Owned.{owns_held, the_heap}
 use Rattle.handle_calls.specs.contracts.content.Content as content
 use Rattle.handle_calls.specs.contracts.handle.Handle.{the_row, the_type}
@@ -65,15 +63,6 @@ log_send =
 -- over rings of one kind, whose ends may go
 module _ (R S T E : RattleType) (kind : RingGhosts R.Denot S.Denot T.Denot E.Denot) (send : SendGhosts S.Denot E.Denot)
     (ring : EndGhosts E.Denot) (give : TakeGhosts T.Denot E.Denot) (s_goes : IsSend S) (t_goes : IsSend T) (e_goes : IsSend E) where
-  return_send : IsSend (Return.the_row S E send ring)
-  return_send = search (sendable, crosses, copy_plan) depth 60 fits 20000
-
-  way_send : IsSend (WayBack.the_row S E send ring)
-  way_send = search (sendable, crosses, ring_end, return_send) depth 60 fits 20000
-
-  coming_send : IsSend (ComingBack.the_row S E send ring)
-  coming_send = search (sendable, crosses, ring_end, return_send) depth 60 fits 20000
-
   lent_send : IsSend (Lent.the_field R S T E kind send ring give).row
   lent_send = search (sendable, crosses, copy_plan, way_send) depth 60 fits 20000
 

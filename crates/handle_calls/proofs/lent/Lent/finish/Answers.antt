@@ -1,5 +1,6 @@
-use Rattle.std.proofs.Common.{subst, sym}
+use Rattle.std.proofs.Common.{ap, subst, sym}
 use Rattle.sampler.specs.State.{SamplerEndState, SamplerState}
+use Rattle.hand_over.specs.Ways.{GivenState}
 use Rattle.handle_calls.specs.Samplers.{IsLeftOf}
 use Rattle.handle_calls.proofs.WayLemmas.{left-end}
 use Rattle.handle_calls.proofs.lent.Lent.finish.Goals as goal
@@ -19,7 +20,7 @@ give-requires g c = left-end g.R.Send.SendEnd g.R.Send.End.RingEnd _ _ _ c.self.
 -- and it is what was given back
 pub returns-in-Some-clause-ok : goal.returns-in-Some-clause-ok
 returns-in-Some-clause-ok g c =
-    subst (λ (e : SamplerEndState _). IsLeftOf g.R.Send.SendEnd g.R.Send.End.RingEnd c.args.self e) (sym c.give.ensures.end)
+    subst (λ (e : SamplerEndState _). IsLeftOf g.R.Send.SendEnd g.R.Send.End.RingEnd c.args.self e) (sym (ap (λ (g : GivenState _ _). g.left) c.give.ensures))
     (subst (λ (s : SamplerState _). IsLeftOf g.R.Send.SendEnd g.R.Send.End.RingEnd s c.in-Some.end) c.self.view_is (record {
       channel = c.in-Some.ensures.channel;
       plans = c.in-Some.ensures.plans;

@@ -1,7 +1,7 @@
 use Rattle.std.proofs.Common.{Bool, subst, sym, ◌∙◌}
 use Rattle.xcp_base.specs.Lists.{has_list}
 use Rattle.channel_intake.specs.Deeds.{Started}
-use Rattle.tasks.specs.declared.order.Order.TheVariants.{Start}
+use Rattle.control_ring.specs.declared.order.Order.TheVariants.{Start}
 use Rattle.slave_channel.specs.Ordering.{OrdersAll, from_on, one_if}
 use Rattle.slave_channel.proofs.OrderingLemmas.{can-same, from-here, from-other, from-without, no-order, one-start}
 use Rattle.slave_channel.proofs.channel.Channel.start_one.Goals as goal

@@ -1,7 +1,7 @@
 use Rattle.tasks.specs.Links.{is_running}
 use Rattle.slave_channel.specs.Ordering.{OrdersAll, one_if, stops_noted, stops_sent}
 use Rattle.channel_intake.specs.Deeds.{Stopped}
-use Rattle.tasks.specs.declared.order.Order.TheVariants.{Stop}
+use Rattle.control_ring.specs.declared.order.Order.TheVariants.{Stop}
 use Rattle.std.proofs.Common.{rules, ◌≡◌, ◌&&◌, ℕ, ◌<◌, ap, sym, subst, ◌∙◌, arith}
 use Rattle.std.proofs.lemmas.Bool.{and_parts}
 use Rattle.xcp_base.specs.Lists.{has_list}

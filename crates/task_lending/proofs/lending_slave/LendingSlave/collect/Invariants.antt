@@ -1,5 +1,4 @@
 use Rattle.std.proofs.Common.{◌≡◌, map, vec_len}
-use Rattle.task_lending.specs.Slots.{in_slot}
 use Rattle.task_lending.proofs.TaskLemmas.{Front, NoneBelow}
 use Rattle.task_lending.proofs.lending_slave.LendingSlave.collect.Given as goal
 
@@ -7,8 +6,8 @@ use Rattle.task_lending.proofs.lending_slave.LendingSlave.collect.Given as goal
 abbrev pub invariant-loop-c : goal.invariant-loop-c
 invariant-loop-c g l = record {
   as_many : vec_len l.self-inside.slots ≡ vec_len l.initial.self-inside.slots;
-  front : Front l.c l.fn.self.tasks (map in_slot l.self-inside.slots.items);
-  none : NoneBelow l.c (map in_slot l.self-inside.slots.items);
+  front : Front l.c l.fn.self.tasks l.self-inside.slots.items;
+  none : NoneBelow l.c l.self-inside.slots.items;
   slave : l.self-inside.slave ≡ l.fn.self.slave;
   stream : l.self-inside.stream ≡ l.fn.self.stream;
 }

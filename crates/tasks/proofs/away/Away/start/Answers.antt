@@ -1,7 +1,7 @@
 use Rattle.std.proofs.Common.{◌∙◌, ap, refl, subst, sym}
 use Rattle.sampler.specs.State.{runs_in}
 use Rattle.tasks.specs.Links.{AwayState, HasPlacesFor}
-use Rattle.tasks.specs.declared.order.Order.TheVariants.{Start}
+use Rattle.control_ring.specs.declared.order.Order.TheVariants.{Start}
 use Rattle.tasks.proofs.RunningLemmas.{others-checked, places-kept, running-sent}
 use Rattle.tasks.proofs.away.Away.start.Goals as goal
 
@@ -10,10 +10,10 @@ pub invariant_of-self : goal.invariant_of-self
 invariant_of-self g c =
     let fits = subst (λ (a : AwayState _). HasPlacesFor a c.requires.checked.0) (sym c.self.view_is) c.requires.checked.2 in
     let below = rw c.byte.ensures.value at c.byte.ensures.below in
-    let sends = rw c.byte.ensures.value at c.send.ensures.sends in (
-      c.send.ensures.ring_stays ∙ c.self.invariant.0,
-      running-sent _ _ _ _ (Start c.args.l) (λ l. runs_in c.self.inside.coming.sampler l) sends c.self.invariant.1 (λ k h. c.with_list-self-inside.ensures k),
-      λ is. places-kept _ c.self.inside.running c.with_list-self-inside.result c.args.l _ below c.requires.checked.0 c.requires.checked.1 fits c.send.ensures.spent c.self.invariant.1 c.with_list-self-inside.ensures,
+    let sends = rw c.byte.ensures.value at c.send_reserved.ensures.sends in (
+      c.send_reserved.ensures.ring_stays ∙ c.self.invariant.0,
+      running-sent _ _ _ _ (Start c.args.l) (λ l. runs_in c.self.inside.coming.0 l) sends c.self.invariant.1 (λ k h. c.with_list-self-inside.ensures k),
+      λ is. places-kept _ c.self.inside.running c.with_list-self-inside.result c.args.l _ below c.requires.checked.0 c.requires.checked.1 fits c.send_reserved.ensures.spent c.self.invariant.1 c.with_list-self-inside.ensures,
     )
 
 pub returns-clause-others : goal.returns-clause-others
@@ -21,7 +21,7 @@ returns-clause-others g c lists there fits =
     let below = rw c.byte.ensures.value at c.byte.ensures.below in
     others-checked _ _ c.args.l below lists there (subst (λ (a : AwayState _). HasPlacesFor a lists) (sym c.self.view_is) fits) (record {
       sampler = refl;
-      orders = rw c.byte.ensures.value at c.send.ensures.sends;
-      spent = c.send.ensures.spent;
+      orders = rw c.byte.ensures.value at c.send_reserved.ensures.sends;
+      spent = c.send_reserved.ensures.spent;
       ended = ap (λ (a : AwayState _). a.ended) c.self.view_is ∙ c.requires.checked.2.takes_orders;
     })

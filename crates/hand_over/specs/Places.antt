@@ -1,6 +1,6 @@
 -- What one end of a place knows: what it put in, and what it took out.
 use Rattle.std.specs.Prelude.{List}
-use Rattle.tasks.specs.declared.place.Went.{Went}
+use Rattle.hand_over.specs.declared.place.Went.{Went}
 
 -- what went in and what came out through one end of a place, oldest first
 pub record PlaceState (T : Type 0) : Type 0 where

@@ -20,7 +20,7 @@ pub struct Open;
 
 impl<T> Protocol<T, Went<T>> for Open {
     ghost use Rattle.std.specs.Prelude.{[], ⊤};
-    ghost use Rattle.tasks.specs.Places.{went};
+    ghost use Rattle.hand_over.specs.Places.{went};
 
     ghost holds = { λ items views. ⊤ };
 
@@ -31,7 +31,7 @@ struct Put;
 
 impl<T> Outcome<T, Went<T>> for Put {
     ghost use Rattle.std.specs.Prelude.{◌≡◌, ◌++◌, ◌∷◌, []};
-    ghost use Rattle.tasks.specs.Places.{went};
+    ghost use Rattle.hand_over.specs.Places.{went};
 
     ghost then = { λ v x w. w ≡ went (v.put ++ x ∷ []) v.taken };
 }
@@ -40,7 +40,7 @@ struct Taken;
 
 impl<T> Outcome<T, Went<T>> for Taken {
     ghost use Rattle.std.specs.Prelude.{◌≡◌, ◌++◌, ◌∷◌, []};
-    ghost use Rattle.tasks.specs.Places.{went};
+    ghost use Rattle.hand_over.specs.Places.{went};
 
     ghost then = { λ v x w. w ≡ went v.put (v.taken ++ x ∷ []) };
 }
@@ -55,7 +55,7 @@ pub struct Place<T> {
 impl<T> Model for Place<T> {
     ghost use Rattle.std.specs.Arc.{arc_value};
     ghost use Rattle.crossbeam_queue.specs.Passes.{IsPassOf, view as seen};
-    ghost use Rattle.tasks.specs.Places.{PlaceState};
+    ghost use Rattle.hand_over.specs.Places.{PlaceState};
 
     ghost Value = { PlaceState T };
 

@@ -1,0 +1,26 @@
+use channel_ring::SendEnd;
+use hand_over::{ComingBack, Given, Rule, WayBack};
+use sampler::{Sampler, SamplerEnd};
+
+/// What comes back: what is left of a sampler.
+pub type Left<S> = SamplerEnd<<S as SendEnd>::End>;
+
+/// The end of the way back that a sampler has.
+pub type SamplerWay<S> = WayBack<Sampler<S>, Left<S>, LaterPast>;
+
+/// The end that its engine has.
+pub type EngineWay<S> = ComingBack<Sampler<S>, Left<S>, LaterPast>;
+
+/// A way on which what is left of a sampler was given back.
+pub type GivenBack<S> = Given<Sampler<S>, Left<S>, LaterPast>;
+
+/// What is left of a sampler has its event channel and its ring, and stands after a past that goes
+/// on from what the sampler stood after.
+#[derive(Clone, Copy)]
+pub struct LaterPast;
+
+impl<S: SendEnd> Rule<Sampler<S>, Left<S>> for LaterPast {
+    ghost use Rattle.handle_calls.specs.Ways.{IsEndOf};
+
+    ghost leaves = { IsEndOf S.SendEnd S.End.RingEnd };
+}
