@@ -1,12 +1,12 @@
 -- The account of a slave that is closed.
-use Rattle.std.proofs.Common.{◌≡◌, ◌≢◌, ℕ, suc, ◌+◌, ◌<◌, ◌≤◌, Bool, true, false, ◌&&◌, ◌||◌, not, ◌↔◌, ◌⊎◌, nat_lt, if◌then◌else◌, List, [], ◌∷◌, ◌++◌, map, drop, refl, sym, ap, ◌∙◌, subst, arith, inl, inr}
+use Rattle.std.proofs.Common.{◌≡◌, ◌*◌, ◌≢◌, ℕ, suc, ◌+◌, ◌<◌, ◌≤◌, Bool, true, false, ◌&&◌, ◌||◌, not, ◌↔◌, ◌⊎◌, nat_lt, if◌then◌else◌, List, [], ◌∷◌, ◌++◌, map, drop, refl, sym, ap, ◌∙◌, subst, arith, inl, inr}
 use Rattle.std.specs.Prelude.{count_by, Option, Some, None}
 use Rattle.std.specs.Option.{is_some}
 use Rattle.std.proofs.lemmas.Bool.{false≢true}
 use Rattle.std.proofs.lemmas.Bool.Decides.{eqb_tells, leb_tells}
 use Rattle.std.proofs.lemmas.Option.{slice_get_within}
 use Rattle.std.proofs.lemmas.List.Sums.{sum_by-cons}
-use Rattle.xcp_base.specs.declared.limits.TheConstants.{MAX_LISTS}
+use Rattle.xcp_base.specs.declared.limits.TheConstants.{MAX_CHANNELS, MAX_LISTS}
 use Rattle.channel_ring.specs.declared.ends.TakeEnd.{Ghosts as TakeGhosts}
 use Rattle.frame_outbox.specs.Outboxes.{Laid, unit_of}
 use Rattle.frame_outbox.specs.Units.{is_sample_of, samples_of}
@@ -145,7 +145,7 @@ module _ {S T F : Type 0} (take : TakeGhosts T F) where
   told-whole d s log false stands none some = (λ e. all-back d s log stands (none refl), λ all. refl)
   told-whole d s log true stands none some = (λ e. absurd (false≢true e), λ all. absurd (not-back d s log stands (some refl) all))
 
-  pub closes : (a h b : SlaveState S T) (account : List Totals) (kept : Bool) → GoesBy take a h (HungUp ∷ []) → h.session.profile ≡ a.session.profile → Collects take h b
+  pub closes : (a h b : SlaveState S T) (account : List Totals) (kept : Bool) → GoesBy take a h (HungUp ∷ []) → h.session.profile ≡ a.session.profile → Collects take (2 * MAX_CHANNELS) h b
       → ((entries : List Entry) → AccountStandsAfter b.account entries (λ l. 0) → AccountStandsAfter account entries (λ l. samples_of l b.outbox.units))
       → (kept ≡ false → KeepsNone b.channels)
       → (kept ≡ true → KeepsOne b.channels)
@@ -153,6 +153,7 @@ module _ {S T F : Type 0} (take : TakeGhosts T F) where
   closes a h b account kept hangs profile collects leaves none some = record {
     last = collects.acts;
     are = collects.are;
+    few = collects.few;
     stands = λ log few stands.
         let d = a.session.profile in
         let all = collects.acts ++ HungUp ∷ log in

@@ -7,14 +7,14 @@ use Rattle.std.proofs.lemmas.List.Folds.{list_all-append}
 use Rattle.std.proofs.lemmas.List.Sums.{sum_by-append, sum_by-cons}
 use Rattle.xcp_base.specs.declared.err_code.ErrCode.{ErrCode}
 use Rattle.xcp_base.specs.declared.err_code.ErrCode.TheVariants.{CmdBusy, Sequence}
-use Rattle.xcp_base.specs.declared.limits.TheConstants.{MAX_TAKEN}
+use Rattle.xcp_base.specs.declared.limits.TheConstants.{MAX_CHANNELS, MAX_TAKEN}
 use Rattle.session.specs.declared.profile.Profile.{Profile}
 use Rattle.channel_ring.specs.declared.ends.RingEnd.{Ghosts as EndGhosts}
 use Rattle.channel_ring.specs.declared.ends.TakeEnd.{Ghosts as TakeGhosts}
 use Rattle.session.specs.Standing.{SessionStandsAfter, SessionState}
 use Rattle.slave_channel.specs.Channels.{FinishedState, IsFinished}
 use Rattle.slave.specs.Finishing.{GivesBack}
-use Rattle.slave.specs.Hearing.{MayOpen, is_before}
+use Rattle.slave.specs.Hearing.{MayOpen, is_before, most_before}
 use Rattle.slave.specs.Inner.{AreAsOpened, Collects, HasOther, HasParts, HasSome, IsOfOne, Prepares, SlaveStarted, StartsInVain, WantsPlaces}
 use Rattle.slave.specs.Log.{Act, CameBack, Heard, HungUp, Opened, Refused, Sent, Took, is_opening, is_return, opened}
 use Rattle.slave.specs.Standing.{SlaveStandsAfter, SlaveState}
@@ -41,35 +41,38 @@ none-opened (Took m c x ∷ acts) are = absurd (false≢true are)
 none-opened (Sent n ∷ acts) are = absurd (false≢true are)
 none-opened (HungUp ∷ acts) are = absurd (false≢true are)
 
-may-open-behind : (opening acts : List Act) → MayOpen opening → list_all is_return acts ≡ true → MayOpen (opening ++ acts)
-may-open-behind opening acts may are = record {
+may-open-behind : (opening acts : List Act) → MayOpen 1 opening → list_all is_return acts ≡ true → length acts ≤ 2 * MAX_CHANNELS → MayOpen most_before (opening ++ acts)
+may-open-behind opening acts may are few = record {
   are = list_all-append is_before opening acts ∙ ap (λ b. b && list_all is_before acts) may.are ∙ before-return acts are;
   one = omega (arith, sum_by-append (λ a. if is_opening a then 1 else 0) opening acts, may.one, none-opened acts are);
+  few = omega (arith, length-append opening acts, may.few, few);
 }
 
 module _ {S T F : Type 0} (take : TakeGhosts T F) where
-  pub collects-nothing : (a : SlaveState S T) → Collects take a a
-  collects-nothing a = record { session = refl; outbox = refl; as_many = refl; acts = []; are = refl; goes = λ log few stands. stands }
+  pub collects-nothing : (a : SlaveState S T) → Collects take 0 a a
+  collects-nothing a = record { session = refl; outbox = refl; as_many = refl; acts = []; are = refl; few = omega arith; goes = λ log few stands. stands }
 
   -- what came back at one event channel, if something did
-  collects-some : {E : Type 0} (ring : EndGhosts E) (a b : SlaveState S T) (c : ℕ) (answer : Option (FinishedState E T)) → GivesBack take ring a b c answer → IfSome answer (IsFinished ring take) → Collects take a b
-  collects-some ring a b c None gives whole = record { session = gives.session; outbox = gives.outbox; as_many = gives.as_many; acts = []; are = refl; goes = gives.none refl }
+  collects-some : {E : Type 0} (ring : EndGhosts E) (a b : SlaveState S T) (c : ℕ) (answer : Option (FinishedState E T)) → GivesBack take ring a b c answer → IfSome answer (IsFinished ring take) → Collects take 1 a b
+  collects-some ring a b c None gives whole = record { session = gives.session; outbox = gives.outbox; as_many = gives.as_many; acts = []; are = refl; few = omega arith; goes = gives.none refl }
   collects-some ring a b c (Some f) gives whole = record {
     session = gives.session;
     outbox = gives.outbox;
     as_many = gives.as_many;
     acts = CameBack f.number c whole.0 ∷ [];
     are = refl;
+    few = omega arith;
     goes = gives.some whole.0 whole.1;
   }
 
-  pub collects-more : (a m b : SlaveState S T) → Collects take a m → Collects take m b → Collects take a b
-  collects-more a m b one two = record {
+  pub collects-more : (n k : ℕ) (a m b : SlaveState S T) → Collects take n a m → Collects take k m b → Collects take (n + k) a b
+  collects-more n k a m b one two = record {
     session = two.session ∙ one.session;
     outbox = two.outbox ∙ one.outbox;
     as_many = two.as_many ∙ one.as_many;
     acts = two.acts ++ one.acts;
     are = list_all-append is_return two.acts one.acts ∙ ap (λ z. z && list_all is_return one.acts) two.are ∙ one.are;
+    few = omega (arith, length-append two.acts one.acts, one.few, two.few);
     goes = λ log few stands.
         let split = length-append two.acts one.acts in
         let profile = ap (λ (s : SessionState). s.profile) one.session in
@@ -79,7 +82,19 @@ module _ {S T F : Type 0} (take : TakeGhosts T F) where
         (two.goes (one.acts ++ log) (omega (arith, few, split, length-append one.acts log)) (subst (λ p. SlaveStandsAfter take p m (one.acts ++ log)) (sym profile) between)));
   }
 
-  pub collects-one : {E : Type 0} (ring : EndGhosts E) (a b : SlaveState S T) (c : ℕ) (answer : Option (FinishedState E T)) → GivesBack take ring a b c answer → IfSome answer (IsFinished ring take) → Collects take a b
+  -- no more than so many are no more than more
+  pub collects-within : (n k : ℕ) (a b : SlaveState S T) → n ≤ k → Collects take n a b → Collects take k a b
+  collects-within n k a b below one = record {
+    session = one.session;
+    outbox = one.outbox;
+    as_many = one.as_many;
+    acts = one.acts;
+    are = one.are;
+    few = omega (arith, below, one.few);
+    goes = one.goes;
+  }
+
+  pub collects-one : {E : Type 0} (ring : EndGhosts E) (a b : SlaveState S T) (c : ℕ) (answer : Option (FinishedState E T)) → GivesBack take ring a b c answer → IfSome answer (IsFinished ring take) → Collects take 1 a b
   collects-one ring a b c answer gives whole = collects-some ring a b c answer gives whole
 
   -- a log in which what came back stands behind a measurement that was opened
@@ -88,9 +103,9 @@ module _ {S T F : Type 0} (take : TakeGhosts T F) where
     pub few : 32 * (1 + length opening + length (acts ++ log)) ≤ MAX_TAKEN
     pub lead : (P : Profile → List Act → Type 0) → P m.session.profile (opening ++ (acts ++ log)) → P a.session.profile ((opening ++ acts) ++ log)
 
-  between : (a m : SlaveState S T) (opening : List Act) (log : List Act) (collects : Collects take a m) → 32 * (1 + length (opening ++ collects.acts) + length log) ≤ MAX_TAKEN
+  between : (a m : SlaveState S T) (opening : List Act) (log : List Act) {most : ℕ} (collects : Collects take most a m) → 32 * (1 + length (opening ++ collects.acts) + length log) ≤ MAX_TAKEN
       → SlaveStandsAfter take a.session.profile a log → Between a m collects.acts opening log
-  between a m opening log collects few stands =
+  between a m opening log {most} collects few stands =
       let acts = collects.acts in
       let split = length-append opening acts in
       let same : m.session.profile ≡ a.session.profile = ap (λ (s : SessionState). s.profile) collects.session in
@@ -101,10 +116,10 @@ module _ {S T F : Type 0} (take : TakeGhosts T F) where
       }
 
   -- lists are started once what came back was taken back
-  pub collected-prepare : (a m b : SlaveState S T) (lists : ℕ) → Collects take a m → HasSome lists → Prepares take m b lists → Prepares take a b lists
+  pub collected-prepare : (a m b : SlaveState S T) (lists : ℕ) → Collects take (2 * MAX_CHANNELS) a m → HasSome lists → Prepares take 1 m b lists → Prepares take most_before a b lists
   collected-prepare a m b lists collects some p = record {
     opening = p.opening ++ collects.acts;
-    may_open = may-open-behind p.opening collects.acts p.may_open collects.are;
+    may_open = may-open-behind p.opening collects.acts p.may_open collects.are collects.few;
     for_some = inr some;
     in_one = λ log few stands.
         let way = between a m p.opening log collects few stands in
@@ -120,12 +135,12 @@ module _ {S T F : Type 0} (take : TakeGhosts T F) where
         way.lead (λ q xs. SlaveStarted take q b xs lists) (p.goes (collects.acts ++ log) way.few way.stands);
   }
 
-  pub collected-in-vain : (a m b : SlaveState S T) (lists : ℕ) (code : ErrCode) → Collects take a m → StartsInVain take m b lists code → StartsInVain take a b lists code
+  pub collected-in-vain : (a m b : SlaveState S T) (lists : ℕ) (code : ErrCode) → Collects take (2 * MAX_CHANNELS) a m → StartsInVain take 1 m b lists code → StartsInVain take most_before a b lists code
   collected-in-vain a m b lists code collects v = record {
     is = v.is;
     some = v.some;
     opening = v.opening ++ collects.acts;
-    may_open = may-open-behind v.opening collects.acts v.may_open collects.are;
+    may_open = may-open-behind v.opening collects.acts v.may_open collects.are collects.few;
     places = λ past stands run other.
         let same = collects.session in
         subst (λ s. (code ≡ CmdBusy) × WantsPlaces s lists b.channels) same

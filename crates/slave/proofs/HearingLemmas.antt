@@ -11,7 +11,7 @@ use Rattle.session.specs.Standing.{SessionStandsAfter, SessionState}
 use Rattle.session.specs.Exchanges.{Exchange}
 use Rattle.session.specs.Starts.{is_on, starts}
 use Rattle.slave_channel.specs.Channels.{ChannelState}
-use Rattle.slave.specs.Hearing.{FindsNoPlaces, Hears}
+use Rattle.slave.specs.Hearing.{FindsNoPlaces, Hears, most_before}
 use Rattle.session.specs.declared.profile.Profile.{Profile}
 use Rattle.slave.specs.Inner.{Answers, AreAsOpened, HasOther, HasParts, IsOfOne, LaysReply, Prepares, SlaveStarted, StartsInVain, WantsPlaces}
 use Rattle.session_account.specs.Accounts.{AccountStandsAfter}
@@ -65,7 +65,7 @@ module _ {S T : Type 0} where
 
 module _ {S T F : Type 0} (take : TakeGhosts T F) where
   -- a packet whose lists were started was answered
-  pub heard : (a k b : SlaveState S T) (lists : ℕ) (packet : List ℕ) (clock : ℕ) → Prepares take a k lists → k.session ≡ a.session
+  pub heard : (a k b : SlaveState S T) (lists : ℕ) (packet : List ℕ) (clock : ℕ) → Prepares take most_before a k lists → k.session ≡ a.session
       → ((past : Past) → SessionStandsAfter a.session past → (l : ℕ) → l < MAX_LISTS → has_list lists l ≡ starts a.session.profile past packet l)
       → Answers take k b packet clock → Hears take a b packet clock
   heard a k b lists packet clock prepares same are answers =
@@ -97,7 +97,7 @@ module _ {S T F : Type 0} (take : TakeGhosts T F) where
       }
 
   -- a start was refused
-  pub refused : (a k b : SlaveState S T) (lists : ℕ) (packet : List ℕ) (clock : ℕ) (code : ErrCode) → StartsInVain take a k lists code → k.session ≡ a.session
+  pub refused : (a k b : SlaveState S T) (lists : ℕ) (packet : List ℕ) (clock : ℕ) (code : ErrCode) → StartsInVain take most_before a k lists code → k.session ≡ a.session
       → ((past : Past) → SessionStandsAfter a.session past → (l : ℕ) → l < MAX_LISTS → has_list lists l ≡ starts a.session.profile past packet l)
       → LaysReply k.outbox b.outbox (Some (packet_of (Err code))) → b ≡ record k { outbox = b.outbox } → Hears take a b packet clock
   refused a k b lists packet clock code vain same are lays rest =

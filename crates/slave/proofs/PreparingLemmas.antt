@@ -17,7 +17,7 @@ use Rattle.session_account.specs.Accounts.{AccountStandsAfter}
 use Rattle.slave_channel.specs.Channels.{ChannelState}
 use Rattle.slave_channels.specs.Calls.{CanStartAll, Ends, Looks, OpensAt, OpenedAndEnded, StartsAt}
 use Rattle.slave_channels.specs.Each.{IsEach}
-use Rattle.slave.specs.Hearing.{MayOpen}
+use Rattle.slave.specs.Hearing.{MayOpen, most_before}
 use Rattle.slave.specs.Plans.{IsSame, plan_of}
 use Rattle.slave.proofs.PlanLemmas.{as-opened, is-same, just-opened}
 use Rattle.session.specs.Profiles.{lists_of}
@@ -66,11 +66,11 @@ is-false true never = absurd (never refl)
 is-false false never = refl
 
 -- nothing, and one measurement
-nothing-opened : MayOpen []
-nothing-opened = record { are = refl; one = omega arith }
+nothing-opened : (most : ℕ) → MayOpen most []
+nothing-opened most = record { are = refl; one = omega arith; few = omega arith }
 
-one-opened : (at : ℕ → Bool) → MayOpen (Opened at ∷ [])
-one-opened at = record { are = refl; one = omega arith }
+one-opened : (at : ℕ → Bool) → MayOpen 1 (Opened at ∷ [])
+one-opened at = record { are = refl; one = omega arith; few = omega arith }
 
 place-code : (code : ErrCode) → IsPlaceRefusal code → code ≡ Sequence → ⊥
 place-code code is e =
@@ -151,10 +151,10 @@ module _ {S T F : Type 0} (take : TakeGhosts T F) where
 
   -- lists of the measurement that is there are started
   pub starts-prepare : (a b : SlaveState S T) (lists : ℕ) → StartsLists take a b lists → Busy a.session → a.session.store.profile ≡ lists_of a.session.profile
-      → ((l : ℕ) → l < MAX_LISTS → has_list lists l ≡ true → IsSame a.plan a.session.store l) → Prepares take a b lists
+      → ((l : ℕ) → l < MAX_LISTS → has_list lists l ≡ true → IsSame a.plan a.session.store l) → Prepares take most_before a b lists
   starts-prepare a b lists s busy profile same = record {
     opening = [];
-    may_open = nothing-opened;
+    may_open = nothing-opened most_before;
     for_some = inl refl;
     in_one = λ log few stands some none. absurd (busy (past_of a.session.profile log) stands.has.session none);
     as_opened = λ log few stands l below one there. as-opened a.session.profile a.session a.plan log l profile stands.has.session stands.has.plan (same l below one);
@@ -162,10 +162,10 @@ module _ {S T F : Type 0} (take : TakeGhosts T F) where
     goes = λ log few stands. started-behind a.session.profile a b log lists (omega (arith, few)) s stands.has;
   }
 
-  pub none-prepare : (a : SlaveState S T) (lists : ℕ) → ((l : ℕ) → l < MAX_LISTS → has_list lists l ≡ false) → Prepares take a a lists
+  pub none-prepare : (a : SlaveState S T) (lists : ℕ) → ((l : ℕ) → l < MAX_LISTS → has_list lists l ≡ false) → Prepares take most_before a a lists
   none-prepare a lists none = record {
     opening = [];
-    may_open = nothing-opened;
+    may_open = nothing-opened most_before;
     for_some = inl refl;
     in_one = λ log few stands some quiet. absurd (false≢true (sym (none some.0 some.1) ∙ some.2));
     as_opened = λ log few stands l below one there. absurd (false≢true (sym (none l below) ∙ one));
@@ -175,12 +175,12 @@ module _ {S T F : Type 0} (take : TakeGhosts T F) where
 
   -- lists are not started, since there is no place for the orders
   pub looks-in-vain : (a b : SlaveState S T) (lists : ℕ) (code : ErrCode) → IsBusy a b lists code → LooksAtAll a b → HasSome lists → a.session.store.profile ≡ lists_of a.session.profile
-      → ((l : ℕ) → l < MAX_LISTS → has_list lists l ≡ true → IsSame a.plan a.session.store l) → StartsInVain take a b lists code
+      → ((l : ℕ) → l < MAX_LISTS → has_list lists l ≡ true → IsSame a.plan a.session.store l) → StartsInVain take most_before a b lists code
   looks-in-vain a b lists code is looks some profile same = record {
     is = inr (inl is.0);
     some = some;
     opening = [];
-    may_open = nothing-opened;
+    may_open = nothing-opened most_before;
     places = λ past stands run other. is;
     sequence = λ log few stands. (
       λ e. absurd (place-code code (inl is.0) e),
@@ -194,12 +194,12 @@ module _ {S T F : Type 0} (take : TakeGhosts T F) where
 
   -- or since one of them does not stand as it did
   pub other-in-vain : (a : SlaveState S T) (lists l : ℕ) → Busy a.session → a.session.store.profile ≡ lists_of a.session.profile
-      → l < MAX_LISTS → has_list lists l ≡ true → ¬ IsSame a.plan a.session.store l → StartsInVain take a a lists Sequence
+      → l < MAX_LISTS → has_list lists l ≡ true → ¬ IsSame a.plan a.session.store l → StartsInVain take most_before a a lists Sequence
   other-in-vain a lists l busy profile below one other = record {
     is = inl refl;
     some = (l, below, one);
     opening = [];
-    may_open = nothing-opened;
+    may_open = nothing-opened most_before;
     places = λ past stands run other. absurd (other refl);
     sequence = λ log few stands. (
       λ e. record {
@@ -215,12 +215,12 @@ module _ {S T F : Type 0} (take : TakeGhosts T F) where
   }
 
   -- or since no measurement is opened
-  pub unchanged-in-vain : (a b : SlaveState S T) (lists : ℕ) (code : ErrCode) → IsPlaceRefusal code → Idle a.session → HasSome lists → b ≡ a → StartsInVain take a b lists code
+  pub unchanged-in-vain : (a b : SlaveState S T) (lists : ℕ) (code : ErrCode) → IsPlaceRefusal code → Idle a.session → HasSome lists → b ≡ a → StartsInVain take 1 a b lists code
   unchanged-in-vain a b lists code is idle some same = record {
     is = inr is;
     some = some;
     opening = [];
-    may_open = nothing-opened;
+    may_open = nothing-opened 1;
     places = λ past stands run other. absurd (run (idle past stands));
     sequence = λ log few stands. (λ e. absurd (place-code code is e), λ other. absurd (other.some (idle (past_of a.session.profile log) stands.has.session)));
     goes = λ log few stands. subst (λ s. SlaveStandsAfter take a.session.profile s log) (sym same) stands;
@@ -244,7 +244,7 @@ module _ {S E T F : Type 0} (send : SendGhosts S E) (ring : EndGhosts E) (take :
       (λ k f p q o. record { caps = caps; sets = sets; as_many_caps = p; as_many_sets = q; channels = o; rest = record { session = refl; outbox = refl; plan = k; lists = f; account = refl; number = refl } }) plan lists many_caps many_sets (subst (λ z. IsEach (OpenedAndEnded send ring take z w.number caps sets) w.channels x) st opens)
 
   -- lists of a measurement that was opened are started
-  pub opens-prepare : (a m b : SlaveState S T) (lists : ℕ) → OpensAll send ring take a m → Idle a.session → HasSome lists → StartsLists take m b lists → Prepares take a b lists
+  pub opens-prepare : (a m b : SlaveState S T) (lists : ℕ) → OpensAll send ring take a m → Idle a.session → HasSome lists → StartsLists take m b lists → Prepares take 1 a b lists
   opens-prepare a m b lists opens idle some s = record {
     opening = Opened (parts-all send ring take a m opens).at ∷ [];
     may_open = one-opened (parts-all send ring take a m opens).at;
@@ -261,7 +261,7 @@ module _ {S E T F : Type 0} (send : SendGhosts S E) (ring : EndGhosts E) (take :
         (opens-all send ring take d a m log (omega (arith, few)) (idle (past_of d log) stands.has.session) stands opens);
   }
 
-  pub none-in-vain : (a b : SlaveState S T) (lists : ℕ) (code : ErrCode) → IsPlaceRefusal code → Idle a.session → HasSome lists → OpensNone send ring take a b → StartsInVain take a b lists code
+  pub none-in-vain : (a b : SlaveState S T) (lists : ℕ) (code : ErrCode) → IsPlaceRefusal code → Idle a.session → HasSome lists → OpensNone send ring take a b → StartsInVain take 1 a b lists code
   none-in-vain a b lists code is idle some opens =
       elim opens [
         | inl same ↦ unchanged-in-vain take a b lists code is idle some same
@@ -277,7 +277,7 @@ module _ {S E T F : Type 0} (send : SendGhosts S E) (ring : EndGhosts E) (take :
       ]
 
   pub ended-in-vain : (a m k b : SlaveState S T) (lists : ℕ) (code : ErrCode) → IsPlaceRefusal code → Idle a.session → HasSome lists → OpensAll send ring take a m → LooksAtAll m k
-      → IsEach (λ c. Ends) k.channels b.channels → b ≡ record k { channels = b.channels } → StartsInVain take a b lists code
+      → IsEach (λ c. Ends) k.channels b.channels → b ≡ record k { channels = b.channels } → StartsInVain take 1 a b lists code
   ended-in-vain a m k b lists code is idle some opens looks ends rest = record {
     is = inr is;
     some = some;

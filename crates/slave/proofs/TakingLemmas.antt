@@ -289,10 +289,11 @@ module _ {S T F : Type 0} (take : TakeGhosts T F) where
 
   -- by what became of the next item
   taken-step : (a b : SlaveState S T) (c : ℕ) (x y : ChannelState S T) (m : ℕ) (i j : IntakeState T) → ChangesAt a b c x y → b.account ≡ a.account → length b.channels ≡ length a.channels → IsPart x y m i j
-      → (step : Step) → TakesItem take i j a.outbox b.outbox m step → TakesItems take a b
+      → (step : Step) → TakesItem take i j a.outbox b.outbox m step → TakesItems take 1 a b
   taken-step a b c x y m i j changes account many part Nothing (looked, known, out) = record {
     acts = [];
     are = refl;
+    few = omega arith;
     session = changes.session;
     as_many = many;
     goes = took-none a b c x y (Unit {0}) changes part.keeps out account (λ log z. tt) (λ n f u has. part.goes n f f (looked-stands take i j looked (f m) (part.part n f has).1) (λ k o. refl) (λ k l. refl) has);
@@ -300,6 +301,7 @@ module _ {S T F : Type 0} (take : TakeGhosts T F) where
   taken-step a b c x y m i j changes account many part Full (p, looked, known, passes, room, out) = record {
     acts = [];
     are = refl;
+    few = omega arith;
     session = changes.session;
     as_many = many;
     goes = took-none a b c x y (Unit {0}) changes part.keeps out account (λ log z. tt) (λ n f u has. part.goes n f f (looked-stands take i j looked (f m) (part.part n f has).1) (λ k o. refl) (λ k l. refl) has);
@@ -307,6 +309,7 @@ module _ {S T F : Type 0} (take : TakeGhosts T F) where
   taken-step a b c x y m i j changes account many part (Marked l) (mark, takes, list, out) = record {
     acts = Took m c (Marker mark) ∷ [];
     are = refl;
+    few = omega arith;
     session = changes.session;
     as_many = many;
     goes = took-item a b c x y m i j (Marker mark) changes account part takes (lays-none a b (Took m c (Marker mark)) c i out (λ log there. refl));
@@ -314,6 +317,7 @@ module _ {S T F : Type 0} (take : TakeGhosts T F) where
   taken-step a b c x y m i j changes account many part (Skipped l) (p, takes, list, held, out) = record {
     acts = Took m c (Sample p) ∷ [];
     are = refl;
+    few = omega arith;
     session = changes.session;
     as_many = many;
     goes = took-item a b c x y m i j (Sample p) changes account part takes
@@ -323,6 +327,7 @@ module _ {S T F : Type 0} (take : TakeGhosts T F) where
   taken-step a b c x y m i j changes account many part (Wrote l end) (p, takes, list, passes, lays) = record {
     acts = Took m c (Sample p) ∷ [];
     are = refl;
+    few = omega arith;
     session = changes.session;
     as_many = many;
     goes = took-item a b c x y m i j (Sample p) changes account part takes
@@ -333,10 +338,11 @@ module _ {S T F : Type 0} (take : TakeGhosts T F) where
 
   -- of the newer part, and of the older, if they are there
   taken-newer : (a b : SlaveState S T) (c : ℕ) (x y : ChannelState S T) (step : Step) → ChangesAt a b c x y → b.account ≡ a.account → length b.channels ≡ length a.channels → y ≡ record x { newer = y.newer }
-      → (u v : Option (ShareState T)) → x.newer ≡ u → y.newer ≡ v → TakesOf take u v a.outbox b.outbox step → TakesItems take a b
+      → (u v : Option (ShareState T)) → x.newer ≡ u → y.newer ≡ v → TakesOf take u v a.outbox b.outbox step → TakesItems take 1 a b
   taken-newer a b c x y step changes account many rest None None was is (none, out) = record {
     acts = [];
     are = refl;
+    few = omega arith;
     session = changes.session;
     as_many = many;
     goes =
@@ -348,10 +354,11 @@ module _ {S T F : Type 0} (take : TakeGhosts T F) where
   taken-newer a b c x y step changes account many rest (Some s) (Some t) was is (same, takes) = taken-step a b c x y s.number s.intake t.intake changes account many (newer-part x y s t was rest is same) step takes
 
   taken-older : (a b : SlaveState S T) (c : ℕ) (x y : ChannelState S T) (step : Step) → ChangesAt a b c x y → b.account ≡ a.account → length b.channels ≡ length a.channels → y ≡ record x { older = y.older }
-      → (u v : Option (ShareState T)) → x.older ≡ u → y.older ≡ v → TakesOf take u v a.outbox b.outbox step → TakesItems take a b
+      → (u v : Option (ShareState T)) → x.older ≡ u → y.older ≡ v → TakesOf take u v a.outbox b.outbox step → TakesItems take 1 a b
   taken-older a b c x y step changes account many rest None None was is (none, out) = record {
     acts = [];
     are = refl;
+    few = omega arith;
     session = changes.session;
     as_many = many;
     goes =
@@ -365,7 +372,7 @@ module _ {S T F : Type 0} (take : TakeGhosts T F) where
 module _ {S T F : Type 0} (take : TakeGhosts T F) where
   -- the next item of the newest measurement at an event channel was taken, if there was one
   pub took-one : (v w : SlaveState S T) (xs : List (ChannelState S T)) (o : OutboxState) (c : ℕ) (step : Step) → w ≡ v → c < length w.channels
-      → IsOnlyAt (TakesFromNewer take w.outbox o step) c w.channels xs → TakesItems take v (record w { outbox = o; channels = xs })
+      → IsOnlyAt (TakesFromNewer take w.outbox o step) c w.channels xs → TakesItems take 1 v (record w { outbox = o; channels = xs })
   took-one v w xs o c step same below only =
       let (x, was) = some-at w.channels c below in
       let (y, is) = some-at xs c (omega (arith, below, only.as_many)) in
@@ -381,12 +388,12 @@ module _ {S T F : Type 0} (take : TakeGhosts T F) where
         plan = refl;
         number = refl;
       } in
-      subst (λ (z : SlaveState S T). TakesItems take z b) same
+      subst (λ (z : SlaveState S T). TakesItems take 1 z b) same
       (taken-newer take w b c x y step changes refl only.as_many one.rest x.newer y.newer refl refl one.takes)
 
   -- the next item of the measurement before it was taken, if there was one
   pub took-older : (v w : SlaveState S T) (xs : List (ChannelState S T)) (o : OutboxState) (c : ℕ) (step : Step) → w ≡ v → c < length w.channels
-      → IsOnlyAt (TakesFromOlder take w.outbox o step) c w.channels xs → TakesItems take v (record w { outbox = o; channels = xs })
+      → IsOnlyAt (TakesFromOlder take w.outbox o step) c w.channels xs → TakesItems take 1 v (record w { outbox = o; channels = xs })
   took-older v w xs o c step same below only =
       let (x, was) = some-at w.channels c below in
       let (y, is) = some-at xs c (omega (arith, below, only.as_many)) in
@@ -402,17 +409,18 @@ module _ {S T F : Type 0} (take : TakeGhosts T F) where
         plan = refl;
         number = refl;
       } in
-      subst (λ (z : SlaveState S T). TakesItems take z b) same
+      subst (λ (z : SlaveState S T). TakesItems take 1 z b) same
       (taken-older take w b c x y step changes refl only.as_many one.rest x.older y.older refl refl one.takes)
 
-  pub takes-nothing : (a : SlaveState S T) → TakesItems take a a
-  takes-nothing a = record { acts = []; are = refl; session = refl; as_many = refl; goes = λ log few stands. stands }
+  pub takes-nothing : (a : SlaveState S T) → TakesItems take 0 a a
+  takes-nothing a = record { acts = []; are = refl; few = omega arith; session = refl; as_many = refl; goes = λ log few stands. stands }
 
   -- items were taken, and then others
-  pub takes-more : (a m b : SlaveState S T) → TakesItems take a m → TakesItems take m b → TakesItems take a b
-  takes-more a m b one two = record {
+  pub takes-more : (n k : ℕ) (a m b : SlaveState S T) → TakesItems take n a m → TakesItems take k m b → TakesItems take (n + k) a b
+  takes-more n k a m b one two = record {
     acts = two.acts ++ one.acts;
     are = list_all-append is_take two.acts one.acts ∙ ap (λ z. z && list_all is_take one.acts) two.are ∙ one.are;
+    few = omega (arith, length-append two.acts one.acts, one.few, two.few);
     session = two.session ∙ one.session;
     as_many = two.as_many ∙ one.as_many;
     goes = λ log few stands.
@@ -422,4 +430,15 @@ module _ {S T F : Type 0} (take : TakeGhosts T F) where
         subst (λ xs. SlaveStandsAfter take a.session.profile b xs) (sym (assoc two.acts one.acts log))
         (subst (λ p. SlaveStandsAfter take p b (two.acts ++ (one.acts ++ log))) profile
         (two.goes (one.acts ++ log) (omega (arith, few, split, length-append one.acts log)) (subst (λ p. SlaveStandsAfter take p m (one.acts ++ log)) (sym profile) first_stands)));
+  }
+
+  -- no more than so many are no more than more
+  pub takes-within : (n k : ℕ) (a b : SlaveState S T) → n ≤ k → TakesItems take n a b → TakesItems take k a b
+  takes-within n k a b below one = record {
+    acts = one.acts;
+    are = one.are;
+    few = omega (arith, below, one.few);
+    session = one.session;
+    as_many = one.as_many;
+    goes = one.goes;
   }

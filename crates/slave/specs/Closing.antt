@@ -2,7 +2,7 @@
 use Rattle.std.specs.Prelude.{◌≡◌, ℕ, ◌+◌, ◌*◌, ◌<◌, ◌≤◌, ◌↔◌, Bool, true, List, ◌∷◌, ◌++◌}
 use Rattle.std.specs.Prelude.{count_by, drop, length}
 use Rattle.std.specs.List.{list_all}
-use Rattle.xcp_base.specs.declared.limits.TheConstants.{MAX_TAKEN}
+use Rattle.xcp_base.specs.declared.limits.TheConstants.{MAX_CHANNELS, MAX_TAKEN}
 use Rattle.channel_ring.specs.declared.ends.TakeEnd.{Ghosts as TakeGhosts}
 use Rattle.frame_outbox.specs.Outboxes.{Laid}
 use Rattle.frame_outbox.specs.Units.{is_sample_of}
@@ -23,11 +23,12 @@ unsent_of d log l =
     count_by (λ (x : Laid). is_sample_of l x.origin) (drop (sent_of log) (laid d log))
 
 module _ {S T F : Type 0} (take : TakeGhosts T F) where
-  -- the account is that of all parts that came back, those that came at last among them; what was
-  -- laid out and not sent is left; and the account is whole where all parts came back
+  -- the account is that of all parts that came back, those that came at last among them, two at most
+  -- of an event channel; what was laid out and not sent is left; and the account is whole where all parts came back
   pub record Closes (a : SlaveState S T) (account : List Totals) (whole : Bool) : Type 0 where
     pub last : List Act
     pub are : list_all is_return last ≡ true
+    pub few : length last ≤ 2 * MAX_CHANNELS
     pub stands :
         (log : List Act) → 32 * (1 + length last + length log) ≤ MAX_TAKEN
         → SlaveStandsAfter take a.session.profile a log

@@ -5,7 +5,7 @@ use Rattle.std.specs.List.{list_all}
 use Rattle.xcp_base.specs.declared.err_code.ErrCode.{ErrCode}
 use Rattle.xcp_base.specs.declared.err_code.ErrCode.TheVariants.{CmdBusy, MemoryOverflow, Sequence}
 use Rattle.xcp_base.specs.Lists.{has_list}
-use Rattle.xcp_base.specs.declared.limits.TheConstants.{MAX_LISTS, MAX_TAKEN}
+use Rattle.xcp_base.specs.declared.limits.TheConstants.{MAX_CHANNELS, MAX_LISTS, MAX_TAKEN}
 use Rattle.channel_ring.specs.declared.ends.TakeEnd.{Ghosts as TakeGhosts}
 use Rattle.session.specs.Exchanges.{Exchange}
 use Rattle.session.specs.Past.{Past}
@@ -32,10 +32,16 @@ is_before (CameBack m c past) = true
 is_before (Sent n) = false
 is_before HungUp = false
 
--- at most one measurement is opened
-pub record MayOpen (acts : List Act) : Type 0 where
+-- the most that is done before a start: two parts come back at each event channel, and a measurement
+-- is opened
+abbrev pub most_before : ℕ
+most_before = 1 + 2 * MAX_CHANNELS
+
+-- at most one measurement is opened, and no more is done than so many acts
+pub record MayOpen (most : ℕ) (acts : List Act) : Type 0 where
   pub are : list_all is_before acts ≡ true
   pub one : opened acts ≤ 1
+  pub few : length acts ≤ most
 
 -- the packet was answered, or refused; and before that a measurement may have been opened
 abbrev pub IsHearing : List ℕ → ℕ → Act → Type 0
@@ -73,7 +79,7 @@ module _ {S T F : Type 0} (take : TakeGhosts T F) where
     pub act : Act
     pub opening : List Act
     pub is : IsHearing packet clock act
-    pub may_open : MayOpen opening
+    pub may_open : MayOpen most_before opening
     pub for_a_start :
         (log : List Act) → SlaveStandsAfter take a.session.profile a log
         → (opening ≡ []) ⊎ IsStart a.session.profile (past_of a.session.profile log) packet

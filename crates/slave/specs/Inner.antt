@@ -155,19 +155,20 @@ module _ {S T F : Type 0} (take : TakeGhosts T F) where
     pub starts : IsEach (StartsAt take sets) looked.channels b.channels
     pub rest : b ≡ record looked { channels = b.channels }
 
-  -- what came back was taken back, at all event channels
-  pub record Collects (a b : SlaveState S T) : Type 0 where
+  -- what came back was taken back, at all event channels, and no more than so many parts
+  pub record Collects (most : ℕ) (a b : SlaveState S T) : Type 0 where
     pub session : b.session ≡ a.session
     pub outbox : b.outbox ≡ a.outbox
     pub as_many : length b.channels ≡ length a.channels
     pub acts : List Act
     pub are : list_all is_return acts ≡ true
+    pub few : length acts ≤ most
     pub goes : GoesBy take a b acts
 
   -- lists were started, in a measurement that may have been opened
-  pub record Prepares (a b : SlaveState S T) (lists : ℕ) : Type 0 where
+  pub record Prepares (most : ℕ) (a b : SlaveState S T) (lists : ℕ) : Type 0 where
     pub opening : List Act
-    pub may_open : MayOpen opening
+    pub may_open : MayOpen most opening
     pub for_some : (opening ≡ []) ⊎ HasSome lists
     pub in_one :
         (log : List Act) → 32 * (1 + length opening + length log) ≤ MAX_TAKEN
@@ -187,11 +188,12 @@ module _ {S T F : Type 0} (take : TakeGhosts T F) where
         → SlaveStarted a.session.profile b (opening ++ log) lists
 
   -- lists were not started; a measurement may have been opened, and ended at once
-  pub record StartsInVain (a b : SlaveState S T) (lists : ℕ) (code : ErrCode) : Type 0 where
+  pub record StartsInVain (most : ℕ) (a b : SlaveState S T) (lists : ℕ) (code : ErrCode)
+      : Type 0 where
     pub is : IsStartRefusal code
     pub some : HasSome lists
     pub opening : List Act
-    pub may_open : MayOpen opening
+    pub may_open : MayOpen most opening
     pub sequence :
         (log : List Act) → 32 * (1 + length opening + length log) ≤ MAX_TAKEN
         → SlaveStandsAfter take a.session.profile a log

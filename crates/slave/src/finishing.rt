@@ -1,5 +1,6 @@
 //! What came back of measurements is handed out.
-ghost use Rattle.std.specs.Prelude.{◌<◌, length};
+ghost use Rattle.std.specs.Prelude.{◌*◌, ◌<◌, length};
+ghost use Rattle.xcp_base.specs.declared.limits.TheConstants.{MAX_CHANNELS};
 ghost use Rattle.slave.specs.Finishing.{GivesBack};
 ghost use Rattle.slave.specs.Inner.{Collects, Idle, Notes};
 
@@ -40,7 +41,7 @@ impl<R: Ring> Slave<R> {
 
     /// Takes back what came back, at all event channels.
     pub(crate) fn collect(&mut self)
-        ensures { Collects R.Take.TakeEnd self.old self.new }
+        ensures { Collects R.Take.TakeEnd (2 * MAX_CHANNELS) self.old self.new }
     {
         for c in 0..self.channels.len() {
             self.collect_at(c);
@@ -49,7 +50,7 @@ impl<R: Ring> Slave<R> {
 
     /// Takes back what came back at an event channel: of one measurement, or of two.
     fn collect_at(&mut self, c: usize)
-        ensures { Collects R.Take.TakeEnd self.old self.new }
+        ensures { Collects R.Take.TakeEnd 2 self.old self.new }
     {
         self.collect_one(c);
         self.collect_one(c);
@@ -57,7 +58,7 @@ impl<R: Ring> Slave<R> {
 
     /// Takes back what came back of one measurement at an event channel, and frees it.
     fn collect_one(&mut self, c: usize)
-        ensures { Collects R.Take.TakeEnd self.old self.new }
+        ensures { Collects R.Take.TakeEnd 1 self.old self.new }
     {
         if let Some(part) = self.take_back(c) {
             // for the proof: gives `finished`, the past that its sampler came to

@@ -85,6 +85,7 @@ impl<R: Ring> Slave<R> {
             plan: Plan::none(alloc),
             number: 0,
             account: Account::new(),
+            next: 0,
         };
         Ok((slave, tasks))
     }

@@ -1,12 +1,13 @@
 //! Items are taken off the rings, and what waits is sent.
-ghost use Rattle.std.specs.Prelude.{◌≡◌, ◌<◌, [], ◌∷◌, min, length, drop, OnErr, OnOk};
+ghost use Rattle.std.specs.Prelude.{◌≡◌, ◌*◌, ◌<◌, [], ◌∷◌, min, length, drop, OnErr, OnOk};
 ghost use Rattle.std.specs.Prelude.{take as first};
+ghost use Rattle.xcp_base.specs.declared.limits.TheConstants.{MAX_CHANNELS};
 ghost use Rattle.frame_outbox.specs.Outboxes.{Shows};
 ghost use Rattle.frame_outbox.specs.Putting.{Hands};
 ghost use Rattle.frame_writer.specs.Shown.{shown};
 ghost use Rattle.slave.specs.Hearing.{GoesBy};
 ghost use Rattle.slave.specs.Log.{Sent};
-ghost use Rattle.slave.specs.Taking.{TakesItems};
+ghost use Rattle.slave.specs.Taking.{TakesItems, most_taken};
 
 use crate::slave::Slave;
 use channel_intake::Step;
@@ -14,50 +15,75 @@ use daq_engine::Ring;
 use frame_outbox::PutFault;
 use frame_writer::Out;
 
-/// The most items that are taken off one ring in a row.
+/// The most items that are taken off one ring in a call.
 const MOST_ITEMS: usize = 1024;
 
 impl<R: Ring> Slave<R> {
-    /// Takes items of all event channels, ring by ring, and lays those samples out whose DAQ list
-    /// runs, as long as their frames end within the page. What the rings of measurements before the
-    /// last still hold is let go, so that their tasks' stops find room. It takes no memory.
+    /// Takes items off the rings, round by round: in a round at most one of each, in rising event
+    /// channel. It lays those samples out whose DAQ list runs, as long as their frames end within
+    /// the page; the call ends at the first sample that finds no room, and the next one begins at
+    /// its ring. What the rings of measurements before the last still hold is let go, so that their
+    /// tasks' stops find room. It takes no memory.
     pub fn take(&mut self)
-        ensures takes { TakesItems R.Take.TakeEnd self.old self.new }
+        ensures takes { TakesItems R.Take.TakeEnd most_taken self.old self.new }
     {
-        for c in 0..self.channels.len() {
-            self.take_from_newer(c);
-            self.take_from_older(c);
+        self.let_go();
+        let mut rounds = 0;
+        while rounds < MOST_ITEMS {
+            if !self.round() {
+                return;
+            }
+            rounds += 1;
         }
     }
 
-    /// Takes items of the newest measurement at event channel `c`.
-    fn take_from_newer(&mut self, c: usize)
-        requires channel { c < length self.old.channels }
-        ensures takes { TakesItems R.Take.TakeEnd self.old self.new }
+    /// Takes an item of each ring, from that on at which a sample found no room; and returns
+    /// whether the next round may find one.
+    fn round(&mut self) -> bool
+        ensures takes { TakesItems R.Take.TakeEnd MAX_CHANNELS self.old self.new }
     {
-        for _ in 0..MOST_ITEMS {
-            if let Step::Nothing | Step::Full = self.take_one(c) {
-                break;
+        let len = self.channels.len();
+        let first = self.next.min(len);
+        let mut goes_on = first > 0;
+        for c in first..len {
+            let step = self.take_one(c);
+            if step == Step::Full {
+                self.next = c;
+                return false;
             }
+            goes_on |= step != Step::Nothing;
+        }
+        self.next = 0;
+        goes_on
+    }
+
+    /// Takes what the rings of the measurements before the last still hold.
+    fn let_go(&mut self)
+        ensures takes { TakesItems R.Take.TakeEnd (1024 * MAX_CHANNELS) self.old self.new }
+    {
+        for c in 0..self.channels.len() {
+            self.take_from_older(c);
         }
     }
 
     /// Takes items of the measurement before the last at event channel `c`.
     fn take_from_older(&mut self, c: usize)
         requires channel { c < length self.old.channels }
-        ensures takes { TakesItems R.Take.TakeEnd self.old self.new }
+        ensures takes { TakesItems R.Take.TakeEnd 1024 self.old self.new }
     {
-        for _ in 0..MOST_ITEMS {
+        let mut taken = 0;
+        while taken < MOST_ITEMS {
             if let Step::Nothing | Step::Full = self.take_one_older(c) {
-                break;
+                return;
             }
+            taken += 1;
         }
     }
 
     /// Takes the next item of the newest measurement at event channel `c`, if there is one.
     fn take_one(&mut self, c: usize) -> Step
         requires channel { c < length self.old.channels }
-        ensures takes { TakesItems R.Take.TakeEnd self.old self.new }
+        ensures takes { TakesItems R.Take.TakeEnd 1 self.old self.new }
     {
         self.channels.take(c, &mut self.outbox)
     }
@@ -65,7 +91,7 @@ impl<R: Ring> Slave<R> {
     /// The same of the measurement before it.
     fn take_one_older(&mut self, c: usize) -> Step
         requires channel { c < length self.old.channels }
-        ensures takes { TakesItems R.Take.TakeEnd self.old self.new }
+        ensures takes { TakesItems R.Take.TakeEnd 1 self.old self.new }
     {
         self.channels.take_from_older(c, &mut self.outbox)
     }

@@ -19,6 +19,8 @@ pub struct Slave<R: Ring> {
     pub(crate) plan: Plan,
     pub(crate) number: u64,
     pub(crate) account: Account,
+    // the event channel at which the next round begins: the last one broke off there
+    pub(crate) next: usize,
 }
 
 impl<R: Ring> Model for Slave<R> {

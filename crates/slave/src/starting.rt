@@ -1,6 +1,7 @@
 //! Lists are started, in a measurement that is opened where none is there.
 ghost use Rattle.std.specs.Prelude.{◌≡◌, ◌<◌, IfErr, OnErr, OnOk, length, true, false};
 ghost use Rattle.xcp_base.specs.declared.limits.TheConstants.{MAX_CHANNELS};
+ghost use Rattle.slave.specs.Hearing.{most_before};
 ghost use Rattle.slave.specs.Inner.{AreSets, Busy, HasSome, Idle, IsBusy, IsPlaceRefusal};
 ghost use Rattle.slave.specs.Inner.{LooksAtAll, OpensAll, OpensInVain, OpensNone, Prepares};
 ghost use Rattle.slave.specs.Inner.{StartsInVain, StartsLists};
@@ -29,8 +30,8 @@ impl<R: Ring> Slave<R> {
     /// Orders the starts of these lists, if they are any, in a measurement that is opened if none
     /// is there.
     pub(crate) fn prepare(&mut self, alloc: Global, lists: ListSet) -> Result<(), ErrCode>
-        ensures ok { OnOk result (Prepares R.Take.TakeEnd self.old self.new lists) }
-        ensures err { IfErr result (StartsInVain R.Take.TakeEnd self.old self.new lists) }
+        ensures ok { OnOk result (Prepares R.Take.TakeEnd most_before self.old self.new lists) }
+        ensures err { IfErr result (StartsInVain R.Take.TakeEnd most_before self.old self.new lists) }
         ensures session_stays { self.new.session ≡ self.old.session }
         ensures outbox_stays { self.new.outbox ≡ self.old.outbox }
     {
@@ -58,8 +59,8 @@ impl<R: Ring> Slave<R> {
     fn start_anew(&mut self, alloc: Global, lists: ListSet) -> Result<(), ErrCode>
         requires idle { Idle self.old.session }
         requires some { HasSome lists }
-        ensures ok { OnOk result (Prepares R.Take.TakeEnd self.old self.new lists) }
-        ensures err { IfErr result (StartsInVain R.Take.TakeEnd self.old self.new lists) }
+        ensures ok { OnOk result (Prepares R.Take.TakeEnd most_before self.old self.new lists) }
+        ensures err { IfErr result (StartsInVain R.Take.TakeEnd most_before self.old self.new lists) }
         ensures session_stays { self.new.session ≡ self.old.session }
         ensures outbox_stays { self.new.outbox ≡ self.old.outbox }
     {
@@ -72,8 +73,8 @@ impl<R: Ring> Slave<R> {
     fn start_new(&mut self, alloc: Global, lists: ListSet) -> Result<(), ErrCode>
         requires idle { Idle self.old.session }
         requires some { HasSome lists }
-        ensures ok { OnOk result (Prepares R.Take.TakeEnd self.old self.new lists) }
-        ensures err { IfErr result (StartsInVain R.Take.TakeEnd self.old self.new lists) }
+        ensures ok { OnOk result (Prepares R.Take.TakeEnd 1 self.old self.new lists) }
+        ensures err { IfErr result (StartsInVain R.Take.TakeEnd 1 self.old self.new lists) }
         ensures session_stays { self.new.session ≡ self.old.session }
         ensures outbox_stays { self.new.outbox ≡ self.old.outbox }
     {

@@ -6,7 +6,7 @@ use Rattle.std.proofs.lemmas.List.Sums.{sum_by-cons}
 use Rattle.frame_outbox.specs.Outboxes.{Laid, packets_in}
 use Rattle.frame_writer.specs.Frame.{text}
 use Rattle.session.specs.declared.profile.Profile.{Profile}
-use Rattle.slave.specs.Hearing.{IsHearing, MayOpen, is_before}
+use Rattle.slave.specs.Hearing.{IsHearing, MayOpen, is_before, most_before}
 use Rattle.slave.specs.Log.{Act, CameBack, Heard, HungUp, Opened, Refused, Sent, Took, laid, laid_by, sent_by, sent_of}
 use Rattle.slave.specs.Taking.{is_take}
 use Rattle.slave_file.specs.Lines.{LineData, master, trigger, send, lose, hang_up}
@@ -94,11 +94,11 @@ before-nothing (CameBack m c past ∷ acts) are =
 before-nothing (Sent n ∷ acts) are = absurd (false≢true are)
 before-nothing (HungUp ∷ acts) are = absurd (false≢true are)
 
-opening-none : (opening : List Act) → MayOpen opening → (heard_by opening ≡ []) × (sent_of opening ≡ 0)
+opening-none : (opening : List Act) → MayOpen most_before opening → (heard_by opening ≡ []) × (sent_of opening ≡ 0)
 opening-none opening may = before-nothing opening may.are
 
 -- a packet that was heard is one, and nothing is sent
-pub heard-one : (act : Act) (opening : List Act) (packet : List ℕ) (clock : ℕ) → IsHearing packet clock act → MayOpen opening
+pub heard-one : (act : Act) (opening : List Act) (packet : List ℕ) (clock : ℕ) → IsHearing packet clock act → MayOpen most_before opening
     → (heard_by (act ∷ opening) ≡ packet ∷ []) × (sent_of (act ∷ opening) ≡ 0)
 heard-one act opening packet clock is may = by_act is
   where

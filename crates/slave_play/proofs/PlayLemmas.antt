@@ -9,16 +9,16 @@ use Rattle.frame_outbox.proofs.LaidLemmas.{packets_in-append}
 use Rattle.frame_writer.specs.Frame.{text}
 use Rattle.frame_writer.proofs.TextLemmas.{text-append}
 use Rattle.session.specs.declared.profile.Profile.{Profile}
-use Rattle.slave.specs.Hearing.{GoesBy, Hears}
+use Rattle.slave.specs.Hearing.{GoesBy, Hears, most_before}
 use Rattle.slave.specs.Finishing.{GivesBack}
 use Rattle.slave_channel.specs.Channels.{FinishedState, IsFinished}
 use Rattle.std.specs.Prelude.{Some}
 use Rattle.channel_ring.specs.declared.ends.RingEnd.{Ghosts as EndGhosts}
 use Rattle.slave.specs.Log.{Act, CameBack, Sent, laid, sent_by, sent_of}
 use Rattle.slave.specs.Standing.{SlaveStandsAfter, SlaveState}
-use Rattle.slave.specs.Taking.{TakesItems}
+use Rattle.slave.specs.Taking.{TakesItems, most_taken}
 use Rattle.slave_file.specs.Lines.{LineData, master}
-use Rattle.slave_play.specs.Playing.{Advances, Does, HasPlayed, Sending, StandsIf, heard_by, masters, sending, sent_text}
+use Rattle.slave_play.specs.Playing.{Advances, Does, HasPlayed, Sending, StandsIf, heard_by, masters, most_a_line, sending, sent_text}
 use Rattle.slave_play.specs.Thinned.{IsWithout}
 use Rattle.slave_play.proofs.LogLemmas.{heard-append, heard-one, masters-append, takes-nothing, text-stays}
 use Rattle.slave_play.proofs.ThinnedLemmas.{assoc, without-append}
@@ -51,10 +51,11 @@ module _ {S T F : Type 0} (take : TakeGhosts T F) where
       (goes log few (subst (λ p. SlaveStandsAfter take p a log) (sym profile) stands))
 
   -- acts that send nothing
-  pub silent : (a b : SlaveState S T) (acts : List Act) (sent : List ℕ) (packets : List (List ℕ)) → GoesBy take a b acts → heard_by acts ≡ packets
-      → sent_of acts ≡ 0 → Advances take (sending a sent) (sending b sent) packets
-  silent a b acts sent packets goes heard none = record {
+  pub silent : (most : ℕ) (a b : SlaveState S T) (acts : List Act) (sent : List ℕ) (packets : List (List ℕ)) → length acts ≤ most → GoesBy take a b acts
+      → heard_by acts ≡ packets → sent_of acts ≡ 0 → Advances take most (sending a sent) (sending b sent) packets
+  silent most a b acts sent packets below goes heard none = record {
     acts = acts;
+    few = below;
     heard = heard;
     goes = λ d log before few.
         let all = length-append acts log in
@@ -65,23 +66,24 @@ module _ {S T F : Type 0} (take : TakeGhosts T F) where
         };
   }
 
-  pub nothing : (a : SlaveState S T) (sent : List ℕ) → Advances take (sending a sent) (sending a sent) []
-  nothing a sent = record { acts = []; heard = refl; goes = λ d log before. before }
+  pub nothing : (a : SlaveState S T) (sent : List ℕ) → Advances take 0 (sending a sent) (sending a sent) []
+  nothing a sent = record { acts = []; few = omega arith; heard = refl; goes = λ d log before. before }
 
-  pub hears : (a b : SlaveState S T) (sent packet : List ℕ) (clock : ℕ) → Hears take a b packet clock → Advances take (sending a sent) (sending b sent) (packet ∷ [])
+  pub hears : (a b : SlaveState S T) (sent packet : List ℕ) (clock : ℕ) → Hears take a b packet clock → Advances take (1 + most_before) (sending a sent) (sending b sent) (packet ∷ [])
   hears a b sent packet clock h =
       let one = heard-one h.act h.opening packet clock h.is h.may_open in
-      silent a b (h.act ∷ h.opening) sent (packet ∷ []) h.goes one.0 one.1
+      let few = h.may_open.few in
+      silent (1 + most_before) a b (h.act ∷ h.opening) sent (packet ∷ []) (omega (arith, few)) h.goes one.0 one.1
 
   -- a part of a measurement came back
   pub came-back : {E : Type 0} (ring : EndGhosts E) (a b : SlaveState S T) (c : ℕ) (sent : List ℕ) (f : FinishedState E T) → GivesBack take ring a b c (Some f) → IsFinished ring take f
-      → Advances take (sending a sent) (sending b sent) []
-  came-back ring a b c sent f gives whole = silent a b (CameBack f.number c whole.0 ∷ []) sent [] (gives.some whole.0 whole.1) refl refl
+      → Advances take 1 (sending a sent) (sending b sent) []
+  came-back ring a b c sent f gives whole = silent 1 a b (CameBack f.number c whole.0 ∷ []) sent [] (omega arith) (gives.some whole.0 whole.1) refl refl
 
-  pub takes : (a b : SlaveState S T) (sent : List ℕ) → TakesItems take a b → Advances take (sending a sent) (sending b sent) []
+  pub takes : (a b : SlaveState S T) (sent : List ℕ) → TakesItems take most_taken a b → Advances take most_taken (sending a sent) (sending b sent) []
   takes a b sent t =
       let none = takes-nothing t.acts t.are in
-      silent a b t.acts sent [] t.goes none.0 none.1
+      silent most_taken a b t.acts sent [] t.few t.goes none.0 none.1
 
   -- all that waits is sent
   text-puts : (a : SlaveState S T) (d : Profile) (log : List Act) (sent : List ℕ) → SlaveStandsAfter take d a log → sent ≡ sent_text d log
@@ -105,9 +107,10 @@ module _ {S T F : Type 0} (take : TakeGhosts T F) where
       ∙ ap (λ ys. text 0 (packets_in ys)) (sym all)
 
   pub puts : (a b : SlaveState S T) (sent more : List ℕ) → more ≡ sent ++ a.outbox.waits → GoesBy take a b (Sent (length a.outbox.units) ∷ [])
-      → Advances take (sending a sent) (sending b more) []
+      → Advances take 1 (sending a sent) (sending b more) []
   puts a b sent more is goes = record {
     acts = Sent (length a.outbox.units) ∷ [];
+    few = omega arith;
     heard = refl;
     goes = λ d log before few.
         let so = before (omega (arith, few)) in
@@ -118,44 +121,49 @@ module _ {S T F : Type 0} (take : TakeGhosts T F) where
   }
 
   -- one advance behind another
-  pub advances-more : (a m b : Sending S T) (ps qs : List (List ℕ)) → Advances take a m ps → Advances take m b qs → Advances take a b (ps ++ qs)
-  advances-more a m b ps qs one two = record {
+  pub advances-more : (n k : ℕ) (a m b : Sending S T) (ps qs : List (List ℕ)) → Advances take n a m ps → Advances take k m b qs → Advances take (n + k) a b (ps ++ qs)
+  advances-more n k a m b ps qs one two = record {
     acts = two.acts ++ one.acts;
+    few = omega (arith, length-append two.acts one.acts, one.few, two.few);
     heard = heard-append two.acts one.acts ∙ ap (λ zs. zs ++ heard_by two.acts) one.heard ∙ ap (λ zs. ps ++ zs) two.heard;
     goes = λ d log before. subst (StandsIf take d b) (sym (assoc two.acts one.acts log)) (two.goes d (one.acts ++ log) (one.goes d log before));
   }
 
+  -- no more acts than so many are no more than more
+  pub advances-within : (n k : ℕ) (a b : Sending S T) (ps : List (List ℕ)) → n ≤ k → Advances take n a b ps → Advances take k a b ps
+  advances-within n k a b ps below one = record { acts = one.acts; few = omega (arith, below, one.few); heard = one.heard; goes = one.goes }
+
   -- lines of no packet, of which none or one is refused
   pub does-other : (a b : Sending S T) (before after : ℕ) (line : LineData) → masters (line ∷ []) ≡ [] → before ≤ after → after ≤ before + 1
-      → Advances take a b [] → Does take a b before after (line ∷ [])
+      → Advances take most_a_line a b [] → Does take a b before after (line ∷ [])
   does-other a b before after line none up low advances = record {
     unheard = 0;
     packets = [];
     thinned = subst (λ ps. IsWithout 0 ps []) (sym none) (refl, refl);
     counted = omega (arith, up);
     most = low;
-    advances = advances;
+    advances = advances-within most_a_line (most_a_line * 1) a b _ (omega arith) advances;
   }
 
   -- a packet of the master that is heard, and one that is refused
-  pub does-heard : (a b : Sending S T) (n : ℕ) (packet : List ℕ) → Advances take a b (packet ∷ []) → Does take a b n n (master packet ∷ [])
+  pub does-heard : (a b : Sending S T) (n : ℕ) (packet : List ℕ) → Advances take most_a_line a b (packet ∷ []) → Does take a b n n (master packet ∷ [])
   does-heard a b n packet advances = record {
     unheard = 0;
     packets = packet ∷ [];
     thinned = inl ([], refl, (refl, refl));
     counted = omega arith;
     most = omega arith;
-    advances = advances;
+    advances = advances-within most_a_line (most_a_line * 1) a b _ (omega arith) advances;
   }
 
-  pub does-unheard : (a b : Sending S T) (n : ℕ) (packet : List ℕ) → Advances take a b [] → Does take a b n (n + 1) (master packet ∷ [])
+  pub does-unheard : (a b : Sending S T) (n : ℕ) (packet : List ℕ) → Advances take most_a_line a b [] → Does take a b n (n + 1) (master packet ∷ [])
   does-unheard a b n packet advances = record {
     unheard = 1;
     packets = [];
     thinned = inr (0, refl, (refl, refl));
     counted = omega arith;
     most = omega arith;
-    advances = advances;
+    advances = advances-within most_a_line (most_a_line * 1) a b _ (omega arith) advances;
   }
 
   -- lines behind lines
@@ -167,7 +175,10 @@ module _ {S T F : Type 0} (take : TakeGhosts T F) where
         (without-append one.unheard two.unheard (masters xs) one.packets (masters ys) two.packets one.thinned two.thinned);
     counted = omega (arith, one.counted, two.counted);
     most = let both = length-append xs ys in omega (arith, one.most, two.most, both);
-    advances = advances-more a m b one.packets two.packets one.advances two.advances;
+    advances =
+        let both = length-append xs ys in
+        advances-within (most_a_line * length xs + most_a_line * length ys) (most_a_line * length (xs ++ ys)) a b (one.packets ++ two.packets) (omega (arith, both))
+        (advances-more (most_a_line * length xs) (most_a_line * length ys) a m b one.packets two.packets one.advances two.advances);
   }
 
   pub does-nothing : (a : Sending S T) (n : ℕ) → Does take a a n n []
@@ -177,14 +188,14 @@ module _ {S T F : Type 0} (take : TakeGhosts T F) where
     thinned = (refl, refl);
     counted = omega arith;
     most = omega arith;
-    advances = record { acts = []; heard = refl; goes = λ d log before. before };
+    advances = record { acts = []; few = omega arith; heard = refl; goes = λ d log before. before };
   }
 
   -- from a slave that was just opened to its end
   pub played : (d : Profile) (a m b : Sending S T) (lines : List LineData) (refused : ℕ) → SlaveStandsAfter take d a.slave [] → a.sent ≡ []
-      → Does take a m 0 refused lines → Advances take m b [] → HasPlayed take S d lines refused b.sent
+      → Does take a m 0 refused lines → Advances take most_a_line m b [] → HasPlayed take S d lines refused b.sent
   played d a m b lines refused stands none does ends =
-      let all = advances-more a m b does.packets [] does.advances ends in
+      let all = advances-more (most_a_line * length lines) most_a_line a m b does.packets [] does.advances ends in
       let log = all.acts ++ [] in
       let same : log ≡ all.acts = append-nil all.acts in
       let heard : does.packets ≡ heard_by log = sym (append-nil does.packets) ∙ sym all.heard ∙ sym (ap heard_by same) in
@@ -193,6 +204,7 @@ module _ {S T F : Type 0} (take : TakeGhosts T F) where
         slave = b.slave;
         play = record {
           log = log;
+          few = let n = ap length same in let k = all.few in omega (arith, n, k);
           unheard = does.unheard;
           thinned = subst (IsWithout does.unheard (masters lines)) heard does.thinned;
           counted = omega (arith, does.counted);

@@ -9,6 +9,7 @@ use Rattle.session.specs.declared.profile.Profile.{Profile}
 use Rattle.slave.specs.Log.{Act, CameBack, Heard, HungUp, Opened, Refused, Sent}
 use Rattle.slave.specs.Log.{Took, laid, sent_of}
 use Rattle.slave.specs.Standing.{IsLog, SlaveStandsAfter, SlaveState}
+use Rattle.slave.specs.Taking.{most_taken}
 use Rattle.slave_file.specs.Lines.{LineData, master, trigger, send, lose, hang_up}
 use Rattle.slave_play.specs.Thinned.{IsWithout}
 
@@ -36,6 +37,11 @@ heard_by (HungUp ∷ log) = heard_by log
 abbrev pub sent_text : Profile → List Act → List ℕ
 sent_text d log = text 0 (packets_in (first (sent_of log) (laid d log)))
 
+-- the most acts of a line, and of the end: what is taken for one datagram, and its sending; or parts
+-- that came back, and a packet that is heard behind those
+abbrev pub most_a_line : ℕ
+most_a_line = most_taken + 64
+
 -- a slave, and the bytes that it sent so far
 pub record Sending (S T : Type 0) : Type 0 where
   pub slave : SlaveState S T
@@ -55,9 +61,10 @@ module _ {S T F : Type 0} (take : TakeGhosts T F) where
   abbrev pub StandsIf : Profile → Sending S T → List Act → Type 0
   StandsIf d a log = 32 * length log ≤ MAX_TAKEN → StandsSo d a log
 
-  -- these packets were heard, in order, and nothing else
-  pub record Advances (a b : Sending S T) (packets : List (List ℕ)) : Type 0 where
+  -- these packets were heard, in order, and no others; and no more was done than so many acts
+  pub record Advances (most : ℕ) (a b : Sending S T) (packets : List (List ℕ)) : Type 0 where
     pub acts : List Act
+    pub few : length acts ≤ most
     pub heard : heard_by acts ≡ packets
     pub goes : (d : Profile) (log : List Act) → StandsIf d a log → StandsIf d b (acts ++ log)
 
@@ -69,7 +76,7 @@ module _ {S T F : Type 0} (take : TakeGhosts T F) where
     pub thinned : IsWithout unheard (masters lines) packets
     pub counted : before + unheard ≤ after
     pub most : after ≤ before + length lines
-    pub advances : Advances a b packets
+    pub advances : Advances (most_a_line * length lines) a b packets
 
 -- a log of a slave of this profile: it heard the master's packets of these lines, in order, but
 -- those that were refused; and the bytes are those of what it sent, if the log has no more than
@@ -77,6 +84,7 @@ module _ {S T F : Type 0} (take : TakeGhosts T F) where
 pub record IsPlay (d : Profile) (lines : List LineData) (refused : ℕ) (bytes : List ℕ)
     : Type 0 where
   pub log : List Act
+  pub few : length log ≤ most_a_line * (1 + length lines)
   pub unheard : ℕ
   pub thinned : IsWithout unheard (masters lines) (heard_by log)
   pub counted : unheard ≤ refused

@@ -3,7 +3,7 @@ ghost use Rattle.std.specs.Prelude.{◌≡◌, ◌+◌, ◌<◌, ◌≤◌, ◌�
 ghost use Rattle.slave.specs.Standing.{SlaveState};
 ghost use Rattle.slave_file.specs.Inner.{line_data};
 ghost use Rattle.slave_file.specs.Lines.{master};
-ghost use Rattle.slave_play.specs.Playing.{Advances, Does, sending};
+ghost use Rattle.slave_play.specs.Playing.{Advances, Does, most_a_line, sending};
 
 use crate::parts::Parts;
 use crate::play_fault::PlayFault;
@@ -93,7 +93,7 @@ impl<R: Ring> Player<R> {
             (sending self.new.slave self.new.out.contents)
             self.old.refused self.new.refused (master packet.now ∷ [])) }
     {
-        collect(&mut self.slave, self.tasks.len(), &mut self.parts)?;
+        collect(&mut self.slave, &mut self.parts)?;
         if self.slave.hear(alloc, packet, self.clock) {
             return Ok(());
         }
@@ -118,7 +118,7 @@ impl<R: Ring> Player<R> {
 
     /// Sends what waits, as one datagram.
     fn send(&mut self) -> Result<(), AllocError>
-        ensures sends { OnOk result (Advances R.Take.TakeEnd
+        ensures sends { OnOk result (Advances R.Take.TakeEnd most_a_line
             (sending self.old.slave self.old.out.contents)
             (sending self.new.slave self.new.out.contents) []) }
         ensures refused_stays { self.new.refused ≡ self.old.refused }
@@ -134,7 +134,7 @@ impl<R: Ring> Player<R> {
 
     /// A transport refuses what waits.
     fn lose(&mut self)
-        ensures loses { Advances R.Take.TakeEnd
+        ensures loses { Advances R.Take.TakeEnd most_a_line
             (sending self.old.slave self.old.out.contents)
             (sending self.new.slave self.new.out.contents) [] }
         ensures refused_stays { self.new.refused ≡ self.old.refused }
@@ -144,7 +144,7 @@ impl<R: Ring> Player<R> {
 
     /// The master hangs up.
     fn hang_up(&mut self)
-        ensures hangs_up { Advances R.Take.TakeEnd
+        ensures hangs_up { Advances R.Take.TakeEnd most_a_line
             (sending self.old.slave self.old.out.contents)
             (sending self.new.slave self.new.out.contents) [] }
         ensures refused_stays { self.new.refused ≡ self.old.refused }
@@ -160,7 +160,7 @@ impl<R: Ring> Player<R> {
         ensures sent { IfOk result (λ played. played.sent ≡ self.out) }
         ensures refused { IfOk result (λ played. played.refused ≡ self.refused) }
         ensures ends { IfOk result (λ played. (s : SlaveState R.Send R.Take)
-            × Advances R.Take.TakeEnd (sending self.slave self.out.contents)
+            × Advances R.Take.TakeEnd most_a_line (sending self.slave self.out.contents)
             (sending s played.sent.contents) []) }
     {
         self.slave.hang_up();
@@ -174,9 +174,8 @@ impl<R: Ring> Player<R> {
             mut parts,
             refused,
         } = self;
-        let channels = tasks.len();
         finish_all(tasks);
-        collect(&mut slave, channels, &mut parts)?;
+        collect(&mut slave, &mut parts)?;
         let closed = slave.close(Vec::new(alloc));
         if !closed.is_whole {
             return Err(PlayFault::PartLost);

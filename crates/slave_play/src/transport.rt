@@ -1,6 +1,8 @@
 //! What a transport does with a slave: it sends what waits, or refuses it; and what came back of
 //! measurements is collected.
-ghost use Rattle.std.specs.Prelude.{[], ℕ, List, OnOk};
+ghost use Rattle.std.specs.Prelude.{◌+◌, ◌*◌, [], ℕ, List, OnOk};
+ghost use Rattle.xcp_base.specs.declared.limits.TheConstants.{MAX_CHANNELS};
+ghost use Rattle.slave.specs.Taking.{most_taken};
 ghost use Rattle.slave_play.specs.Playing.{Advances, sending};
 
 use crate::parts::Parts;
@@ -8,6 +10,7 @@ use daq_engine::Ring;
 use frame_writer::VecOut;
 use slave::Slave;
 use std::alloc::AllocError;
+use xcp_base::limits::MAX_CHANNELS;
 
 /// The room for what is shown: more than ever waits.
 const ROOM: usize = 4096;
@@ -18,7 +21,7 @@ const MOST_PARTS: usize = 4;
 
 /// Takes items off the rings, and sends all that waits.
 pub fn send<R: Ring>(slave: &mut Slave<R>, out: &mut VecOut) -> Result<(), AllocError>
-    ensures sends { OnOk result (Advances R.Take.TakeEnd
+    ensures sends { OnOk result (Advances R.Take.TakeEnd (most_taken + 1)
         (sending slave.old out.old.contents) (sending slave.new out.new.contents) []) }
 {
     slave.take();
@@ -30,7 +33,7 @@ pub fn send<R: Ring>(slave: &mut Slave<R>, out: &mut VecOut) -> Result<(), Alloc
 
 /// Takes items off the rings, and shows all that waits to a transport that refuses it.
 pub fn lose<R: Ring>(slave: &mut Slave<R>)
-    ensures shows { (sent : List ℕ) → Advances R.Take.TakeEnd
+    ensures shows { (sent : List ℕ) → Advances R.Take.TakeEnd most_taken
         (sending slave.old sent) (sending slave.new sent) [] }
 {
     slave.take();
@@ -38,16 +41,12 @@ pub fn lose<R: Ring>(slave: &mut Slave<R>)
     let _ = slave.peek(&mut buffer);
 }
 
-/// Collects what came back of measurements at the first event channels.
-pub fn collect<R: Ring>(
-    slave: &mut Slave<R>,
-    channels: usize,
-    parts: &mut Parts,
-) -> Result<(), AllocError>
-    ensures collects { OnOk result ((sent : List ℕ) → Advances R.Take.TakeEnd
+/// Collects what came back of measurements at all event channels.
+pub fn collect<R: Ring>(slave: &mut Slave<R>, parts: &mut Parts) -> Result<(), AllocError>
+    ensures collects { OnOk result ((sent : List ℕ) → Advances R.Take.TakeEnd (4 * MAX_CHANNELS)
         (sending slave.old sent) (sending slave.new sent) []) }
 {
-    for c in 0..channels {
+    for c in 0..MAX_CHANNELS as usize {
         collect_at(slave, c, parts)?;
     }
     Ok(())
@@ -55,14 +54,16 @@ pub fn collect<R: Ring>(
 
 /// The same at one event channel.
 fn collect_at<R: Ring>(slave: &mut Slave<R>, c: usize, parts: &mut Parts) -> Result<(), AllocError>
-    ensures collects { OnOk result ((sent : List ℕ) → Advances R.Take.TakeEnd
+    ensures collects { OnOk result ((sent : List ℕ) → Advances R.Take.TakeEnd 4
         (sending slave.old sent) (sending slave.new sent) []) }
 {
-    for _ in 0..MOST_PARTS {
+    let mut found = 0;
+    while found < MOST_PARTS {
         let Some(finished) = slave.take_back(c) else {
             return Ok(());
         };
         parts.add(&finished)?;
+        found += 1;
     }
     Ok(())
 }

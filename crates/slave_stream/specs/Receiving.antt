@@ -3,7 +3,7 @@ use Rattle.std.specs.Prelude.{◌≡◌, ◌⊎◌, ℕ, ◌≤◌, true, List, 
 use Rattle.channel_ring.specs.declared.ends.TakeEnd.{Ghosts as TakeGhosts}
 use Rattle.frame_reader.specs.Reading.{Leads, ReaderState}
 use Rattle.frame_reader.specs.Split.{EndsSplit, SplitsInto}
-use Rattle.slave.specs.Hearing.{GoesBy, IsHearing, MayOpen}
+use Rattle.slave.specs.Hearing.{GoesBy, IsHearing, MayOpen, most_before}
 use Rattle.slave.specs.Log.{Act}
 use Rattle.slave.specs.Standing.{SlaveState}
 
@@ -13,7 +13,7 @@ abbrev pub AreHeard : ℕ → List (List ℕ) → List Act → Type 0
 AreHeard clock [] acts = acts ≡ []
 AreHeard clock (packet ∷ packets) acts =
     (later : List Act) × (act : Act) × (opening : List Act) × (acts ≡ later ++ act ∷ opening)
-    × IsHearing packet clock act × MayOpen opening × AreHeard clock packets later
+    × IsHearing packet clock act × MayOpen most_before opening × AreHeard clock packets later
 
 module _ {S T F : Type 0} (take : TakeGhosts T F) where
   -- the packets were heard at this clock, in order, and then this was done; nothing else that a log

@@ -6,7 +6,7 @@ use Rattle.frame_outbox.specs.Outboxes.{Shows}
 use Rattle.slave.specs.Hearing.{GoesBy}
 use Rattle.slave.specs.Log.{Sent}
 use Rattle.slave.specs.Standing.{SlaveState}
-use Rattle.slave.specs.Taking.{TakesItems}
+use Rattle.slave.specs.Taking.{TakesItems, most_taken}
 use Rattle.task_lending.specs.States.{LendingSlaveState}
 
 module _ {S T F : Type 0} (take : TakeGhosts T F) where
@@ -14,7 +14,7 @@ module _ {S T F : Type 0} (take : TakeGhosts T F) where
   -- copied to the front of the buffer, n bytes
   pub record Peeks (a b : LendingSlaveState S T) (before after : List ℕ) (n : ℕ) : Type 0 where
     pub taken : SlaveState S T
-    pub takes : TakesItems take a.slave taken
+    pub takes : TakesItems take most_taken a.slave taken
     pub shows : Shows taken.outbox (length before) b.slave.outbox.shown n
     pub bytes : first n after ≡ first n taken.outbox.waits
     pub behind : drop n after ≡ drop n before

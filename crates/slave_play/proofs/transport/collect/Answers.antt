@@ -1,6 +1,7 @@
-use Rattle.std.proofs.Common.{[]}
+use Rattle.std.proofs.Common.{◌≡◌, ◌+◌, ◌*◌, ◌≤◌, [], arith}
+use Rattle.xcp_base.specs.declared.limits.TheConstants.{MAX_CHANNELS}
 use Rattle.slave_play.specs.Playing.{sending}
-use Rattle.slave_play.proofs.PlayLemmas.{advances-more, nothing}
+use Rattle.slave_play.proofs.PlayLemmas.{advances-more, advances-within, nothing}
 use Rattle.slave_play.proofs.transport.collect.Goals as goal
 
 pub loop-c-init : goal.loop-c-init
@@ -8,5 +9,15 @@ loop-c-init g c = λ sent. nothing g.R.Take.TakeEnd c.args.slave.now sent
 
 pub loop-c-preserved : goal.loop-c-preserved
 loop-c-preserved g c =
-    λ sent. advances-more g.R.Take.TakeEnd (sending c.args.slave.now sent) (sending c.loop-c.slave sent) (sending c.collect_at.new.slave sent) [] []
-    (c.loop-c.invariant sent) (c.in_ok-collect_at.ensures.collects sent)
+    λ sent. advances-within g.R.Take.TakeEnd (4 * c.loop-c.c + 4) (4 * (c.loop-c.c + 1)) (sending c.args.slave.now sent) (sending c.collect_at.new.slave sent) [] (omega arith)
+    (advances-more g.R.Take.TakeEnd (4 * c.loop-c.c) 4 (sending c.args.slave.now sent) (sending c.loop-c.slave sent) (sending c.collect_at.new.slave sent) [] []
+    (c.loop-c.invariant sent) (c.in_ok-collect_at.ensures.collects sent))
+
+-- there are no more event channels
+pub returns : goal.returns
+returns g c =
+    let within = c.loop-c.auto.c-end in
+    record {
+      collects = λ sent. advances-within g.R.Take.TakeEnd (4 * c.loop-c.c) (4 * MAX_CHANNELS) (sending c.args.slave.now sent) (sending c.loop-c.slave sent) [] (omega (arith, within))
+          (c.loop-c.invariant sent);
+    }

@@ -1,21 +1,34 @@
-use Rattle.std.proofs.Common.{[], refl}
+use Rattle.std.proofs.Common.{◌≡◌, ◌+◌, ◌<◌, ◌≤◌, [], refl, arith}
 use Rattle.slave_play.specs.Playing.{sending}
-use Rattle.slave_play.proofs.PlayLemmas.{advances-more, came-back, nothing, silent}
+use Rattle.slave_play.proofs.PlayLemmas.{advances-more, advances-within, came-back, nothing, silent}
 use Rattle.slave_play.proofs.transport.collect_at.Goals as goal
 
-pub loop-init : goal.loop-init
-loop-init g c = λ sent. nothing g.R.Take.TakeEnd c.args.slave.now sent
+pub loop-found-init : goal.loop-found-init
+loop-found-init g c = record { collected = λ sent. nothing g.R.Take.TakeEnd c.args.slave.now sent; few = omega arith }
 
-pub loop-preserved : goal.loop-preserved
-loop-preserved g c =
+pub loop-found-preserved : goal.loop-found-preserved
+loop-found-preserved g c =
     let take = g.R.Take.TakeEnd in
-    λ sent. advances-more take (sending c.args.slave.now sent) (sending c.loop.slave sent) (sending c.take_back.new.self sent) [] []
-    (c.loop.invariant sent) (came-back take g.R.Send.End.RingEnd c.loop.slave c.take_back.new.self c.args.c sent c.in-Some.finished c.in-Some.ensures.back c.in_ok-add.ensures.finished)
+    let more : c.loop-found.found < 4 = c.loop-found-test.true in
+    record {
+      collected = λ sent. advances-more take c.loop-found.found 1 (sending c.args.slave.now sent) (sending c.loop-found.slave sent) (sending c.take_back.new.self sent) [] []
+          (c.loop-found.invariant.collected sent) (came-back take g.R.Send.End.RingEnd c.loop-found.slave c.take_back.new.self c.args.c sent c.in-Some.finished c.in-Some.ensures.back c.in_ok-add.ensures.finished);
+      few = omega (arith, more);
+    }
 
 pub returns-in_default : goal.returns-in_default
 returns-in_default g c =
     let take = g.R.Take.TakeEnd in
+    let more : c.loop-found.found < 4 = c.loop-found-test.true in
     record {
-      collects = λ sent. advances-more take (sending c.args.slave.now sent) (sending c.loop.slave sent) (sending c.take_back.new.self sent) [] []
-          (c.loop.invariant sent) (silent take c.loop.slave c.take_back.new.self [] sent [] (c.in_default.ensures.back.none refl) refl refl);
+      collects = λ sent. advances-within take (c.loop-found.found + 0) 4 (sending c.args.slave.now sent) (sending c.take_back.new.self sent) [] (omega (arith, more))
+          (advances-more take c.loop-found.found 0 (sending c.args.slave.now sent) (sending c.loop-found.slave sent) (sending c.take_back.new.self sent) [] []
+          (c.loop-found.invariant.collected sent) (silent take 0 c.loop-found.slave c.take_back.new.self [] sent [] (omega arith) (c.in_default.ensures.back.none refl) refl refl));
+    }
+
+pub returns : goal.returns
+returns g c =
+    let few = c.loop-found.invariant.few in
+    record {
+      collects = λ sent. advances-within g.R.Take.TakeEnd c.loop-found.found 4 (sending c.args.slave.now sent) (sending c.loop-found.slave sent) [] (omega (arith, few)) (c.loop-found.invariant.collected sent);
     }

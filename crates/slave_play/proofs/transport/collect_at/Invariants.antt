@@ -1,7 +1,13 @@
-use Rattle.std.proofs.Common.{ℕ, List, []}
+use Rattle.std.proofs.Common.{ℕ, ◌≤◌, ◌-◌, List, []}
 use Rattle.slave_play.specs.Playing.{Advances, sending}
 use Rattle.slave_play.proofs.transport.collect_at.Given as goal
 
 -- what came back so far was collected
-abbrev pub invariant-loop : goal.invariant-loop
-invariant-loop g l = (sent : List ℕ) → Advances g.R.Take.TakeEnd (sending l.fn.slave sent) (sending l.slave sent) []
+abbrev pub invariant-loop-found : goal.invariant-loop-found
+invariant-loop-found g l = record {
+  collected : (sent : List ℕ) → Advances g.R.Take.TakeEnd l.found (sending l.fn.slave sent) (sending l.slave sent) [];
+  few : l.found ≤ 4;
+}
+
+abbrev pub decreases-loop-found : goal.decreases-loop-found
+decreases-loop-found g l = 4 - l.found

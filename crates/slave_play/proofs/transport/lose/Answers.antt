@@ -1,4 +1,5 @@
-use Rattle.std.proofs.Common.{[], refl}
+use Rattle.std.proofs.Common.{[], refl, arith}
+use Rattle.slave.specs.Taking.{most_taken}
 use Rattle.slave_play.specs.Playing.{sending}
 use Rattle.slave_play.proofs.PlayLemmas.{advances-more, silent, takes}
 use Rattle.slave_play.proofs.transport.lose.Goals as goal
@@ -8,7 +9,7 @@ pub returns : goal.returns
 returns g c =
     let take = g.R.Take.TakeEnd in
     record {
-      shows = λ sent. advances-more take (sending c.args.slave.now sent) (sending c.take.new.self sent) (sending c.peek.new.self sent) [] []
+      shows = λ sent. advances-more take most_taken 0 (sending c.args.slave.now sent) (sending c.take.new.self sent) (sending c.peek.new.self sent) [] []
           (takes take c.args.slave.now c.take.new.self sent c.take.ensures.takes)
-          (silent take c.take.new.self c.peek.new.self [] sent [] c.peek.ensures.stays refl refl);
+          (silent take 0 c.take.new.self c.peek.new.self [] sent [] (omega arith) c.peek.ensures.stays refl refl);
     }

@@ -1,5 +1,6 @@
 use Rattle.std.proofs.Common.{[], ap}
 use Rattle.frame_writer.specs.Shown.{OutState}
+use Rattle.slave.specs.Taking.{most_taken}
 use Rattle.slave_play.specs.Playing.{sending}
 use Rattle.slave_play.proofs.PlayLemmas.{advances-more, puts, takes}
 use Rattle.slave_play.proofs.transport.send.Goals as goal
@@ -11,7 +12,7 @@ returns g c =
     let before = c.args.out.now.contents in
     let after = c.put.new.out.contents in
     record {
-      sends = advances-more take (sending c.args.slave.now before) (sending c.take.new.self before) (sending c.put.new.self after) [] []
+      sends = advances-more take most_taken 1 (sending c.args.slave.now before) (sending c.take.new.self before) (sending c.put.new.self after) [] []
           (takes take c.args.slave.now c.take.new.self before c.take.ensures.takes)
           (puts take c.take.new.self c.put.new.self before after (ap (λ (o : OutState). o.contents) c.in-Ok.ensures.hands) c.in-Ok.ensures.ok);
     }

@@ -1,6 +1,14 @@
+use Rattle.std.proofs.Common.{◌≤◌, ◌+◌, ◌*◌, ◌-◌}
+use Rattle.xcp_base.specs.declared.limits.TheConstants.{MAX_CHANNELS}
 use Rattle.slave.specs.Taking.{TakesItems}
 use Rattle.slave.proofs.slave.Slave.take.Given as goal
 
--- items were taken so far
-abbrev pub invariant-loop-c : goal.invariant-loop-c
-invariant-loop-c g l = TakesItems g.R.Take.TakeEnd l.fn.self l.self
+-- in each round one item of a ring was taken at most
+abbrev pub invariant-loop-rounds : goal.invariant-loop-rounds
+invariant-loop-rounds g l = record {
+  takes : TakesItems g.R.Take.TakeEnd (1024 * MAX_CHANNELS + MAX_CHANNELS * l.rounds) l.fn.self l.self;
+  few : l.rounds ≤ 1024;
+}
+
+abbrev pub decreases-loop-rounds : goal.decreases-loop-rounds
+decreases-loop-rounds g l = 1024 - l.rounds

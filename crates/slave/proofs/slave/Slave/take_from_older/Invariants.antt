@@ -1,6 +1,10 @@
+use Rattle.std.proofs.Common.{◌≤◌, ◌-◌}
 use Rattle.slave.specs.Taking.{TakesItems}
 use Rattle.slave.proofs.slave.Slave.take_from_older.Given as goal
 
--- items were taken so far
-abbrev pub invariant-loop : goal.invariant-loop
-invariant-loop g l = TakesItems g.R.Take.TakeEnd l.fn.self l.self
+-- so many items were taken at most
+abbrev pub invariant-loop-taken : goal.invariant-loop-taken
+invariant-loop-taken g l = record { takes : TakesItems g.R.Take.TakeEnd l.taken l.fn.self l.self; few : l.taken ≤ 1024 }
+
+abbrev pub decreases-loop-taken : goal.decreases-loop-taken
+decreases-loop-taken g l = 1024 - l.taken

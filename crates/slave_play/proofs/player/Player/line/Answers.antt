@@ -1,8 +1,8 @@
-use Rattle.std.proofs.Common.{[], ◌∷◌, sym, ap, subst, refl, arith}
+use Rattle.std.proofs.Common.{◌≤◌, [], ◌∷◌, sym, ap, subst, refl, arith}
 use Rattle.frame_writer.specs.MemoryOuts.{VecOutState}
 use Rattle.slave_file.specs.Inner.{line_data}
-use Rattle.slave_play.specs.Playing.{Advances, masters, sending}
-use Rattle.slave_play.proofs.PlayLemmas.{does-other, nothing, on_ok}
+use Rattle.slave_play.specs.Playing.{Advances, masters, most_a_line, sending}
+use Rattle.slave_play.proofs.PlayLemmas.{advances-within, does-other, nothing, on_ok}
 use Rattle.slave_play.proofs.player.Player.line.Goals as goal
 
 -- a trigger changes nothing of the slave
@@ -14,9 +14,9 @@ returns-in-Trigger g c =
     record {
       does = does-other take (sending was.slave was.out.contents) (sending now.slave now.out.contents) was.refused now.refused (line_data c.args.line.now)
           (ap (λ l. masters (line_data l ∷ [])) c.in-Trigger.is) c.trigger.ensures.counted c.trigger.ensures.most
-          (subst (λ s. Advances take (sending was.slave was.out.contents) (sending s now.out.contents) []) (sym c.trigger.ensures.slave_stays)
-          (subst (λ (o : VecOutState). Advances take (sending was.slave was.out.contents) (sending was.slave o.contents) []) (sym c.trigger.ensures.out_stays)
-          (nothing take was.slave was.out.contents)));
+          (subst (λ s. Advances take most_a_line (sending was.slave was.out.contents) (sending s now.out.contents) []) (sym c.trigger.ensures.slave_stays)
+          (subst (λ (o : VecOutState). Advances take most_a_line (sending was.slave was.out.contents) (sending was.slave o.contents) []) (sym c.trigger.ensures.out_stays)
+          (advances-within take 0 most_a_line (sending was.slave was.out.contents) (sending was.slave was.out.contents) [] (omega arith) (nothing take was.slave was.out.contents))));
     }
 
 pub returns-in-Send : goal.returns-in-Send

@@ -1,6 +1,8 @@
-use Rattle.std.proofs.Common.{[], ◌∷◌, sym, subst}
-use Rattle.slave_play.specs.Playing.{Advances, sending}
-use Rattle.slave_play.proofs.PlayLemmas.{advances-more, does-heard, does-unheard, hears}
+use Rattle.std.proofs.Common.{◌≡◌, ◌+◌, ◌*◌, ◌≤◌, [], ◌∷◌, sym, subst, arith}
+use Rattle.xcp_base.specs.declared.limits.TheConstants.{MAX_CHANNELS}
+use Rattle.slave.specs.Hearing.{most_before}
+use Rattle.slave_play.specs.Playing.{Advances, most_a_line, sending}
+use Rattle.slave_play.proofs.PlayLemmas.{advances-more, advances-within, does-heard, does-unheard, hears}
 use Rattle.slave_play.proofs.player.Player.master.Goals as goal
 
 -- the packet is heard behind what was collected
@@ -12,9 +14,10 @@ returns-then-hear g c =
     let packet = c.args.packet.now in
     record {
       does = does-heard take (sending was.slave sent) (sending c.hear.new.self sent) was.refused packet
-          (advances-more take (sending was.slave sent) (sending c.collect.new.slave sent) (sending c.hear.new.self sent) [] (packet ∷ [])
+          (advances-within take (4 * MAX_CHANNELS + (1 + most_before)) most_a_line (sending was.slave sent) (sending c.hear.new.self sent) (packet ∷ []) (omega arith)
+          (advances-more take (4 * MAX_CHANNELS) (1 + most_before) (sending was.slave sent) (sending c.collect.new.slave sent) (sending c.hear.new.self sent) [] (packet ∷ [])
           (c.in_ok-collect.ensures.collects sent)
-          (hears take c.collect.new.slave c.hear.new.self sent packet was.clock (c.hear.ensures.heard c.if-hear.true)));
+          (hears take c.collect.new.slave c.hear.new.self sent packet was.clock (c.hear.ensures.heard c.if-hear.true))));
     }
 
 -- or refused
@@ -25,6 +28,7 @@ returns g c =
     let sent = was.out.contents in
     record {
       does = does-unheard take (sending was.slave sent) (sending c.hear.new.self sent) was.refused c.args.packet.now
-          (subst (λ s. Advances take (sending was.slave sent) (sending s sent) []) (sym (c.hear.ensures.stays c.if-hear.false))
-          (c.in_ok-collect.ensures.collects sent));
+          (subst (λ s. Advances take most_a_line (sending was.slave sent) (sending s sent) []) (sym (c.hear.ensures.stays c.if-hear.false))
+          (advances-within take (4 * MAX_CHANNELS) most_a_line (sending was.slave sent) (sending c.collect.new.slave sent) [] (omega arith)
+          (c.in_ok-collect.ensures.collects sent)));
     }
