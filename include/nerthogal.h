@@ -431,11 +431,12 @@ ng_status ng_sampler_free(ng_sampler *sampler);
 
 /* ---- a slave that a master connects to
  *
- * Of these calls it is proved which statuses come, in which order, what is then unchanged, and how
- * many bytes are taken. What a slave answers, which frames it lays out, and its account are only
- * tested, by session_test.c, tasks_test.c and measurements_test.c of examples/c, and by .ci/live:
- * the contracts speak of acts of the slave that the code of a call may pick, and promise nothing if
- * these are more than 2^57. docs/PROVED.md says what is proved of the parts of a slave. */
+ * The proofs speak of a log of what a slave did since it was opened: each call says by which acts
+ * it goes on, and by how many at most. They hold for up to 2^57 acts, which at one in each
+ * microsecond take 4,500 years. Only tested, by session_test.c, tasks_test.c and
+ * measurements_test.c of examples/c, and by .ci/live: that what waits in a ring is taken, that what
+ * tasks gave back is found, what a measurement is opened over, and that its triggers are those of
+ * its tasks. docs/PROVED.md says what is proved of the parts of a slave. */
 
 /* Opens a slave with a profile, and with so many event channels: events[c] is event channel c. No
  * master is connected, there is no DAQ list, and nothing waits. Its CTR begins at 0.
@@ -477,10 +478,11 @@ ng_status ng_slave_task(ng_slave *slave, uint16_t channel, ng_task *task);
  *   NG_OK         the first *taken bytes were taken: all of them, or those up to the end of a frame
  *                 behind which no reply finds room. Pass the others again once replies were sent
  *
- * They are checked in this order. Except on NG_OK, *taken is unchanged. Proved: the statuses, in
- * whatever pieces the bytes come; and how many bytes are taken. Only tested: that the packets are
- * answered, each reply, and that the lists stop at a bad frame. Calls malloc, realloc and free, for
- * allocations, and where measurements begin and end. */
+ * They are checked in this order. Except on NG_OK, *taken is unchanged. Proved: all of this, which
+ * packets were answered, in whatever pieces the bytes come, and each reply, from the definitions
+ * of the commands and all that the slave did before; but not that malloc or realloc failed if a
+ * reply is ERR_MEMORY_OVERFLOW. Calls malloc, realloc and free, for allocations, and where
+ * measurements begin and end. */
 ng_status ng_slave_receive(ng_slave *slave, const uint8_t *bytes, size_t len, uint32_t clock,
                            size_t *taken);
 
@@ -492,10 +494,8 @@ ng_status ng_slave_datagram(ng_slave *slave, const uint8_t *bytes, size_t len, u
 
 /* The transport was lost: all DAQ lists stop and are freed, and no master is connected, as after
  * DISCONNECT; but nothing is replied. What is held of a frame is dropped: the next byte of a stream
- * is the first of a frame. What waits to be sent waits on. NG_EMPTY if *slave is empty. Proved:
- * the statuses, and that the next byte is the first of a frame. The rest is proved of a slave that
- * stands after its log (docs/PROVED.md); behind ng_slave_receive, ng_slave_datagram or
- * ng_slave_peek it is only tested. Calls free. */
+ * is the first of a frame. What waits to be sent waits on. NG_EMPTY if *slave is empty. Proved: all
+ * of this. Calls free. */
 ng_status ng_slave_hang_up(ng_slave *slave);
 
 /* Takes samples off the rings, and lays frames that wait out in buffer[0] to buffer[*len - 1]: as
@@ -507,13 +507,13 @@ ng_status ng_slave_hang_up(ng_slave *slave);
  *   NG_OK            the frames stand in the buffer; *len is 0 if nothing waits
  *
  * They are checked in this order. Except on NG_OK, nothing changes. On NG_OK, the bytes after the
- * first *len are unchanged. A buffer of 1400 bytes fits a datagram. Proved: the statuses, and what
- * is unchanged. Only tested: which frames they are, that they are whole and wait on, and that it
- * calls neither malloc nor realloc. */
+ * first *len are unchanged. A buffer of 1400 bytes fits a datagram. Proved: all of this, and which
+ * frames they are, from the items that were taken. Only tested: that it takes what is there, an
+ * item of each ring in turn, and that it calls neither malloc nor realloc. */
 ng_status ng_slave_peek(ng_slave *slave, uint8_t *buffer, size_t buffer_cap, size_t *len);
 
 /* What the last ng_slave_peek laid out was sent, and waits no more. NG_EMPTY if *slave is empty.
- * Proved: the statuses; the rest as of ng_slave_hang_up. Calls neither malloc nor realloc. */
+ * Proved: all of this. Calls neither malloc nor realloc. */
 ng_status ng_slave_sent(ng_slave *slave);
 
 /* Does what the slave ordered of this task, and then takes a trigger of its event channel, as
@@ -549,8 +549,9 @@ ng_status ng_task_finish(ng_task *task);
  *
  * They are checked in this order. Except on NG_OK, the slave keeps all that it has, and lines and
  * *whole are unchanged. On NG_OK, the elements of lines after the account are unchanged. Proved:
- * the statuses, and what is unchanged. Only tested: that all lists stop, each number of the
- * account, *whole, and that NG_UNFINISHED is returned only if a task isn't finished. Calls free. */
+ * all of this, and each number of the account and *whole, from what was sent and from what came
+ * back of the tasks. Only tested: that all came back, that its triggers are those of the tasks, and
+ * that NG_UNFINISHED is returned only if a task isn't finished. Calls free. */
 ng_status ng_slave_close(ng_slave *slave, ng_line *lines, size_t lines_cap, bool *whole);
 
 #ifdef __cplusplus

@@ -8,7 +8,6 @@ use Rattle.sampler.specs.Past.{Past}
 use Rattle.sampler.specs.Standing.{StandsAfter, TakesTrigger}
 use Rattle.sampler.specs.State.{SamplerState}
 use Rattle.sampler.specs.Stays.{KeepsSetUp}
-use Rattle.sampler.specs.declared.polled.Polled.{Polled}
 use Rattle.sampler.specs.declared.polled.Polled.TheVariants.{Done, Nothing, Refused, Waiting}
 use Rattle.sampler.specs.declared.taken.Taken.{Taken}
 use Rattle.sampler.specs.declared.faults.TriggerFault.{TriggerFault}

@@ -1,7 +1,6 @@
 -- A sampler that went with its orders, and what came of it.
-use Rattle.std.proofs.Common.{◌≡◌, ℕ, List, [], ◌∷◌, ◌++◌, append-nil, le_refl, refl, sym, ap, ◌∙◌, subst, inl, inr, Result, Ok, Err, Bool, true, false}
+use Rattle.std.proofs.Common.{◌≡◌, ℕ, List, [], ◌∷◌, ◌++◌, append-nil, le_refl, refl, sym, ap, ◌∙◌, subst, inl, inr, Result, Ok, Err, true, false}
 use Rattle.std.specs.Prelude.{IfOk, OnErr}
-use mathlib.Core.List.{IsPrefix}
 use Rattle.channel_ring.specs.Ends.{RingName}
 use Rattle.channel_ring.specs.declared.ends.SendEnd.{Ghosts as SendGhosts}
 use Rattle.channel_ring.specs.declared.ends.RingEnd.{Ghosts as EndGhosts}
@@ -10,7 +9,7 @@ use Rattle.control_ring.specs.declared.order.Order.{Order}
 use Rattle.control_ring.specs.declared.order.Order.TheVariants as order
 use Rattle.sampler.specs.Control.{CarriesOut, Polls, Refuses, answered}
 use Rattle.sampler.specs.History.{Start, Stop}
-use Rattle.sampler.specs.Past.{Past, one_more}
+use Rattle.sampler.specs.Past.{Past}
 use Rattle.sampler.specs.Standing.{EndStandsAfter, StandsAfter, TakesTrigger}
 use Rattle.sampler.specs.State.{SamplerEndState, SamplerState, joined}
 use Rattle.sampler.specs.Stays.{KeepsSetUp, OnlyLooked}

@@ -1,4 +1,4 @@
-use Rattle.std.proofs.Common.{◌≡◌, ◌+◌, ◌*◌, ◌≤◌, [], arith}
+use Rattle.std.proofs.Common.{◌+◌, ◌*◌, [], arith}
 use Rattle.xcp_base.specs.declared.limits.TheConstants.{MAX_CHANNELS}
 use Rattle.slave_play.specs.Playing.{sending}
 use Rattle.slave_play.proofs.PlayLemmas.{advances-more, advances-within, nothing}

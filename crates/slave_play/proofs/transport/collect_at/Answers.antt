@@ -1,4 +1,4 @@
-use Rattle.std.proofs.Common.{◌≡◌, ◌+◌, ◌<◌, ◌≤◌, [], refl, arith}
+use Rattle.std.proofs.Common.{◌+◌, ◌<◌, [], refl, arith}
 use Rattle.slave_play.specs.Playing.{sending}
 use Rattle.slave_play.proofs.PlayLemmas.{advances-more, advances-within, came-back, nothing, silent}
 use Rattle.slave_play.proofs.transport.collect_at.Goals as goal

@@ -1,4 +1,4 @@
-use Rattle.std.proofs.Common.{◌≡◌, ◌*◌, ◌+◌, ◌≤◌, arith}
+use Rattle.std.proofs.Common.{◌*◌, ◌+◌, arith}
 use Rattle.xcp_base.specs.declared.limits.TheConstants.{MAX_CHANNELS}
 use Rattle.slave.proofs.CollectingLemmas.{collects-more, collects-nothing, collects-within}
 use Rattle.slave.proofs.slave.Slave.collect.Goals as goal

@@ -1,8 +1,8 @@
-use Rattle.std.proofs.Common.{◌≡◌, ◌+◌, ◌<◌, ◌≤◌, arith, subst, sym}
+use Rattle.std.proofs.Common.{◌+◌, arith, subst, sym}
 use Rattle.xcp_base.specs.declared.limits.TheConstants.{MAX_CHANNELS}
 use Rattle.slave.specs.Standing.{SlaveState}
 use Rattle.slave.specs.Taking.{TakesItems}
-use Rattle.slave.proofs.TakingLemmas.{takes-more, takes-nothing, takes-within}
+use Rattle.slave.proofs.TakingLemmas.{takes-more, takes-within}
 use Rattle.slave.proofs.slave.Slave.round.Goals as goal
 
 -- one more at most

@@ -1,7 +1,7 @@
-use Rattle.std.proofs.Common.{◌≡◌, ◌*◌, ◌+◌, ◌<◌, ◌≤◌, arith}
+use Rattle.std.proofs.Common.{◌*◌, ◌+◌, ◌<◌, arith}
 use Rattle.xcp_base.specs.declared.limits.TheConstants.{MAX_CHANNELS}
 use Rattle.slave.specs.Taking.{most_taken}
-use Rattle.slave.proofs.TakingLemmas.{takes-more, takes-nothing, takes-within}
+use Rattle.slave.proofs.TakingLemmas.{takes-more, takes-within}
 use Rattle.slave.proofs.slave.Slave.take.Goals as goal
 
 pub loop-rounds-init : goal.loop-rounds-init

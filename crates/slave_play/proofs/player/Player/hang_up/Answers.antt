@@ -1,4 +1,4 @@
-use Rattle.std.proofs.Common.{◌≤◌, [], ◌∷◌, refl, arith}
+use Rattle.std.proofs.Common.{[], ◌∷◌, refl, arith}
 use Rattle.slave.specs.Log.{HungUp}
 use Rattle.slave_play.specs.Playing.{most_a_line}
 use Rattle.slave_play.proofs.PlayLemmas.{silent}

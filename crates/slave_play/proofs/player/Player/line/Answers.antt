@@ -1,4 +1,4 @@
-use Rattle.std.proofs.Common.{◌≤◌, [], ◌∷◌, sym, ap, subst, refl, arith}
+use Rattle.std.proofs.Common.{[], ◌∷◌, sym, ap, subst, arith}
 use Rattle.frame_writer.specs.MemoryOuts.{VecOutState}
 use Rattle.slave_file.specs.Inner.{line_data}
 use Rattle.slave_play.specs.Playing.{Advances, masters, most_a_line, sending}

@@ -1,4 +1,4 @@
-use Rattle.std.proofs.Common.{◌≤◌, [], arith}
+use Rattle.std.proofs.Common.{[], arith}
 use Rattle.slave.specs.Taking.{most_taken}
 use Rattle.slave_play.specs.Playing.{most_a_line, sending}
 use Rattle.slave_play.proofs.PlayLemmas.{advances-within}

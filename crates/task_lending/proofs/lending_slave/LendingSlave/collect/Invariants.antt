@@ -1,4 +1,4 @@
-use Rattle.std.proofs.Common.{◌≡◌, map, vec_len}
+use Rattle.std.proofs.Common.{◌≡◌, vec_len}
 use Rattle.task_lending.proofs.TaskLemmas.{Front, NoneBelow}
 use Rattle.task_lending.proofs.lending_slave.LendingSlave.collect.Given as goal
 
