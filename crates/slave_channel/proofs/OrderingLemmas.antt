@@ -7,7 +7,8 @@ use Rattle.xcp_base.specs.declared.limits.TheConstants.{MAX_LISTS}
 use Rattle.channel_ring.specs.declared.ends.TakeEnd.{Ghosts as TakeGhosts}
 use Rattle.channel_intake.specs.Deeds.{Deed, Started, Stopped}
 use Rattle.channel_intake.specs.Intakes.{StandsAfter}
-use Rattle.tasks.specs.Links.{AwayState, CanStart, LinkState, LooksAtNewest, SendsToNewest, is_end, is_running, runs_of, without}
+use Rattle.tasks.specs.Deeds.{is_end}
+use Rattle.tasks.specs.Links.{AwayState, CanStart, LinkState, LooksAtNewest, SendsToNewest, is_running, runs_of, without}
 use Rattle.tasks.specs.Needs.{places_for}
 use Rattle.control_ring.specs.declared.order.Order.{Order}
 use Rattle.control_ring.specs.declared.order.Order.TheVariants.{Start, Stop}

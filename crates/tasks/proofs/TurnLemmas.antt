@@ -1,25 +1,31 @@
 -- What a trigger of a sampler is to its task, and what its orders are.
-use Rattle.std.proofs.Common.{◌≡◌, ◌≢◌, ◌↔◌, ℕ, List, [], ◌∷◌, ◌++◌, refl, sym, subst, Result, Ok, Err, Option, Some, None, length}
+use Rattle.std.proofs.Common.{◌≡◌, ◌≢◌, ◌↔◌, ℕ, List, [], ◌∷◌, ◌++◌, ◌∙◌, ap, false, refl, sym, subst, Result, Ok, Err, Option, Some, None, length}
 use Rattle.std.specs.Prelude.{IfOk, IfSome, OnErr}
 use Rattle.xcp_base.specs.declared.limits.TheConstants.{MAX_TRIGGERS}
 use Rattle.channel_ring.specs.declared.ends.SendEnd.{Ghosts as SendGhosts}
 use Rattle.channel_ring.specs.declared.ends.RingEnd.{Ghosts as EndGhosts}
+use Rattle.sampler.specs.Control.{answered}
 use Rattle.sampler.specs.Past.{Past}
 use Rattle.sampler.specs.Standing.{StandsAfter, TakesTrigger}
 use Rattle.sampler.specs.State.{SamplerState}
 use Rattle.sampler.specs.Stays.{KeepsSetUp}
 use Rattle.sampler.specs.declared.polled.Polled.TheVariants.{Done, Nothing, Refused, Waiting}
+use Rattle.sampler.specs.declared.polled.Polled.{Polled}
 use Rattle.sampler.specs.declared.taken.Taken.{Taken}
 use Rattle.sampler.specs.declared.faults.TriggerFault.{TriggerFault}
 use Rattle.sampler.specs.declared.faults.TriggerFault.TheVariants.{Spent, WrongImage}
 use Rattle.control_ring.specs.declared.order.Order.{Order}
 use Rattle.control_ring.specs.declared.order.Order.TheVariants as order
-use Rattle.tasks.specs.Tasks.{HeldState, ObeysHeld, RestsHeld, Steps, StepsFrom, StepsThrough, TaskState, TriggersSampler}
+use Rattle.tasks.specs.Deeds.{is_end}
+use Rattle.tasks.specs.Tasks.{HeldState, Obeys, ObeysHeld, RestsHeld, Steps, StepsFrom, StepsThrough, TaskState, TriggersSampler}
 
 -- what there is, with something weaker known of it
 pub some-with : {A : Type 0} {P Q : A → Type 0} → ((x : A) → P x → Q x) → (o : Option A) → IfSome o P → IfSome o Q
 some-with f None is = is
 some-with f (Some x) is = f x is
+
+same-head : (x o : Order) → ◌≡◌ {A = List Order} (x ∷ []) (o ∷ []) → x ≡ o
+same-head x o is = cc
 
 module _ {S E : Type 0} (send : SendGhosts S E) (ring : EndGhosts E) where
   -- a trigger of the sampler
@@ -32,40 +38,35 @@ module _ {S E : Type 0} (send : SendGhosts S E) (ring : EndGhosts E) where
   triggers s t image stamp (Err WrongImage) ok wrong spent err keeps = (wrong.0 refl, err)
   triggers s t image stamp (Err Spent) ok wrong spent err keeps = ((spent.0 refl).0, (spent.0 refl).1, err)
 
-  -- an order that was taken off
-  pub done-steps : (a b : Option (HeldState S)) (o : Order) → ObeysHeld send ring a b (Done o)
-      → (h : HeldState S) × (a ≡ Some h) × StepsFrom send ring h b
-  done-steps None None o does = elim does [ ]
-  done-steps None (Some k) o does = elim does [ ]
-  done-steps (Some h) None o does = elim does [ ]
-  done-steps (Some h) (Some k) o does = (h, refl, (o, does))
-
-  pub refused-steps : (a b : Option (HeldState S)) (o : Order) → ObeysHeld send ring a b (Refused o)
-      → (h : HeldState S) × (a ≡ Some h) × StepsFrom send ring h b
-  refused-steps None None o does = elim does [ ]
-  refused-steps None (Some k) o does = elim does [ ]
-  refused-steps (Some h) None o does = elim does [ ]
-  refused-steps (Some h) (Some k) o does = (h, refl, (o, does))
+  -- a start or a stop that was taken off
+  pub taken-steps : (a b : Option (HeldState S)) (p : Polled) (o : Order) → answered p ≡ o ∷ [] → is_end o ≡ false
+      → ObeysHeld send ring a b p → (h : HeldState S) × (a ≡ Some h) × StepsFrom send ring h b
+  taken-steps (Some h) (Some k) (Done x) o is not does = (h, refl, (x, ap is_end (same-head x o is) ∙ not, does))
+  taken-steps (Some h) (Some k) (Refused x) o is not does = (h, refl, (x, ap is_end (same-head x o is) ∙ not, does))
+  taken-steps (Some h) (Some k) Nothing o is not does = absurd cc
+  taken-steps (Some h) (Some k) (Waiting x) o is not does = absurd cc
+  taken-steps None None Nothing o is not does = absurd cc
+  taken-steps None None (Done x) o is not does = elim does [ ]
+  taken-steps None None (Refused x) o is not does = elim does [ ]
+  taken-steps None None (Waiting x) o is not does = elim does [ ]
+  taken-steps None (Some k) p o is not does = elim does [ ]
+  taken-steps (Some h) None p o is not does = elim does [ ]
 
   -- an order to end
-  pub ended-steps : (a b : Option (HeldState S)) → ObeysHeld send ring a b (Done order.End)
-      → (h : HeldState S) × (a ≡ Some h) × StepsFrom send ring h None
-  ended-steps None None does = elim does [ ]
-  ended-steps None (Some k) does = elim does [ ]
-  ended-steps (Some h) None does = elim does [ ]
-  ended-steps (Some h) (Some k) does = (h, refl, (k, does))
-
-  pub nothing-rests : (a b : Option (HeldState S)) → ObeysHeld send ring a b Nothing → RestsHeld send ring a b
-  nothing-rests None None does = does
-  nothing-rests None (Some k) does = does
-  nothing-rests (Some h) None does = does
-  nothing-rests (Some h) (Some k) does = does
-
-  pub waiting-rests : (a b : Option (HeldState S)) (o : Order) → ObeysHeld send ring a b (Waiting o) → RestsHeld send ring a b
-  waiting-rests None None o does = elim does [ ]
-  waiting-rests None (Some k) o does = does
-  waiting-rests (Some h) None o does = does
-  waiting-rests (Some h) (Some k) o does = does
+  pub ended-steps : (a b : Option (HeldState S)) (p : Polled) → answered p ≡ order.End ∷ []
+      → ObeysHeld send ring a b p → (h : HeldState S) × (a ≡ Some h) × StepsFrom send ring h None
+  ended-steps (Some h) (Some k) (Done x) is does =
+      (h, refl, (k, subst (λ (y : Order). Obeys send ring h.sampler k.sampler h.orders k.orders y) (same-head x order.End is) does))
+  ended-steps (Some h) (Some k) (Refused x) is does =
+      (h, refl, (k, subst (λ (y : Order). Obeys send ring h.sampler k.sampler h.orders k.orders y) (same-head x order.End is) does))
+  ended-steps (Some h) (Some k) Nothing is does = absurd cc
+  ended-steps (Some h) (Some k) (Waiting x) is does = absurd cc
+  ended-steps None None Nothing is does = absurd cc
+  ended-steps None None (Done x) is does = elim does [ ]
+  ended-steps None None (Refused x) is does = elim does [ ]
+  ended-steps None None (Waiting x) is does = elim does [ ]
+  ended-steps None (Some k) p is does = elim does [ ]
+  ended-steps (Some h) None p is does = elim does [ ]
 
   -- what is held steps, and no other came
   pub held-steps : (a b : Option (HeldState S)) (came : List (HeldState S))

@@ -9,7 +9,7 @@ use Rattle.sampler.specs.Past.{Past}
 use Rattle.sampler.specs.Standing.{EndStandsAfter, StandsAfter}
 use Rattle.sampler.specs.State.{SamplerEndState, SamplerState, joined, runs_in}
 use Rattle.hand_over.specs.Newest.{one_before}
-use Rattle.tasks.specs.Deeds.{Deed, orders_in, past_after}
+use Rattle.tasks.specs.Deeds.{Deed, is_end, orders_in, past_after}
 use Rattle.tasks.specs.Needs.{places_for}
 use Rattle.tasks.specs.Tasks.{HeldState}
 use Rattle.tasks.specs.declared.fault.HandFault.{HandFault}
@@ -44,11 +44,6 @@ runs_behind order.End before l = before
 abbrev pub runs_by : List Order → Bool → ℕ → Bool
 runs_by [] before l = before
 runs_by (o ∷ os) before l = runs_by os (runs_behind o before l) l
-
-abbrev pub is_end : Order → Bool
-is_end (order.Start l) = false
-is_end (order.Stop l) = false
-is_end order.End = true
 
 -- a set without list l
 abbrev pub without : ℕ → (ℕ → Bool) → ℕ → Bool

@@ -21,7 +21,8 @@ impl<S: SendEnd> Model for Task<S> {
     ghost view = { λ t. record { came = t.coming.taken; held = t.held } };
 }
 
-ghost use Rattle.std.specs.Prelude.{◌≡◌, None, Some, true, false};
+ghost use Rattle.std.specs.Prelude.{◌≡◌, [], ◌∷◌, IfSome, IsNone, None, Some, true, false};
+ghost use Rattle.sampler.specs.Control.{answered};
 ghost use Rattle.tasks.specs.Tasks.{HeldState, Looks, ObeysHeld, Rests, RestsHeld, Steps};
 ghost use Rattle.tasks.specs.Tasks.{StepsFrom, TakesTurn, TriggersHeld};
 
@@ -55,21 +56,33 @@ fn give_back<S: SendEnd>(held: &mut Option<Handed<S>>)
     }
 }
 
+/// The order that a look took off, if it did.
+fn order_in(polled: Polled) -> Option<Order>
+    ensures some { IfSome result (λ o. answered polled ≡ o ∷ []) }
+    ensures none { IsNone result → answered polled ≡ [] }
+{
+    match polled {
+        Polled::Nothing => None,
+        Polled::Waiting(_) => None,
+        Polled::Done(order) => Some(order),
+        Polled::Refused(order) => Some(order),
+    }
+}
+
 /// Carries out the next order of what is held, if there is one, and returns whether it did.
 fn next_of<S: SendEnd>(held: &mut Option<Handed<S>>) -> bool
     ensures some { result ≡ true → (h : HeldState S) × (held.old ≡ Some h)
         × StepsFrom S.SendEnd S.End.RingEnd h held.new }
     ensures none { result ≡ false → RestsHeld S.SendEnd S.End.RingEnd held.old held.new }
 {
-    match obey_held(held) {
-        Polled::Nothing => false,
-        Polled::Waiting(_) => false,
-        Polled::Refused(_) => true,
-        Polled::Done(Order::End) => {
+    match order_in(obey_held(held)) {
+        None => false,
+        Some(Order::End) => {
             give_back(held);
             true
         }
-        Polled::Done(_) => true,
+        Some(Order::Start(_)) => true,
+        Some(Order::Stop(_)) => true,
     }
 }
 
