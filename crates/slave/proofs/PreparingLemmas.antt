@@ -9,6 +9,7 @@ use Rattle.xcp_base.specs.declared.limits.TheConstants.{MAX_LISTS, MAX_TAKEN}
 use Rattle.channel_ring.specs.declared.ends.SendEnd.{Ghosts as SendGhosts}
 use Rattle.channel_ring.specs.declared.ends.RingEnd.{Ghosts as EndGhosts}
 use Rattle.channel_ring.specs.declared.ends.TakeEnd.{Ghosts as TakeGhosts}
+use Rattle.daq_store.specs.Configuration.{Configuration}
 use Rattle.daq_store.specs.Standing.{StoreState}
 use Rattle.session.specs.Standing.{SessionStandsAfter, SessionState}
 use Rattle.session.specs.declared.profile.Profile.{Profile}
@@ -27,7 +28,7 @@ use Rattle.slave.specs.Log.{Act, Opened, deeds_of, entries_of, is_out, laid, ope
 use Rattle.slave.specs.Standing.{NoneRuns, SlaveHas, SlaveStandsAfter, SlaveState}
 use Rattle.slave.proofs.ChannelLemmas.{channel-ends, takes-ended}
 use Rattle.slave.proofs.LogLemmas.{ties}
-use Rattle.slave.proofs.StandingLemmas.{looks-at-all, looks-ended, opens-all, opens-in-vain, parts-all, parts-vain, starts-all, starts-no-list, starts-parts}
+use Rattle.slave.proofs.StandingLemmas.{looks-at-all, looks-ended, opens-all, opens-in-vain, parts-all, parts-there, parts-vain, starts-all, starts-no-list, starts-parts}
 use Rattle.slave.proofs.OutLemmas.{keeps-ends, out-each, was-there}
 
 front-get : (n : ℕ) (xs : List ℕ) (c x : ℕ) → slice_get (first n xs) c ≡ Some x → slice_get xs c ≡ Some x
@@ -227,13 +228,27 @@ module _ {S T F : Type 0} (take : TakeGhosts T F) where
   }
 
 module _ {S E T F : Type 0} (send : SendGhosts S E) (ring : EndGhosts E) (take : TakeGhosts T F) where
-  pub opens-of : (v w : SlaveState S T) (x : List (ChannelState S T)) (store : StoreState) (caps sets : List ℕ) → w ≡ v → store ≡ w.session.store → w.plan ≡ plan_of w.session.store → w.session.store.profile ≡ lists_of w.session.profile → length caps ≡ length w.channels → length sets ≡ length w.channels
+  pub opens-of : (v w : SlaveState S T) (x : List (ChannelState S T)) (store : StoreState) (caps sets : List ℕ) (all : ℕ) → ((l : ℕ) → l < MAX_LISTS → has_list all l ≡ true) → AreSets w.session all sets → w ≡ v → store ≡ w.session.store → w.plan ≡ plan_of w.session.store → w.session.store.profile ≡ lists_of w.session.profile → length caps ≡ length w.channels → length sets ≡ length w.channels
       → IsEach (OpensAt send ring take store w.number caps sets) w.channels x
       → OpensAll send ring take v (record w { channels = x; number = (w.number + 1) % 18446744073709551616 })
-  opens-of v w x store caps sets same st plan lists many_caps many_sets opens =
-      subst (λ (u : SlaveState S T). u.plan ≡ plan_of u.session.store → u.session.store.profile ≡ lists_of u.session.profile → length caps ≡ length u.channels → length sets ≡ length u.channels → IsEach (OpensAt send ring take u.session.store u.number caps sets) u.channels x
+  opens-of v w x store caps sets all are_all are same st plan lists many_caps many_sets opens =
+      subst (λ (u : SlaveState S T). AreSets u.session all sets → u.plan ≡ plan_of u.session.store → u.session.store.profile ≡ lists_of u.session.profile → length caps ≡ length u.channels → length sets ≡ length u.channels → IsEach (OpensAt send ring take u.session.store u.number caps sets) u.channels x
       → OpensAll send ring take v (record u { channels = x; number = (u.number + 1) % 18446744073709551616 })) (sym same)
-      (λ k f p q o. record { caps = caps; sets = sets; as_many_caps = p; as_many_sets = q; channels = o; rest = record { session = refl; outbox = refl; plan = k; lists = f; account = refl; number = refl } }) plan lists many_caps many_sets (subst (λ z. IsEach (OpensAt send ring take z w.number caps sets) w.channels x) st opens)
+      (λ e k f p q o. record { caps = caps; sets = sets; all = all; are_all = are_all; are = e; as_many_caps = p; as_many_sets = q; channels = o; rest = record { session = refl; outbox = refl; plan = k; lists = f; account = refl; number = refl } }) are plan lists many_caps many_sets (subst (λ z. IsEach (OpensAt send ring take z w.number caps sets) w.channels x) st opens)
+
+  -- whatever plan there was before
+  pub opens-anyhow : (v b : SlaveState S T) (plan : List Configuration) → OpensAll send ring take (record v { plan = plan }) b → OpensAll send ring take v b
+  opens-anyhow v b plan o = record {
+    caps = o.caps;
+    sets = o.sets;
+    all = o.all;
+    are_all = o.are_all;
+    are = o.are;
+    as_many_caps = o.as_many_caps;
+    as_many_sets = o.as_many_sets;
+    channels = o.channels;
+    rest = record { session = o.rest.session; outbox = o.rest.outbox; plan = o.rest.plan; lists = o.rest.lists; account = o.rest.account; number = o.rest.number };
+  }
 
   pub vain-of : (v w : SlaveState S T) (x : List (ChannelState S T)) (store : StoreState) (caps sets : List ℕ) → w ≡ v → store ≡ w.session.store → w.plan ≡ plan_of w.session.store → w.session.store.profile ≡ lists_of w.session.profile → length caps ≡ length w.channels → length sets ≡ length w.channels
       → IsEach (OpenedAndEnded send ring take store w.number caps sets) w.channels x
@@ -249,7 +264,7 @@ module _ {S E T F : Type 0} (send : SendGhosts S E) (ring : EndGhosts E) (take :
     opening = Opened (parts-all send ring take a m opens).at ∷ [];
     may_open = one-opened (parts-all send ring take a m opens).at;
     for_some = inr some;
-    in_one = λ log few stands any none. tt;
+    in_one = λ log few stands any none. parts-there send ring take a.session.profile a m log opens stands.has;
     as_opened = λ log few stands l below one there. just-opened a.session.profile (parts-all send ring take a m opens).at log l there;
     has_parts = λ log few stands.
         let d = a.session.profile in

@@ -1,5 +1,5 @@
 -- What a slave stands after once a measurement is opened, and once lists are started.
-use Rattle.std.proofs.Common.{◌≡◌, ◌≢◌, ℕ, ◌+◌, ◌*◌, ◌%◌, ◌<◌, ◌≤◌, Bool, true, false, ◌&&◌, not, nat_eq, if◌then◌else◌, List, [], ◌∷◌, ◌++◌, append-nil, length, get_or, drop, take as first, slice_get, refl, sym, ap, ◌∙◌, subst, arith, ◌⊎◌, inl, inr}
+use Rattle.std.proofs.Common.{◌≡◌, ◌≢◌, ℕ, ◌+◌, ◌*◌, ◌%◌, ◌<◌, ◌≤◌, Bool, true, false, ◌&&◌, not, nat_eq, if◌then◌else◌, List, [], ◌∷◌, ◌++◌, append-nil, length, get_or, drop, take as first, slice_get, refl, sym, ap, ◌∙◌, subst, arith, ◌⊎◌, inl, inr, zero, suc}
 use Rattle.std.specs.Prelude.{Option, Some, None}
 use Rattle.std.proofs.lemmas.Bool.{false≢true}
 use Rattle.std.proofs.lemmas.List.Sums.{count_by-le-length}
@@ -29,7 +29,7 @@ use Rattle.slave_channels.specs.Calls.{CanStartAll, Ends, Looks, OpensIfAny, Sta
 use Rattle.slave_channels.specs.Each.{IsEach}
 use Rattle.slave.specs.Inner.{AreSets, HasParts, LooksAtAll, OpensAll, OpensBeside, OpensInVain, SlaveStarted, started}
 use Rattle.slave.specs.Log.{Act, Opened, deeds_of, entries_of, has_part, is_opening, is_out, laid, opened, past_of, sent_of}
-use Rattle.slave.specs.Standing.{ChannelHas, HasEnded, IsOut, NoneRuns, SlaveHas, SlaveStandsAfter, SlaveState, number_of}
+use Rattle.slave.specs.Standing.{ChannelHas, HasAllParts, HasEnded, IsOut, NoneRuns, SlaveHas, SlaveStandsAfter, SlaveState, number_of}
 use Rattle.slave.proofs.ChannelLemmas.{channel-looks, channel-ordered, channel-same, goes-none, takes-looked}
 use Rattle.slave.proofs.DeedLemmas.{deeds-few, deeds-none, opened-more, out-newest, out-no-part, out-other, out-part, starts-few}
 use Rattle.slave.proofs.PlanLemmas.{plan-by}
@@ -39,6 +39,9 @@ use Rattle.slave.proofs.OrderLemmas.{starts-none, starts-same, starts-set}
 
 pub there-is : (xs : List ℕ) (n c : ℕ) → length xs ≡ n → c < n → slice_get xs c ≡ Some (get_or xs c 0)
 there-is xs n c as_many below = slice_get-get_or xs c 0 (omega (arith, as_many, below))
+
+has-some : (set l : ℕ) → has_list set l ≡ true → set ≢ 0
+has-some set l is = λ none. false≢true (sym (empty_has_none l) ∙ ap (λ s. has_list s l) (sym none) ∙ is)
 
 few-opened : (log : List Act) → opened log ≤ length log
 few-opened log = count_by-le-length is_opening log
@@ -91,6 +94,36 @@ module _ {S E T F : Type 0} (send : SendGhosts S E) (ring : EndGhosts E) (take :
       let set_c = get_or opens.sets c 0 in
       new-or-same send ring take a.session.store a.number c cap_c set_c old ch
       (opens.channels.each c old ch was at cap_c set_c (there-is opens.caps (length a.channels) c opens.as_many_caps below) (there-is opens.sets (length a.channels) c opens.as_many_sets below)))
+
+  -- there is one at each event channel of which a list is ready
+  pub parts-there : (d : Profile) (a b : SlaveState S T) (log : List Act) (opens : OpensAll send ring take a b) → SlaveHas take d a log
+      → HasAllParts d (past_of d log) (parts-all a b opens).at
+  parts-there d a b log opens has c l within below on =
+      let here : c < length a.channels = omega (arith, within, has.many) in
+      let (x, was) = some-at a.channels c here in
+      let (y, is) = some-at b.channels c (omega (arith, here, opens.channels.as_many)) in
+      let set = get_or opens.sets c 0 in
+      let cap = get_or opens.caps c 0 in
+      let there = there-is opens.sets (length a.channels) c opens.as_many_sets here in
+      let has_l : has_list set l ≡ true =
+      opens.are (past_of d log) has.session c set there l below ∙ ap (λ p. has_list opens.all l && is_on p (past_of d log) c l) has.profile ∙ both (has_list opens.all l) (is_on d (past_of d log) c l) (opens.are_all l below) on in
+      let new = (opens.channels.each c x y was is cap set (there-is opens.caps (length a.channels) c opens.as_many_caps here) there).1 (has-some set l has_l) in
+      elim ((parts-all a b opens).each c y is) [
+        | inl w ↦ w.0
+        | inr w ↦
+            let same : y ≡ x = w.1 ∙ read-there a.channels c x y was in
+            let kept : x.newer ≡ Some new.share = ap (λ (z : ChannelState S T). z.newer) (sym same) ∙ new.newer in
+            absurd (omega (arith, ((has.channels c x was).newer new.share kept).there, new.number_is, has.number))
+      ] where
+        both : (x y : Bool) → x ≡ true → y ≡ true → (x && y) ≡ true
+        both true true a b = refl
+        both true false a b = b
+        both false y a b = a
+
+        read-there : {X : Type 0} (xs : List X) (c : ℕ) (x y : X) → slice_get xs c ≡ Some x → get_or xs c y ≡ x
+        read-there [] c x y at = absurd cc
+        read-there (z ∷ zs) zero x y at = cc
+        read-there (z ∷ zs) (suc c) x y at = read-there zs c x y at
 
   pub parts-vain : (a b : SlaveState S T) → OpensInVain send ring take a b → Parts a b
   parts-vain a b opens =
@@ -157,9 +190,6 @@ module _ {S E T F : Type 0} (send : SendGhosts S E) (ring : EndGhosts E) (take :
             (out-opened d a b log (parts-vain a b opens) stands.has opens.channels.as_many);
         ended = λ quiet c ch at. (both c ch at).1;
       }
-
-has-some : (set l : ℕ) → has_list set l ≡ true → set ≢ 0
-has-some set l is = λ none. false≢true (sym (empty_has_none l) ∙ ap (λ s. has_list s l) (sym none) ∙ is)
 
 module _ {S T F : Type 0} (take : TakeGhosts T F) where
   -- orders are looked at

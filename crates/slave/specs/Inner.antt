@@ -74,7 +74,7 @@ pub record HasOther (d : Profile) (log : List Act) (lists : ℕ) : Type 0 where
 
 -- where no list runs, the lists are started in a measurement that was just opened
 abbrev pub IsOfOne : Profile → List Act → ℕ → Type 0
-IsOfOne d log lists = HasSome lists → NoneRuns (past_of d log) → JustOpened log
+IsOfOne d log lists = HasSome lists → NoneRuns (past_of d log) → JustOpened d log
 
 -- the lists that are there stand as they did where the newest measurement was opened
 abbrev pub AreAsOpened : Profile → List Act → ℕ → Type 0
@@ -228,10 +228,13 @@ module _ {E T F : Type 0} (ring : EndGhosts E) (take : TakeGhosts T F) where
 
 module _ {S E T F : Type 0} (send : SendGhosts S E) (ring : EndGhosts E) (take : TakeGhosts T F)
   where
-    -- a measurement was opened at all event channels
+    -- a measurement was opened at all event channels of which a list is ready
     pub record OpensAll (a b : SlaveState S T) : Type 0 where
       pub caps : List ℕ
       pub sets : List ℕ
+      pub all : ℕ
+      pub are_all : (l : ℕ) → l < MAX_LISTS → has_list all l ≡ true
+      pub are : AreSets a.session all sets
       pub as_many_caps : length caps ≡ length a.channels
       pub as_many_sets : length sets ≡ length a.channels
       pub channels :

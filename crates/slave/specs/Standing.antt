@@ -53,16 +53,21 @@ NoneRuns past = (l : ℕ) → l < MAX_LISTS → runs past l ≡ false
 abbrev pub IsStart : Profile → Past → List ℕ → Type 0
 IsStart d past packet = (l : ℕ) × (l < MAX_LISTS) × (starts d past packet l ≡ true)
 
--- the newest act opened a measurement
-abbrev pub JustOpened : List Act → Type 0
-JustOpened [] = ⊥
-JustOpened (Heard x ∷ log) = ⊥
-JustOpened (Refused packet code ∷ log) = ⊥
-JustOpened (Opened at ∷ log) = Unit {0}
-JustOpened (Took m c x ∷ log) = ⊥
-JustOpened (CameBack m c past ∷ log) = ⊥
-JustOpened (Sent n ∷ log) = ⊥
-JustOpened (HungUp ∷ log) = ⊥
+-- at each event channel of which a list is ready there is a part
+abbrev pub HasAllParts : Profile → Past → (ℕ → Bool) → Type 0
+HasAllParts d past at =
+    (c l : ℕ) → c < length d.events.items → l < MAX_LISTS → is_on d past c l ≡ true → at c ≡ true
+
+-- the newest act opened a measurement, with a part at each event channel of which a list is ready
+abbrev pub JustOpened : Profile → List Act → Type 0
+JustOpened d [] = ⊥
+JustOpened d (Heard x ∷ log) = ⊥
+JustOpened d (Refused packet code ∷ log) = ⊥
+JustOpened d (Opened at ∷ log) = HasAllParts d (past_of d log) at
+JustOpened d (Took m c x ∷ log) = ⊥
+JustOpened d (CameBack m c past ∷ log) = ⊥
+JustOpened d (Sent n ∷ log) = ⊥
+JustOpened d (HungUp ∷ log) = ⊥
 
 -- a list that the packet starts stands as it did where the newest measurement was opened, which has
 -- a part at the list's event channel; and where no list runs, it was opened just before
@@ -73,7 +78,7 @@ pub record StartsWell (d : Profile) (log : List Act) (packet : List ℕ) : Type 
       (c l : ℕ) → c < length d.events.items → l < MAX_LISTS
       → starts d (past_of d log) packet l ≡ true → is_on d (past_of d log) c l ≡ true
       → has_part (opened log - 1) c log ≡ true
-  pub in_one : IsStart d (past_of d log) packet → NoneRuns (past_of d log) → JustOpened log
+  pub in_one : IsStart d (past_of d log) packet → NoneRuns (past_of d log) → JustOpened d log
 
 -- where lists run, the packet would start one that doesn't stand as it did where the newest
 -- measurement was opened

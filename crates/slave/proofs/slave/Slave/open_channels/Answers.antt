@@ -1,13 +1,16 @@
 use Rattle.std.proofs.Common.{◌≡◌, length, ap, ◌∙◌, subst, sym, arith}
+use Rattle.slave.specs.Inner.{AreSets}
 use Rattle.slave.specs.Plans.{plan_of}
-use Rattle.slave.proofs.PreparingLemmas.{front-many, on-err, on-ok, opens-of, vain-of}
+use Rattle.slave.proofs.PreparingLemmas.{are-front, front-many, on-err, on-ok, opens-of, vain-of}
 use Rattle.slave.proofs.slave.Slave.open_channels.Goals as goal
 
 pub returns-clause-ok : goal.returns-clause-ok
 returns-clause-ok g c =
     on-ok c.open.result _ _
     (λ opens.
-    opens-of g.R.Send.SendEnd g.R.Send.End.RingEnd g.R.Take.TakeEnd c.args.self.now _ c.open.new.self _ _ _ c.self.view_is c.store.ensures.value
+    opens-of g.R.Send.SendEnd g.R.Send.End.RingEnd g.R.Take.TakeEnd c.args.self.now _ c.open.new.self _ _ _ c.all.result c.all.ensures
+    (are-front c.self.inside.session c.all.result c.sets_of-sets.result c.len.result
+    (subst (λ s. AreSets s c.all.result c.sets_of-sets.result) (sym (ap (λ s. s.session) c.self.view_is)) c.sets_of-sets.ensures.sets)) c.self.view_is c.store.ensures.value
     (subst (λ s. s.plan ≡ plan_of s.session.store) (sym c.self.view_is) c.requires.plan) (ap (λ s. s.profile) (sym c.store.ensures.value) ∙ c.store.ensures.profile) (ap length c.deref.ensures.value ∙ c.self.invariant)
     (front-many c.len.result _ _ c.sets_of-sets.result c.len.ensures.value c.sets_of-sets.ensures.many (omega (arith, c.len.ensures.value, c.len.ensures.limit))) opens)
     c.open.ensures.ok
