@@ -17,7 +17,7 @@ use Rattle.sampler.specs.declared.faults.TriggerFault.TheVariants.{Spent, WrongI
 use Rattle.control_ring.specs.declared.order.Order.{Order}
 use Rattle.control_ring.specs.declared.order.Order.TheVariants as order
 use Rattle.tasks.specs.Deeds.{is_end}
-use Rattle.tasks.specs.Tasks.{HeldState, Obeys, ObeysHeld, RestsHeld, Steps, StepsFrom, StepsThrough, TaskState, TriggersSampler}
+use Rattle.tasks.specs.Tasks.{HeldState, Obeys, ObeysHeld, Steps, StepsFrom, StepsThrough, TaskState, TriggersSampler}
 
 -- what there is, with something weaker known of it
 pub some-with : {A : Type 0} {P Q : A → Type 0} → ((x : A) → P x → Q x) → (o : Option A) → IfSome o P → IfSome o Q

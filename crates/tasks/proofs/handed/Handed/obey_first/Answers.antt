@@ -1,7 +1,7 @@
 use Rattle.std.proofs.Common.{subst}
 use Rattle.tasks.specs.Tasks.{HeldState, ObeysNext}
 use Rattle.tasks.proofs.WayLemmas.{come-next, polled-obeys}
-use Rattle.tasks.proofs.handed.Handed.obey.Goals as goal
+use Rattle.tasks.proofs.handed.Handed.obey_first.Goals as goal
 
 -- a look at the ring of orders is a step of the sampler that went
 pub invariant_of-self : goal.invariant_of-self
