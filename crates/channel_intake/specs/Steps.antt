@@ -2,6 +2,7 @@
 use Rattle.std.specs.Prelude.{◌≡◌, ℕ, ◌+◌, ◌<◌, ◌≤◌, false, true, List, [], ◌∷◌, ◌++◌, drop, length}
 use Rattle.std.specs.Prelude.{take as first}
 use mathlib.Core.List.{IsPrefix}
+use Rattle.xcp_base.specs.Packets.{ArePackets}
 use Rattle.xcp_base.specs.Samples.{MarkParts, SampleParts}
 use Rattle.xcp_base.specs.declared.item.Item.{Item}
 use Rattle.xcp_base.specs.declared.item.Item.TheVariants.{Marker, Sample}
@@ -20,9 +21,10 @@ pub record Page : Type 0 where
   pub bytes : List ℕ
 
 -- the frames of a sample were written, and stand in the buffer from `at` to `end`; behind them
--- nothing changed. A sample has a packet at least
+-- nothing changed. A sample has a packet at least, and each has 1 to MAX_DTO bytes
 pub record LaysOut (a b : Page) (s : SampleParts) (at end limit : ℕ) : Type 0 where
   pub some : 0 < length s.packets
+  pub each : ArePackets s.packets
   pub writer : b.writer ≡ after_text a.writer s.packets
   pub front : first end b.bytes ≡ first at a.bytes ++ text a.writer.counter s.packets
   pub end_is : end ≡ at + length (text a.writer.counter s.packets)

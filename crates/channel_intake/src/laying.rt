@@ -1,5 +1,6 @@
 //! What the first item of a ring comes to, and the frames of a sample.
 ghost use Rattle.std.specs.Prelude.{◌≡◌, ℕ, ◌+◌, ◌≤◌, false, true, length};
+ghost use Rattle.xcp_base.specs.Packets.{ArePackets};
 ghost use Rattle.xcp_base.specs.declared.limits.TheConstants.{MAX_LISTS};
 ghost use Rattle.frame_writer.specs.Frame.{text};
 ghost use Rattle.frame_writer.specs.Writing.{state_of};
@@ -13,9 +14,10 @@ use frame_writer::{FrameWriter, MAX_SAMPLE_BYTES, Out, SinkOut};
 use xcp_base::{Item, Packets, Sample};
 
 /// How many bytes the frames of packets have: a frame has a header of four bytes where a body has
-/// a length of one.
+/// a length of one. A packet has 1 to MAX_DTO bytes.
 fn text_len(packets: &Packets) -> usize
-    ensures { (n : ℕ) → length (text n packets.now) ≡ result }
+    ensures value { (n : ℕ) → length (text n packets.now) ≡ result }
+    ensures each { ArePackets packets.now }
 {
     packets.body().len() + 3 * packets.len()
 }

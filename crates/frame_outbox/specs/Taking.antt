@@ -1,6 +1,7 @@
 -- An item of an event channel's ring is taken: a sample that passes is laid out.
 use Rattle.std.specs.Prelude.{◌≡◌, ℕ, ◌+◌, ◌<◌, [], ◌∷◌, length}
 use mathlib.Core.List.{IsPrefix}
+use Rattle.xcp_base.specs.Packets.{ArePackets}
 use Rattle.xcp_base.specs.Samples.{MarkParts, SampleParts}
 use Rattle.xcp_base.specs.declared.item.Item.TheVariants.{Marker, Sample}
 use Rattle.channel_ring.specs.declared.ends.TakeEnd.{Ghosts as TakeGhosts}
@@ -19,7 +20,8 @@ abbrev pub HasNoRoom : OutboxState → SampleParts → Type 0
 HasNoRoom o s = PAGE < length o.waits + length (text 0 s.packets)
 
 module _ {T E : Type 0} (take : TakeGhosts T E) where
-  -- what became of the next item: it is let go, or laid out as a sample of measurement m
+  -- what became of the next item: it is let go, or laid out as a sample of measurement m, whose
+  -- packets have 1 to MAX_DTO bytes each
   abbrev pub TakesItem :
       IntakeState T → IntakeState T → OutboxState → OutboxState → ℕ → Step → Type 0
   TakesItem a b o p m Nothing = OnlyLooked take a b × (take.known b.end ≡ []) × (p ≡ o)
@@ -33,4 +35,5 @@ module _ {T E : Type 0} (take : TakeGhosts T E) where
       × (p ≡ o)
   TakesItem a b o p m (Wrote l end) =
       (s : SampleParts) × Takes take a b (Sample s) × (l ≡ s.list) × Passes take a s.list
+      × ArePackets s.packets
       × LaysOut o p (record { origin = origin.Sample m l; packets = s.packets })

@@ -94,6 +94,13 @@ impl Session {
         }
     }
 
+    /// Whether a master is connected.
+    pub fn is_connected(&self) -> bool
+        ensures { result ≡ self.now.connected }
+    {
+        self.connected
+    }
+
     /// The transport was lost: all DAQ lists are given up as by FREE_DAQ, the text is forgotten,
     /// and no master is connected. So it is after DISCONNECT, but nothing is replied.
     pub fn hang_up(&mut self)

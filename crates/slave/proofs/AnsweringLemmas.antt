@@ -18,12 +18,13 @@ use Rattle.session.specs.Starts.{is_on, runs, starts}
 use Rattle.session.specs.declared.profile.Profile.{Profile}
 use Rattle.frame_outbox.specs.Outboxes.{Laid, LaysOut, OutboxState}
 use Rattle.frame_outbox.specs.Outboxes.{StandsAfter as OutboxStandsAfter}
-use Rattle.slave.specs.Hearing.{GoesBy}
+use Rattle.slave.specs.Inner.{PartsGoBy}
 use Rattle.slave.specs.Inner.{Answers, LaysReply, Settles}
 use Rattle.session_account.specs.Accounts.{AccountStandsAfter}
 use Rattle.slave.specs.Log.{Heard, HungUp, entries_of, is_out, laid, past_of, reply_laid, sent_of}
+use Rattle.slave.specs.Openings.{past_at}
 use Rattle.slave.specs.Standing.{SlaveState}
-use Rattle.slave.proofs.SettlingLemmas.{settled, settled-many, settled-out}
+use Rattle.slave.proofs.SettlingLemmas.{settled, settled-many, settled-opens, settled-out}
 use Rattle.slave.proofs.StandingLemmas.{starts-no-list}
 use Rattle.std.proofs.lemmas.List.{drop-append-le, take-append-le}
 
@@ -110,6 +111,7 @@ module _ {S T F : Type 0} (take : TakeGhosts T F) where
                     (reply-laid a.outbox b.outbox reply (sent_of log) (laid d log) lays has.sent has.outbox);
                 channels = λ c ch at. (both c ch at).0;
                 out = settled-out take a.channels b.channels before now (λ c m. is_out m c log) settles has.out;
+                opens = settled-opens take a.channels b.channels before now d (λ m. past_at d m log) settles has.opens;
                 many = settled-many take a.channels b.channels before now settles ∙ has.many;
                 plan = plan ∙ has.plan;
                 account = subst (λ z. AccountStandsAfter z (entries_of d log) (λ l. 0)) (sym account) has.account;
@@ -123,7 +125,7 @@ module _ {S T F : Type 0} (take : TakeGhosts T F) where
   pub hung-up : (a b : SlaveState S T) (before : ℕ) → SessionStandsAfter b.session new_past → b.session.profile ≡ a.session.profile
       → ((past : Past) → SessionStandsAfter a.session past → (l : ℕ) → l < MAX_LISTS → has_list before l ≡ runs past l)
       → Settles take a.channels b.channels before 0 → b.outbox ≡ a.outbox → b.plan ≡ a.plan → b.account ≡ a.account → b.number ≡ a.number
-      → GoesBy take a b (HungUp ∷ [])
+      → PartsGoBy take a b (HungUp ∷ [])
   hung-up a b before fresh profile was settles outbox plan account number = λ log few stands.
       let d = a.session.profile in
       let past = past_of d log in
@@ -142,6 +144,7 @@ module _ {S T F : Type 0} (take : TakeGhosts T F) where
           outbox = subst (λ o. OutboxStandsAfter o (first (sent_of log) (laid d log ++ [])) (drop (sent_of log) (laid d log ++ []))) (sym outbox) (reply-laid a.outbox a.outbox None (sent_of log) (laid d log) refl has.sent has.outbox);
           channels = λ c ch at. (both c ch at).0;
           out = settled-out take a.channels b.channels before 0 (λ c m. is_out m c log) settles stands.has.out;
+          opens = settled-opens take a.channels b.channels before 0 d (λ m. past_at d m log) settles stands.has.opens;
           many = settled-many take a.channels b.channels before 0 settles ∙ stands.has.many;
           plan = plan ∙ has.plan;
           account = subst (λ z. AccountStandsAfter z (entries_of d log) (λ l. 0)) (sym account) has.account;
@@ -172,9 +175,9 @@ module _ {S T F : Type 0} (take : TakeGhosts T F) where
 
   pub hung-up-by : (v w t : SlaveState S T) (s : SessionState) (before : ℕ) → w ≡ v → SessionStandsAfter s new_past → s.profile ≡ w.session.profile
       → ((past : Past) → SessionStandsAfter w.session past → (l : ℕ) → l < MAX_LISTS → has_list before l ≡ runs past l)
-      → Settles take w.channels t.channels before 0 → t ≡ record w { session = s; channels = t.channels } → GoesBy take v t (HungUp ∷ [])
+      → Settles take w.channels t.channels before 0 → t ≡ record w { session = s; channels = t.channels } → PartsGoBy take v t (HungUp ∷ [])
   hung-up-by v w t s before same fresh profile was settles rest =
       let session : t.session ≡ s = ap (λ (x : SlaveState S T). x.session) rest in
-      subst (λ (x : SlaveState S T). GoesBy take x t (HungUp ∷ [])) same
+      subst (λ (x : SlaveState S T). PartsGoBy take x t (HungUp ∷ [])) same
       (hung-up w t before (subst (λ x. SessionStandsAfter x new_past) (sym session) fresh) (ap (λ (x : SessionState). x.profile) session ∙ profile) was settles
       (ap (λ (x : SlaveState S T). x.outbox) rest) (ap (λ (x : SlaveState S T). x.plan) rest) (ap (λ (x : SlaveState S T). x.account) rest) (ap (λ (x : SlaveState S T). x.number) rest))

@@ -16,11 +16,14 @@ use Rattle.session_account.specs.declared.totals.Totals.{Totals}
 use Rattle.session.specs.declared.profile.Profile.{Profile}
 use Rattle.slave_channel.specs.Channels.{ShareState}
 use Rattle.slave_channels.specs.Calls.{KeepsNone, KeepsOne}
-use Rattle.slave.specs.Closing.{AllBack, Closes, unsent_of}
+use Rattle.slave.specs.Closing.{Closes, unsent_of}
 use Rattle.slave.specs.Hearing.{GoesBy}
 use Rattle.slave.specs.Inner.{Collects}
-use Rattle.slave.specs.Log.{Act, HungUp, entries_of, is_back, is_out, laid, sent_of}
-use Rattle.slave.specs.Standing.{SlaveStandsAfter, SlaveState, number_of}
+use Rattle.slave.specs.Log.{AllBack, Act, losing, entries_of, is_back, is_out, laid, sent_of}
+use Rattle.slave.specs.Standing.{PartsStandAfter, SlaveStandsAfter, SlaveState, number_of}
+use Rattle.slave.specs.declared.limits.TheConstants.{MOST_ACTS, PER_PACKET}
+use Rattle.slave.proofs.SessionLemmas.{session-law}
+use Rattle.slave.proofs.WeightLemmas.{short}
 use Rattle.slave.proofs.DeedLemmas.{out-back, out-part}
 use Rattle.slave.proofs.OutLemmas.{some-at}
 
@@ -110,7 +113,7 @@ or-none false b is = (refl, is)
 
 module _ {S T F : Type 0} (take : TakeGhosts T F) where
   -- where no part is kept at an event channel, all came back
-  all-back : (d : Profile) (s : SlaveState S T) (log : List Act) → SlaveStandsAfter take d s log
+  all-back : (d : Profile) (s : SlaveState S T) (log : List Act) → PartsStandAfter take d s log
       → KeepsNone s.channels → AllBack d log
   all-back d s log stands none m c within there =
       elim (is-bool (is_back m c log)) [
@@ -125,7 +128,7 @@ module _ {S T F : Type 0} (take : TakeGhosts T F) where
       ]
 
   -- and where one is kept, one did not
-  not-back : (d : Profile) (s : SlaveState S T) (log : List Act) → SlaveStandsAfter take d s log
+  not-back : (d : Profile) (s : SlaveState S T) (log : List Act) → PartsStandAfter take d s log
       → KeepsOne s.channels → AllBack d log → ⊥
   not-back d s log stands (c, (ch, at, is)) all =
       let (m, out) = some-out in
@@ -138,32 +141,37 @@ module _ {S T F : Type 0} (take : TakeGhosts T F) where
             ]
 
   -- so it is told
-  pub told-whole : (d : Profile) (s : SlaveState S T) (log : List Act) (kept : Bool) → SlaveStandsAfter take d s log
+  pub told-whole : (d : Profile) (s : SlaveState S T) (log : List Act) (kept : Bool) → PartsStandAfter take d s log
       → (kept ≡ false → KeepsNone s.channels)
       → (kept ≡ true → KeepsOne s.channels)
       → (not kept ≡ true) ↔ AllBack d log
   told-whole d s log false stands none some = (λ e. all-back d s log stands (none refl), λ all. refl)
   told-whole d s log true stands none some = (λ e. absurd (false≢true e), λ all. absurd (not-back d s log stands (some refl) all))
 
-  pub closes : (a h b : SlaveState S T) (account : List Totals) (kept : Bool) → GoesBy take a h (HungUp ∷ []) → h.session.profile ≡ a.session.profile → Collects take (2 * MAX_CHANNELS) h b
+  pub closes : (a h b : SlaveState S T) (account : List Totals) (kept : Bool) → b.acts < MOST_ACTS + PER_PACKET → GoesBy take a h (losing a.session.connected) → h.session.profile ≡ a.session.profile → Collects take (2 * MAX_CHANNELS) h b
       → ((entries : List Entry) → AccountStandsAfter b.account entries (λ l. 0) → AccountStandsAfter account entries (λ l. samples_of l b.outbox.units))
       → (kept ≡ false → KeepsNone b.channels)
       → (kept ≡ true → KeepsOne b.channels)
       → Closes take a account (not kept)
-  closes a h b account kept hangs profile collects leaves none some = record {
+  closes a h b account kept fits hangs profile collects leaves none some = record {
     last = collects.acts;
     are = collects.are;
     few = collects.few;
-    stands = λ log few stands.
+    closed = λ log stands.
         let d = a.session.profile in
-        let all = collects.acts ++ HungUp ∷ log in
-        let between = subst (λ p. SlaveStandsAfter take p h (HungUp ∷ log)) (sym profile) (hangs log (omega (arith, few)) stands) in
-        let behind = subst (λ p. SlaveStandsAfter take p b all) profile (collects.goes (HungUp ∷ log) (omega (arith, few)) between) in
-        let has = behind.has in (
-          has.is_log,
-          same-unsent account (entries_of d all) (λ l. samples_of l b.outbox.units) (unsent_of d all)
+        let lost = losing a.session.connected in
+        let all = collects.acts ++ (lost ++ log) in
+        let between = subst (λ p. SlaveStandsAfter take p h (lost ++ log)) (sym profile) (hangs log stands) in
+        let behind = subst (λ p. PartsStandAfter take p b all) profile
+        (collects.goes (lost ++ log) (omega (arith, collects.few, short take h.session.profile h (lost ++ log) (omega (arith, fits, collects.counted)) between)) between.parts) in
+        let has = behind.has in
+        record {
+          is_log = has.is_log;
+          law = session-law d all has.is_log;
+          account_is =
+              same-unsent account (entries_of d all) (λ l. samples_of l b.outbox.units) (unsent_of d all)
               (λ l below. ap (samples_of l) has.outbox.units ∙ waiting-of l (drop (sent_of all) (laid d all)))
-              (leaves (entries_of d all) has.account),
-          told-whole d b all kept behind none some,
-        );
+              (leaves (entries_of d all) has.account);
+          whole_is = told-whole d b all kept behind none some;
+        };
   }

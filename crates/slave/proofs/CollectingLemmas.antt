@@ -11,13 +11,15 @@ use Rattle.xcp_base.specs.declared.limits.TheConstants.{MAX_CHANNELS, MAX_TAKEN}
 use Rattle.session.specs.declared.profile.Profile.{Profile}
 use Rattle.channel_ring.specs.declared.ends.RingEnd.{Ghosts as EndGhosts}
 use Rattle.channel_ring.specs.declared.ends.TakeEnd.{Ghosts as TakeGhosts}
+use Rattle.session.specs.Past.{Past}
 use Rattle.session.specs.Standing.{SessionStandsAfter, SessionState}
 use Rattle.slave_channel.specs.Channels.{FinishedState, IsFinished}
-use Rattle.slave.specs.Finishing.{GivesBack}
-use Rattle.slave.specs.Hearing.{MayOpen, is_before, most_before}
-use Rattle.slave.specs.Inner.{AreAsOpened, Collects, HasOther, HasParts, HasSome, IsOfOne, Prepares, SlaveStarted, StartsInVain, WantsPlaces}
+use Rattle.slave.specs.Finishing.{GivesBackBy, GivesBack}
+use Rattle.slave.specs.Hearing.{MayOpen, is_before, most_before, IsIdleRefusal}
+use Rattle.slave.specs.Inner.{PartsGoBy, AreAsOpened, Collects, HasOther, HasParts, IsOfOne, Prepares, SlaveStarted, StartsInVain, WantsPlaces}
+use Rattle.slave_channels.specs.Calls.{HasSome}
 use Rattle.slave.specs.Log.{Act, CameBack, Heard, HungUp, Opened, Refused, Sent, Took, is_opening, is_return, opened}
-use Rattle.slave.specs.Standing.{SlaveStandsAfter, SlaveState}
+use Rattle.slave.specs.Standing.{PartsStandAfter, SlaveState}
 use Rattle.slave.proofs.HearingLemmas.{assoc}
 
 -- what comes back opens nothing
@@ -48,17 +50,29 @@ may-open-behind opening acts may are few = record {
   few = omega (arith, length-append opening acts, may.few, few);
 }
 
+-- what comes back changes nothing of a refusal
+idle-behind : {S T : Type 0} (d : Profile) (past : Past) (number : ℕ) (b : SlaveState S T) (code : ErrCode) (opening acts : List Act) → list_all is_return acts ≡ true
+    → IsIdleRefusal d past number b code opening → IsIdleRefusal d past number b code (opening ++ acts)
+idle-behind d past number b code opening acts are is =
+    let same : opened (opening ++ acts) ≡ opened opening = omega (arith, sum_by-append (λ a. if is_opening a then 1 else 0) opening acts, none-opened acts are) in
+    record {
+      unopened = λ none. is.unopened (sym same ∙ none);
+      ended = λ some two. is.ended (λ none. some (same ∙ none)) two;
+    }
+
 module _ {S T F : Type 0} (take : TakeGhosts T F) where
   pub collects-nothing : (a : SlaveState S T) → Collects take 0 a a
-  collects-nothing a = record { session = refl; outbox = refl; as_many = refl; acts = []; are = refl; few = omega arith; goes = λ log few stands. stands }
+  collects-nothing a = record { session = refl; outbox = refl; as_many = refl; number = refl; counted = refl; acts = []; are = refl; few = omega arith; goes = λ log few stands. stands }
 
   -- what came back at one event channel, if something did
-  collects-some : {E : Type 0} (ring : EndGhosts E) (a b : SlaveState S T) (c : ℕ) (answer : Option (FinishedState E T)) → GivesBack take ring a b c answer → IfSome answer (IsFinished ring take) → Collects take 1 a b
-  collects-some ring a b c None gives whole = record { session = gives.session; outbox = gives.outbox; as_many = gives.as_many; acts = []; are = refl; few = omega arith; goes = gives.none refl }
-  collects-some ring a b c (Some f) gives whole = record {
+  collects-some : {E : Type 0} (ring : EndGhosts E) (a b : SlaveState S T) (c : ℕ) (answer : Option (FinishedState E T)) → GivesBackBy take (PartsGoBy take) ring a b c answer → b.acts ≡ a.acts → IfSome answer (IsFinished ring take) → Collects take 1 a b
+  collects-some ring a b c None gives counted whole = record { session = gives.session; outbox = gives.outbox; as_many = gives.as_many; number = gives.number; counted = counted; acts = []; are = refl; few = omega arith; goes = gives.none refl }
+  collects-some ring a b c (Some f) gives counted whole = record {
     session = gives.session;
     outbox = gives.outbox;
     as_many = gives.as_many;
+    number = gives.number;
+    counted = counted;
     acts = CameBack f.number c whole.0 ∷ [];
     are = refl;
     few = omega arith;
@@ -70,6 +84,8 @@ module _ {S T F : Type 0} (take : TakeGhosts T F) where
     session = two.session ∙ one.session;
     outbox = two.outbox ∙ one.outbox;
     as_many = two.as_many ∙ one.as_many;
+    number = two.number ∙ one.number;
+    counted = two.counted ∙ one.counted;
     acts = two.acts ++ one.acts;
     are = list_all-append is_return two.acts one.acts ∙ ap (λ z. z && list_all is_return one.acts) two.are ∙ one.are;
     few = omega (arith, length-append two.acts one.acts, one.few, two.few);
@@ -77,9 +93,9 @@ module _ {S T F : Type 0} (take : TakeGhosts T F) where
         let split = length-append two.acts one.acts in
         let profile = ap (λ (s : SessionState). s.profile) one.session in
         let between = one.goes log (omega (arith, few, split)) stands in
-        subst (λ xs. SlaveStandsAfter take a.session.profile b xs) (sym (assoc two.acts one.acts log))
-        (subst (λ p. SlaveStandsAfter take p b (two.acts ++ (one.acts ++ log))) profile
-        (two.goes (one.acts ++ log) (omega (arith, few, split, length-append one.acts log)) (subst (λ p. SlaveStandsAfter take p m (one.acts ++ log)) (sym profile) between)));
+        subst (λ xs. PartsStandAfter take a.session.profile b xs) (sym (assoc two.acts one.acts log))
+        (subst (λ p. PartsStandAfter take p b (two.acts ++ (one.acts ++ log))) profile
+        (two.goes (one.acts ++ log) (omega (arith, few, split, length-append one.acts log)) (subst (λ p. PartsStandAfter take p m (one.acts ++ log)) (sym profile) between)));
   }
 
   -- no more than so many are no more than more
@@ -88,29 +104,31 @@ module _ {S T F : Type 0} (take : TakeGhosts T F) where
     session = one.session;
     outbox = one.outbox;
     as_many = one.as_many;
+    number = one.number;
+    counted = one.counted;
     acts = one.acts;
     are = one.are;
     few = omega (arith, below, one.few);
     goes = one.goes;
   }
 
-  pub collects-one : {E : Type 0} (ring : EndGhosts E) (a b : SlaveState S T) (c : ℕ) (answer : Option (FinishedState E T)) → GivesBack take ring a b c answer → IfSome answer (IsFinished ring take) → Collects take 1 a b
-  collects-one ring a b c answer gives whole = collects-some ring a b c answer gives whole
+  pub collects-one : {E : Type 0} (ring : EndGhosts E) (a b : SlaveState S T) (c : ℕ) (answer : Option (FinishedState E T)) → GivesBackBy take (PartsGoBy take) ring a b c answer → b.acts ≡ a.acts → IfSome answer (IsFinished ring take) → Collects take 1 a b
+  collects-one ring a b c answer gives counted whole = collects-some ring a b c answer gives counted whole
 
   -- a log in which what came back stands behind a measurement that was opened
   pub record Between (a m : SlaveState S T) (acts opening : List Act) (log : List Act) : Type 1 where
-    pub stands : SlaveStandsAfter take m.session.profile m (acts ++ log)
+    pub stands : PartsStandAfter take m.session.profile m (acts ++ log)
     pub few : 32 * (1 + length opening + length (acts ++ log)) ≤ MAX_TAKEN
     pub lead : (P : Profile → List Act → Type 0) → P m.session.profile (opening ++ (acts ++ log)) → P a.session.profile ((opening ++ acts) ++ log)
 
   between : (a m : SlaveState S T) (opening : List Act) (log : List Act) {most : ℕ} (collects : Collects take most a m) → 32 * (1 + length (opening ++ collects.acts) + length log) ≤ MAX_TAKEN
-      → SlaveStandsAfter take a.session.profile a log → Between a m collects.acts opening log
+      → PartsStandAfter take a.session.profile a log → Between a m collects.acts opening log
   between a m opening log {most} collects few stands =
       let acts = collects.acts in
       let split = length-append opening acts in
       let same : m.session.profile ≡ a.session.profile = ap (λ (s : SessionState). s.profile) collects.session in
       record {
-        stands = subst (λ p. SlaveStandsAfter take p m (acts ++ log)) (sym same) (collects.goes log (omega (arith, few, split)) stands);
+        stands = subst (λ p. PartsStandAfter take p m (acts ++ log)) (sym same) (collects.goes log (omega (arith, few, split)) stands);
         few = omega (arith, few, split, length-append acts log);
         lead = λ P p. subst (λ xs. P a.session.profile xs) (sym (assoc opening acts log)) (subst (λ q. P q (opening ++ (acts ++ log))) same p);
       }
@@ -145,6 +163,11 @@ module _ {S T F : Type 0} (take : TakeGhosts T F) where
         let same = collects.session in
         subst (λ s. (code ≡ CmdBusy) × WantsPlaces s lists b.channels) same
         (v.places past (subst (λ s. SessionStandsAfter s past) (sym same) stands) run other);
+    when_idle = λ past stands none.
+        idle-behind a.session.profile past a.number b code v.opening collects.acts collects.are
+        (subst (λ n. IsIdleRefusal a.session.profile past n b code v.opening) collects.number
+        (subst (λ (s : SessionState). IsIdleRefusal s.profile past m.number b code v.opening) collects.session
+        (v.when_idle past (subst (λ s. SessionStandsAfter s past) (sym collects.session) stands) none)));
     sequence = λ log few stands.
         let way = between a m v.opening log collects few stands in
         way.lead (λ q xs. (code ≡ Sequence) ↔ HasOther q xs lists) (v.sequence (collects.acts ++ log) way.few way.stands);
@@ -152,8 +175,8 @@ module _ {S T F : Type 0} (take : TakeGhosts T F) where
         let acts = collects.acts in
         let split = length-append v.opening acts in
         let same : m.session.profile ≡ a.session.profile = ap (λ (s : SessionState). s.profile) collects.session in
-        subst (λ xs. SlaveStandsAfter take a.session.profile b xs) (sym (assoc v.opening acts log))
-        (subst (λ q. SlaveStandsAfter take q b (v.opening ++ (acts ++ log))) same
+        subst (λ xs. PartsStandAfter take a.session.profile b xs) (sym (assoc v.opening acts log))
+        (subst (λ q. PartsStandAfter take q b (v.opening ++ (acts ++ log))) same
         (v.goes (acts ++ log) (omega (arith, few, split, length-append acts log))
-        (subst (λ p. SlaveStandsAfter take p m (acts ++ log)) (sym same) (collects.goes log (omega (arith, few, split)) stands))));
+        (subst (λ p. PartsStandAfter take p m (acts ++ log)) (sym same) (collects.goes log (omega (arith, few, split)) stands))));
   }

@@ -1,11 +1,11 @@
 -- What a slave stands after once something came back.
-use Rattle.std.proofs.Common.{◌≡◌, ℕ, ◌<◌, Bool, true, false, ◌&&◌, ◌||◌, not, nat_eq, List, [], ◌∷◌, append-nil, length, length-append, drop, take as first, refl, sym, ap, ◌∙◌, subst, arith, inl, inr}
+use Rattle.std.proofs.Common.{◌≡◌, ℕ, ◌+◌, ◌<◌, Bool, true, false, ◌&&◌, ◌||◌, not, nat_eq, List, [], ◌∷◌, append-nil, length, length-append, drop, take as first, refl, sym, ap, ◌∙◌, subst, arith, inl, inr, ◌*◌, ◌%◌, ◌≤◌, slice_get}
 use Rattle.std.specs.Prelude.{Option, Some, None, IfSome, IsNone, IsSome}
 use Rattle.std.proofs.lemmas.Bool.Decides.{eqb_tells}
 use Rattle.sampler.specs.Past.{Past as SamplerPast}
 use Rattle.session.specs.Standing.{SessionStandsAfter, SessionState}
 use Rattle.frame_outbox.specs.Outboxes.{StandsAfter as OutboxStandsAfter}
-use Rattle.slave.specs.Hearing.{GoesBy}
+use Rattle.slave.specs.Inner.{PartsGoBy, counting}
 use Rattle.std.proofs.lemmas.Bool.{false≢true}
 use Rattle.channel_ring.specs.declared.ends.SendEnd.{Ghosts as SendGhosts}
 use Rattle.channel_ring.specs.declared.ends.RingEnd.{Ghosts as EndGhosts}
@@ -13,18 +13,26 @@ use Rattle.channel_ring.specs.declared.ends.TakeEnd.{Ghosts as TakeGhosts}
 use Rattle.channel_intake.specs.Deeds.{Deed}
 use Rattle.channel_intake.specs.Intakes.{StandsAfter}
 use Rattle.tasks.specs.Links.{AwayState, LinkState, LooksAtNewest, is_running, runs_of, takes_orders}
-use Rattle.slave_channel.specs.Channels.{ChannelState, FinishedState, IsBackOf, ShareState}
+use Rattle.slave_channel.specs.Channels.{ChannelState, FinishedState, IsBackOf, IsPastOf, OpenedState, ShareState}
 use Rattle.slave_channels.specs.Calls.{GivesBackNewer, GivesBackOlder}
 use Rattle.slave_channels.specs.Each.{IsOnlyAt}
-use Rattle.slave.specs.Finishing.{GivesBack, IsFinishedOf}
+use Rattle.slave.specs.Finishing.{GivesBack, GivesBackBy, IsFinishedOf, IsOpenedThere}
 use Rattle.session_account.specs.Accounts.{AccountStandsAfter}
 use Rattle.session_account.specs.declared.totals.Totals.{Totals}
-use Rattle.slave.specs.Inner.{Idle, Notes}
+use Rattle.slave.specs.Inner.{IsOver, Notes}
 use Rattle.slave.specs.Log.{Act, CameBack, deeds_of, entries_of, has_part, is_back, is_out, laid, opened, past_of, sent_of}
-use Rattle.slave.specs.Standing.{ChannelHas, ComesBack, IsOut, SlaveStandsAfter, SlaveState, number_of}
+use Rattle.daq_engine.specs.Openings.{IsOpeningOf}
+use Rattle.session.specs.declared.profile.Profile.{Profile}
+use Rattle.slave.specs.Openings.{IsOpenedAfter, IsOpeningAfter, past_at}
+use Rattle.slave.specs.Standing.{AreOpenedAfter, ChannelHas, ComesBack, IsLog, IsOut, PartsStandAfter, SlaveState, number_of, NoneRuns}
 use Rattle.slave.proofs.DeedLemmas.{out-back}
-use Rattle.slave.proofs.OutLemmas.{some-at}
-use Rattle.slave.proofs.TakingLemmas.{ChangesAt, channels-changed, ended-changed, out-changed, took-none}
+use Rattle.slave.proofs.OutLemmas.{some-at, opened_of}
+use Rattle.slave.proofs.WeightLemmas.{counted, recounted}
+use Rattle.slave.specs.declared.limits.TheConstants.{MOST_ACTS, PER_ACT, PER_PACKET}
+use Rattle.slave.proofs.TakingLemmas.{ChangesAt, channels-changed, ended-changed, out-changed, took-none, opened-changed}
+use Rattle.slave.proofs.OpenedLemmas.{none-ran, opening-by}
+use Rattle.xcp_base.specs.declared.limits.TheConstants.{MAX_TAKEN}
+use Rattle.slave.proofs.StandingLemmas.{few-opened}
 
 none_some : {X : Type 0} (x : X) → None ≡ Some x → ⊥
 none_some x e = cc
@@ -143,14 +151,15 @@ module _ {S T F : Type 0} (take : TakeGhosts T F) where
 
   -- what is left of the sampler of a part came back
   came-back : (a b : SlaveState S T) (c m : ℕ) (x y : ChannelState S T) (past : SamplerPast) → ChangesAt take a b c x y → b.outbox ≡ a.outbox
-      → ((log : List Act) → SlaveStandsAfter take a.session.profile a log → AccountStandsAfter b.account (record { past = past; deeds = deeds_of a.session.profile m c log } ∷ entries_of a.session.profile log) (λ l. 0)
+      → ((log : List Act) → PartsStandAfter take a.session.profile a log → AccountStandsAfter b.account (record { past = past; deeds = deeds_of a.session.profile m c log } ∷ entries_of a.session.profile log) (λ l. 0)
       × ComesBack a.session.profile log m c past
-      × ChannelHas take (opened log) (λ q. deeds_of a.session.profile q c log) y × IsOut (λ q. is_out q c (CameBack m c past ∷ log)) y)
-      → GoesBy take a b (CameBack m c past ∷ [])
+      × ChannelHas take (opened log) (λ q. deeds_of a.session.profile q c log) y × IsOut (λ q. is_out q c (CameBack m c past ∷ log)) y
+      × AreOpenedAfter a.session.profile (λ q. past_at a.session.profile q log) c y)
+      → PartsGoBy take a b (CameBack m c past ∷ [])
   came-back a b c m x y past changes outbox known = λ log few stands.
       let d = a.session.profile in
       let has = stands.has in
-      let (account, comes, here, out) = known log stands in
+      let (account, comes, here, out, opens) = known log stands in
       record {
         has = record {
           few = omega (arith, few);
@@ -164,6 +173,7 @@ module _ {S T F : Type 0} (take : TakeGhosts T F) where
           channels = channels-changed take (opened log) (λ k q. deeds_of d q k log) (λ k q. deeds_of d q k log) a b c x y changes (λ k q other. refl) here has.channels;
           out = out-changed take (λ k q. is_out q k log) (λ k q. is_out q k (CameBack m c past ∷ log)) a b c x y changes
               (λ k q other. ap (λ e. has_part q k log && not e) (elsewhere m q c k (is_back q k log) (λ e. other (sym e)))) out has.out;
+          opens = opened-changed take d (λ q. past_at d q log) a b c x y changes opens has.opens;
           many = changes.as_many ∙ has.many;
           plan = changes.plan ∙ has.plan;
           account = account;
@@ -171,6 +181,13 @@ module _ {S T F : Type 0} (take : TakeGhosts T F) where
         };
         ended = ended-changed take a b c x y (past_of d log) changes stands.ended;
       }
+
+module _ {E T F : Type 0} {ring : EndGhosts E} (take : TakeGhosts T F) where
+  -- the opening of what came back, by the log
+  opening-of : (d : Profile) (log : List Act) (c : ℕ) (f : FinishedState E T) (past : SamplerPast) → IsLog d log → f.number < opened log → IsOpenedAfter d (past_at d f.number log) c f.opened → IsPastOf ring take f past
+      → IsOpeningAfter d (past_at d f.number log) c past.opening
+  opening-of d log c f past is_log there opens is =
+      opening-by d f.opened.store (past_at d f.number log) c past.opening opens.store opens.profile (none-ran d f.number log is_log there) (subst (λ k. IsOpeningOf f.opened.store k past.opening) opens.channel is.opens)
 
 module _ {S E T F : Type 0} (send : SendGhosts S E) (ring : EndGhosts E) (take : TakeGhosts T F) where
   -- what the account gained
@@ -194,6 +211,13 @@ module _ {S E T F : Type 0} (send : SendGhosts S E) (ring : EndGhosts E) (take :
   back-stands (Some a) None f back deeds part = elim back [ ]
   back-stands (Some a) (Some s) f back deeds part = subst (λ k. StandsAfter take f.intake (deeds k)) (sym back.number) (back.follows.stands (deeds s.number) (part s refl))
 
+  -- what came back was opened as its part
+  back-opened : (o : Option (AwayState S)) (p : Option (ShareState T)) (f : FinishedState E T) → IsBackOf send ring take o p f → (P : ℕ → OpenedState → Type 0)
+      → ((s : ShareState T) → p ≡ Some s → P s.number s.opened) → P f.number f.opened
+  back-opened None p f back P part = elim back [ ]
+  back-opened (Some a) None f back P part = elim back [ ]
+  back-opened (Some a) (Some s) f back P part = subst (λ k. P k f.opened) (sym back.number) (subst (P s.number) (sym back.opened) (part s refl))
+
   older-gone : (x y : ChannelState S T) (answer : Option (FinishedState E T)) → GivesBackOlder send ring take answer x y → (p : ShareState T) → y.older ≡ Some p → x.older ≡ Some p
   older-gone x y None gives p is = sym (gives.none refl).0 ∙ is
   older-gone x y (Some f) gives p is = absurd (none_some p (sym (gives.some refl).1 ∙ is))
@@ -213,7 +237,7 @@ module _ {S E T F : Type 0} (send : SendGhosts S E) (ring : EndGhosts E) (take :
   newer-off x y (Some f) gives off = ap takes_orders (gives.some refl).0
 
   pub gives-older : (v w : SlaveState S T) (xs : List (ChannelState S T)) (account : List Totals) (c : ℕ) (answer : Option (FinishedState E T)) → w ≡ v → Notes ring take w.account account answer → c < length w.channels
-      → IsOnlyAt (GivesBackOlder send ring take answer) c w.channels xs → GivesBack take ring v (record w { channels = xs; account = account }) c answer
+      → IsOnlyAt (GivesBackOlder send ring take answer) c w.channels xs → GivesBackBy take (PartsGoBy take) ring v (record w { channels = xs; account = account }) c answer
   gives-older v w xs account c answer same notes below only =
       let (x, was) = some-at w.channels c below in
       let (y, is) = some-at xs c (omega (arith, below, only.as_many)) in
@@ -223,15 +247,23 @@ module _ {S E T F : Type 0} (send : SendGhosts S E) (ring : EndGhosts E) (take :
       let link : y.link.newer ≡ x.link.newer = ap (λ (l : LinkState S). l.newer) one.rest.0 in
       let changes : ChangesAt take w b c x y = record { was = was; is = is; others = only.others; as_many = only.as_many; quiet = λ off. ap takes_orders link ∙ off; session = refl; plan = refl; number = refl } in
       let back = λ (f : FinishedState E T) (at : answer ≡ Some f). if-some (IsBackOf send ring take x.link.older x.older) answer f one.back at in
-      let intake = λ (f : FinishedState E T) (at : answer ≡ Some f) (log : List Act) (stands : SlaveStandsAfter take d w log).
+      let intake = λ (f : FinishedState E T) (at : answer ≡ Some f) (log : List Act) (stands : PartsStandAfter take d w log).
       back-stands x.link.older x.older f (back f at) (λ m. deeds_of d m c log) (λ s there. ((stands.has.channels c x was).older s there).0.stands) in
-      subst (λ (z : SlaveState S T). GivesBack take ring z b c answer) same
+      let opens = λ (f : FinishedState E T) (at : answer ≡ Some f) (log : List Act) (stands : PartsStandAfter take d w log).
+      back-opened x.link.older x.older f (back f at) (λ m o. IsOpenedAfter d (past_at d m log) c o) (stands.has.opens c x was).older in
+      subst (λ (z : SlaveState S T). GivesBackBy take (PartsGoBy take) ring z b c answer) same
       (record {
         session = refl;
         outbox = refl;
         as_many = only.as_many;
+        number = refl;
         none = λ nothing.
-            took-none take w b c x y (Unit {0}) changes (record { newer = ap (λ (o : Option (ShareState T)). number_of o) one.rest.1; older = ap (λ (o : Option (ShareState T)). number_of o) (one.none nothing).0 }) refl (note-none w.account account answer notes nothing) (λ log z. tt)
+            took-none take w b c x y (Unit {0}) changes (record {
+              newer = ap (λ (o : Option (ShareState T)). number_of o) one.rest.1;
+              older = ap (λ (o : Option (ShareState T)). number_of o) (one.none nothing).0;
+              newer_opened = ap (λ (o : Option (ShareState T)). opened_of o) one.rest.1;
+              older_opened = ap (λ (o : Option (ShareState T)). opened_of o) (one.none nothing).0;
+            }) refl (note-none w.account account answer notes nothing) (λ log z. tt)
             (λ n f u has. channel-without-older take n f x y (older-gone x y answer one) one.rest.1 link has);
         some = told _ answer
             (λ f at past is_past.
@@ -247,20 +279,46 @@ module _ {S E T F : Type 0} (send : SendGhosts S E) (ring : EndGhosts E) (take :
                 there = omega (arith, part.0.there, number);
                 once = out-back f.number c log (out.older f.number of_part);
                 over = λ e. absurd (omega (arith, e, part.1, number));
+                opens = opening-of take d log c f past stands.has.is_log (omega (arith, part.0.there, number)) (opens f at log stands) is_past;
                 plans = is_past.plans;
+                decided = is_past.stands.decisions;
                 front = is_past.front (deeds_of d f.number c log) (intake f at log stands);
                 marks = is_past.marks (deeds_of d f.number c log) (intake f at log stands);
               },
               channel-without-older take (opened log) (λ m. deeds_of d m c log) x y (older-gone x y answer one) one.rest.1 link has,
               subst (λ k. IsOut (λ q. has_part q c log && not ((nat_eq k q && nat_eq c c) || is_back q c log)) y) (sym number)
                   (out-without-older take (opened log) (λ m. deeds_of d m c log) x y s c (λ q. has_part q c log) (λ q. is_back q c log) there (one.some (is-some answer f at)).1 one.rest.1 has out),
+              record { newer = λ p is. (stands.has.opens c x was).newer p (sym one.rest.1 ∙ is); older = λ p is. (stands.has.opens c x was).older p (older-gone x y answer one p is) },
             )));
         finished = told (IsFinishedOf take w c) answer (λ f at log stands. intake f at log stands);
+        opened = told (IsOpenedThere take w c) answer (λ f at log stands. opens f at log stands);
       })
 
-  pub gives-newer : (v w : SlaveState S T) (xs : List (ChannelState S T)) (account : List Totals) (c : ℕ) (answer : Option (FinishedState E T)) → w ≡ v → Notes ring take w.account account answer → Idle w.session → c < length w.channels
-      → IsOnlyAt (GivesBackNewer send ring take answer) c w.channels xs → GivesBack take ring v (record w { channels = xs; account = account }) c answer
-  gives-newer v w xs account c answer same notes idle below only =
+  -- of the last measurement with a part at an event channel, which is over, no orders are taken; and if it is the newest, no list runs
+  over-now : (s : SlaveState S T) (c : ℕ) (x : ChannelState S T) → IsOver s c → slice_get s.channels c ≡ Some x → (log : List Act) → PartsStandAfter take s.session.profile s log
+      → (takes_orders x.link.newer ≡ false) × ((k : ℕ) → number_of x.newer ≡ Some k → k + 1 ≡ opened log → NoneRuns (past_of s.session.profile log))
+  over-now s c x over was log stands =
+      let past = past_of s.session.profile log in
+      elim over [
+        | inl idle ↦ (stands.ended (idle past stands.has.session) c x was, λ k at e. idle past stands.has.session)
+        | inr before ↦
+            let kept = before.kept x was in
+            let (p, there, number) = part-of x.newer before.number kept in
+            let other = λ (e : before.number + 1 ≡ opened log). before.other (whole before.number (opened log) (length log) (few-opened log) stands.has.few e ∙ sym stands.has.number) in (
+              is-off (takes_orders x.link.newer) (λ on. other (ap (λ k. k + 1) (sym number) ∙ (stands.has.channels c x was).newest on p there)),
+              λ k at e. absurd (other (ap (λ j. j + 1) (some_same before.number k (sym kept ∙ at)) ∙ e)),
+            )
+      ] where
+        whole : (m n k : ℕ) → n ≤ k → 32 * k ≤ MAX_TAKEN → m + 1 ≡ n → (m + 1) % 18446744073709551616 ≡ n
+        whole m n k least few e = omega (arith, least, few, e)
+
+        is-off : (b : Bool) → (b ≡ true → ⊥) → b ≡ false
+        is-off true never = absurd (never refl)
+        is-off false never = refl
+
+  pub gives-newer : (v w : SlaveState S T) (xs : List (ChannelState S T)) (account : List Totals) (c : ℕ) (answer : Option (FinishedState E T)) → w ≡ v → Notes ring take w.account account answer → IsOver w c → c < length w.channels
+      → IsOnlyAt (GivesBackNewer send ring take answer) c w.channels xs → GivesBackBy take (PartsGoBy take) ring v (record w { channels = xs; account = account }) c answer
+  gives-newer v w xs account c answer same notes over below only =
       let (x, was) = some-at w.channels c below in
       let (y, is) = some-at xs c (omega (arith, below, only.as_many)) in
       let one = only.here x y was is in
@@ -268,16 +326,25 @@ module _ {S E T F : Type 0} (send : SendGhosts S E) (ring : EndGhosts E) (take :
       let b : SlaveState S T = record w { channels = xs; account = account } in
       let changes : ChangesAt take w b c x y = record { was = was; is = is; others = only.others; as_many = only.as_many; quiet = λ off. newer-off x y answer one off; session = refl; plan = refl; number = refl } in
       let back = λ (f : FinishedState E T) (at : answer ≡ Some f). if-some (IsBackOf send ring take x.link.newer x.newer) answer f one.back at in
-      let intake = λ (f : FinishedState E T) (at : answer ≡ Some f) (log : List Act) (stands : SlaveStandsAfter take d w log).
+      let intake = λ (f : FinishedState E T) (at : answer ≡ Some f) (log : List Act) (stands : PartsStandAfter take d w log).
       back-stands x.link.newer x.newer f (back f at) (λ m. deeds_of d m c log) (λ s there. ((stands.has.channels c x was).newer s there).stands) in
-      let ended = λ (log : List Act) (stands : SlaveStandsAfter take d w log). stands.ended (idle (past_of d log) stands.has.session) c x was in
-      subst (λ (z : SlaveState S T). GivesBack take ring z b c answer) same
+      let opens = λ (f : FinishedState E T) (at : answer ≡ Some f) (log : List Act) (stands : PartsStandAfter take d w log).
+      back-opened x.link.newer x.newer f (back f at) (λ m o. IsOpenedAfter d (past_at d m log) c o) (stands.has.opens c x was).newer in
+      let now = over-now w c x over was in
+      let ended = λ (log : List Act) (stands : PartsStandAfter take d w log). (now log stands).0 in
+      subst (λ (z : SlaveState S T). GivesBackBy take (PartsGoBy take) ring z b c answer) same
       (record {
         session = refl;
         outbox = refl;
         as_many = only.as_many;
+        number = refl;
         none = λ nothing.
-            took-none take w b c x y (takes_orders x.link.newer ≡ false) changes (record { newer = ap (λ (o : Option (ShareState T)). number_of o) (one.none nothing).0; older = ap (λ (o : Option (ShareState T)). number_of o) one.rest.1 }) refl (note-none w.account account answer notes nothing) ended
+            took-none take w b c x y (takes_orders x.link.newer ≡ false) changes (record {
+              newer = ap (λ (o : Option (ShareState T)). number_of o) (one.none nothing).0;
+              older = ap (λ (o : Option (ShareState T)). number_of o) one.rest.1;
+              newer_opened = ap (λ (o : Option (ShareState T)). opened_of o) (one.none nothing).0;
+              older_opened = ap (λ (o : Option (ShareState T)). opened_of o) one.rest.1;
+            }) refl (note-none w.account account answer notes nothing) ended
             (λ n f off has. channel-without-newer take n f x y off (newer-off x y answer one off) (newer-gone x y answer one) one.rest.1 has);
         some = told _ answer
             (λ f at past is_past.
@@ -293,14 +360,52 @@ module _ {S E T F : Type 0} (send : SendGhosts S E) (ring : EndGhosts E) (take :
               record {
                 there = omega (arith, part.there, number);
                 once = out-back f.number c log (out.newer f.number of_part);
-                over = λ e. idle (past_of d log) stands.has.session;
+                over = λ e. (now log stands).1 f.number of_part e;
+                opens = opening-of take d log c f past stands.has.is_log (omega (arith, part.there, number)) (opens f at log stands) is_past;
                 plans = is_past.plans;
+                decided = is_past.stands.decisions;
                 front = is_past.front (deeds_of d f.number c log) (intake f at log stands);
                 marks = is_past.marks (deeds_of d f.number c log) (intake f at log stands);
               },
               channel-without-newer take (opened log) (λ m. deeds_of d m c log) x y off (newer-off x y answer one off) (newer-gone x y answer one) one.rest.1 has,
               subst (λ k. IsOut (λ q. has_part q c log && not ((nat_eq k q && nat_eq c c) || is_back q c log)) y) (sym number)
                   (out-without-newer take (opened log) (λ m. deeds_of d m c log) x y s c (λ q. has_part q c log) (λ q. is_back q c log) there (one.some (is-some answer f at)).1 one.rest.1 has out),
+              record { newer = λ p is. (stands.has.opens c x was).newer p (newer-gone x y answer one p is); older = λ p is. (stands.has.opens c x was).older p (sym one.rest.1 ∙ is) },
             )));
         finished = told (IsFinishedOf take w c) answer (λ f at log stands. intake f at log stands);
+        opened = told (IsOpenedThere take w c) answer (λ f at log stands. opens f at log stands);
       })
+
+module _ {S E T F : Type 0} (ring : EndGhosts E) (take : TakeGhosts T F) where
+  -- what came back and was counted
+  pub gives-counted : (a b : SlaveState S T) (c : ℕ) (f : FinishedState E T) → a.acts < MOST_ACTS + PER_PACKET → b.acts ≡ a.acts
+      → GivesBackBy take (PartsGoBy take) ring a b c (Some f) → GivesBack take ring a (counting b PER_ACT) c (Some f)
+  gives-counted a b c f fits same gives = record {
+    session = gives.session;
+    outbox = gives.outbox;
+    as_many = gives.as_many;
+    number = gives.number;
+    none = λ is. counted take a (counting b PER_ACT) [] fits (omega arith) (omega (arith, same)) (recounted take a b [] PER_ACT (gives.none is));
+    some = λ past is.
+        counted take a (counting b PER_ACT) (CameBack f.number c past ∷ []) fits (omega arith) (omega (arith, same)) (recounted take a b (CameBack f.number c past ∷ []) PER_ACT (gives.some past is));
+    finished = gives.finished;
+    opened = gives.opened;
+  }
+
+  -- nothing came back, and nothing was counted
+  pub gives-none : (a b : SlaveState S T) (c : ℕ) → a.acts < MOST_ACTS + PER_PACKET → b.acts ≡ a.acts
+      → GivesBackBy take (PartsGoBy take) ring a b c None → GivesBack take ring a b c None
+  gives-none a b c fits same gives = record {
+    session = gives.session;
+    outbox = gives.outbox;
+    as_many = gives.as_many;
+    number = gives.number;
+    none = λ is. counted take a b [] fits (omega arith) (omega (arith, same)) (gives.none is);
+    some = tt;
+    finished = tt;
+    opened = tt;
+  }
+
+  -- nothing was looked at
+  pub gives-nothing : (a : SlaveState S T) (c : ℕ) → GivesBack take ring a a c None
+  gives-nothing a c = record { session = refl; outbox = refl; as_many = refl; number = refl; none = λ is log stands. stands; some = tt; finished = tt; opened = tt }

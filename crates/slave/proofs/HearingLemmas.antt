@@ -1,5 +1,5 @@
 -- What a slave stands after once a packet was heard.
-use Rattle.std.proofs.Common.{◌≡◌, ℕ, ◌<◌, List, [], ◌∷◌, ◌++◌, ◌&&◌, length, length-append, slice_get, refl, sym, ap, ◌∙◌, subst, arith, inl, inr, Err}
+use Rattle.std.proofs.Common.{◌≡◌, ℕ, ◌+◌, ◌≤◌, ◌<◌, List, [], ◌∷◌, ◌++◌, ◌&&◌, length, length-append, slice_get, refl, sym, ap, ◌∙◌, subst, arith, inl, inr, Err}
 use Rattle.std.specs.Prelude.{Some}
 use Rattle.xcp_base.specs.Lists.{has_list}
 use Rattle.xcp_base.specs.declared.err_code.ErrCode.{ErrCode}
@@ -11,14 +11,16 @@ use Rattle.session.specs.Standing.{SessionStandsAfter, SessionState}
 use Rattle.session.specs.Exchanges.{Exchange}
 use Rattle.session.specs.Starts.{is_on, starts}
 use Rattle.slave_channel.specs.Channels.{ChannelState}
-use Rattle.slave.specs.Hearing.{FindsNoPlaces, Hears, most_before}
+use Rattle.slave.specs.Hearing.{FindsNoPlaces, GoesBy, Hears, most_before, HasNoRoom, IsIdleRefusal}
 use Rattle.session.specs.declared.profile.Profile.{Profile}
-use Rattle.slave.specs.Inner.{Answers, AreAsOpened, HasOther, HasParts, IsOfOne, LaysReply, Prepares, SlaveStarted, StartsInVain, WantsPlaces}
+use Rattle.slave.specs.Inner.{Answers, PartsGoBy, counting, AreAsOpened, HasOther, HasParts, IsOfOne, LaysReply, Prepares, SlaveStarted, StartsInVain, WantsPlaces}
 use Rattle.session_account.specs.Accounts.{AccountStandsAfter}
 use Rattle.slave.specs.Log.{Act, Heard, Refused, entries_of, laid, past_of, reply_laid, sent_of}
-use Rattle.slave.specs.Standing.{SlaveStandsAfter, SlaveState, StartsOther, StartsWell}
+use Rattle.slave.specs.Standing.{PartsStandAfter, SlaveState, StartsOther, StartsWell}
 use Rattle.slave.proofs.AnsweringLemmas.{reply-laid}
 use Rattle.slave.proofs.StartLemmas.{starts-list}
+use Rattle.slave.proofs.WeightLemmas.{counted, recounted}
+use Rattle.slave.specs.declared.limits.TheConstants.{MOST_ACTS, PER_PACKET}
 
 pub assoc : (a b c : List Act) → (a ++ b) ++ c ≡ a ++ (b ++ c)
 assoc [] b c = refl
@@ -57,18 +59,41 @@ module _ {S T : Type 0} where
         channel = none.channel;
         set = none.set;
         state = none.state;
-        are = λ l below. wants.are past stands none.channel none.set none.lists_are l below ∙ ap (λ x. x && is_on a.session.profile past none.channel l) (are l below);
+        are = λ l below. (wants.are none.channel none.set none.lists_are).is past stands l below ∙ ap (λ x. x && is_on a.session.profile past none.channel l) (are l below);
         some = none.some;
         state_is = ap (λ xs. slice_get xs none.channel) channels ∙ none.state_is;
         cannot = none.cannot;
       }
 
+module _ {S T : Type 0} where
+  -- a refusal where no list runs speaks of the event channels alone
+  idle-refused : (d : Profile) (past : Past) (number : ℕ) (k b : SlaveState S T) (code : ErrCode) (opening : List Act) → b.channels ≡ k.channels
+      → IsIdleRefusal d past number k code opening → IsIdleRefusal d past number b code opening
+  idle-refused d past number k b code opening channels is =
+      let back : HasNoRoom d past b → HasNoRoom d past k =
+      λ two. record { channel = two.channel; list = two.list; state = two.state; below = two.below; ready = two.ready; state_is = ap (λ xs. slice_get xs two.channel) (sym channels) ∙ two.state_is; two = two.two }
+      in
+      record {
+        unopened = λ none. (
+          λ busy.
+              let two = (is.unopened none).0 busy in
+              record { channel = two.channel; list = two.list; state = two.state; below = two.below; ready = two.ready; state_is = ap (λ xs. slice_get xs two.channel) channels ∙ two.state_is; two = two.two },
+          λ two. (is.unopened none).1 (back two),
+        );
+        ended = λ some two. is.ended some (back two);
+      }
+
 module _ {S T F : Type 0} (take : TakeGhosts T F) where
+  goes-counted : (a b : SlaveState S T) (act : Act) (opening : List Act) → a.acts < MOST_ACTS + PER_PACKET → b.acts ≡ a.acts → length opening ≤ most_before
+      → PartsGoBy take a b (act ∷ opening) → GoesBy take a (counting b PER_PACKET) (act ∷ opening)
+  goes-counted a b act opening fits counts few goes =
+      counted take a (counting b PER_PACKET) (act ∷ opening) fits (omega (arith, few)) (omega (arith, counts, few)) (recounted take a b (act ∷ opening) PER_PACKET goes)
+
   -- a packet whose lists were started was answered
-  pub heard : (a k b : SlaveState S T) (lists : ℕ) (packet : List ℕ) (clock : ℕ) → Prepares take most_before a k lists → k.session ≡ a.session
+  pub heard : (a k b : SlaveState S T) (lists : ℕ) (packet : List ℕ) (clock : ℕ) → Prepares take most_before a k lists → k.session ≡ a.session → b.acts ≡ a.acts → a.acts < MOST_ACTS + PER_PACKET
       → ((past : Past) → SessionStandsAfter a.session past → (l : ℕ) → l < MAX_LISTS → has_list lists l ≡ starts a.session.profile past packet l)
-      → Answers take k b packet clock → Hears take a b packet clock
-  heard a k b lists packet clock prepares same are answers =
+      → Answers take k b packet clock → Hears take a (counting b PER_PACKET) packet clock
+  heard a k b lists packet clock prepares same counts fits are answers =
       let d = a.session.profile in
       let profile : k.session.profile ≡ d = ap (λ (s : SessionState). s.profile) same in
       record {
@@ -79,13 +104,14 @@ module _ {S T F : Type 0} (take : TakeGhosts T F) where
         for_a_start = λ log stands.
             elim prepares.for_some [
               | inl none ↦ inl none
-              | inr some ↦ inr (some.0, some.1, sym (are (past_of d log) stands.has.session some.0 some.1) ∙ some.2)
+              | inr some ↦ inr (some.0, some.1, sym (are (past_of d log) stands.parts.has.session some.0 some.1) ∙ some.2)
             ];
         places = λ log stands run code is other. absurd (not-refused answers.exchange packet code is);
-        goes = λ log few stands.
+        when_idle = λ log stands none code is. absurd (not-refused answers.exchange packet code is);
+        goes = goes-counted a b (Heard answers.exchange) prepares.opening fits counts prepares.may_open.few (λ log few stands.
             let before = prepares.opening ++ log in
             let has = prepares.goes log (omega (arith, few)) stands in
-            subst (λ p. SlaveStandsAfter take p b (Heard answers.exchange ∷ before)) profile
+            subst (λ p. PartsStandAfter take p b (Heard answers.exchange ∷ before)) profile
             (answers.goes before lists (omega (arith, few, length-append prepares.opening log))
             (λ l below.
             are (past_of d before) (subst (λ s. SessionStandsAfter s (past_of d before)) same has.session) l below
@@ -93,14 +119,14 @@ module _ {S T F : Type 0} (take : TakeGhosts T F) where
             (subst (λ p. StartsWell p before packet) (sym profile)
             (starts-well d before packet lists (λ l below. are (past_of d before) (subst (λ s. SessionStandsAfter s (past_of d before)) same has.session) l below)
             (prepares.in_one log (omega (arith, few)) stands) (prepares.as_opened log (omega (arith, few)) stands) (prepares.has_parts log (omega (arith, few)) stands)))
-            (subst (λ p. SlaveStarted take p k before lists) (sym profile) has));
+            (subst (λ p. SlaveStarted take p k before lists) (sym profile) has)));
       }
 
   -- a start was refused
-  pub refused : (a k b : SlaveState S T) (lists : ℕ) (packet : List ℕ) (clock : ℕ) (code : ErrCode) → StartsInVain take most_before a k lists code → k.session ≡ a.session
+  pub refused : (a k b : SlaveState S T) (lists : ℕ) (packet : List ℕ) (clock : ℕ) (code : ErrCode) → StartsInVain take most_before a k lists code → k.session ≡ a.session → k.acts ≡ a.acts → a.acts < MOST_ACTS + PER_PACKET
       → ((past : Past) → SessionStandsAfter a.session past → (l : ℕ) → l < MAX_LISTS → has_list lists l ≡ starts a.session.profile past packet l)
-      → LaysReply k.outbox b.outbox (Some (packet_of (Err code))) → b ≡ record k { outbox = b.outbox } → Hears take a b packet clock
-  refused a k b lists packet clock code vain same are lays rest =
+      → LaysReply k.outbox b.outbox (Some (packet_of (Err code))) → b ≡ record k { outbox = b.outbox } → Hears take a (counting b PER_PACKET) packet clock
+  refused a k b lists packet clock code vain same counts fits are lays rest =
       let d = a.session.profile in
       let session : b.session ≡ k.session = ap (λ (s : SlaveState S T). s.session) rest in
       let channels : b.channels ≡ k.channels = ap (λ (s : SlaveState S T). s.channels) rest in
@@ -109,13 +135,16 @@ module _ {S T F : Type 0} (take : TakeGhosts T F) where
         opening = vain.opening;
         is = inr (code, refl, vain.is);
         may_open = vain.may_open;
-        for_a_start = λ log stands. inr (vain.some.0, vain.some.1, sym (are (past_of d log) stands.has.session vain.some.0 vain.some.1) ∙ vain.some.2);
+        for_a_start = λ log stands. inr (vain.some.0, vain.some.1, sym (are (past_of d log) stands.parts.has.session vain.some.0 vain.some.1) ∙ vain.some.2);
         places = λ log stands run named is other.
             let same-code = code-of packet code named is in
             let past = past_of d log in
-            let found = vain.places past stands.has.session run (λ e. other (sym same-code ∙ e)) in
-            (sym same-code ∙ found.0, finds a b lists packet past found.1 channels stands.has.session (λ l below. are past stands.has.session l below));
-        goes = λ log few stands.
+            let found = vain.places past stands.parts.has.session run (λ e. other (sym same-code ∙ e)) in
+            (sym same-code ∙ found.0, finds a (counting b PER_PACKET) lists packet past found.1 channels stands.parts.has.session (λ l below. are past stands.parts.has.session l below));
+        when_idle = λ log stands none named is.
+            idle-refused a.session.profile (past_of d log) a.number k (counting b PER_PACKET) named vain.opening channels
+            (subst (λ z. IsIdleRefusal d (past_of d log) a.number k z vain.opening) (code-of packet code named is) (vain.when_idle (past_of d log) stands.parts.has.session none));
+        goes = goes-counted a b (Refused packet code) vain.opening fits (ap (λ (s : SlaveState S T). s.acts) rest ∙ counts) vain.may_open.few (λ log few stands.
             let before = vain.opening ++ log in
             let was = vain.goes log (omega (arith, few)) stands in
             let has = was.has in
@@ -139,11 +168,12 @@ module _ {S T F : Type 0} (take : TakeGhosts T F) where
                 outbox = reply-laid k.outbox b.outbox reply (sent_of before) (laid d before) lays has.sent has.outbox;
                 channels = λ c ch at. has.channels c ch (ap (λ xs. slice_get xs c) (sym channels) ∙ at);
                 out = λ c ch at. has.out c ch (ap (λ xs. slice_get xs c) (sym channels) ∙ at);
+                opens = λ c ch at. has.opens c ch (ap (λ xs. slice_get xs c) (sym channels) ∙ at);
                 many = ap length channels ∙ has.many;
                 plan = ap (λ (s : SlaveState S T). s.plan) rest ∙ has.plan;
                 account = subst (λ x. AccountStandsAfter x (entries_of d before) (λ l. 0)) (sym (ap (λ (s : SlaveState S T). s.account) rest)) has.account;
                 number = ap (λ (s : SlaveState S T). s.number) rest ∙ has.number;
               };
               ended = λ none c ch at. was.ended none c ch (ap (λ xs. slice_get xs c) (sym channels) ∙ at);
-            };
+            });
       }

@@ -4,8 +4,18 @@ pub mod StartLemmas
 pub mod CollectingLemmas
 pub mod ClosingLemmas
 pub mod LogLemmas
+pub mod ToldLemmas
+pub mod ReplyLemmas
+pub mod DisguiseLemmas
+pub mod WithinLemmas
+pub mod ChangeLemmas
+pub mod StopLemmas
+pub mod KnownLemmas
+pub mod SessionLemmas
+pub mod StoryLemmas
 pub mod ChannelLemmas
 pub mod OpeningLemmas
+pub mod OpenedLemmas
 pub mod DeedLemmas
 pub mod OrderLemmas
 pub mod StandingLemmas
@@ -20,3 +30,5 @@ pub mod TakingLemmas
 pub mod SendingLemmas
 pub mod NewLemmas
 pub mod FinishingLemmas
+pub mod WeightLemmas
+pub mod RoundLemmas

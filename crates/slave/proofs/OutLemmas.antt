@@ -1,5 +1,5 @@
 -- What is kept of an event channel, by the numbers of its parts.
-use Rattle.std.proofs.Common.{◌≡◌, ◌≢◌, ℕ, zero, suc, ◌<◌, Bool, true, false, List, [], ◌∷◌, length, get_or, slice_get, refl, sym, ap, ◌∙◌, subst, arith, ◌⊎◌, inl, inr}
+use Rattle.std.proofs.Common.{◌≡◌, ◌≢◌, ℕ, zero, suc, ◌<◌, ◌≤◌, Bool, true, false, List, [], ◌∷◌, length, get_or, slice_get, refl, sym, ap, ◌∙◌, subst, arith, ◌⊎◌, inl, inr}
 use Rattle.std.specs.Prelude.{Option, Some, None}
 use Rattle.std.proofs.lemmas.Bool.Decides.{eqb_tells}
 use Rattle.std.proofs.lemmas.Option.{slice_get-get_or, slice_get_within}
@@ -10,11 +10,14 @@ use Rattle.channel_intake.specs.Deeds.{Deed}
 use Rattle.daq_store.specs.Standing.{StoreState}
 use Rattle.control_ring.specs.declared.order.Order.{Order}
 use Rattle.hand_over.specs.Newest.{one_before}
-use Rattle.slave_channel.specs.Channels.{ChannelState, Opens, ShareState}
+use Rattle.slave_channel.specs.Channels.{ChannelState, OpenedState, Opens, ShareState}
 use Rattle.slave_channel.specs.Ordering.{GoesOnBy, OrdersAll}
 use Rattle.slave_channels.specs.Calls.{Ends, Looks, OpensIfAny}
 use Rattle.slave_channels.specs.Each.{IsEach}
-use Rattle.slave.specs.Standing.{IsOut, number_of}
+use Rattle.session.specs.Past.{Past}
+use Rattle.session.specs.declared.profile.Profile.{Profile}
+use Rattle.slave.specs.Openings.{IsOpenedAfter}
+use Rattle.slave.specs.Standing.{AreOpenedAfter, IsOut, number_of}
 
 -- what an element was
 pub was-there : {X : Type 0} (old now : List X) (c : ℕ) (b : X) → length now ≡ length old → slice_get now c ≡ Some b → slice_get old c ≡ Some (get_or old c b)
@@ -29,14 +32,31 @@ some-at (x ∷ xs) (suc c) below = some-at xs c (omega (arith, below))
 some_inj : {X : Type 0} (x y : X) → Some x ≡ Some y → x ≡ y
 some_inj x y e = cc
 
+-- what a part was opened with, if it is there
+abbrev pub opened_of : {T : Type 0} → Option (ShareState T) → Option OpenedState
+opened_of None = None
+opened_of (Some p) = Some p.opened
+
 -- two states of an event channel that keep the same parts
 pub record KeepsParts {S T : Type 0} (a b : ChannelState S T) : Type 0 where
   pub newer : number_of b.newer ≡ number_of a.newer
   pub older : number_of b.older ≡ number_of a.older
+  pub newer_opened : opened_of b.newer ≡ opened_of a.newer
+  pub older_opened : opened_of b.older ≡ opened_of a.older
 
 number-before : {T : Type 0} (older newer : Option (ShareState T)) (m : ℕ) → number_of (one_before older newer) ≡ Some m → (number_of older ≡ Some m) ⊎ (number_of newer ≡ Some m)
 number-before older None m is = inl is
 number-before older (Some q) m is = inr is
+
+-- so it is of one of them
+part-opened : {T : Type 0} (P : ℕ → OpenedState → Type 0) (o p : Option (ShareState T)) → number_of p ≡ number_of o → opened_of p ≡ opened_of o → ((s : ShareState T) → o ≡ Some s → P s.number s.opened)
+    → (t : ShareState T) → p ≡ Some t → P t.number t.opened
+part-opened P None None number opened each t is = absurd cc
+part-opened P None (Some q) number opened each t is = absurd cc
+part-opened P (Some s) None number opened each t is = absurd cc
+part-opened P (Some s) (Some q) number opened each t is =
+    subst (λ (z : ShareState _). P z.number z.opened) (some_inj q t is)
+    (subst (λ n. P n q.opened) (sym (some_inj q.number s.number number)) (subst (P s.number) (sym (some_inj q.opened s.opened opened)) (each s refl)))
 
 module _ {S T : Type 0} where
   pub out-kept : (out : ℕ → Bool) (a b : ChannelState S T) → KeepsParts a b → IsOut out a → IsOut out b
@@ -62,19 +82,42 @@ module _ {S T : Type 0} where
   keeps-same a b same = record {
     newer = ap (λ (x : ChannelState S T). number_of x.newer) same;
     older = ap (λ (x : ChannelState S T). number_of x.older) same;
+    newer_opened = ap (λ (x : ChannelState S T). opened_of x.newer) same;
+    older_opened = ap (λ (x : ChannelState S T). opened_of x.older) same;
   }
 
   pub keeps-looks : (a b : ChannelState S T) → Looks a b → KeepsParts a b
   keeps-looks a b looks = record {
     newer = ap (λ (x : ChannelState S T). number_of x.newer) looks.rest;
     older = ap (λ (x : ChannelState S T). number_of x.older) looks.rest;
+    newer_opened = ap (λ (x : ChannelState S T). opened_of x.newer) looks.rest;
+    older_opened = ap (λ (x : ChannelState S T). opened_of x.older) looks.rest;
   }
 
   pub keeps-ends : (a b : ChannelState S T) → Ends a b → KeepsParts a b
   keeps-ends a b ends = record {
     newer = ap (λ (x : ChannelState S T). number_of x.newer) ends.parts;
     older = ap (λ (x : ChannelState S T). number_of x.older) ends.parts;
+    newer_opened = ap (λ (x : ChannelState S T). opened_of x.newer) ends.parts;
+    older_opened = ap (λ (x : ChannelState S T). opened_of x.older) ends.parts;
   }
+
+  -- what the parts were opened with is as it was
+  pub opened-kept : (d : Profile) (pasts : ℕ → Past) (c : ℕ) (a b : ChannelState S T) → KeepsParts a b → AreOpenedAfter d pasts c a → AreOpenedAfter d pasts c b
+  opened-kept d pasts c a b keeps is = record {
+    newer = part-opened (λ n o. IsOpenedAfter d (pasts n) c o) a.newer b.newer keeps.newer keeps.newer_opened is.newer;
+    older = part-opened (λ n o. IsOpenedAfter d (pasts n) c o) a.older b.older keeps.older keeps.older_opened is.older;
+  }
+
+  -- so at all event channels
+  pub opened-each : (R : ℕ → ChannelState S T → ChannelState S T → Type 0) (xs ys : List (ChannelState S T)) (d : Profile) (pasts : ℕ → Past) → IsEach R xs ys
+      → ((c : ℕ) (a b : ChannelState S T) → R c a b → KeepsParts a b)
+      → ((c : ℕ) (ch : ChannelState S T) → slice_get xs c ≡ Some ch → AreOpenedAfter d pasts c ch)
+      → (c : ℕ) (ch : ChannelState S T) → slice_get ys c ≡ Some ch → AreOpenedAfter d pasts c ch
+  opened-each R xs ys d pasts each keeps is c ch at =
+      let old = get_or xs c ch in
+      let was = was-there xs ys c ch each.as_many at in
+      opened-kept d pasts c old ch (keeps c old ch (each.each c old ch was at)) (is c old was)
 
   -- so at all event channels
   pub out-each : (R : ℕ → ChannelState S T → ChannelState S T → Type 0) (xs ys : List (ChannelState S T)) (out : ℕ → ℕ → Bool) → IsEach R xs ys
@@ -93,11 +136,19 @@ module _ {T F : Type 0} (take : TakeGhosts T F) where
   goes-number (Some s) None ds goes = elim goes [ ]
   goes-number (Some s) (Some t) ds goes = ap Some goes.0
 
+  goes-opened : (a b : Option (ShareState T)) (ds : List Deed) → GoesOnBy take a b ds → opened_of b ≡ opened_of a
+  goes-opened None None ds goes = refl
+  goes-opened None (Some t) ds goes = elim goes [ ]
+  goes-opened (Some s) None ds goes = elim goes [ ]
+  goes-opened (Some s) (Some t) ds goes = ap Some goes.2
+
 module _ {S T F : Type 0} (take : TakeGhosts T F) where
   pub keeps-orders : (a b : ChannelState S T) (os : List Order) (ds : List Deed) → OrdersAll take a b os ds → KeepsParts a b
   keeps-orders a b os ds orders = record {
     newer = goes-number take a.newer b.newer ds orders.newer;
     older = ap (λ (o : Option (ShareState T)). number_of o) orders.older;
+    newer_opened = goes-opened take a.newer b.newer ds orders.newer;
+    older_opened = ap (λ (o : Option (ShareState T)). opened_of o) orders.older;
   }
 
 -- a choice at each place of a list
@@ -113,22 +164,27 @@ is-left (inr b) = false
 pub record Chosen {X : Type 0} (ys : List X) (P Q : ℕ → X → Type 0) : Type 0 where
   pub at : ℕ → Bool
   pub each : (c : ℕ) (x : X) → slice_get ys c ≡ Some x → ((at c ≡ true) × P c x) ⊎ ((at c ≡ false) × Q c x)
+  pub beyond : (c : ℕ) → length ys ≤ c → at c ≡ false
 
 one-chosen : {A B : Type 0} (w : A ⊎ B) → ((is-left w ≡ true) × A) ⊎ ((is-left w ≡ false) × B)
 one-chosen (inl a) = inl (refl, a)
 one-chosen (inr b) = inr (refl, b)
 
 pub choose : {X : Type 0} (ys : List X) (P Q : ℕ → X → Type 0) → ((c : ℕ) (x : X) → slice_get ys c ≡ Some x → P c x ⊎ Q c x) → Chosen ys P Q
-choose [] P Q each = record { at = λ c. false; each = λ c x at. absurd (nothing x at) } where
+choose [] P Q each = record { at = λ c. false; each = λ c x at. absurd (nothing x at); beyond = λ c least. refl } where
   nothing : {X : Type 0} (x : X) → None ≡ Some x → ⊥
   nothing x e = cc
 choose {X} (y ∷ ys) P Q each =
     let rest = choose ys (λ c. P (suc c)) (λ c. Q (suc c)) (λ c x at. each (suc c) x at) in
-    record { at = with_first (is-left (each 0 y refl)) rest.at; each = all rest } where
+    record { at = with_first (is-left (each 0 y refl)) rest.at; each = all rest; beyond = none rest } where
       all : (rest : Chosen ys (λ c. P (suc c)) (λ c. Q (suc c))) (c : ℕ) (x : X) → slice_get (y ∷ ys) c ≡ Some x
           → ((with_first (is-left (each 0 y refl)) rest.at c ≡ true) × P c x) ⊎ ((with_first (is-left (each 0 y refl)) rest.at c ≡ false) × Q c x)
       all rest zero x at = subst (λ z. ((is-left (each 0 y refl) ≡ true) × P 0 z) ⊎ ((is-left (each 0 y refl) ≡ false) × Q 0 z)) (some_inj y x at) (one-chosen (each 0 y refl))
       all rest (suc c) x at = rest.each c x at
+
+      none : (rest : Chosen ys (λ c. P (suc c)) (λ c. Q (suc c))) (c : ℕ) → length (y ∷ ys) ≤ c → with_first (is-left (each 0 y refl)) rest.at c ≡ false
+      none rest zero least = absurd (omega (arith, least))
+      none rest (suc c) least = rest.beyond c (omega (arith, least))
 
 -- the part that was kept before is kept behind another, where there was room
 before-kept : {T : Type 0} (older newer : Option (ShareState T)) (m : ℕ) → (older ≡ None) ⊎ (newer ≡ None)
@@ -185,6 +241,10 @@ module _ {S E T F : Type 0} (send : SendGhosts S E) (ring : EndGhosts E) (take :
     pub opened : ChannelState S T
     pub opens : Opens send ring take a opened s c cap n
     pub keeps : KeepsParts opened b
+
+  -- it has the number of the measurement
+  pub new-number : (s : StoreState) (n c : ℕ) (a b : ChannelState S T) → HasNew s n c a b → number_of b.newer ≡ Some n
+  new-number s n c a b new = new.keeps.newer ∙ ap (λ (o : Option (ShareState T)). number_of o) new.opens.newer ∙ ap Some new.opens.number_is
 
   pub out-new : (out now : ℕ → Bool) (s : StoreState) (n c : ℕ) (a b : ChannelState S T) → HasNew s n c a b
       → now n ≡ true → ((m : ℕ) → m ≢ n → now m ≡ out m) → IsOut out a → IsOut now b

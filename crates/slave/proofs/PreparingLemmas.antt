@@ -1,6 +1,6 @@
 -- What a slave stands after once lists were started, or were not.
-use Rattle.std.proofs.Common.{◌≡◌, ℕ, zero, suc, ◌+◌, ◌-◌, ◌*◌, ◌%◌, ◌<◌, ◌≤◌, Bool, true, false, List, [], ◌∷◌, length, get_or, drop, take as first, slice_get, refl, sym, ap, ◌∙◌, subst, arith, inl, inr}
-use Rattle.std.specs.Prelude.{Some, IfErr, OnErr, OnOk, Result, Ok, Err}
+use Rattle.std.proofs.Common.{◌≡◌, ◌≢◌, ℕ, zero, suc, ◌+◌, ◌*◌, ◌%◌, ◌<◌, ◌≤◌, Bool, true, false, ◌&&◌, ◌||◌, List, [], ◌∷◌, length, get_or, take as first, slice_get, refl, sym, ap, ◌∙◌, subst, arith, inl, inr}
+use Rattle.std.specs.Prelude.{Option, Some, IfErr, OnErr, OnOk, Result, Ok, Err}
 use Rattle.std.proofs.lemmas.List.{length-take}
 use Rattle.std.proofs.lemmas.Bool.{false≢true}
 use Rattle.xcp_base.specs.Lists.{has_list}
@@ -13,23 +13,30 @@ use Rattle.daq_store.specs.Configuration.{Configuration}
 use Rattle.daq_store.specs.Standing.{StoreState}
 use Rattle.session.specs.Standing.{SessionStandsAfter, SessionState}
 use Rattle.session.specs.declared.profile.Profile.{Profile}
-use Rattle.frame_outbox.specs.Outboxes.{StandsAfter as OutboxStandsAfter}
-use Rattle.session_account.specs.Accounts.{AccountStandsAfter}
-use Rattle.slave_channel.specs.Channels.{ChannelState}
-use Rattle.slave_channels.specs.Calls.{CanStartAll, Ends, Looks, OpensAt, OpenedAndEnded, StartsAt}
+use Rattle.slave_channel.specs.Channels.{ChannelState, keeps_two}
+use Rattle.slave_channels.specs.Calls.{CanStartAll, HasSome, Looks, OpensAt, OpenedAndEnded, StartsAt}
 use Rattle.slave_channels.specs.Each.{IsEach}
-use Rattle.slave.specs.Hearing.{MayOpen, most_before}
+use Rattle.slave.specs.Hearing.{MayOpen, most_before, HasNoRoom, IsIdleRefusal}
+use Rattle.slave.specs.Openings.{capacities_of, past_at}
 use Rattle.slave.specs.Plans.{IsSame, plan_of}
 use Rattle.slave.proofs.PlanLemmas.{as-opened, is-same, just-opened}
 use Rattle.session.specs.Profiles.{lists_of}
 use Rattle.xcp_base.specs.declared.err_code.ErrCode.TheVariants.{CmdBusy, MemoryOverflow, Sequence}
-use Rattle.slave.specs.Inner.{AreSets, Busy, HasParts, HasSome, Idle, IsBusy, IsPlaceRefusal, LooksAtAll, OpensAll, OpensInVain, OpensNone, Prepares, SlaveStarted, StartsInVain, StartsLists}
+use Rattle.slave.specs.Inner.{AreSets, Busy, HasParts, HasRoom, Idle, IsBusy, IsPlaceRefusal, LooksAtAll, OpensAll, OpensInVain, OpensNone, Prepares, SlaveStarted, StartsInVain, StartsLists, WantsRoom, AreJustOut}
 use Rattle.slave.specs.Log.{Act, Opened, deeds_of, entries_of, is_out, laid, opened, past_of, sent_of}
-use Rattle.slave.specs.Standing.{NoneRuns, SlaveHas, SlaveStandsAfter, SlaveState}
+use Rattle.slave.specs.Standing.{NoneRuns, SlaveHas, PartsStandAfter, SlaveState, number_of}
 use Rattle.slave.proofs.ChannelLemmas.{channel-ends, takes-ended}
 use Rattle.slave.proofs.LogLemmas.{ties}
-use Rattle.slave.proofs.StandingLemmas.{looks-at-all, looks-ended, opens-all, opens-in-vain, parts-all, parts-there, parts-vain, starts-all, starts-no-list, starts-parts}
-use Rattle.slave.proofs.OutLemmas.{keeps-ends, out-each, was-there}
+use Rattle.slave.proofs.StandingLemmas.{looks-at-all, looks-ended, opens-all, opens-in-vain, parts-all, parts-vain, starts-all, starts-no-list, starts-parts, Parts, are-parts, has-some, there-is}
+use Rattle.slave.proofs.OutLemmas.{keeps-ends, opened-each, out-each, was-there, new-number}
+use Rattle.slave.proofs.DeedLemmas.{opened-more}
+use Rattle.session.specs.Past.{Past}
+use Rattle.session.specs.Starts.{is_on, shows_on}
+use Rattle.sampler.specs.State.{SamplerState}
+use Rattle.tasks.specs.Links.{AwayState, CanStart, just_out, runs_of}
+use Rattle.tasks.proofs.NeedLemmas.{how_many-le}
+use Rattle.slave_channels.proofs.CallLemmas.{looks-same}
+use Rattle.std.proofs.lemmas.Option.{slice_get_within}
 
 front-get : (n : ℕ) (xs : List ℕ) (c x : ℕ) → slice_get (first n xs) c ≡ Some x → slice_get xs c ≡ Some x
 front-get zero xs c x at = absurd (nothing at) where
@@ -41,7 +48,7 @@ front-get (suc n) (y ∷ xs) (suc c) x at = front-get n xs c x at
 
 -- the first sets are sets
 pub are-front : (s : SessionState) (lists : ℕ) (sets : List ℕ) (n : ℕ) → AreSets s lists sets → AreSets s lists (first n sets)
-are-front s lists sets n are = λ past stands c set at. are past stands c set (front-get n sets c set at)
+are-front s lists sets n are = λ c set at. are c set (front-get n sets c set at)
 
 pub front-many : (n k m : ℕ) (xs : List ℕ) → n ≡ k → length xs ≡ m → k ≤ m → length (first n xs) ≡ k
 front-many n k m xs same many few = length-take n xs ∙ omega (arith, same, many, few)
@@ -85,9 +92,35 @@ place-code code is e =
       memory : MemoryOverflow ≡ Sequence → ⊥
       memory z = cc
 
+pub some-set : (set : ℕ) (empty : Bool) → (empty ≡ true → set ≡ 0) → (empty ≡ false → HasSome set) → set ≢ 0 → HasSome set
+some-set set true none some other = absurd (other (none refl))
+some-set set false none some other = some refl
+
+-- at a sampler that was just handed out all starts find places
+can-just-out : {S : Type 0} (o : Option (AwayState S)) (sampler : SamplerState S) (set : ℕ → Bool) → o ≡ Some (just_out sampler) → CanStart o set
+can-just-out o sampler set is =
+    subst (λ z. CanStart z set) (sym is)
+    (record { takes_orders = refl; places = omega (arith, how_many-le MAX_LISTS set, how_many-le MAX_LISTS (λ l. runs_of (just_out sampler) l || set l)) })
+
 module _ {S T : Type 0} where
   pub looks-of : (v w : SlaveState S T) (x : List (ChannelState S T)) → w ≡ v → IsEach (λ c. Looks) w.channels x → LooksAtAll v (record w { channels = x })
   looks-of v w x same looked = subst (λ (u : SlaveState S T). IsEach (λ c. Looks) u.channels x → LooksAtAll v (record u { channels = x })) (sym same) (λ l. record { channels = l; rest = refl }) looked
+
+  pub can-opened : (v w : SlaveState S T) (lists : ℕ) (sets : List ℕ) → w ≡ v → AreJustOut v → AreSets w.session lists sets → CanStartAll sets w.channels
+  can-opened v s lists sets same opened are c set ch listed at some =
+      let set_on = are c set listed in
+      let one = set_on.some some in
+      let on = right (has_list lists one.0) (shows_on s.session.store c one.0) (sym (set_on.shown one.0 one.1) ∙ one.2) in
+      let out = subst (λ (z : SlaveState S T). AreJustOut z) (sym same) opened c one.0 ch one.1 on at in
+      can-just-out ch.link.newer out.0 (has_list set) out.1 where
+        right : (x y : Bool) → (x && y) ≡ true → y ≡ true
+        right true y is = is
+        right false y is = absurd (false≢true is)
+
+  each-same : (xs : List (ChannelState S T)) → IsEach (λ c. Looks) xs xs
+  each-same xs = record { as_many = refl; each = λ k a b was is. subst (Looks a) (some_inj a b (sym was ∙ is)) (looks-same a) } where
+    some_inj : {X : Type 0} (x y : X) → Some x ≡ Some y → x ≡ y
+    some_inj x y e = cc
 
 module _ {S T F : Type 0} (take : TakeGhosts T F) where
   pub starts-of : (v w : SlaveState S T) (m x : List (ChannelState S T)) (lists : ℕ) (sets : List ℕ) → w ≡ v → IsEach (λ c. Looks) w.channels m
@@ -106,37 +139,10 @@ module _ {S T F : Type 0} (take : TakeGhosts T F) where
         rest = refl;
       }) looked are
 
-  -- each measurement ends, where no list runs
-  pub ends-all : (d : Profile) (a b : SlaveState S T) (log : List Act) → IsEach (λ c. Ends) a.channels b.channels → b ≡ record a { channels = b.channels } → NoneRuns (past_of d log)
-      → SlaveHas take d a log → SlaveStandsAfter take d b log
-  ends-all d a b log ends rest none has =
-      let session : b.session ≡ a.session = ap (λ (s : SlaveState S T). s.session) rest in
-      let outbox : b.outbox ≡ a.outbox = ap (λ (s : SlaveState S T). s.outbox) rest in
-      record {
-        has = record {
-          few = has.few;
-          is_log = has.is_log;
-          sent = has.sent;
-          profile = ap (λ (s : SessionState). s.profile) session ∙ has.profile;
-          session = subst (λ s. SessionStandsAfter s (past_of d log)) (sym session) has.session;
-          outbox = subst (λ o. OutboxStandsAfter o (first (sent_of log) (laid d log)) (drop (sent_of log) (laid d log))) (sym outbox) has.outbox;
-          channels = λ c ch at.
-              let old = get_or a.channels c ch in
-              let was = was-there a.channels b.channels c ch ends.as_many at in
-              channel-ends take (opened log) (λ m. deeds_of d m c log) old ch (ends.each c old ch was at)
-              (λ l below. is-false _ (λ runs_so. false≢true (sym (none l below) ∙ (ties d log has.is_log (opened log - 1) c l below runs_so).1)))
-              (has.channels c old was);
-          out = out-each (λ c. Ends) a.channels b.channels (λ c m. is_out m c log) ends (λ c x y e. keeps-ends x y e) has.out;
-          many = ends.as_many ∙ has.many;
-          plan = ap (λ (s : SlaveState S T). s.plan) rest ∙ has.plan;
-          account = subst (λ x. AccountStandsAfter x (entries_of d log) (λ l. 0)) (sym (ap (λ (s : SlaveState S T). s.account) rest)) has.account;
-          number = ap (λ (s : SlaveState S T). s.number) rest ∙ has.number;
-        };
-        ended = λ quiet c ch at.
-            let old = get_or a.channels c ch in
-            let was = was-there a.channels b.channels c ch ends.as_many at in
-            takes-ended take old ch (ends.each c old ch was at);
-      }
+  -- lists are started whose starts find places, with no look
+  pub starts-opened : (v w : SlaveState S T) (x : List (ChannelState S T)) (lists : ℕ) (sets : List ℕ) → w ≡ v → AreSets w.session lists sets → length sets ≡ length w.channels → CanStartAll sets w.channels
+      → IsEach (StartsAt take sets) w.channels x → StartsLists take v (record w { channels = x }) lists
+  starts-opened v w x lists sets same are as_many can starts = starts-of v w w.channels x lists sets same (each-same w.channels) are as_many can starts
 
   started-behind : (d : Profile) (a b : SlaveState S T) (log : List Act) (lists : ℕ) → 32 * (1 + length log) ≤ MAX_TAKEN → StartsLists take a b lists → SlaveHas take d a log → SlaveStarted take d b log lists
   started-behind d a b log lists few s has =
@@ -175,14 +181,15 @@ module _ {S T F : Type 0} (take : TakeGhosts T F) where
   }
 
   -- lists are not started, since there is no place for the orders
-  pub looks-in-vain : (a b : SlaveState S T) (lists : ℕ) (code : ErrCode) → IsBusy a b lists code → LooksAtAll a b → HasSome lists → a.session.store.profile ≡ lists_of a.session.profile
+  pub looks-in-vain : (a b : SlaveState S T) (lists : ℕ) (code : ErrCode) → Busy a.session → IsBusy a b lists code → LooksAtAll a b → HasSome lists → a.session.store.profile ≡ lists_of a.session.profile
       → ((l : ℕ) → l < MAX_LISTS → has_list lists l ≡ true → IsSame a.plan a.session.store l) → StartsInVain take most_before a b lists code
-  looks-in-vain a b lists code is looks some profile same = record {
+  looks-in-vain a b lists code busy is looks some profile same = record {
     is = inr (inl is.0);
     some = some;
     opening = [];
     may_open = nothing-opened most_before;
     places = λ past stands run other. is;
+    when_idle = λ past stands none. absurd (busy past stands none);
     sequence = λ log few stands. (
       λ e. absurd (place-code code (inl is.0) e),
       λ other. absurd (other.other (as-opened a.session.profile a.session a.plan log other.list profile stands.has.session stands.has.plan (same other.list other.below other.one))),
@@ -202,6 +209,7 @@ module _ {S T F : Type 0} (take : TakeGhosts T F) where
     opening = [];
     may_open = nothing-opened most_before;
     places = λ past stands run other. absurd (other refl);
+    when_idle = λ past stands none. absurd (busy past stands none);
     sequence = λ log few stands. (
       λ e. record {
         list = l;
@@ -215,31 +223,88 @@ module _ {S T F : Type 0} (take : TakeGhosts T F) where
     goes = λ log few stands. stands;
   }
 
-  -- or since no measurement is opened
-  pub unchanged-in-vain : (a b : SlaveState S T) (lists : ℕ) (code : ErrCode) → IsPlaceRefusal code → Idle a.session → HasSome lists → b ≡ a → StartsInVain take 1 a b lists code
-  unchanged-in-vain a b lists code is idle some same = record {
-    is = inr is;
+  -- where there is room for one more part, no two are kept at an event channel of which a list is ready
+  room-here : (s : SlaveState S T) (past : Past) (c l : ℕ) (ch : ChannelState S T) → HasRoom s → SessionStandsAfter s.session past → l < MAX_LISTS
+      → is_on s.session.profile past c l ≡ true → slice_get s.channels c ≡ Some ch → keeps_two ch ≡ false
+  room-here s past c l ch room stands below on at =
+      let set = get_or room.sets c 0 in
+      let there = there-is room.sets (length s.channels) c room.as_many (slice_get_within s.channels c ch at) in
+      let one : has_list set l ≡ true = (room.are c set there).is past stands l below ∙ both (has_list room.all l) (is_on s.session.profile past c l) (room.are_all l below) on in
+      room.have c set ch there at (has-some set l one) where
+        both : (x y : Bool) → x ≡ true → y ≡ true → (x && y) ≡ true
+        both true true a b = refl
+        both true false a b = b
+        both false y a b = a
+
+  -- where there is none, two are kept
+  no-room : (s : SlaveState S T) (past : Past) → WantsRoom s → SessionStandsAfter s.session past → HasNoRoom s.session.profile past s
+  no-room s past wants stands =
+      let full = wants.none in
+      let some = full.some in
+      record {
+        channel = full.channel;
+        list = some.0;
+        state = full.state;
+        below = some.1;
+        ready = right (has_list wants.all some.0) (is_on s.session.profile past full.channel some.0) (sym ((wants.are full.channel full.set full.lists_are).is past stands some.0 some.1) ∙ some.2);
+        state_is = full.state_is;
+        two = full.full;
+      } where
+        right : (x y : Bool) → (x && y) ≡ true → y ≡ true
+        right true y is = is
+        right false y is = absurd (false≢true is)
+
+  -- or since a measurement isn't opened, for want of memory
+  pub memory-in-vain : (a b : SlaveState S T) (lists : ℕ) (code : ErrCode) → code ≡ MemoryOverflow → HasRoom a → Idle a.session → HasSome lists → b ≡ a → StartsInVain take 1 a b lists code
+  memory-in-vain a b lists code is room idle some same = record {
+    is = inr (inr is);
     some = some;
     opening = [];
     may_open = nothing-opened 1;
     places = λ past stands run other. absurd (run (idle past stands));
-    sequence = λ log few stands. (λ e. absurd (place-code code is e), λ other. absurd (other.some (idle (past_of a.session.profile log) stands.has.session)));
-    goes = λ log few stands. subst (λ s. SlaveStandsAfter take a.session.profile s log) (sym same) stands;
+    when_idle = λ past stands none. record {
+      unopened = λ unopened. (
+        λ busy. absurd (not-both (sym busy ∙ is)),
+        λ two. absurd (false≢true (sym (room-here a past two.channel two.list two.state room stands two.below two.ready (ap (λ (s : SlaveState S T). slice_get s.channels two.channel) (sym same) ∙ two.state_is)) ∙ two.two)),
+      );
+      ended = λ some two. absurd (some refl);
+    };
+    sequence = λ log few stands. (λ e. absurd (place-code code (inr is) e), λ other. absurd (other.some (idle (past_of a.session.profile log) stands.has.session)));
+    goes = λ log few stands. subst (λ s. PartsStandAfter take a.session.profile s log) (sym same) stands;
+  } where
+    not-both : CmdBusy ≡ MemoryOverflow → ⊥
+    not-both e = cc
+
+  -- or since there is no room for one
+  pub full-in-vain : (a : SlaveState S T) (lists : ℕ) → WantsRoom a → Idle a.session → HasSome lists → StartsInVain take 1 a a lists CmdBusy
+  full-in-vain a lists wants idle some = record {
+    is = inr (inl refl);
+    some = some;
+    opening = [];
+    may_open = nothing-opened 1;
+    places = λ past stands run other. absurd (run (idle past stands));
+    when_idle = λ past stands none. record {
+      unopened = λ unopened. (λ busy. no-room a past wants stands, λ two. refl);
+      ended = λ some two. absurd (some refl);
+    };
+    sequence = λ log few stands. (λ e. absurd (place-code CmdBusy (inl refl) e), λ other. absurd (other.some (idle (past_of a.session.profile log) stands.has.session)));
+    goes = λ log few stands. stands;
   }
 
 module _ {S E T F : Type 0} (send : SendGhosts S E) (ring : EndGhosts E) (take : TakeGhosts T F) where
-  pub opens-of : (v w : SlaveState S T) (x : List (ChannelState S T)) (store : StoreState) (caps sets : List ℕ) (all : ℕ) → ((l : ℕ) → l < MAX_LISTS → has_list all l ≡ true) → AreSets w.session all sets → w ≡ v → store ≡ w.session.store → w.plan ≡ plan_of w.session.store → w.session.store.profile ≡ lists_of w.session.profile → length caps ≡ length w.channels → length sets ≡ length w.channels
+  pub opens-of : (v w : SlaveState S T) (x : List (ChannelState S T)) (store : StoreState) (caps sets : List ℕ) (all : ℕ) → ((l : ℕ) → l < MAX_LISTS → has_list all l ≡ true) → AreSets w.session all sets → w ≡ v → store ≡ w.session.store → w.plan ≡ plan_of w.session.store → w.session.store.profile ≡ lists_of w.session.profile → length caps ≡ length w.channels → length sets ≡ length w.channels → caps ≡ capacities_of w.session.profile
       → IsEach (OpensAt send ring take store w.number caps sets) w.channels x
       → OpensAll send ring take v (record w { channels = x; number = (w.number + 1) % 18446744073709551616 })
-  opens-of v w x store caps sets all are_all are same st plan lists many_caps many_sets opens =
-      subst (λ (u : SlaveState S T). AreSets u.session all sets → u.plan ≡ plan_of u.session.store → u.session.store.profile ≡ lists_of u.session.profile → length caps ≡ length u.channels → length sets ≡ length u.channels → IsEach (OpensAt send ring take u.session.store u.number caps sets) u.channels x
+  opens-of v w x store caps sets all are_all are same st plan lists many_caps many_sets caps_are opens =
+      subst (λ (u : SlaveState S T). AreSets u.session all sets → u.plan ≡ plan_of u.session.store → u.session.store.profile ≡ lists_of u.session.profile → length caps ≡ length u.channels → length sets ≡ length u.channels → caps ≡ capacities_of u.session.profile → IsEach (OpensAt send ring take u.session.store u.number caps sets) u.channels x
       → OpensAll send ring take v (record u { channels = x; number = (u.number + 1) % 18446744073709551616 })) (sym same)
-      (λ e k f p q o. record { caps = caps; sets = sets; all = all; are_all = are_all; are = e; as_many_caps = p; as_many_sets = q; channels = o; rest = record { session = refl; outbox = refl; plan = k; lists = f; account = refl; number = refl } }) are plan lists many_caps many_sets (subst (λ z. IsEach (OpensAt send ring take z w.number caps sets) w.channels x) st opens)
+      (λ e k f p q r o. record { caps = caps; caps_are = r; sets = sets; all = all; are_all = are_all; are = e; as_many_caps = p; as_many_sets = q; channels = o; rest = record { session = refl; outbox = refl; plan = k; lists = f; account = refl; number = refl; counted = refl } }) are plan lists many_caps many_sets caps_are (subst (λ z. IsEach (OpensAt send ring take z w.number caps sets) w.channels x) st opens)
 
   -- whatever plan there was before
   pub opens-anyhow : (v b : SlaveState S T) (plan : List Configuration) → OpensAll send ring take (record v { plan = plan }) b → OpensAll send ring take v b
   opens-anyhow v b plan o = record {
     caps = o.caps;
+    caps_are = o.caps_are;
     sets = o.sets;
     all = o.all;
     are_all = o.are_all;
@@ -247,16 +312,34 @@ module _ {S E T F : Type 0} (send : SendGhosts S E) (ring : EndGhosts E) (take :
     as_many_caps = o.as_many_caps;
     as_many_sets = o.as_many_sets;
     channels = o.channels;
-    rest = record { session = o.rest.session; outbox = o.rest.outbox; plan = o.rest.plan; lists = o.rest.lists; account = o.rest.account; number = o.rest.number };
+    rest = record { session = o.rest.session; outbox = o.rest.outbox; plan = o.rest.plan; lists = o.rest.lists; account = o.rest.account; number = o.rest.number; counted = o.rest.counted };
   }
 
-  pub vain-of : (v w : SlaveState S T) (x : List (ChannelState S T)) (store : StoreState) (caps sets : List ℕ) → w ≡ v → store ≡ w.session.store → w.plan ≡ plan_of w.session.store → w.session.store.profile ≡ lists_of w.session.profile → length caps ≡ length w.channels → length sets ≡ length w.channels
+  pub vain-of : (v w : SlaveState S T) (x : List (ChannelState S T)) (store : StoreState) (caps sets : List ℕ) → w ≡ v → store ≡ w.session.store → w.plan ≡ plan_of w.session.store → w.session.store.profile ≡ lists_of w.session.profile → length caps ≡ length w.channels → length sets ≡ length w.channels → caps ≡ capacities_of w.session.profile
       → IsEach (OpenedAndEnded send ring take store w.number caps sets) w.channels x
       → OpensInVain send ring take v (record w { channels = x; number = (w.number + 1) % 18446744073709551616 })
-  vain-of v w x store caps sets same st plan lists many_caps many_sets opens =
-      subst (λ (u : SlaveState S T). u.plan ≡ plan_of u.session.store → u.session.store.profile ≡ lists_of u.session.profile → length caps ≡ length u.channels → length sets ≡ length u.channels → IsEach (OpenedAndEnded send ring take u.session.store u.number caps sets) u.channels x
+  vain-of v w x store caps sets same st plan lists many_caps many_sets caps_are opens =
+      subst (λ (u : SlaveState S T). u.plan ≡ plan_of u.session.store → u.session.store.profile ≡ lists_of u.session.profile → length caps ≡ length u.channels → length sets ≡ length u.channels → caps ≡ capacities_of u.session.profile → IsEach (OpenedAndEnded send ring take u.session.store u.number caps sets) u.channels x
       → OpensInVain send ring take v (record u { channels = x; number = (u.number + 1) % 18446744073709551616 })) (sym same)
-      (λ k f p q o. record { caps = caps; sets = sets; as_many_caps = p; as_many_sets = q; channels = o; rest = record { session = refl; outbox = refl; plan = k; lists = f; account = refl; number = refl } }) plan lists many_caps many_sets (subst (λ z. IsEach (OpenedAndEnded send ring take z w.number caps sets) w.channels x) st opens)
+      (λ k f p q r o. record { caps = caps; caps_are = r; sets = sets; as_many_caps = p; as_many_sets = q; channels = o; rest = record { session = refl; outbox = refl; plan = k; lists = f; account = refl; number = refl; counted = refl } }) plan lists many_caps many_sets caps_are (subst (λ z. IsEach (OpenedAndEnded send ring take z w.number caps sets) w.channels x) st opens)
+
+  -- where a measurement was just opened each event channel of which a list is ready has a sampler that was just handed out
+  pub just-out : (a m : SlaveState S T) → OpensAll send ring take a m → AreJustOut m
+  just-out a m opens c l ch below on at =
+      let was = was-there a.channels m.channels c ch opens.channels.as_many at in
+      let old = get_or a.channels c ch in
+      let here = slice_get_within a.channels c old was in
+      let set = get_or opens.sets c 0 in
+      let cap = get_or opens.caps c 0 in
+      let there = there-is opens.sets (length a.channels) c opens.as_many_sets here in
+      let one : has_list set l ≡ true
+      = (opens.are c set there).shown l below ∙ both (has_list opens.all l) (shows_on a.session.store c l) (opens.are_all l below) (ap (λ (s : SessionState). shows_on s.store c l) (sym opens.rest.session) ∙ on) in
+      let new = (opens.channels.each c old ch was at cap set (there-is opens.caps (length a.channels) c opens.as_many_caps here) there).1 (has-some set l one) in
+      (new.sampler, new.handed.newer) where
+        both : (x y : Bool) → x ≡ true → y ≡ true → (x && y) ≡ true
+        both true true a b = refl
+        both true false a b = b
+        both false y a b = a
 
   -- lists of a measurement that was opened are started
   pub opens-prepare : (a m b : SlaveState S T) (lists : ℕ) → OpensAll send ring take a m → Idle a.session → HasSome lists → StartsLists take m b lists → Prepares take 1 a b lists
@@ -264,7 +347,7 @@ module _ {S E T F : Type 0} (send : SendGhosts S E) (ring : EndGhosts E) (take :
     opening = Opened (parts-all send ring take a m opens).at ∷ [];
     may_open = one-opened (parts-all send ring take a m opens).at;
     for_some = inr some;
-    in_one = λ log few stands any none. parts-there send ring take a.session.profile a m log opens stands.has;
+    in_one = λ log few stands any none. are-parts send ring take a.session.profile a m log opens stands.has;
     as_opened = λ log few stands l below one there. just-opened a.session.profile (parts-all send ring take a m opens).at log l there;
     has_parts = λ log few stands.
         let d = a.session.profile in
@@ -276,34 +359,41 @@ module _ {S E T F : Type 0} (send : SendGhosts S E) (ring : EndGhosts E) (take :
         (opens-all send ring take d a m log (omega (arith, few)) (idle (past_of d log) stands.has.session) stands opens);
   }
 
-  pub none-in-vain : (a b : SlaveState S T) (lists : ℕ) (code : ErrCode) → IsPlaceRefusal code → Idle a.session → HasSome lists → OpensNone send ring take a b → StartsInVain take 1 a b lists code
-  none-in-vain a b lists code is idle some opens =
+  -- of two parts that are kept behind an opening one is its own
+  own-part : (a b : SlaveState S T) (past : Past) → HasRoom a → SessionStandsAfter a.session past → length b.channels ≡ length a.channels → Parts send ring take a b
+      → (two : HasNoRoom a.session.profile past b) → number_of two.state.newer ≡ Some a.number
+  own-part a b past room stands as_many parts two =
+      let c = two.channel in
+      let old = get_or a.channels c two.state in
+      elim (parts.each c two.state two.state_is) [
+        | inl w ↦ new-number send ring take a.session.store a.number c old two.state w.1
+        | inr w ↦
+            let was = was-there a.channels b.channels c two.state as_many two.state_is in
+            absurd (false≢true (sym (room-here take a past c two.list two.state room stands two.below two.ready (was ∙ ap Some (sym w.1))) ∙ two.two))
+      ]
+
+  idle-opened : (a b : SlaveState S T) (past : Past) (at : ℕ → Bool) (code : ErrCode) → ((two : HasNoRoom a.session.profile past b) → number_of two.state.newer ≡ Some a.number)
+      → IsIdleRefusal a.session.profile past a.number b code (Opened at ∷ [])
+  idle-opened a b past at code own = record { unopened = λ none. absurd (one none); ended = λ some two. own two } where
+    one : opened (Opened at ∷ []) ≡ 0 → ⊥
+    one none = omega (arith, opened-more at [], none)
+
+  pub none-in-vain : (a b : SlaveState S T) (lists : ℕ) (code : ErrCode) → HasRoom a → Idle a.session → HasSome lists → OpensNone send ring take a b code → StartsInVain take 1 a b lists code
+  none-in-vain a b lists code room idle some opens =
       elim opens [
-        | inl same ↦ unchanged-in-vain take a b lists code is idle some same
-        | inr vain ↦ record {
+        | inl memory ↦ memory-in-vain take a b lists code memory.0 room idle some memory.1
+        | inr both ↦ vain-in-vain a b lists code both.0 room idle some both.1
+      ] where
+        vain-in-vain : (a b : SlaveState S T) (lists : ℕ) (code : ErrCode) → IsPlaceRefusal code → HasRoom a → Idle a.session → HasSome lists → OpensInVain send ring take a b → StartsInVain take 1 a b lists code
+        vain-in-vain a b lists code is room idle some vain = record {
           is = inr is;
           some = some;
           opening = Opened (parts-vain send ring take a b vain).at ∷ [];
           may_open = one-opened (parts-vain send ring take a b vain).at;
           places = λ past stands run other. absurd (run (idle past stands));
+          when_idle = λ past stands none.
+              idle-opened a b past (parts-vain send ring take a b vain).at code
+              (own-part a b past room stands vain.channels.as_many (parts-vain send ring take a b vain));
           sequence = λ log few stands. (λ e. absurd (place-code code is e), λ other. absurd (other.some (idle (past_of a.session.profile log) stands.has.session)));
           goes = λ log few stands. opens-in-vain send ring take a.session.profile a b log (omega (arith, few)) (idle (past_of a.session.profile log) stands.has.session) stands vain;
         }
-      ]
-
-  pub ended-in-vain : (a m k b : SlaveState S T) (lists : ℕ) (code : ErrCode) → IsPlaceRefusal code → Idle a.session → HasSome lists → OpensAll send ring take a m → LooksAtAll m k
-      → IsEach (λ c. Ends) k.channels b.channels → b ≡ record k { channels = b.channels } → StartsInVain take 1 a b lists code
-  ended-in-vain a m k b lists code is idle some opens looks ends rest = record {
-    is = inr is;
-    some = some;
-    opening = Opened (parts-all send ring take a m opens).at ∷ [];
-    may_open = one-opened (parts-all send ring take a m opens).at;
-    places = λ past stands run other. absurd (run (idle past stands));
-    sequence = λ log few stands. (λ e. absurd (place-code code is e), λ other. absurd (other.some (idle (past_of a.session.profile log) stands.has.session)));
-    goes = λ log few stands.
-        let d = a.session.profile in
-        let none = idle (past_of d log) stands.has.session in
-        let at = (parts-all send ring take a m opens).at in
-        ends-all take d k b (Opened at ∷ log) ends rest none
-        (looks-at-all take d m k (Opened at ∷ log) looks (opens-all send ring take d a m log (omega (arith, few)) none stands opens));
-  }

@@ -7,6 +7,7 @@ use Rattle.xcp_base.specs.Lists.{has_list}
 use Rattle.xcp_base.specs.declared.limits.TheConstants.{MAX_LISTS, MAX_TAKEN}
 use Rattle.channel_ring.specs.declared.ends.TakeEnd.{Ghosts as TakeGhosts}
 use Rattle.session.specs.Starts.{is_on, runs}
+use Rattle.session.specs.Past.{Past}
 use Rattle.session.specs.declared.profile.Profile.{Profile}
 use Rattle.channel_intake.specs.Deeds.{Deed}
 use Rattle.channel_intake.specs.Deeds.{runs as runs_there}
@@ -17,12 +18,12 @@ use Rattle.slave_channel.proofs.OrderingLemmas.{stops_noted-same}
 use Rattle.slave_channels.specs.Calls.{Ends, StopsAll}
 use Rattle.slave.specs.Inner.{Settles, started}
 use Rattle.slave.specs.Log.{Act, deeds_of, is_newest, opened, ordered_by, past_of, starts_on, stops_at, with_starts}
-use Rattle.slave.specs.Standing.{ChannelHas, IsLog, IsOut, NoneRuns}
+use Rattle.slave.specs.Standing.{AreOpenedAfter, ChannelHas, IsLog, IsOut, NoneRuns}
 use Rattle.slave.proofs.ChannelLemmas.{channel-ends, channel-ordered, channel-same, newest_with, takes-ended}
 use Rattle.slave.proofs.DeedLemmas.{deeds-few, starts-few, stops-few}
 use Rattle.slave.proofs.LogLemmas.{ties}
 use Rattle.slave.proofs.OrderLemmas.{starts-same, stops-none, stops-set}
-use Rattle.slave.proofs.OutLemmas.{keeps-ends, keeps-orders, out-each, was-there}
+use Rattle.slave.proofs.OutLemmas.{keeps-ends, keeps-orders, opened-each, out-each, was-there}
 
 -- an act by which lists are ordered
 pub record Orders (d : Profile) (act : Act) (log : List Act) : Type 0 where
@@ -160,6 +161,17 @@ module _ {S T F : Type 0} (take : TakeGhosts T F) where
       elim (is-bool settles.ends) [
         | inl on ↦ (settles.ends_all on).as_many ∙ settles.stops.as_many
         | inr off ↦ ap length (settles.goes_on off) ∙ settles.stops.as_many
+      ]
+
+  -- and was opened as it was
+  pub settled-opens : (xs ys : List (ChannelState S T)) (before now : ℕ) (d : Profile) (pasts : ℕ → Past) → Settles take xs ys before now
+      → ((c : ℕ) (ch : ChannelState S T) → slice_get xs c ≡ Some ch → AreOpenedAfter d pasts c ch)
+      → (c : ℕ) (ch : ChannelState S T) → slice_get ys c ≡ Some ch → AreOpenedAfter d pasts c ch
+  settled-opens xs ys before now d pasts settles is c ch at =
+      let stopped = opened-each (λ k. StopsAll take settles.lists) xs settles.stopped d pasts settles.stops (λ k x y orders. keeps-orders take x y _ _ orders) is in
+      elim (is-bool settles.ends) [
+        | inl on ↦ opened-each (λ k. Ends) settles.stopped ys d pasts (settles.ends_all on) (λ k x y ends. keeps-ends x y ends) stopped c ch at
+        | inr off ↦ stopped c ch (ap (λ zs. slice_get zs c) (sym (settles.goes_on off)) ∙ at)
       ]
 
   -- what is kept is the same

@@ -2,6 +2,7 @@
 use Rattle.std.proofs.Common.{◌≡◌, ◌≢◌, ℕ, ◌+◌, ◌*◌, ◌%◌, ◌<◌, ◌≤◌, Bool, true, false, ◌&&◌, not, nat_eq, if◌then◌else◌, List, [], ◌∷◌, ◌++◌, append-nil, length, get_or, drop, take as first, slice_get, refl, sym, ap, ◌∙◌, subst, arith, ◌⊎◌, inl, inr, zero, suc}
 use Rattle.std.specs.Prelude.{Option, Some, None}
 use Rattle.std.proofs.lemmas.Bool.{false≢true}
+use Rattle.std.proofs.lemmas.Bool.Decides.{eqb_tells, leb_tells}
 use Rattle.std.proofs.lemmas.List.Sums.{count_by-le-length}
 use Rattle.std.proofs.lemmas.Option.{slice_get-get_or, slice_get_within}
 use Rattle.xcp_base.specs.Lists.{has_list}
@@ -25,25 +26,27 @@ use Rattle.tasks.specs.Links.{AwayState, CanStart, takes_orders}
 use Rattle.session_account.specs.Accounts.{AccountStandsAfter}
 use Rattle.slave_channel.specs.Channels.{ChannelState, Opens, ShareState}
 use Rattle.slave_channel.specs.Ordering.{starts_noted, starts_sent}
-use Rattle.slave_channels.specs.Calls.{CanStartAll, Ends, Looks, OpensIfAny, StartsAt}
+use Rattle.slave_channels.specs.Calls.{CanStartAll, Ends, HasSome, Looks, OpensIfAny, StartsAt}
 use Rattle.slave_channels.specs.Each.{IsEach}
 use Rattle.slave.specs.Inner.{AreSets, HasParts, LooksAtAll, OpensAll, OpensBeside, OpensInVain, SlaveStarted, started}
 use Rattle.slave.specs.Log.{Act, Opened, deeds_of, entries_of, has_part, is_opening, is_out, laid, opened, past_of, sent_of}
-use Rattle.slave.specs.Standing.{ChannelHas, HasAllParts, HasEnded, IsOut, NoneRuns, SlaveHas, SlaveStandsAfter, SlaveState, number_of}
+use Rattle.slave.specs.Openings.{IsOpenedAfter, capacities_of, past_at}
+use Rattle.slave.specs.Standing.{AreOpenedAfter, ChannelHas, HasEnded, IsOut, NoneRuns, SlaveHas, PartsStandAfter, SlaveState, number_of, AreParts, HasReady}
 use Rattle.slave.proofs.ChannelLemmas.{channel-looks, channel-ordered, channel-same, goes-none, takes-looked}
-use Rattle.slave.proofs.DeedLemmas.{deeds-few, deeds-none, opened-more, out-newest, out-no-part, out-other, out-part, starts-few}
+use Rattle.slave.proofs.DeedLemmas.{deeds-few, deeds-none, opened-more, out-newest, out-no-part, out-other, out-part, part-none, starts-few}
 use Rattle.slave.proofs.PlanLemmas.{plan-by}
-use Rattle.slave.proofs.OpeningLemmas.{channel-in-vain, channel-opens-if}
-use Rattle.slave.proofs.OutLemmas.{Chosen, HasNew, choose, keeps-looks, keeps-orders, new-or-same, out-each, out-kept, out-new, out-same, some-at, vain-or-same, was-there}
+use Rattle.slave.proofs.OpenedLemmas.{past-newest, past-other}
+use Rattle.slave.proofs.OpeningLemmas.{channel-in-vain, channel-opens-if, opened-if, opened-in-vain}
+use Rattle.slave.proofs.OutLemmas.{Chosen, HasNew, choose, keeps-looks, keeps-orders, new-or-same, opened-each, opened-kept, out-each, out-kept, out-new, out-same, some-at, vain-or-same, was-there, new-number}
 use Rattle.slave.proofs.OrderLemmas.{starts-none, starts-same, starts-set}
 
 pub there-is : (xs : List ℕ) (n c : ℕ) → length xs ≡ n → c < n → slice_get xs c ≡ Some (get_or xs c 0)
 there-is xs n c as_many below = slice_get-get_or xs c 0 (omega (arith, as_many, below))
 
-has-some : (set l : ℕ) → has_list set l ≡ true → set ≢ 0
+pub has-some : (set l : ℕ) → has_list set l ≡ true → set ≢ 0
 has-some set l is = λ none. false≢true (sym (empty_has_none l) ∙ ap (λ s. has_list s l) (sym none) ∙ is)
 
-few-opened : (log : List Act) → opened log ≤ length log
+pub few-opened : (log : List Act) → opened log ≤ length log
 few-opened log = count_by-le-length is_opening log
 
 one-more : (n k : ℕ) → n ≤ k → 32 * (1 + k) ≤ MAX_TAKEN → (n + 1) % 18446744073709551616 ≡ n + 1
@@ -60,11 +63,24 @@ none-shown : (s : SessionState) (past : Past) → SessionStandsAfter s past → 
 none-shown s past stands none l below = sym (active_stands s.store past.calls l stands.store) ∙ none l below
 
 module _ {S E T F : Type 0} (send : SendGhosts S E) (ring : EndGhosts E) (take : TakeGhosts T F) where
+  -- what a part is opened with
+  new-opened : (d : Profile) (a : SlaveState S T) (log : List Act) (at : ℕ → Bool) (caps : List ℕ) (c cap : ℕ) → SlaveHas take d a log → a.session.store.profile ≡ lists_of a.session.profile → caps ≡ capacities_of a.session.profile
+      → slice_get caps c ≡ Some cap → IsOpenedAfter d (past_at d (opened log) (Opened at ∷ log)) c (record { store = a.session.store; channel = c; capacity = cap })
+  new-opened d a log at caps c cap has lists are there =
+      subst (λ p. IsOpenedAfter d p c (record { store = a.session.store; channel = c; capacity = cap })) (sym (past-newest d at log))
+      (record {
+        store = has.session.store;
+        profile = lists ∙ ap lists_of has.profile;
+        channel = refl;
+        capacity = ap (λ (p : Profile). slice_get (capacities_of p) c) (sym has.profile) ∙ ap (λ xs. slice_get xs c) (sym are) ∙ there;
+      })
+
   opened-rest : (d : Profile) (a b : SlaveState S T) (log : List Act) (at : ℕ → Bool) → 32 * (1 + length log) ≤ MAX_TAKEN → NoneRuns (past_of d log) → SlaveHas take d a log → OpensBeside a b → length b.channels ≡ length a.channels
       → ((c : ℕ) (ch : ChannelState S T) → slice_get b.channels c ≡ Some ch → ChannelHas take (opened log + 1) (λ m. deeds_of d m c log) ch)
       → ((c : ℕ) (ch : ChannelState S T) → slice_get b.channels c ≡ Some ch → IsOut (λ m. is_out m c (Opened at ∷ log)) ch)
+      → ((c : ℕ) (ch : ChannelState S T) → slice_get b.channels c ≡ Some ch → AreOpenedAfter d (λ m. past_at d m (Opened at ∷ log)) c ch)
       → SlaveHas take d b (Opened at ∷ log)
-  opened-rest d a b log at few none has rest as_many channels out = record {
+  opened-rest d a b log at few none has rest as_many channels out opens = record {
     few = omega (arith, few);
     is_log = (none, has.is_log);
     sent = subst (λ (xs : List Laid). sent_of log ≤ length xs) (sym (append-nil (laid d log))) has.sent;
@@ -73,6 +89,7 @@ module _ {S E T F : Type 0} (send : SendGhosts S E) (ring : EndGhosts E) (take :
     outbox = same-outbox d a b log rest.outbox has.outbox;
     channels = λ c ch there. subst (λ n. ChannelHas take n (λ m. deeds_of d m c log) ch) (omega (arith, opened-more at log)) (channels c ch there);
     out = out;
+    opens = opens;
     many = as_many ∙ has.many;
     plan = rest.plan ∙ plan-by d a.session (past_of d log) (rest.lists ∙ ap lists_of has.profile) has.session;
     account = subst (λ x. AccountStandsAfter x (entries_of d log) (λ l. 0)) (sym rest.account) has.account;
@@ -96,8 +113,8 @@ module _ {S E T F : Type 0} (send : SendGhosts S E) (ring : EndGhosts E) (take :
       (opens.channels.each c old ch was at cap_c set_c (there-is opens.caps (length a.channels) c opens.as_many_caps below) (there-is opens.sets (length a.channels) c opens.as_many_sets below)))
 
   -- there is one at each event channel of which a list is ready
-  pub parts-there : (d : Profile) (a b : SlaveState S T) (log : List Act) (opens : OpensAll send ring take a b) → SlaveHas take d a log
-      → HasAllParts d (past_of d log) (parts-all a b opens).at
+  parts-there : (d : Profile) (a b : SlaveState S T) (log : List Act) (opens : OpensAll send ring take a b) → SlaveHas take d a log
+      → (c l : ℕ) → c < length d.events.items → l < MAX_LISTS → is_on d (past_of d log) c l ≡ true → (parts-all a b opens).at c ≡ true
   parts-there d a b log opens has c l within below on =
       let here : c < length a.channels = omega (arith, within, has.many) in
       let (x, was) = some-at a.channels c here in
@@ -106,7 +123,7 @@ module _ {S E T F : Type 0} (send : SendGhosts S E) (ring : EndGhosts E) (take :
       let cap = get_or opens.caps c 0 in
       let there = there-is opens.sets (length a.channels) c opens.as_many_sets here in
       let has_l : has_list set l ≡ true =
-      opens.are (past_of d log) has.session c set there l below ∙ ap (λ p. has_list opens.all l && is_on p (past_of d log) c l) has.profile ∙ both (has_list opens.all l) (is_on d (past_of d log) c l) (opens.are_all l below) on in
+      (opens.are c set there).is (past_of d log) has.session l below ∙ ap (λ p. has_list opens.all l && is_on p (past_of d log) c l) has.profile ∙ both (has_list opens.all l) (is_on d (past_of d log) c l) (opens.are_all l below) on in
       let new = (opens.channels.each c x y was is cap set (there-is opens.caps (length a.channels) c opens.as_many_caps here) there).1 (has-some set l has_l) in
       elim ((parts-all a b opens).each c y is) [
         | inl w ↦ w.0
@@ -124,6 +141,54 @@ module _ {S E T F : Type 0} (send : SendGhosts S E) (ring : EndGhosts E) (take :
         read-there [] c x y at = absurd cc
         read-there (z ∷ zs) zero x y at = cc
         read-there (z ∷ zs) (suc c) x y at = read-there zs c x y at
+
+  -- and at no other
+  parts-ready : (d : Profile) (a b : SlaveState S T) (log : List Act) (opens : OpensAll send ring take a b) → SlaveHas take d a log
+      → (c : ℕ) → (parts-all a b opens).at c ≡ true → HasReady d (past_of d log) c
+  parts-ready d a b log opens has c at =
+      let parts = parts-all a b opens in
+      let past = past_of d log in
+      let there : c < length b.channels =
+      elim (leb_tells (length b.channels) c) [
+        | inl w ↦ absurd (false≢true (sym (parts.beyond c w.1) ∙ at))
+        | inr w ↦ omega (arith, w.1)
+      ]
+      in
+      let here : c < length a.channels = omega (arith, there, opens.channels.as_many) in
+      let (x, was) = some-at a.channels c here in
+      let (y, is) = some-at b.channels c there in
+      let set = get_or opens.sets c 0 in
+      let set_is = there-is opens.sets (length a.channels) c opens.as_many_sets here in
+      let one = opens.channels.each c x y was is (get_or opens.caps c 0) set (there-is opens.caps (length a.channels) c opens.as_many_caps here) set_is in
+      let some : HasSome set =
+      elim (eqb_tells set 0) [
+        | inl w ↦
+            elim (parts.each c y is) [
+              | inl v ↦
+                  let number : number_of x.newer ≡ Some a.number
+                  = ap (λ (z : ChannelState S T). number_of z.newer) (sym (one.0 w.1)) ∙ new-number send ring take a.session.store a.number c (get_or a.channels c y) y v.1 in
+                  let part = out-part a.number c log ((has.out c x was).newer a.number number) in
+                  absurd (false≢true (sym (part-none a.number c log (omega (arith, has.number))) ∙ part))
+              | inr v ↦ absurd (false≢true (sym v.0 ∙ at))
+            ]
+        | inr w ↦ one.2 w.1
+      ]
+      in
+      let on : is_on a.session.profile past c some.0 ≡ true =
+      right (has_list opens.all some.0) (is_on a.session.profile past c some.0) (sym ((opens.are c set set_is).is past has.session some.0 some.1) ∙ some.2) in
+      record {
+        channel = omega (arith, here, has.many);
+        list = some.0;
+        below = some.1;
+        ready = ap (λ p. is_on p past c some.0) (sym has.profile) ∙ on;
+      } where
+        right : (x y : Bool) → (x && y) ≡ true → y ≡ true
+        right true y is = is
+        right false y is = absurd (false≢true is)
+
+  pub are-parts : (d : Profile) (a b : SlaveState S T) (log : List Act) (opens : OpensAll send ring take a b) → SlaveHas take d a log
+      → AreParts d (past_of d log) (parts-all a b opens).at
+  are-parts d a b log opens has c = (λ at. parts-ready d a b log opens has c at, λ ready. parts-there d a b log opens has c ready.list ready.channel ready.below ready.ready)
 
   pub parts-vain : (a b : SlaveState S T) → OpensInVain send ring take a b → Parts a b
   parts-vain a b opens =
@@ -153,7 +218,7 @@ module _ {S E T F : Type 0} (send : SendGhosts S E) (ring : EndGhosts E) (take :
       ]
 
   -- a measurement is opened
-  pub opens-all : (d : Profile) (a b : SlaveState S T) (log : List Act) → 32 * (1 + length log) ≤ MAX_TAKEN → NoneRuns (past_of d log) → SlaveStandsAfter take d a log → (opens : OpensAll send ring take a b)
+  pub opens-all : (d : Profile) (a b : SlaveState S T) (log : List Act) → 32 * (1 + length log) ≤ MAX_TAKEN → NoneRuns (past_of d log) → PartsStandAfter take d a log → (opens : OpensAll send ring take a b)
       → SlaveHas take d b (Opened (parts-all a b opens).at ∷ log)
   opens-all d a b log few none stands opens =
       opened-rest d a b log (parts-all a b opens).at few none stands.has opens.rest opens.channels.as_many
@@ -166,10 +231,20 @@ module _ {S E T F : Type 0} (send : SendGhosts S E) (ring : EndGhosts E) (take :
       channel-opens-if send ring take (opened log) (λ m. deeds_of d m c log) old ch a.session.store c (get_or opens.caps c 0) (get_or opens.sets c 0) here
       (deeds-none d (opened log) c log stands.has.is_log (omega arith)) (stands.ended none c old was) (none-shown a.session (past_of d log) stands.has.session none) (stands.has.channels c old was))
       (out-opened d a b log (parts-all a b opens) stands.has opens.channels.as_many)
+      (λ c ch at.
+      let old = get_or a.channels c ch in
+      let was = was-there a.channels b.channels c ch opens.channels.as_many at in
+      let below = slice_get_within a.channels c old was in
+      let cap = there-is opens.caps (length a.channels) c opens.as_many_caps below in
+      let one = opens.channels.each c old ch was at (get_or opens.caps c 0) (get_or opens.sets c 0) cap (there-is opens.sets (length a.channels) c opens.as_many_sets below) in
+      let here = subst (λ n. OpensIfAny send ring take a.session.store n c (get_or opens.caps c 0) (get_or opens.sets c 0) old ch) stands.has.number one in
+      opened-if send ring take d (λ m. past_at d m log) (λ m. past_at d m (Opened (parts-all a b opens).at ∷ log)) (opened log) (λ m. deeds_of d m c log) old ch a.session.store c (get_or opens.caps c 0) (get_or opens.sets c 0) here
+      (λ m less. past-other d m (parts-all a b opens).at log (λ e. omega (arith, e, less))) (new-opened d a log (parts-all a b opens).at opens.caps c (get_or opens.caps c 0) stands.has opens.rest.lists opens.caps_are cap)
+      (stands.has.channels c old was) (stands.has.opens c old was))
 
   -- a measurement is opened in vain: it ends at once
-  pub opens-in-vain : (d : Profile) (a b : SlaveState S T) (log : List Act) → 32 * (1 + length log) ≤ MAX_TAKEN → NoneRuns (past_of d log) → SlaveStandsAfter take d a log → (opens : OpensInVain send ring take a b)
-      → SlaveStandsAfter take d b (Opened (parts-vain a b opens).at ∷ log)
+  pub opens-in-vain : (d : Profile) (a b : SlaveState S T) (log : List Act) → 32 * (1 + length log) ≤ MAX_TAKEN → NoneRuns (past_of d log) → PartsStandAfter take d a log → (opens : OpensInVain send ring take a b)
+      → PartsStandAfter take d b (Opened (parts-vain a b opens).at ∷ log)
   opens-in-vain d a b log few none stands opens =
       let both : (c : ℕ) (ch : ChannelState S T) → slice_get b.channels c ≡ Some ch
       → ChannelHas take (opened log + 1) (λ m. deeds_of d m c log) ch × (takes_orders ch.link.newer ≡ false) =
@@ -187,7 +262,19 @@ module _ {S E T F : Type 0} (send : SendGhosts S E) (ring : EndGhosts E) (take :
       record {
         has =
             opened-rest d a b log (parts-vain a b opens).at few none stands.has opens.rest opens.channels.as_many (λ c ch at. (both c ch at).0)
-            (out-opened d a b log (parts-vain a b opens) stands.has opens.channels.as_many);
+            (out-opened d a b log (parts-vain a b opens) stands.has opens.channels.as_many)
+            (λ c ch at.
+            let old = get_or a.channels c ch in
+            let was = was-there a.channels b.channels c ch opens.channels.as_many at in
+            let below = slice_get_within a.channels c old was in
+            let cap_c = get_or opens.caps c 0 in
+            let set_c = get_or opens.sets c 0 in
+            let cap = there-is opens.caps (length a.channels) c opens.as_many_caps below in
+            let one = opens.channels.each c old ch was at cap_c set_c cap (there-is opens.sets (length a.channels) c opens.as_many_sets below) in
+            let here = subst (λ n. (ch ≡ old) ⊎ ((set_c ≢ 0) × ((m : ChannelState S T) × Opens send ring take old m a.session.store c cap_c n × Ends m ch))) stands.has.number one in
+            opened-in-vain send ring take d (λ m. past_at d m log) (λ m. past_at d m (Opened (parts-vain a b opens).at ∷ log)) (opened log) (λ m. deeds_of d m c log) old ch a.session.store c cap_c set_c here
+            (λ m less. past-other d m (parts-vain a b opens).at log (λ e. omega (arith, e, less))) (new-opened d a log (parts-vain a b opens).at opens.caps c cap_c stands.has opens.rest.lists opens.caps_are cap)
+            (stands.has.channels c old was) (stands.has.opens c old was));
         ended = λ quiet c ch at. (both c ch at).1;
       }
 
@@ -209,6 +296,7 @@ module _ {S T F : Type 0} (take : TakeGhosts T F) where
             let was = was-there a.channels b.channels c ch looks.channels.as_many at in
             channel-looks take (opened log) (λ m. deeds_of d m c log) old ch (looks.channels.each c old ch was at) (has.channels c old was);
         out = out-each (λ c. Looks) a.channels b.channels (λ c m. is_out m c log) looks.channels (λ c x y l. keeps-looks x y l) has.out;
+        opens = opened-each (λ c. Looks) a.channels b.channels d (λ m. past_at d m log) looks.channels (λ c x y l. keeps-looks x y l) has.opens;
         many = looks.channels.as_many ∙ has.many;
         plan = ap (λ (s : SlaveState S T). s.plan) looks.rest ∙ has.plan;
         account = subst (λ x. AccountStandsAfter x (entries_of d log) (λ l. 0)) (sym (ap (λ (s : SlaveState S T). s.account) looks.rest)) has.account;
@@ -248,7 +336,7 @@ module _ {S T F : Type 0} (take : TakeGhosts T F) where
             let there = there-is sets (length a.channels) c as_many (slice_get_within a.channels c old was) in
             let wanted = λ (l : ℕ). has_list lists l && is_on d (past_of d log) c l in
             let same : (l : ℕ) → l < MAX_LISTS → has_list set l ≡ wanted l =
-            λ l below. are (past_of d log) has.session c set there l below ∙ ap (λ p. has_list lists l && is_on p (past_of d log) c l) has.profile in
+            λ l below. (are c set there).is (past_of d log) has.session l below ∙ ap (λ p. has_list lists l && is_on p (past_of d log) c l) has.profile in
             let takes : (l : ℕ) → has_list set l ≡ true → takes_orders old.link.newer ≡ true =
             λ l is. can-takes old.link.newer (has_list set) (can c set old there was (has-some set l is)) in
             let ds = starts_noted (has_list set) MAX_LISTS in
@@ -265,6 +353,12 @@ module _ {S T F : Type 0} (take : TakeGhosts T F) where
             let set = get_or sets c 0 in
             let there = there-is sets (length a.channels) c as_many (slice_get_within a.channels c old was) in
             out-kept (λ m. is_out m c log) old ch (keeps-orders take old ch _ _ (starts.each c old ch was at set there)) (has.out c old was);
+        opens = λ c ch at.
+            let old = get_or a.channels c ch in
+            let was = was-there a.channels b.channels c ch starts.as_many at in
+            let set = get_or sets c 0 in
+            let there = there-is sets (length a.channels) c as_many (slice_get_within a.channels c old was) in
+            opened-kept d (λ m. past_at d m log) c old ch (keeps-orders take old ch _ _ (starts.each c old ch was at set there)) (has.opens c old was);
         many = starts.as_many ∙ has.many;
         plan = ap (λ (s : SlaveState S T). s.plan) rest ∙ has.plan;
         account = subst (λ x. AccountStandsAfter x (entries_of d log) (λ l. 0)) (sym (ap (λ (s : SlaveState S T). s.account) rest)) has.account;
@@ -285,7 +379,7 @@ module _ {S T F : Type 0} (take : TakeGhosts T F) where
       let set = get_or sets c 0 in
       let there = there-is sets (length a.channels) c as_many here in
       let has_l : has_list set l ≡ true =
-      are (past_of d log) has.session c set there l below ∙ ap (λ p. has_list lists l && is_on p (past_of d log) c l) has.profile ∙ both (has_list lists l) (is_on d (past_of d log) c l) one on in
+      (are c set there).is (past_of d log) has.session l below ∙ ap (λ p. has_list lists l && is_on p (past_of d log) c l) has.profile ∙ both (has_list lists l) (is_on d (past_of d log) c l) one on in
       let takes = can-takes x.link.newer (has_list set) (can c set x there was (has-some set l has_l)) in
       let orders = starts.each c x y was is set there in
       let (p, newest) = some-part x.newer (λ none. some-noted set l below has_l (goes-none take x.newer y.newer _ none orders.newer)) in
@@ -318,6 +412,7 @@ module _ {S T F : Type 0} (take : TakeGhosts T F) where
         (λ m. sym (ap (λ xs. if nat_eq (m + 1) (opened log) then xs ++ deeds_of d m c log else deeds_of d m c log) (starts-none MAX_LISTS _ (λ l below. ap (λ b. b && is_on d (past_of d log) c l) (none l below)))
         ∙ either (nat_eq (m + 1) (opened log)) (deeds_of d m c log))) ch (has.channels c ch at);
     out = has.out;
+    opens = has.opens;
     many = has.many;
     plan = has.plan;
     account = has.account;

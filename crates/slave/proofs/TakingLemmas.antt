@@ -1,7 +1,9 @@
 -- What a slave stands after once an item was taken.
-use Rattle.std.proofs.Common.{◌≡◌, ◌≢◌, ℕ, ◌+◌, ◌-◌, ◌<◌, ◌≤◌, Bool, true, false, ◌&&◌, nat_eq, if◌then◌else◌, List, [], ◌∷◌, ◌++◌, append-nil, length, length-append, drop, take as first, slice_get, refl, sym, ap, ◌∙◌, subst, arith, inl, inr}
+use Rattle.std.proofs.Common.{◌≡◌, ◌≢◌, ℕ, ◌+◌, ◌-◌, ◌*◌, ◌<◌, ◌≤◌, Bool, true, false, ◌&&◌, nat_eq, if◌then◌else◌, List, [], ◌∷◌, ◌++◌, append-nil, length, length-append, drop, take as first, slice_get, refl, sym, ap, ◌∙◌, subst, arith, inl, inr}
 use Rattle.std.specs.Prelude.{Option, Some, None}
+use Rattle.std.proofs.lemmas.Bool.{false≢true}
 use Rattle.std.proofs.lemmas.Bool.Decides.{eqb_tells}
+use Rattle.std.proofs.lemmas.Option.{slice_get_within}
 use Rattle.xcp_base.specs.declared.item.Item.{Item}
 use Rattle.xcp_base.specs.declared.item.Item.TheVariants.{Marker, Sample}
 use Rattle.channel_ring.specs.declared.ends.TakeEnd.{Ghosts as TakeGhosts}
@@ -23,17 +25,22 @@ use Rattle.slave_channels.specs.Calls.{TakesFromNewer, TakesFromOlder}
 use Rattle.session_account.specs.Accounts.{AccountStandsAfter}
 use Rattle.slave_channels.specs.Each.{IsOnlyAt}
 use Rattle.slave.specs.Hearing.{GoesBy}
+use Rattle.slave.specs.Inner.{PartsGoBy, acts_of, counting}
 use Rattle.slave.specs.Log.{Act, Took, deeds_of, entries_of, is_out, laid, laid_by, opened, past_of, sample_laid, sent_of}
-use Rattle.slave.specs.Standing.{ChannelHas, HasEnded, IsOut, SlaveStandsAfter, SlaveState, number_of}
-use Rattle.slave.proofs.OutLemmas.{KeepsParts, keeps-same, out-kept, out-same, some-at}
+use Rattle.slave.specs.Standing.{ChannelHas, HasEnded, IsOut, PartsStandAfter, SlaveStandsAfter, SlaveState, number_of, AreOpenedAfter, HasPacketsIfPasses}
+use Rattle.slave.proofs.OutLemmas.{KeepsParts, keeps-same, out-kept, out-same, some-at, opened-kept, opened_of}
+use Rattle.session.specs.declared.profile.Profile.{Profile}
+use Rattle.slave.specs.Openings.{past_at}
 use Rattle.slave.specs.Taking.{TakesItems, is_take}
 use Rattle.slave.proofs.AnsweringLemmas.{more-laid}
 use Rattle.slave.proofs.ChannelLemmas.{channel-same}
 use Rattle.frame_outbox.specs.declared.unit.Origin.TheVariants as origin
 use Rattle.std.specs.List.{list_all}
 use Rattle.std.proofs.lemmas.List.Folds.{list_all-append}
-use Rattle.slave.proofs.DeedLemmas.{deeds-few, out-back}
+use Rattle.slave.proofs.DeedLemmas.{deeds-few}
 use Rattle.slave.proofs.HearingLemmas.{assoc}
+use Rattle.slave.proofs.WeightLemmas.{counted, recounted}
+use Rattle.slave.specs.declared.limits.TheConstants.{MOST_ACTS, PER_PACKET}
 
 some_inj : {X : Type 0} (x y : X) → Some x ≡ Some y → x ≡ y
 some_inj x y e = cc
@@ -173,24 +180,28 @@ module _ {S T F : Type 0} (take : TakeGhosts T F) where
     pub keeps : KeepsParts x y
     pub out : (out : ℕ → Bool) → IsOut out x → out m ≡ true
 
-  newer-part : (x y : ChannelState S T) (s t : ShareState T) → x.newer ≡ Some s → y ≡ record x { newer = y.newer } → y.newer ≡ Some t → t.number ≡ s.number → IsPart x y s.number s.intake t.intake
-  newer-part x y s t was rest is same = record {
+  newer-part : (x y : ChannelState S T) (s t : ShareState T) → x.newer ≡ Some s → y ≡ record x { newer = y.newer } → y.newer ≡ Some t → t.number ≡ s.number → t.opened ≡ s.opened → IsPart x y s.number s.intake t.intake
+  newer-part x y s t was rest is same opened = record {
     part = λ n f has. ((has.newer s was).there, (has.newer s was).stands);
     goes = λ n f g stands others runs has. channel-taken n f g x y s t was rest is same stands others runs has;
     keeps = record {
       newer = ap (λ (o : Option (ShareState T)). number_of o) is ∙ ap Some same ∙ sym (ap (λ (o : Option (ShareState T)). number_of o) was);
       older = ap (λ (z : ChannelState S T). number_of z.older) rest;
+      newer_opened = ap (λ (o : Option (ShareState T)). opened_of o) is ∙ ap Some opened ∙ sym (ap (λ (o : Option (ShareState T)). opened_of o) was);
+      older_opened = ap (λ (z : ChannelState S T). opened_of z.older) rest;
     };
     out = λ out is. is.newer s.number (ap (λ (o : Option (ShareState T)). number_of o) was);
   }
 
-  older-part : (x y : ChannelState S T) (s t : ShareState T) → x.older ≡ Some s → y ≡ record x { older = y.older } → y.older ≡ Some t → t.number ≡ s.number → IsPart x y s.number s.intake t.intake
-  older-part x y s t was rest is same = record {
+  older-part : (x y : ChannelState S T) (s t : ShareState T) → x.older ≡ Some s → y ≡ record x { older = y.older } → y.older ≡ Some t → t.number ≡ s.number → t.opened ≡ s.opened → IsPart x y s.number s.intake t.intake
+  older-part x y s t was rest is same opened = record {
     part = λ n f has. ((has.older s was).0.there, (has.older s was).0.stands);
     goes = λ n f g stands others runs has. channel-taken-older n f g x y s t was rest is same stands others runs has;
     keeps = record {
       newer = ap (λ (z : ChannelState S T). number_of z.newer) rest;
       older = ap (λ (o : Option (ShareState T)). number_of o) is ∙ ap Some same ∙ sym (ap (λ (o : Option (ShareState T)). number_of o) was);
+      newer_opened = ap (λ (z : ChannelState S T). opened_of z.newer) rest;
+      older_opened = ap (λ (o : Option (ShareState T)). opened_of o) is ∙ ap Some opened ∙ sym (ap (λ (o : Option (ShareState T)). opened_of o) was);
     };
     out = λ out is. is.older s.number (ap (λ (o : Option (ShareState T)). number_of o) was);
   }
@@ -210,10 +221,22 @@ module _ {S T F : Type 0} (take : TakeGhosts T F) where
             out-same (was k) (now k) ch (λ m. same k m w.1) before
       ]
 
+  -- and what it was opened with
+  pub opened-changed : (d : Profile) (pasts : ℕ → Past) (a b : SlaveState S T) (c : ℕ) (x y : ChannelState S T) → ChangesAt a b c x y → AreOpenedAfter d pasts c y
+      → ((k : ℕ) (ch : ChannelState S T) → slice_get a.channels k ≡ Some ch → AreOpenedAfter d pasts k ch)
+      → (k : ℕ) (ch : ChannelState S T) → slice_get b.channels k ≡ Some ch → AreOpenedAfter d pasts k ch
+  opened-changed d pasts a b c x y changes here has k ch at =
+      elim (eqb_tells k c) [
+        | inl w ↦
+            let is-y : y ≡ ch = some_inj y ch (sym changes.is ∙ ap (slice_get b.channels) (sym w.1) ∙ at) in
+            subst (λ (z : ChannelState S T). AreOpenedAfter d pasts k z) is-y (subst (λ j. AreOpenedAfter d pasts j y) (sym w.1) here)
+        | inr w ↦ has k ch (sym (changes.others k w.1) ∙ at)
+      ]
+
   -- an item of a part was taken
   pub took-item : (a b : SlaveState S T) (c : ℕ) (x y : ChannelState S T) (m : ℕ) (i j : IntakeState T) (item : Item) → ChangesAt a b c x y → b.account ≡ a.account → IsPart x y m i j
-      → Takes take i j item → LaysBehind a b (Took m c item) c i → GoesBy take a b (Took m c item ∷ [])
-  took-item a b c x y m i j item changes account part takes lays = λ log few stands.
+      → Takes take i j item → ((deeds : List Deed) → StandsAfter take i deeds → HasPacketsIfPasses deeds item) → LaysBehind a b (Took m c item) c i → PartsGoBy take a b (Took m c item ∷ [])
+  took-item a b c x y m i j item changes account part takes packets lays = λ log few stands.
       let d = a.session.profile in
       let n = opened log in
       let ds = deeds_of d m c log in
@@ -228,7 +251,15 @@ module _ {S T F : Type 0} (take : TakeGhosts T F) where
       record {
         has = record {
           few = omega (arith, few);
-          is_log = (there, out-back m c log (part.out (λ k. is_out k c log) (has.out c x changes.was)), has.is_log);
+          is_log = (
+            there,
+            record {
+              within = subst (λ n. c < n) has.many (slice_get_within a.channels c x changes.was);
+              out = part.out (λ k. is_out k c log) (has.out c x changes.was);
+              packets = packets ds before;
+            },
+            has.is_log,
+          );
           sent = omega (arith, has.sent, length-append (laid d log) (laid_by d (Took m c item) log));
           profile = ap (λ (z : SessionState). z.profile) changes.session;
           session = subst (λ z. SessionStandsAfter z (past_of d log)) (sym changes.session) has.session;
@@ -236,6 +267,7 @@ module _ {S T F : Type 0} (take : TakeGhosts T F) where
           channels = channels-changed n (λ k q. deeds_of d q k log) (λ k q. deeds_of d q k (Took m c item ∷ log)) a b c x y changes
               (λ k q other. took-else m q c k (TookItem item) (deeds_of d q k log) (λ e z. other (sym z))) here has.channels;
           out = out-changed (λ k q. is_out q k log) (λ k q. is_out q k log) a b c x y changes (λ k q other. refl) (out-kept (λ q. is_out q c log) x y part.keeps (has.out c x changes.was)) has.out;
+          opens = opened-changed d (λ q. past_at d q log) a b c x y changes (opened-kept d (λ q. past_at d q log) c x y part.keeps (has.opens c x changes.was)) has.opens;
           many = changes.as_many ∙ has.many;
           plan = changes.plan ∙ has.plan;
           account = subst (λ z. AccountStandsAfter z (entries_of d log) (λ l. 0)) (sym account) has.account;
@@ -248,7 +280,7 @@ module _ {S T F : Type 0} (take : TakeGhosts T F) where
 
   -- nothing was taken
   pub took-none : (a b : SlaveState S T) (c : ℕ) (x y : ChannelState S T) (P : Type 0) → ChangesAt a b c x y → KeepsParts x y → b.outbox ≡ a.outbox → b.account ≡ a.account
-      → ((log : List Act) → SlaveStandsAfter take a.session.profile a log → P) → ((n : ℕ) (f : ℕ → List Deed) → P → ChannelHas take n f x → ChannelHas take n f y) → GoesBy take a b []
+      → ((log : List Act) → PartsStandAfter take a.session.profile a log → P) → ((n : ℕ) (f : ℕ → List Deed) → P → ChannelHas take n f x → ChannelHas take n f y) → PartsGoBy take a b []
   took-none a b c x y P changes keeps outbox account known same = λ log few stands.
       let d = a.session.profile in
       let has = stands.has in
@@ -263,6 +295,7 @@ module _ {S T F : Type 0} (take : TakeGhosts T F) where
           channels = channels-changed (opened log) (λ k m. deeds_of d m k log) (λ k m. deeds_of d m k log) a b c x y changes (λ k m other. refl)
               (same (opened log) (λ m. deeds_of d m c log) (known log stands) (has.channels c x changes.was)) has.channels;
           out = out-changed (λ k q. is_out q k log) (λ k q. is_out q k log) a b c x y changes (λ k q other. refl) (out-kept (λ q. is_out q c log) x y keeps (has.out c x changes.was)) has.out;
+          opens = opened-changed d (λ q. past_at d q log) a b c x y changes (opened-kept d (λ q. past_at d q log) c x y keeps (has.opens c x changes.was)) has.opens;
           many = changes.as_many ∙ has.many;
           plan = changes.plan ∙ has.plan;
           account = subst (λ z. AccountStandsAfter z (entries_of d log) (λ l. 0)) (sym account) has.account;
@@ -287,93 +320,108 @@ module _ {S T F : Type 0} (take : TakeGhosts T F) where
       subst (λ xs. OutboxStandsAfter b.outbox (first (sent_of log) (laid d log ++ xs)) (drop (sent_of log) (laid d log ++ xs))) (sym (one log there))
       (more-laid a.outbox b.outbox y (sent_of log) (laid d log) lays few stands)
 
+  -- it is not spent, and counted nothing yet
+  pub record Counts (a b : SlaveState S T) : Type 0 where
+    pub fits : a.acts < MOST_ACTS + PER_PACKET
+    pub same : b.acts ≡ a.acts
+
+  counted-take : (a b : SlaveState S T) (acts : List Act) (n : ℕ) → Counts a b → length acts ≤ 1 → 3 * length acts ≤ n → PartsGoBy take a b acts → GoesBy take a (counting b n) acts
+  counted-take a b acts n counts few enough goes = counted take a (counting b n) acts counts.fits (omega (arith, few)) (omega (arith, counts.same, enough)) (recounted take a b acts n goes)
+
   -- by what became of the next item
-  taken-step : (a b : SlaveState S T) (c : ℕ) (x y : ChannelState S T) (m : ℕ) (i j : IntakeState T) → ChangesAt a b c x y → b.account ≡ a.account → length b.channels ≡ length a.channels → IsPart x y m i j
-      → (step : Step) → TakesItem take i j a.outbox b.outbox m step → TakesItems take 1 a b
-  taken-step a b c x y m i j changes account many part Nothing (looked, known, out) = record {
+  taken-step : (a b : SlaveState S T) (c : ℕ) (x y : ChannelState S T) (m : ℕ) (i j : IntakeState T) → ChangesAt a b c x y → b.account ≡ a.account → Counts a b → length b.channels ≡ length a.channels → IsPart x y m i j
+      → (step : Step) → TakesItem take i j a.outbox b.outbox m step → TakesItems take 1 a (counting b (acts_of step))
+  taken-step a b c x y m i j changes account counts many part Nothing (looked, known, out) = record {
     acts = [];
     are = refl;
     few = omega arith;
+    counted = omega (arith, counts.same);
     session = changes.session;
     as_many = many;
-    goes = took-none a b c x y (Unit {0}) changes part.keeps out account (λ log z. tt) (λ n f u has. part.goes n f f (looked-stands take i j looked (f m) (part.part n f has).1) (λ k o. refl) (λ k l. refl) has);
+    goes = counted-take a b ([]) (acts_of Nothing) counts (omega arith) (omega arith) (took-none a b c x y (Unit {0}) changes part.keeps out account (λ log z. tt) (λ n f u has. part.goes n f f (looked-stands take i j looked (f m) (part.part n f has).1) (λ k o. refl) (λ k l. refl) has));
   }
-  taken-step a b c x y m i j changes account many part Full (p, looked, known, passes, room, out) = record {
+  taken-step a b c x y m i j changes account counts many part Full (p, looked, known, passes, room, out) = record {
     acts = [];
     are = refl;
     few = omega arith;
+    counted = omega (arith, counts.same);
     session = changes.session;
     as_many = many;
-    goes = took-none a b c x y (Unit {0}) changes part.keeps out account (λ log z. tt) (λ n f u has. part.goes n f f (looked-stands take i j looked (f m) (part.part n f has).1) (λ k o. refl) (λ k l. refl) has);
+    goes = counted-take a b ([]) (acts_of Full) counts (omega arith) (omega arith) (took-none a b c x y (Unit {0}) changes part.keeps out account (λ log z. tt) (λ n f u has. part.goes n f f (looked-stands take i j looked (f m) (part.part n f has).1) (λ k o. refl) (λ k l. refl) has));
   }
-  taken-step a b c x y m i j changes account many part (Marked l) (mark, takes, list, out) = record {
+  taken-step a b c x y m i j changes account counts many part (Marked l) (mark, takes, list, out) = record {
     acts = Took m c (Marker mark) ∷ [];
     are = refl;
     few = omega arith;
+    counted = omega (arith, counts.same);
     session = changes.session;
     as_many = many;
-    goes = took-item a b c x y m i j (Marker mark) changes account part takes (lays-none a b (Took m c (Marker mark)) c i out (λ log there. refl));
+    goes = counted-take a b (Took m c (Marker mark) ∷ []) (acts_of (Marked l)) counts (omega arith) (omega arith) (took-item a b c x y m i j (Marker mark) changes account part takes (λ deeds before. tt) (lays-none a b (Took m c (Marker mark)) c i out (λ log there. refl)));
   }
-  taken-step a b c x y m i j changes account many part (Skipped l) (p, takes, list, held, out) = record {
+  taken-step a b c x y m i j changes account counts many part (Skipped l) (p, takes, list, held, out) = record {
     acts = Took m c (Sample p) ∷ [];
     are = refl;
     few = omega arith;
+    counted = omega (arith, counts.same);
     session = changes.session;
     as_many = many;
-    goes = took-item a b c x y m i j (Sample p) changes account part takes
+    goes = counted-take a b (Took m c (Sample p) ∷ []) (acts_of (Skipped l)) counts (omega arith) (omega arith) (took-item a b c x y m i j (Sample p) changes account part takes
+        (λ deeds before pass. absurd (false≢true (sym (held deeds before) ∙ pass)))
         (lays-none a b (Took m c (Sample p)) c i out
-        (λ log there. ap (λ z. sample_laid z m p) (held (deeds_of a.session.profile m c log) (there m (Sample p) refl))));
+        (λ log there. ap (λ z. sample_laid z m p) (held (deeds_of a.session.profile m c log) (there m (Sample p) refl)))));
   }
-  taken-step a b c x y m i j changes account many part (Wrote l end) (p, takes, list, passes, lays) = record {
+  taken-step a b c x y m i j changes account counts many part (Wrote l end) (p, takes, list, passes, each, lays) = record {
     acts = Took m c (Sample p) ∷ [];
     are = refl;
     few = omega arith;
+    counted = omega (arith, counts.same);
     session = changes.session;
     as_many = many;
-    goes = took-item a b c x y m i j (Sample p) changes account part takes
+    goes = counted-take a b (Took m c (Sample p) ∷ []) (acts_of (Wrote l end)) counts (omega arith) (omega arith) (took-item a b c x y m i j (Sample p) changes account part takes
+        (λ deeds before pass. each)
         (lays-one a b (Took m c (Sample p)) c i (record { origin = origin.Sample m p.list; packets = p.packets })
         (subst (λ k. LaysOut a.outbox b.outbox (record { origin = origin.Sample m k; packets = p.packets })) list lays)
-        (λ log there. ap (λ z. sample_laid z m p) (passes (deeds_of a.session.profile m c log) (there m (Sample p) refl))));
+        (λ log there. ap (λ z. sample_laid z m p) (passes (deeds_of a.session.profile m c log) (there m (Sample p) refl)))));
   }
 
   -- of the newer part, and of the older, if they are there
-  taken-newer : (a b : SlaveState S T) (c : ℕ) (x y : ChannelState S T) (step : Step) → ChangesAt a b c x y → b.account ≡ a.account → length b.channels ≡ length a.channels → y ≡ record x { newer = y.newer }
-      → (u v : Option (ShareState T)) → x.newer ≡ u → y.newer ≡ v → TakesOf take u v a.outbox b.outbox step → TakesItems take 1 a b
-  taken-newer a b c x y step changes account many rest None None was is (none, out) = record {
+  taken-newer : (a b : SlaveState S T) (c : ℕ) (x y : ChannelState S T) (step : Step) → ChangesAt a b c x y → b.account ≡ a.account → Counts a b → length b.channels ≡ length a.channels → y ≡ record x { newer = y.newer }
+      → (u v : Option (ShareState T)) → x.newer ≡ u → y.newer ≡ v → TakesOf take u v a.outbox b.outbox step → TakesItems take 1 a (counting b (acts_of step))
+  taken-newer a b c x y step changes account counts many rest None None was is (none, out) = record {
     acts = [];
     are = refl;
     few = omega arith;
+    counted = let zero_acts : acts_of step ≡ 0 = ap acts_of none in omega (arith, counts.same, zero_acts);
     session = changes.session;
     as_many = many;
-    goes =
-        let same : y ≡ x = rest ∙ ap (λ z. record x { newer = z }) (is ∙ sym was) in
-        took-none a b c x y (Unit {0}) changes (keeps-same x y same) out account (λ log z. tt) (λ n f u has. subst (ChannelHas take n f) (sym same) has);
+    goes = counted-take a b ([]) (acts_of step) counts (omega arith) (omega arith) (let same : y ≡ x = rest ∙ ap (λ z. record x { newer = z }) (is ∙ sym was) in
+        took-none a b c x y (Unit {0}) changes (keeps-same x y same) out account (λ log z. tt) (λ n f u has. subst (ChannelHas take n f) (sym same) has));
   }
-  taken-newer a b c x y step changes account many rest None (Some t) was is takes = elim takes [ ]
-  taken-newer a b c x y step changes account many rest (Some s) None was is takes = elim takes [ ]
-  taken-newer a b c x y step changes account many rest (Some s) (Some t) was is (same, takes) = taken-step a b c x y s.number s.intake t.intake changes account many (newer-part x y s t was rest is same) step takes
+  taken-newer a b c x y step changes account counts many rest None (Some t) was is takes = elim takes [ ]
+  taken-newer a b c x y step changes account counts many rest (Some s) None was is takes = elim takes [ ]
+  taken-newer a b c x y step changes account counts many rest (Some s) (Some t) was is (same, takes, opened) = taken-step a b c x y s.number s.intake t.intake changes account counts many (newer-part x y s t was rest is same opened) step takes
 
-  taken-older : (a b : SlaveState S T) (c : ℕ) (x y : ChannelState S T) (step : Step) → ChangesAt a b c x y → b.account ≡ a.account → length b.channels ≡ length a.channels → y ≡ record x { older = y.older }
-      → (u v : Option (ShareState T)) → x.older ≡ u → y.older ≡ v → TakesOf take u v a.outbox b.outbox step → TakesItems take 1 a b
-  taken-older a b c x y step changes account many rest None None was is (none, out) = record {
+  taken-older : (a b : SlaveState S T) (c : ℕ) (x y : ChannelState S T) (step : Step) → ChangesAt a b c x y → b.account ≡ a.account → Counts a b → length b.channels ≡ length a.channels → y ≡ record x { older = y.older }
+      → (u v : Option (ShareState T)) → x.older ≡ u → y.older ≡ v → TakesOf take u v a.outbox b.outbox step → TakesItems take 1 a (counting b (acts_of step))
+  taken-older a b c x y step changes account counts many rest None None was is (none, out) = record {
     acts = [];
     are = refl;
     few = omega arith;
+    counted = let zero_acts : acts_of step ≡ 0 = ap acts_of none in omega (arith, counts.same, zero_acts);
     session = changes.session;
     as_many = many;
-    goes =
-        let same : y ≡ x = rest ∙ ap (λ z. record x { older = z }) (is ∙ sym was) in
-        took-none a b c x y (Unit {0}) changes (keeps-same x y same) out account (λ log z. tt) (λ n f u has. subst (ChannelHas take n f) (sym same) has);
+    goes = counted-take a b ([]) (acts_of step) counts (omega arith) (omega arith) (let same : y ≡ x = rest ∙ ap (λ z. record x { older = z }) (is ∙ sym was) in
+        took-none a b c x y (Unit {0}) changes (keeps-same x y same) out account (λ log z. tt) (λ n f u has. subst (ChannelHas take n f) (sym same) has));
   }
-  taken-older a b c x y step changes account many rest None (Some t) was is takes = elim takes [ ]
-  taken-older a b c x y step changes account many rest (Some s) None was is takes = elim takes [ ]
-  taken-older a b c x y step changes account many rest (Some s) (Some t) was is (same, takes) = taken-step a b c x y s.number s.intake t.intake changes account many (older-part x y s t was rest is same) step takes
+  taken-older a b c x y step changes account counts many rest None (Some t) was is takes = elim takes [ ]
+  taken-older a b c x y step changes account counts many rest (Some s) None was is takes = elim takes [ ]
+  taken-older a b c x y step changes account counts many rest (Some s) (Some t) was is (same, takes, opened) = taken-step a b c x y s.number s.intake t.intake changes account counts many (older-part x y s t was rest is same opened) step takes
 
 module _ {S T F : Type 0} (take : TakeGhosts T F) where
   -- the next item of the newest measurement at an event channel was taken, if there was one
-  pub took-one : (v w : SlaveState S T) (xs : List (ChannelState S T)) (o : OutboxState) (c : ℕ) (step : Step) → w ≡ v → c < length w.channels
-      → IsOnlyAt (TakesFromNewer take w.outbox o step) c w.channels xs → TakesItems take 1 v (record w { outbox = o; channels = xs })
-  took-one v w xs o c step same below only =
+  pub took-one : (v w : SlaveState S T) (xs : List (ChannelState S T)) (o : OutboxState) (c n : ℕ) (step : Step) → w ≡ v → w.acts < MOST_ACTS + PER_PACKET → n ≡ acts_of step → c < length w.channels
+      → IsOnlyAt (TakesFromNewer take w.outbox o step) c w.channels xs → TakesItems take 1 v (record w { outbox = o; channels = xs; acts = w.acts + n })
+  took-one v w xs o c n step same fits is_n below only =
       let (x, was) = some-at w.channels c below in
       let (y, is) = some-at xs c (omega (arith, below, only.as_many)) in
       let one = only.here x y was is in
@@ -388,13 +436,13 @@ module _ {S T F : Type 0} (take : TakeGhosts T F) where
         plan = refl;
         number = refl;
       } in
-      subst (λ (z : SlaveState S T). TakesItems take 1 z b) same
-      (taken-newer take w b c x y step changes refl only.as_many one.rest x.newer y.newer refl refl one.takes)
+      subst (λ (z : SlaveState S T). TakesItems take 1 z (counting b n)) same
+      (subst (λ k. TakesItems take 1 w (counting b k)) (sym is_n) (taken-newer take w b c x y step changes refl (record { fits = fits; same = refl }) only.as_many one.rest x.newer y.newer refl refl one.takes))
 
   -- the next item of the measurement before it was taken, if there was one
-  pub took-older : (v w : SlaveState S T) (xs : List (ChannelState S T)) (o : OutboxState) (c : ℕ) (step : Step) → w ≡ v → c < length w.channels
-      → IsOnlyAt (TakesFromOlder take w.outbox o step) c w.channels xs → TakesItems take 1 v (record w { outbox = o; channels = xs })
-  took-older v w xs o c step same below only =
+  pub took-older : (v w : SlaveState S T) (xs : List (ChannelState S T)) (o : OutboxState) (c n : ℕ) (step : Step) → w ≡ v → w.acts < MOST_ACTS + PER_PACKET → n ≡ acts_of step → c < length w.channels
+      → IsOnlyAt (TakesFromOlder take w.outbox o step) c w.channels xs → TakesItems take 1 v (record w { outbox = o; channels = xs; acts = w.acts + n })
+  took-older v w xs o c n step same fits is_n below only =
       let (x, was) = some-at w.channels c below in
       let (y, is) = some-at xs c (omega (arith, below, only.as_many)) in
       let one = only.here x y was is in
@@ -409,11 +457,11 @@ module _ {S T F : Type 0} (take : TakeGhosts T F) where
         plan = refl;
         number = refl;
       } in
-      subst (λ (z : SlaveState S T). TakesItems take 1 z b) same
-      (taken-older take w b c x y step changes refl only.as_many one.rest x.older y.older refl refl one.takes)
+      subst (λ (z : SlaveState S T). TakesItems take 1 z (counting b n)) same
+      (subst (λ k. TakesItems take 1 w (counting b k)) (sym is_n) (taken-older take w b c x y step changes refl (record { fits = fits; same = refl }) only.as_many one.rest x.older y.older refl refl one.takes))
 
   pub takes-nothing : (a : SlaveState S T) → TakesItems take 0 a a
-  takes-nothing a = record { acts = []; are = refl; few = omega arith; session = refl; as_many = refl; goes = λ log few stands. stands }
+  takes-nothing a = record { acts = []; are = refl; few = omega arith; counted = omega arith; session = refl; as_many = refl; goes = λ log stands. stands }
 
   -- items were taken, and then others
   pub takes-more : (n k : ℕ) (a m b : SlaveState S T) → TakesItems take n a m → TakesItems take k m b → TakesItems take (n + k) a b
@@ -421,15 +469,14 @@ module _ {S T F : Type 0} (take : TakeGhosts T F) where
     acts = two.acts ++ one.acts;
     are = list_all-append is_take two.acts one.acts ∙ ap (λ z. z && list_all is_take one.acts) two.are ∙ one.are;
     few = omega (arith, length-append two.acts one.acts, one.few, two.few);
+    counted = omega (arith, length-append two.acts one.acts, one.counted, two.counted);
     session = two.session ∙ one.session;
     as_many = two.as_many ∙ one.as_many;
-    goes = λ log few stands.
-        let split = length-append two.acts one.acts in
+    goes = λ log stands.
         let profile = ap (λ (s : SessionState). s.profile) one.session in
-        let first_stands = one.goes log (omega (arith, few, split)) stands in
         subst (λ xs. SlaveStandsAfter take a.session.profile b xs) (sym (assoc two.acts one.acts log))
         (subst (λ p. SlaveStandsAfter take p b (two.acts ++ (one.acts ++ log))) profile
-        (two.goes (one.acts ++ log) (omega (arith, few, split, length-append one.acts log)) (subst (λ p. SlaveStandsAfter take p m (one.acts ++ log)) (sym profile) first_stands)));
+        (two.goes (one.acts ++ log) (subst (λ p. SlaveStandsAfter take p m (one.acts ++ log)) (sym profile) (one.goes log stands))));
   }
 
   -- no more than so many are no more than more
@@ -438,6 +485,7 @@ module _ {S T F : Type 0} (take : TakeGhosts T F) where
     acts = one.acts;
     are = one.are;
     few = omega (arith, below, one.few);
+    counted = one.counted;
     session = one.session;
     as_many = one.as_many;
     goes = one.goes;

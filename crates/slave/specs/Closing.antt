@@ -1,38 +1,40 @@
 -- What a slave leaves where it is closed.
-use Rattle.std.specs.Prelude.{◌≡◌, ℕ, ◌+◌, ◌*◌, ◌<◌, ◌≤◌, ◌↔◌, Bool, true, List, ◌∷◌, ◌++◌}
+use Rattle.std.specs.Prelude.{◌≡◌, ℕ, ◌*◌, ◌<◌, ◌≤◌, ◌↔◌, Bool, true, List, ◌++◌}
 use Rattle.std.specs.Prelude.{count_by, drop, length}
 use Rattle.std.specs.List.{list_all}
-use Rattle.xcp_base.specs.declared.limits.TheConstants.{MAX_CHANNELS, MAX_TAKEN}
+use Rattle.xcp_base.specs.declared.limits.TheConstants.{MAX_CHANNELS}
 use Rattle.channel_ring.specs.declared.ends.TakeEnd.{Ghosts as TakeGhosts}
 use Rattle.frame_outbox.specs.Outboxes.{Laid}
 use Rattle.frame_outbox.specs.Units.{is_sample_of}
 use Rattle.session.specs.declared.profile.Profile.{Profile}
 use Rattle.session_account.specs.Accounts.{AccountStandsAfter}
 use Rattle.session_account.specs.declared.totals.Totals.{Totals}
-use Rattle.slave.specs.Log.{Act, HungUp, entries_of, has_part, is_back, is_return, laid, sent_of}
+use Rattle.slave.specs.Log.{Act, AllBack, entries_of, is_return, laid, losing, sent_of}
+use Rattle.slave.specs.Session.{SessionLaw}
 use Rattle.slave.specs.Standing.{IsLog, SlaveStandsAfter, SlaveState}
-
--- all parts of measurements came back
-abbrev pub AllBack : Profile → List Act → Type 0
-AllBack d log =
-    (m c : ℕ) → c < length d.events.items → has_part m c log ≡ true → is_back m c log ≡ true
 
 -- how many samples of list l were laid out and not sent
 abbrev pub unsent_of : Profile → List Act → ℕ → ℕ
 unsent_of d log l =
     count_by (λ (x : Laid). is_sample_of l x.origin) (drop (sent_of log) (laid d log))
 
+-- an account is that of a whole log, of which the law of a session holds: of all parts that came
+-- back, and what was laid out and not sent is left; and it is whole where all parts came back
+pub record IsClosedWith (d : Profile) (account : List Totals) (whole : Bool) (log : List Act)
+    : Type 0 where
+  pub is_log : IsLog d log
+  pub law : SessionLaw d log
+  pub account_is : AccountStandsAfter account (entries_of d log) (unsent_of d log)
+  pub whole_is : (whole ≡ true) ↔ AllBack d log
+
 module _ {S T F : Type 0} (take : TakeGhosts T F) where
-  -- the account is that of all parts that came back, those that came at last among them, two at most
-  -- of an event channel; what was laid out and not sent is left; and the account is whole where all parts came back
+  -- the lists stopped, as where the transport is lost, if a master was connected, and parts came
+  -- back, two at most of an event channel; the account is that of this and all that was before
   pub record Closes (a : SlaveState S T) (account : List Totals) (whole : Bool) : Type 0 where
     pub last : List Act
     pub are : list_all is_return last ≡ true
     pub few : length last ≤ 2 * MAX_CHANNELS
-    pub stands :
-        (log : List Act) → 32 * (1 + length last + length log) ≤ MAX_TAKEN
-        → SlaveStandsAfter take a.session.profile a log
-        → IsLog a.session.profile (last ++ HungUp ∷ log)
-        × AccountStandsAfter account (entries_of a.session.profile (last ++ HungUp ∷ log))
-        (unsent_of a.session.profile (last ++ HungUp ∷ log))
-        × ((whole ≡ true) ↔ AllBack a.session.profile (last ++ HungUp ∷ log))
+    pub closed :
+        (log : List Act) → SlaveStandsAfter take a.session.profile a log
+        → IsClosedWith a.session.profile account whole
+        (last ++ (losing a.session.connected ++ log))

@@ -1,21 +1,23 @@
 -- What a slave does with a packet of its master.
 use Rattle.std.specs.Prelude.{◌≡◌, ◌≢◌, ℕ, ◌+◌, ◌*◌, ◌<◌, ◌≤◌, ◌⊎◌, ◌&&◌, Bool, true, false}
-use Rattle.std.specs.Prelude.{List, [], ◌∷◌, ◌++◌, length, slice_get, Some}
+use Rattle.std.specs.Prelude.{not, nat_le, List, [], ◌∷◌, ◌++◌, length, slice_get, Some, ◌↔◌}
 use Rattle.std.specs.List.{list_all}
 use Rattle.xcp_base.specs.declared.err_code.ErrCode.{ErrCode}
 use Rattle.xcp_base.specs.declared.err_code.ErrCode.TheVariants.{CmdBusy, MemoryOverflow, Sequence}
 use Rattle.xcp_base.specs.Lists.{has_list}
-use Rattle.xcp_base.specs.declared.limits.TheConstants.{MAX_CHANNELS, MAX_LISTS, MAX_TAKEN}
+use Rattle.xcp_base.specs.declared.limits.TheConstants.{MAX_CHANNELS, MAX_LISTS}
 use Rattle.channel_ring.specs.declared.ends.TakeEnd.{Ghosts as TakeGhosts}
 use Rattle.session.specs.Exchanges.{Exchange}
 use Rattle.session.specs.Past.{Past}
 use Rattle.session.specs.Starts.{is_on, starts}
 use Rattle.session.specs.declared.profile.Profile.{Profile}
+use Rattle.frame_outbox.specs.Outboxes.{has_room}
 use Rattle.tasks.specs.Links.{CanStart}
-use Rattle.slave_channel.specs.Channels.{ChannelState}
+use Rattle.slave_channel.specs.Channels.{ChannelState, keeps_two, number_of}
 use Rattle.slave.specs.Log.{Act, CameBack, Heard, HungUp, Opened, Refused, Sent, Took}
 use Rattle.slave.specs.Log.{opened, past_of}
 use Rattle.slave.specs.Standing.{IsStart, NoneRuns, SlaveStandsAfter, SlaveState}
+use Rattle.slave.specs.declared.limits.TheConstants.{MOST_ACTS}
 
 -- a start was refused because a list doesn't stand as it did where the measurement was opened,
 -- because a task has no place for the orders, or for want of memory
@@ -32,8 +34,8 @@ is_before (CameBack m c past) = true
 is_before (Sent n) = false
 is_before HungUp = false
 
--- the most that is done before a start: two parts come back at each event channel, and a measurement
--- is opened
+-- the most that is done before a start: two parts come back at each event channel, and a
+-- measurement is opened
 abbrev pub most_before : ℕ
 most_before = 1 + 2 * MAX_CHANNELS
 
@@ -64,17 +66,46 @@ module _ {S T : Type 0} where
     pub state_is : slice_get s.channels channel ≡ Some state
     pub cannot : ¬ CanStart state.link.newer (has_list set)
 
+  -- at an event channel of which a list is ready the parts of two measurements are kept
+  pub record HasNoRoom (d : Profile) (past : Past) (s : SlaveState S T) : Type 0 where
+    pub channel : ℕ
+    pub list : ℕ
+    pub state : ChannelState S T
+    pub below : list < MAX_LISTS
+    pub ready : is_on d past channel list ≡ true
+    pub state_is : slice_get s.channels channel ≡ Some state
+    pub two : keeps_two state ≡ true
+
+  -- a start was refused where no list runs. No measurement was opened: then with ERR_CMD_BUSY
+  -- exactly if there is no room for one more. Or one was, with this number, and ended at once: then
+  -- there was room, since of two parts that are kept one is its own; but memory ran out, or a task
+  -- was at its place just then
+  pub record IsIdleRefusal (d : Profile) (past : Past) (number : ℕ) (s : SlaveState S T)
+      (code : ErrCode) (opening : List Act)
+      : Type 0 where
+    pub unopened : opened opening ≡ 0 → (code ≡ CmdBusy) ↔ HasNoRoom d past s
+    pub ended :
+        opened opening ≢ 0 → (two : HasNoRoom d past s) → number_of two.state.newer ≡ Some number
+
+-- it counted so much that it hears and takes nothing any more
+abbrev pub is_spent : {S T : Type 0} → SlaveState S T → Bool
+is_spent s = nat_le MOST_ACTS s.acts
+
+-- it hears a packet: it isn't spent, and a reply finds room
+abbrev pub may_hear : {S T : Type 0} → SlaveState S T → Bool
+may_hear s = not (is_spent s) && has_room s.outbox
+
 module _ {S T F : Type 0} (take : TakeGhosts T F) where
-  -- whatever the one stands after, short of 2^57 acts, the other stands after that and these acts
+  -- whatever the one stands after, the other stands after that and these acts
   abbrev pub GoesBy : SlaveState S T → SlaveState S T → List Act → Type 0
   GoesBy a b acts =
-      (log : List Act) → 32 * (length acts + length log) ≤ MAX_TAKEN
-      → SlaveStandsAfter take a.session.profile a log
+      (log : List Act) → SlaveStandsAfter take a.session.profile a log
       → SlaveStandsAfter take a.session.profile b (acts ++ log)
 
   -- a packet was heard; before that a measurement may have been opened, if it is a start; and while
   -- lists run, a start that isn't refused with ERR_SEQUENCE is refused with ERR_CMD_BUSY, where its
-  -- orders find no places, or else not at all
+  -- orders find no places, or else not at all. While no list runs, ERR_CMD_BUSY comes before
+  -- ERR_MEMORY_OVERFLOW: the state behind the packet shows whether there was room
   pub record Hears (a b : SlaveState S T) (packet : List ℕ) (clock : ℕ) : Type 0 where
     pub act : Act
     pub opening : List Act
@@ -89,4 +120,9 @@ module _ {S T F : Type 0} (take : TakeGhosts T F) where
         → (code : ErrCode) → act ≡ Refused packet code → code ≢ Sequence
         → (code ≡ CmdBusy)
         × FindsNoPlaces a.session.profile (past_of a.session.profile log) packet b
+    pub when_idle :
+        (log : List Act) → SlaveStandsAfter take a.session.profile a log
+        → NoneRuns (past_of a.session.profile log)
+        → (code : ErrCode) → act ≡ Refused packet code
+        → IsIdleRefusal a.session.profile (past_of a.session.profile log) a.number b code opening
     pub goes : GoesBy a b (act ∷ opening)

@@ -15,34 +15,50 @@ use Rattle.session.specs.Past.{Past}
 use Rattle.session.specs.Profiles.{lists_of}
 use Rattle.session.specs.Standing.{SessionStandsAfter, SessionState}
 use Rattle.session.specs.Exchanges.{Exchange}
-use Rattle.session.specs.Starts.{is_on, starts}
+use Rattle.session.specs.Starts.{is_on, shows_on, starts}
 use Rattle.session.specs.declared.profile.Profile.{Profile}
+use Rattle.sampler.specs.State.{SamplerState}
+use Rattle.tasks.specs.Links.{just_out}
 use Rattle.channel_intake.specs.Deeds.{Deed}
+use Rattle.channel_intake.specs.declared.step.Step.{Step}
+use Rattle.channel_intake.specs.declared.step.Step.TheVariants.{Full, Marked, Nothing, Skipped}
+use Rattle.channel_intake.specs.declared.step.Step.TheVariants.{Wrote}
 use Rattle.frame_outbox.specs.Outboxes.{LaysOut, OutboxState}
 use Rattle.frame_outbox.specs.declared.unit.Origin.TheVariants as origin
 use Rattle.channel_intake.specs.Intakes.{StandsAfter as IntakeStandsAfter}
 use Rattle.session_account.specs.Accounts.{AccountStandsAfter, Entry}
 use Rattle.session_account.specs.declared.totals.Totals.{Totals}
-use Rattle.slave_channel.specs.Channels.{ChannelState, FinishedState, IsPastOf}
+use Rattle.slave_channel.specs.Channels.{ChannelState, FinishedState, IsPastOf, number_of}
 use Rattle.slave_channel.specs.Ordering.{starts_noted}
-use Rattle.slave_channels.specs.Calls.{CanStartAll, Ends, HasNoPlaces, Looks, OpensAt}
-use Rattle.slave_channels.specs.Calls.{OpenedAndEnded, StartsAt, StopsAll}
+use Rattle.slave_channels.specs.Calls.{CanStartAll, Ends, HasFull, HasNoPlaces, HasSome}
+use Rattle.slave_channels.specs.Calls.{HaveRoom, Looks, OpenedAndEnded, OpensAt, StartsAt}
+use Rattle.slave_channels.specs.Calls.{StopsAll}
 use Rattle.slave_channels.specs.Each.{IsEach}
-use Rattle.slave.specs.Hearing.{GoesBy, IsStartRefusal, MayOpen}
+use Rattle.slave.specs.Hearing.{IsStartRefusal, MayOpen, IsIdleRefusal, is_spent}
+use Rattle.slave.specs.Taking.{IsEmptyAt, IsHeldUp}
+use Rattle.slave.specs.declared.round.Round.{Round}
+use Rattle.slave.specs.declared.round.Round.TheVariants.{Empty, HeldUp, Took}
 use Rattle.slave.specs.Log.{Act, Heard}
 use Rattle.slave.specs.Log.{deeds_of, has_part, is_newest, is_return, opened, past_of}
+use Rattle.slave.specs.Openings.{capacities_of}
 use Rattle.slave.specs.Plans.{IsAsOpened, plan_of}
-use Rattle.slave.specs.Standing.{JustOpened, NoneRuns, SlaveStandsAfter, SlaveState, StandsBy}
+use Rattle.slave.specs.Standing.{JustOpened, NoneRuns, PartsStandAfter, SlaveState, StandsBy}
 use Rattle.slave.specs.Standing.{StartsWell}
+use Rattle.slave.specs.declared.limits.TheConstants.{PER_ACT}
 
--- those of the lists that are ready, and whose modes name event channel c: so at each place of the
--- sets
+-- of these lists, those that are ready and whose modes name event channel c: by the session's past,
+-- and as its store shows them; a number that is not zero has one
+pub record IsSetOn (s : SessionState) (lists c set : ℕ) : Type 0 where
+  pub is :
+      (past : Past) → SessionStandsAfter s past → (l : ℕ) → l < MAX_LISTS
+      → has_list set l ≡ (has_list lists l && is_on s.profile past c l)
+  pub shown :
+      (l : ℕ) → l < MAX_LISTS → has_list set l ≡ (has_list lists l && shows_on s.store c l)
+  pub some : set ≢ 0 → HasSome set
+
+-- so at each place of the sets
 abbrev pub AreSets : SessionState → ℕ → List ℕ → Type 0
-AreSets s lists sets =
-    (past : Past) → SessionStandsAfter s past
-    → (c set : ℕ) → slice_get sets c ≡ Some set
-    → (l : ℕ) → l < MAX_LISTS
-    → has_list set l ≡ (has_list lists l && is_on s.profile past c l)
+AreSets s lists sets = (c set : ℕ) → slice_get sets c ≡ Some set → IsSetOn s lists c set
 
 -- those of the lists whose modes name event channel c were started there, beside what was done so
 -- far
@@ -59,10 +75,6 @@ abbrev pub LaysReply : OutboxState → OutboxState → Option (List ℕ) → Typ
 LaysReply a b None = b ≡ a
 LaysReply a b (Some packet) =
     LaysOut a b (record { origin = origin.Reply; packets = packet ∷ [] })
-
--- a list is one of these
-abbrev pub HasSome : ℕ → Type 0
-HasSome lists = (l : ℕ) × (l < MAX_LISTS) × (has_list lists l ≡ true)
 
 -- where lists run, one of these doesn't stand as it did where the newest measurement was opened
 pub record HasOther (d : Profile) (log : List Act) (lists : ℕ) : Type 0 where
@@ -99,6 +111,18 @@ Busy s = (past : Past) → SessionStandsAfter s past → ¬ NoneRuns past
 abbrev pub IsPlaceRefusal : ErrCode → Type 0
 IsPlaceRefusal code = (code ≡ CmdBusy) ⊎ (code ≡ MemoryOverflow)
 
+-- a slave, once it counted so much more
+abbrev pub counting : {S T : Type 0} → SlaveState S T → ℕ → SlaveState S T
+counting s n = record s { acts = s.acts + n }
+
+-- what an act counts as
+abbrev pub acts_of : Step → ℕ
+acts_of Nothing = 0
+acts_of Full = 0
+acts_of (Marked l) = PER_ACT
+acts_of (Skipped l) = PER_ACT
+acts_of (Wrote l end) = PER_ACT
+
 module _ {S T : Type 0} where
   -- the orders of the tasks were looked at
   pub record LooksAtAll (a b : SlaveState S T) : Type 0 where
@@ -112,6 +136,41 @@ module _ {S T : Type 0} where
     pub are : AreSets s lists sets
     pub none : HasNoPlaces sets now
 
+  -- at each event channel of which a list is ready there is room for one more part
+  pub record HasRoom (s : SlaveState S T) : Type 0 where
+    pub sets : List ℕ
+    pub all : ℕ
+    pub are_all : (l : ℕ) → l < MAX_LISTS → has_list all l ≡ true
+    pub are : AreSets s.session all sets
+    pub as_many : length sets ≡ length s.channels
+    pub have : HaveRoom sets s.channels
+
+  -- at one there is none
+  pub record WantsRoom (s : SlaveState S T) : Type 0 where
+    pub sets : List ℕ
+    pub all : ℕ
+    pub are : AreSets s.session all sets
+    pub none : HasFull sets s.channels
+
+  -- the last measurement with a part at event channel c isn't the newest
+  pub record IsOfBefore (s : SlaveState S T) (c : ℕ) : Type 0 where
+    pub number : ℕ
+    pub kept :
+        (ch : ChannelState S T) → slice_get s.channels c ≡ Some ch
+        → number_of ch.newer ≡ Some number
+    pub other : (number + 1) % 18446744073709551616 ≢ s.number
+
+  -- it has ended: no list runs, or it isn't the newest
+  abbrev pub IsOver : SlaveState S T → ℕ → Type 0
+  IsOver s c = Idle s.session ⊎ IsOfBefore s c
+
+  -- at each event channel of which a list is ready a sampler was just handed out
+  abbrev pub AreJustOut : SlaveState S T → Type 0
+  AreJustOut s =
+      (c l : ℕ) (ch : ChannelState S T)
+      → l < MAX_LISTS → shows_on s.session.store c l ≡ true → slice_get s.channels c ≡ Some ch
+      → (sampler : SamplerState S) × (ch.link.newer ≡ Some (just_out sampler))
+
   -- so starts are refused
   abbrev pub IsBusy : SlaveState S T → SlaveState S T → ℕ → ErrCode → Type 0
   IsBusy a b lists code = (code ≡ CmdBusy) × WantsPlaces a.session lists b.channels
@@ -124,8 +183,17 @@ module _ {S T : Type 0} where
     pub lists : a.session.store.profile ≡ lists_of a.session.profile
     pub account : b.account ≡ a.account
     pub number : b.number ≡ (a.number + 1) % 18446744073709551616
+    pub counted : b.acts ≡ a.acts
 
 module _ {S T F : Type 0} (take : TakeGhosts T F) where
+  -- whatever the parts of the one stand after, short of 2^57 acts, those of the other stand after
+  -- that and these acts
+  abbrev pub PartsGoBy : SlaveState S T → SlaveState S T → List Act → Type 0
+  PartsGoBy a b acts =
+      (log : List Act) → 32 * (length acts + length log) ≤ MAX_TAKEN
+      → PartsStandAfter take a.session.profile a log
+      → PartsStandAfter take a.session.profile b (acts ++ log)
+
   -- the lists were started
   abbrev pub SlaveStarted : Profile → SlaveState S T → List Act → ℕ → Type 0
   SlaveStarted d s log lists = StandsBy take (started d log lists) d s log
@@ -160,10 +228,12 @@ module _ {S T F : Type 0} (take : TakeGhosts T F) where
     pub session : b.session ≡ a.session
     pub outbox : b.outbox ≡ a.outbox
     pub as_many : length b.channels ≡ length a.channels
+    pub number : b.number ≡ a.number
+    pub counted : b.acts ≡ a.acts
     pub acts : List Act
     pub are : list_all is_return acts ≡ true
     pub few : length acts ≤ most
-    pub goes : GoesBy take a b acts
+    pub goes : PartsGoBy a b acts
 
   -- lists were started, in a measurement that may have been opened
   pub record Prepares (most : ℕ) (a b : SlaveState S T) (lists : ℕ) : Type 0 where
@@ -172,19 +242,19 @@ module _ {S T F : Type 0} (take : TakeGhosts T F) where
     pub for_some : (opening ≡ []) ⊎ HasSome lists
     pub in_one :
         (log : List Act) → 32 * (1 + length opening + length log) ≤ MAX_TAKEN
-        → SlaveStandsAfter take a.session.profile a log
+        → PartsStandAfter take a.session.profile a log
         → IsOfOne a.session.profile (opening ++ log) lists
     pub as_opened :
         (log : List Act) → 32 * (1 + length opening + length log) ≤ MAX_TAKEN
-        → SlaveStandsAfter take a.session.profile a log
+        → PartsStandAfter take a.session.profile a log
         → AreAsOpened a.session.profile (opening ++ log) lists
     pub has_parts :
         (log : List Act) → 32 * (1 + length opening + length log) ≤ MAX_TAKEN
-        → SlaveStandsAfter take a.session.profile a log
+        → PartsStandAfter take a.session.profile a log
         → HasParts a.session.profile (opening ++ log) lists
     pub goes :
         (log : List Act) → 32 * (1 + length opening + length log) ≤ MAX_TAKEN
-        → SlaveStandsAfter take a.session.profile a log
+        → PartsStandAfter take a.session.profile a log
         → SlaveStarted a.session.profile b (opening ++ log) lists
 
   -- lists were not started; a measurement may have been opened, and ended at once
@@ -196,12 +266,15 @@ module _ {S T F : Type 0} (take : TakeGhosts T F) where
     pub may_open : MayOpen most opening
     pub sequence :
         (log : List Act) → 32 * (1 + length opening + length log) ≤ MAX_TAKEN
-        → SlaveStandsAfter take a.session.profile a log
+        → PartsStandAfter take a.session.profile a log
         → (code ≡ Sequence) ↔ HasOther a.session.profile (opening ++ log) lists
     pub places :
         (past : Past) → SessionStandsAfter a.session past → ¬ NoneRuns past → code ≢ Sequence
         → IsBusy a b lists code
-    pub goes : GoesBy take a b opening
+    pub when_idle :
+        (past : Past) → SessionStandsAfter a.session past → NoneRuns past
+        → IsIdleRefusal a.session.profile past a.number b code opening
+    pub goes : PartsGoBy a b opening
 
   -- a packet was answered whose lists were started
   pub record Answers (a b : SlaveState S T) (packet : List ℕ) (clock : ℕ) : Type 0 where
@@ -214,7 +287,7 @@ module _ {S T F : Type 0} (take : TakeGhosts T F) where
         → has_list lists l ≡ starts a.session.profile (past_of a.session.profile log) packet l)
         → StartsWell a.session.profile log packet
         → SlaveStarted a.session.profile a log lists
-        → SlaveStandsAfter take a.session.profile b (Heard exchange ∷ log)
+        → PartsStandAfter take a.session.profile b (Heard exchange ∷ log)
 
 module _ {E T F : Type 0} (ring : EndGhosts E) (take : TakeGhosts T F) where
   -- a part that came back was added to an account, if there is one
@@ -231,6 +304,7 @@ module _ {S E T F : Type 0} (send : SendGhosts S E) (ring : EndGhosts E) (take :
     -- a measurement was opened at all event channels of which a list is ready
     pub record OpensAll (a b : SlaveState S T) : Type 0 where
       pub caps : List ℕ
+      pub caps_are : caps ≡ capacities_of a.session.profile
       pub sets : List ℕ
       pub all : ℕ
       pub are_all : (l : ℕ) → l < MAX_LISTS → has_list all l ≡ true
@@ -244,6 +318,7 @@ module _ {S E T F : Type 0} (send : SendGhosts S E) (ring : EndGhosts E) (take :
     -- the same, where it ended at once
     pub record OpensInVain (a b : SlaveState S T) : Type 0 where
       pub caps : List ℕ
+      pub caps_are : caps ≡ capacities_of a.session.profile
       pub sets : List ℕ
       pub as_many_caps : length caps ≡ length a.channels
       pub as_many_sets : length sets ≡ length a.channels
@@ -252,6 +327,23 @@ module _ {S E T F : Type 0} (send : SendGhosts S E) (ring : EndGhosts E) (take :
           a.channels b.channels
       pub rest : OpensBeside a b
 
-    -- a measurement was not opened, or in vain
-    abbrev pub OpensNone : SlaveState S T → SlaveState S T → Type 0
-    OpensNone a b = (b ≡ a) ⊎ OpensInVain a b
+    -- a measurement was not opened, for want of memory, or in vain
+    abbrev pub OpensNone : SlaveState S T → SlaveState S T → ErrCode → Type 0
+    OpensNone a b code =
+        ((code ≡ MemoryOverflow) × (b ≡ a)) ⊎ (IsPlaceRefusal code × OpensInVain a b)
+
+module _ {S T F : Type 0} (take : TakeGhosts T F) where
+  -- one look at the newest ring of event channel c: nothing is known there then, or the slave is
+  -- spent; or it is held up; or an item was taken. The other event channels are as they were
+  pub record LooksOnce (a b : SlaveState S T) (c : ℕ) (step : Step) : Type 0 where
+    pub nothing : step ≡ Nothing → (is_spent b ≡ true) ⊎ IsEmptyAt take b c
+    pub full : step ≡ Full → IsHeldUp take b c
+    pub others : (k : ℕ) → k ≢ c → slice_get b.channels k ≡ slice_get a.channels k
+    pub counted : b.acts ≡ a.acts + acts_of step
+
+  -- how a round ended that began at event channel `begin`
+  abbrev pub EndsRound : SlaveState S T → SlaveState S T → ℕ → Round → Type 0
+  EndsRound a b begin HeldUp = (c : ℕ) × IsHeldUp take b c
+  EndsRound a b begin Empty =
+      (is_spent b ≡ true) ⊎ ((c : ℕ) → begin ≤ c → IsEmptyAt take b c)
+  EndsRound a b begin Took = a.acts + 3 ≤ b.acts

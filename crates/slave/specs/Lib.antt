@@ -1,9 +1,11 @@
 pub mod Log
 pub mod Plans
+pub mod Openings
 pub mod Standing
 pub mod Hearing
 pub mod Taking
 pub mod Finishing
 pub mod Closing
+pub mod Session
 pub mod Laws
 pub mod Inner

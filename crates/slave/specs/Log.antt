@@ -1,7 +1,10 @@
 -- What a slave did, and what follows of it: the past of its session, what was done at each event
 -- channel, and the frames that were laid out.
-use Rattle.std.specs.Prelude.{ℕ, ◌+◌, Bool, true, false, ◌&&◌, ◌||◌, not, nat_eq, if◌then◌else◌}
-use Rattle.std.specs.Prelude.{List, [], ◌∷◌, ◌++◌, count_by, sum_by, Option, Some, None, Err}
+use Rattle.std.specs.Prelude.{◌≡◌, ℕ, ◌+◌, ◌-◌, ◌<◌, zero, suc}
+use Rattle.std.specs.Prelude.{Bool, true, false, ◌&&◌, ◌||◌, not, nat_eq, if◌then◌else◌}
+use Rattle.std.specs.Prelude.{List, [], ◌∷◌, ◌++◌, length, count_by, sum_by}
+use Rattle.std.specs.Prelude.{Option, Some, None, Err}
+use Rattle.list_set.specs.Counts.{one_if}
 use Rattle.xcp_base.specs.Samples.{SampleParts}
 use Rattle.xcp_base.specs.declared.err_code.ErrCode.{ErrCode}
 use Rattle.xcp_base.specs.declared.item.Item.{Item}
@@ -34,6 +37,16 @@ pub data Act : Type 0 where
   CameBack : (m c : ℕ) (past : SamplerPast) → Act
   Sent : (n : ℕ) → Act
   HungUp : Act
+
+-- so many were sent, if these are any
+abbrev pub sending : ℕ → List Act
+sending zero = []
+sending (suc n) = Sent (suc n) ∷ []
+
+-- the transport was lost, if a master was connected
+abbrev pub losing : Bool → List Act
+losing false = []
+losing true = HungUp ∷ []
 
 -- In each definition below the log has the acts so far, the newest first.
 
@@ -158,6 +171,15 @@ abbrev pub laid : Profile → List Act → List Laid
 laid d [] = []
 laid d (act ∷ log) = laid d log ++ laid_by d act log
 
+-- how many of them wait
+abbrev pub waiting : Profile → List Act → ℕ
+waiting d log = length (laid d log) - sent_of log
+
+-- what a log weighs: its acts, the replies and samples that wait, and one more while a master is
+-- connected. So what waits is sent, and a master hangs up, at no more weight
+abbrev pub weight : Profile → List Act → ℕ
+weight d log = length log + waiting d log + one_if (past_of d log).connected
+
 -- whether what was left of the sampler that event channel c had in measurement m came back
 abbrev pub is_back : ℕ → ℕ → List Act → Bool
 is_back m c [] = false
@@ -183,6 +205,11 @@ has_part m c (HungUp ∷ log) = has_part m c log
 -- whether it has one that did not come back
 abbrev pub is_out : ℕ → ℕ → List Act → Bool
 is_out m c log = has_part m c log && not (is_back m c log)
+
+-- all parts came back
+abbrev pub AllBack : Profile → List Act → Type 0
+AllBack d log =
+    (m c : ℕ) → c < length d.events.items → has_part m c log ≡ true → is_back m c log ≡ true
 
 -- the parts of measurements that came back, with what had been done with their rings, the newest
 -- first

@@ -1,11 +1,14 @@
 -- What contracts see of a slave, and what it stands after.
 use Rattle.std.specs.Prelude.{◌≡◌, ℕ, ◌+◌, ◌-◌, ◌*◌, ◌<◌, ◌≤◌, ◌⊎◌, ◌↔◌, Bool, true, false}
 use Rattle.std.specs.Prelude.{List, [], ◌∷◌}
-use Rattle.std.specs.Prelude.{drop, length, slice_get, Option, Some, None}
+use Rattle.std.specs.Prelude.{drop, length, slice_get, Some}
 use Rattle.std.specs.Prelude.{take as first}
 use mathlib.Core.List.{IsPrefix}
+use Rattle.xcp_base.specs.Packets.{ArePackets}
 use Rattle.xcp_base.specs.declared.err_code.ErrCode.{ErrCode}
 use Rattle.xcp_base.specs.declared.err_code.ErrCode.TheVariants.{Sequence}
+use Rattle.xcp_base.specs.declared.item.Item.{Item}
+use Rattle.xcp_base.specs.declared.item.Item.TheVariants.{Marker, Sample}
 use Rattle.xcp_base.specs.declared.limits.TheConstants.{MAX_LISTS, MAX_TAKEN}
 use Rattle.channel_ring.specs.declared.ends.TakeEnd.{Ghosts as TakeGhosts}
 use Rattle.daq_store.specs.Configuration.{Configuration}
@@ -21,22 +24,25 @@ use Rattle.frame_outbox.specs.Outboxes.{OutboxState}
 use Rattle.frame_outbox.specs.Outboxes.{StandsAfter as OutboxStandsAfter}
 use Rattle.tasks.specs.Links.{is_running, takes_orders}
 use Rattle.slave_channel.specs.Channels.{ChannelState, ShareState}
+pub use Rattle.slave_channel.specs.Channels.{number_of}
+use Rattle.sampler.specs.History.{due}
 use Rattle.sampler.specs.Past.{Past as SamplerPast}
 use Rattle.channel_intake.specs.Accounts.{HasPlans}
-use Rattle.channel_intake.specs.Deeds.{taken}
+use Rattle.channel_intake.specs.Deeds.{passes, taken}
 use Rattle.daq_engine.specs.Order.{items_of}
 use Rattle.daq_engine.specs.Overload.{HasMarks}
 use Rattle.transmitter.specs.Items.{samples}
 use Rattle.slave.specs.Log.{Act, CameBack, Heard, HungUp, Opened, Refused, Sent, Took}
 use Rattle.slave.specs.Log.{deeds_of, entries_of, has_part, is_back, is_out, laid, opened}
-use Rattle.slave.specs.Log.{past_of, sent_of}
+use Rattle.slave.specs.Log.{past_of, sent_of, weight}
 use Rattle.session_account.specs.Accounts.{AccountStandsAfter}
 use Rattle.session_account.specs.declared.totals.Totals.{Totals}
 use Rattle.slave.specs.Plans.{IsAsOpened, plan_at}
+use Rattle.slave.specs.Openings.{IsOpenedAfter, IsOpeningAfter, past_at}
 
 -- the session with the master, the frames that were laid out, the event channels, how the DAQ lists
--- were set up where the newest measurement was opened, how many measurements were opened, and the
--- account of what came back
+-- were set up where the newest measurement was opened, how many measurements were opened, the
+-- account of what came back, and how much it counted of what it did
 pub record SlaveState (S T : Type 0) : Type 0 where
   pub session : SessionState
   pub outbox : OutboxState
@@ -44,6 +50,7 @@ pub record SlaveState (S T : Type 0) : Type 0 where
   pub plan : List Configuration
   pub number : ℕ
   pub account : List Totals
+  pub acts : ℕ
 
 -- no list runs
 abbrev pub NoneRuns : Past → Type 0
@@ -53,17 +60,24 @@ NoneRuns past = (l : ℕ) → l < MAX_LISTS → runs past l ≡ false
 abbrev pub IsStart : Profile → Past → List ℕ → Type 0
 IsStart d past packet = (l : ℕ) × (l < MAX_LISTS) × (starts d past packet l ≡ true)
 
--- at each event channel of which a list is ready there is a part
-abbrev pub HasAllParts : Profile → Past → (ℕ → Bool) → Type 0
-HasAllParts d past at =
-    (c l : ℕ) → c < length d.events.items → l < MAX_LISTS → is_on d past c l ≡ true → at c ≡ true
+-- a list is ready whose mode names event channel c
+pub record HasReady (d : Profile) (past : Past) (c : ℕ) : Type 0 where
+  pub channel : c < length d.events.items
+  pub list : ℕ
+  pub below : list < MAX_LISTS
+  pub ready : is_on d past c list ≡ true
 
--- the newest act opened a measurement, with a part at each event channel of which a list is ready
+-- there is a part exactly at the event channels of which a list is ready
+abbrev pub AreParts : Profile → Past → (ℕ → Bool) → Type 0
+AreParts d past at = (c : ℕ) → (at c ≡ true) ↔ HasReady d past c
+
+-- the newest act opened a measurement, with a part exactly at the event channels of which a list is
+-- ready
 abbrev pub JustOpened : Profile → List Act → Type 0
 JustOpened d [] = ⊥
 JustOpened d (Heard x ∷ log) = ⊥
 JustOpened d (Refused packet code ∷ log) = ⊥
-JustOpened d (Opened at ∷ log) = HasAllParts d (past_of d log) at
+JustOpened d (Opened at ∷ log) = AreParts d (past_of d log) at
 JustOpened d (Took m c x ∷ log) = ⊥
 JustOpened d (CameBack m c past ∷ log) = ⊥
 JustOpened d (Sent n ∷ log) = ⊥
@@ -94,19 +108,34 @@ abbrev pub IsSequenceIfOther : Profile → List Act → List ℕ → ErrCode →
 IsSequenceIfOther d log packet code = (code ≡ Sequence) ↔ StartsOther d log packet
 
 -- what is left of the sampler that event channel c had in measurement m comes back once, of the
--- newest measurement only where no list runs; what was taken of its ring are the first of the items
--- that the sampler sent, and the samples among these are marked exactly behind drops
+-- newest measurement only where no list runs; it was opened as the lists were set up where the
+-- measurement was opened; of each due sample it was decided whether it is accepted; what was taken
+-- of its ring are the first of the items that the sampler sent, and the samples among these are
+-- marked exactly behind drops
 pub record ComesBack (d : Profile) (log : List Act) (m c : ℕ) (past : SamplerPast) : Type 0 where
   pub there : m < opened log
   pub once : is_back m c log ≡ false
   pub over : m + 1 ≡ opened log → NoneRuns (past_of d log)
+  pub opens : IsOpeningAfter d (past_at d m log) c past.opening
   pub plans : HasPlans past
+  pub decided : length past.decisions ≡ length (due past.opening past.history)
   pub front : IsPrefix (taken (deeds_of d m c log)) (items_of past)
   pub marks : HasMarks past (samples (taken (deeds_of d m c log)))
 
+-- the packets of a sample that passes have 1 to MAX_DTO bytes each
+abbrev pub HasPacketsIfPasses : List Deed → Item → Type 0
+HasPacketsIfPasses deeds (Sample s) = passes deeds s.list ≡ true → ArePackets s.packets
+HasPacketsIfPasses deeds (Marker k) = Unit {0}
+
+-- an item is taken of the ring of a part that did not come back
+pub record IsTaken (d : Profile) (log : List Act) (m c : ℕ) (x : Item) : Type 0 where
+  pub within : c < length d.events.items
+  pub out : is_out m c log ≡ true
+  pub packets : HasPacketsIfPasses (deeds_of d m c log) x
+
 -- in a slave's log there may be no memory only for an allocation that else is accepted; starts
 -- alone are refused; a measurement is opened only where no list runs; items are those of
--- measurements that were opened, and that did not come back
+-- parts of measurements that were opened, and that did not come back
 abbrev pub IsLog : Profile → List Act → Type 0
 IsLog d [] = Unit {0}
 IsLog d (Heard x ∷ log) =
@@ -115,15 +144,10 @@ IsLog d (Heard x ∷ log) =
 IsLog d (Refused packet code ∷ log) =
     IsStart d (past_of d log) packet × IsSequenceIfOther d log packet code × IsLog d log
 IsLog d (Opened at ∷ log) = NoneRuns (past_of d log) × IsLog d log
-IsLog d (Took m c x ∷ log) = (m < opened log) × (is_back m c log ≡ false) × IsLog d log
+IsLog d (Took m c x ∷ log) = (m < opened log) × IsTaken d log m c x × IsLog d log
 IsLog d (CameBack m c past ∷ log) = ComesBack d log m c past × IsLog d log
 IsLog d (Sent n ∷ log) = IsLog d log
 IsLog d (HungUp ∷ log) = IsLog d log
-
--- the number of a part, if it is there
-abbrev pub number_of : {T : Type 0} → Option (ShareState T) → Option ℕ
-number_of None = None
-number_of (Some p) = Some p.number
 
 module _ {S T : Type 0} where
   -- what is kept of an event channel are its parts of the measurements that are out
@@ -132,6 +156,15 @@ module _ {S T : Type 0} where
     pub older : (m : ℕ) → number_of ch.older ≡ Some m → out m ≡ true
     pub kept :
         (m : ℕ) → out m ≡ true → (number_of ch.newer ≡ Some m) ⊎ (number_of ch.older ≡ Some m)
+
+  -- the parts that are kept of event channel c were opened so, where these were the session's pasts
+  -- at the openings of the measurements
+  pub record AreOpenedAfter (d : Profile) (pasts : ℕ → Past) (c : ℕ) (ch : ChannelState S T)
+      : Type 0 where
+    pub newer :
+        (p : ShareState T) → ch.newer ≡ Some p → IsOpenedAfter d (pasts p.number) c p.opened
+    pub older :
+        (p : ShareState T) → ch.older ≡ Some p → IsOpenedAfter d (pasts p.number) c p.opened
 
   -- where no list runs, each measurement has ended
   abbrev pub HasEnded : SlaveState S T → Past → Type 0
@@ -180,6 +213,9 @@ module _ {T F : Type 0} (take : TakeGhosts T F) where
     pub out :
         (c : ℕ) (ch : ChannelState S T) → slice_get s.channels c ≡ Some ch
         → IsOut (λ m. is_out m c log) ch
+    pub opens :
+        (c : ℕ) (ch : ChannelState S T) → slice_get s.channels c ≡ Some ch
+        → AreOpenedAfter d (λ m. past_at d m log) c ch
     pub many : length s.channels ≡ length d.events.items
     pub plan : s.plan ≡ plan_at d log
     pub number : s.number ≡ opened log
@@ -188,8 +224,14 @@ module _ {T F : Type 0} (take : TakeGhosts T F) where
   abbrev pub SlaveHas : {S : Type 0} → Profile → SlaveState S T → List Act → Type 0
   SlaveHas d s log = StandsBy (λ c m. deeds_of d m c log) d s log
 
-  -- a slave stands after a log
-  pub record SlaveStandsAfter {S : Type 0} (d : Profile) (s : SlaveState S T) (log : List Act)
+  -- all parts of a slave stand after a log
+  pub record PartsStandAfter {S : Type 0} (d : Profile) (s : SlaveState S T) (log : List Act)
       : Type 0 where
     pub has : SlaveHas d s log
     pub ended : HasEnded s (past_of d log)
+
+  -- a slave stands after a log: its parts do, and it counted no less than the log weighs
+  pub record SlaveStandsAfter {S : Type 0} (d : Profile) (s : SlaveState S T) (log : List Act)
+      : Type 0 where
+    pub parts : PartsStandAfter d s log
+    pub counted : weight d log ≤ s.acts

@@ -3,8 +3,8 @@ ghost use Rattle.std.specs.Prelude.{◌≡◌, [], ◌∷◌, true, Err, Some};
 ghost use Rattle.frame_outbox.specs.Outboxes.{has_room};
 ghost use Rattle.session.specs.Fields.{packet_of};
 ghost use Rattle.slave.specs.Hearing.{GoesBy};
-ghost use Rattle.slave.specs.Inner.{Answers, LaysReply, Settles};
-ghost use Rattle.slave.specs.Log.{HungUp};
+ghost use Rattle.slave.specs.Inner.{Answers, LaysReply, PartsGoBy, Settles};
+ghost use Rattle.slave.specs.Log.{HungUp, losing};
 
 use crate::slave::Slave;
 use daq_engine::Ring;
@@ -18,6 +18,7 @@ impl<R: Ring> Slave<R> {
         requires room { has_room self.old.outbox ≡ true }
         ensures answers { Answers R.Take.TakeEnd self.old self.new packet.now clock }
         ensures profile_stays { self.new.session.profile ≡ self.old.session.profile }
+        ensures acts_stay { self.new.acts ≡ self.old.acts }
     {
         let before = self.session.running();
         let reply = self.session.answer(packet, clock);
@@ -58,10 +59,23 @@ impl<R: Ring> Slave<R> {
     }
 
     /// The transport was lost: all DAQ lists stop and are given up, and no master is connected. So
-    /// it is after DISCONNECT, but nothing is replied. What waits to be sent waits on.
+    /// it is after DISCONNECT, but nothing is replied. What waits to be sent waits on. While no
+    /// master is connected, nothing changes.
     pub fn hang_up(&mut self)
-        ensures hangs_up { GoesBy R.Take.TakeEnd self.old self.new (HungUp ∷ []) }
+        ensures hangs_up { GoesBy R.Take.TakeEnd self.old self.new
+            (losing self.old.session.connected) }
         ensures profile_stays { self.new.session.profile ≡ self.old.session.profile }
+    {
+        if self.session.is_connected() {
+            self.lose_master();
+        }
+    }
+
+    /// The transport to a master that was connected is lost.
+    fn lose_master(&mut self)
+        ensures hangs_up { PartsGoBy R.Take.TakeEnd self.old self.new (HungUp ∷ []) }
+        ensures profile_stays { self.new.session.profile ≡ self.old.session.profile }
+        ensures acts_stay { self.new.acts ≡ self.old.acts }
     {
         let before = self.session.running();
         self.session.hang_up();

@@ -1,9 +1,10 @@
 //! What came back of measurements is handed out.
-ghost use Rattle.std.specs.Prelude.{◌*◌, ◌<◌, length};
+ghost use Rattle.std.specs.Prelude.{◌≡◌, ◌*◌, ◌<◌, length, true};
 ghost use Rattle.xcp_base.specs.declared.limits.TheConstants.{MAX_CHANNELS};
-ghost use Rattle.slave.specs.Finishing.{GivesBack};
-ghost use Rattle.slave.specs.Inner.{Collects, Idle, Notes};
+ghost use Rattle.slave.specs.Finishing.{GivesBack, GivesBackBy};
+ghost use Rattle.slave.specs.Inner.{Collects, Idle, Notes, PartsGoBy, IsOver};
 
+use crate::limits::PER_ACT;
 use crate::slave::Slave;
 use daq_engine::Ring;
 use session_account::Account;
@@ -19,13 +20,28 @@ fn note<R: Ring>(account: &mut Account, part: &Option<Finished<R>>)
 }
 
 impl<R: Ring> Slave<R> {
-    /// What came back of a measurement that has ended, at event channel `c`: of the one before the
-    /// last, or, while no list runs, of the last. Its task gives it back when it looks for orders,
-    /// or never took it. `None` if nothing came back there, or there is no such event channel.
+    /// What came back of a measurement that has ended, at event channel `c`: of the last two with a
+    /// part there, the older first. Of the newest measurement it is while no list runs. Its task
+    /// gives it back when it looks for orders, or never took it. `None` if nothing came back there,
+    /// or there is no such event channel, or the slave is spent.
     ///
     /// A start that opens a measurement takes back what came back before.
     pub fn take_back(&mut self, c: usize) -> Option<Finished<R>>
         ensures back { GivesBack R.Take.TakeEnd R.Send.End.RingEnd self.old self.new c result }
+    {
+        if self.is_spent() {
+            return None;
+        }
+        let finished = self.back_at(c)?;
+        self.acts += PER_ACT;
+        Some(finished)
+    }
+
+    /// What came back at event channel `c`, which isn't counted yet.
+    fn back_at(&mut self, c: usize) -> Option<Finished<R>>
+        ensures back { GivesBackBy R.Take.TakeEnd (PartsGoBy R.Take.TakeEnd)
+            R.Send.End.RingEnd self.old self.new c result }
+        ensures acts_stay { self.new.acts ≡ self.old.acts }
     {
         if c >= self.channels.len() {
             return None;
@@ -33,10 +49,25 @@ impl<R: Ring> Slave<R> {
         if let Some(finished) = self.take_older(c) {
             return Some(finished);
         }
-        if !self.is_idle() {
+        if !self.is_over(c) {
             return None;
         }
         self.take_newer(c)
+    }
+
+    /// Whether the last measurement with a part at an event channel has ended: no list runs, or it
+    /// isn't the newest.
+    fn is_over(&self, c: usize) -> bool
+        requires channel { c < length self.now.channels }
+        ensures over { result ≡ true → IsOver self.now c }
+    {
+        if self.is_idle() {
+            return true;
+        }
+        let Some(number) = self.channels.newest(c) else {
+            return false;
+        };
+        number.wrapping_add(1) != self.number
     }
 
     /// Takes back what came back, at all event channels.
@@ -60,27 +91,31 @@ impl<R: Ring> Slave<R> {
     fn collect_one(&mut self, c: usize)
         ensures { Collects R.Take.TakeEnd 1 self.old self.new }
     {
-        if let Some(part) = self.take_back(c) {
+        if let Some(part) = self.back_at(c) {
             // for the proof: gives `finished`, the past that its sampler came to
             let _ = part.number();
         }
     }
 
-    /// What came back of the measurement before the last.
+    /// What came back of the one before the last with a part there.
     fn take_older(&mut self, c: usize) -> Option<Finished<R>>
         requires channel { c < length self.old.channels }
-        ensures back { GivesBack R.Take.TakeEnd R.Send.End.RingEnd self.old self.new c result }
+        ensures back { GivesBackBy R.Take.TakeEnd (PartsGoBy R.Take.TakeEnd)
+            R.Send.End.RingEnd self.old self.new c result }
+        ensures acts_stay { self.new.acts ≡ self.old.acts }
     {
         let part = self.channels.take_older(c);
         note(&mut self.account, &part);
         part
     }
 
-    /// What came back of the last measurement, which has ended.
+    /// What came back of the last measurement with a part there, which has ended.
     fn take_newer(&mut self, c: usize) -> Option<Finished<R>>
-        requires idle { Idle self.old.session }
+        requires over { IsOver self.old c }
         requires channel { c < length self.old.channels }
-        ensures back { GivesBack R.Take.TakeEnd R.Send.End.RingEnd self.old self.new c result }
+        ensures back { GivesBackBy R.Take.TakeEnd (PartsGoBy R.Take.TakeEnd)
+            R.Send.End.RingEnd self.old self.new c result }
+        ensures acts_stay { self.new.acts ≡ self.old.acts }
     {
         let part = self.channels.take_newer(c);
         note(&mut self.account, &part);

@@ -1,8 +1,25 @@
 //! What follows from the definitions.
-ghost use Rattle.slave.specs.Laws.{NothingOutsideARun};
+ghost use Rattle.slave.specs.Laws.{NothingOutsideARun, OneSlaveOneStory, SessionOfLog};
+
+use daq_engine::Ring;
 
 /// A sample that is laid out is of the newest measurement, and its DAQ list runs: so it stands
 /// behind the reply to the start of the list, and before that to its stop.
 pub fn nothing_outside_a_run()
     ensures { NothingOutsideARun }
+{}
+
+/// The law of a session: what a slave's log says of the bytes that were sent. They split into
+/// frames whose counters rise by one; the packets that begin as replies do are the replies, in
+/// order and each once; samples stand only within their measurement and where their DAQ list runs;
+/// and what came back of each event channel tells which samples they are, which of them are marked,
+/// and how many were due, written, dropped and left.
+pub fn session()
+    ensures { SessionOfLog }
+{}
+
+/// Two logs after which one slave stands tell one story: the same bytes were sent and wait, the
+/// lines of the account are the same, and the same parts of measurements are still out.
+pub fn one_slave_one_story<R: Ring>()
+    ensures { OneSlaveOneStory R.Take.TakeEnd R.Send }
 {}

@@ -6,12 +6,15 @@ mod closing;
 mod finishing;
 mod hearing;
 pub mod laws;
+mod limits;
 mod opening;
 mod plan;
+mod round;
 mod sending;
 mod slave;
 mod starting;
 
 pub use closing::Closed;
+pub use limits::MOST_ACTS;
 pub use opening::OpenFault;
 pub use slave::Slave;

@@ -1,5 +1,6 @@
 ghost use Rattle.std.specs.Prelude.{◌≡◌, [], IfOk, OnOk, None, Some, length, replicate};
 ghost use Rattle.session.specs.Profiles.{profile_fault};
+ghost use Rattle.slave.specs.Openings.{capacities_in};
 ghost use Rattle.slave.specs.Standing.{SlaveStandsAfter};
 ghost use Rattle.slave_channels.specs.Calls.{no_sampler};
 
@@ -30,7 +31,7 @@ pub enum OpenFault {
 
 /// The capacities of event channels.
 fn capacities(alloc: Global, events: &[EventChannel]) -> Result<Vec<usize>, AllocError>
-    ensures many { IfOk result (λ caps. length caps.items ≡ length events.now) }
+    ensures value { IfOk result (λ caps. caps.items ≡ capacities_in events.now) }
 {
     let mut caps = Vec::new(alloc);
     for c in 0..events.len() {
@@ -85,6 +86,7 @@ impl<R: Ring> Slave<R> {
             plan: Plan::none(alloc),
             number: 0,
             account: Account::new(),
+            acts: 0,
             next: 0,
         };
         Ok((slave, tasks))

@@ -1,14 +1,18 @@
 //! Items are taken off the rings, and what waits is sent.
-ghost use Rattle.std.specs.Prelude.{◌≡◌, ◌*◌, ◌<◌, [], ◌∷◌, min, length, drop, OnErr, OnOk};
+ghost use Rattle.std.specs.Prelude.{◌≡◌, ◌*◌, ◌<◌, ◌≤◌, [], min, length, drop, OnErr, OnOk};
 ghost use Rattle.std.specs.Prelude.{take as first};
 ghost use Rattle.xcp_base.specs.declared.limits.TheConstants.{MAX_CHANNELS};
 ghost use Rattle.frame_outbox.specs.Outboxes.{Shows};
 ghost use Rattle.frame_outbox.specs.Putting.{Hands};
 ghost use Rattle.frame_writer.specs.Shown.{shown};
 ghost use Rattle.slave.specs.Hearing.{GoesBy};
-ghost use Rattle.slave.specs.Log.{Sent};
-ghost use Rattle.slave.specs.Taking.{TakesItems, most_taken};
+ghost use Rattle.slave.specs.Inner.{EndsRound, LooksOnce, acts_of};
+ghost use Rattle.slave.specs.Log.{sending};
+ghost use Rattle.slave.specs.Taking.{LooksThrough, TakesItems, most_taken};
+ghost use Rattle.slave.specs.declared.limits.TheConstants.{PER_ACT};
 
+use crate::limits::PER_ACT;
+use crate::round::{Round, is_full};
 use crate::slave::Slave;
 use channel_intake::Step;
 use daq_engine::Ring;
@@ -18,43 +22,60 @@ use frame_writer::Out;
 /// The most items that are taken off one ring in a call.
 const MOST_ITEMS: usize = 1024;
 
+/// What an item that was taken counts as.
+fn acts_of(step: Step) -> u64
+    ensures value { result ≡ acts_of step }
+    ensures limit { result ≤ PER_ACT }
+{
+    match step {
+        Step::Nothing | Step::Full => 0,
+        _ => PER_ACT,
+    }
+}
+
 impl<R: Ring> Slave<R> {
     /// Takes items off the rings, round by round: in a round at most one of each, in rising event
     /// channel. It lays those samples out whose DAQ list runs, as long as their frames end within
     /// the page; the call ends at the first sample that finds no room, and the next one begins at
-    /// its ring. What the rings of measurements before the last still hold is let go, so that their
-    /// tasks' stops find room. It takes no memory.
+    /// its ring. Else it ends once a round over all rings found nothing, or after 1,024 rounds. What
+    /// the rings of measurements before the last still hold is let go, so that their tasks' stops
+    /// find room. It takes no memory; and nothing off the rings of a slave that is spent.
     pub fn take(&mut self)
         ensures takes { TakesItems R.Take.TakeEnd most_taken self.old self.new }
+        ensures through { LooksThrough R.Take.TakeEnd self.old self.new }
     {
         self.let_go();
+        let mut begin = self.next;
         let mut rounds = 0;
         while rounds < MOST_ITEMS {
-            if !self.round() {
+            let round = self.round(begin);
+            if round.is_last(begin) {
                 return;
             }
+            begin = 0;
             rounds += 1;
         }
     }
 
-    /// Takes an item of each ring, from that on at which a sample found no room; and returns
-    /// whether the next round may find one.
-    fn round(&mut self) -> bool
+    /// Takes an item of each ring, from that of event channel `begin` on.
+    fn round(&mut self, begin: usize) -> Round
         ensures takes { TakesItems R.Take.TakeEnd MAX_CHANNELS self.old self.new }
+        ensures ends { EndsRound R.Take.TakeEnd self.old self.new begin result }
     {
+        let before = self.acts;
         let len = self.channels.len();
-        let first = self.next.min(len);
-        let mut goes_on = first > 0;
-        for c in first..len {
+        for c in begin.min(len)..len {
             let step = self.take_one(c);
-            if step == Step::Full {
+            if is_full(step) {
                 self.next = c;
-                return false;
+                return Round::HeldUp;
             }
-            goes_on |= step != Step::Nothing;
         }
         self.next = 0;
-        goes_on
+        if self.acts > before {
+            return Round::Took;
+        }
+        Round::Empty
     }
 
     /// Takes what the rings of the measurements before the last still hold.
@@ -84,8 +105,14 @@ impl<R: Ring> Slave<R> {
     fn take_one(&mut self, c: usize) -> Step
         requires channel { c < length self.old.channels }
         ensures takes { TakesItems R.Take.TakeEnd 1 self.old self.new }
+        ensures looks { LooksOnce R.Take.TakeEnd self.old self.new c result }
     {
-        self.channels.take(c, &mut self.outbox)
+        if self.is_spent() {
+            return Step::Nothing;
+        }
+        let step = self.channels.take(c, &mut self.outbox);
+        self.acts += acts_of(step);
+        step
     }
 
     /// The same of the measurement before it.
@@ -93,7 +120,12 @@ impl<R: Ring> Slave<R> {
         requires channel { c < length self.old.channels }
         ensures takes { TakesItems R.Take.TakeEnd 1 self.old self.new }
     {
-        self.channels.take_from_older(c, &mut self.outbox)
+        if self.is_spent() {
+            return Step::Nothing;
+        }
+        let step = self.channels.take_from_older(c, &mut self.outbox);
+        self.acts += acts_of(step);
+        step
     }
 
     /// Copies as many whole replies and samples as find room to the front of a buffer, in the order
@@ -112,7 +144,7 @@ impl<R: Ring> Slave<R> {
     /// What the last peek showed was sent, and waits no more.
     pub fn sent(&mut self)
         ensures sends { GoesBy R.Take.TakeEnd self.old self.new
-            (Sent (min self.old.outbox.shown (length self.old.outbox.units)) ∷ []) }
+            (sending (min self.old.outbox.shown (length self.old.outbox.units))) }
         ensures none_shown { self.new.outbox.shown ≡ 0 }
         ensures profile_stays { self.new.session.profile ≡ self.old.session.profile }
     {
@@ -128,7 +160,7 @@ impl<R: Ring> Slave<R> {
         ensures hands { Hands (shown O.Out out.old) (shown O.Out out.new)
             self.old.outbox.waits result }
         ensures ok { OnOk result (GoesBy R.Take.TakeEnd self.old self.new
-            (Sent (length self.old.outbox.units) ∷ [])) }
+            (sending (length self.old.outbox.units))) }
         ensures err { OnErr result (self.new ≡ self.old) }
     {
         self.outbox.put(out)

@@ -19,13 +19,17 @@ pub struct Slave<R: Ring> {
     pub(crate) plan: Plan,
     pub(crate) number: u64,
     pub(crate) account: Account,
+    // what the acts so far count as, at least: see `limits`
+    pub(crate) acts: u64,
     // the event channel at which the next round begins: the last one broke off there
     pub(crate) next: usize,
 }
 
 impl<R: Ring> Model for Slave<R> {
-    ghost use Rattle.std.specs.Prelude.{◌≡◌, length};
+    ghost use Rattle.std.specs.Prelude.{◌≡◌, ◌+◌, ◌<◌, length};
+    ghost use Rattle.slave.specs.Openings.{capacities_of};
     ghost use Rattle.slave.specs.Standing.{SlaveState};
+    ghost use Rattle.slave.specs.declared.limits.TheConstants.{MOST_ACTS, PER_PACKET};
 
     ghost Value = { SlaveState R.Send R.Take };
 
@@ -36,7 +40,10 @@ impl<R: Ring> Model for Slave<R> {
       plan = s.plan;
       number = s.number;
       account = s.account;
+      acts = s.acts;
     } };
 
-    ghost invariant = { λ s. length s.caps.items ≡ length s.channels };
+    ghost invariant = { λ s. (length s.caps.items ≡ length s.channels)
+        × (s.acts < MOST_ACTS + PER_PACKET)
+        × (s.caps.items ≡ capacities_of s.session.profile) };
 }

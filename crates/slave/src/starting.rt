@@ -2,10 +2,12 @@
 ghost use Rattle.std.specs.Prelude.{◌≡◌, ◌<◌, IfErr, OnErr, OnOk, length, true, false};
 ghost use Rattle.xcp_base.specs.declared.limits.TheConstants.{MAX_CHANNELS};
 ghost use Rattle.slave.specs.Hearing.{most_before};
-ghost use Rattle.slave.specs.Inner.{AreSets, Busy, HasSome, Idle, IsBusy, IsPlaceRefusal};
-ghost use Rattle.slave.specs.Inner.{LooksAtAll, OpensAll, OpensInVain, OpensNone, Prepares};
-ghost use Rattle.slave.specs.Inner.{StartsInVain, StartsLists};
+ghost use Rattle.slave.specs.Inner.{AreJustOut, AreSets, Busy, HasRoom, Idle, IsBusy};
+ghost use Rattle.slave.specs.Inner.{IsPlaceRefusal, IsSetOn, LooksAtAll, OpensAll, OpensInVain};
+ghost use Rattle.slave.specs.Inner.{OpensNone, Prepares};
+ghost use Rattle.slave.specs.Inner.{StartsInVain, StartsLists, WantsRoom};
 ghost use Rattle.slave.specs.Plans.{plan_of};
+ghost use Rattle.slave_channels.specs.Calls.{HasSome};
 
 use crate::plan::Plan;
 use crate::slave::Slave;
@@ -31,9 +33,11 @@ impl<R: Ring> Slave<R> {
     /// is there.
     pub(crate) fn prepare(&mut self, alloc: Global, lists: ListSet) -> Result<(), ErrCode>
         ensures ok { OnOk result (Prepares R.Take.TakeEnd most_before self.old self.new lists) }
-        ensures err { IfErr result (StartsInVain R.Take.TakeEnd most_before self.old self.new lists) }
+        ensures err { IfErr result
+            (StartsInVain R.Take.TakeEnd most_before self.old self.new lists) }
         ensures session_stays { self.new.session ≡ self.old.session }
         ensures outbox_stays { self.new.outbox ≡ self.old.outbox }
+        ensures acts_stay { self.new.acts ≡ self.old.acts }
     {
         if lists.is_empty() {
             return Ok(());
@@ -60,16 +64,17 @@ impl<R: Ring> Slave<R> {
         requires idle { Idle self.old.session }
         requires some { HasSome lists }
         ensures ok { OnOk result (Prepares R.Take.TakeEnd most_before self.old self.new lists) }
-        ensures err { IfErr result (StartsInVain R.Take.TakeEnd most_before self.old self.new lists) }
+        ensures err { IfErr result
+            (StartsInVain R.Take.TakeEnd most_before self.old self.new lists) }
         ensures session_stays { self.new.session ≡ self.old.session }
         ensures outbox_stays { self.new.outbox ≡ self.old.outbox }
+        ensures acts_stay { self.new.acts ≡ self.old.acts }
     {
         self.collect();
         self.start_new(alloc, lists)
     }
 
-    /// Opens a measurement, and orders the starts of these lists. Where that isn't possible it ends
-    /// again.
+    /// Opens a measurement, if there is room for one more, and orders the starts of these lists.
     fn start_new(&mut self, alloc: Global, lists: ListSet) -> Result<(), ErrCode>
         requires idle { Idle self.old.session }
         requires some { HasSome lists }
@@ -77,21 +82,30 @@ impl<R: Ring> Slave<R> {
         ensures err { IfErr result (StartsInVain R.Take.TakeEnd 1 self.old self.new lists) }
         ensures session_stays { self.new.session ≡ self.old.session }
         ensures outbox_stays { self.new.outbox ≡ self.old.outbox }
+        ensures acts_stay { self.new.acts ≡ self.old.acts }
     {
-        self.open_measurement(alloc)?;
-        if let Err(code) = self.start(lists) {
-            self.channels.end();
-            return Err(code);
+        if !self.can_open() {
+            return Err(ErrCode::CmdBusy);
         }
+        self.open_measurement(alloc)?;
+        self.start_opened(lists);
         Ok(())
+    }
+
+    /// Whether there is room for one more measurement of all lists that are ready.
+    fn can_open(&self) -> bool
+        ensures yes { result ≡ true → HasRoom self.now }
+        ensures no { result ≡ false → WantsRoom self.now }
+    {
+        let ready = self.sets_of(ListSet::all());
+        self.channels.can_open(&ready[..self.channels.len()])
     }
 
     /// Opens a measurement of all lists that are ready.
     fn open_measurement(&mut self, alloc: Global) -> Result<(), ErrCode>
         ensures ok { OnOk result (OpensAll
             R.Send.SendEnd R.Send.End.RingEnd R.Take.TakeEnd self.old self.new) }
-        ensures code { IfErr result IsPlaceRefusal }
-        ensures err { OnErr result (OpensNone
+        ensures err { IfErr result (OpensNone
             R.Send.SendEnd R.Send.End.RingEnd R.Take.TakeEnd self.old self.new) }
     {
         let Ok(plan) = Plan::of(alloc, self.session.store()) else {
@@ -135,6 +149,26 @@ impl<R: Ring> Slave<R> {
         Ok(())
     }
 
+    /// Orders the starts of these lists in a measurement that was just opened. They always find
+    /// places, since no order waits there.
+    fn start_opened(&mut self, lists: ListSet)
+        requires opened { AreJustOut self.old }
+        ensures starts { StartsLists R.Take.TakeEnd self.old self.new lists }
+    {
+        let sets = self.sets_of(lists);
+        self.channels.start_checked(&sets[..self.channels.len()]);
+    }
+
+    /// Those of the lists that are ready and whose modes name this event channel.
+    fn set_on(&self, lists: ListSet, c: ChannelId) -> ListSet
+        ensures set { IsSetOn self.now.session lists c result }
+    {
+        let set = lists.intersection(self.session.lists_on(c));
+        // for the proof: a set that isn't empty has a list
+        let _ = set.is_empty();
+        set
+    }
+
     /// Those of the lists that are ready, by the event channel that their modes name.
     fn sets_of(&self, lists: ListSet) -> [ListSet; MAX_CHANNELS as usize]
         ensures sets { AreSets self.now.session lists result }
@@ -142,7 +176,7 @@ impl<R: Ring> Slave<R> {
     {
         let mut sets = [ListSet::none(); MAX_CHANNELS as usize];
         for c in 0..MAX_CHANNELS as usize {
-            sets[c] = lists.intersection(self.session.lists_on(ChannelId::at(c)));
+            sets[c] = self.set_on(lists, ChannelId::at(c));
         }
         sets
     }

@@ -1,11 +1,12 @@
 -- What the calls by which a slave hears its master, and is shown and sent what waits, answer and
 -- leave, by their status.
-use Rattle.std.specs.Prelude.{◌≡◌, ℕ, ◌<◌, ◌≤◌, List, length, Option}
+use Rattle.std.specs.Prelude.{◌≡◌, ℕ, ◌<◌, ◌≤◌, false, true, List, length, Option}
 use Rattle.channel_ring.specs.declared.ends.TakeEnd.{Ghosts as TakeGhosts}
 use Rattle.handle_calls.specs.States.{Bytes, Items}
 use Rattle.handle_calls.specs.declared.content.Content.{Content}
 use Rattle.handle_calls.specs.declared.status.Status.{Status}
 use Rattle.handle_calls.specs.declared.status.Status.TheVariants as status
+use Rattle.slave.specs.Hearing.{is_spent}
 use Rattle.task_lending.specs.Bytes.{HangsUp, HearsBytes, RefusesBytes, TakesBytes}
 use Rattle.task_lending.specs.Sending.{Peeks, Sends}
 use Rattle.task_lending.specs.States.{LendingSlaveState}
@@ -18,19 +19,25 @@ pub record ShownRoom : Type 0 where
   pub len : ℕ
 
 module _ {S T F : Type 0} (take : TakeGhosts T F) where
-  -- what a slave does with bytes of a stream; how many it took is told
+  -- what a slave does with bytes of a stream, if it isn't spent; how many it took is told
   abbrev pub ReceivesBytes
       : LendingSlaveState S T → LendingSlaveState S T → List ℕ → ℕ → ℕ → ℕ → Status → Type 0
-  ReceivesBytes s t bytes clock before after status.Ok = TakesBytes take s t clock bytes after
+  ReceivesBytes s t bytes clock before after status.Ok =
+      (is_spent s.slave ≡ false) × TakesBytes take s t clock bytes after
   ReceivesBytes s t bytes clock before after status.BadFrame =
-      RefusesBytes take s t clock bytes × (after ≡ before)
+      (is_spent s.slave ≡ false) × RefusesBytes take s t clock bytes × (after ≡ before)
+  ReceivesBytes s t bytes clock before after status.Spent =
+      (is_spent s.slave ≡ true) × (t ≡ s) × (after ≡ before)
   ReceivesBytes s t bytes clock before after _ = ⊥
 
   -- what it does with a datagram
   abbrev pub ReceivesDatagram
       : LendingSlaveState S T → LendingSlaveState S T → List ℕ → ℕ → ℕ → ℕ → Status → Type 0
-  ReceivesDatagram s t bytes clock before after result =
-      (result ≡ status.Ok) × HearsBytes take s t clock bytes after
+  ReceivesDatagram s t bytes clock before after status.Ok =
+      (is_spent s.slave ≡ false) × HearsBytes take s t clock bytes after
+  ReceivesDatagram s t bytes clock before after status.Spent =
+      (is_spent s.slave ≡ true) × (t ≡ s) × (after ≡ before)
+  ReceivesDatagram s t bytes clock before after _ = ⊥
 
   -- what it shows of what waits
   abbrev pub ShowsWaiting

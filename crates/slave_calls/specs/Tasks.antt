@@ -68,8 +68,8 @@ module _ {S E : Type 0} (send : SendGhosts S E) (ring : EndGhosts E) where
       × (after ≡ before)
   TriggersTask s t image stamp before after _ = ⊥
 
--- a task is finished. Of what is left of it this says that it is there; that it goes back is said by
--- `LentTask::finish` alone
+-- a task is finished. Of what is left of it this says that it is there; that it goes back is said
+-- by `LentTask::finish` alone
 abbrev pub FinishesTask : {S : Type 0} → TaskState S → Status → Type 0
 FinishesTask s result =
     (result ≡ status.Ok) × ((end : PlaceState (HeldState _)) × (end.taken ≡ s.came))

@@ -22,6 +22,9 @@ fn receive<R: Ring>(
     ensures { ReceivesBytes R.Take.TakeEnd slave.old slave.new bytes.now clock
         taken.old taken.new result }
 {
+    if slave.is_spent() {
+        return Status::Spent;
+    }
     match slave.receive(alloc, bytes, clock) {
         Ok(count) => {
             *taken = count;
@@ -79,6 +82,9 @@ fn hear<R: Ring>(
     ensures { ReceivesDatagram R.Take.TakeEnd slave.old slave.new bytes.now clock
         taken.old taken.new result }
 {
+    if slave.is_spent() {
+        return Status::Spent;
+    }
     *taken = slave.datagram(alloc, bytes, clock);
     Status::Ok
 }

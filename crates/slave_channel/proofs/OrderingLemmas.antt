@@ -118,11 +118,11 @@ module _ {T F : Type 0} (take : TakeGhosts T F) where
   goes-one : (d : Deed) (a b : Option (ShareState T)) → NewestGoesOn take a b d → GoesOnBy take a b (d ∷ [])
   goes-one d None b goes = elim goes [ ]
   goes-one d (Some s) None goes = elim goes [ ]
-  goes-one d (Some s) (Some t) goes = (goes.0, λ deeds few stands. goes.1 deeds (omega (arith, few)) stands)
+  goes-one d (Some s) (Some t) goes = (goes.0, λ deeds few stands. goes.1 deeds (omega (arith, few)) stands, goes.2)
 
   goes-none : (a : Option (ShareState T)) → GoesOnBy take a a []
   goes-none None = refl
-  goes-none (Some s) = (refl, λ deeds few stands. stands)
+  goes-none (Some s) = (refl, λ deeds few stands. stands, refl)
 
   goes-more : (a b c : Option (ShareState T)) (ds es : List Deed) → GoesOnBy take a b ds → GoesOnBy take b c es → GoesOnBy take a c (es ++ ds)
   goes-more None None None ds es one two = ap (λ xs. xs ++ ds) two ∙ one
@@ -130,13 +130,14 @@ module _ {T F : Type 0} (take : TakeGhosts T F) where
   goes-more None (Some t) c ds es one two = elim one [ ]
   goes-more (Some s) None c ds es one two = elim one [ ]
   goes-more (Some s) (Some t) None ds es one two = elim two [ ]
-  goes-more (Some s) (Some t) (Some u) ds es (m, one) (n, two) = (
+  goes-more (Some s) (Some t) (Some u) ds es (m, one, o) (n, two, p) = (
     n ∙ m,
     λ deeds few stands.
         let split = length-append es ds in
         let both = length-append ds deeds in
         subst (λ xs. StandsAfter take u.intake xs) (sym (append_assoc es ds deeds))
         (two (ds ++ deeds) (omega (arith, few, split, both)) (one deeds (omega (arith, few, split)) stands)),
+    p ∙ o,
   )
 
 module _ {S T F : Type 0} (take : TakeGhosts T F) where

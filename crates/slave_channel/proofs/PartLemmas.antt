@@ -14,7 +14,7 @@ use Rattle.sampler.specs.History.{Event, Start, Stop}
 use Rattle.sampler.specs.Past.{Past, first_past}
 use Rattle.sampler.specs.Refusals.{running_at, start_refusal, stop_refusal}
 use Rattle.sampler.specs.Standing.{EndStandsAfter}
-use Rattle.sampler.specs.State.{SamplerEndState, SamplerState, joined}
+use Rattle.sampler.specs.State.{JoinedEnd, SamplerEndState, SamplerState, joined}
 use Rattle.daq_engine.specs.Order.{items_of}
 use Rattle.daq_engine.proofs.OverloadLemmas.{marks-stand}
 use Rattle.daq_engine.proofs.PidLemmas.{all-indexed}
@@ -30,7 +30,7 @@ use Rattle.sampler.specs.History.{Opening}
 use Rattle.tasks.specs.Links.{AnswersHandOut, HandsOut, LinkState, SendsToNewest, first_refusal, hand_refusal, takes_orders}
 use Rattle.control_ring.specs.declared.order.Order.{Order}
 use Rattle.hand_over.specs.Newest.{one_before}
-use Rattle.slave_channel.specs.Channels.{ChannelState, FinishedState, Fits, IsBack, IsBackOf, IsFinished, IsShareOf, Opens, ShareState}
+use Rattle.slave_channel.specs.Channels.{ChannelState, FinishedState, Fits, IsBack, IsBackOf, IsFinished, IsOpeningBy, IsShareOf, OpenedState, Opens, ShareState}
 use Rattle.slave_channel.specs.Inner.{ComesOf, EndStays, FinishesAs}
 
 -- no deed changes what a channel was opened with
@@ -52,10 +52,17 @@ opening-after past (d ∷ ds) = opening-after (past_after_deed past d) ds ∙ de
 pub plans-at : (plans : List ListPlan) → All IsPlan plans → (i : ℕ) (plan : ListPlan) → slice_get plans i ≡ Some plan → IsPlan plan
 plans-at plans all i plan there = subst IsPlan (get_or_from_slice_get plans i plan plan there) (all i plan (slice_get_within plans i plan there))
 
--- the part stays the sampler's while its ring stays
+-- the part stays the sampler's while its ring stays, and what it was opened with
 pub share-stays : {S E T F : Type 0} (send : SendGhosts S E) (ring : EndGhosts E) (take : TakeGhosts T F) (sampler : SamplerState S) (s t : ShareState T)
-    → IsShareOf send ring take sampler s → take.ring t.intake.end ≡ take.ring s.intake.end → IsShareOf send ring take sampler t
-share-stays send ring take sampler s t is same = record { one_ring = same ∙ is.one_ring; opening = is.opening; plans = is.plans; stands = is.stands }
+    → IsShareOf send ring take sampler s → (t.intake.end ≡ s.intake.end) × (t.opened ≡ s.opened) → IsShareOf send ring take sampler t
+share-stays send ring take sampler s t is (end, opened) = record {
+  one_ring = ap take.ring end ∙ is.one_ring;
+  capacity = is.capacity ∙ ap (λ (o : OpenedState). o.capacity) (sym opened);
+  opening = is.opening;
+  opens = subst (λ o. IsOpeningBy o is.opening) (sym opened) is.opens;
+  plans = is.plans;
+  stands = is.stands;
+}
 
 pub fits-changed : {S E T F : Type 0} (send : SendGhosts S E) (ring : EndGhosts E) (take : TakeGhosts T F) (o : Option (AwayState S)) (a b : Option (ShareState T))
     → Fits send ring take o a → EndStays a b → Fits send ring take o b
@@ -64,7 +71,7 @@ fits-changed send ring take None None (Some t) fits stays = elim stays [ ]
 fits-changed send ring take None (Some s) b fits stays = elim fits [ ]
 fits-changed send ring take (Some x) None b fits stays = elim fits [ ]
 fits-changed send ring take (Some x) (Some s) None fits stays = elim stays [ ]
-fits-changed send ring take (Some x) (Some s) (Some t) fits stays = share-stays send ring take x.sampler s t fits (ap take.ring stays)
+fits-changed send ring take (Some x) (Some s) (Some t) fits stays = share-stays send ring take x.sampler s t fits stays
 
 -- and while orders are sent to it
 pub fits-ordered : {S E T F : Type 0} (send : SendGhosts S E) (ring : EndGhosts E) (take : TakeGhosts T F) (ordered : Order) (o p : Option (AwayState S)) (a b : Option (ShareState T))
@@ -74,7 +81,7 @@ fits-ordered send ring take ordered (Some x) None a b fits sends stays = elim se
 fits-ordered send ring take ordered (Some x) (Some y) None b fits sends stays = elim fits [ ]
 fits-ordered send ring take ordered (Some x) (Some y) (Some s) None fits sends stays = elim stays [ ]
 fits-ordered send ring take ordered (Some x) (Some y) (Some s) (Some t) fits sends stays =
-    subst (λ sampler. IsShareOf send ring take sampler t) (sym sends.sampler) (share-stays send ring take x.sampler s t fits (ap take.ring stays))
+    subst (λ sampler. IsShareOf send ring take sampler t) (sym sends.sampler) (share-stays send ring take x.sampler s t fits stays)
 
 -- what is left of a sampler is that of its part
 pub comes-of : {S E T F : Type 0} (send : SendGhosts S E) (ring : EndGhosts E) (take : TakeGhosts T F) (a : AwayState S) (o : Option (AwayState S)) (part : Option (ShareState T)) (end : SamplerEndState E) (left : ℕ)
@@ -86,7 +93,13 @@ comes-of send ring take a (Some x) (Some s) end left is fits came =
     let past = past_after (first_past mine.opening) came.deeds in
     let opened = opening-after (first_past mine.opening) came.deeds in (
       came.same_ring ∙ sym mine.one_ring,
-      (past, came.stands (first_past mine.opening) mine.stands, λ i plan there. plans-at mine.opening.plans mine.plans i plan (ap (λ op. slice_get op.plans i) (sym opened) ∙ there)),
+      came.capacity ∙ mine.capacity,
+      (
+        past,
+        came.stands (first_past mine.opening) mine.stands,
+        λ i plan there. plans-at mine.opening.plans mine.plans i plan (ap (λ op. slice_get op.plans i) (sym opened) ∙ there),
+        subst (IsOpeningBy s.opened) (sym opened) mine.opens,
+      ),
     ) where
       inner : {X : Type 0} (y x : X) → Some x ≡ Some y → x ≡ y
       inner y x e = cc
@@ -94,8 +107,8 @@ comes-of send ring take a (Some x) (Some s) end left is fits came =
 -- finished, with all that was sent known
 pub finished : {E T F : Type 0} (ring : EndGhosts E) (take : TakeGhosts T F) (before end : SamplerEndState E) (f : FinishedState E T)
     → f.end ≡ end → joined ring end ≡ joined ring before → take.received f.intake.end ++ take.known f.intake.end ≡ ring.all_sent end.end
-    → ((past : Past) × EndStandsAfter (joined ring before) past × HasPlans past) → IsFinished ring take f
-finished ring take before end f is same all (past, stands, plans) =
+    → before.capacity ≡ f.opened.capacity → ((past : Past) × EndStandsAfter (joined ring before) past × HasPlans past × IsOpeningBy f.opened past.opening) → IsFinished ring take f
+finished ring take before end f is same all capacity (past, stands, plans, opens) =
     let joins : joined ring f.end ≡ joined ring before = ap (joined ring) is ∙ same in
     let now : EndStandsAfter (joined ring f.end) past = subst (λ j. EndStandsAfter j past) (sym joins) stands in
     let front : (deeds : List IntakeDeed) → StandsAfter take f.intake deeds → IsPrefix (taken deeds) (items_of past) =
@@ -103,6 +116,8 @@ finished ring take before end f is same all (past, stands, plans) =
       past,
       record {
         stands = now;
+        opens = opens;
+        capacity = ap (λ (j : JoinedEnd). j.capacity) joins ∙ capacity;
         plans = plans;
         front = front;
         marks = λ deeds there. marks-stand past (taken deeds) (all-indexed IsPlan past.opening.plans plans) (front deeds there);
@@ -116,7 +131,7 @@ is-back send ring take a None part end left f is came done = absurd (none-some a
 is-back send ring take a (Some x) None end left f is came done = elim done [ ]
 is-back send ring take a (Some x) (Some s) end left f is came done =
     subst (λ (y : AwayState _). IsBack send ring take y s f) (inner a x is)
-    (record { number = done.0; follows = done.1; end = end; left = left; same = done.2; came = came }) where
+    (record { number = done.0; opened = done.3; follows = done.1; end = end; left = left; same = done.2; came = came }) where
       inner : {X : Type 0} (y x : X) → Some x ≡ Some y → y ≡ x
       inner y x e = cc
 
@@ -145,19 +160,20 @@ room-of send ring take l (Some s) (Some t) r done old new answers = absurd (two-
 
 -- a part was opened
 pub opens : {S E T F : Type 0} (send : SendGhosts S E) (ring : EndGhosts E) (take : TakeGhosts T F) (a : ChannelState S T) (was now : LinkState S) (older newer older_now newer_now : Option (ShareState T)) (s : StoreState) (c cap number : ℕ)
-    (sampler : SamplerState S) (end : T) (intake : IntakeState T) → record { link = was; older = older; newer = newer } ≡ a → ((opening : Opening) × IsOpenedAt send ring take s c cap sampler end opening)
-    → HandsOut was now sampler → newer_now ≡ Some (record { number = number; intake = intake }) → older_now ≡ one_before older newer → StandsAfter take intake [] → intake.end ≡ end → (older ≡ None) ⊎ (newer ≡ None)
+    (sampler : SamplerState S) (end : T) (intake : IntakeState T) (o : OpenedState) → record { link = was; older = older; newer = newer } ≡ a → ((opening : Opening) × IsOpenedAt send ring take s c cap sampler end opening)
+    → HandsOut was now sampler → newer_now ≡ Some (record { number = number; opened = o; intake = intake }) → older_now ≡ one_before older newer → StandsAfter take intake [] → intake.end ≡ end → o ≡ record { store = s; channel = c; capacity = cap } → (older ≡ None) ⊎ (newer ≡ None)
     → Opens send ring take a (record { link = now; older = older_now; newer = newer_now }) s c cap number
-opens send ring take a was now older newer older_now newer_now s c cap number sampler end intake is opened handed one before stands same room =
+opens send ring take a was now older newer older_now newer_now s c cap number sampler end intake o is opened handed one before stands same with room =
     subst (λ x. Opens send ring take x (record { link = now; older = older_now; newer = newer_now }) s c cap number) is
     (record {
       sampler = sampler;
-      share = record { number = number; intake = intake };
+      share = record { number = number; opened = o; intake = intake };
       opening = opened.0;
       opened = subst (λ e. IsOpenedAt send ring take s c cap sampler e opened.0) (sym same) opened.1;
       handed = handed;
       newer = one;
       number_is = refl;
+      opened_is = with;
       stands = stands;
       older = before;
       room = room;

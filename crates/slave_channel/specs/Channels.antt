@@ -1,6 +1,7 @@
 -- The slave's side of an event channel: the measurements whose samplers are out, and those that
 -- came back.
-use Rattle.std.specs.Prelude.{◌≡◌, ◌⊎◌, ◌||◌, ℕ, Bool, List, [], All, Option, Some, None}
+use Rattle.std.specs.Prelude.{◌≡◌, ◌⊎◌, ◌&&◌, ◌||◌, ℕ, Bool, List, [], All, Option, Some}
+use Rattle.std.specs.Prelude.{None}
 use Rattle.std.specs.Option.{is_some}
 use mathlib.Core.List.{IsPrefix}
 use Rattle.copy_plan.specs.Config.{IsPlan}
@@ -21,6 +22,7 @@ use Rattle.channel_intake.specs.Intakes.{IntakeState, StandsAfter}
 use Rattle.channel_intake.specs.Intakes.{GoesOn}
 use Rattle.daq_store.specs.Standing.{StoreState}
 use Rattle.daq_engine.specs.Opened.{IsOpenedAt}
+use Rattle.daq_engine.specs.Openings.{IsOpeningOf}
 use Rattle.channel_intake.specs.declared.step.Step.{Step}
 use Rattle.channel_intake.specs.declared.step.Step.TheVariants.{Nothing}
 use Rattle.frame_outbox.specs.Outboxes.{OutboxState}
@@ -29,10 +31,28 @@ use Rattle.hand_over.specs.Newest.{one_before}
 use Rattle.tasks.specs.Links.{AwayState, CameBack, HandsOut, LinkState, SendsToNewest}
 use Rattle.control_ring.specs.declared.order.Order.{Order}
 
--- an event channel's part of a measurement: the measurement's number, and the intake of its ring
+-- what an event channel's part of a measurement was opened with: the store as it was then, the
+-- event channel, and the capacity of its ring
+pub record OpenedState : Type 0 where
+  pub store : StoreState
+  pub channel : ℕ
+  pub capacity : ℕ
+
+-- the opening is that of the store and the event channel
+abbrev pub IsOpeningBy : OpenedState → Opening → Type 0
+IsOpeningBy o opening = IsOpeningOf o.store o.channel opening
+
+-- an event channel's part of a measurement: the measurement's number, what the part was opened
+-- with, and the intake of its ring
 pub record ShareState (T : Type 0) : Type 0 where
   pub number : ℕ
+  pub opened : OpenedState
   pub intake : IntakeState T
+
+-- the number of a part, if it is there
+abbrev pub number_of : {T : Type 0} → Option (ShareState T) → Option ℕ
+number_of None = None
+number_of (Some p) = Some p.number
 
 -- the link to the task, and the parts of the two measurements whose samplers may be out: the one
 -- before the last, and the last
@@ -45,9 +65,14 @@ pub record ChannelState (S T : Type 0) : Type 0 where
 abbrev pub keeps_part : {S T : Type 0} → ChannelState S T → Bool
 keeps_part ch = is_some ch.older || is_some ch.newer
 
+-- two are: there is no room for one more
+abbrev pub keeps_two : {S T : Type 0} → ChannelState S T → Bool
+keeps_two ch = is_some ch.older && is_some ch.newer
+
 -- such a part once what is left of its sampler is back
 pub record FinishedState (E T : Type 0) : Type 0 where
   pub number : ℕ
+  pub opened : OpenedState
   pub end : SamplerEndState E
   pub intake : IntakeState T
 
@@ -57,10 +82,13 @@ pub record Follows {T F : Type 0} (take : TakeGhosts T F) (a b : IntakeState T) 
   pub stands : (deeds : List Deed) → StandsAfter take a deeds → StandsAfter take b deeds
 
 module _ {E T F : Type 0} (ring : EndGhosts E) (take : TakeGhosts T F) where
-  -- the sampler came to this past: whatever its intake stands after, what it took is the first of
-  -- the items that were sent, and the samples among these are marked exactly behind drops
+  -- the sampler came to this past, from the opening of what its part was opened with: whatever its
+  -- intake stands after, what it took is the first of the items that were sent, and the samples
+  -- among these are marked exactly behind drops
   pub record IsPastOf (f : FinishedState E T) (past : Past) : Type 0 where
     pub stands : EndStandsAfter (joined ring f.end) past
+    pub opens : IsOpeningBy f.opened past.opening
+    pub capacity : f.end.capacity ≡ f.opened.capacity
     pub plans : HasPlans past
     pub front :
         (deeds : List Deed) → StandsAfter take f.intake deeds
@@ -82,10 +110,13 @@ module _ {E T F : Type 0} (ring : EndGhosts E) (take : TakeGhosts T F) where
 
 module _ {S E T F : Type 0} (send : SendGhosts S E) (ring : EndGhosts E)
     (take : TakeGhosts T F) where
-  -- the sampler that went out stood after nothing; the intake is of its ring
+  -- the sampler that went out stood after nothing, from the opening of what the part was opened
+  -- with; the intake is of its ring, which has that capacity
   pub record IsShareOf (sampler : SamplerState S) (s : ShareState T) : Type 0 where
     pub one_ring : take.ring s.intake.end ≡ send.ring sampler.end
+    pub capacity : send.capacity sampler.end ≡ s.opened.capacity
     pub opening : Opening
+    pub opens : IsOpeningBy s.opened opening
     pub plans : All IsPlan opening.plans
     pub stands : SamplerStandsAfter send ring sampler (first_past opening)
 
@@ -98,6 +129,7 @@ module _ {S E T F : Type 0} (send : SendGhosts S E) (ring : EndGhosts E)
   -- what is left of the sampler of this part came back
   pub record IsBack (a : AwayState S) (s : ShareState T) (f : FinishedState E T) : Type 0 where
     pub number : f.number ≡ s.number
+    pub opened : f.opened ≡ s.opened
     pub follows : Follows take s.intake f.intake
     pub end : SamplerEndState E
     pub left : ℕ
@@ -122,6 +154,7 @@ pub record Opens {S E T F : Type 0} (send : SendGhosts S E) (ring : EndGhosts E)
   pub handed : HandsOut a.link b.link sampler
   pub newer : b.newer ≡ Some share
   pub number_is : share.number ≡ number
+  pub opened_is : share.opened ≡ record { store = s; channel = c; capacity = cap }
   pub stands : StandsAfter take share.intake []
   pub older : b.older ≡ one_before a.older a.newer
   pub room : (a.older ≡ None) ⊎ (a.newer ≡ None)
@@ -130,7 +163,7 @@ module _ {T F : Type 0} (take : TakeGhosts T F) where
   -- the newest part goes on with this deed
   abbrev pub NewestGoesOn : Option (ShareState T) → Option (ShareState T) → Deed → Type 0
   NewestGoesOn (Some s) (Some t) deed =
-      (t.number ≡ s.number) × GoesOn take s.intake t.intake deed
+      (t.number ≡ s.number) × GoesOn take s.intake t.intake deed × (t.opened ≡ s.opened)
   NewestGoesOn _ _ deed = ⊥
 
   -- an order went to the task, and the intake was told of it
@@ -147,4 +180,5 @@ module _ {T F : Type 0} (take : TakeGhosts T F) where
   TakesOf None None o p step = (step ≡ Nothing) × (p ≡ o)
   TakesOf (Some s) (Some t) o p step =
       (t.number ≡ s.number) × TakesItem take s.intake t.intake o p s.number step
+      × (t.opened ≡ s.opened)
   TakesOf _ _ o p step = ⊥

@@ -6,12 +6,12 @@ use Rattle.sampler.specs.Past.{Past}
 use Rattle.sampler.specs.Standing.{EndStandsAfter}
 use Rattle.sampler.specs.State.{SamplerEndState, joined}
 use Rattle.channel_intake.specs.Accounts.{HasPlans}
-use Rattle.slave_channel.specs.Channels.{FinishedState, Follows, ShareState}
+use Rattle.slave_channel.specs.Channels.{FinishedState, Follows, IsOpeningBy, ShareState}
 
--- the take end of the part is as it was
+-- the take end of the part is as it was, and what it was opened with
 abbrev pub EndStays : {T : Type 0} → Option (ShareState T) → Option (ShareState T) → Type 0
 EndStays None None = Unit {0}
-EndStays (Some s) (Some t) = t.intake.end ≡ s.intake.end
+EndStays (Some s) (Some t) = (t.intake.end ≡ s.intake.end) × (t.opened ≡ s.opened)
 EndStays _ _ = ⊥
 
 module _ {E T F : Type 0} (ring : EndGhosts E) (take : TakeGhosts T F) where
@@ -19,8 +19,9 @@ module _ {E T F : Type 0} (ring : EndGhosts E) (take : TakeGhosts T F) where
   abbrev pub ComesOf : Option (ShareState T) → SamplerEndState E → Type 0
   ComesOf None end = ⊥
   ComesOf (Some s) end =
-      (ring.ring end.end ≡ take.ring s.intake.end)
-      × ((past : Past) × EndStandsAfter (joined ring end) past × HasPlans past)
+      (ring.ring end.end ≡ take.ring s.intake.end) × (end.capacity ≡ s.opened.capacity)
+      × ((past : Past) × EndStandsAfter (joined ring end) past × HasPlans past
+      × IsOpeningBy s.opened past.opening)
 
   -- the part, finished with this
   abbrev pub FinishesAs :
@@ -28,4 +29,4 @@ module _ {E T F : Type 0} (ring : EndGhosts E) (take : TakeGhosts T F) where
   FinishesAs None end f = ⊥
   FinishesAs (Some s) end f =
       (f.number ≡ s.number) × Follows take s.intake f.intake
-      × (joined ring f.end ≡ joined ring end)
+      × (joined ring f.end ≡ joined ring end) × (f.opened ≡ s.opened)

@@ -55,6 +55,7 @@ module _ {T F : Type 0} (take : TakeGhosts T F) where
       (t.number ≡ s.number)
       × ((deeds : List Deed) → length deeds + length ds ≤ MAX_TAKEN
       → StandsAfter take s.intake deeds → StandsAfter take t.intake (ds ++ deeds))
+      × (t.opened ≡ s.opened)
   GoesOnBy _ _ ds = ⊥
 
   -- these orders went to the task, and the intake was told of them

@@ -1,4 +1,5 @@
 use crate::finished::Finished;
+use crate::opened_with::OpenedWith;
 use crate::share::Share;
 use channel_intake::{Intake, Step};
 use channel_ring::{SendEnd, TakeEnd};
@@ -75,18 +76,24 @@ fn finish<R: Ring>(
     ensures always { IsSome result }
     ensures gone { part.new ≡ None }
 {
-    let Share { number, mut intake } = part.take()?;
+    let Share {
+        number,
+        opened,
+        mut intake,
+    } = part.take()?;
     let mut end = end;
     intake.after(&mut end);
     Some(Finished {
         number,
+        opened,
         end,
         intake,
     })
 }
 
 impl<R: Ring> Channel<R> {
-    ghost use Rattle.slave_channel.specs.Channels.{Opens, Orders, IsBackOf, keeps_part};
+    ghost use Rattle.slave_channel.specs.Channels.{Opens, Orders, IsBackOf, keeps_part, keeps_two};
+    ghost use Rattle.slave_channel.specs.Channels.{number_of};
     ghost use Rattle.tasks.specs.Links.{CanStart, EndsNewest, LooksAtNewest, is_running};
     ghost use Rattle.tasks.specs.Links.{takes_orders, without};
     ghost use Rattle.control_ring.specs.declared.order.Order.TheVariants.{Start, Stop};
@@ -135,6 +142,7 @@ impl<R: Ring> Channel<R> {
         }
         let share = Share {
             number,
+            opened: OpenedWith::of(store, c, cap),
             intake: Intake::new(take),
         };
         keep_newest(&mut self.older, &mut self.newer, share);
@@ -154,6 +162,23 @@ impl<R: Ring> Channel<R> {
         ensures { result ≡ keeps_part self.now }
     {
         self.older.is_some() || self.newer.is_some()
+    }
+
+    /// Whether parts of two measurements are kept here: there is no room for one more.
+    pub fn is_full(&self) -> bool
+        ensures { result ≡ keeps_two self.now }
+    {
+        self.older.is_some() && self.newer.is_some()
+    }
+
+    /// The number of the last measurement with a part here, if that part is kept.
+    pub fn newest(&self) -> Option<u64>
+        ensures { result ≡ number_of self.now.newer }
+    {
+        match &self.newer {
+            Some(share) => Some(share.number),
+            None => None,
+        }
     }
 
     /// The set of the DAQ lists that run by the orders that were sent.

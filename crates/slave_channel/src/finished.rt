@@ -1,3 +1,4 @@
+use crate::opened_with::OpenedWith;
 use channel_intake::Intake;
 use channel_ring::{SendEnd, TakeEnd};
 use daq_engine::{ListReport, Ring};
@@ -10,6 +11,7 @@ use xcp_base::ListId;
 #[derive(Drop)]
 pub struct Finished<R: Ring> {
     pub(crate) number: u64,
+    pub(crate) opened: OpenedWith,
     pub(crate) end: SamplerEnd<<R::Send as SendEnd>::End>,
     pub(crate) intake: Intake<R::Take>,
 }
@@ -19,10 +21,15 @@ impl<R: Ring> Model for Finished<R> {
 
     ghost Value = { FinishedState R.Send.End R.Take };
 
-    ghost view = { λ f. record { number = f.number; end = f.end; intake = f.intake } };
+    ghost view = { λ f. record {
+      number = f.number;
+      opened = f.opened;
+      end = f.end;
+      intake = f.intake;
+    } };
 
     ghost invariant = { λ f. IsFinished R.Send.End.RingEnd R.Take.TakeEnd
-        (record { number = f.number; end = f.end; intake = f.intake }) };
+        (record { number = f.number; opened = f.opened; end = f.end; intake = f.intake }) };
 }
 
 impl<R: Ring> Finished<R> {

@@ -3,6 +3,7 @@
 
 mod channel;
 mod finished;
+mod opened_with;
 mod ordering;
 mod share;
 mod taking;

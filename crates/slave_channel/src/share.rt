@@ -1,11 +1,13 @@
+use crate::opened_with::OpenedWith;
 use channel_intake::Intake;
 use std::marker::Model;
 
-/// An event channel's part of a measurement: the measurement's number, and the intake of the
-/// channel's ring.
+/// An event channel's part of a measurement: the measurement's number, what the part was opened
+/// with, and the intake of the channel's ring.
 #[derive(Drop)]
 pub struct Share<T> {
     pub(crate) number: u64,
+    pub(crate) opened: OpenedWith,
     pub(crate) intake: Intake<T>,
 }
 
@@ -14,5 +16,5 @@ impl<T> Model for Share<T> {
 
     ghost Value = { ShareState T };
 
-    ghost view = { λ s. record { number = s.number; intake = s.intake } };
+    ghost view = { λ s. record { number = s.number; opened = s.opened; intake = s.intake } };
 }

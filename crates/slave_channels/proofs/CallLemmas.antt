@@ -10,12 +10,12 @@ use Rattle.channel_ring.specs.declared.ends.RingEnd.{Ghosts as EndGhosts}
 use Rattle.channel_ring.specs.declared.ends.TakeEnd.{Ghosts as TakeGhosts}
 use Rattle.daq_store.specs.Standing.{StoreState}
 use Rattle.tasks.specs.Links.{AwayState, CanStart, LooksAtNewest}
-use Rattle.slave_channel.specs.Channels.{ChannelState, keeps_part}
+use Rattle.slave_channel.specs.Channels.{ChannelState, keeps_part, keeps_two}
 use Rattle.slave_channel.specs.Ordering.{starts_noted, starts_sent}
 use Rattle.slave_channel.proofs.OrderingLemmas.{looked-at, orders-after-look}
-use Rattle.slave_channels.specs.Calls.{CanStartAll, HasNoPlaces, KeepsNone, KeepsOne, Looks, OpenedAndEnded, OpensAt, OpensIfAny, StartsAt}
+use Rattle.slave_channels.specs.Calls.{CanStartAll, HasFull, HasNoPlaces, HasSome, HaveRoom, KeepsNone, KeepsOne, Looks, OpenedAndEnded, OpensAt, OpensIfAny, StartsAt}
 use Rattle.slave_channels.specs.Each.{IsEach}
-use Rattle.slave_channels.specs.Inner.{EndsAt, IsFront, KeepNone}
+use Rattle.slave_channels.specs.Inner.{EndsAt, HaveRoomBelow, IsFront, KeepNone}
 use Rattle.slave_channels.proofs.EachLemmas.{each-twice, front-map, front-next, front-rest, front-twice, get-set_same, read_at}
 
 -- what holds of the number that was read holds of the number there
@@ -130,3 +130,39 @@ module _ {S T : Type 0} where
   keep-all all now n same all_are before = λ c ch at.
       let there = ap (λ xs. slice_get xs c) same ∙ at in
       before c ch (omega (arith, slice_get_within all c ch there, all_are)) there
+
+  -- at an event channel that was read there is no room
+  pub full-here : (lists : List ℕ) (all now : List (ChannelState S T)) (c : ℕ) (x : ChannelState S T) → all ≡ now → x ≡ get_or all c x → c < length all → c < length lists
+      → HasSome (get_or lists c 0) → keeps_two x ≡ true → HasFull lists now
+  full-here lists all now c x same is here within some full = record {
+    channel = c;
+    set = get_or lists c 0;
+    state = x;
+    lists_are = slice_get-get_or lists c 0 within;
+    some = some;
+    state_is = ap (λ xs. slice_get xs c) (sym same) ∙ read_at all c x is here;
+    full = full;
+  }
+
+  pub room-first : (lists : List ℕ) (all : List (ChannelState S T)) → HaveRoomBelow lists all 0
+  room-first lists all = λ c set ch below set_at at some. absurd (omega (arith, below))
+
+  -- one event channel more
+  pub room-more : (lists : List ℕ) (all : List (ChannelState S T)) (n : ℕ) (x : ChannelState S T) → x ≡ get_or all n x → n < length all → n < length lists
+      → (get_or lists n 0 ≢ 0 → keeps_two x ≡ false) → HaveRoomBelow lists all n → HaveRoomBelow lists all (n + 1)
+  room-more lists all n x is here within room before = λ c set ch below set_at at some.
+      elim (eqb_tells c n) [
+        | inl w ↦
+            let listed : slice_get lists n ≡ Some set = ap (slice_get lists) (sym w.1) ∙ set_at in
+            let same : get_or lists n 0 ≡ set = same_Some (get_or lists n 0) set (sym (slice_get-get_or lists n 0 within) ∙ listed) in
+            ap keeps_two (same_Some ch x (sym at ∙ ap (slice_get all) w.1 ∙ read_at all n x is here)) ∙ room (λ none. some (sym same ∙ none))
+        | inr w ↦ before c set ch (less c n below w.1) set_at at some
+      ] where
+        less : (c n : ℕ) → c < n + 1 → c ≢ n → c < n
+        less c n below other = elim (leb_tells (suc c) n) [ inl t ↦ t.1 | inr t ↦ absurd (other (omega (arith, below, t.1))) ]
+
+  -- these are all
+  pub room-all : (lists : List ℕ) (all now : List (ChannelState S T)) (n : ℕ) → all ≡ now → length all ≤ n → HaveRoomBelow lists all n → HaveRoom lists now
+  room-all lists all now n same all_are before = λ c set ch set_at at some.
+      let there = ap (λ xs. slice_get xs c) same ∙ at in
+      before c set ch (omega (arith, slice_get_within all c ch there, all_are)) set_at there some

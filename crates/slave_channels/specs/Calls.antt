@@ -1,5 +1,6 @@
 -- What the calls of one measurement do at each of its event channels.
-use Rattle.std.specs.Prelude.{◌≡◌, ◌≢◌, ℕ, ◌⊎◌, ◌&&◌, true, false, List, [], Option, None, Some}
+use Rattle.std.specs.Prelude.{◌≡◌, ◌≢◌, ℕ, ◌<◌, ◌⊎◌, ◌&&◌, true, false, List, []}
+use Rattle.std.specs.Prelude.{Option, None, Some}
 use Rattle.std.specs.Prelude.{IfSome, IsNone, IsSome, slice_get}
 use Rattle.xcp_base.specs.Lists.{has_list}
 use Rattle.xcp_base.specs.declared.limits.TheConstants.{MAX_LISTS}
@@ -12,9 +13,13 @@ use Rattle.frame_outbox.specs.Outboxes.{OutboxState}
 use Rattle.tasks.specs.Links.{CanStart, EndsNewest, LooksAtNewest, is_running, takes_orders}
 use Rattle.tasks.specs.Tasks.{TaskState}
 use Rattle.slave_channel.specs.Channels.{ChannelState, FinishedState, IsBackOf, Opens, TakesOf}
-use Rattle.slave_channel.specs.Channels.{keeps_part}
+use Rattle.slave_channel.specs.Channels.{keeps_part, keeps_two, number_of}
 use Rattle.slave_channel.specs.Ordering.{OrdersAll, starts_noted, starts_sent}
 use Rattle.slave_channel.specs.Ordering.{stops_noted, stops_sent}
+
+-- a list is one of these
+abbrev pub HasSome : ℕ → Type 0
+HasSome lists = (l : ℕ) × (l < MAX_LISTS) × (has_list lists l ≡ true)
 
 -- an event channel with no measurement
 abbrev pub no_measurement : {S T : Type 0} → ChannelState S T
@@ -57,6 +62,28 @@ module _ {S T : Type 0} where
     pub state_is : slice_get now channel ≡ Some state
     pub cannot : ¬ CanStart state.link.newer (has_list set)
 
+  -- at each event channel with some lists there is room for one more part
+  abbrev pub HaveRoom : List ℕ → List (ChannelState S T) → Type 0
+  HaveRoom lists now =
+      (c set : ℕ) (ch : ChannelState S T)
+      → slice_get lists c ≡ Some set → slice_get now c ≡ Some ch → set ≢ 0
+      → keeps_two ch ≡ false
+
+  -- at an event channel with some lists there is none
+  pub record HasFull (lists : List ℕ) (now : List (ChannelState S T)) : Type 0 where
+    pub channel : ℕ
+    pub set : ℕ
+    pub state : ChannelState S T
+    pub lists_are : slice_get lists channel ≡ Some set
+    pub some : HasSome set
+    pub state_is : slice_get now channel ≡ Some state
+    pub full : keeps_two state ≡ true
+
+  -- this is the number of the last measurement with a part at event channel c, if it is kept
+  abbrev pub IsNewestAt : ℕ → List (ChannelState S T) → Option ℕ → Type 0
+  IsNewestAt c now answer =
+      (ch : ChannelState S T) → slice_get now c ≡ Some ch → answer ≡ number_of ch.newer
+
   -- no part of a measurement is kept at any event channel; and one is
   abbrev pub KeepsNone : List (ChannelState S T) → Type 0
   KeepsNone now =
@@ -98,11 +125,12 @@ module _ {S T F : Type 0} (take : TakeGhosts T F) where
 
 module _ {S E T F : Type 0} (send : SendGhosts S E) (ring : EndGhosts E)
     (take : TakeGhosts T F) where
-  -- a part of a measurement was opened, if there are lists of it
+  -- a part of a measurement was opened, if there are lists of it: a number that is not zero has one
   abbrev pub OpensIfAny :
       StoreState → ℕ → ℕ → ℕ → ℕ → ChannelState S T → ChannelState S T → Type 0
   OpensIfAny store number c cap set a b =
       (set ≡ 0 → b ≡ a) × (set ≢ 0 → Opens send ring take a b store c cap number)
+      × (set ≢ 0 → HasSome set)
 
   module _ (store : StoreState) (number : ℕ) (caps lists : List ℕ) where
     -- so at event channel c, whose ring has caps[c] places and whose lists are lists[c]

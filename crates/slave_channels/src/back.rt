@@ -1,6 +1,7 @@
 //! What came back of the measurements at one event channel.
 ghost use Rattle.std.specs.Prelude.{◌≡◌, ◌<◌, length, true, false};
-ghost use Rattle.slave_channels.specs.Calls.{GivesBackNewer, GivesBackOlder, KeepsNone, KeepsOne};
+ghost use Rattle.slave_channels.specs.Calls.{GivesBackNewer, GivesBackOlder, IsNewestAt};
+ghost use Rattle.slave_channels.specs.Calls.{KeepsNone, KeepsOne};
 ghost use Rattle.slave_channels.specs.Each.{IsOnlyAt};
 
 use crate::channels::Channels;
@@ -20,6 +21,14 @@ impl<R: Ring> Channels<R> {
             }
         }
         false
+    }
+
+    /// The number of the last measurement with a part at event channel `c`, if that part is kept.
+    pub fn newest(&self, c: usize) -> Option<u64>
+        requires channel { c < length self.now }
+        ensures number { IsNewestAt c self.now result }
+    {
+        self.all[c].newest()
     }
 
     /// What came back of the measurement before the last at event channel `c`.

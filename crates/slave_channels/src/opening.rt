@@ -1,6 +1,8 @@
 //! A measurement is opened at all event channels that have lists of it, or at none.
-ghost use Rattle.std.specs.Prelude.{◌≡◌, ◌≢◌, ◌<◌, ◌≤◌, OnErr, OnOk, length};
-ghost use Rattle.slave_channels.specs.Calls.{Ends, OpenedAndEnded, OpensAt, OpensIfAny};
+ghost use Rattle.std.specs.Prelude.{◌≡◌, ◌≢◌, ◌<◌, ◌≤◌, OnErr, OnOk, length, true, false};
+ghost use Rattle.slave_channel.specs.Channels.{keeps_two};
+ghost use Rattle.slave_channels.specs.Calls.{Ends, HasFull, HasSome, HaveRoom};
+ghost use Rattle.slave_channels.specs.Calls.{OpenedAndEnded, OpensAt, OpensIfAny};
 ghost use Rattle.slave_channels.specs.Each.{IsEach, IsOnlyAt};
 ghost use Rattle.slave_channels.specs.Inner.{EndsAt, IsFront};
 
@@ -34,6 +36,19 @@ fn open_one<R: Ring>(
     channel.open(alloc, store, c, cap, number)
 }
 
+/// Whether there is room at an event channel for a part of one more measurement, if it has lists of
+/// it.
+fn can_open_one<R: Ring>(channel: &Channel<R>, set: ListSet) -> bool
+    ensures yes { result ≡ true → set ≢ 0 → keeps_two channel.now ≡ false }
+    ensures some { result ≡ false → HasSome set }
+    ensures no { result ≡ false → keeps_two channel.now ≡ true }
+{
+    if set.is_empty() {
+        return true;
+    }
+    !channel.is_full()
+}
+
 /// Ends an event channel's part of a measurement, if it has lists of it.
 fn end_if_any<R: Ring>(channel: &mut Channel<R>, set: ListSet)
     ensures none { set ≡ 0 → channel.new ≡ channel.old }
@@ -45,6 +60,21 @@ fn end_if_any<R: Ring>(channel: &mut Channel<R>, set: ListSet)
 }
 
 impl<R: Ring> Channels<R> {
+    /// Whether there is room for one more measurement: at each event channel `c` whose set
+    /// `lists[c]` of lists is not empty, no more than one part is kept.
+    pub fn can_open(&self, lists: &[ListSet]) -> bool
+        requires lists { length lists.now ≡ length self.now }
+        ensures yes { result ≡ true → HaveRoom lists.now self.now }
+        ensures no { result ≡ false → HasFull lists.now self.now }
+    {
+        for c in 0..self.all.len() {
+            if !can_open_one(&self.all[c], lists[c]) {
+                return false;
+            }
+        }
+        true
+    }
+
     /// Opens a measurement over a store: its part at each event channel `c` whose set `lists[c]` of
     /// lists is not empty, with a ring of `caps[c]` places.
     ///

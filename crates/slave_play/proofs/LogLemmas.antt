@@ -10,7 +10,8 @@ use Rattle.slave.specs.Hearing.{IsHearing, MayOpen, is_before, most_before}
 use Rattle.slave.specs.Log.{Act, CameBack, Heard, HungUp, Opened, Refused, Sent, Took, laid, laid_by, sent_by, sent_of}
 use Rattle.slave.specs.Taking.{is_take}
 use Rattle.slave_file.specs.Lines.{LineData, master, trigger, send, lose, hang_up}
-use Rattle.slave_play.specs.Playing.{heard_by, masters, sent_text}
+use Rattle.slave.specs.Session.{sent_text}
+use Rattle.slave_play.specs.Playing.{heard_by, masters}
 use Rattle.slave_play.proofs.ThinnedLemmas.{assoc}
 
 -- the packets of the master, line by line

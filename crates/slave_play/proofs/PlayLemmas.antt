@@ -1,8 +1,7 @@
 -- A slave goes on by what it hears, takes and sends.
-use Rattle.std.proofs.Common.{◌≡◌, ℕ, zero, suc, ◌+◌, ◌*◌, ◌≤◌, List, [], ◌∷◌, ◌++◌, append-nil, length, length-append, take as first, drop, Result, Ok, Err, IfOk, OnOk, refl, sym, ap, ◌∙◌, subst, arith, inl, inr}
+use Rattle.std.proofs.Common.{◌≡◌, ℕ, Bool, true, false, zero, suc, ◌+◌, ◌*◌, ◌≤◌, List, [], ◌∷◌, ◌++◌, append-nil, length, length-append, take as first, drop, Result, Ok, Err, IfOk, OnOk, refl, sym, ap, ◌∙◌, subst, arith, inl, inr}
 use Rattle.std.proofs.lemmas.List.{length-drop, length-map, take-append-drop}
 use Rattle.std.proofs.lemmas.List.Sums.{sum_by-cons}
-use Rattle.xcp_base.specs.declared.limits.TheConstants.{MAX_TAKEN}
 use Rattle.channel_ring.specs.declared.ends.TakeEnd.{Ghosts as TakeGhosts}
 use Rattle.frame_outbox.specs.Outboxes.{packets_in, unit_of}
 use Rattle.frame_outbox.proofs.LaidLemmas.{packets_in-append}
@@ -14,11 +13,13 @@ use Rattle.slave.specs.Finishing.{GivesBack}
 use Rattle.slave_channel.specs.Channels.{FinishedState, IsFinished}
 use Rattle.std.specs.Prelude.{Some}
 use Rattle.channel_ring.specs.declared.ends.RingEnd.{Ghosts as EndGhosts}
-use Rattle.slave.specs.Log.{Act, CameBack, Sent, laid, sent_by, sent_of}
+use Rattle.slave.specs.Log.{Act, CameBack, HungUp, Sent, laid, losing, sending as sent_acts, sent_by, sent_of}
 use Rattle.slave.specs.Standing.{SlaveStandsAfter, SlaveState}
 use Rattle.slave.specs.Taking.{TakesItems, most_taken}
 use Rattle.slave_file.specs.Lines.{LineData, master}
-use Rattle.slave_play.specs.Playing.{Advances, Does, HasPlayed, Sending, StandsIf, heard_by, masters, most_a_line, sending, sent_text}
+use Rattle.slave_play.specs.Playing.{Advances, Does, HasPlayed, Sending, StandsSo, heard_by, masters, most_a_line, sending}
+use Rattle.slave.specs.Session.{sent_text}
+use Rattle.slave.proofs.SessionLemmas.{session-law}
 use Rattle.slave_play.specs.Thinned.{IsWithout}
 use Rattle.slave_play.proofs.LogLemmas.{heard-append, heard-one, masters-append, takes-nothing, text-stays}
 use Rattle.slave_play.proofs.ThinnedLemmas.{assoc, without-append}
@@ -44,11 +45,11 @@ if_ok (Err e) f p = tt
 module _ {S T F : Type 0} (take : TakeGhosts T F) where
   -- a log of the slave, whatever profile is asked for
   log-goes : (a b : SlaveState S T) (acts : List Act) → GoesBy take a b acts → (d : Profile) (log : List Act)
-      → 32 * (length acts + length log) ≤ MAX_TAKEN → SlaveStandsAfter take d a log → SlaveStandsAfter take d b (acts ++ log)
-  log-goes a b acts goes d log few stands =
-      let profile : a.session.profile ≡ d = stands.has.profile in
+      → SlaveStandsAfter take d a log → SlaveStandsAfter take d b (acts ++ log)
+  log-goes a b acts goes d log stands =
+      let profile : a.session.profile ≡ d = stands.parts.has.profile in
       subst (λ p. SlaveStandsAfter take p b (acts ++ log)) profile
-      (goes log few (subst (λ p. SlaveStandsAfter take p a log) (sym profile) stands))
+      (goes log (subst (λ p. SlaveStandsAfter take p a log) (sym profile) stands))
 
   -- acts that send nothing
   pub silent : (most : ℕ) (a b : SlaveState S T) (acts : List Act) (sent : List ℕ) (packets : List (List ℕ)) → length acts ≤ most → GoesBy take a b acts
@@ -57,13 +58,10 @@ module _ {S T F : Type 0} (take : TakeGhosts T F) where
     acts = acts;
     few = below;
     heard = heard;
-    goes = λ d log before few.
-        let all = length-append acts log in
-        let so = before (omega (arith, few, all)) in
-        record {
-          stands = log-goes a b acts goes d log (omega (arith, few, all)) so.stands;
-          text_is = so.text_is ∙ sym (text-stays d acts log none so.stands.has.sent);
-        };
+    goes = λ d log so. record {
+      stands = log-goes a b acts goes d log so.stands;
+      text_is = so.text_is ∙ sym (text-stays d acts log none so.stands.parts.has.sent);
+    };
   }
 
   pub nothing : (a : SlaveState S T) (sent : List ℕ) → Advances take 0 (sending a sent) (sending a sent) []
@@ -92,7 +90,7 @@ module _ {S T F : Type 0} (take : TakeGhosts T F) where
       let k = sent_of log in
       let xs = laid d log in
       let n = length a.outbox.units in
-      let box = stands.has.outbox in
+      let box = stands.parts.has.outbox in
       let units : n ≡ length (drop k xs) = ap length box.units ∙ length-map (drop k xs) unit_of in
       let left = length-drop k xs in
       let more : sent_of (Sent n ∷ log) ≡ n + k = sum_by-cons sent_by (Sent n) log in
@@ -106,19 +104,50 @@ module _ {S T F : Type 0} (take : TakeGhosts T F) where
       ∙ ap (text 0) (sym (packets_in-append (first k xs) (drop k xs))) ∙ ap (λ ys. text 0 (packets_in ys)) (take-append-drop k xs)
       ∙ ap (λ ys. text 0 (packets_in ys)) (sym all)
 
-  pub puts : (a b : SlaveState S T) (sent more : List ℕ) → more ≡ sent ++ a.outbox.waits → GoesBy take a b (Sent (length a.outbox.units) ∷ [])
+  -- nothing waits
+  text-none : (a : SlaveState S T) (d : Profile) (log : List Act) (sent : List ℕ) → SlaveStandsAfter take d a log → sent ≡ sent_text d log → length a.outbox.units ≡ 0
+      → sent ++ a.outbox.waits ≡ sent_text d log
+  text-none a d log sent stands so none =
+      let box = stands.parts.has.outbox in
+      let waits = drop (sent_of log) (laid d log) in
+      let units : length waits ≡ 0 = sym (length-map waits unit_of) ∙ sym (ap length box.units) ∙ none in
+      ap (λ bs. sent ++ bs) (box.waiting ∙ ap (λ ys. text (length (packets_in (first (sent_of log) (laid d log)))) (packets_in ys)) (empty waits units)) ∙ append-nil sent ∙ so where
+        empty : {X : Type 0} (xs : List X) → length xs ≡ 0 → xs ≡ []
+        empty [] is = refl
+        empty (x ∷ xs) is = absurd (omega (arith, is))
+
+  puts-some : (a b : SlaveState S T) (sent more : List ℕ) (n : ℕ) → n ≡ length a.outbox.units → more ≡ sent ++ a.outbox.waits → GoesBy take a b (sent_acts n)
       → Advances take 1 (sending a sent) (sending b more) []
-  puts a b sent more is goes = record {
-    acts = Sent (length a.outbox.units) ∷ [];
+  puts-some a b sent more zero are is goes = record {
+    acts = [];
     few = omega arith;
     heard = refl;
-    goes = λ d log before few.
-        let so = before (omega (arith, few)) in
-        record {
-          stands = log-goes a b (Sent (length a.outbox.units) ∷ []) goes d log (omega (arith, few)) so.stands;
-          text_is = is ∙ text-puts a d log sent so.stands so.text_is;
-        };
+    goes = λ d log so. record {
+      stands = log-goes a b [] goes d log so.stands;
+      text_is = is ∙ text-none a d log sent so.stands so.text_is (sym are);
+    };
   }
+  puts-some a b sent more (suc n) are is goes = record {
+    acts = Sent (suc n) ∷ [];
+    few = omega arith;
+    heard = refl;
+    goes = λ d log so. record {
+      stands = log-goes a b (Sent (suc n) ∷ []) goes d log so.stands;
+      text_is = is ∙ text-puts a d log sent so.stands so.text_is ∙ ap (λ k. sent_text d (Sent k ∷ log)) (sym are);
+    };
+  }
+
+  pub puts : (a b : SlaveState S T) (sent more : List ℕ) → more ≡ sent ++ a.outbox.waits → GoesBy take a b (sent_acts (length a.outbox.units))
+      → Advances take 1 (sending a sent) (sending b more) []
+  puts a b sent more is goes = puts-some a b sent more (length a.outbox.units) refl is goes
+
+  -- the transport is lost, if a master was connected
+  hangs-if : (a b : SlaveState S T) (sent : List ℕ) (on : Bool) → GoesBy take a b (losing on) → Advances take 1 (sending a sent) (sending b sent) []
+  hangs-if a b sent true goes = silent 1 a b (HungUp ∷ []) sent [] (omega arith) goes refl refl
+  hangs-if a b sent false goes = silent 1 a b [] sent [] (omega arith) goes refl refl
+
+  pub hangs : (a b : SlaveState S T) (sent : List ℕ) → GoesBy take a b (losing a.session.connected) → Advances take 1 (sending a sent) (sending b sent) []
+  hangs a b sent goes = hangs-if a b sent a.session.connected goes
 
   -- one advance behind another
   pub advances-more : (n k : ℕ) (a m b : Sending S T) (ps qs : List (List ℕ)) → Advances take n a m ps → Advances take k m b qs → Advances take (n + k) a b (ps ++ qs)
@@ -126,7 +155,7 @@ module _ {S T F : Type 0} (take : TakeGhosts T F) where
     acts = two.acts ++ one.acts;
     few = omega (arith, length-append two.acts one.acts, one.few, two.few);
     heard = heard-append two.acts one.acts ∙ ap (λ zs. zs ++ heard_by two.acts) one.heard ∙ ap (λ zs. ps ++ zs) two.heard;
-    goes = λ d log before. subst (StandsIf take d b) (sym (assoc two.acts one.acts log)) (two.goes d (one.acts ++ log) (one.goes d log before));
+    goes = λ d log before. subst (StandsSo take d b) (sym (assoc two.acts one.acts log)) (two.goes d (one.acts ++ log) (one.goes d log before));
   }
 
   -- no more acts than so many are no more than more
@@ -199,7 +228,7 @@ module _ {S T F : Type 0} (take : TakeGhosts T F) where
       let log = all.acts ++ [] in
       let same : log ≡ all.acts = append-nil all.acts in
       let heard : does.packets ≡ heard_by log = sym (append-nil does.packets) ∙ sym all.heard ∙ sym (ap heard_by same) in
-      let last : StandsIf take d b log = all.goes d [] (λ few. record { stands = stands; text_is = none }) in
+      let last : StandsSo take d b log = all.goes d [] (record { stands = stands; text_is = none }) in
       record {
         slave = b.slave;
         play = record {
@@ -208,8 +237,9 @@ module _ {S T F : Type 0} (take : TakeGhosts T F) where
           unheard = does.unheard;
           thinned = subst (IsWithout does.unheard (masters lines)) heard does.thinned;
           counted = omega (arith, does.counted);
-          is_log = λ few. (last few).stands.has.is_log;
-          bytes_are = λ few. (last few).text_is;
+          is_log = last.stands.parts.has.is_log;
+          law = session-law d log last.stands.parts.has.is_log;
+          bytes_are = last.text_is;
         };
-        stands = λ few. (last few).stands;
+        stands = last.stands;
       }

@@ -1,13 +1,10 @@
 -- What a slave does when the lines of a script are played.
 use Rattle.std.specs.Prelude.{◌≡◌, ℕ, ◌+◌, ◌*◌, ◌≤◌, List, [], ◌∷◌, ◌++◌, length}
-use Rattle.std.specs.Prelude.{take as first}
-use Rattle.xcp_base.specs.declared.limits.TheConstants.{MAX_TAKEN}
 use Rattle.channel_ring.specs.declared.ends.TakeEnd.{Ghosts as TakeGhosts}
-use Rattle.frame_writer.specs.Frame.{text}
-use Rattle.frame_outbox.specs.Outboxes.{packets_in}
 use Rattle.session.specs.declared.profile.Profile.{Profile}
 use Rattle.slave.specs.Log.{Act, CameBack, Heard, HungUp, Opened, Refused, Sent}
-use Rattle.slave.specs.Log.{Took, laid, sent_of}
+use Rattle.slave.specs.Log.{Took}
+use Rattle.slave.specs.Session.{SessionLaw, sent_text}
 use Rattle.slave.specs.Standing.{IsLog, SlaveStandsAfter, SlaveState}
 use Rattle.slave.specs.Taking.{most_taken}
 use Rattle.slave_file.specs.Lines.{LineData, master, trigger, send, lose, hang_up}
@@ -33,12 +30,8 @@ heard_by (CameBack m c past ∷ log) = heard_by log
 heard_by (Sent n ∷ log) = heard_by log
 heard_by (HungUp ∷ log) = heard_by log
 
--- the bytes of the replies and samples that were sent
-abbrev pub sent_text : Profile → List Act → List ℕ
-sent_text d log = text 0 (packets_in (first (sent_of log) (laid d log)))
-
--- the most acts of a line, and of the end: what is taken for one datagram, and its sending; or parts
--- that came back, and a packet that is heard behind those
+-- the most acts of a line, and of the end: what is taken for one datagram, and its sending; or
+-- parts that came back, and a packet that is heard behind those
 abbrev pub most_a_line : ℕ
 most_a_line = most_taken + 64
 
@@ -57,16 +50,12 @@ module _ {S T F : Type 0} (take : TakeGhosts T F) where
     pub stands : SlaveStandsAfter take d a.slave log
     pub text_is : a.sent ≡ sent_text d log
 
-  -- a log of no more than 2^57 acts
-  abbrev pub StandsIf : Profile → Sending S T → List Act → Type 0
-  StandsIf d a log = 32 * length log ≤ MAX_TAKEN → StandsSo d a log
-
   -- these packets were heard, in order, and no others; and no more was done than so many acts
   pub record Advances (most : ℕ) (a b : Sending S T) (packets : List (List ℕ)) : Type 0 where
     pub acts : List Act
     pub few : length acts ≤ most
     pub heard : heard_by acts ≡ packets
-    pub goes : (d : Profile) (log : List Act) → StandsIf d a log → StandsIf d b (acts ++ log)
+    pub goes : (d : Profile) (log : List Act) → StandsSo d a log → StandsSo d b (acts ++ log)
 
   -- lines were played, if `before` lines had been refused and now `after` are: the packets
   -- that were heard are those of the master without those that were refused
@@ -78,9 +67,9 @@ module _ {S T F : Type 0} (take : TakeGhosts T F) where
     pub most : after ≤ before + length lines
     pub advances : Advances (most_a_line * length lines) a b packets
 
--- a log of a slave of this profile: it heard the master's packets of these lines, in order, but
--- those that were refused; and the bytes are those of what it sent, if the log has no more than
--- 2^57 acts
+-- a log of a slave of this profile, of which the law of a session holds: it heard the master's
+-- packets of these lines, in order, but those that were refused; and the bytes are those of what it
+-- sent
 pub record IsPlay (d : Profile) (lines : List LineData) (refused : ℕ) (bytes : List ℕ)
     : Type 0 where
   pub log : List Act
@@ -88,8 +77,9 @@ pub record IsPlay (d : Profile) (lines : List LineData) (refused : ℕ) (bytes :
   pub unheard : ℕ
   pub thinned : IsWithout unheard (masters lines) (heard_by log)
   pub counted : unheard ≤ refused
-  pub is_log : 32 * length log ≤ MAX_TAKEN → IsLog d log
-  pub bytes_are : 32 * length log ≤ MAX_TAKEN → bytes ≡ sent_text d log
+  pub is_log : IsLog d log
+  pub law : SessionLaw d log
+  pub bytes_are : bytes ≡ sent_text d log
 
 module _ {T F : Type 0} (take : TakeGhosts T F) where
   -- such a log, after which the slave stands
@@ -98,4 +88,4 @@ module _ {T F : Type 0} (take : TakeGhosts T F) where
       : Type 0 where
     pub slave : SlaveState S T
     pub play : IsPlay d lines refused bytes
-    pub stands : 32 * length play.log ≤ MAX_TAKEN → SlaveStandsAfter take d slave play.log
+    pub stands : SlaveStandsAfter take d slave play.log

@@ -7,13 +7,12 @@ use Rattle.std.proofs.lemmas.Bool.Decides.{nat_tests}
 use Rattle.std.proofs.lemmas.List.{length-drop, take-append-drop, take_rest}
 use Rattle.channel_ring.specs.declared.ends.TakeEnd.{Ghosts as TakeGhosts}
 use Rattle.frame_writer.specs.Split.{joined_frames}
-use Rattle.frame_outbox.specs.Outboxes.{has_room}
 use Rattle.frame_reader.specs.declared.reach.Reach.TheVariants.{Bad}
 use Rattle.frame_reader.specs.Reach.{reach, reach_by}
 use Rattle.frame_reader.specs.Reading.{IsBadAfter, Leads, ReaderStandsAfter, ReaderState}
 use Rattle.frame_reader.proofs.ReadingLemmas.{leads_then}
-use Rattle.slave.specs.Hearing.{GoesBy, Hears}
-use Rattle.slave.specs.Log.{Act, HungUp}
+use Rattle.slave.specs.Hearing.{GoesBy, Hears, may_hear}
+use Rattle.slave.specs.Log.{Act}
 use Rattle.slave.specs.Standing.{SlaveStandsAfter, SlaveState}
 use Rattle.slave_stream.specs.Receiving.{AreHeard, BreaksOff, HearsAll, HearsDatagram, Receives}
 
@@ -67,8 +66,8 @@ ends-from at n bytes s there ends =
     ]
 
 -- a slave that is as one without room has none
-pub has-room-not : {S T : Type 0} (a b : SlaveState S T) → true ≡ has_room a.outbox → a ≡ b → has_room b.outbox ≡ false → ⊥
-has-room-not a b room same full = false≢true (sym (room ∙ ap (λ (s : SlaveState _ _). has_room s.outbox) same ∙ full))
+pub has-room-not : {S T : Type 0} (a b : SlaveState S T) → true ≡ may_hear a → a ≡ b → may_hear b ≡ false → ⊥
+has-room-not a b room same full = false≢true (sym (room ∙ ap (λ (s : SlaveState _ _). may_hear s) same ∙ full))
 
 pub on-err : {X E : Type 0} (r : Result X E) (P : Type 0) → P → OnErr r P
 on-err (Ok x) P p = tt
@@ -76,17 +75,15 @@ on-err (Err e) P p = p
 
 module _ {S T F : Type 0} (take : TakeGhosts T F) where
   goes-more : (a m b : SlaveState S T) (xs ys : List Act) → m.session.profile ≡ a.session.profile → GoesBy take a m xs → GoesBy take m b ys → GoesBy take a b (ys ++ xs)
-  goes-more a m b xs ys profile one two = λ log few stands.
-      let split = length-append ys xs in
-      let between = one log (omega (arith, few, split)) stands in
+  goes-more a m b xs ys profile one two = λ log stands.
       subst (λ zs. SlaveStandsAfter take a.session.profile b zs) (sym (append_assoc ys xs log))
       (subst (λ p. SlaveStandsAfter take p b (ys ++ (xs ++ log))) profile
-      (two (xs ++ log) (omega (arith, few, split, length-append xs log)) (subst (λ p. SlaveStandsAfter take p m (xs ++ log)) (sym profile) between)))
+      (two (xs ++ log) (subst (λ p. SlaveStandsAfter take p m (xs ++ log)) (sym profile) (one log stands))))
 
-  hears-none : (a : SlaveState S T) (clock : ℕ) → HearsAll take a a clock [] []
-  hears-none a clock = record { acts = []; are = refl; goes = λ log few stands. stands; profile = refl }
+  hears-none : (a : SlaveState S T) (clock : ℕ) → HearsAll take a a clock []
+  hears-none a clock = record { acts = []; are = refl; goes = λ log stands. stands; profile = refl }
 
-  hears-one : (a b : SlaveState S T) (clock : ℕ) (packet : List ℕ) → Hears take a b packet clock → b.session.profile ≡ a.session.profile → HearsAll take a b clock (packet ∷ []) []
+  hears-one : (a b : SlaveState S T) (clock : ℕ) (packet : List ℕ) → Hears take a b packet clock → b.session.profile ≡ a.session.profile → HearsAll take a b clock (packet ∷ [])
   hears-one a b clock packet hears profile = record {
     acts = hears.act ∷ hears.opening;
     are = ([], hears.act, hears.opening, refl, hears.is, hears.may_open, refl);
@@ -94,7 +91,7 @@ module _ {S T F : Type 0} (take : TakeGhosts T F) where
     profile = profile;
   }
 
-  hears-more : (a m b : SlaveState S T) (clock : ℕ) (ps qs : List (List ℕ)) → HearsAll take a m clock ps [] → HearsAll take m b clock qs [] → HearsAll take a b clock (ps ++ qs) []
+  hears-more : (a m b : SlaveState S T) (clock : ℕ) (ps qs : List (List ℕ)) → HearsAll take a m clock ps → HearsAll take m b clock qs → HearsAll take a b clock (ps ++ qs)
   hears-more a m b clock ps qs one two = record {
     acts = two.acts ++ one.acts;
     are = heard-more clock ps qs one.acts two.acts one.are two.are;
@@ -102,17 +99,8 @@ module _ {S T F : Type 0} (take : TakeGhosts T F) where
     profile = two.profile ∙ one.profile;
   }
 
-  hears-behind : (a m b : SlaveState S T) (clock : ℕ) (ps : List (List ℕ)) (behind : List Act) → HearsAll take a m clock ps [] → GoesBy take m b behind → b.session.profile ≡ m.session.profile
-      → HearsAll take a b clock ps behind
-  hears-behind a m b clock ps behind one goes profile = record {
-    acts = one.acts;
-    are = one.are;
-    goes = goes-more a m b one.acts behind one.profile one.goes goes;
-    profile = profile ∙ one.profile;
-  }
-
   -- no bytes
-  pub receives-none : (r : ReaderState) (a : SlaveState S T) (clock : ℕ) → Receives take r r a a clock [] []
+  pub receives-none : (r : ReaderState) (a : SlaveState S T) (clock : ℕ) → Receives take r r a a clock []
   receives-none r a clock = record {
     packets = [];
     leads = λ bytes packets stands.
@@ -122,16 +110,16 @@ module _ {S T F : Type 0} (take : TakeGhosts T F) where
   }
 
   -- bytes that end no frame
-  pub no-packet : (r s : ReaderState) (a : SlaveState S T) (clock : ℕ) (bytes : List ℕ) → Leads r s bytes [] → Receives take r s a a clock bytes []
+  pub no-packet : (r s : ReaderState) (a : SlaveState S T) (clock : ℕ) (bytes : List ℕ) → Leads r s bytes [] → Receives take r s a a clock bytes
   no-packet r s a clock bytes leads = record { packets = []; leads = leads; hears = hears-none a clock }
 
   -- bytes that end a frame, whose packet is heard
   pub one-packet : (r s : ReaderState) (a b : SlaveState S T) (clock : ℕ) (bytes packet : List ℕ) → Leads r s bytes (packet ∷ []) → Hears take a b packet clock → b.session.profile ≡ a.session.profile
-      → Receives take r s a b clock bytes []
+      → Receives take r s a b clock bytes
   one-packet r s a b clock bytes packet leads hears profile = record { packets = packet ∷ []; leads = leads; hears = hears-one a b clock packet hears profile }
 
   -- some bytes, and then others
-  receives-more : (r s t : ReaderState) (a m b : SlaveState S T) (clock : ℕ) (xs ys : List ℕ) → Receives take r s a m clock xs [] → Receives take s t m b clock ys [] → Receives take r t a b clock (xs ++ ys) []
+  receives-more : (r s t : ReaderState) (a m b : SlaveState S T) (clock : ℕ) (xs ys : List ℕ) → Receives take r s a m clock xs → Receives take s t m b clock ys → Receives take r t a b clock (xs ++ ys)
   receives-more r s t a m b clock xs ys one two = record {
     packets = one.packets ++ two.packets;
     leads = leads_then r s t xs ys one.packets two.packets one.leads two.leads;
@@ -139,15 +127,15 @@ module _ {S T F : Type 0} (take : TakeGhosts T F) where
   }
 
   -- the same of bytes from a place on
-  pub receives-from : (r s t : ReaderState) (a m b : SlaveState S T) (clock at n : ℕ) (bytes : List ℕ) → Receives take r s a m clock (first at bytes) []
-      → Receives take s t m b clock (first n (first (length bytes - at) (drop at bytes))) [] → Receives take r t a b clock (first (at + n) bytes) []
+  pub receives-from : (r s t : ReaderState) (a m b : SlaveState S T) (clock at n : ℕ) (bytes : List ℕ) → Receives take r s a m clock (first at bytes)
+      → Receives take s t m b clock (first n (first (length bytes - at) (drop at bytes))) → Receives take r t a b clock (first (at + n) bytes)
   receives-from r s t a m b clock at n bytes one two =
-      subst (λ zs. Receives take r t a b clock zs []) (ap (λ zs. first at bytes ++ first n zs) (take_rest bytes at) ∙ sym (take-add at n bytes))
+      subst (λ zs. Receives take r t a b clock zs) (ap (λ zs. first at bytes ++ first n zs) (take_rest bytes at) ∙ sym (take-add at n bytes))
       (receives-more r s t a m b clock (first at bytes) (first n (first (length bytes - at) (drop at bytes))) one two)
 
   -- bytes from a place on came to the begin of a bad frame
-  pub breaks-from : (r s t : ReaderState) (a m : SlaveState S T) (clock at : ℕ) (bytes : List ℕ) → at ≤ length bytes → Receives take r s a m clock (first at bytes) []
-      → IsBadAfter s t (first (length bytes - at) (drop at bytes)) → BreaksOff take r t a m clock bytes []
+  pub breaks-from : (r s t : ReaderState) (a m : SlaveState S T) (clock at : ℕ) (bytes : List ℕ) → at ≤ length bytes → Receives take r s a m clock (first at bytes)
+      → IsBadAfter s t (first (length bytes - at) (drop at bytes)) → BreaksOff take r t a m clock bytes
   breaks-from r s t a m clock at bytes there one bad =
       record {
         taken = at + bad.taken;
@@ -156,23 +144,9 @@ module _ {S T F : Type 0} (take : TakeGhosts T F) where
         closed = bad.closed;
       }
 
-  -- then the slave hangs up
-  pub hangs-up : (r s : ReaderState) (a m b : SlaveState S T) (clock : ℕ) (bytes : List ℕ) → BreaksOff take r s a m clock bytes [] → GoesBy take m b (HungUp ∷ [])
-      → b.session.profile ≡ m.session.profile → BreaksOff take r s a b clock bytes (HungUp ∷ [])
-  hangs-up r s a m b clock bytes off goes profile = record {
-    taken = off.taken;
-    within = off.within;
-    receives = record {
-      packets = off.receives.packets;
-      leads = off.receives.leads;
-      hears = hears-behind a m b clock off.receives.packets (HungUp ∷ []) off.receives.hears goes profile;
-    };
-    closed = off.closed;
-  }
-
   -- a datagram is what a stream takes of which no byte came before
   pub datagram-ok : (r s : ReaderState) (a b : SlaveState S T) (clock n : ℕ) (bytes : List ℕ) → ReaderStandsAfter r [] [] → s.closed ≡ false
-      → (n ≡ length bytes) ⊎ ((n ≡ 0) ⊎ (s.held ≡ [])) → Receives take r s a b clock (first n bytes) [] → HearsDatagram take a b clock bytes n
+      → (n ≡ length bytes) ⊎ ((n ≡ 0) ⊎ (s.held ≡ [])) → Receives take r s a b clock (first n bytes) → HearsDatagram take a b clock bytes n
   datagram-ok r s a b clock n bytes fresh is_open ends got =
       let stands = got.leads [] [] fresh in
       record {
@@ -190,7 +164,7 @@ module _ {S T F : Type 0} (take : TakeGhosts T F) where
         hears = got.hears;
       }
 
-  pub datagram-bad : (r s : ReaderState) (a b : SlaveState S T) (clock : ℕ) (bytes : List ℕ) → ReaderStandsAfter r [] [] → BreaksOff take r s a b clock bytes []
+  pub datagram-bad : (r s : ReaderState) (a b : SlaveState S T) (clock : ℕ) (bytes : List ℕ) → ReaderStandsAfter r [] [] → BreaksOff take r s a b clock bytes
       → HearsDatagram take a b clock bytes (length bytes)
   datagram-bad r s a b clock bytes fresh off =
       let stands = off.receives.leads [] [] fresh in

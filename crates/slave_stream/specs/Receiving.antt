@@ -4,7 +4,7 @@ use Rattle.channel_ring.specs.declared.ends.TakeEnd.{Ghosts as TakeGhosts}
 use Rattle.frame_reader.specs.Reading.{Leads, ReaderState}
 use Rattle.frame_reader.specs.Split.{EndsSplit, SplitsInto}
 use Rattle.slave.specs.Hearing.{GoesBy, IsHearing, MayOpen, most_before}
-use Rattle.slave.specs.Log.{Act}
+use Rattle.slave.specs.Log.{Act, losing}
 use Rattle.slave.specs.Standing.{SlaveState}
 
 -- packets, the oldest first, were heard at this clock by these acts, the newest first, and by no
@@ -16,32 +16,35 @@ AreHeard clock (packet ∷ packets) acts =
     × IsHearing packet clock act × MayOpen most_before opening × AreHeard clock packets later
 
 module _ {S T F : Type 0} (take : TakeGhosts T F) where
-  -- the packets were heard at this clock, in order, and then this was done; nothing else that a log
-  -- tells of
-  pub record HearsAll (a b : SlaveState S T) (clock : ℕ) (packets : List (List ℕ))
-      (behind : List Act)
-      : Type 0 where
+  -- the packets were heard at this clock, in order; nothing else that a log tells of
+  pub record HearsAll (a b : SlaveState S T) (clock : ℕ) (packets : List (List ℕ)) : Type 0 where
     pub acts : List Act
     pub are : AreHeard clock packets acts
-    pub goes : GoesBy take a b (behind ++ acts)
+    pub goes : GoesBy take a b acts
     pub profile : b.session.profile ≡ a.session.profile
 
   -- these bytes were taken, and the packets of the frames that they ended were heard
   pub record Receives (r s : ReaderState) (a b : SlaveState S T) (clock : ℕ) (bytes : List ℕ)
-      (behind : List Act)
       : Type 0 where
     pub packets : List (List ℕ)
     pub leads : Leads r s bytes packets
-    pub hears : HearsAll a b clock packets behind
+    pub hears : HearsAll a b clock packets
 
   -- some first bytes were taken, up to the begin of a bad frame, and the packets before it heard
   pub record BreaksOff (r s : ReaderState) (a b : SlaveState S T) (clock : ℕ) (bytes : List ℕ)
-      (behind : List Act)
       : Type 0 where
     pub taken : ℕ
     pub within : taken ≤ length bytes
-    pub receives : Receives r s a b clock (first taken bytes) behind
+    pub receives : Receives r s a b clock (first taken bytes)
     pub closed : s.closed ≡ true
+
+  -- the same; and then the transport was lost
+  pub record LosesStream (r s : ReaderState) (a b : SlaveState S T) (clock : ℕ) (bytes : List ℕ)
+      : Type 0 where
+    pub between : SlaveState S T
+    pub breaks_off : BreaksOff r s a between clock bytes
+    pub hangs_up : GoesBy take between b (losing between.session.connected)
+    pub profile : b.session.profile ≡ between.session.profile
 
   -- so many bytes of a datagram were taken: frames, whose packets were heard, and then nothing; or
   -- if all were taken, less than a frame, or a bad one and what is behind it
@@ -52,4 +55,4 @@ module _ {S T F : Type 0} (take : TakeGhosts T F) where
     pub split : SplitsInto (first taken bytes) packets left
     pub ends : EndsSplit left
     pub rest : (left ≡ []) ⊎ (taken ≡ length bytes)
-    pub hears : HearsAll a b clock packets []
+    pub hears : HearsAll a b clock packets

@@ -1,9 +1,8 @@
 ghost use Rattle.std.specs.Prelude.{◌≡◌, ◌<◌, ◌≤◌, ◌⊎◌, [], ◌∷◌, true, false, length, take};
 ghost use Rattle.std.specs.Prelude.{Ok, IfOk, OnOk, IsErr, OnErr};
-ghost use Rattle.frame_outbox.specs.Outboxes.{has_room};
 ghost use Rattle.frame_reader.specs.Reading.{IsBadAfter, ReaderStandsAfter};
-ghost use Rattle.slave.specs.Log.{HungUp};
-ghost use Rattle.slave_stream.specs.Receiving.{BreaksOff, Receives};
+ghost use Rattle.slave.specs.Hearing.{may_hear};
+ghost use Rattle.slave_stream.specs.Receiving.{BreaksOff, LosesStream, Receives};
 
 use daq_engine::Ring;
 use frame_reader::{BadFrame, Fed, FrameReader};
@@ -48,7 +47,8 @@ impl MasterStream {
     /// Takes bytes, and has the slave hear the packet of each frame that they end; and returns how
     /// many it took: all, or those up to the end of a frame behind which no reply finds room. The
     /// others are still the caller's, who passes them again once some replies were sent. If there
-    /// is no room for a reply, nothing is taken, not even bytes that end no frame.
+    /// is no room for a reply, or the slave is spent, nothing is taken, not even bytes that end no
+    /// frame.
     ///
     /// Refused if a frame is bad (LEN 0 or over MAX_CTO), as soon as its LEN is taken. The packets
     /// before it were heard, and the slave hangs up. From then on every call is refused, and
@@ -61,18 +61,18 @@ impl MasterStream {
         clock: u32,
     ) -> Result<usize, BadFrame>
         ensures ok { IfOk result (λ n. Receives R.Take.TakeEnd self.old self.new
-            slave.old slave.new clock (take n bytes.now) []) }
+            slave.old slave.new clock (take n bytes.now)) }
         ensures within { IfOk result (λ n. n ≤ length bytes.now) }
         ensures all { IfOk result (λ n. (n ≡ length bytes.now)
-            ⊎ (has_room slave.new.outbox ≡ false)) }
+            ⊎ (may_hear slave.new ≡ false)) }
         ensures ends { IfOk result (λ n. (n ≡ length bytes.now)
             ⊎ ((n ≡ 0) ⊎ (self.new.held ≡ []))) }
         ensures stays_open { OnOk result (self.new.closed ≡ false) }
-        ensures no_room { self.old.closed ≡ false → has_room slave.old.outbox ≡ false
+        ensures no_room { self.old.closed ≡ false → may_hear slave.old ≡ false
             → (result ≡ Ok 0) × (self.new ≡ self.old) × (slave.new ≡ slave.old) }
 
-        ensures bad { self.old.closed ≡ false → OnErr result (BreaksOff R.Take.TakeEnd
-            self.old self.new slave.old slave.new clock bytes.now (HungUp ∷ [])) }
+        ensures bad { self.old.closed ≡ false → OnErr result (LosesStream R.Take.TakeEnd
+            self.old self.new slave.old slave.new clock bytes.now) }
         ensures closed { self.old.closed ≡ true → IsErr result }
         ensures closed_stays { self.old.closed ≡ true
             → (self.new ≡ self.old) × (slave.new ≡ slave.old) }
@@ -100,17 +100,17 @@ impl MasterStream {
     ) -> Result<usize, BadFrame>
         requires is_open { self.old.closed ≡ false }
         ensures ok { IfOk result (λ n. Receives R.Take.TakeEnd self.old self.new
-            slave.old slave.new clock (take n bytes.now) []) }
+            slave.old slave.new clock (take n bytes.now)) }
         ensures within { IfOk result (λ n. n ≤ length bytes.now) }
         ensures all { IfOk result (λ n. (n ≡ length bytes.now)
-            ⊎ (has_room slave.new.outbox ≡ false)) }
+            ⊎ (may_hear slave.new ≡ false)) }
         ensures ends { IfOk result (λ n. (n ≡ length bytes.now)
             ⊎ ((n ≡ 0) ⊎ (self.new.held ≡ []))) }
         ensures stays_open { OnOk result (self.new.closed ≡ false) }
-        ensures no_room { has_room slave.old.outbox ≡ false
+        ensures no_room { may_hear slave.old ≡ false
             → (result ≡ Ok 0) × (self.new ≡ self.old) × (slave.new ≡ slave.old) }
         ensures bad { OnErr result (BreaksOff R.Take.TakeEnd
-            self.old self.new slave.old slave.new clock bytes.now []) }
+            self.old self.new slave.old slave.new clock bytes.now) }
     {
         let mut at = 0;
         for _ in 0..bytes.len() {
@@ -134,9 +134,9 @@ impl MasterStream {
         bytes: &[u8],
         clock: u32,
     ) -> Result<usize, BadFrame>
-        requires room { has_room slave.old.outbox ≡ true }
+        requires room { may_hear slave.old ≡ true }
         ensures ok { IfOk result (λ n. Receives R.Take.TakeEnd self.old self.new
-            slave.old slave.new clock (take n bytes.now) []) }
+            slave.old slave.new clock (take n bytes.now)) }
         ensures within { IfOk result (λ n. n ≤ length bytes.now) }
         ensures some { 0 < length bytes.now → IfOk result (λ n. 0 < n) }
         ensures ends { IfOk result (λ n. (n ≡ length bytes.now) ⊎ (self.new.held ≡ [])) }

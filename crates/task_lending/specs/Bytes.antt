@@ -1,12 +1,11 @@
 -- What a slave does with the bytes of its master.
-use Rattle.std.specs.Prelude.{◌≡◌, ◌⊎◌, ℕ, ◌≤◌, false, true, List, [], ◌∷◌, length}
+use Rattle.std.specs.Prelude.{◌≡◌, ◌⊎◌, ℕ, ◌≤◌, false, true, List, [], length}
 use Rattle.std.specs.Prelude.{take as first}
 use Rattle.channel_ring.specs.declared.ends.TakeEnd.{Ghosts as TakeGhosts}
-use Rattle.frame_outbox.specs.Outboxes.{has_room}
 use Rattle.frame_reader.specs.Reading.{ReaderStandsAfter}
-use Rattle.slave.specs.Hearing.{GoesBy}
-use Rattle.slave.specs.Log.{HungUp}
-use Rattle.slave_stream.specs.Receiving.{BreaksOff, HearsDatagram, Receives}
+use Rattle.slave.specs.Hearing.{GoesBy, may_hear}
+use Rattle.slave.specs.Log.{losing}
+use Rattle.slave_stream.specs.Receiving.{HearsDatagram, LosesStream, Receives}
 use Rattle.task_lending.specs.States.{LendingSlaveState}
 
 module _ {S T F : Type 0} (take : TakeGhosts T F) where
@@ -14,13 +13,13 @@ module _ {S T F : Type 0} (take : TakeGhosts T F) where
   -- reply finds room; and the packets of the frames that they ended were heard
   pub record TakesBytes (a b : LendingSlaveState S T) (clock : ℕ) (bytes : List ℕ) (n : ℕ)
       : Type 0 where
-    pub receives : Receives take a.stream b.stream a.slave b.slave clock (first n bytes) []
+    pub receives : Receives take a.stream b.stream a.slave b.slave clock (first n bytes)
     pub within : n ≤ length bytes
-    pub all : (n ≡ length bytes) ⊎ (has_room b.slave.outbox ≡ false)
+    pub all : (n ≡ length bytes) ⊎ (may_hear b.slave ≡ false)
     pub ends : (n ≡ length bytes) ⊎ ((n ≡ 0) ⊎ (b.stream.held ≡ []))
     pub was_open : a.stream.closed ≡ false
     pub stays_open : b.stream.closed ≡ false
-    pub no_room : has_room a.slave.outbox ≡ false → (n ≡ 0) × (b ≡ a)
+    pub no_room : may_hear a.slave ≡ false → (n ≡ 0) × (b ≡ a)
     pub tasks : b.tasks ≡ a.tasks
 
   -- a frame was bad: the packets before it were heard, the slave hung up, and the stream is closed;
@@ -28,7 +27,7 @@ module _ {S T F : Type 0} (take : TakeGhosts T F) where
   pub record RefusesBytes (a b : LendingSlaveState S T) (clock : ℕ) (bytes : List ℕ) : Type 0 where
     pub bad :
         a.stream.closed ≡ false
-        → BreaksOff take a.stream b.stream a.slave b.slave clock bytes (HungUp ∷ [])
+        → LosesStream take a.stream b.stream a.slave b.slave clock bytes
     pub closed : a.stream.closed ≡ true → b ≡ a
     pub tasks : b.tasks ≡ a.tasks
 
@@ -38,13 +37,13 @@ module _ {S T F : Type 0} (take : TakeGhosts T F) where
       : Type 0 where
     pub hears : HearsDatagram take a.slave b.slave clock bytes n
     pub within : n ≤ length bytes
-    pub all : (n ≡ length bytes) ⊎ (has_room b.slave.outbox ≡ false)
+    pub all : (n ≡ length bytes) ⊎ (may_hear b.slave ≡ false)
     pub stream : b.stream ≡ a.stream
     pub tasks : b.tasks ≡ a.tasks
 
   -- the slave hung up, and another stream begins
   pub record HangsUp (a b : LendingSlaveState S T) : Type 0 where
-    pub hangs_up : GoesBy take a.slave b.slave (HungUp ∷ [])
+    pub hangs_up : GoesBy take a.slave b.slave (losing a.slave.session.connected)
     pub profile : b.slave.session.profile ≡ a.slave.session.profile
     pub fresh : ReaderStandsAfter b.stream [] []
     pub is_open : b.stream.closed ≡ false

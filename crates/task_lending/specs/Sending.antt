@@ -1,10 +1,10 @@
 -- What a slave shows of what waits, and what was sent.
-use Rattle.std.specs.Prelude.{◌≡◌, ℕ, List, [], ◌∷◌, drop, length, min}
+use Rattle.std.specs.Prelude.{◌≡◌, ℕ, List, [], drop, length, min}
 use Rattle.std.specs.Prelude.{take as first}
 use Rattle.channel_ring.specs.declared.ends.TakeEnd.{Ghosts as TakeGhosts}
 use Rattle.frame_outbox.specs.Outboxes.{Shows}
 use Rattle.slave.specs.Hearing.{GoesBy}
-use Rattle.slave.specs.Log.{Sent}
+use Rattle.slave.specs.Log.{sending}
 use Rattle.slave.specs.Standing.{SlaveState}
 use Rattle.slave.specs.Taking.{TakesItems, most_taken}
 use Rattle.task_lending.specs.States.{LendingSlaveState}
@@ -27,7 +27,7 @@ module _ {S T F : Type 0} (take : TakeGhosts T F) where
   pub record Sends (a b : LendingSlaveState S T) : Type 0 where
     pub sends :
         GoesBy take a.slave b.slave
-        (Sent (min a.slave.outbox.shown (length a.slave.outbox.units)) ∷ [])
+        (sending (min a.slave.outbox.shown (length a.slave.outbox.units)))
     pub none_shown : b.slave.outbox.shown ≡ 0
     pub profile : b.slave.session.profile ≡ a.slave.session.profile
     pub stream : b.stream ≡ a.stream

@@ -1,5 +1,6 @@
 //! The slave hears its master.
-ghost use Rattle.std.specs.Prelude.{IfOk, OnErr};
+ghost use Rattle.std.specs.Prelude.{◌≡◌, IfOk, OnErr};
+ghost use Rattle.slave.specs.Hearing.{is_spent};
 ghost use Rattle.task_lending.specs.Bytes.{HangsUp, HearsBytes, RefusesBytes, TakesBytes};
 
 use crate::lending_slave::LendingSlave;
@@ -9,6 +10,13 @@ use slave_stream::{MasterStream, datagram};
 use std::alloc::Global;
 
 impl<R: Ring> LendingSlave<R> {
+    /// Whether the slave is spent, and hears and takes nothing any more: `Slave::is_spent`.
+    pub fn is_spent(&self) -> bool
+        ensures { result ≡ is_spent self.now.slave }
+    {
+        self.slave.is_spent()
+    }
+
     /// Takes bytes of a stream, as `MasterStream::receive`, and returns how many.
     pub fn receive(&mut self, alloc: Global, bytes: &[u8], clock: u32) -> Result<usize, BadFrame>
         ensures ok { IfOk result (TakesBytes R.Take.TakeEnd self.old self.new clock bytes.now) }

@@ -62,6 +62,7 @@ returns-clause-means g c =
       takes,
       list,
       passes,
+      lays.each,
       subst (λ (o : OutboxState). LaysOut o now (record { origin = origin.Sample c.args.measurement c.in-Wrote.list; packets = s.packets })) c.self.view_is
           (lays_out (box_of (record { writer = state_of out was.writer; bytes = was.page }) was.end was.units.items was.shown.count) now
           (record { origin = origin.Sample c.args.measurement c.in-Wrote.list; packets = s.packets }) u.len lays.writer lays.front items (omega (arith, lays.end_is))),

@@ -1,6 +1,6 @@
 use Rattle.std.proofs.Common.{◌≡◌, ap, ◌∙◌, sym, subst}
 use Rattle.session.specs.Profiles.{lists_of}
-use Rattle.slave.specs.Inner.{HasSome}
+use Rattle.slave_channels.specs.Calls.{HasSome}
 use Rattle.slave.specs.Plans.{IsSame}
 use Rattle.slave.proofs.PreparingLemmas.{if-err, looks-in-vain, none-prepare, on-ok, other-in-vain, starts-prepare}
 use Rattle.slave.proofs.slave.Slave.prepare.Goals as goal
@@ -31,6 +31,6 @@ returns-clause-err g c =
     let some : HasSome c.args.lists = c.is_empty.ensures.some c.if-is_empty.false in
     if-err c.start.result _ _ _ c.start.ensures.busy c.start.ensures.err
     (λ code is looks.
-    looks-in-vain g.R.Take.TakeEnd c.args.self.now c.start.new.self c.args.lists code is looks some profile
+    looks-in-vain g.R.Take.TakeEnd c.args.self.now c.start.new.self c.args.lists code (c.is_idle.ensures.busy c.if-is_idle.false) is looks some profile
     (λ l below one.
     subst (λ s. IsSame s.plan s.session.store l) c.self.view_is (subst (λ z. IsSame c.self.inside.plan z l) c.store.ensures.value (c.stands.ensures.yes c.if-not-stands.false l below one))))

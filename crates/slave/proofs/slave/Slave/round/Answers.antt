@@ -1,22 +1,29 @@
-use Rattle.std.proofs.Common.{◌+◌, arith, subst, sym}
+use Rattle.std.proofs.Common.{◌≡◌, ◌+◌, length, min, ap, arith, subst, sym}
 use Rattle.xcp_base.specs.declared.limits.TheConstants.{MAX_CHANNELS}
 use Rattle.slave.specs.Standing.{SlaveState}
-use Rattle.slave.specs.Taking.{TakesItems}
-use Rattle.slave.proofs.TakingLemmas.{takes-more, takes-within}
+use Rattle.slave.specs.Taking.{IsHeldUp, TakesItems}
+use Rattle.slave.specs.Inner.{EndsRound}
+use Rattle.slave.specs.declared.round.Round.TheVariants.{Empty}
+use Rattle.slave.proofs.RoundLemmas.{IsQuiet, quiet-more, round-empty}
+use Rattle.slave.proofs.TakingLemmas.{takes-more, takes-nothing, takes-within}
 use Rattle.slave.proofs.slave.Slave.round.Goals as goal
 
 -- one more at most
 pub loop-c-preserved : goal.loop-c-preserved
 loop-c-preserved g c =
     let more = c.loop-c-test.true in
+    let grows = c.loop-c.invariant.takes.counted in
     record {
       takes = takes-more g.R.Take.TakeEnd c.loop-c.c 1 c.args.self.now c.loop-c.self c.take_one-step.new.self c.loop-c.invariant.takes c.take_one-step.ensures.takes;
       within = omega (arith, more);
+      quiet =
+          quiet-more g.R.Take.TakeEnd c.args.self.now c.loop-c.self c.take_one-step.new.self _ c.loop-c.c c.take_one-step.result c.take_one-step.ensures.looks (c.is_full.ensures.no c.if-is_full.false)
+          (omega (arith, grows)) c.loop-c.invariant.quiet;
     }
 
 -- the sample at this event channel found no room
-pub returns-then-eq : goal.returns-then-eq
-returns-then-eq g c =
+pub returns-then-is_full : goal.returns-then-is_full
+returns-then-is_full g c =
     let more = c.loop-c-test.true in
     let limit = c.len-len.ensures.limit in
     record {
@@ -24,4 +31,24 @@ returns-then-eq g c =
           subst (λ (s : SlaveState _ _). TakesItems g.R.Take.TakeEnd MAX_CHANNELS c.args.self.now s) (sym c.self-in-loop-c.view_is)
           (takes-within g.R.Take.TakeEnd (c.loop-c.c + 1) MAX_CHANNELS c.args.self.now c.take_one-step.new.self (omega (arith, more, limit))
           (takes-more g.R.Take.TakeEnd c.loop-c.c 1 c.args.self.now c.loop-c.self c.take_one-step.new.self c.loop-c.invariant.takes c.take_one-step.ensures.takes));
+      ends = (
+        c.loop-c.c,
+        subst (λ (s : SlaveState _ _). IsHeldUp g.R.Take.TakeEnd s c.loop-c.c) (sym c.self-in-loop-c.view_is) (c.take_one-step.ensures.looks.full (c.is_full.ensures.yes c.if-is_full.true)),
+      );
     }
+
+-- no ring had anything
+pub returns-clause-ends : goal.returns-clause-ends
+returns-clause-ends g c =
+    let as_many = c.loop-c.invariant.takes.as_many in
+    let counted = c.loop-c.invariant.takes.counted in
+    let channels = ap (λ (s : SlaveState _ _). length s.channels) c.self.view_is in
+    let many : c.len-len.result ≡ length c.loop-c.self.channels = omega (arith, c.len-len.ensures.value, channels, as_many) in
+    let before = ap (λ (s : SlaveState _ _). s.acts) c.self.view_is in
+    let now = ap (λ (s : SlaveState _ _). s.acts) c.self-2.view_is in
+    let none_more = c.if-self-before.false in
+    let done = c.loop-c-test.false in
+    subst (λ (s : SlaveState _ _). EndsRound g.R.Take.TakeEnd c.args.self.now s c.args.begin Empty) (sym c.self-2.view_is)
+    (round-empty g.R.Take.TakeEnd c.args.self.now c.loop-c.self c.args.begin c.loop-c.c (omega (arith, many, done))
+    (subst (λ n. IsQuiet g.R.Take.TakeEnd c.args.self.now c.loop-c.self (min c.args.begin n) c.loop-c.c) many c.loop-c.invariant.quiet)
+    (omega (arith, before, now, none_more, counted)))

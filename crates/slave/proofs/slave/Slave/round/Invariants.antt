@@ -1,7 +1,12 @@
-use Rattle.std.proofs.Common.{◌≤◌}
+use Rattle.std.proofs.Common.{◌≤◌, min}
 use Rattle.slave.specs.Taking.{TakesItems}
+use Rattle.slave.proofs.RoundLemmas.{IsQuiet}
 use Rattle.slave.proofs.slave.Slave.round.Given as goal
 
--- one item of a ring was taken at most
+-- one item of a ring was taken at most, and where none was, nothing is known at the rings so far
 abbrev pub invariant-loop-c : goal.invariant-loop-c
-invariant-loop-c g l = record { takes : TakesItems g.R.Take.TakeEnd l.c l.fn.self l.self; within : l.c ≤ l.len }
+invariant-loop-c g l = record {
+  takes : TakesItems g.R.Take.TakeEnd l.c l.fn.self l.self;
+  within : l.c ≤ l.len;
+  quiet : IsQuiet g.R.Take.TakeEnd l.fn.self l.self (min l.begin l.len) l.c;
+}

@@ -1,38 +1,51 @@
-use Rattle.std.proofs.Common.{◌*◌, ◌+◌, ◌<◌, arith}
+use Rattle.std.proofs.Common.{◌*◌, ◌+◌, ◌<◌, ◌≤◌, arith, inl, inr, refl}
 use Rattle.xcp_base.specs.declared.limits.TheConstants.{MAX_CHANNELS}
 use Rattle.slave.specs.Taking.{most_taken}
+use Rattle.slave.proofs.RoundLemmas.{through-last, through-many, went-more}
 use Rattle.slave.proofs.TakingLemmas.{takes-more, takes-within}
 use Rattle.slave.proofs.slave.Slave.take.Goals as goal
 
 pub loop-rounds-init : goal.loop-rounds-init
-loop-rounds-init g c = record { takes = c.let_go.ensures.takes; few = omega arith }
+loop-rounds-init g c = record { takes = c.let_go.ensures.takes; few = omega arith; went = inl refl }
 
 -- one round more
 pub loop-rounds-preserved : goal.loop-rounds-preserved
 loop-rounds-preserved g c =
     let more : c.loop-rounds.rounds < 1024 = c.loop-rounds-test.true in
+    let was = c.loop-rounds.invariant.takes.counted in
+    let is = c.round-round.ensures.takes.counted in
     record {
       takes =
           takes-within g.R.Take.TakeEnd (1024 * MAX_CHANNELS + MAX_CHANNELS * c.loop-rounds.rounds + MAX_CHANNELS) (1024 * MAX_CHANNELS + MAX_CHANNELS * (c.loop-rounds.rounds + 1))
-          c.args.self.now c.round.new.self (omega arith)
-          (takes-more g.R.Take.TakeEnd (1024 * MAX_CHANNELS + MAX_CHANNELS * c.loop-rounds.rounds) MAX_CHANNELS c.args.self.now c.loop-rounds.self c.round.new.self
-          c.loop-rounds.invariant.takes c.round.ensures.takes);
+          c.args.self.now c.round-round.new.self (omega arith)
+          (takes-more g.R.Take.TakeEnd (1024 * MAX_CHANNELS + MAX_CHANNELS * c.loop-rounds.rounds) MAX_CHANNELS c.args.self.now c.loop-rounds.self c.round-round.new.self
+          c.loop-rounds.invariant.takes c.round-round.ensures.takes);
       few = omega (arith, more);
+      went = inr (
+        refl,
+        went-more g.R.Take.TakeEnd c.args.self.now c.loop-rounds.self c.round-round.new.self c.loop-rounds.begin c.loop-rounds.rounds c.round-round.result c.round-round.ensures.ends
+            (c.is_last.ensures.no c.if-is_last.false) (omega (arith, was)) (omega (arith, is)) c.loop-rounds.invariant.went,
+      );
     }
 
-pub returns-then-not-round : goal.returns-then-not-round
-returns-then-not-round g c =
+pub returns-then-is_last : goal.returns-then-is_last
+returns-then-is_last g c =
     let more : c.loop-rounds.rounds < 1024 = c.loop-rounds-test.true in
     record {
       takes =
           takes-within g.R.Take.TakeEnd (1024 * MAX_CHANNELS + MAX_CHANNELS * c.loop-rounds.rounds + MAX_CHANNELS) most_taken
-          c.args.self.now c.round.new.self (omega (arith, more))
-          (takes-more g.R.Take.TakeEnd (1024 * MAX_CHANNELS + MAX_CHANNELS * c.loop-rounds.rounds) MAX_CHANNELS c.args.self.now c.loop-rounds.self c.round.new.self
-          c.loop-rounds.invariant.takes c.round.ensures.takes);
+          c.args.self.now c.round-round.new.self (omega (arith, more))
+          (takes-more g.R.Take.TakeEnd (1024 * MAX_CHANNELS + MAX_CHANNELS * c.loop-rounds.rounds) MAX_CHANNELS c.args.self.now c.loop-rounds.self c.round-round.new.self
+          c.loop-rounds.invariant.takes c.round-round.ensures.takes);
+      through =
+          through-last g.R.Take.TakeEnd c.args.self.now c.loop-rounds.self c.round-round.new.self c.loop-rounds.begin c.round-round.result c.round-round.ensures.ends (c.is_last.ensures.yes c.if-is_last.true);
     }
 
 pub returns : goal.returns
-returns g c = record {
-  takes = takes-within g.R.Take.TakeEnd (1024 * MAX_CHANNELS + MAX_CHANNELS * c.loop-rounds.rounds) most_taken c.args.self.now c.loop-rounds.self
-      (let few = c.loop-rounds.invariant.few in omega (arith, few)) c.loop-rounds.invariant.takes;
-}
+returns g c =
+    let few = c.loop-rounds.invariant.few in
+    let done = c.loop-rounds-test.false in
+    record {
+      takes = takes-within g.R.Take.TakeEnd (1024 * MAX_CHANNELS + MAX_CHANNELS * c.loop-rounds.rounds) most_taken c.args.self.now c.loop-rounds.self (omega (arith, few)) c.loop-rounds.invariant.takes;
+      through = through-many g.R.Take.TakeEnd c.args.self.now c.loop-rounds.self c.loop-rounds.begin c.loop-rounds.rounds (omega (arith, done)) c.loop-rounds.invariant.went;
+    }

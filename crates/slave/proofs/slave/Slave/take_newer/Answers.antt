@@ -1,5 +1,6 @@
 use Rattle.std.proofs.Common.{◌<◌, length, ap, subst, sym}
-use Rattle.slave.specs.Inner.{Idle}
+use Rattle.slave.specs.Inner.{IsOver}
+use Rattle.slave.specs.Standing.{SlaveState}
 use Rattle.slave.proofs.FinishingLemmas.{gives-newer}
 use Rattle.slave.proofs.slave.Slave.take_newer.Goals as goal
 
@@ -7,6 +8,7 @@ pub returns : goal.returns
 returns g c = record {
   back =
       gives-newer g.R.Send.SendEnd g.R.Send.End.RingEnd g.R.Take.TakeEnd c.args.self.now _ c.take_newer-part.new.self c.note.new.account c.args.c c.take_newer-part.result c.self.view_is c.note.ensures
-      (subst (λ s. Idle s) (sym (ap (λ s. s.session) c.self.view_is)) c.requires.idle)
+      (subst (λ (s : SlaveState _ _). IsOver s c.args.c) (sym c.self.view_is) c.requires.over)
       (subst (λ xs. c.args.c < length xs) (sym (ap (λ s. s.channels) c.self.view_is)) c.requires.channel) c.take_newer-part.ensures.back;
+  acts_stay = ap (λ s. s.acts) c.self.view_is;
 }

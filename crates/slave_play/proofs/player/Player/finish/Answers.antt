@@ -1,8 +1,7 @@
 use Rattle.std.proofs.Common.{◌+◌, ◌*◌, [], ◌∷◌, refl, arith}
-use Rattle.slave.specs.Log.{HungUp}
 use Rattle.xcp_base.specs.declared.limits.TheConstants.{MAX_CHANNELS}
 use Rattle.slave_play.specs.Playing.{most_a_line, sending}
-use Rattle.slave_play.proofs.PlayLemmas.{advances-more, advances-within, silent}
+use Rattle.slave_play.proofs.PlayLemmas.{advances-more, advances-within, hangs}
 use Rattle.slave_play.proofs.player.Player.finish.Goals as goal
 
 -- the slave hangs up, and what came back is collected
@@ -14,6 +13,6 @@ returns-clause-ends g c =
       c.collect.new.slave,
       advances-within take (1 + 4 * MAX_CHANNELS) most_a_line (sending was.slave sent) (sending c.collect.new.slave sent) [] (omega arith)
           (advances-more take 1 (4 * MAX_CHANNELS) (sending was.slave sent) (sending c.hang_up.new.self sent) (sending c.collect.new.slave sent) [] []
-          (silent take 1 was.slave c.hang_up.new.self (HungUp ∷ []) sent [] (omega arith) c.hang_up.ensures.hangs_up refl refl)
+          (hangs take was.slave c.hang_up.new.self sent c.hang_up.ensures.hangs_up)
           (c.in_ok-collect.ensures.collects sent)),
     )

@@ -7,8 +7,8 @@ use Rattle.slave_stream.proofs.stream.MasterStream.read.Goals as goal
 pub returns-in_err-at-clause-bad : goal.returns-in_err-at-clause-bad
 returns-in_err-at-clause-bad g c =
     let before = c.loop.invariant.receives in
-    let same = subst (λ m. Receives g.R.Take.TakeEnd c.args.self.now c.loop.self c.args.slave.now m c.args.clock (first c.loop.at c.args.bytes.now) []) (sym c.in_err-at.ensures.err) before in
-    on-err c.from_residual.result (BreaksOff g.R.Take.TakeEnd c.args.self.now c.step.new.self c.args.slave.now c.step.new.slave c.args.clock c.args.bytes.now [])
+    let same = subst (λ m. Receives g.R.Take.TakeEnd c.args.self.now c.loop.self c.args.slave.now m c.args.clock (first c.loop.at c.args.bytes.now)) (sym c.in_err-at.ensures.err) before in
+    on-err c.from_residual.result (BreaksOff g.R.Take.TakeEnd c.args.self.now c.step.new.self c.args.slave.now c.step.new.slave c.args.clock c.args.bytes.now)
     (breaks-from g.R.Take.TakeEnd c.args.self.now c.loop.self c.step.new.self c.args.slave.now c.step.new.slave c.args.clock c.loop.at c.args.bytes.now c.loop.invariant.within same c.in_err-at.ensures.bad)
 
 -- some bytes more were taken

@@ -1,5 +1,5 @@
 use Rattle.std.proofs.Common.{◌≡◌, ◌⊎◌, ◌≤◌, [], length, take as first, false}
-use Rattle.frame_outbox.specs.Outboxes.{has_room}
+use Rattle.slave.specs.Hearing.{may_hear}
 use Rattle.slave_stream.specs.Receiving.{Receives}
 use Rattle.slave_stream.proofs.stream.MasterStream.read.Given as goal
 
@@ -8,8 +8,8 @@ abbrev pub invariant-loop : goal.invariant-loop
 invariant-loop g l = record {
   within : l.at ≤ length l.bytes;
   far : l.counter ≤ l.at;
-  receives : Receives g.R.Take.TakeEnd l.fn.self l.self l.fn.slave l.slave l.clock (first l.at l.bytes) [];
+  receives : Receives g.R.Take.TakeEnd l.fn.self l.self l.fn.slave l.slave l.clock (first l.at l.bytes);
   ends : (l.at ≡ length l.bytes) ⊎ ((l.at ≡ 0) ⊎ (l.self.held ≡ []));
   still_open : l.self.closed ≡ false;
-  no_room : has_room l.fn.slave.outbox ≡ false → (l.at ≡ 0) × (l.self ≡ l.fn.self) × (l.slave ≡ l.fn.slave);
+  no_room : may_hear l.fn.slave ≡ false → (l.at ≡ 0) × (l.self ≡ l.fn.self) × (l.slave ≡ l.fn.slave);
 }

@@ -1,7 +1,7 @@
 use Rattle.std.proofs.Common.{subst}
 use Rattle.slave.specs.Inner.{Settles}
 use Rattle.slave.proofs.AnsweringLemmas.{hung-up-by}
-use Rattle.slave.proofs.slave.Slave.hang_up.Goals as goal
+use Rattle.slave.proofs.slave.Slave.lose_master.Goals as goal
 
 pub returns-clause-hangs_up : goal.returns-clause-hangs_up
 returns-clause-hangs_up g c =

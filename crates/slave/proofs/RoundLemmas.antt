@@ -1,0 +1,217 @@
+-- The rings of the newest measurement are looked through.
+use Rattle.std.proofs.Common.{◌≡◌, ◌≢◌, ◌⊎◌, ℕ, ◌+◌, ◌-◌, ◌*◌, ◌<◌, ◌≤◌, min, true, false, List, [], ◌∷◌, length, slice_get, refl, sym, ap, ◌∙◌, subst, arith, inl, inr}
+use Rattle.std.specs.Prelude.{Option, Some, None}
+use mathlib.Core.List.{IsPrefix}
+use Rattle.std.proofs.lemmas.Bool.{false≢true}
+use Rattle.std.proofs.lemmas.Bool.Decides.{eqb_tells, leb_tells}
+use Rattle.xcp_base.specs.Samples.{SampleParts}
+use Rattle.xcp_base.specs.declared.item.Item.TheVariants.{Sample}
+use Rattle.channel_ring.specs.declared.ends.TakeEnd.{Ghosts as TakeGhosts}
+use Rattle.channel_intake.specs.Deeds.{Deed}
+use Rattle.channel_intake.specs.Intakes.{IntakeState, OnlyLooked, StandsAfter}
+use Rattle.channel_intake.specs.Steps.{Passes}
+use Rattle.channel_intake.specs.declared.step.Step.{Step}
+use Rattle.channel_intake.specs.declared.step.Step.TheVariants.{Full, Marked, Nothing, Skipped, Wrote}
+use Rattle.frame_outbox.specs.Outboxes.{OutboxState}
+use Rattle.frame_outbox.specs.Taking.{HasNoRoom, TakesItem}
+use Rattle.slave_channel.specs.Channels.{ChannelState, ShareState, TakesOf}
+use Rattle.slave_channels.specs.Calls.{TakesFromNewer}
+use Rattle.slave_channels.specs.Each.{IsOnlyAt}
+use Rattle.slave.specs.Hearing.{is_spent}
+use Rattle.slave.specs.Inner.{EndsRound, LooksOnce, acts_of}
+use Rattle.slave.specs.Standing.{SlaveState}
+use Rattle.slave.specs.Taking.{IsEmptyAt, IsHeldUp, LooksThrough}
+use Rattle.slave.specs.declared.round.Round.{Round}
+use Rattle.slave.specs.declared.round.Round.TheVariants.{Empty, HeldUp, Took}
+use Rattle.slave.specs.declared.limits.TheConstants.{MOST_ACTS}
+use Rattle.slave.proofs.OutLemmas.{some-at}
+use Rattle.std.proofs.lemmas.Option.{slice_get_within}
+
+none_some : {X : Type 0} (x : X) → None ≡ Some x → ⊥
+none_some x e = cc
+
+some_inj : {X : Type 0} (x y : X) → Some x ≡ Some y → x ≡ y
+some_inj x y e = cc
+
+-- what counts as nothing and found room is nothing
+acts-none : (step : Step) → acts_of step ≡ 0 → step ≢ Full → step ≡ Nothing
+acts-none Nothing none other = refl
+acts-none Full none other = absurd (other refl)
+acts-none (Marked l) none other = absurd (omega (arith, none))
+acts-none (Skipped l) none other = absurd (omega (arith, none))
+acts-none (Wrote l end) none other = absurd (omega (arith, none))
+
+-- what is spent stays so
+still-spent : {S T : Type 0} (a b : SlaveState S T) → a.acts ≤ b.acts → is_spent a ≡ true → is_spent b ≡ true
+still-spent a b grows spent =
+    elim (leb_tells MOST_ACTS b.acts) [
+      | inl w ↦ w.0
+      | inr w ↦
+          elim (leb_tells MOST_ACTS a.acts) [
+            | inl t ↦ absurd (omega (arith, t.1, w.1, grows))
+            | inr t ↦ absurd (false≢true (sym t.0 ∙ spent))
+          ]
+    ]
+
+module _ {T F : Type 0} (take : TakeGhosts T F) where
+  looked-back : (a b : IntakeState T) → OnlyLooked take a b → (deeds : List Deed) → StandsAfter take b deeds → StandsAfter take a deeds
+  looked-back a b looked deeds stands = record {
+    few = stands.few;
+    received = sym looked.received ∙ stands.received;
+    lists = λ l below. ap (λ xs. slice_get xs l) (sym looked.lists) ∙ stands.lists l below;
+  }
+
+  -- nothing is known once nothing was found
+  empty-of : (u v : Option (ShareState T)) (o p : OutboxState) (step : Step) → TakesOf take u v o p step → step ≡ Nothing
+      → (part : ShareState T) → v ≡ Some part → take.known part.intake.end ≡ []
+  empty-of None None o p step takes none part is = absurd (none_some part is)
+  empty-of None (Some t) o p step takes none part is = elim takes [ ]
+  empty-of (Some s) None o p step takes none part is = elim takes [ ]
+  empty-of (Some s) (Some t) o p step takes none part is =
+      let item = subst (λ z. TakesItem take s.intake t.intake o p s.number z) none takes.1 in
+      subst (λ (q : ShareState T). take.known q.intake.end ≡ []) (some_inj t part is) item.1
+
+  -- the sample that found no room
+  record IsHeld (v : Option (ShareState T)) (p : OutboxState) : Type 0 where
+    part : ShareState T
+    sample : SampleParts
+    part_is : v ≡ Some part
+    next : IsPrefix (Sample sample ∷ []) (take.known part.intake.end)
+    passes : Passes take part.intake sample.list
+    no_room : HasNoRoom p sample
+
+  held-of : (u v : Option (ShareState T)) (o p : OutboxState) (step : Step) → TakesOf take u v o p step → step ≡ Full → IsHeld v p
+  held-of None None o p step takes full = absurd (not-full (sym takes.0 ∙ full)) where
+    not-full : Nothing ≡ Full → ⊥
+    not-full e = cc
+  held-of None (Some t) o p step takes full = elim takes [ ]
+  held-of (Some s) None o p step takes full = elim takes [ ]
+  held-of (Some s) (Some t) o p step takes full =
+      let (sample, looked, next, passes, room, out) = subst (λ z. TakesItem take s.intake t.intake o p s.number z) full takes.1 in
+      record {
+        part = t;
+        sample = sample;
+        part_is = refl;
+        next = next;
+        passes = λ deeds stands. passes deeds (looked-back s.intake t.intake looked deeds stands);
+        no_room = subst (λ q. HasNoRoom q sample) (sym out) room;
+      }
+
+module _ {S T F : Type 0} (take : TakeGhosts T F) where
+  -- one look at the newest ring of an event channel
+  pub looks-once : (v w : SlaveState S T) (xs : List (ChannelState S T)) (o : OutboxState) (c n : ℕ) (step : Step) → w ≡ v → n ≡ acts_of step → c < length w.channels
+      → IsOnlyAt (TakesFromNewer take w.outbox o step) c w.channels xs → LooksOnce take v (record w { outbox = o; channels = xs; acts = w.acts + n }) c step
+  looks-once v w xs o c n step same is_n below only =
+      let (x, was) = some-at w.channels c below in
+      let (y, is) = some-at xs c (omega (arith, below, only.as_many)) in
+      let one = only.here x y was is in
+      let b : SlaveState S T = record w { outbox = o; channels = xs; acts = w.acts + n } in
+      subst (λ (z : SlaveState S T). LooksOnce take z b c step) same
+      (record {
+        nothing = λ none. inr (λ state part at part_is.
+            empty-of take x.newer y.newer w.outbox o step one.takes none part (ap (λ (z : ChannelState S T). z.newer) (some_inj y state (sym is ∙ at)) ∙ part_is));
+        full = λ full.
+            let held = held-of take x.newer y.newer w.outbox o step one.takes full in
+            record {
+              state = y;
+              part = held.part;
+              sample = held.sample;
+              state_is = is;
+              part_is = held.part_is;
+              next = held.next;
+              passes = held.passes;
+              no_room = held.no_room;
+            };
+        others = only.others;
+        counted = ap (λ k. w.acts + k) is_n;
+      })
+
+  -- a slave that is spent looks at nothing
+  pub looks-not : (a : SlaveState S T) (c : ℕ) → is_spent a ≡ true → LooksOnce take a a c Nothing
+  looks-not a c spent = record {
+    nothing = λ none. inl spent;
+    full = λ full. absurd (not-full full);
+    others = λ k other. refl;
+    counted = omega arith;
+  } where
+    not-full : Nothing ≡ Full → ⊥
+    not-full e = cc
+
+  -- where nothing was counted so far, nothing is known at the rings so far
+  abbrev pub IsQuiet : SlaveState S T → SlaveState S T → ℕ → ℕ → Type 0
+  IsQuiet f a begin c = a.acts ≡ f.acts → (is_spent a ≡ true) ⊎ ((k : ℕ) → begin ≤ k → k < c → IsEmptyAt take a k)
+
+  pub quiet-none : (f a : SlaveState S T) (begin c : ℕ) → c ≤ begin → IsQuiet f a begin c
+  quiet-none f a begin c none = λ e. inr (λ k low high. absurd (omega (arith, none, low, high)))
+
+  pub quiet-more : (f a b : SlaveState S T) (begin c : ℕ) (step : Step) → LooksOnce take a b c step → step ≢ Full → f.acts ≤ a.acts → IsQuiet f a begin c → IsQuiet f b begin (c + 1)
+  quiet-more f a b begin c step looks other grows quiet = λ e.
+      let same : a.acts ≡ f.acts = omega (arith, looks.counted, grows, e) in
+      let zero_acts : acts_of step ≡ 0 = omega (arith, looks.counted, grows, e) in
+      elim (quiet same) [
+        | inl spent ↦ inl (still-spent a b (omega (arith, looks.counted)) spent)
+        | inr before ↦
+            elim (looks.nothing (acts-none step zero_acts other)) [
+              | inl spent ↦ inl spent
+              | inr here ↦ inr (λ k low high.
+                  elim (eqb_tells k c) [
+                    | inl w ↦ subst (λ j. IsEmptyAt take b j) (sym w.1) here
+                    | inr w ↦ λ state part at is. before k low (below k c high w.1) state part (sym (looks.others k w.1) ∙ at) is
+                  ])
+            ]
+      ] where
+        below : (k c : ℕ) → k < c + 1 → k ≢ c → k < c
+        below k c high other =
+            elim (leb_tells (k + 1) c) [
+              | inl t ↦ omega (arith, t.1)
+              | inr t ↦ absurd (other (omega (arith, t.1, high)))
+            ]
+
+  -- a round that took nothing found nothing at any of its rings
+  pub round-empty : (f b : SlaveState S T) (begin c : ℕ) → length b.channels ≤ c → IsQuiet f b (min begin (length b.channels)) c → b.acts ≡ f.acts → EndsRound take f b begin Empty
+  round-empty f b begin c all quiet same =
+      elim (quiet same) [
+        | inl spent ↦ inl spent
+        | inr none ↦ inr (λ k low state part at is.
+            let within = slice_get_within b.channels k state at in
+            none k (omega (arith, low)) (omega (arith, within, all)) state part at is)
+      ]
+
+  -- a round that wasn't the last took something, but for the first one
+  pub went-more : (f a b : SlaveState S T) (begin rounds : ℕ) (r : Round) → EndsRound take a b begin r → (r ≡ Took) ⊎ ((r ≡ Empty) × (0 < begin)) → f.acts ≤ a.acts → a.acts ≤ b.acts
+      → (rounds ≡ 0) ⊎ ((begin ≡ 0) × (f.acts + 3 * (rounds - 1) ≤ a.acts)) → f.acts + 3 * (rounds + 1 - 1) ≤ b.acts
+  went-more f a b begin rounds r ends kind from grows went =
+      elim kind [
+        | inl took ↦
+            let more : a.acts + 3 ≤ b.acts = subst (EndsRound take a b begin) took ends in
+            elim went [
+              | inl none ↦ omega (arith, none, from, grows)
+              | inr w ↦ let so_far = w.1 in omega (arith, more, so_far)
+            ]
+        | inr late ↦
+            elim went [
+              | inl none ↦ omega (arith, none, from, grows)
+              | inr w ↦ let behind = late.1 in let first_round = w.0 in absurd (omega (arith, behind, first_round))
+            ]
+      ]
+
+  -- and the last one looked through all
+  pub through-last : (f a b : SlaveState S T) (begin : ℕ) (r : Round) → EndsRound take a b begin r → (r ≡ HeldUp) ⊎ ((r ≡ Empty) × (begin ≡ 0)) → LooksThrough take f b
+  through-last f a b begin r ends kind =
+      elim kind [
+        | inl held ↦ inl (subst (EndsRound take a b begin) held ends)
+        | inr empty ↦
+            let zero_begin = empty.1 in
+            elim (subst (EndsRound take a b begin) empty.0 ends) [
+              | inl spent ↦ inr (inr (inl spent))
+              | inr all ↦ inr (inl (λ c. all c (omega (arith, zero_begin))))
+            ]
+      ]
+
+  -- or there were 1,024 rounds
+  pub through-many : (f b : SlaveState S T) (begin rounds : ℕ) → 1024 ≤ rounds → (rounds ≡ 0) ⊎ ((begin ≡ 0) × (f.acts + 3 * (rounds - 1) ≤ b.acts)) → LooksThrough take f b
+  through-many f b begin rounds many went =
+      elim went [
+        | inl none ↦ absurd (omega (arith, many, none))
+        | inr w ↦ let so_far = w.1 in inr (inr (inr (omega (arith, many, so_far))))
+      ]

@@ -1,0 +1,143 @@
+-- What logs have in common after which one slave stands.
+use Rattle.std.proofs.Common.{◌≡◌, ℕ, ◌+◌, ◌%◌, ◌<◌, Bool, true, false, List, ◌++◌, length, take as first, drop, refl, sym, ap, ◌∙◌, subst, arith, ◌⊎◌, inl, inr, slice_get, take-append-drop}
+use Rattle.std.specs.Prelude.{Option, Some, None}
+use Rattle.std.proofs.lemmas.List.{append_cancel_right}
+use Rattle.std.proofs.lemmas.List.Elements.{All-from_recursion}
+use Rattle.std.specs.List.{AllByRecursion}
+use Rattle.xcp_base.specs.declared.limits.TheConstants.{MAX_LISTS}
+use Rattle.channel_ring.specs.declared.ends.TakeEnd.{Ghosts as TakeGhosts}
+use Rattle.session.specs.declared.profile.Profile.{Profile}
+use Rattle.channel_intake.specs.Deeds.{Deed, taken}
+use Rattle.channel_intake.specs.Intakes.{StandsAfter}
+use Rattle.frame_outbox.proofs.LaidLemmas.{packets_in-append}
+use Rattle.frame_outbox.specs.Outboxes.{Laid, OutboxState, packets_in}
+use Rattle.frame_outbox.specs.Outboxes.{StandsAfter as OutboxStandsAfter}
+use Rattle.frame_writer.proofs.SplitLemmas.{split_is_unique, split_of_text}
+use Rattle.frame_writer.proofs.TextLemmas.{text-append}
+use Rattle.frame_writer.specs.Frame.{text}
+use Rattle.frame_writer.specs.Split.{Fits, IsSplit, numbered}
+use Rattle.daq_engine.proofs.FrameLemmas.{packets_of_frames-numbered}
+use Rattle.daq_engine.specs.Frames.{packets_of_frames}
+use Rattle.session_account.specs.Accounts.{AccountStandsAfter, Agree, AreTotals, Entry, accepted_in, dropped_in, due_in, written_in}
+use Rattle.session_account.specs.declared.totals.Totals.{Totals}
+use Rattle.slave_channel.specs.Channels.{ChannelState, ShareState}
+use Rattle.slave.specs.Log.{Act, deeds_of, entries_of, is_out, laid, opened, sent_of}
+use Rattle.slave.specs.Session.{SameStory, packets_sent, sent_text}
+use Rattle.slave.specs.Standing.{IsOut, SlaveHas, PartsStandAfter, SlaveState, number_of}
+use Rattle.slave.proofs.OutLemmas.{some-at}
+use Rattle.slave.proofs.SessionLemmas.{laid-fits, sent-fits}
+
+-- what was sent, and what waits, of what one outbox wrote
+contents-split : (o : OutboxState) (sent waits : List Laid) → OutboxStandsAfter o sent waits → o.writer.out.contents ≡ text 0 (packets_in sent) ++ o.waits
+contents-split o sent waits stands =
+    stands.contents ∙ ap (text 0) (packets_in-append sent waits) ∙ text-append 0 (packets_in sent) (packets_in waits)
+    ∙ ap (λ xs. text 0 (packets_in sent) ++ xs) (at (0 + length (packets_in sent)) (length (packets_in sent)) (omega arith) ∙ sym stands.waiting) where
+      at : (m n : ℕ) → m ≡ n → text m (packets_in waits) ≡ text n (packets_in waits)
+      at m n same = ap (λ k. text k (packets_in waits)) same
+
+same-sent : (o : OutboxState) (xs ys us vs : List Laid) → OutboxStandsAfter o xs ys → OutboxStandsAfter o us vs → text 0 (packets_in xs) ≡ text 0 (packets_in us)
+same-sent o xs ys us vs one other =
+    append_cancel_right (text 0 (packets_in xs)) (text 0 (packets_in us)) o.waits (sym (contents-split o xs ys one) ∙ contents-split o us vs other)
+
+-- bytes are the frames of one list of packets
+same-packets : (xs ys : List (List ℕ)) → AllByRecursion Fits xs → AllByRecursion Fits ys → text 0 xs ≡ text 0 ys → xs ≡ ys
+same-packets xs ys fit_x fit_y same =
+    let split_x = split_of_text 0 xs (All-from_recursion Fits xs fit_x) in
+    let split_y = split_of_text 0 ys (All-from_recursion Fits ys fit_y) in
+    sym (packets_of_frames-numbered 0 xs)
+    ∙ ap packets_of_frames (split_is_unique (text 0 xs) (numbered 0 xs) (numbered 0 ys) split_x (subst (λ bytes. IsSplit bytes (numbered 0 ys)) (sym same) split_y))
+    ∙ packets_of_frames-numbered 0 ys
+
+contents-laid : (d : Profile) (log : List Act) (o : OutboxState) → OutboxStandsAfter o (first (sent_of log) (laid d log)) (drop (sent_of log) (laid d log)) → o.writer.out.contents ≡ text 0 (packets_in (laid d log))
+contents-laid d log o stands = stands.contents ∙ ap (λ xs. text 0 (packets_in xs)) (take-append-drop (sent_of log) (laid d log))
+
+-- all that was laid out, by what was sent and what waits
+all-laid : (d : Profile) (log : List Act) (o : OutboxState) → OutboxStandsAfter o (first (sent_of log) (laid d log)) (drop (sent_of log) (laid d log)) → o.writer.counter ≡ length (packets_in (laid d log)) % 65536
+all-laid d log o stands = stands.counter ∙ ap (λ xs. length (packets_in xs) % 65536) (take-append-drop (sent_of log) (laid d log))
+
+some-inj : {X : Type 0} (x y : X) → Some x ≡ Some y → x ≡ y
+some-inj x y e = cc
+
+-- the totals of one account
+same-totals : (account : List Totals) (xs ys : List Entry) (l : ℕ) → l < MAX_LISTS → AccountStandsAfter account xs (λ k. 0) → AccountStandsAfter account ys (λ k. 0)
+    → Agree (due_in xs l) (due_in ys l) × Agree (dropped_in xs l) (dropped_in ys l) × Agree (written_in xs l) (written_in ys l) × Agree (accepted_in xs l) (accepted_in ys l)
+same-totals account xs ys l below one other =
+    let (t, at, are) = one.lists l below in
+    let (u, at_u, are_u) = other.lists l below in
+    let also : AreTotals ys 0 l t = subst (AreTotals ys 0 l) (some-inj u t (sym at_u ∙ at)) are_u in (
+      sym are.all_due ∙ also.all_due,
+      sym are.dropped ∙ also.dropped,
+      sym are.written ∙ also.written,
+      sym are.left ∙ also.left,
+    )
+
+is-bool : (b : Bool) → (b ≡ true) ⊎ (b ≡ false)
+is-bool true = inl refl
+is-bool false = inr refl
+
+same-bool : (a b : Bool) → (a ≡ true → b ≡ true) → (b ≡ true → a ≡ true) → a ≡ b
+same-bool true b to from = sym (to refl)
+same-bool false true to from = from refl
+same-bool false false to from = refl
+
+-- a part that is kept, by its number
+part-numbered : {T : Type 0} (o : Option (ShareState T)) (m : ℕ) → number_of o ≡ Some m → (p : ShareState T) × (o ≡ Some p) × (p.number ≡ m)
+part-numbered None m is = absurd (cc)
+part-numbered (Some p) m is = (p, refl, some-inj p.number m is)
+
+same-taken : {T F : Type 0} (take : TakeGhosts T F) (p : ShareState T) (m : ℕ) (f g : ℕ → List Deed) → p.number ≡ m → StandsAfter take p.intake (f p.number) → StandsAfter take p.intake (g p.number) → taken (f m) ≡ taken (g m)
+same-taken take p m f g is one other = subst (λ k. taken (f k) ≡ taken (g k)) is (sym one.received ∙ other.received)
+
+module _ {S T F : Type 0} (take : TakeGhosts T F) where
+  out-both : (f g : ℕ → Bool) (ch : ChannelState S T) (m : ℕ) → IsOut f ch → IsOut g ch → f m ≡ true → g m ≡ true
+  out-both f g ch m one other is =
+      elim (one.kept m is) [
+        | inl w ↦ other.newer m w
+        | inr w ↦ other.older m w
+      ]
+
+  channel-at : (d : Profile) (s : SlaveState S T) (log : List Act) (c : ℕ) → SlaveHas take d s log → c < length d.events.items → (ch : ChannelState S T) × (slice_get s.channels c ≡ Some ch)
+  channel-at d s log c has within = some-at s.channels c (subst (λ n. c < n) (sym has.many) within)
+
+  same-out : (d : Profile) (s : SlaveState S T) (a b : List Act) → SlaveHas take d s a → SlaveHas take d s b → (m c : ℕ) → c < length d.events.items → is_out m c a ≡ is_out m c b
+  same-out d s a b one other m c within =
+      let (ch, at) = channel-at d s a c one within in
+      same-bool (is_out m c a) (is_out m c b)
+      (out-both (λ k. is_out k c a) (λ k. is_out k c b) ch m (one.out c ch at) (other.out c ch at))
+      (out-both (λ k. is_out k c b) (λ k. is_out k c a) ch m (other.out c ch at) (one.out c ch at))
+
+  same-items : (d : Profile) (s : SlaveState S T) (a b : List Act) → SlaveHas take d s a → SlaveHas take d s b → (m c : ℕ) → c < length d.events.items → is_out m c a ≡ true
+      → taken (deeds_of d m c a) ≡ taken (deeds_of d m c b)
+  same-items d s a b one other m c within out =
+      let (ch, at) = channel-at d s a c one within in
+      elim ((one.out c ch at).kept m out) [
+        | inl w ↦
+            let (p, is, number) = part-numbered ch.newer m w in
+            same-taken take p m (λ k. deeds_of d k c a) (λ k. deeds_of d k c b) number ((one.channels c ch at).newer p is).stands ((other.channels c ch at).newer p is).stands
+        | inr w ↦
+            let (p, is, number) = part-numbered ch.older m w in
+            same-taken take p m (λ k. deeds_of d k c a) (λ k. deeds_of d k c b) number ((one.channels c ch at).older p is).0.stands ((other.channels c ch at).older p is).0.stands
+      ]
+
+  pub same-story : (d : Profile) (s : SlaveState S T) (a b : List Act) → PartsStandAfter take d s a → PartsStandAfter take d s b → SameStory d a b
+  same-story d s a b stands_a stands_b =
+      let one = stands_a.has in
+      let other = stands_b.has in
+      record {
+        sent = same-sent s.outbox (first (sent_of a) (laid d a)) (drop (sent_of a) (laid d a)) (first (sent_of b) (laid d b)) (drop (sent_of b) (laid d b)) one.outbox other.outbox;
+        waits = sym one.outbox.waiting ∙ other.outbox.waiting;
+        packets = λ profile. same-packets (packets_sent d a) (packets_sent d b) (sent-fits d a one.is_log profile) (sent-fits d b other.is_log profile)
+            (same-sent s.outbox (first (sent_of a) (laid d a)) (drop (sent_of a) (laid d a)) (first (sent_of b) (laid d b)) (drop (sent_of b) (laid d b)) one.outbox other.outbox);
+        all_packets = λ profile. same-packets (packets_in (laid d a)) (packets_in (laid d b)) (laid-fits d a one.is_log profile) (laid-fits d b other.is_log profile)
+            (sym (contents-laid d a s.outbox one.outbox) ∙ contents-laid d b s.outbox other.outbox);
+        counter = sym (all-laid d a s.outbox one.outbox) ∙ all-laid d b s.outbox other.outbox;
+        units = sym one.outbox.units ∙ other.outbox.units;
+        due = λ l below. (same-totals s.account (entries_of d a) (entries_of d b) l below one.account other.account).0;
+        dropped = λ l below. (same-totals s.account (entries_of d a) (entries_of d b) l below one.account other.account).1;
+        written = λ l below. (same-totals s.account (entries_of d a) (entries_of d b) l below one.account other.account).2;
+        accepted = λ l below. (same-totals s.account (entries_of d a) (entries_of d b) l below one.account other.account).3;
+        measurements = sym one.number ∙ other.number;
+        plan = sym one.plan ∙ other.plan;
+        out = same-out d s a b one other;
+        items = same-items d s a b one other;
+      }

@@ -1,0 +1,6 @@
+use Rattle.slave.proofs.StoryLemmas.{same-story}
+use Rattle.slave.proofs.laws.one_slave_one_story.Goals as goal
+
+-- each of these is read off the slave
+pub returns : goal.returns
+returns g c = λ d s a b one other. same-story g.R.Take.TakeEnd d s a b one.parts other.parts

@@ -1,0 +1,5 @@
+use Rattle.std.proofs.Common.{inl}
+use Rattle.slave.proofs.slave.Slave.is_over.Goals as goal
+
+pub returns-then-is_idle : goal.returns-then-is_idle
+returns-then-is_idle g c = record { over = λ is. inl (c.is_idle.ensures.idle c.if-is_idle.true) }
