@@ -91,7 +91,7 @@ enum {
     NG_NOTHING_RUNNING = 7, /* no DAQ list of the store runs */
     NG_NO_SAMPLER = 8,      /* all samplers of the engine were handed out */
     NG_WRONG_IMAGE = 9,     /* the image does not have the length of the store's images */
-    NG_SPENT = 10,          /* 2^59 triggers, or 2^62 items, were taken */
+    NG_SPENT = 10,          /* 2^59 triggers, or 2^62 items, were taken; or a slave is spent */
     NG_NOT_OF_CHANNEL = 11, /* the DAQ list isn't one of the sampler's */
     NG_RUNNING = 12,        /* the DAQ list runs already */
     NG_NOT_RUNNING = 13,    /* the DAQ list doesn't run */
@@ -432,11 +432,12 @@ ng_status ng_sampler_free(ng_sampler *sampler);
 /* ---- a slave that a master connects to
  *
  * The proofs speak of a log of what a slave did since it was opened: each call says by which acts
- * it goes on, and by how many at most. They hold for up to 2^57 acts, which at one in each
- * microsecond take 4,500 years. Only tested, by session_test.c, tasks_test.c and
- * measurements_test.c of examples/c, and by .ci/live: that what waits in a ring is taken, that what
- * tasks gave back is found, what a measurement is opened over, and that its triggers are those of
- * its tasks. docs/PROVED.md says what is proved of the parts of a slave. */
+ * it goes on, and by how many at most; and one law holds of every log, docs/SESSION_LAW.md. A slave
+ * counts what it does, and once it counted 2^57 hears and takes nothing any more (NG_SPENT): a
+ * packet counts as 64, a sample as 3. Only tested, by session_test.c, tasks_test.c and
+ * measurements_test.c of examples/c, and by .ci/live: that what waits in a ring is seen, that what
+ * tasks gave back is found, and that its triggers are those of its tasks. docs/PROVED.md says what
+ * is proved of the parts of a slave. */
 
 /* Opens a slave with a profile, and with so many event channels: events[c] is event channel c. No
  * master is connected, there is no DAQ list, and nothing waits. Its CTR begins at 0.
@@ -472,6 +473,7 @@ ng_status ng_slave_task(ng_slave *slave, uint16_t channel, ng_task *task);
  * is whole is answered: its reply waits to be sent. The clock is the one that GET_DAQ_CLOCK tells.
  *
  *   NG_EMPTY      *slave is empty
+ *   NG_SPENT      the slave is spent; nothing changes
  *   NG_BAD_FRAME  a frame has LEN 0 or over 64, in these bytes or in earlier ones of this stream.
  *                 The packets before it were answered, and the lists stopped as by
  *                 ng_slave_hang_up. No byte is taken any more until ng_slave_hang_up
@@ -488,14 +490,15 @@ ng_status ng_slave_receive(ng_slave *slave, const uint8_t *bytes, size_t len, ui
 
 /* The same of one datagram, as UDP has it, which holds whole frames. A part of a frame at the end,
  * or a frame with LEN 0 or over 64, drops what is left of the datagram, and nothing else. NG_EMPTY
- * if *slave is empty; then *taken is unchanged. Proved and only tested: as for ng_slave_receive. */
+ * if *slave is empty, NG_SPENT if the slave is spent; then *taken is unchanged. Proved and only
+ * tested: as for ng_slave_receive. */
 ng_status ng_slave_datagram(ng_slave *slave, const uint8_t *bytes, size_t len, uint32_t clock,
                             size_t *taken);
 
 /* The transport was lost: all DAQ lists stop and are freed, and no master is connected, as after
- * DISCONNECT; but nothing is replied. What is held of a frame is dropped: the next byte of a stream
- * is the first of a frame. What waits to be sent waits on. NG_EMPTY if *slave is empty. Proved: all
- * of this. Calls free. */
+ * DISCONNECT; but nothing is replied. While no master is connected, the lists are as they are. What
+ * is held of a frame is dropped: the next byte of a stream is the first of a frame. What waits to
+ * be sent waits on. NG_EMPTY if *slave is empty. Proved: all of this. Calls free. */
 ng_status ng_slave_hang_up(ng_slave *slave);
 
 /* Takes samples off the rings, and lays frames that wait out in buffer[0] to buffer[*len - 1]: as
@@ -508,8 +511,9 @@ ng_status ng_slave_hang_up(ng_slave *slave);
  *
  * They are checked in this order. Except on NG_OK, nothing changes. On NG_OK, the bytes after the
  * first *len are unchanged. A buffer of 1400 bytes fits a datagram. Proved: all of this, and which
- * frames they are, from the items that were taken. Only tested: that it takes what is there, an
- * item of each ring in turn, and that it calls neither malloc nor realloc. */
+ * frames they are, from the items that were taken; that an item that it knows of is taken, or finds
+ * no room. Only tested: that it sees what is there, takes an item of each ring in turn, and calls
+ * neither malloc nor realloc. */
 ng_status ng_slave_peek(ng_slave *slave, uint8_t *buffer, size_t buffer_cap, size_t *len);
 
 /* What the last ng_slave_peek laid out was sent, and waits no more. NG_EMPTY if *slave is empty.
