@@ -65,6 +65,7 @@ impl<R: Ring> Slave<R> {
         ensures hangs_up { GoesBy R.Take.TakeEnd self.old self.new
             (losing self.old.session.connected) }
         ensures profile_stays { self.new.session.profile ≡ self.old.session.profile }
+        ensures acts_stay { self.new.acts ≡ self.old.acts }
     {
         if self.session.is_connected() {
             self.lose_master();

@@ -1,7 +1,8 @@
 //! What came back of measurements is handed out.
-ghost use Rattle.std.specs.Prelude.{◌≡◌, ◌*◌, ◌<◌, length, true};
+ghost use Rattle.std.specs.Prelude.{◌≡◌, ◌+◌, ◌*◌, ◌<◌, IsNone, OnSome, length, true};
 ghost use Rattle.xcp_base.specs.declared.limits.TheConstants.{MAX_CHANNELS};
 ghost use Rattle.slave.specs.Finishing.{GivesBack, GivesBackBy};
+ghost use Rattle.slave.specs.declared.limits.TheConstants.{PER_ACT};
 ghost use Rattle.slave.specs.Inner.{Collects, Idle, Notes, PartsGoBy, IsOver};
 
 use crate::limits::PER_ACT;
@@ -28,6 +29,8 @@ impl<R: Ring> Slave<R> {
     /// A start that opens a measurement takes back what came back before.
     pub fn take_back(&mut self, c: usize) -> Option<Finished<R>>
         ensures back { GivesBack R.Take.TakeEnd R.Send.End.RingEnd self.old self.new c result }
+        ensures counts { OnSome result (self.new.acts ≡ self.old.acts + PER_ACT) }
+        ensures acts_stay { IsNone result → self.new.acts ≡ self.old.acts }
     {
         if self.is_spent() {
             return None;

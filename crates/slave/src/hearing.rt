@@ -1,5 +1,5 @@
 //! The packets of the master are heard.
-ghost use Rattle.std.specs.Prelude.{◌≡◌, ◌<◌, true, false};
+ghost use Rattle.std.specs.Prelude.{◌≡◌, ◌+◌, ◌<◌, true, false};
 ghost use Rattle.frame_outbox.specs.Outboxes.{has_room};
 ghost use Rattle.slave.specs.Hearing.{Hears, is_spent, may_hear};
 ghost use Rattle.slave.specs.Inner.{counting};
@@ -43,6 +43,7 @@ impl<R: Ring> Slave<R> {
         ensures stays { result ≡ false → self.new ≡ self.old }
         ensures heard { result ≡ true
             → Hears R.Take.TakeEnd self.old self.new packet.now clock }
+        ensures counts { result ≡ true → self.new.acts ≡ self.old.acts + PER_PACKET }
         ensures profile_stays { self.new.session.profile ≡ self.old.session.profile }
     {
         if !self.has_room() {

@@ -55,6 +55,7 @@ impl<R: Ring> Slave<R> {
         ensures profile { IfOk result (λ made. made.0.session.profile ≡ profile) }
         ensures stands { IfOk result
             (λ made. SlaveStandsAfter R.Take.TakeEnd profile made.0 []) }
+        ensures counts { IfOk result (λ made. made.0.acts ≡ 0) }
         ensures channels { IfOk result
             (λ made. length made.0.channels ≡ length profile.events.items) }
         ensures tasks { IfOk result

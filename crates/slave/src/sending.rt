@@ -137,6 +137,7 @@ impl<R: Ring> Slave<R> {
         ensures behind { drop result buffer.new ≡ drop result buffer.old }
         ensures stays { GoesBy R.Take.TakeEnd self.old self.new [] }
         ensures profile_stays { self.new.session.profile ≡ self.old.session.profile }
+        ensures acts_stay { self.new.acts ≡ self.old.acts }
     {
         self.outbox.peek(buffer)
     }
@@ -147,6 +148,7 @@ impl<R: Ring> Slave<R> {
             (sending (min self.old.outbox.shown (length self.old.outbox.units))) }
         ensures none_shown { self.new.outbox.shown ≡ 0 }
         ensures profile_stays { self.new.session.profile ≡ self.old.session.profile }
+        ensures acts_stay { self.new.acts ≡ self.old.acts }
     {
         self.outbox.sent();
     }
@@ -162,6 +164,7 @@ impl<R: Ring> Slave<R> {
         ensures ok { OnOk result (GoesBy R.Take.TakeEnd self.old self.new
             (sending (length self.old.outbox.units))) }
         ensures err { OnErr result (self.new ≡ self.old) }
+        ensures acts_stay { self.new.acts ≡ self.old.acts }
     {
         self.outbox.put(out)
     }
