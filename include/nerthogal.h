@@ -435,7 +435,7 @@ ng_status ng_sampler_free(ng_sampler *sampler);
  * it goes on, and by how many at most; and one law holds of every log, docs/SESSION_LAW.md. A slave
  * counts what it does, and once it counted 2^57 hears and takes nothing any more (NG_SPENT): a
  * packet counts as 64, a sample as 3. Only tested, by session_test.c, tasks_test.c and
- * measurements_test.c of examples/c, and by .ci/live: that what waits in a ring is seen, that what
+ * measurements_test.c of examples/c, and by .ci/live: that what waits in a ring is taken, that what
  * tasks gave back is found, and that its triggers are those of its tasks. docs/PROVED.md says what
  * is proved of the parts of a slave. */
 
@@ -511,9 +511,8 @@ ng_status ng_slave_hang_up(ng_slave *slave);
  *
  * They are checked in this order. Except on NG_OK, nothing changes. On NG_OK, the bytes after the
  * first *len are unchanged. A buffer of 1400 bytes fits a datagram. Proved: all of this, and which
- * frames they are, from the items that were taken; that an item that it knows of is taken, or finds
- * no room. Only tested: that it sees what is there, takes an item of each ring in turn, and calls
- * neither malloc nor realloc. */
+ * frames they are, from the items that were taken. Only tested: that it takes what is there, an
+ * item of each ring in turn, and that it calls neither malloc nor realloc. */
 ng_status ng_slave_peek(ng_slave *slave, uint8_t *buffer, size_t buffer_cap, size_t *len);
 
 /* What the last ng_slave_peek laid out was sent, and waits no more. NG_EMPTY if *slave is empty.
