@@ -95,6 +95,14 @@ impl<O: Out> FrameWriter<O> {
         WriteFault::Failed
     }
 
+    /// From now on it goes on with this CTR: for whoever throws frames away that were laid out and
+    /// not sent.
+    pub fn go_on_at(&mut self, counter: u16)
+        ensures { state_of O.Out self.new ≡ record (state_of O.Out self.old) { counter = counter } }
+    {
+        self.counter = counter;
+    }
+
     /// CTR of the next frame.
     pub fn next_counter(&self) -> u16
         ensures { result ≡ (state_of O.Out self.now).counter }

@@ -4,8 +4,8 @@ use crate::rule::Rule;
 use rtrb::Protocol;
 use std::marker::PhantomData;
 
-/// What goes over a way back: the value first, which comes out at once, so that both ends of the way
-/// know it; then what is left of it.
+/// What goes over a way back: the value first, which comes out at once, so that both ends of the
+/// way know it; then what is left of it.
 #[derive(Drop)]
 pub enum Return<T, L> {
     /// The value.

@@ -263,8 +263,8 @@ impl<S: SendEnd> TaskLink<S> {
     }
 
     /// Looks at the ring of its orders, and returns whether starts of all these lists find places,
-    /// with the stops of all lists that then run and an order to end: then at most `MAX_CONTROL_RING`
-    /// starts and stops wait.
+    /// with the stops of all lists that then run and an order to end: then at most
+    /// `MAX_CONTROL_RING` starts and stops wait.
     pub fn can_start(&mut self, lists: ListSet) -> bool
         ensures yes { result ≡ true → CanStart self.new.newer (has_list lists) }
         ensures no { result ≡ false → ¬ CanStart self.new.newer (has_list lists) }

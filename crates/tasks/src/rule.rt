@@ -15,8 +15,8 @@ pub type TaskWay<S> = WayBack<Went<S>, Left<S>, AfterDeeds>;
 /// The slave's end of it.
 pub type SlaveWay<S> = ComingBack<Went<S>, Left<S>, AfterDeeds>;
 
-/// What is left of a sampler, with the task's end of its orders, stands after what the sampler stood
-/// after and after what was done since.
+/// What is left of a sampler, with the task's end of its orders, stands after what the sampler
+/// stood after and after what was done since.
 #[derive(Clone, Copy)]
 pub struct AfterDeeds;
 
