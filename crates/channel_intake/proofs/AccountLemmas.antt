@@ -19,7 +19,7 @@ use Rattle.daq_engine.specs.Overload.{decided_of}
 use Rattle.daq_engine.proofs.AccountLemmas.{accepted_are_sent, accepted_or_dropped, due_count}
 use Rattle.daq_engine.proofs.PidLemmas.{all-indexed}
 use Rattle.channel_intake.specs.Accounts.{HasPlans, IsLineOf}
-use Rattle.channel_intake.specs.Deeds.{Deed, Started, Stopped, Took, passed, passes, taken}
+use Rattle.channel_intake.specs.Deeds.{Deed, Started, Stopped, Took, Unsent, passed, passes, taken, written_by}
 
 -- no more samples of a list were written than were taken
 pub written-le-taken : (l : ℕ) (deeds : List Deed) → count_of l (passed deeds) ≤ count_of l (samples (taken deeds))
@@ -39,6 +39,8 @@ written-le-taken l (Took (Sample s) ∷ deeds) =
       | false ↦ omega (arith, more, split)
     ]
 
+written-le-taken l (Unsent k ∷ deeds) = written-le-taken l deeds
+
 -- nor more than were sent
 pub written-le-sent : (l : ℕ) (deeds : List Deed) (sent : List Item) → IsPrefix (taken deeds) sent → count_of l (passed deeds) ≤ count_of l (samples sent)
 written-le-sent l deeds sent front =
@@ -47,7 +49,7 @@ written-le-sent l deeds sent front =
 
 -- the numbers of a list add up
 pub line-stands : (past : Past) (deeds : List Deed) (l : ℕ) → HasPlans past → length past.decisions ≡ length (due past.opening past.history) → IsPrefix (taken deeds) (items_of past)
-    → IsLineOf past deeds l (line l (count_of l (passed deeds)) (counts_of (pairs_of l (decided_of past))))
+    → IsLineOf past deeds l (line l (written_by deeds l) (counts_of (pairs_of l (decided_of past))))
 unfolding counts_of
 line-stands past deeds l plans decided_all front =
     let pairs = pairs_of l (decided_of past) in
@@ -76,7 +78,7 @@ front-taken past deeds was now known sent all stays left same is sends =
     (known, ap (λ xs. xs ++ known) (sym (stays ∙ is)) ∙ left ∙ same ∙ sends)
 
 -- the line of a list with these counts, of which so many samples were written
-pub line-of : (past : Past) (deeds : List Deed) (l : ℕ) (counts : ListCounts) (written left : ℕ) → counts ≡ counts_of (pairs_of l (decided_of past)) → written ≡ count_of l (passed deeds) → left ≡ counts.accepted - written
+pub line-of : (past : Past) (deeds : List Deed) (l : ℕ) (counts : ListCounts) (written left : ℕ) → counts ≡ counts_of (pairs_of l (decided_of past)) → written ≡ written_by deeds l → left ≡ counts.accepted - written
     → HasPlans past → length past.decisions ≡ length (due past.opening past.history) → IsPrefix (taken deeds) (items_of past)
     → IsLineOf past deeds l (record { list = l; due = counts.due; written = written; dropped = counts.dropped; left = left })
 line-of past deeds l counts written left same is rest plans decided_all front =

@@ -10,18 +10,19 @@ use Rattle.xcp_base.specs.declared.limits.TheConstants.{MAX_LISTS, MAX_TAKEN}
 use Rattle.channel_ring.specs.declared.ends.TakeEnd.{Ghosts as TakeGhosts}
 use Rattle.transmitter.specs.Items.{count_of}
 use Rattle.transmitter.proofs.TakenLemmas.{count_of-append}
-use Rattle.channel_intake.specs.Deeds.{Deed, Started, Stopped, Took, is_mark_of, is_stop_of, marks_of, passed, passes, stops_of, taken}
+use Rattle.channel_intake.specs.Deeds.{Deed, Started, Stopped, Took, Unsent, is_mark_of, is_stop_of, is_unsent_of, marks_of, passed, passes, stops_of, taken, unsent_of}
 use Rattle.channel_intake.specs.Intakes.{GoesOn, IntakeState, StandsAfter, list_after}
-use Rattle.channel_intake.specs.Inner.{Changes, capped, lets_pass, marked, started, stopped, wrote}
+use Rattle.channel_intake.specs.Inner.{Changes, capped, lets_pass, marked, started, stopped, threw, wrote}
 use Rattle.channel_intake.specs.declared.list_intake.ListIntake.{ListIntake}
 
 -- what is kept of a list is what its fields say
-kept_by : (a b : ListIntake) → a.runs ≡ b.runs → a.stops ≡ b.stops → a.marks ≡ b.marks → a.written ≡ b.written → a ≡ b
-kept_by a b r s m w =
+kept_by : (a b : ListIntake) → a.runs ≡ b.runs → a.stops ≡ b.stops → a.marks ≡ b.marks → a.written ≡ b.written → a.unsent ≡ b.unsent → a ≡ b
+kept_by a b r s m w u =
     ap (λ x. record a { runs = x }) r
     ∙ ap (λ x. record a { runs = b.runs; stops = x }) s
     ∙ ap (λ x. record a { runs = b.runs; stops = b.stops; marks = x }) m
     ∙ ap (λ x. record a { runs = b.runs; stops = b.stops; marks = b.marks; written = x }) w
+    ∙ ap (λ x. record a { runs = b.runs; stops = b.stops; marks = b.marks; written = b.written; unsent = x }) u
 
 -- one more that a test takes, or doesn't
 count-yes : {X : Type 0} (p : X → Bool) (x : X) (xs : List X) → p x ≡ true → count_by p (x ∷ xs) ≡ count_by p xs + 1
@@ -47,6 +48,7 @@ written-few : (l : ℕ) (deeds : List Deed) → count_of l (passed deeds) ≤ le
 written-few l [] = omega arith
 written-few l (Started k ∷ deeds) = omega (arith, written-few l deeds)
 written-few l (Stopped k ∷ deeds) = omega (arith, written-few l deeds)
+written-few l (Unsent k ∷ deeds) = omega (arith, written-few l deeds)
 written-few l (Took (Marker m) ∷ deeds) = omega (arith, written-few l deeds)
 written-few l (Took (Sample s) ∷ deeds) =
     let more = written-few l deeds in
@@ -67,6 +69,7 @@ after-start k deeds = kept_by _ _
     (count-no (is_stop_of k) (Started k) deeds refl)
     (count-no (is_mark_of k) (Started k) deeds refl)
     refl
+    (count-no (is_unsent_of k) (Started k) deeds refl)
 
 after-start_other : (k l : ℕ) (deeds : List Deed) → l ≢ k → list_after (Started k ∷ deeds) l ≡ list_after deeds l
 after-start_other k l deeds other = kept_by _ _
@@ -74,6 +77,7 @@ after-start_other k l deeds other = kept_by _ _
     (count-no (is_stop_of l) (Started k) deeds refl)
     (count-no (is_mark_of l) (Started k) deeds refl)
     refl
+    (count-no (is_unsent_of l) (Started k) deeds refl)
 
 after-stop : (k : ℕ) (deeds : List Deed) → length deeds < MAX_TAKEN → list_after (Stopped k ∷ deeds) k ≡ stopped (list_after deeds k)
 after-stop k deeds less = kept_by _ _
@@ -81,6 +85,7 @@ after-stop k deeds less = kept_by _ _
     (count-yes (is_stop_of k) (Stopped k) deeds (same_list k) ∙ sym (capped-few (stops_of deeds k) (length deeds) (count_by-le-length (is_stop_of k) deeds) less))
     (count-no (is_mark_of k) (Stopped k) deeds refl)
     refl
+    (count-no (is_unsent_of k) (Stopped k) deeds refl)
 
 after-stop_other : (k l : ℕ) (deeds : List Deed) → l ≢ k → list_after (Stopped k ∷ deeds) l ≡ list_after deeds l
 after-stop_other k l deeds other = kept_by _ _
@@ -88,6 +93,7 @@ after-stop_other k l deeds other = kept_by _ _
     (count-no (is_stop_of l) (Stopped k) deeds (other_list k l other))
     (count-no (is_mark_of l) (Stopped k) deeds refl)
     refl
+    (count-no (is_unsent_of l) (Stopped k) deeds refl)
 
 after-marker : (m : MarkParts) (deeds : List Deed) → length deeds < MAX_TAKEN → list_after (Took (Marker m) ∷ deeds) m.list ≡ marked (list_after deeds m.list)
 after-marker m deeds less = kept_by _ _
@@ -95,6 +101,7 @@ after-marker m deeds less = kept_by _ _
     (count-no (is_stop_of m.list) (Took (Marker m)) deeds refl)
     (count-yes (is_mark_of m.list) (Took (Marker m)) deeds (same_list m.list) ∙ sym (capped-few (marks_of deeds m.list) (length deeds) (count_by-le-length (is_mark_of m.list) deeds) less))
     refl
+    (count-no (is_unsent_of m.list) (Took (Marker m)) deeds refl)
 
 after-marker_other : (m : MarkParts) (l : ℕ) (deeds : List Deed) → l ≢ m.list → list_after (Took (Marker m) ∷ deeds) l ≡ list_after deeds l
 after-marker_other m l deeds other = kept_by _ _
@@ -102,6 +109,7 @@ after-marker_other m l deeds other = kept_by _ _
     (count-no (is_stop_of l) (Took (Marker m)) deeds refl)
     (count-no (is_mark_of l) (Took (Marker m)) deeds (other_list m.list l other))
     refl
+    (count-no (is_unsent_of l) (Took (Marker m)) deeds refl)
 
 after-skipped : (s : SampleParts) (l : ℕ) (deeds : List Deed) → passes deeds s.list ≡ false → list_after (Took (Sample s) ∷ deeds) l ≡ list_after deeds l
 after-skipped s l deeds held = kept_by _ _
@@ -109,6 +117,7 @@ after-skipped s l deeds held = kept_by _ _
     (count-no (is_stop_of l) (Took (Sample s)) deeds refl)
     (count-no (is_mark_of l) (Took (Sample s)) deeds refl)
     (ap (λ b. count_of l (if b then passed deeds ++ s ∷ [] else passed deeds)) held)
+    (count-no (is_unsent_of l) (Took (Sample s)) deeds refl)
 
 after-wrote : (s : SampleParts) (deeds : List Deed) → length deeds < MAX_TAKEN → passes deeds s.list ≡ true → list_after (Took (Sample s) ∷ deeds) s.list ≡ wrote (list_after deeds s.list)
 after-wrote s deeds less may =
@@ -121,6 +130,7 @@ after-wrote s deeds less may =
     ∙ count-last l (passed deeds) s
     ∙ ap (λ b. count_of l (passed deeds) + cond b 1 0) (same_list l)
     ∙ sym (capped-few (count_of l (passed deeds)) (length deeds) (written-few l deeds) less))
+    (count-no (is_unsent_of l) (Took (Sample s)) deeds refl)
 
 after-wrote_other : (s : SampleParts) (l : ℕ) (deeds : List Deed) → l ≢ s.list → passes deeds s.list ≡ true → list_after (Took (Sample s) ∷ deeds) l ≡ list_after deeds l
 after-wrote_other s l deeds other may = kept_by _ _
@@ -131,6 +141,23 @@ after-wrote_other s l deeds other may = kept_by _ _
     ∙ count-last l (passed deeds) s
     ∙ ap (λ b. count_of l (passed deeds) + cond b 1 0) (other_list s.list l other)
     ∙ omega arith)
+    (count-no (is_unsent_of l) (Took (Sample s)) deeds refl)
+
+after-unsent : (k : ℕ) (deeds : List Deed) → length deeds < MAX_TAKEN → list_after (Unsent k ∷ deeds) k ≡ threw (list_after deeds k)
+after-unsent k deeds less = kept_by _ _
+    refl
+    (count-no (is_stop_of k) (Unsent k) deeds refl)
+    (count-no (is_mark_of k) (Unsent k) deeds refl)
+    refl
+    (count-yes (is_unsent_of k) (Unsent k) deeds (same_list k) ∙ sym (capped-few (unsent_of deeds k) (length deeds) (count_by-le-length (is_unsent_of k) deeds) less))
+
+after-unsent_other : (k l : ℕ) (deeds : List Deed) → l ≢ k → list_after (Unsent k ∷ deeds) l ≡ list_after deeds l
+after-unsent_other k l deeds other = kept_by _ _
+    refl
+    (count-no (is_stop_of l) (Unsent k) deeds refl)
+    (count-no (is_mark_of l) (Unsent k) deeds refl)
+    refl
+    (count-no (is_unsent_of l) (Unsent k) deeds (other_list k l other))
 
 -- a list of which so much is kept lets samples pass where the deeds do
 pub lets_pass-after : (deeds : List Deed) (l : ℕ) → lets_pass (list_after deeds l) ≡ passes deeds l
@@ -165,6 +192,12 @@ module _ {T E : Type 0} (take : TakeGhosts T E) where
       (λ deeds less before. ap take.received same ∙ before.received)
       (λ deeds less before. after-stop k deeds less)
       (λ deeds l before other. after-stop_other k l deeds other)
+
+  pub goes_on-unsent : (a b : IntakeState T) (k : ℕ) → Changes a.lists b.lists k threw → b.end ≡ a.end → GoesOn take a b (Unsent k)
+  goes_on-unsent a b k changes same = goes_on-by a b (Unsent k) k threw changes
+      (λ deeds less before. ap take.received same ∙ before.received)
+      (λ deeds less before. after-unsent k deeds less)
+      (λ deeds l before other. after-unsent_other k l deeds other)
 
   pub goes_on-marker : (a b : IntakeState T) (m : MarkParts) → Changes a.lists b.lists m.list marked → take.received b.end ≡ take.received a.end ++ Marker m ∷ [] → GoesOn take a b (Took (Marker m))
   goes_on-marker a b m changes gains = goes_on-by a b (Took (Marker m)) m.list marked changes

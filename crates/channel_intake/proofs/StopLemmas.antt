@@ -6,7 +6,7 @@ use Rattle.std.proofs.lemmas.Bool.Decides.{eqb_tells}
 use Rattle.std.proofs.lemmas.List.Elements.{filter-append}
 use Rattle.xcp_base.specs.Samples.{SampleParts}
 use Rattle.xcp_base.specs.declared.item.Item.TheVariants.{Marker, Sample}
-use Rattle.channel_intake.specs.Deeds.{Deed, Started, Stopped, Took, is_order_of, is_start, passed, passes, runs}
+use Rattle.channel_intake.specs.Deeds.{Deed, Started, Stopped, Took, Unsent, is_order_of, is_start, passed, passes, runs}
 use Rattle.channel_intake.specs.Laws.{NothingBehindAStop, is_start_of, samples_of}
 use Rattle.channel_intake.proofs.DeedLemmas.{same_list}
 
@@ -24,6 +24,7 @@ runs_not before (Stopped k ∷ since) l none =
       | false ↦ runs_not before since l none
     ]
 runs_not before (Took x ∷ since) l none = runs_not before since l none
+runs_not before (Unsent k ∷ since) l none = runs_not before since l none
 
 -- of the list no sample is written then
 one_behind : (deeds : List Deed) (l : ℕ) (s : SampleParts) → runs deeds l ≡ false → samples_of l (if passes deeds s.list then passed deeds ++ s ∷ [] else passed deeds) ≡ samples_of l (passed deeds)
@@ -51,3 +52,4 @@ nothing_behind before (Stopped k ∷ since) l none = nothing_behind before since
 nothing_behind before (Took (Marker m) ∷ since) l none = nothing_behind before since l none
 nothing_behind before (Took (Sample s) ∷ since) l none =
     one_behind (since ++ Stopped l ∷ before) l s (runs_not before since l none) ∙ nothing_behind before since l none
+nothing_behind before (Unsent k ∷ since) l none = nothing_behind before since l none

@@ -17,7 +17,7 @@ use Rattle.channel_intake.specs.declared.step.Step.TheVariants.{Wrote}
 abbrev pub capped : ℕ → ℕ
 capped n = min n 0xFFFFFFFFFFFFFFFF
 
--- what is kept of a list behind an order, a marker, a sample
+-- what is kept of a list behind an order, a marker, a sample, one that was thrown away
 abbrev pub started : ListIntake → ListIntake
 started x = record x { runs = true }
 
@@ -29,6 +29,9 @@ marked x = record x { marks = capped (x.marks + 1) }
 
 abbrev pub wrote : ListIntake → ListIntake
 wrote x = record x { written = capped (x.written + 1) }
+
+abbrev pub threw : ListIntake → ListIntake
+threw x = record x { unsent = capped (x.unsent + 1) }
 
 -- a sample of a list of which this is kept is written
 abbrev pub lets_pass : ListIntake → Bool

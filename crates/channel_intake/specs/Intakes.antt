@@ -4,7 +4,7 @@ use mathlib.Core.List.{IsPrefix}
 use Rattle.xcp_base.specs.declared.limits.TheConstants.{MAX_LISTS, MAX_TAKEN}
 use Rattle.channel_ring.specs.declared.ends.TakeEnd.{Ghosts as TakeGhosts}
 use Rattle.transmitter.specs.Items.{count_of}
-use Rattle.channel_intake.specs.Deeds.{Deed, marks_of, passed, runs, stops_of, taken}
+use Rattle.channel_intake.specs.Deeds.{Deed, marks_of, passed, runs, stops_of, taken, unsent_of}
 use Rattle.channel_intake.specs.declared.list_intake.ListIntake.{ListIntake}
 
 -- the take end of the ring, and what is kept of each DAQ list
@@ -19,6 +19,7 @@ list_after deeds l = record {
   stops = stops_of deeds l;
   marks = marks_of deeds l;
   written = count_of l (passed deeds);
+  unsent = unsent_of deeds l;
 }
 
 -- an intake stands after these deeds, which are no more than 2^62

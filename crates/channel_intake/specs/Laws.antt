@@ -4,12 +4,13 @@ use Rattle.std.specs.Prelude.{◌≡◌, ℕ, false, nat_eq, List, ◌∷◌, �
 use Rattle.std.specs.Prelude.{Bool}
 use Rattle.std.specs.List.{list_any}
 use Rattle.xcp_base.specs.Samples.{SampleParts}
-use Rattle.channel_intake.specs.Deeds.{Deed, Started, Stopped, Took, passed}
+use Rattle.channel_intake.specs.Deeds.{Deed, Started, Stopped, Took, Unsent, passed}
 
 abbrev pub is_start_of : ℕ → Deed → Bool
 is_start_of l (Started k) = nat_eq k l
 is_start_of l (Stopped k) = false
 is_start_of l (Took x) = false
+is_start_of l (Unsent k) = false
 
 -- those of the samples that are of list l
 abbrev pub samples_of : ℕ → List SampleParts → List SampleParts

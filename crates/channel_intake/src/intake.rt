@@ -14,10 +14,12 @@ use xcp_base::ListId;
 /// The slave's end of an event channel's ring, in one measurement.
 ///
 /// It is told which starts and stops of DAQ lists the slave orders from the channel's task, when it
-/// orders them. A sample that it takes is written if its list runs by these orders and the marker
-/// of each stop came before it; else it is taken and not written: it is from before a stop.
+/// orders them. A sample that it takes is laid out if its list runs by these orders and the marker
+/// of each stop came before it; else it is taken and not laid out: it is from before a stop. What
+/// was laid out counts as written, until it is told that a sample was thrown away unsent.
 ///
-/// Contracts speak of the deeds that it stands after: these orders, and the items that it took.
+/// Contracts speak of the deeds that it stands after: these orders, the items that it took, and the
+/// samples that were thrown away.
 #[derive(Drop)]
 pub struct Intake<T> {
     pub(crate) end: T,
@@ -40,8 +42,7 @@ impl<T: TakeEnd> Intake<T> {
     ghost use Rattle.std.specs.Prelude.{◌≡◌, ◌+◌, ◌<◌, ◌≤◌, [], List, false, length};
     ghost use Rattle.frame_writer.specs.Writing.{state_of};
     ghost use Rattle.frame_writer.specs.declared.layout.TheConstants.{MAX_SAMPLE_BYTES};
-    ghost use Rattle.transmitter.specs.Items.{count_of};
-    ghost use Rattle.channel_intake.specs.Deeds.{Deed, Started, Stopped, passed};
+    ghost use Rattle.channel_intake.specs.Deeds.{Deed, Started, Stopped, Unsent, written_by};
     ghost use Rattle.channel_intake.specs.Intakes.{GoesOn, StandsAfter};
     ghost use Rattle.channel_intake.specs.Steps.{StepMeans};
 
@@ -76,6 +77,15 @@ impl<T: TakeEnd> Intake<T> {
         note(&mut self.lists, l, kept);
     }
 
+    /// A sample of a DAQ list that was laid out is thrown away now: it isn't written, but left.
+    pub fn unsent(&mut self, l: ListId)
+        ensures goes_on { GoesOn T.TakeEnd self.old self.new (Unsent l) }
+        ensures end_stays { self.new.end ≡ self.old.end }
+    {
+        let kept = kept_of(&self.lists, l).threw();
+        note(&mut self.lists, l, kept);
+    }
+
     /// Takes the next item of the ring, if one is there. The frames of a sample that is written are
     /// laid out in the buffer from `at` on, and end at `limit` or before it; if they wouldn't,
     /// the sample stays in the ring.
@@ -107,12 +117,13 @@ impl<T: TakeEnd> Intake<T> {
         step
     }
 
-    /// How many samples of a DAQ list were written.
+    /// How many samples of a DAQ list were written: laid out, and not thrown away.
     pub fn written(&self, l: ListId) -> u64
         ensures after { (deeds : List Deed) → StandsAfter T.TakeEnd self.now deeds
-            → result ≡ count_of l (passed deeds) }
+            → result ≡ written_by deeds l }
     {
-        kept_of(&self.lists, l).written
+        let kept = kept_of(&self.lists, l);
+        kept.written.saturating_sub(kept.unsent)
     }
 }
 

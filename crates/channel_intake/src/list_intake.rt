@@ -1,5 +1,5 @@
 ghost use Rattle.std.specs.Prelude.{◌≡◌};
-ghost use Rattle.channel_intake.specs.Inner.{lets_pass, marked, started, stopped, wrote};
+ghost use Rattle.channel_intake.specs.Inner.{lets_pass, marked, started, stopped, threw, wrote};
 
 use xcp_base::limits::MAX_LISTS;
 
@@ -15,8 +15,10 @@ pub struct ListIntake {
     pub stops: u64,
     /// Its stop markers that were taken.
     pub marks: u64,
-    /// Its samples that were written.
+    /// Its samples that were laid out.
     pub written: u64,
+    /// Those of them that were thrown away before they were sent.
+    pub unsent: u64,
 }
 
 /// What is kept of a list of which nothing was ordered or taken.
@@ -25,10 +27,11 @@ pub const FIRST: ListIntake = ListIntake {
     stops: 0,
     marks: 0,
     written: 0,
+    unsent: 0,
 };
 
 impl ListIntake {
-    /// A sample of the list that is taken now is written: the list runs, and the marker of each
+    /// A sample of the list that is taken now is laid out: the list runs, and the marker of each
     /// stop came.
     pub fn passes(self) -> bool
         ensures { result ≡ lets_pass self }
@@ -64,12 +67,22 @@ impl ListIntake {
         }
     }
 
-    /// The same behind one more sample that was written.
+    /// The same behind one more sample that was laid out.
     pub fn wrote(self) -> ListIntake
         ensures { result ≡ wrote self }
     {
         ListIntake {
             written: self.written.saturating_add(1),
+            ..self
+        }
+    }
+
+    /// The same where one of its samples that were laid out was thrown away.
+    pub fn threw(self) -> ListIntake
+        ensures { result ≡ threw self }
+    {
+        ListIntake {
+            unsent: self.unsent.saturating_add(1),
             ..self
         }
     }

@@ -4,16 +4,16 @@ use Rattle.std.specs.Prelude.{List, [], ◌∷◌, ◌++◌, length, map, flat_m
 use Rattle.std.specs.Prelude.{take as first}
 use Rattle.frame_writer.specs.Frame.{text}
 use Rattle.frame_writer.specs.Writing.{WriterState}
-use Rattle.frame_outbox.specs.Units.{bytes_in, how_many}
+use Rattle.frame_outbox.specs.Units.{bytes_in, replies_in}
 use Rattle.frame_outbox.specs.declared.limits.TheConstants.{MAX_REPLIES, MAX_REPLY, MAX_UNITS, MOST}
 use Rattle.frame_outbox.specs.declared.unit.Origin.{Origin}
-use Rattle.frame_outbox.specs.declared.unit.Origin.TheVariants.{Reply}
 use Rattle.frame_outbox.specs.declared.unit.Unit.{Unit}
 
--- the frame writer, the bytes that wait, the units that they are, and how many units the last peek
--- showed
+-- the frame writer, the bytes that were sent, those that wait, the units that these are, and how
+-- many units the last peek showed
 pub record OutboxState : Type 0 where
   pub writer : WriterState
+  pub sent : List ℕ
   pub waits : List ℕ
   pub units : List Unit
   pub shown : ℕ
@@ -33,7 +33,7 @@ unit_of x = record { origin = x.origin; len = length (text 0 x.packets) }
 
 -- an outbox stands after these: so much was laid out and sent, in order, and so much waits
 pub record StandsAfter (o : OutboxState) (sent waits : List Laid) : Type 0 where
-  pub contents : o.writer.out.contents ≡ text 0 (packets_in (sent ++ waits))
+  pub gone : o.sent ≡ text 0 (packets_in sent)
   pub counter : o.writer.counter ≡ length (packets_in (sent ++ waits)) % 65536
   pub waiting : o.waits ≡ text (length (packets_in sent)) (packets_in waits)
   pub units : o.units ≡ map unit_of waits
@@ -41,8 +41,12 @@ pub record StandsAfter (o : OutboxState) (sent waits : List Laid) : Type 0 where
 -- a reply finds room
 abbrev pub has_room : OutboxState → Bool
 has_room o =
-    nat_lt (how_many Reply o.units) MAX_REPLIES && nat_le (length o.waits + MAX_REPLY) MOST
+    nat_lt (replies_in o.units) MAX_REPLIES && nat_le (length o.waits + MAX_REPLY) MOST
     && nat_lt (length o.units) MAX_UNITS
+
+-- something waits
+abbrev pub has_waiting : OutboxState → Bool
+has_waiting o = nat_lt 0 (length o.units)
 
 -- whatever the one stands after, this waits too behind the other
 abbrev pub LaysOut : OutboxState → OutboxState → Laid → Type 0

@@ -21,3 +21,7 @@ Hands a b bytes (Err (Cut n)) =
 -- the same outbox, if nothing waits and nothing is shown
 abbrev pub none_waits : OutboxState → OutboxState
 none_waits o = record o { waits = []; units = []; shown = 0 }
+
+-- the same, if all that waits was sent
+abbrev pub all_sent : OutboxState → OutboxState
+all_sent o = record (none_waits o) { sent = o.sent ++ o.waits }

@@ -20,20 +20,20 @@ abbrev pub HasNoRoom : OutboxState → SampleParts → Type 0
 HasNoRoom o s = PAGE < length o.waits + length (text 0 s.packets)
 
 module _ {T E : Type 0} (take : TakeGhosts T E) where
-  -- what became of the next item: it is let go, or laid out as a sample of measurement m, whose
-  -- packets have 1 to MAX_DTO bytes each
+  -- what became of the next item: it is let go, or laid out as a sample that event channel c has in
+  -- measurement m, whose packets have 1 to MAX_DTO bytes each
   abbrev pub TakesItem :
-      IntakeState T → IntakeState T → OutboxState → OutboxState → ℕ → Step → Type 0
-  TakesItem a b o p m Nothing = OnlyLooked take a b × (take.known b.end ≡ []) × (p ≡ o)
-  TakesItem a b o p m Full =
+      IntakeState T → IntakeState T → OutboxState → OutboxState → ℕ → ℕ → Step → Type 0
+  TakesItem a b o p m c Nothing = OnlyLooked take a b × (take.known b.end ≡ []) × (p ≡ o)
+  TakesItem a b o p m c Full =
       (s : SampleParts) × OnlyLooked take a b × IsPrefix (Sample s ∷ []) (take.known b.end)
       × Passes take a s.list × HasNoRoom o s × (p ≡ o)
-  TakesItem a b o p m (Marked l) =
+  TakesItem a b o p m c (Marked l) =
       (x : MarkParts) × Takes take a b (Marker x) × (l ≡ x.list) × (p ≡ o)
-  TakesItem a b o p m (Skipped l) =
+  TakesItem a b o p m c (Skipped l) =
       (s : SampleParts) × Takes take a b (Sample s) × (l ≡ s.list) × IsHeldBack take a s.list
       × (p ≡ o)
-  TakesItem a b o p m (Wrote l end) =
+  TakesItem a b o p m c (Wrote l end) =
       (s : SampleParts) × Takes take a b (Sample s) × (l ≡ s.list) × Passes take a s.list
       × ArePackets s.packets
-      × LaysOut o p (record { origin = origin.Sample m l; packets = s.packets })
+      × LaysOut o p (record { origin = origin.Sample m c l; packets = s.packets })

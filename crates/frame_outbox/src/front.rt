@@ -1,9 +1,9 @@
 //! The first of some units.
 ghost use Rattle.std.specs.Prelude.{◌≡◌, ◌+◌, ◌<◌, ◌≤◌, ◌⊎◌, true, false, length, take};
-ghost use Rattle.frame_outbox.specs.Units.{bytes_in, how_many, samples_of};
+ghost use Rattle.frame_outbox.specs.Units.{bytes_in, replies_in};
 ghost use Rattle.frame_outbox.specs.declared.limits.TheConstants.{MOST};
 
-use crate::unit::{Origin, Unit};
+use crate::unit::Unit;
 use circular_buffer::HeapCircularBuffer;
 
 /// So many of the first units, and their bytes.
@@ -47,30 +47,16 @@ fn one_if(is: bool) -> usize
     if is { 1 } else { 0 }
 }
 
-/// How many of the units are of this origin.
-pub fn how_many(units: &HeapCircularBuffer<Unit>, origin: Origin) -> usize
-    ensures { result ≡ how_many origin units.now.items }
+/// How many of the units are replies.
+pub fn replies_in(units: &HeapCircularBuffer<Unit>) -> usize
+    ensures { result ≡ replies_in units.now.items }
 {
     let mut count = 0;
     for i in 0..units.len() {
         let Some(unit) = units.get(i) else {
             unreachable!()
         };
-        count += one_if(unit.is_of(origin));
-    }
-    count
-}
-
-/// How many of the units are samples of this DAQ list.
-pub fn samples_of(units: &HeapCircularBuffer<Unit>, list: u8) -> usize
-    ensures { result ≡ samples_of list units.now.items }
-{
-    let mut count = 0;
-    for i in 0..units.len() {
-        let Some(unit) = units.get(i) else {
-            unreachable!()
-        };
-        count += one_if(unit.is_sample_of(list));
+        count += one_if(unit.is_reply());
     }
     count
 }

@@ -2,6 +2,7 @@
 //! samples, under one counter.
 #![tactic(auto)]
 
+mod discarding;
 mod front;
 mod limits;
 mod outbox;

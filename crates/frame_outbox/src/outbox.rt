@@ -1,10 +1,10 @@
 ghost use Rattle.std.specs.Prelude.{◌<◌};
 
-use crate::front::{Front, front_of, how_many, samples_of};
+use crate::front::{Front, front_of, replies_in};
 use crate::limits::{MAX_REPLIES, MAX_REPLY, MAX_UNITS, MOST, ROOM};
 use crate::unit::{Origin, Unit};
 use circular_buffer::HeapCircularBuffer;
-use frame_writer::{FrameWriter, Out, SinkOut};
+use frame_writer::{ByteLog, FrameWriter, Out, SinkOut};
 use std::alloc::{AllocError, Global};
 use std::marker::Model;
 use xcp_base::Packets;
@@ -19,6 +19,8 @@ pub struct Outbox {
     pub(crate) end: usize,
     pub(crate) units: HeapCircularBuffer<Unit>,
     pub(crate) shown: Front,
+    // contracts alone see it: it has no bytes
+    pub(crate) log: ByteLog,
 }
 
 impl Model for Outbox {
@@ -32,6 +34,7 @@ impl Model for Outbox {
 
     ghost view = { λ o. record {
       writer = state_of ⟦<SinkOut as Out>⟧ o.writer;
+      sent = o.log.bytes;
       waits = take o.end o.page;
       units = o.units.items;
       shown = o.shown.count;
@@ -45,11 +48,12 @@ impl Model for Outbox {
 
 impl Outbox {
     ghost use Rattle.std.specs.Prelude.{◌≡◌, ◌+◌, ◌<◌, ◌≤◌, ◌++◌, [], ◌∷◌, List, true, false};
-    ghost use Rattle.std.specs.Prelude.{IfOk, drop, length, take};
+    ghost use Rattle.std.specs.Prelude.{IfOk, Some, not, drop, length, slice_get, take};
     ghost use Rattle.xcp_base.specs.declared.limits.TheConstants.{MAX_CTO};
     ghost use Rattle.frame_writer.specs.Frame.{text};
-    ghost use Rattle.frame_outbox.specs.Outboxes.{Laid, LaysOut, Shows, StandsAfter, has_room};
-    ghost use Rattle.frame_outbox.specs.Units.{how_many, samples_of};
+    ghost use Rattle.frame_outbox.specs.Outboxes.{Laid, LaysOut, Shows, StandsAfter};
+    ghost use Rattle.frame_outbox.specs.Outboxes.{has_room, has_waiting};
+    ghost use Rattle.frame_outbox.specs.declared.unit.Unit.{Unit};
     ghost use Rattle.frame_outbox.specs.declared.limits.TheConstants.{MAX_UNITS, MOST};
 
     /// An outbox in which nothing waits. Its first frame has CTR 0.
@@ -63,6 +67,7 @@ impl Outbox {
             end: 0,
             units: HeapCircularBuffer::with_capacity(alloc, MAX_UNITS)?,
             shown: Front { count: 0, len: 0 },
+            log: ByteLog::new(),
         })
     }
 
@@ -70,7 +75,7 @@ impl Outbox {
     pub fn has_room(&self) -> bool
         ensures { result ≡ has_room self.now }
     {
-        if how_many(&self.units, Origin::Reply) >= MAX_REPLIES {
+        if replies_in(&self.units) >= MAX_REPLIES {
             return false;
         }
         self.end + MAX_REPLY <= MOST && !self.units.is_full()
@@ -133,6 +138,8 @@ impl Outbox {
         ensures none_shown { self.new.shown ≡ 0 }
     {
         let Front { count, len } = self.shown;
+        // for the proof: clauses speak of the bytes that were sent
+        self.log.note(&self.page[..len]);
         self.page.copy_within(len..self.end, 0);
         self.end -= len;
         let left = self.units.len() - count;
@@ -140,17 +147,28 @@ impl Outbox {
         self.shown = Front { count: 0, len: 0 };
     }
 
-    /// How many of the samples of a measurement and a DAQ list wait.
-    pub fn waiting(&self, measurement: u64, list: u8) -> usize
-        ensures { result ≡ how_many (Origin.Sample measurement list) self.now.units }
+    /// How many replies and samples wait.
+    pub fn len(&self) -> usize
+        ensures { result ≡ length self.now.units }
     {
-        how_many(&self.units, Origin::Sample(measurement, list))
+        self.units.len()
     }
 
-    /// How many of the samples of a DAQ list wait, of whichever measurement.
-    pub fn waiting_of(&self, list: u8) -> usize
-        ensures { result ≡ samples_of list self.now.units }
+    /// Whether nothing waits.
+    pub fn is_empty(&self) -> bool
+        ensures waiting { result ≡ not (has_waiting self.now) }
     {
-        samples_of(&self.units, list)
+        self.units.is_empty()
+    }
+
+    /// Where the frames are from that wait at place `i`, of the oldest first.
+    pub fn origin(&self, i: usize) -> Origin
+        requires place { i < length self.now.units }
+        ensures origin { (u : Unit) → slice_get self.now.units i ≡ Some u → result ≡ u.origin }
+    {
+        let Some(unit) = self.units.get(i) else {
+            unreachable!()
+        };
+        unit.origin
     }
 }

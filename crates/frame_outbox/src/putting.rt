@@ -40,7 +40,7 @@ impl Outbox {
     ghost use Rattle.std.specs.Prelude.{◌≡◌, ◌++◌, [], List, IsOk, OnErr, OnOk};
     ghost use Rattle.frame_writer.specs.Shown.{shown};
     ghost use Rattle.frame_outbox.specs.Outboxes.{Laid, StandsAfter};
-    ghost use Rattle.frame_outbox.specs.Putting.{Hands, none_waits};
+    ghost use Rattle.frame_outbox.specs.Putting.{Hands, all_sent, none_waits};
 
     /// Hands all that waits to a writer in one call, the oldest first. If the writer takes all of
     /// it, it was sent, and nothing waits. If nothing waits, the writer isn't called.
@@ -51,18 +51,20 @@ impl Outbox {
     pub fn put<O: Out>(&mut self, out: &mut O) -> Result<(), PutFault>
         ensures hands { Hands (shown O.Out out.old) (shown O.Out out.new) self.old.waits result }
         ensures none { self.old.waits ≡ [] → IsOk result × (out.new ≡ out.old) }
-        ensures ok { OnOk result (self.new ≡ none_waits self.old) }
+        ensures ok { OnOk result (self.new ≡ all_sent self.old) }
         ensures stands { OnOk result ((sent waits : List Laid) → StandsAfter self.old sent waits
             → StandsAfter self.new (sent ++ waits) []) }
         ensures err { OnErr result (self.new ≡ self.old) }
     {
         put_whole(out, &self.page[..self.end])?;
+        // for the proof: clauses speak of the bytes that were sent
+        self.log.note(&self.page[..self.end]);
         self.clear();
         Ok(())
     }
 
     /// Forgets what waits.
-    fn clear(&mut self)
+    pub(crate) fn clear(&mut self)
         ensures { self.new ≡ none_waits self.old }
     {
         self.end = 0;

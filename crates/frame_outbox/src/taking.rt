@@ -21,11 +21,16 @@ fn limit_of(end: usize) -> usize
 
 impl Outbox {
     /// Takes the next item of an event channel's ring, if one is there, by its intake. A sample
-    /// that is written is laid out behind all that waits, as one of this measurement, if its frames
-    /// end within the page; else it stays in the ring. It takes no memory.
-    pub fn take<T: TakeEnd>(&mut self, intake: &mut Intake<T>, measurement: u64) -> Step
+    /// that passes is laid out behind all that waits, as one of this measurement and event channel,
+    /// if its frames end within the page; else it stays in the ring. It takes no memory.
+    pub fn take<T: TakeEnd>(
+        &mut self,
+        intake: &mut Intake<T>,
+        measurement: u64,
+        channel: u8,
+    ) -> Step
         ensures means { TakesItem T.TakeEnd intake.old intake.new self.old self.new
-            measurement result }
+            measurement channel result }
         ensures shown_stays { self.new.shown ≡ self.old.shown }
     {
         let limit = limit_of(self.end);
@@ -33,7 +38,7 @@ impl Outbox {
         let Step::Wrote(list, end) = step else {
             return step;
         };
-        let origin = Origin::Sample(measurement, list);
+        let origin = Origin::Sample(measurement, channel, list);
         let len = end - self.end;
         let _ = self.units.push_back(Unit { origin, len });
         self.end = end;

@@ -1,13 +1,13 @@
 ghost use Rattle.std.specs.Prelude.{◌≡◌};
-ghost use Rattle.frame_outbox.specs.Units.{is_sample_of, same_origin};
+ghost use Rattle.frame_outbox.specs.Units.{is_reply};
 
 /// Where frames are from.
 #[derive(Clone, Copy, Debug, PartialEq, Eq)]
 pub enum Origin {
     /// A reply to a master's command.
     Reply,
-    /// A sample of a measurement, by its number, and of a DAQ list.
-    Sample(u64, u8),
+    /// A sample: of a measurement, by its number, of an event channel, and of a DAQ list.
+    Sample(u64, u8, u8),
 }
 
 /// Frames that go together: that of a reply, or those of a sample.
@@ -20,24 +20,10 @@ pub struct Unit {
 }
 
 impl Unit {
-    /// Whether it is of this origin.
-    pub fn is_of(&self, origin: Origin) -> bool
-        ensures { result ≡ same_origin self.now.origin origin }
+    /// Whether it is a reply.
+    pub fn is_reply(&self) -> bool
+        ensures { result ≡ is_reply self.now.origin }
     {
-        match (self.origin, origin) {
-            (Origin::Reply, Origin::Reply) => true,
-            (Origin::Sample(m, l), Origin::Sample(n, k)) => m == n && l == k,
-            _ => false,
-        }
-    }
-
-    /// Whether it is a sample of this DAQ list.
-    pub fn is_sample_of(&self, list: u8) -> bool
-        ensures { result ≡ is_sample_of list self.now.origin }
-    {
-        match self.origin {
-            Origin::Reply => false,
-            Origin::Sample(_, l) => l == list,
-        }
+        matches!(self.origin, Origin::Reply)
     }
 }

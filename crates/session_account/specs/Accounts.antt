@@ -13,7 +13,7 @@ use Rattle.daq_engine.specs.Order.{items_of}
 use Rattle.daq_engine.specs.Overload.{decided_of}
 use Rattle.daq_engine.specs.declared.report.ListReport.{ListReport}
 use Rattle.channel_intake.specs.Accounts.{HasPlans}
-use Rattle.channel_intake.specs.Deeds.{Deed, passed, taken}
+use Rattle.channel_intake.specs.Deeds.{Deed, taken, written_by}
 use Rattle.session_account.specs.declared.totals.Totals.{Totals}
 
 -- a part of a measurement that came back: the past that its sampler came to, and what was done with
@@ -41,7 +41,7 @@ abbrev pub accepted_of : Entry → ℕ → ℕ
 accepted_of e l = count_of l (samples (items_of e.past))
 
 abbrev pub written_of : Entry → ℕ → ℕ
-written_of e l = count_of l (passed e.deeds)
+written_of e l = written_by e.deeds l
 
 -- the same in all of the entries
 abbrev pub due_in : List Entry → ℕ → ℕ
@@ -60,15 +60,16 @@ written_in entries l = sum_by (λ e. written_of e l) entries
 abbrev pub Agree : ℕ → ℕ → Type 0
 Agree a b = a % 2 ^ 64 ≡ b % 2 ^ 64
 
--- the totals of list l, if so many of the samples that were written were not sent after all: of
--- those that were accepted, the others are left
+-- the totals of list l, if so many of the samples that were written in the entries were thrown away
+-- after all: of those that were accepted, the others are left
 pub record AreTotals (entries : List Entry) (unsent l : ℕ) (totals : Totals) : Type 0 where
   pub all_due : Agree totals.due (due_in entries l)
   pub dropped : Agree totals.dropped (dropped_in entries l)
   pub written : Agree (totals.written + unsent) (written_in entries l)
   pub left : Agree (totals.left + totals.written) (accepted_in entries l)
 
--- an account stands after these entries, of each list l so many samples unsent
+-- an account stands after these entries, where of each list l so many samples were thrown away
+-- behind that
 pub record AccountStandsAfter (account : List Totals) (entries : List Entry) (unsent : ℕ → ℕ)
     : Type 0 where
   pub entries_are : All IsEntry entries
@@ -77,7 +78,7 @@ pub record AccountStandsAfter (account : List Totals) (entries : List Entry) (un
       → (totals : Totals) × (slice_get account l ≡ Some totals)
       × AreTotals entries (unsent l) l totals
 
--- n samples more of list l that were not sent
+-- n samples more of list l that were thrown away
 abbrev pub more_unsent : ℕ → ℕ → (ℕ → ℕ) → ℕ → ℕ
 more_unsent l n unsent k = if nat_eq k l then unsent k + n else unsent k
 

@@ -129,8 +129,8 @@ impl Account {
         add_lines(&mut self.lists, finished);
     }
 
-    /// So many samples of a list that were counted as written were not sent after all: they are
-    /// left.
+    /// So many samples of a list that were counted as written in parts that came back were thrown
+    /// away before they were sent: they are left.
     pub fn unsent(&mut self, l: ListId, n: u64)
         ensures unsent { (entries : List Entry) (unsent : ℕ → ℕ)
             → AccountStandsAfter self.old entries unsent

@@ -1,35 +1,29 @@
 -- What a slave leaves where it is closed.
-use Rattle.std.specs.Prelude.{◌≡◌, ℕ, ◌*◌, ◌<◌, ◌≤◌, ◌↔◌, Bool, true, List, ◌++◌}
-use Rattle.std.specs.Prelude.{count_by, drop, length}
+use Rattle.std.specs.Prelude.{◌≡◌, ◌*◌, ◌≤◌, ◌↔◌, Bool, true, List, ◌++◌, length}
 use Rattle.std.specs.List.{list_all}
 use Rattle.xcp_base.specs.declared.limits.TheConstants.{MAX_CHANNELS}
 use Rattle.channel_ring.specs.declared.ends.TakeEnd.{Ghosts as TakeGhosts}
-use Rattle.frame_outbox.specs.Outboxes.{Laid}
-use Rattle.frame_outbox.specs.Units.{is_sample_of}
+use Rattle.frame_outbox.specs.Outboxes.{has_waiting}
 use Rattle.session.specs.declared.profile.Profile.{Profile}
 use Rattle.session_account.specs.Accounts.{AccountStandsAfter}
 use Rattle.session_account.specs.declared.totals.Totals.{Totals}
-use Rattle.slave.specs.Log.{Act, AllBack, entries_of, is_return, laid, losing, sent_of}
+use Rattle.slave.specs.Log.{Act, AllBack, discarding, entries_of, is_return, late_of, losing}
 use Rattle.slave.specs.Session.{SessionLaw}
 use Rattle.slave.specs.Standing.{IsLog, SlaveStandsAfter, SlaveState}
 
--- how many samples of list l were laid out and not sent
-abbrev pub unsent_of : Profile → List Act → ℕ → ℕ
-unsent_of d log l =
-    count_by (λ (x : Laid). is_sample_of l x.origin) (drop (sent_of log) (laid d log))
-
 -- an account is that of a whole log, of which the law of a session holds: of all parts that came
--- back, and what was laid out and not sent is left; and it is whole where all parts came back
+-- back, without what was thrown away behind that; and it is whole where all parts came back
 pub record IsClosedWith (d : Profile) (account : List Totals) (whole : Bool) (log : List Act)
     : Type 0 where
   pub is_log : IsLog d log
   pub law : SessionLaw d log
-  pub account_is : AccountStandsAfter account (entries_of d log) (unsent_of d log)
+  pub account_is : AccountStandsAfter account (entries_of d log) (late_of d log)
   pub whole_is : (whole ≡ true) ↔ AllBack d log
 
 module _ {S T F : Type 0} (take : TakeGhosts T F) where
-  -- the lists stopped, as where the transport is lost, if a master was connected, and parts came
-  -- back, two at most of an event channel; the account is that of this and all that was before
+  -- the lists stopped, as where the master is lost, if one was connected; what waited was thrown
+  -- away; and parts came back, two at most of an event channel. The account is that of this and all
+  -- that was before
   pub record Closes (a : SlaveState S T) (account : List Totals) (whole : Bool) : Type 0 where
     pub last : List Act
     pub are : list_all is_return last ≡ true
@@ -37,4 +31,4 @@ module _ {S T F : Type 0} (take : TakeGhosts T F) where
     pub closed :
         (log : List Act) → SlaveStandsAfter take a.session.profile a log
         → IsClosedWith a.session.profile account whole
-        (last ++ (losing a.session.connected ++ log))
+        (last ++ (discarding (has_waiting a.outbox) ++ (losing a.session.connected ++ log)))

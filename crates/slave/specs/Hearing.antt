@@ -14,7 +14,7 @@ use Rattle.session.specs.declared.profile.Profile.{Profile}
 use Rattle.frame_outbox.specs.Outboxes.{has_room}
 use Rattle.tasks.specs.Links.{CanStart}
 use Rattle.slave_channel.specs.Channels.{ChannelState, keeps_two, number_of}
-use Rattle.slave.specs.Log.{Act, CameBack, Heard, HungUp, Opened, Refused, Sent, Took}
+use Rattle.slave.specs.Log.{Act, CameBack, Discarded, Heard, HungUp, Opened, Refused, Sent, Took}
 use Rattle.slave.specs.Log.{opened, past_of}
 use Rattle.slave.specs.Standing.{IsStart, NoneRuns, SlaveStandsAfter, SlaveState}
 use Rattle.slave.specs.declared.limits.TheConstants.{MOST_ACTS}
@@ -33,6 +33,7 @@ is_before (Took m c x) = false
 is_before (CameBack m c past) = true
 is_before (Sent n) = false
 is_before HungUp = false
+is_before Discarded = false
 
 -- the most that is done before a start: two parts come back at each event channel, and a
 -- measurement is opened

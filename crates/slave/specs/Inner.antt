@@ -341,9 +341,9 @@ module _ {S T F : Type 0} (take : TakeGhosts T F) where
     pub others : (k : ℕ) → k ≢ c → slice_get b.channels k ≡ slice_get a.channels k
     pub counted : b.acts ≡ a.acts + acts_of step
 
-  -- how a round ended that began at event channel `begin`
+  -- how a round ended that began at event channel `begin`, and where the next one begins
   abbrev pub EndsRound : SlaveState S T → SlaveState S T → ℕ → Round → Type 0
-  EndsRound a b begin HeldUp = (c : ℕ) × IsHeldUp take b c
+  EndsRound a b begin HeldUp = IsHeldUp take b b.next
   EndsRound a b begin Empty =
-      (is_spent b ≡ true) ⊎ ((c : ℕ) → begin ≤ c → IsEmptyAt take b c)
-  EndsRound a b begin Took = a.acts + 3 ≤ b.acts
+      (b.next ≡ 0) × ((is_spent b ≡ true) ⊎ ((c : ℕ) → begin ≤ c → IsEmptyAt take b c))
+  EndsRound a b begin Took = (b.next ≡ 0) × (a.acts + 3 ≤ b.acts)

@@ -1,8 +1,9 @@
 -- What a slave did, and what follows of it: the past of its session, what was done at each event
--- channel, and the frames that were laid out.
-use Rattle.std.specs.Prelude.{◌≡◌, ℕ, ◌+◌, ◌-◌, ◌<◌, zero, suc}
+-- channel, and the frames that were laid out, and what became of them.
+use Rattle.std.specs.Prelude.{◌≡◌, ℕ, ◌+◌, ◌<◌, zero, suc}
 use Rattle.std.specs.Prelude.{Bool, true, false, ◌&&◌, ◌||◌, not, nat_eq, if◌then◌else◌}
-use Rattle.std.specs.Prelude.{List, [], ◌∷◌, ◌++◌, length, count_by, sum_by}
+use Rattle.std.specs.Prelude.{List, [], ◌∷◌, ◌++◌, length, count_by, drop}
+use Rattle.std.specs.Prelude.{take as first}
 use Rattle.std.specs.Prelude.{Option, Some, None, Err}
 use Rattle.list_set.specs.Counts.{one_if}
 use Rattle.xcp_base.specs.Samples.{SampleParts}
@@ -16,10 +17,11 @@ use Rattle.session.specs.Past.{Past, new_past}
 use Rattle.session.specs.Starts.{is_on, runs}
 use Rattle.session.specs.declared.profile.Profile.{Profile}
 use Rattle.sampler.specs.Past.{Past as SamplerPast}
-use Rattle.channel_intake.specs.Deeds.{Deed, passes}
+use Rattle.channel_intake.specs.Deeds.{Deed, Unsent, passes}
 use Rattle.channel_intake.specs.Deeds.{Took as TookItem}
 use Rattle.channel_intake.specs.Deeds.{runs as runs_there}
 use Rattle.frame_outbox.specs.Outboxes.{Laid}
+use Rattle.frame_outbox.specs.declared.unit.Origin.{Origin}
 use Rattle.frame_outbox.specs.declared.unit.Origin.TheVariants as origin
 use Rattle.slave_channel.specs.Ordering.{starts_noted, stops_noted}
 use Rattle.session_account.specs.Accounts.{Entry}
@@ -28,7 +30,8 @@ use Rattle.session_account.specs.Accounts.{Entry}
 -- changed nothing; a measurement was opened, with a part at these event channels; an item was taken
 -- off the ring that event channel c has in measurement m; what was left of the sampler that event
 -- channel c had in measurement m came back, and this is the sampler's past; so many of the replies
--- and samples that waited were sent, the oldest first; or the transport was lost
+-- and samples that waited were sent, the oldest first; the master was lost, as behind DISCONNECT;
+-- or all that waited was thrown away
 pub data Act : Type 0 where
   Heard : (x : Exchange) → Act
   Refused : (packet : List ℕ) (code : ErrCode) → Act
@@ -37,16 +40,22 @@ pub data Act : Type 0 where
   CameBack : (m c : ℕ) (past : SamplerPast) → Act
   Sent : (n : ℕ) → Act
   HungUp : Act
+  Discarded : Act
 
 -- so many were sent, if these are any
 abbrev pub sending : ℕ → List Act
 sending zero = []
 sending (suc n) = Sent (suc n) ∷ []
 
--- the transport was lost, if a master was connected
+-- the master was lost, if one was connected
 abbrev pub losing : Bool → List Act
 losing false = []
 losing true = HungUp ∷ []
+
+-- what waited was thrown away, if something did
+abbrev pub discarding : Bool → List Act
+discarding false = []
+discarding true = Discarded ∷ []
 
 -- In each definition below the log has the acts so far, the newest first.
 
@@ -58,6 +67,7 @@ is_opening (Took m c x) = false
 is_opening (CameBack m c past) = false
 is_opening (Sent n) = false
 is_opening HungUp = false
+is_opening Discarded = false
 
 -- something came back
 abbrev pub is_return : Act → Bool
@@ -68,23 +78,11 @@ is_return (Took m c x) = false
 is_return (CameBack m c past) = true
 is_return (Sent n) = false
 is_return HungUp = false
-
-abbrev pub sent_by : Act → ℕ
-sent_by (Heard x) = 0
-sent_by (Refused packet code) = 0
-sent_by (Opened at) = 0
-sent_by (Took m c x) = 0
-sent_by (CameBack m c past) = 0
-sent_by (Sent n) = n
-sent_by HungUp = 0
+is_return Discarded = false
 
 -- how many measurements were opened: the newest has the number before this one
 abbrev pub opened : List Act → ℕ
 opened log = count_by is_opening log
-
--- how many of the replies and samples that were laid out were sent
-abbrev pub sent_of : List Act → ℕ
-sent_of log = sum_by sent_by log
 
 -- the session's past behind an act
 abbrev pub past_by : Profile → Act → Past → Past
@@ -95,6 +93,7 @@ past_by d (Took m c x) past = past
 past_by d (CameBack m c p) past = past
 past_by d (Sent n) past = past
 past_by d HungUp past = new_past
+past_by d Discarded past = past
 
 abbrev pub past_of : Profile → List Act → Past
 past_of d [] = new_past
@@ -127,32 +126,65 @@ ordered_by d c act log deeds = with_stops d act log (with_starts d c act log dee
 abbrev pub is_newest : ℕ → List Act → Bool
 is_newest m log = nat_eq (m + 1) (opened log)
 
--- what was done with the ring that event channel c has in measurement m: the orders of the acts
--- while the measurement was the newest, and the items that were taken
-abbrev pub deeds_of : Profile → ℕ → ℕ → List Act → List Deed
-deeds_of d m c [] = []
-deeds_of d m c (Heard x ∷ log) =
-    if is_newest m log then ordered_by d c (Heard x) log (deeds_of d m c log)
-    else deeds_of d m c log
-deeds_of d m c (Refused packet code ∷ log) = deeds_of d m c log
-deeds_of d m c (Opened at ∷ log) = deeds_of d m c log
-deeds_of d m c (Took n k x ∷ log) =
-    if nat_eq n m && nat_eq k c then TookItem x ∷ deeds_of d m c log else deeds_of d m c log
-deeds_of d m c (CameBack n k past ∷ log) = deeds_of d m c log
-deeds_of d m c (Sent n ∷ log) = deeds_of d m c log
-deeds_of d m c (HungUp ∷ log) =
-    if is_newest m log then ordered_by d c HungUp log (deeds_of d m c log)
-    else deeds_of d m c log
-
 -- a reply, if there is one
 abbrev pub reply_laid : Option (List ℕ) → List Laid
 reply_laid None = []
 reply_laid (Some packet) = record { origin = origin.Reply; packets = packet ∷ [] } ∷ []
 
--- a sample of measurement m, if it passes
-abbrev pub sample_laid : Bool → ℕ → SampleParts → List Laid
-sample_laid false m s = []
-sample_laid true m s = record { origin = origin.Sample m s.list; packets = s.packets } ∷ []
+-- a sample that event channel c has in measurement m, if it passes
+abbrev pub sample_laid : Bool → ℕ → ℕ → SampleParts → List Laid
+sample_laid false m c s = []
+sample_laid true m c s = record { origin = origin.Sample m c s.list; packets = s.packets } ∷ []
+
+-- it is a sample from the ring that event channel c has in measurement m
+abbrev pub is_of_ring : ℕ → ℕ → Origin → Bool
+is_of_ring m c origin.Reply = false
+is_of_ring m c (origin.Sample n k l) = nat_eq n m && nat_eq k c
+
+-- it isn't sent: what that is to the ring, if it is from there
+abbrev pub unsent_one : ℕ → ℕ → Origin → List Deed
+unsent_one m c origin.Reply = []
+unsent_one m c (origin.Sample n k l) = if nat_eq n m && nat_eq k c then Unsent l ∷ [] else []
+
+-- none of these, the oldest first, is sent
+abbrev pub unsent_by : ℕ → ℕ → List Laid → List Deed
+unsent_by m c [] = []
+unsent_by m c (x ∷ xs) = unsent_by m c xs ++ unsent_one m c x.origin
+
+abbrev mutual
+  -- what was done with the ring that event channel c has in measurement m: the orders of the acts
+  -- while the measurement was the newest, the items that were taken, and those of the samples laid
+  -- out that were thrown away
+  pub deeds_of : Profile → ℕ → ℕ → List Act → List Deed
+  deeds_of d m c [] = []
+  deeds_of d m c (Heard x ∷ log) =
+      if is_newest m log then ordered_by d c (Heard x) log (deeds_of d m c log)
+      else deeds_of d m c log
+  deeds_of d m c (Refused packet code ∷ log) = deeds_of d m c log
+  deeds_of d m c (Opened at ∷ log) = deeds_of d m c log
+  deeds_of d m c (Took n k x ∷ log) =
+      if nat_eq n m && nat_eq k c then TookItem x ∷ deeds_of d m c log else deeds_of d m c log
+  deeds_of d m c (CameBack n k past ∷ log) = deeds_of d m c log
+  deeds_of d m c (Sent n ∷ log) = deeds_of d m c log
+  deeds_of d m c (HungUp ∷ log) =
+      if is_newest m log then ordered_by d c HungUp log (deeds_of d m c log)
+      else deeds_of d m c log
+  deeds_of d m c (Discarded ∷ log) = unsent_by m c (waits d log) ++ deeds_of d m c log
+
+  -- the replies and samples that wait, the oldest first: what was laid out, and neither sent nor
+  -- thrown away
+  pub waits : Profile → List Act → List Laid
+  waits d [] = []
+  waits d (Heard x ∷ log) = waits d log ++ reply_laid (reply_in d (past_of d log) x)
+  waits d (Refused packet code ∷ log) = waits d log ++ reply_laid (Some (packet_of (Err code)))
+  waits d (Opened at ∷ log) = waits d log
+  waits d (Took m c (Sample s) ∷ log) =
+      waits d log ++ sample_laid (passes (deeds_of d m c log) s.list) m c s
+  waits d (Took m c (Marker k) ∷ log) = waits d log
+  waits d (CameBack m c past ∷ log) = waits d log
+  waits d (Sent n ∷ log) = drop n (waits d log)
+  waits d (HungUp ∷ log) = waits d log
+  waits d (Discarded ∷ log) = []
 
 -- what an act lays out: a reply, or a sample whose list runs there and that is not from before a
 -- stop of it
@@ -160,25 +192,46 @@ abbrev pub laid_by : Profile → Act → List Act → List Laid
 laid_by d (Heard x) log = reply_laid (reply_in d (past_of d log) x)
 laid_by d (Refused packet code) log = reply_laid (Some (packet_of (Err code)))
 laid_by d (Opened at) log = []
-laid_by d (Took m c (Sample s)) log = sample_laid (passes (deeds_of d m c log) s.list) m s
+laid_by d (Took m c (Sample s)) log = sample_laid (passes (deeds_of d m c log) s.list) m c s
 laid_by d (Took m c (Marker k)) log = []
 laid_by d (CameBack m c past) log = []
 laid_by d (Sent n) log = []
 laid_by d HungUp log = []
+laid_by d Discarded log = []
 
 -- the replies and samples that were laid out, oldest first
 abbrev pub laid : Profile → List Act → List Laid
 laid d [] = []
 laid d (act ∷ log) = laid d log ++ laid_by d act log
 
--- how many of them wait
-abbrev pub waiting : Profile → List Act → ℕ
-waiting d log = length (laid d log) - sent_of log
+-- those that were sent, oldest first: each time the first so many of what waited
+abbrev pub sent_units : Profile → List Act → List Laid
+sent_units d [] = []
+sent_units d (Heard x ∷ log) = sent_units d log
+sent_units d (Refused packet code ∷ log) = sent_units d log
+sent_units d (Opened at ∷ log) = sent_units d log
+sent_units d (Took m c x ∷ log) = sent_units d log
+sent_units d (CameBack m c past ∷ log) = sent_units d log
+sent_units d (Sent n ∷ log) = sent_units d log ++ first n (waits d log)
+sent_units d (HungUp ∷ log) = sent_units d log
+sent_units d (Discarded ∷ log) = sent_units d log
+
+-- those that were thrown away, oldest first: each time all that waited
+abbrev pub thrown : Profile → List Act → List Laid
+thrown d [] = []
+thrown d (Heard x ∷ log) = thrown d log
+thrown d (Refused packet code ∷ log) = thrown d log
+thrown d (Opened at ∷ log) = thrown d log
+thrown d (Took m c x ∷ log) = thrown d log
+thrown d (CameBack m c past ∷ log) = thrown d log
+thrown d (Sent n ∷ log) = thrown d log
+thrown d (HungUp ∷ log) = thrown d log
+thrown d (Discarded ∷ log) = thrown d log ++ waits d log
 
 -- what a log weighs: its acts, the replies and samples that wait, and one more while a master is
--- connected. So what waits is sent, and a master hangs up, at no more weight
+-- connected. So what waits is sent or thrown away, and a master lost, at no more weight
 abbrev pub weight : Profile → List Act → ℕ
-weight d log = length log + waiting d log + one_if (past_of d log).connected
+weight d log = length log + length (waits d log) + one_if (past_of d log).connected
 
 -- whether what was left of the sampler that event channel c had in measurement m came back
 abbrev pub is_back : ℕ → ℕ → List Act → Bool
@@ -190,6 +243,7 @@ is_back m c (Took n k x ∷ log) = is_back m c log
 is_back m c (CameBack n k past ∷ log) = (nat_eq n m && nat_eq k c) || is_back m c log
 is_back m c (Sent n ∷ log) = is_back m c log
 is_back m c (HungUp ∷ log) = is_back m c log
+is_back m c (Discarded ∷ log) = is_back m c log
 
 -- whether event channel c has a part of measurement m
 abbrev pub has_part : ℕ → ℕ → List Act → Bool
@@ -201,6 +255,7 @@ has_part m c (Took n k x ∷ log) = has_part m c log
 has_part m c (CameBack n k past ∷ log) = has_part m c log
 has_part m c (Sent n ∷ log) = has_part m c log
 has_part m c (HungUp ∷ log) = has_part m c log
+has_part m c (Discarded ∷ log) = has_part m c log
 
 -- whether it has one that did not come back
 abbrev pub is_out : ℕ → ℕ → List Act → Bool
@@ -223,3 +278,28 @@ entries_of d (CameBack m c past ∷ log) =
     record { past = past; deeds = deeds_of d m c log } ∷ entries_of d log
 entries_of d (Sent n ∷ log) = entries_of d log
 entries_of d (HungUp ∷ log) = entries_of d log
+entries_of d (Discarded ∷ log) = entries_of d log
+
+-- it is a sample of list l
+abbrev pub is_sample_of : ℕ → Origin → Bool
+is_sample_of l origin.Reply = false
+is_sample_of l (origin.Sample m c k) = nat_eq k l
+
+-- it is one whose part isn't out any more
+abbrev pub is_late : List Act → ℕ → Origin → Bool
+is_late log l origin.Reply = false
+is_late log l (origin.Sample m c k) = nat_eq k l && not (is_out m c log)
+
+-- how many samples of list l were thrown away behind the return of their part, which had counted
+-- them as written
+abbrev pub late_of : Profile → List Act → ℕ → ℕ
+late_of d [] l = 0
+late_of d (Heard x ∷ log) l = late_of d log l
+late_of d (Refused packet code ∷ log) l = late_of d log l
+late_of d (Opened at ∷ log) l = late_of d log l
+late_of d (Took m c x ∷ log) l = late_of d log l
+late_of d (CameBack m c past ∷ log) l = late_of d log l
+late_of d (Sent n ∷ log) l = late_of d log l
+late_of d (HungUp ∷ log) l = late_of d log l
+late_of d (Discarded ∷ log) l =
+    late_of d log l + count_by (λ (x : Laid). is_late log l x.origin) (waits d log)

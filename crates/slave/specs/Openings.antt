@@ -17,7 +17,7 @@ use Rattle.session.specs.Starts.{is_on}
 use Rattle.session.specs.declared.event_channel.EventChannel.{EventChannel}
 use Rattle.session.specs.declared.profile.Profile.{Profile}
 use Rattle.slave_channel.specs.Channels.{OpenedState}
-use Rattle.slave.specs.Log.{Act, CameBack, Heard, HungUp, Opened, Refused, Sent, Took}
+use Rattle.slave.specs.Log.{Act, CameBack, Discarded, Heard, HungUp, Opened, Refused, Sent, Took}
 use Rattle.slave.specs.Log.{opened, past_of}
 
 -- the session's past where measurement m was opened
@@ -30,6 +30,7 @@ past_at d m (Took n c x ∷ log) = past_at d m log
 past_at d m (CameBack n c past ∷ log) = past_at d m log
 past_at d m (Sent n ∷ log) = past_at d m log
 past_at d m (HungUp ∷ log) = past_at d m log
+past_at d m (Discarded ∷ log) = past_at d m log
 
 -- the capacities of the rings of event channels; and of those of a profile
 abbrev pub capacities_in : List EventChannel → List ℕ

@@ -8,7 +8,8 @@ use Rattle.session.specs.Past.{Past}
 use Rattle.session.specs.Profiles.{lists_of}
 use Rattle.session.specs.SetUps.{set_up_of}
 use Rattle.session.specs.declared.profile.Profile.{Profile}
-use Rattle.slave.specs.Log.{Act, CameBack, Heard, HungUp, Opened, Refused, Sent, Took, past_of}
+use Rattle.slave.specs.Log.{Act, CameBack, Discarded, Heard, HungUp, Opened, Refused, Sent}
+use Rattle.slave.specs.Log.{Took, past_of}
 
 -- the set-ups of the lists of a store, by their numbers
 abbrev pub plan_of : StoreState → List Configuration
@@ -37,6 +38,7 @@ plan_at d (Took m c x ∷ log) = plan_at d log
 plan_at d (CameBack m c past ∷ log) = plan_at d log
 plan_at d (Sent n ∷ log) = plan_at d log
 plan_at d (HungUp ∷ log) = plan_at d log
+plan_at d (Discarded ∷ log) = plan_at d log
 
 -- list l is there, and is set up as it was there
 abbrev pub IsAsOpened : Profile → List Act → ℕ → Type 0

@@ -1,9 +1,9 @@
--- What a slave sent, by positions in what was laid out, and what a log says of it.
+-- What a slave laid out and sent, and what a log says of it.
 use Rattle.std.specs.Prelude.{◌≡◌, ◌≢◌, ℕ, ◌+◌, ◌-◌, ◌<◌, ◌%◌, ◌==◌, ◌&&◌, Bool, true}
-use Rattle.std.specs.Prelude.{false, nat_eq, Option, Some}
-use Rattle.std.specs.Prelude.{All, List, [], ◌∷◌, ◌++◌, drop, filter, length, map, option_to_list}
-use Rattle.std.specs.Prelude.{take as first, Err, Ok, ◌⊎◌}
-use Rattle.std.specs.List.{sum_by}
+use Rattle.std.specs.Prelude.{false, Option, Some, Err, Ok, ◌⊎◌}
+use Rattle.std.specs.Prelude.{All, List, [], ◌∷◌, ◌++◌, count_by, filter, length, map}
+use Rattle.std.specs.Prelude.{option_to_list}
+use Rattle.std.specs.List.{list_any, sum_by}
 use mathlib.Core.List.{IsPrefix}
 use Rattle.xcp_base.specs.Samples.{SampleParts}
 use Rattle.xcp_base.specs.declared.item.Item.TheVariants.{Sample}
@@ -27,89 +27,42 @@ use Rattle.sampler.specs.Past.{Past as SamplerPast}
 use Rattle.transmitter.specs.Items.{samples}
 use Rattle.daq_engine.specs.Order.{items_of}
 use Rattle.daq_engine.specs.Overload.{HasMarks}
-use Rattle.channel_intake.specs.Deeds.{passed, passes, taken}
+use Rattle.channel_intake.specs.Deeds.{passed, passes, taken, unsent_of}
 use Rattle.frame_outbox.specs.Outboxes.{Laid, packets_in, unit_of}
-use Rattle.frame_outbox.specs.Units.{is_sample_of}
+use Rattle.frame_outbox.specs.Units.{is_reply}
+use Rattle.frame_outbox.specs.declared.unit.Origin.{Origin}
 use Rattle.frame_outbox.specs.declared.unit.Origin.TheVariants as origin
 use Rattle.session_account.specs.Accounts.{Agree, Entry, accepted_in, accepted_of}
 use Rattle.session_account.specs.Accounts.{dropped_in, dropped_of, due_in, due_of}
 use Rattle.session_account.specs.Accounts.{written_in, written_of}
-use Rattle.slave.specs.Log.{AllBack, Act, CameBack, Heard, HungUp, Opened, Refused, Sent, Took}
-use Rattle.slave.specs.Log.{deeds_of, entries_of, is_back, is_out, laid, laid_by, opened, past_of}
-use Rattle.slave.specs.Log.{sent_of}
+use Rattle.slave.specs.Log.{AllBack, Act, CameBack, Discarded, Heard, HungUp, Opened, Refused}
+use Rattle.slave.specs.Log.{Sent, Took, deeds_of, entries_of, is_back, is_of_ring, is_out}
+use Rattle.slave.specs.Log.{is_sample_of, laid, late_of, opened, past_of, sent_units, thrown}
+use Rattle.slave.specs.Log.{waits}
 use Rattle.slave.specs.Plans.{plan_at}
 use Rattle.slave.specs.Standing.{NoneRuns}
 
--- where something is from that was laid out: a packet that was heard, or the ring that event
--- channel c has in measurement m
-pub data Source : Type 0 where
-  Master : Source
-  Ring : (m c : ℕ) → Source
-
--- packets that go together, and where they are from
-pub record Told : Type 0 where
-  pub source : Source
-  pub unit : Laid
-
 -- In each definition below the log has the acts so far, the newest first.
 
-abbrev pub source_of : Act → Source
-source_of (Heard x) = Master
-source_of (Refused packet code) = Master
-source_of (Opened at) = Master
-source_of (Took m c x) = Ring m c
-source_of (CameBack m c past) = Master
-source_of (Sent n) = Master
-source_of HungUp = Master
-
--- what an act lays out, and from where
-abbrev pub told_by : Profile → Act → List Act → List Told
-told_by d act log =
-    map (λ (x : Laid). record { source = source_of act; unit = x }) (laid_by d act log)
-
--- all that was laid out, oldest first, and where each is from
-abbrev pub told : Profile → List Act → List Told
-told d [] = []
-told d (act ∷ log) = told d log ++ told_by d act log
-
--- those of it that were sent: the first so many
-abbrev pub told_sent : Profile → List Act → List Told
-told_sent d log = first (sent_of log) (told d log)
-
-abbrev pub units_in : List Told → List Laid
-units_in ts = map (λ (t : Told). t.unit) ts
-
--- all packets of these, in order
-abbrev pub packets_told : List Told → List (List ℕ)
-packets_told ts = packets_in (units_in ts)
-
--- those of these that answer a packet
-abbrev pub is_answer : Source → Bool
-is_answer Master = true
-is_answer (Ring m c) = false
-
-abbrev pub answers_in : List Told → List Told
-answers_in ts = filter (λ (t : Told). is_answer t.source) ts
+-- those of these that are replies
+abbrev pub answers_in : List Laid → List Laid
+answers_in xs = filter (λ (x : Laid). is_reply x.origin) xs
 
 -- those of these that are from the ring that event channel c has in measurement m
-abbrev pub is_of_ring : ℕ → ℕ → Source → Bool
-is_of_ring m c Master = false
-is_of_ring m c (Ring n k) = nat_eq n m && nat_eq k c
-
-abbrev pub from_ring : ℕ → ℕ → List Told → List Told
-from_ring m c ts = filter (λ (t : Told). is_of_ring m c t.source) ts
+abbrev pub from_ring : ℕ → ℕ → List Laid → List Laid
+from_ring m c xs = filter (λ (x : Laid). is_of_ring m c x.origin) xs
 
 -- those of these that are samples of list l, of whichever measurement
-abbrev pub from_list : ℕ → List Told → List Told
-from_list l ts = filter (λ (t : Told). is_sample_of l t.unit.origin) ts
+abbrev pub from_list : ℕ → List Laid → List Laid
+from_list l xs = filter (λ (x : Laid). is_sample_of l x.origin) xs
 
--- a sample of measurement m, as it is laid out
-abbrev pub sample_of : ℕ → SampleParts → Laid
-sample_of m s = record { origin = origin.Sample m s.list; packets = s.packets }
+-- a sample that event channel c has in measurement m, as it is laid out
+abbrev pub sample_of : ℕ → ℕ → SampleParts → Laid
+sample_of m c s = record { origin = origin.Sample m c s.list; packets = s.packets }
 
 -- the packets that were sent, and their bytes
 abbrev pub packets_sent : Profile → List Act → List (List ℕ)
-packets_sent d log = packets_in (first (sent_of log) (laid d log))
+packets_sent d log = packets_in (sent_units d log)
 
 abbrev pub sent_text : Profile → List Act → List ℕ
 sent_text d log = text 0 (packets_sent d log)
@@ -123,6 +76,7 @@ replies_by d (Took m c x) log = []
 replies_by d (CameBack m c past) log = []
 replies_by d (Sent n) log = []
 replies_by d HungUp log = []
+replies_by d Discarded log = []
 
 -- the replies to the packets that were heard, oldest first
 abbrev pub replies_of : Profile → List Act → List (List ℕ)
@@ -130,12 +84,12 @@ replies_of d [] = []
 replies_of d (act ∷ log) = replies_of d log ++ replies_by d act log
 
 -- what is from a ring is known once what was left of its sampler came back: it says what was sent
-abbrev pub IsKnown : List Act → Source → Type 0
-IsKnown log Master = Unit {0}
-IsKnown log (Ring m c) = is_back m c log ≡ true
+abbrev pub IsKnown : List Act → Origin → Type 0
+IsKnown log origin.Reply = Unit {0}
+IsKnown log (origin.Sample m c l) = is_back m c log ≡ true
 
-abbrev pub AreKnown : List Act → List Told → Type 0
-AreKnown log ts = All (λ (t : Told). IsKnown log t.source) ts
+abbrev pub AreKnown : List Act → List Laid → Type 0
+AreKnown log xs = All (λ (x : Laid). IsKnown log x.origin) xs
 
 -- a positive reply, RES
 abbrev pub is_positive : List ℕ → Bool
@@ -145,7 +99,7 @@ is_positive (head ∷ more) = head == 0xFF
 abbrev pub HasPositive : Option (List ℕ) → Type 0
 HasPositive reply = (packet : List ℕ) × (reply ≡ Some packet) × (is_positive packet ≡ true)
 
--- the act is a packet with a positive reply, or the loss of the transport
+-- the act is a packet with a positive reply, or the loss of the master
 abbrev pub IsAccepted : Profile → Act → List Act → Type 0
 IsAccepted d (Heard x) log = HasPositive (reply_in d (past_of d log) x)
 IsAccepted d (Refused packet code) log = ⊥
@@ -154,6 +108,7 @@ IsAccepted d (Took m c x) log = ⊥
 IsAccepted d (CameBack m c past) log = ⊥
 IsAccepted d (Sent n) log = ⊥
 IsAccepted d HungUp log = Unit {0}
+IsAccepted d Discarded log = ⊥
 
 -- a request that stops list l, where these calls were accepted: DISCONNECT, FREE_DAQ, a stop or
 -- CLEAR_DAQ_LIST of the list, a stop of all lists, or of the selected ones if it is selected
@@ -175,9 +130,41 @@ abbrev pub IsNoReply : List ℕ → Type 0
 IsNoReply q = begins_reply q ≡ false
 
 -- no packet of it does, if it is from a ring and known
-abbrev pub BeginsOtherwise : List Act → Told → Type 0
-BeginsOtherwise log t =
-    is_answer t.source ≡ false → IsKnown log t.source → All IsNoReply t.unit.packets
+abbrev pub BeginsOtherwise : List Act → Laid → Type 0
+BeginsOtherwise log x =
+    is_reply x.origin ≡ false → IsKnown log x.origin → All IsNoReply x.packets
+
+-- the act threw what waited away
+abbrev pub throws : Act → Bool
+throws (Heard x) = false
+throws (Refused packet code) = false
+throws (Opened at) = false
+throws (Took m c x) = false
+throws (CameBack m c past) = false
+throws (Sent n) = false
+throws HungUp = false
+throws Discarded = true
+
+-- none of these acts did
+abbrev pub NoneThrows : List Act → Type 0
+NoneThrows acts = list_any throws acts ≡ false
+
+-- what was laid out since the acts `earlier`: what had been sent by then, what waited then and what
+-- was laid out since are, in order, what was sent and what waits
+pub record IsSince (d : Profile) (log earlier : List Act) : Type 0 where
+  pub since : List Laid
+  pub laid_is : laid d log ≡ laid d earlier ++ since
+  pub sent_is :
+      sent_units d log ++ waits d log ≡ sent_units d earlier ++ (waits d earlier ++ since)
+
+-- the replies since the acts `earlier`, if nothing waited then: the answers that were sent since
+-- are the first of these
+pub record IsAnswered (d : Profile) (log earlier : List Act) : Type 0 where
+  pub since : List (List ℕ)
+  pub replies_are : replies_of d log ≡ replies_of d earlier ++ since
+  pub first_are :
+      IsPrefix (packets_in (answers_in (sent_units d log)))
+      (packets_in (answers_in (sent_units d earlier)) ++ since)
 
 -- measurement m is the newest, and list l runs. The measurement was opened just before the start
 -- that it was opened for, with no list running, and the start has a positive reply; since then some
@@ -225,43 +212,63 @@ pub record AddsUpIn (entries : List Entry) (l : ℕ) : Type 0 where
 -- `earlier`, with this past. It had not come back before. What had been taken of its ring are the
 -- first of the items that the sampler sent; those of the samples among these that passed where they
 -- were taken are what was laid out of the ring, in order and each once, then and ever after; the
--- samples among these are marked exactly behind drops; and the numbers of each list add up
+-- samples among these are marked exactly behind drops; and the numbers of each list add up, where
+-- what had been thrown away by then is left
 pub record IsTold (d : Profile) (log : List Act) (m c : ℕ) (past : SamplerPast)
     (earlier : List Act)
     : Type 0 where
   pub once : is_back m c earlier ≡ false
   pub front : IsPrefix (taken (deeds_of d m c earlier)) (items_of past)
   pub written :
-      units_in (from_ring m c (told d log)) ≡ map (sample_of m) (passed (deeds_of d m c earlier))
+      from_ring m c (laid d log) ≡ map (sample_of m c) (passed (deeds_of d m c earlier))
   pub marks : HasMarks past (samples (taken (deeds_of d m c earlier)))
   pub adds_up : (l : ℕ) → AddsUp (record { past = past; deeds = deeds_of d m c earlier }) l
 
 -- the law of a log
 pub record SessionLaw (d : Profile) (log : List Act) : Type 0 where
-  -- what was laid out stands in the order of the acts: what is laid out later stands behind
+  -- what was laid out stands in the order of the acts: what is laid out later stands behind; and so
+  -- does what was sent
   pub in_order :
-      (later earlier : List Act) → log ≡ later ++ earlier → IsPrefix (told d earlier) (told d log)
-  -- what was sent are the first of the replies and samples that were laid out
-  pub sent : packets_told (told_sent d log) ≡ packets_sent d log
+      (later earlier : List Act) → log ≡ later ++ earlier → IsPrefix (laid d earlier) (laid d log)
+  pub sent_in_order :
+      (later earlier : List Act) → log ≡ later ++ earlier
+      → IsPrefix (sent_units d earlier) (sent_units d log)
+  -- each reply and sample that was laid out was sent or thrown away, or waits, once
+  pub each :
+      (test : Laid → Bool)
+      → count_by test (laid d log)
+      ≡ count_by test (sent_units d log) + count_by test (thrown d log)
+      + count_by test (waits d log)
+  -- and as long as nothing was thrown away, all that is laid out is sent or waits, in order
+  pub since :
+      (later earlier : List Act) → log ≡ later ++ earlier → NoneThrows later
+      → IsSince d log earlier
+  -- what was thrown away of a ring is noted there
+  pub unsent :
+      (m c l : ℕ)
+      → unsent_of (deeds_of d m c log) l
+      ≡ count_by (λ (x : Laid). is_of_ring m c x.origin && is_sample_of l x.origin) (thrown d log)
   -- once all parts came back, all that was sent is known
-  pub known : AllBack d log → AreKnown log (told_sent d log)
+  pub known : AllBack d log → AreKnown log (sent_units d log)
   -- the bytes sent split into frames with the packets that were sent, whose counters are 0, 1, ..
   -- modulo 65536
   pub frames : IsProfile d → IsSplit (sent_text d log) (numbered 0 (packets_sent d log))
   -- the answers that were laid out are the replies to the packets heard, in order and each once;
-  -- and those that were sent are the first of them
-  pub answers : packets_told (answers_in (told d log)) ≡ replies_of d log
-  pub answered : IsPrefix (packets_told (answers_in (told_sent d log))) (replies_of d log)
+  -- and as long as nothing was thrown away, those that were sent are the first of them
+  pub answers : packets_in (answers_in (laid d log)) ≡ replies_of d log
+  pub answered :
+      (later earlier : List Act) → log ≡ later ++ earlier → NoneThrows later
+      → waits d earlier ≡ [] → IsAnswered d log earlier
   -- each reply begins with FF or FE, and no packet of a sample does so, if the part that it is of
   -- came back
   pub begins : All (λ q. begins_reply q ≡ true) (replies_of d log)
-  pub no_disguise : All (BeginsOtherwise log) (told d log)
+  pub no_disguise : All (BeginsOtherwise log) (laid d log)
   -- so the packets that begin so among those that were sent are the answers that were sent, if the
   -- parts came back of which samples were sent
   pub told_apart :
-      AreKnown log (told_sent d log)
-      → filter begins_reply (packets_sent d log) ≡ packets_told (answers_in (told_sent d log))
-  -- which lists run changes only at packets with a positive reply, and where the transport is lost
+      AreKnown log (sent_units d log)
+      → filter begins_reply (packets_sent d log) ≡ packets_in (answers_in (sent_units d log))
+  -- which lists run changes only at packets with a positive reply, and where the master is lost
   pub changes :
       (act : Act) (l : ℕ) (later earlier : List Act) → log ≡ later ++ act ∷ earlier
       → runs (past_of d (act ∷ earlier)) l ≢ runs (past_of d earlier) l
@@ -281,12 +288,11 @@ pub record SessionLaw (d : Profile) (log : List Act) : Type 0 where
   pub silent :
       (l : ℕ) (later since before : List Act) → log ≡ later ++ (since ++ before)
       → Rests d l since before
-      → from_list l (told d (since ++ before)) ≡ from_list l (told d before)
+      → from_list l (laid d (since ++ before)) ≡ from_list l (laid d before)
   -- what was laid out of a ring are, in order and each once, those of the samples taken from it
   -- that passed where they were taken
   pub rings :
-      (m c : ℕ)
-      → units_in (from_ring m c (told d log)) ≡ map (sample_of m) (passed (deeds_of d m c log))
+      (m c : ℕ) → from_ring m c (laid d log) ≡ map (sample_of m c) (passed (deeds_of d m c log))
   -- what came back of each part
   pub parts :
       (m c : ℕ) (past : SamplerPast) (later earlier : List Act)
@@ -295,21 +301,22 @@ pub record SessionLaw (d : Profile) (log : List Act) : Type 0 where
   pub adds_up : (l : ℕ) → AddsUpIn (entries_of d log) l
 
 -- what two logs have in common after which one slave stands: the bytes sent, and those that wait;
--- the packets sent, and all that were laid out; the counter of the next frame; what waits, by
--- origin and length; the sums of all parts that came back, as far as 64 bits tell them; how many
--- measurements were opened, how the lists were set up where the newest was, and which parts did not
--- come back, with the items that were taken of these
+-- their packets; the counter of the next frame; what waits, by origin and length; the sums of all
+-- parts that came back, as far as 64 bits tell them, those of the samples written less what was
+-- thrown away behind the return of its part; how many measurements were opened, how the lists were
+-- set up where the newest was, and which parts did not come back, with the items that were taken of
+-- these
 pub record SameStory (d : Profile) (a b : List Act) : Type 0 where
   pub sent : sent_text d a ≡ sent_text d b
-  pub waits :
-      text (length (packets_sent d a)) (packets_in (drop (sent_of a) (laid d a)))
-      ≡ text (length (packets_sent d b)) (packets_in (drop (sent_of b) (laid d b)))
+  pub waits_are :
+      text (length (packets_sent d a)) (packets_in (waits d a))
+      ≡ text (length (packets_sent d b)) (packets_in (waits d b))
   pub packets : IsProfile d → packets_sent d a ≡ packets_sent d b
-  pub all_packets : IsProfile d → packets_in (laid d a) ≡ packets_in (laid d b)
+  pub packets_wait : IsProfile d → packets_in (waits d a) ≡ packets_in (waits d b)
   pub counter :
-      length (packets_in (laid d a)) % 65536 ≡ length (packets_in (laid d b)) % 65536
-  pub units :
-      map unit_of (drop (sent_of a) (laid d a)) ≡ map unit_of (drop (sent_of b) (laid d b))
+      length (packets_in (sent_units d a ++ waits d a)) % 65536
+      ≡ length (packets_in (sent_units d b ++ waits d b)) % 65536
+  pub units : map unit_of (waits d a) ≡ map unit_of (waits d b)
   pub due :
       (l : ℕ) → l < MAX_LISTS → Agree (due_in (entries_of d a) l) (due_in (entries_of d b) l)
   pub dropped :
@@ -317,7 +324,8 @@ pub record SameStory (d : Profile) (a b : List Act) : Type 0 where
       → Agree (dropped_in (entries_of d a) l) (dropped_in (entries_of d b) l)
   pub written :
       (l : ℕ) → l < MAX_LISTS
-      → Agree (written_in (entries_of d a) l) (written_in (entries_of d b) l)
+      → Agree (written_in (entries_of d a) l + late_of d b l)
+      (written_in (entries_of d b) l + late_of d a l)
   pub accepted :
       (l : ℕ) → l < MAX_LISTS
       → Agree (accepted_in (entries_of d a) l) (accepted_in (entries_of d b) l)

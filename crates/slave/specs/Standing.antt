@@ -1,8 +1,7 @@
 -- What contracts see of a slave, and what it stands after.
 use Rattle.std.specs.Prelude.{◌≡◌, ℕ, ◌+◌, ◌-◌, ◌*◌, ◌<◌, ◌≤◌, ◌⊎◌, ◌↔◌, Bool, true, false}
 use Rattle.std.specs.Prelude.{List, [], ◌∷◌}
-use Rattle.std.specs.Prelude.{drop, length, slice_get, Some}
-use Rattle.std.specs.Prelude.{take as first}
+use Rattle.std.specs.Prelude.{length, slice_get, Some}
 use mathlib.Core.List.{IsPrefix}
 use Rattle.xcp_base.specs.Packets.{ArePackets}
 use Rattle.xcp_base.specs.declared.err_code.ErrCode.{ErrCode}
@@ -32,9 +31,9 @@ use Rattle.channel_intake.specs.Deeds.{passes, taken}
 use Rattle.daq_engine.specs.Order.{items_of}
 use Rattle.daq_engine.specs.Overload.{HasMarks}
 use Rattle.transmitter.specs.Items.{samples}
-use Rattle.slave.specs.Log.{Act, CameBack, Heard, HungUp, Opened, Refused, Sent, Took}
-use Rattle.slave.specs.Log.{deeds_of, entries_of, has_part, is_back, is_out, laid, opened}
-use Rattle.slave.specs.Log.{past_of, sent_of, weight}
+use Rattle.slave.specs.Log.{Act, CameBack, Discarded, Heard, HungUp, Opened, Refused, Sent, Took}
+use Rattle.slave.specs.Log.{deeds_of, entries_of, has_part, is_back, is_out, late_of, opened}
+use Rattle.slave.specs.Log.{past_of, sent_units, waits, weight}
 use Rattle.session_account.specs.Accounts.{AccountStandsAfter}
 use Rattle.session_account.specs.declared.totals.Totals.{Totals}
 use Rattle.slave.specs.Plans.{IsAsOpened, plan_at}
@@ -42,7 +41,8 @@ use Rattle.slave.specs.Openings.{IsOpenedAfter, IsOpeningAfter, past_at}
 
 -- the session with the master, the frames that were laid out, the event channels, how the DAQ lists
 -- were set up where the newest measurement was opened, how many measurements were opened, the
--- account of what came back, and how much it counted of what it did
+-- account of what came back, how much it counted of what it did, and the event channel at whose
+-- ring the next look begins
 pub record SlaveState (S T : Type 0) : Type 0 where
   pub session : SessionState
   pub outbox : OutboxState
@@ -51,6 +51,7 @@ pub record SlaveState (S T : Type 0) : Type 0 where
   pub number : ℕ
   pub account : List Totals
   pub acts : ℕ
+  pub next : ℕ
 
 -- no list runs
 abbrev pub NoneRuns : Past → Type 0
@@ -82,6 +83,7 @@ JustOpened d (Took m c x ∷ log) = ⊥
 JustOpened d (CameBack m c past ∷ log) = ⊥
 JustOpened d (Sent n ∷ log) = ⊥
 JustOpened d (HungUp ∷ log) = ⊥
+JustOpened d (Discarded ∷ log) = ⊥
 
 -- a list that the packet starts stands as it did where the newest measurement was opened, which has
 -- a part at the list's event channel; and where no list runs, it was opened just before
@@ -135,7 +137,7 @@ pub record IsTaken (d : Profile) (log : List Act) (m c : ℕ) (x : Item) : Type 
 
 -- in a slave's log there may be no memory only for an allocation that else is accepted; starts
 -- alone are refused; a measurement is opened only where no list runs; items are those of
--- parts of measurements that were opened, and that did not come back
+-- parts of measurements that were opened, and that did not come back; and only what waits is sent
 abbrev pub IsLog : Profile → List Act → Type 0
 IsLog d [] = Unit {0}
 IsLog d (Heard x ∷ log) =
@@ -146,8 +148,9 @@ IsLog d (Refused packet code ∷ log) =
 IsLog d (Opened at ∷ log) = NoneRuns (past_of d log) × IsLog d log
 IsLog d (Took m c x ∷ log) = (m < opened log) × IsTaken d log m c x × IsLog d log
 IsLog d (CameBack m c past ∷ log) = ComesBack d log m c past × IsLog d log
-IsLog d (Sent n ∷ log) = IsLog d log
+IsLog d (Sent n ∷ log) = (n ≤ length (waits d log)) × IsLog d log
 IsLog d (HungUp ∷ log) = IsLog d log
+IsLog d (Discarded ∷ log) = IsLog d log
 
 module _ {S T : Type 0} where
   -- what is kept of an event channel are its parts of the measurements that are out
@@ -201,12 +204,9 @@ module _ {T F : Type 0} (take : TakeGhosts T F) where
       : Type 0 where
     pub few : 32 * length log ≤ MAX_TAKEN
     pub is_log : IsLog d log
-    pub sent : sent_of log ≤ length (laid d log)
     pub profile : s.session.profile ≡ d
     pub session : SessionStandsAfter s.session (past_of d log)
-    pub outbox :
-        OutboxStandsAfter s.outbox (first (sent_of log) (laid d log))
-        (drop (sent_of log) (laid d log))
+    pub outbox : OutboxStandsAfter s.outbox (sent_units d log) (waits d log)
     pub channels :
         (c : ℕ) (ch : ChannelState S T) → slice_get s.channels c ≡ Some ch
         → ChannelHas (opened log) (deeds c) ch
@@ -219,7 +219,7 @@ module _ {T F : Type 0} (take : TakeGhosts T F) where
     pub many : length s.channels ≡ length d.events.items
     pub plan : s.plan ≡ plan_at d log
     pub number : s.number ≡ opened log
-    pub account : AccountStandsAfter s.account (entries_of d log) (λ l. 0)
+    pub account : AccountStandsAfter s.account (entries_of d log) (late_of d log)
 
   abbrev pub SlaveHas : {S : Type 0} → Profile → SlaveState S T → List Act → Type 0
   SlaveHas d s log = StandsBy (λ c m. deeds_of d m c log) d s log

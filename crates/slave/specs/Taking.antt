@@ -11,7 +11,7 @@ use Rattle.channel_intake.specs.Steps.{Passes}
 use Rattle.frame_outbox.specs.Taking.{HasNoRoom}
 use Rattle.slave_channel.specs.Channels.{ChannelState, ShareState}
 use Rattle.slave.specs.Hearing.{GoesBy, is_spent}
-use Rattle.slave.specs.Log.{Act, CameBack, Heard, HungUp, Opened, Refused, Sent, Took}
+use Rattle.slave.specs.Log.{Act, CameBack, Discarded, Heard, HungUp, Opened, Refused, Sent, Took}
 use Rattle.slave.specs.Standing.{SlaveState}
 
 abbrev pub is_take : Act → Bool
@@ -22,6 +22,7 @@ is_take (Took m c x) = true
 is_take (CameBack m c past) = false
 is_take (Sent n) = false
 is_take HungUp = false
+is_take Discarded = false
 
 -- the most items that one call takes: of each of two measurements at an event channel so many as a
 -- ring of items has places
@@ -58,10 +59,12 @@ module _ {S T F : Type 0} (take : TakeGhosts T F) where
       → slice_get s.channels c ≡ Some state → state.newer ≡ Some part
       → take.known part.intake.end ≡ []
 
-  -- the rings of the newest measurement were looked through: an event channel is held up; or no
-  -- item is known at any of them; or the slave is spent; or it took 1,023 items at least
+  -- the rings of the newest measurement were looked through: an event channel is held up, and the
+  -- next look begins there; or it begins at the first, and no item is known at any of them, or the
+  -- slave is spent, or it took 1,023 items at least
   abbrev pub LooksThrough : SlaveState S T → SlaveState S T → Type 0
   LooksThrough a b =
-      ((c : ℕ) × IsHeldUp b c)
-      ⊎ (((c : ℕ) → IsEmptyAt b c)
-      ⊎ ((is_spent b ≡ true) ⊎ (a.acts + 3 * 1023 ≤ b.acts)))
+      IsHeldUp b b.next
+      ⊎ ((b.next ≡ 0)
+      × (((c : ℕ) → IsEmptyAt b c)
+      ⊎ ((is_spent b ≡ true) ⊎ (a.acts + 3 * 1023 ≤ b.acts))))

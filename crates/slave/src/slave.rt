@@ -41,6 +41,7 @@ impl<R: Ring> Model for Slave<R> {
       number = s.number;
       account = s.account;
       acts = s.acts;
+      next = s.next;
     } };
 
     ghost invariant = { λ s. (length s.caps.items ≡ length s.channels)

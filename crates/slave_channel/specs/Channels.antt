@@ -166,6 +166,26 @@ module _ {T F : Type 0} (take : TakeGhosts T F) where
       (t.number ≡ s.number) × GoesOn take s.intake t.intake deed × (t.opened ≡ s.opened)
   NewestGoesOn _ _ deed = ⊥
 
+  -- the part is of measurement m, and it goes on with this deed
+  pub record PartGoesOn (m : ℕ) (deed : Deed) (before after : Option (ShareState T))
+      : Type 0 where
+    pub share : ShareState T
+    pub next : ShareState T
+    pub before_is : before ≡ Some share
+    pub after_is : after ≡ Some next
+    pub number : share.number ≡ m
+    pub number_stays : next.number ≡ m
+    pub opened : next.opened ≡ share.opened
+    pub goes_on : GoesOn take share.intake next.intake deed
+
+  -- the part of measurement m goes on with this deed, and the rest is as it was
+  pub record GoesOnThere {S : Type 0} (m : ℕ) (deed : Deed) (a b : ChannelState S T)
+      : Type 0 where
+    pub link : b.link ≡ a.link
+    pub parts :
+        ((b.older ≡ a.older) × PartGoesOn m deed a.newer b.newer)
+        ⊎ ((b.newer ≡ a.newer) × PartGoesOn m deed a.older b.older)
+
   -- an order went to the task, and the intake was told of it
   pub record Orders {S : Type 0} (a b : ChannelState S T) (o : Order) (deed : Deed)
       : Type 0 where
@@ -174,11 +194,13 @@ module _ {T F : Type 0} (take : TakeGhosts T F) where
     pub older : b.older ≡ a.older
     pub newer : NewestGoesOn a.newer b.newer deed
 
-  -- what became of the next item of a part's ring; if there is no part, nothing changes
+  -- what became of the next item of the ring of a part at event channel c; if there is no part,
+  -- nothing changes
   abbrev pub TakesOf :
-      Option (ShareState T) → Option (ShareState T) → OutboxState → OutboxState → Step → Type 0
-  TakesOf None None o p step = (step ≡ Nothing) × (p ≡ o)
-  TakesOf (Some s) (Some t) o p step =
-      (t.number ≡ s.number) × TakesItem take s.intake t.intake o p s.number step
+      ℕ → Option (ShareState T) → Option (ShareState T) → OutboxState → OutboxState → Step
+      → Type 0
+  TakesOf c None None o p step = (step ≡ Nothing) × (p ≡ o)
+  TakesOf c (Some s) (Some t) o p step =
+      (t.number ≡ s.number) × TakesItem take s.intake t.intake o p s.number c step
       × (t.opened ≡ s.opened)
-  TakesOf _ _ o p step = ⊥
+  TakesOf c _ _ o p step = ⊥

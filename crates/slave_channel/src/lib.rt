@@ -2,6 +2,7 @@
 #![tactic(auto)]
 
 mod channel;
+mod discarding;
 mod finished;
 mod opened_with;
 mod ordering;

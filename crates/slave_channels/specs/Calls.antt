@@ -94,6 +94,12 @@ module _ {S T : Type 0} where
       (c : ℕ) × ((ch : ChannelState S T) × (slice_get now c ≡ Some ch) × (keeps_part ch ≡ true))
 
 module _ {S T F : Type 0} (take : TakeGhosts T F) where
+  -- no part of measurement m is kept at event channel c
+  abbrev pub KeepsNoneOf : ℕ → ℕ → List (ChannelState S T) → Type 0
+  KeepsNoneOf m c now =
+      (ch : ChannelState S T) → slice_get now c ≡ Some ch
+      → (number_of ch.newer ≢ Some m) × (number_of ch.older ≢ Some m)
+
   -- the starts of these lists were ordered
   abbrev pub Starts : ℕ → ChannelState S T → ChannelState S T → Type 0
   Starts set a b =
@@ -112,15 +118,15 @@ module _ {S T F : Type 0} (take : TakeGhosts T F) where
       (stops_noted (λ l. has_list lists l && is_running a.link.newer l) MAX_LISTS)
 
   -- what became of the next item of the newest measurement's ring; the rest is as it was
-  pub record TakesFromNewer (o p : OutboxState) (step : Step) (a b : ChannelState S T)
+  pub record TakesFromNewer (c : ℕ) (o p : OutboxState) (step : Step) (a b : ChannelState S T)
       : Type 0 where
-    pub takes : TakesOf take a.newer b.newer o p step
+    pub takes : TakesOf take c a.newer b.newer o p step
     pub rest : b ≡ record a { newer = b.newer }
 
   -- the same of the measurement before it
-  pub record TakesFromOlder (o p : OutboxState) (step : Step) (a b : ChannelState S T)
+  pub record TakesFromOlder (c : ℕ) (o p : OutboxState) (step : Step) (a b : ChannelState S T)
       : Type 0 where
-    pub takes : TakesOf take a.older b.older o p step
+    pub takes : TakesOf take c a.older b.older o p step
     pub rest : b ≡ record a { older = b.older }
 
 module _ {S E T F : Type 0} (send : SendGhosts S E) (ring : EndGhosts E)

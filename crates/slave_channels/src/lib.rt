@@ -4,6 +4,7 @@
 
 mod back;
 mod channels;
+mod discarding;
 mod ending;
 mod opening;
 mod starting;

@@ -7,6 +7,7 @@ use crate::channels::Channels;
 use channel_intake::Step;
 use daq_engine::Ring;
 use frame_outbox::Outbox;
+use xcp_base::ChannelId;
 
 impl<R: Ring> Channels<R> {
     /// Takes the next item of the newest measurement's ring at event channel `c`, if one is there,
@@ -14,19 +15,19 @@ impl<R: Ring> Channels<R> {
     pub fn take(&mut self, c: usize, outbox: &mut Outbox) -> Step
         requires channel { c < length self.old }
         ensures takes { IsOnlyAt
-            (TakesFromNewer R.Take.TakeEnd outbox.old outbox.new result) c self.old self.new }
+            (TakesFromNewer R.Take.TakeEnd c outbox.old outbox.new result) c self.old self.new }
         ensures shown_stays { outbox.new.shown ≡ outbox.old.shown }
     {
-        self.all[c].take(outbox)
+        self.all[c].take(ChannelId::at(c), outbox)
     }
 
     /// The same of the measurement before it.
     pub fn take_from_older(&mut self, c: usize, outbox: &mut Outbox) -> Step
         requires channel { c < length self.old }
         ensures takes { IsOnlyAt
-            (TakesFromOlder R.Take.TakeEnd outbox.old outbox.new result) c self.old self.new }
+            (TakesFromOlder R.Take.TakeEnd c outbox.old outbox.new result) c self.old self.new }
         ensures shown_stays { outbox.new.shown ≡ outbox.old.shown }
     {
-        self.all[c].take_from_older(outbox)
+        self.all[c].take_from_older(ChannelId::at(c), outbox)
     }
 }

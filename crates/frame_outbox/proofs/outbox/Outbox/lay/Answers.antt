@@ -1,4 +1,4 @@
-use Rattle.std.proofs.Common.{◌≡◌, ◌+◌, ◌-◌, ◌<◌, ◌≤◌, [], ◌∷◌, ◌++◌, length, take, sym, ap, ◌∙◌, subst, arith, length-append}
+use Rattle.std.proofs.Common.{◌≡◌, ◌+◌, ◌-◌, ◌<◌, ◌≤◌, [], ◌∷◌, ◌++◌, length, take, refl, sym, ap, ◌∙◌, subst, arith, length-append}
 use Rattle.std.proofs.lemmas.List.{length-take-le}
 use Rattle.frame_writer.proofs.LayoutLemmas.{length-text}
 use Rattle.frame_writer.specs.Frame.{text}
@@ -51,8 +51,8 @@ returns-clause-lays_out c = λ all waits stands.
     let items : c.push_back.new.self.items ≡ was.units.items ++ u ∷ [] =
     ap (λ b. b.items) c.push_back.ensures.items ∙ keep-all was.units.capacity (was.units.items ++ u ∷ []) (omega (arith, few, box.capacity, length-append was.units.items (u ∷ []))) in
     lays_out
-    (record { writer = state_of out was.writer; waits = take was.end was.page; units = was.units.items; shown = was.shown.count })
-    (record { writer = state_of out c.send_into-end.new.self; waits = take c.send_into-end.result c.send_into-end.new.buffer; units = c.push_back.new.self.items; shown = was.shown.count })
+    (record { writer = state_of out was.writer; sent = was.log.bytes; waits = take was.end was.page; units = was.units.items; shown = was.shown.count })
+    (record { writer = state_of out c.send_into-end.new.self; sent = was.log.bytes; waits = take c.send_into-end.result c.send_into-end.new.buffer; units = c.push_back.new.self.items; shown = was.shown.count })
     (record { origin = c.args.origin; packets = qs }) u.len
-    sent.sent sent.frames items (omega (arith, sent.end))
+    refl sent.sent sent.frames items (omega (arith, sent.end))
     all waits (subst (λ (o : OutboxState). StandsAfter o all waits) (sym c.self.view_is) stands)

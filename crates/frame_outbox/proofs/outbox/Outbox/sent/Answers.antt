@@ -1,6 +1,6 @@
 use Rattle.std.proofs.Common.{◌≡◌, ◌+◌, ◌-◌, ◌≤◌, ◌++◌, length, take, drop, refl, sym, ap, ◌∙◌, subst, arith, length-drop}
 use lib.Seq.{paste}
-use Rattle.std.proofs.lemmas.List.{drop-take}
+use Rattle.std.proofs.lemmas.List.{drop-take, take-take}
 use Rattle.std.proofs.lemmas.List.Edits.{take-paste}
 use Rattle.frame_writer.specs.Writing.{state_of}
 use Rattle.frame_writer.specs.contracts.sink_out.SinkOutOut.TheImpl.{ghosts as out}
@@ -53,9 +53,10 @@ returns-clause-stands c = λ all waits stands.
     ap (take rest) c.copy_within.ensures.after
     ∙ ap (λ k. take k (paste was.page 0 (drop len was.page) rest)) same ∙ take-paste was.page 0 (drop len was.page) rest (omega arith) (omega (arith, length-drop len was.page, c.self.told, box.room))
     ∙ sym (drop-take len rest was.page) ∙ ap (λ k. drop len (take k was.page)) (sym whole) in
+    let shown : take len was.page ≡ take len (take was.end was.page) = sym (take-take len was.end was.page less) in
     let now = subst (λ (o : OutboxState). StandsAfter o all waits) (sym c.self.view_is) stands in
-    subst (λ (o : OutboxState). StandsAfter (record { writer = state_of out was.writer; waits = take rest c.copy_within.new.self; units = c.truncate_front.new.self.items; shown = 0 }) (all ++ take o.shown waits) (drop o.shown waits)) c.self.view_is
+    subst (λ (o : OutboxState). StandsAfter (record { writer = state_of out was.writer; sent = c.note.new.self.bytes; waits = take rest c.copy_within.new.self; units = c.truncate_front.new.self.items; shown = 0 }) (all ++ take o.shown waits) (drop o.shown waits)) c.self.view_is
     (sends
-    (record { writer = state_of out was.writer; waits = take was.end was.page; units = units; shown = count })
-    (record { writer = state_of out was.writer; waits = take rest c.copy_within.new.self; units = c.truncate_front.new.self.items; shown = 0 })
-    count len refl bytes left box.front all waits now)
+    (record { writer = state_of out was.writer; sent = was.log.bytes; waits = take was.end was.page; units = units; shown = count })
+    (record { writer = state_of out was.writer; sent = c.note.new.self.bytes; waits = take rest c.copy_within.new.self; units = c.truncate_front.new.self.items; shown = 0 })
+    count len (c.note.ensures ∙ ap (λ xs. was.log.bytes ++ xs) shown) refl bytes left box.front all waits now)

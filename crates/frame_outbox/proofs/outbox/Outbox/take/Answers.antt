@@ -1,4 +1,4 @@
-use Rattle.std.proofs.Common.{◌≡◌, ◌-◌, ◌<◌, [], ◌∷◌, ◌++◌, length, take, sym, ap, ◌∙◌, subst, arith, length-append}
+use Rattle.std.proofs.Common.{◌≡◌, ◌-◌, ◌<◌, [], ◌∷◌, ◌++◌, length, take, refl, sym, ap, ◌∙◌, subst, arith, length-append}
 use Rattle.frame_writer.specs.Writing.{state_of}
 use Rattle.frame_writer.specs.contracts.sink_out.SinkOutOut.TheImpl.{ghosts as out}
 use Rattle.frame_outbox.specs.Inner.{AreLong}
@@ -19,7 +19,7 @@ returns-in_default g c =
     let inv = c.self.invariant in
     record {
       means =
-          takes-other g.T.TakeEnd _ _ (record { writer = state_of out was.writer; bytes = was.page }) (record { writer = state_of out c.step-step.new.writer; bytes = c.step-step.new.buffer }) was.end c.limit_of-limit.result was.units.items was.shown.count c.args.measurement
+          takes-other g.T.TakeEnd _ _ (record { writer = state_of out was.writer; bytes = was.page }) (record { writer = state_of out c.step-step.new.writer; bytes = c.step-step.new.buffer }) was.end c.limit_of-limit.result was.log.bytes was.units.items was.shown.count c.args.measurement c.args.channel
           c.step-step.result c.args.self.now c.self.view_is (omega (arith, inv.2.room, inv.1)) c.limit_of-limit.ensures.page c.in_default.not-Wrote c.step-step.ensures.means;
       shown_stays = ap (λ (o : OutboxState). o.shown) c.self.view_is;
     }
@@ -31,7 +31,7 @@ invariant_of-self-2 g c =
     let inv = c.self.invariant in
     let box = inv.2 in
     let (s, takes, list, passes, lays) = c.in-Wrote.ensures.means in
-    let u : Unit = record { origin = origin.Sample c.args.measurement c.in-Wrote.list; len = c.in-Wrote.end - was.end } in
+    let u : Unit = record { origin = origin.Sample c.args.measurement c.args.channel c.in-Wrote.list; len = c.in-Wrote.end - was.end } in
     let few : length was.units.items < MAX_UNITS = omega (arith, long-bytes was.units.items box.long, box.bytes, box.room) in
     let items : c.push_back.new.self.items ≡ was.units.items ++ u ∷ [] =
     ap (λ b. b.items) c.push_back.ensures.items ∙ keep-all was.units.capacity (was.units.items ++ u ∷ []) (omega (arith, few, box.capacity, length-append was.units.items (u ∷ []))) in (
@@ -53,17 +53,17 @@ returns-clause-means g c =
     let was = c.self.inside in
     let box = c.self.invariant.2 in
     let (s, takes, list, passes, lays) = c.in-Wrote.ensures.means in
-    let u : Unit = record { origin = origin.Sample c.args.measurement c.in-Wrote.list; len = c.in-Wrote.end - was.end } in
+    let u : Unit = record { origin = origin.Sample c.args.measurement c.args.channel c.in-Wrote.list; len = c.in-Wrote.end - was.end } in
     let few : length was.units.items < MAX_UNITS = omega (arith, long-bytes was.units.items box.long, box.bytes, box.room) in
     let items : c.push_back.new.self.items ≡ was.units.items ++ u ∷ [] =
     ap (λ b. b.items) c.push_back.ensures.items ∙ keep-all was.units.capacity (was.units.items ++ u ∷ []) (omega (arith, few, box.capacity, length-append was.units.items (u ∷ []))) in
-    let now : OutboxState = box_of (record { writer = state_of out c.step-step.new.writer; bytes = c.step-step.new.buffer }) c.in-Wrote.end c.push_back.new.self.items was.shown.count in (
+    let now : OutboxState = box_of was.log.bytes (record { writer = state_of out c.step-step.new.writer; bytes = c.step-step.new.buffer }) c.in-Wrote.end c.push_back.new.self.items was.shown.count in (
       s,
       takes,
       list,
       passes,
       lays.each,
-      subst (λ (o : OutboxState). LaysOut o now (record { origin = origin.Sample c.args.measurement c.in-Wrote.list; packets = s.packets })) c.self.view_is
-          (lays_out (box_of (record { writer = state_of out was.writer; bytes = was.page }) was.end was.units.items was.shown.count) now
-          (record { origin = origin.Sample c.args.measurement c.in-Wrote.list; packets = s.packets }) u.len lays.writer lays.front items (omega (arith, lays.end_is))),
+      subst (λ (o : OutboxState). LaysOut o now (record { origin = origin.Sample c.args.measurement c.args.channel c.in-Wrote.list; packets = s.packets })) c.self.view_is
+          (lays_out (box_of was.log.bytes (record { writer = state_of out was.writer; bytes = was.page }) was.end was.units.items was.shown.count) now
+          (record { origin = origin.Sample c.args.measurement c.args.channel c.in-Wrote.list; packets = s.packets }) u.len refl lays.writer lays.front items (omega (arith, lays.end_is))),
     )
