@@ -1,6 +1,7 @@
 -- What no public clause cites: parts of what a slave does with a packet.
 use Rattle.std.specs.Prelude.{◌≡◌, ◌≢◌, ℕ, ◌+◌, ◌-◌, ◌*◌, ◌%◌, ◌<◌, ◌≤◌, ◌⊎◌, ◌&&◌, not}
-use Rattle.std.specs.Prelude.{Bool, true, false, List, [], ◌∷◌}
+use Rattle.std.specs.Prelude.{Bool, true, false, List, [], ◌∷◌, count_by}
+use Rattle.std.specs.Prelude.{take as first}
 use Rattle.std.specs.Prelude.{◌++◌, ◌↔◌, length, slice_get, if◌then◌else◌, Option, Some, None}
 use Rattle.std.specs.List.{list_all}
 use Rattle.xcp_base.specs.declared.err_code.ErrCode.TheVariants.{CmdBusy, MemoryOverflow, Sequence}
@@ -19,30 +20,34 @@ use Rattle.session.specs.Starts.{is_on, shows_on, starts}
 use Rattle.session.specs.declared.profile.Profile.{Profile}
 use Rattle.sampler.specs.State.{SamplerState}
 use Rattle.tasks.specs.Links.{just_out}
-use Rattle.channel_intake.specs.Deeds.{Deed}
+use Rattle.channel_intake.specs.Deeds.{Deed, Unsent}
 use Rattle.channel_intake.specs.declared.step.Step.{Step}
 use Rattle.channel_intake.specs.declared.step.Step.TheVariants.{Full, Marked, Nothing, Skipped}
 use Rattle.channel_intake.specs.declared.step.Step.TheVariants.{Wrote}
 use Rattle.frame_outbox.specs.Outboxes.{LaysOut, OutboxState}
+use Rattle.frame_outbox.specs.declared.unit.Origin.{Origin}
 use Rattle.frame_outbox.specs.declared.unit.Origin.TheVariants as origin
 use Rattle.channel_intake.specs.Intakes.{StandsAfter as IntakeStandsAfter}
-use Rattle.session_account.specs.Accounts.{AccountStandsAfter, Entry}
+use Rattle.session_account.specs.Accounts.{AccountStandsAfter, Entry, more_unsent}
 use Rattle.session_account.specs.declared.totals.Totals.{Totals}
-use Rattle.slave_channel.specs.Channels.{ChannelState, FinishedState, IsPastOf, number_of}
+use Rattle.slave_channel.specs.Channels.{ChannelState, FinishedState, GoesOnThere, IsPastOf}
+use Rattle.slave_channel.specs.Channels.{number_of}
 use Rattle.slave_channel.specs.Ordering.{starts_noted}
 use Rattle.slave_channels.specs.Calls.{CanStartAll, Ends, HasFull, HasNoPlaces, HasSome}
-use Rattle.slave_channels.specs.Calls.{HaveRoom, Looks, OpenedAndEnded, OpensAt, StartsAt}
-use Rattle.slave_channels.specs.Calls.{StopsAll}
-use Rattle.slave_channels.specs.Each.{IsEach}
+use Rattle.slave_channels.specs.Calls.{HaveRoom, KeepsNoneOf, Looks, OpenedAndEnded, OpensAt}
+use Rattle.slave_channels.specs.Calls.{StartsAt, StopsAll}
+use Rattle.slave_channels.specs.Each.{IsEach, IsOnlyAt}
 use Rattle.slave.specs.Hearing.{IsStartRefusal, MayOpen, IsIdleRefusal, is_spent}
 use Rattle.slave.specs.Taking.{IsEmptyAt, IsHeldUp}
 use Rattle.slave.specs.declared.round.Round.{Round}
 use Rattle.slave.specs.declared.round.Round.TheVariants.{Empty, HeldUp, Took}
 use Rattle.slave.specs.Log.{Act, Heard}
-use Rattle.slave.specs.Log.{deeds_of, has_part, is_newest, is_return, opened, past_of}
+use Rattle.slave.specs.Log.{deeds_of, has_part, is_late, is_newest, is_return, late_of, opened}
+use Rattle.slave.specs.Log.{origins, past_of, unsent_by, waits}
 use Rattle.slave.specs.Openings.{capacities_of}
 use Rattle.slave.specs.Plans.{IsAsOpened, plan_of}
-use Rattle.slave.specs.Standing.{JustOpened, NoneRuns, PartsStandAfter, SlaveState, StandsBy}
+use Rattle.slave.specs.Standing.{HasEnded, JustOpened, NoneRuns, PartsStandAfter, SlaveState}
+use Rattle.slave.specs.Standing.{StandsBy}
 use Rattle.slave.specs.Standing.{StartsWell}
 use Rattle.slave.specs.declared.limits.TheConstants.{PER_ACT}
 
@@ -196,7 +201,7 @@ module _ {S T F : Type 0} (take : TakeGhosts T F) where
 
   -- the lists were started
   abbrev pub SlaveStarted : Profile → SlaveState S T → List Act → ℕ → Type 0
-  SlaveStarted d s log lists = StandsBy take (started d log lists) d s log
+  SlaveStarted d s log lists = StandsBy take (started d log lists) (late_of d log) d s log
 
   -- the lists that ran before and don't now were stopped where they run; and where none runs now,
   -- each measurement ended
@@ -347,3 +352,46 @@ module _ {S T F : Type 0} (take : TakeGhosts T F) where
   EndsRound a b begin Empty =
       (b.next ≡ 0) × ((is_spent b ≡ true) ⊎ ((c : ℕ) → begin ≤ c → IsEmptyAt take b c))
   EndsRound a b begin Took = (b.next ≡ 0) × (a.acts + 3 ≤ b.acts)
+
+module _ {S T F : Type 0} (take : TakeGhosts T F) where
+  -- the part of measurement m at event channel c was told that a sample of list l isn't sent
+  pub record TellsPart (m c l : ℕ) (a b : SlaveState S T) : Type 0 where
+    pub channels : IsOnlyAt (GoesOnThere take m (Unsent l)) c a.channels b.channels
+    pub rest : b ≡ record a { channels = b.channels }
+
+  -- that part isn't kept, and the account was told
+  pub record TellsAccount (m c l : ℕ) (a b : SlaveState S T) : Type 0 where
+    pub none : KeepsNoneOf m c a.channels
+    pub account :
+        (entries : List Entry) (unsent : ℕ → ℕ) → AccountStandsAfter a.account entries unsent
+        → AccountStandsAfter b.account entries (more_unsent l 1 unsent)
+    pub rest : b ≡ record a { account = b.account }
+
+  -- what is from here isn't sent: of a sample its part or the account was told, if there may be
+  -- such a list
+  abbrev pub LeavesOne : Origin → SlaveState S T → SlaveState S T → Type 0
+  LeavesOne origin.Reply a b = b ≡ a
+  LeavesOne (origin.Sample m c l) a b =
+      TellsPart m c l a b ⊎ (TellsAccount m c l a b ⊎ ((MAX_LISTS ≤ l) × (b ≡ a)))
+
+  -- of what waits the first n aren't sent: so much was done with each ring, and so much is late
+  abbrev pub left_deeds : Profile → List Act → ℕ → ℕ → ℕ → List Deed
+  left_deeds d log n c m = unsent_by m c (first n (origins (waits d log))) ++ deeds_of d m c log
+
+  abbrev pub left_late : Profile → List Act → ℕ → ℕ → ℕ
+  left_late d log n l =
+      late_of d log l + count_by (is_late log l) (first n (origins (waits d log)))
+
+  pub record LeavesFirst (n : ℕ) (a b : SlaveState S T) : Type 0 where
+    pub outbox : b.outbox ≡ a.outbox
+    pub session : b.session ≡ a.session
+    pub counted : b.acts ≡ a.acts
+    pub leaves :
+        (log : List Act) → 32 * (1 + length log) ≤ MAX_TAKEN
+        → PartsStandAfter take a.session.profile a log
+        → StandsBy take (left_deeds a.session.profile log n) (left_late a.session.profile log n)
+        a.session.profile b log
+    pub ended :
+        (log : List Act) → 32 * (1 + length log) ≤ MAX_TAKEN
+        → PartsStandAfter take a.session.profile a log
+        → HasEnded b (past_of a.session.profile log)

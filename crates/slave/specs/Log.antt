@@ -2,7 +2,7 @@
 -- channel, and the frames that were laid out, and what became of them.
 use Rattle.std.specs.Prelude.{◌≡◌, ℕ, ◌+◌, ◌<◌, zero, suc}
 use Rattle.std.specs.Prelude.{Bool, true, false, ◌&&◌, ◌||◌, not, nat_eq, if◌then◌else◌}
-use Rattle.std.specs.Prelude.{List, [], ◌∷◌, ◌++◌, length, count_by, drop}
+use Rattle.std.specs.Prelude.{List, [], ◌∷◌, ◌++◌, length, count_by, drop, map}
 use Rattle.std.specs.Prelude.{take as first}
 use Rattle.std.specs.Prelude.{Option, Some, None, Err}
 use Rattle.list_set.specs.Counts.{one_if}
@@ -146,10 +146,14 @@ abbrev pub unsent_one : ℕ → ℕ → Origin → List Deed
 unsent_one m c origin.Reply = []
 unsent_one m c (origin.Sample n k l) = if nat_eq n m && nat_eq k c then Unsent l ∷ [] else []
 
--- none of these, the oldest first, is sent
-abbrev pub unsent_by : ℕ → ℕ → List Laid → List Deed
+-- none of what is from these, the oldest first, is sent
+abbrev pub unsent_by : ℕ → ℕ → List Origin → List Deed
 unsent_by m c [] = []
-unsent_by m c (x ∷ xs) = unsent_by m c xs ++ unsent_one m c x.origin
+unsent_by m c (x ∷ xs) = unsent_by m c xs ++ unsent_one m c x
+
+-- where some replies and samples are from
+abbrev pub origins : List Laid → List Origin
+origins xs = map (λ (x : Laid). x.origin) xs
 
 abbrev mutual
   -- what was done with the ring that event channel c has in measurement m: the orders of the acts
@@ -169,7 +173,7 @@ abbrev mutual
   deeds_of d m c (HungUp ∷ log) =
       if is_newest m log then ordered_by d c HungUp log (deeds_of d m c log)
       else deeds_of d m c log
-  deeds_of d m c (Discarded ∷ log) = unsent_by m c (waits d log) ++ deeds_of d m c log
+  deeds_of d m c (Discarded ∷ log) = unsent_by m c (origins (waits d log)) ++ deeds_of d m c log
 
   -- the replies and samples that wait, the oldest first: what was laid out, and neither sent nor
   -- thrown away
@@ -302,4 +306,4 @@ late_of d (CameBack m c past ∷ log) l = late_of d log l
 late_of d (Sent n ∷ log) l = late_of d log l
 late_of d (HungUp ∷ log) l = late_of d log l
 late_of d (Discarded ∷ log) l =
-    late_of d log l + count_by (λ (x : Laid). is_late log l x.origin) (waits d log)
+    late_of d log l + count_by (is_late log l) (origins (waits d log))

@@ -198,9 +198,9 @@ module _ {T F : Type 0} (take : TakeGhosts T F) where
         (l : ℕ) → l < MAX_LISTS → is_running ch.link.newer l ≡ runs_there (deeds (n - 1)) l
 
   -- the parts of a slave stand after a log of no more than 2^57 acts; at its event channels so much
-  -- was done in each measurement
-  pub record StandsBy {S : Type 0} (deeds : ℕ → ℕ → List Deed) (d : Profile) (s : SlaveState S T)
-      (log : List Act)
+  -- was done in each measurement, and of each list so many samples were thrown away late
+  pub record StandsBy {S : Type 0} (deeds : ℕ → ℕ → List Deed) (late : ℕ → ℕ) (d : Profile)
+      (s : SlaveState S T) (log : List Act)
       : Type 0 where
     pub few : 32 * length log ≤ MAX_TAKEN
     pub is_log : IsLog d log
@@ -219,10 +219,10 @@ module _ {T F : Type 0} (take : TakeGhosts T F) where
     pub many : length s.channels ≡ length d.events.items
     pub plan : s.plan ≡ plan_at d log
     pub number : s.number ≡ opened log
-    pub account : AccountStandsAfter s.account (entries_of d log) (late_of d log)
+    pub account : AccountStandsAfter s.account (entries_of d log) late
 
   abbrev pub SlaveHas : {S : Type 0} → Profile → SlaveState S T → List Act → Type 0
-  SlaveHas d s log = StandsBy (λ c m. deeds_of d m c log) d s log
+  SlaveHas d s log = StandsBy (λ c m. deeds_of d m c log) (late_of d log) d s log
 
   -- all parts of a slave stand after a log
   pub record PartsStandAfter {S : Type 0} (d : Profile) (s : SlaveState S T) (log : List Act)

@@ -1,10 +1,8 @@
 //! A packet is answered: the lists that it stops are stopped, and the reply is laid out.
-ghost use Rattle.std.specs.Prelude.{◌≡◌, [], ◌∷◌, true, Err, Some};
+ghost use Rattle.std.specs.Prelude.{◌≡◌, true, Err, Some};
 ghost use Rattle.frame_outbox.specs.Outboxes.{has_room};
 ghost use Rattle.session.specs.Fields.{packet_of};
-ghost use Rattle.slave.specs.Hearing.{GoesBy};
-ghost use Rattle.slave.specs.Inner.{Answers, LaysReply, PartsGoBy, Settles};
-ghost use Rattle.slave.specs.Log.{HungUp, losing};
+ghost use Rattle.slave.specs.Inner.{Answers, LaysReply, Settles};
 
 use crate::slave::Slave;
 use daq_engine::Ring;
@@ -37,7 +35,7 @@ impl<R: Ring> Slave<R> {
     }
 
     /// Stops the lists that ran before and don't now, and ends the measurement where none runs.
-    fn settle(&mut self, before: ListSet, now: ListSet)
+    pub(crate) fn settle(&mut self, before: ListSet, now: ListSet)
         ensures settles { Settles R.Take.TakeEnd self.old.channels self.new.channels before now }
         ensures rest_stays { self.new ≡ record self.old { channels = self.new.channels } }
     {
@@ -56,30 +54,5 @@ impl<R: Ring> Slave<R> {
         if let Some(reply) = reply {
             let _ = self.outbox.reply(reply.as_slice());
         }
-    }
-
-    /// The transport was lost: all DAQ lists stop and are given up, and no master is connected. So
-    /// it is after DISCONNECT, but nothing is replied. What waits to be sent waits on. While no
-    /// master is connected, nothing changes.
-    pub fn hang_up(&mut self)
-        ensures hangs_up { GoesBy R.Take.TakeEnd self.old self.new
-            (losing self.old.session.connected) }
-        ensures profile_stays { self.new.session.profile ≡ self.old.session.profile }
-        ensures acts_stay { self.new.acts ≡ self.old.acts }
-    {
-        if self.session.is_connected() {
-            self.lose_master();
-        }
-    }
-
-    /// The transport to a master that was connected is lost.
-    fn lose_master(&mut self)
-        ensures hangs_up { PartsGoBy R.Take.TakeEnd self.old self.new (HungUp ∷ []) }
-        ensures profile_stays { self.new.session.profile ≡ self.old.session.profile }
-        ensures acts_stay { self.new.acts ≡ self.old.acts }
-    {
-        let before = self.session.running();
-        self.session.hang_up();
-        self.settle(before, ListSet::none());
     }
 }

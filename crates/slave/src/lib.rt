@@ -4,6 +4,7 @@
 mod answering;
 mod closing;
 mod finishing;
+mod hanging_up;
 mod hearing;
 pub mod laws;
 mod limits;

@@ -93,13 +93,13 @@ module _ {S T : Type 0} where
   KeepsOne now =
       (c : ℕ) × ((ch : ChannelState S T) × (slice_get now c ≡ Some ch) × (keeps_part ch ≡ true))
 
-module _ {S T F : Type 0} (take : TakeGhosts T F) where
   -- no part of measurement m is kept at event channel c
   abbrev pub KeepsNoneOf : ℕ → ℕ → List (ChannelState S T) → Type 0
   KeepsNoneOf m c now =
       (ch : ChannelState S T) → slice_get now c ≡ Some ch
       → (number_of ch.newer ≢ Some m) × (number_of ch.older ≢ Some m)
 
+module _ {S T F : Type 0} (take : TakeGhosts T F) where
   -- the starts of these lists were ordered
   abbrev pub Starts : ℕ → ChannelState S T → ChannelState S T → Type 0
   Starts set a b =

@@ -1,6 +1,7 @@
 use Rattle.std.proofs.Common.{◌≤◌, sym, subst}
 use Rattle.std.proofs.lemmas.List.{length-set}
 use Rattle.xcp_base.specs.declared.limits.TheConstants.{MAX_CHANNELS}
+use Rattle.slave_channel.specs.Channels.{TakesOf}
 use Rattle.slave_channels.proofs.EachLemmas.{only-set}
 use Rattle.slave_channels.proofs.channels.Channels.take.Goals as goal
 
@@ -15,6 +16,9 @@ returns g c =
     record {
       takes =
           only-set _ c.args.c _ _ c.index_mut.result.now c.take.new.self c.self.view_is c.index_mut.ensures.value c.requires.channel
-          (record { takes = e.takes; rest = e.rest_stays });
+          (record {
+            takes = subst (λ k. TakesOf g.R.Take.TakeEnd k c.index_mut.result.now.newer c.take.new.self.newer c.args.outbox.now c.take.new.outbox c.take.result) c.at.ensures e.takes;
+            rest = e.rest_stays;
+          });
       shown_stays = e.shown_stays;
     }
