@@ -220,3 +220,11 @@ module _ {T E : Type 0} (take : TakeGhosts T E) where
     lists = λ l below.
         ap (λ xs. slice_get xs l) same ∙ before.lists l below ∙ ap Some (sym (after-skipped s l deeds (held deeds before)));
   }
+
+  -- a sample of a list that there can't be tells nothing
+  pub stands-beyond : (i : IntakeState T) (l : ℕ) (deeds : List Deed) → MAX_LISTS ≤ l → length deeds < MAX_TAKEN → StandsAfter take i deeds → StandsAfter take i (Unsent l ∷ deeds)
+  stands-beyond i l deeds beyond less stands = record {
+    few = omega (arith, less);
+    received = stands.received;
+    lists = λ k below. stands.lists k below ∙ ap Some (sym (after-unsent_other l k deeds (λ same. omega (arith, same, below, beyond))));
+  }

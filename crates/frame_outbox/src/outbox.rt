@@ -157,6 +157,8 @@ impl Outbox {
     /// Whether nothing waits.
     pub fn is_empty(&self) -> bool
         ensures waiting { result ≡ not (has_waiting self.now) }
+        ensures none { result ≡ true → self.now.units ≡ [] }
+        ensures none_shown { result ≡ true → self.now.shown ≡ 0 }
     {
         self.units.is_empty()
     }

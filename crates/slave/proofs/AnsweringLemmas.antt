@@ -1,5 +1,5 @@
--- What a slave stands after once a packet was heard, or the transport was lost.
-use Rattle.std.proofs.Common.{◌≡◌, ℕ, ◌<◌, ◌≤◌, Bool, true, false, ◌&&◌, not, if◌then◌else◌, List, [], ◌∷◌, ◌++◌, append-nil, length, length-append, drop, take as first, refl, sym, ap, ◌∙◌, subst, arith}
+-- What a slave stands after once a packet was heard, or the master was lost.
+use Rattle.std.proofs.Common.{◌≡◌, ℕ, ◌<◌, ◌≤◌, Bool, true, false, ◌&&◌, not, if◌then◌else◌, List, [], ◌∷◌, ◌++◌, append-nil, length, refl, sym, ap, ◌∙◌, subst, arith}
 use Rattle.std.specs.Prelude.{Option, Some, None}
 use Rattle.xcp_base.specs.Lists.{has_list}
 use Rattle.xcp_base.specs.declared.limits.TheConstants.{MAX_LISTS}
@@ -16,17 +16,16 @@ use Rattle.session.specs.Requests.{request}
 use Rattle.session.specs.Standing.{Exchanges, SessionStandsAfter, SessionState}
 use Rattle.session.specs.Starts.{is_on, runs, starts}
 use Rattle.session.specs.declared.profile.Profile.{Profile}
-use Rattle.frame_outbox.specs.Outboxes.{Laid, LaysOut, OutboxState}
+use Rattle.frame_outbox.specs.Outboxes.{Laid, OutboxState}
 use Rattle.frame_outbox.specs.Outboxes.{StandsAfter as OutboxStandsAfter}
 use Rattle.slave.specs.Inner.{PartsGoBy}
 use Rattle.slave.specs.Inner.{Answers, LaysReply, Settles}
 use Rattle.session_account.specs.Accounts.{AccountStandsAfter}
-use Rattle.slave.specs.Log.{Heard, HungUp, entries_of, is_out, laid, past_of, reply_laid, sent_of}
+use Rattle.slave.specs.Log.{Heard, HungUp, entries_of, is_out, late_of, past_of, reply_laid, sent_units, waits}
 use Rattle.slave.specs.Openings.{past_at}
 use Rattle.slave.specs.Standing.{SlaveState}
 use Rattle.slave.proofs.SettlingLemmas.{settled, settled-many, settled-opens, settled-out}
 use Rattle.slave.proofs.StandingLemmas.{starts-no-list}
-use Rattle.std.proofs.lemmas.List.{drop-append-le, take-append-le}
 
 -- an allocation starts no list
 allocates-plain : (call : Command) → Allocates call → StartsNoList call
@@ -63,19 +62,12 @@ exchange-starts d past x true is out l =
     ap (λ b. not (runs past l) && runs (if b then past else past_after_packet d past x.packet) l) is ∙ not-and (runs past l) ∙ sym (out-starts-none d past x.packet l (out refl))
 exchange-starts d past x false is out l = ap (λ b. not (runs past l) && runs (if b then past else past_after_packet d past x.packet) l) is
 
--- what was laid out stands behind all that waited
-pub more-laid : (o p : OutboxState) (x : Laid) (k : ℕ) (xs : List Laid) → LaysOut o p x → k ≤ length xs
-    → OutboxStandsAfter o (first k xs) (drop k xs) → OutboxStandsAfter p (first k (xs ++ x ∷ [])) (drop k (xs ++ x ∷ []))
-more-laid o p x k xs lays within stands =
-    subst (λ ys. OutboxStandsAfter p ys (drop k (xs ++ x ∷ []))) (sym (take-append-le k xs (x ∷ []) within))
-    (subst (λ ys. OutboxStandsAfter p (first k xs) ys) (sym (drop-append-le k xs (x ∷ []) within)) (lays (first k xs) (drop k xs) stands))
-
 -- a reply stands behind all that waited
-pub reply-laid : (o p : OutboxState) (reply : Option (List ℕ)) (k : ℕ) (xs : List Laid) → LaysReply o p reply → k ≤ length xs
-    → OutboxStandsAfter o (first k xs) (drop k xs) → OutboxStandsAfter p (first k (xs ++ reply_laid reply)) (drop k (xs ++ reply_laid reply))
-reply-laid o p None k xs lays within stands =
-    subst (λ ys. OutboxStandsAfter p (first k ys) (drop k ys)) (sym (append-nil xs)) (subst (λ z. OutboxStandsAfter z (first k xs) (drop k xs)) (sym lays) stands)
-reply-laid o p (Some packet) k xs lays within stands = more-laid o p _ k xs lays within stands
+pub reply-laid : (o p : OutboxState) (reply : Option (List ℕ)) (sent wait : List Laid) → LaysReply o p reply
+    → OutboxStandsAfter o sent wait → OutboxStandsAfter p sent (wait ++ reply_laid reply)
+reply-laid o p None sent wait lays stands =
+    subst (λ ys. OutboxStandsAfter p sent ys) (sym (append-nil wait)) (subst (λ z. OutboxStandsAfter z sent wait) (sym lays) stands)
+reply-laid o p (Some packet) sent wait lays stands = lays sent wait stands
 
 module _ {S T F : Type 0} (take : TakeGhosts T F) where
   -- a packet was answered
@@ -103,25 +95,24 @@ module _ {S T F : Type 0} (take : TakeGhosts T F) where
               has = record {
                 few = omega (arith, few);
                 is_log = (out, well, has.is_log);
-                sent = omega (arith, has.sent, length-append (laid d log) (reply_laid (reply_in d past x)));
                 profile = profile;
                 session = behind;
                 outbox =
-                    subst (λ r. OutboxStandsAfter b.outbox (first (sent_of log) (laid d log ++ reply_laid r)) (drop (sent_of log) (laid d log ++ reply_laid r))) said
-                    (reply-laid a.outbox b.outbox reply (sent_of log) (laid d log) lays has.sent has.outbox);
+                    subst (λ r. OutboxStandsAfter b.outbox (sent_units d log) (waits d log ++ reply_laid r)) said
+                    (reply-laid a.outbox b.outbox reply (sent_units d log) (waits d log) lays has.outbox);
                 channels = λ c ch at. (both c ch at).0;
                 out = settled-out take a.channels b.channels before now (λ c m. is_out m c log) settles has.out;
                 opens = settled-opens take a.channels b.channels before now d (λ m. past_at d m log) settles has.opens;
                 many = settled-many take a.channels b.channels before now settles ∙ has.many;
                 plan = plan ∙ has.plan;
-                account = subst (λ z. AccountStandsAfter z (entries_of d log) (λ l. 0)) (sym account) has.account;
+                account = subst (λ z. AccountStandsAfter z (entries_of d log) (late_of d log)) (sym account) has.account;
                 number = number ∙ has.number;
               };
               ended = λ none c ch at. (both c ch at).1 none;
             };
       }
 
-  -- the transport was lost
+  -- the master was lost
   pub hung-up : (a b : SlaveState S T) (before : ℕ) → SessionStandsAfter b.session new_past → b.session.profile ≡ a.session.profile
       → ((past : Past) → SessionStandsAfter a.session past → (l : ℕ) → l < MAX_LISTS → has_list before l ≡ runs past l)
       → Settles take a.channels b.channels before 0 → b.outbox ≡ a.outbox → b.plan ≡ a.plan → b.account ≡ a.account → b.number ≡ a.number
@@ -138,16 +129,15 @@ module _ {S T F : Type 0} (take : TakeGhosts T F) where
         has = record {
           few = omega (arith, few);
           is_log = has.is_log;
-          sent = omega (arith, has.sent, length-append (laid d log) []);
           profile = profile;
           session = fresh;
-          outbox = subst (λ o. OutboxStandsAfter o (first (sent_of log) (laid d log ++ [])) (drop (sent_of log) (laid d log ++ []))) (sym outbox) (reply-laid a.outbox a.outbox None (sent_of log) (laid d log) refl has.sent has.outbox);
+          outbox = subst (λ o. OutboxStandsAfter o (sent_units d log) (waits d log)) (sym outbox) has.outbox;
           channels = λ c ch at. (both c ch at).0;
           out = settled-out take a.channels b.channels before 0 (λ c m. is_out m c log) settles stands.has.out;
           opens = settled-opens take a.channels b.channels before 0 d (λ m. past_at d m log) settles stands.has.opens;
           many = settled-many take a.channels b.channels before 0 settles ∙ stands.has.many;
           plan = plan ∙ has.plan;
-          account = subst (λ z. AccountStandsAfter z (entries_of d log) (λ l. 0)) (sym account) has.account;
+          account = subst (λ z. AccountStandsAfter z (entries_of d log) (late_of d log)) (sym account) has.account;
           number = number ∙ has.number;
         };
         ended = λ quiet c ch at. (both c ch at).1 quiet;

@@ -18,7 +18,7 @@ use Rattle.slave.specs.Finishing.{GivesBackBy, GivesBack}
 use Rattle.slave.specs.Hearing.{MayOpen, is_before, most_before, IsIdleRefusal}
 use Rattle.slave.specs.Inner.{PartsGoBy, AreAsOpened, Collects, HasOther, HasParts, IsOfOne, Prepares, SlaveStarted, StartsInVain, WantsPlaces}
 use Rattle.slave_channels.specs.Calls.{HasSome}
-use Rattle.slave.specs.Log.{Act, CameBack, Heard, HungUp, Opened, Refused, Sent, Took, is_opening, is_return, opened}
+use Rattle.slave.specs.Log.{Act, CameBack, Discarded, Heard, HungUp, Opened, Refused, Sent, Took, is_opening, is_return, opened}
 use Rattle.slave.specs.Standing.{PartsStandAfter, SlaveState}
 use Rattle.slave.proofs.HearingLemmas.{assoc}
 
@@ -32,6 +32,7 @@ before-return (Opened at ∷ acts) are = absurd (false≢true are)
 before-return (Took m c x ∷ acts) are = absurd (false≢true are)
 before-return (Sent n ∷ acts) are = absurd (false≢true are)
 before-return (HungUp ∷ acts) are = absurd (false≢true are)
+before-return (Discarded ∷ acts) are = absurd (false≢true are)
 
 none-opened : (acts : List Act) → list_all is_return acts ≡ true → opened acts ≡ 0
 none-opened [] are = refl
@@ -42,6 +43,7 @@ none-opened (Opened at ∷ acts) are = absurd (false≢true are)
 none-opened (Took m c x ∷ acts) are = absurd (false≢true are)
 none-opened (Sent n ∷ acts) are = absurd (false≢true are)
 none-opened (HungUp ∷ acts) are = absurd (false≢true are)
+none-opened (Discarded ∷ acts) are = absurd (false≢true are)
 
 may-open-behind : (opening acts : List Act) → MayOpen 1 opening → list_all is_return acts ≡ true → length acts ≤ 2 * MAX_CHANNELS → MayOpen most_before (opening ++ acts)
 may-open-behind opening acts may are few = record {

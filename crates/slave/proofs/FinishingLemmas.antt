@@ -20,7 +20,7 @@ use Rattle.slave.specs.Finishing.{GivesBack, GivesBackBy, IsFinishedOf, IsOpened
 use Rattle.session_account.specs.Accounts.{AccountStandsAfter}
 use Rattle.session_account.specs.declared.totals.Totals.{Totals}
 use Rattle.slave.specs.Inner.{IsOver, Notes}
-use Rattle.slave.specs.Log.{Act, CameBack, deeds_of, entries_of, has_part, is_back, is_out, laid, opened, past_of, sent_of}
+use Rattle.slave.specs.Log.{Act, CameBack, deeds_of, entries_of, has_part, is_back, is_out, late_of, opened, past_of, sent_units, waits}
 use Rattle.daq_engine.specs.Openings.{IsOpeningOf}
 use Rattle.session.specs.declared.profile.Profile.{Profile}
 use Rattle.slave.specs.Openings.{IsOpenedAfter, IsOpeningAfter, past_at}
@@ -151,7 +151,7 @@ module _ {S T F : Type 0} (take : TakeGhosts T F) where
 
   -- what is left of the sampler of a part came back
   came-back : (a b : SlaveState S T) (c m : ℕ) (x y : ChannelState S T) (past : SamplerPast) → ChangesAt take a b c x y → b.outbox ≡ a.outbox
-      → ((log : List Act) → PartsStandAfter take a.session.profile a log → AccountStandsAfter b.account (record { past = past; deeds = deeds_of a.session.profile m c log } ∷ entries_of a.session.profile log) (λ l. 0)
+      → ((log : List Act) → PartsStandAfter take a.session.profile a log → AccountStandsAfter b.account (record { past = past; deeds = deeds_of a.session.profile m c log } ∷ entries_of a.session.profile log) (late_of a.session.profile log)
       × ComesBack a.session.profile log m c past
       × ChannelHas take (opened log) (λ q. deeds_of a.session.profile q c log) y × IsOut (λ q. is_out q c (CameBack m c past ∷ log)) y
       × AreOpenedAfter a.session.profile (λ q. past_at a.session.profile q log) c y)
@@ -164,12 +164,10 @@ module _ {S T F : Type 0} (take : TakeGhosts T F) where
         has = record {
           few = omega (arith, few);
           is_log = (comes, has.is_log);
-          sent = omega (arith, has.sent, length-append (laid d log) []);
           profile = ap (λ (z : SessionState). z.profile) changes.session;
           session = subst (λ z. SessionStandsAfter z (past_of d log)) (sym changes.session) has.session;
           outbox =
-              subst (λ xs. OutboxStandsAfter b.outbox (first (sent_of log) xs) (drop (sent_of log) xs)) (sym (append-nil (laid d log)))
-              (subst (λ o. OutboxStandsAfter o (first (sent_of log) (laid d log)) (drop (sent_of log) (laid d log))) (sym outbox) has.outbox);
+              subst (λ o. OutboxStandsAfter o (sent_units d log) (waits d log)) (sym outbox) has.outbox;
           channels = channels-changed take (opened log) (λ k q. deeds_of d q k log) (λ k q. deeds_of d q k log) a b c x y changes (λ k q other. refl) here has.channels;
           out = out-changed take (λ k q. is_out q k log) (λ k q. is_out q k (CameBack m c past ∷ log)) a b c x y changes
               (λ k q other. ap (λ e. has_part q k log && not e) (elsewhere m q c k (is_back q k log) (λ e. other (sym e)))) out has.out;
@@ -274,7 +272,7 @@ module _ {S E T F : Type 0} (send : SendGhosts S E) (ring : EndGhosts E) (take :
             let part = has.older s there in
             let out = stands.has.out c x was in
             let of_part : number_of x.older ≡ Some f.number = ap (λ (o : Option (ShareState T)). number_of o) there ∙ ap Some (sym number) in (
-              note-some w.account account answer f notes at (record { past = past; deeds = deeds_of d f.number c log }) is_past (intake f at log stands) (entries_of d log) (λ l. 0) stands.has.account,
+              note-some w.account account answer f notes at (record { past = past; deeds = deeds_of d f.number c log }) is_past (intake f at log stands) (entries_of d log) (late_of d log) stands.has.account,
               record {
                 there = omega (arith, part.0.there, number);
                 once = out-back f.number c log (out.older f.number of_part);
@@ -356,7 +354,7 @@ module _ {S E T F : Type 0} (send : SendGhosts S E) (ring : EndGhosts E) (take :
             let out = stands.has.out c x was in
             let off = ended log stands in
             let of_part : number_of x.newer ≡ Some f.number = ap (λ (o : Option (ShareState T)). number_of o) there ∙ ap Some (sym number) in (
-              note-some w.account account answer f notes at (record { past = past; deeds = deeds_of d f.number c log }) is_past (intake f at log stands) (entries_of d log) (λ l. 0) stands.has.account,
+              note-some w.account account answer f notes at (record { past = past; deeds = deeds_of d f.number c log }) is_past (intake f at log stands) (entries_of d log) (late_of d log) stands.has.account,
               record {
                 there = omega (arith, part.there, number);
                 once = out-back f.number c log (out.newer f.number of_part);

@@ -15,7 +15,7 @@ use Rattle.slave.specs.Hearing.{FindsNoPlaces, GoesBy, Hears, most_before, HasNo
 use Rattle.session.specs.declared.profile.Profile.{Profile}
 use Rattle.slave.specs.Inner.{Answers, PartsGoBy, counting, AreAsOpened, HasOther, HasParts, IsOfOne, LaysReply, Prepares, SlaveStarted, StartsInVain, WantsPlaces}
 use Rattle.session_account.specs.Accounts.{AccountStandsAfter}
-use Rattle.slave.specs.Log.{Act, Heard, Refused, entries_of, laid, past_of, reply_laid, sent_of}
+use Rattle.slave.specs.Log.{Act, Heard, Refused, entries_of, late_of, past_of, reply_laid, sent_units, waits}
 use Rattle.slave.specs.Standing.{PartsStandAfter, SlaveState, StartsOther, StartsWell}
 use Rattle.slave.proofs.AnsweringLemmas.{reply-laid}
 use Rattle.slave.proofs.StartLemmas.{starts-list}
@@ -162,16 +162,15 @@ module _ {S T F : Type 0} (take : TakeGhosts T F) where
                   ),
                   has.is_log,
                 );
-                sent = omega (arith, has.sent, length-append (laid d before) (reply_laid reply));
                 profile = ap (λ (s : SessionState). s.profile) (session ∙ same);
                 session = subst (λ s. SessionStandsAfter s (past_of d before)) (sym session) has.session;
-                outbox = reply-laid k.outbox b.outbox reply (sent_of before) (laid d before) lays has.sent has.outbox;
+                outbox = reply-laid k.outbox b.outbox reply (sent_units d before) (waits d before) lays has.outbox;
                 channels = λ c ch at. has.channels c ch (ap (λ xs. slice_get xs c) (sym channels) ∙ at);
                 out = λ c ch at. has.out c ch (ap (λ xs. slice_get xs c) (sym channels) ∙ at);
                 opens = λ c ch at. has.opens c ch (ap (λ xs. slice_get xs c) (sym channels) ∙ at);
                 many = ap length channels ∙ has.many;
                 plan = ap (λ (s : SlaveState S T). s.plan) rest ∙ has.plan;
-                account = subst (λ x. AccountStandsAfter x (entries_of d before) (λ l. 0)) (sym (ap (λ (s : SlaveState S T). s.account) rest)) has.account;
+                account = subst (λ x. AccountStandsAfter x (entries_of d before) (late_of d before)) (sym (ap (λ (s : SlaveState S T). s.account) rest)) has.account;
                 number = ap (λ (s : SlaveState S T). s.number) rest ∙ has.number;
               };
               ended = λ none c ch at. was.ended none c ch (ap (λ xs. slice_get xs c) (sym channels) ∙ at);

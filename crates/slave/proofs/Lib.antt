@@ -32,3 +32,5 @@ pub mod NewLemmas
 pub mod FinishingLemmas
 pub mod WeightLemmas
 pub mod RoundLemmas
+pub mod WaitsLemmas
+pub mod DiscardingLemmas

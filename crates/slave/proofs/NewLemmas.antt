@@ -48,15 +48,14 @@ module _ {S T F : Type 0} (take : TakeGhosts T F) where
   -- it stands after nothing
   pub new-stands : (d : Profile) (s : SessionState) (o : OutboxState) (channels : List (ChannelState S T)) (plan : List Configuration) (account : List Totals) (n : ℕ) → AccountStandsAfter account [] (λ l. 0) → plan ≡ [] → s.profile ≡ d → SessionStandsAfter s new_past → OutboxStandsAfter o [] []
       → channels ≡ replicate n no_measurement → n ≡ length d.events.items
-      → SlaveStandsAfter take d (record { session = s; outbox = o; channels = channels; plan = plan; number = 0; account = account; acts = 0 }) []
+      → SlaveStandsAfter take d (record { session = s; outbox = o; channels = channels; plan = plan; number = 0; account = account; acts = 0; next = 0 }) []
   new-stands d s o channels plan account n fresh none profile session outbox all many =
       let is : (c : ℕ) (ch : ChannelState S T) → slice_get channels c ≡ Some ch → ch ≡ no_measurement = λ c ch at. each-is n no_measurement ch c (ap (λ xs. slice_get xs c) (sym all) ∙ at) in
-      let parts : PartsStandAfter take d (record { session = s; outbox = o; channels = channels; plan = plan; number = 0; account = account; acts = 0 }) [] =
+      let parts : PartsStandAfter take d (record { session = s; outbox = o; channels = channels; plan = plan; number = 0; account = account; acts = 0; next = 0 }) [] =
       record {
         has = record {
           few = omega arith;
           is_log = tt;
-          sent = omega arith;
           profile = profile;
           session = session;
           outbox = outbox;

@@ -18,7 +18,7 @@ use Rattle.session.specs.Profiles.{lists_of}
 use Rattle.session.specs.Starts.{is_on, is_on_after}
 use Rattle.session.specs.declared.event_channel.EventChannel.{EventChannel}
 use Rattle.session.specs.declared.profile.Profile.{Profile}
-use Rattle.slave.specs.Log.{Act, CameBack, Heard, HungUp, Opened, Refused, Sent, Took, opened, past_of}
+use Rattle.slave.specs.Log.{Act, CameBack, Discarded, Heard, HungUp, Opened, Refused, Sent, Took, opened, past_of}
 use Rattle.slave.specs.Openings.{IsOpeningAfter, capacities_in, past_at, plan_after, ready_plans}
 use Rattle.slave.specs.Standing.{IsLog, NoneRuns}
 use Rattle.slave.proofs.DeedLemmas.{opened-more}
@@ -54,8 +54,9 @@ none-ran d m (Opened at ∷ log) is there =
     ]
 none-ran d m (Took n c x ∷ log) is there = none-ran d m log is.2 there
 none-ran d m (CameBack n c past ∷ log) is there = none-ran d m log is.1 there
-none-ran d m (Sent n ∷ log) is there = none-ran d m log is there
+none-ran d m (Sent n ∷ log) is there = none-ran d m log is.1 there
 none-ran d m (HungUp ∷ log) is there = none-ran d m log is there
+none-ran d m (Discarded ∷ log) is there = none-ran d m log is there
 
 -- the same of the same numbers
 filtered-from : {X : Type 0} (f g : ℕ → X) (p q : ℕ → Bool) (a n : ℕ) → ((l : ℕ) → l < a + n → p l ≡ q l) → ((l : ℕ) → l < a + n → f l ≡ g l)

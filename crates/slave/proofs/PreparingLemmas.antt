@@ -23,7 +23,7 @@ use Rattle.slave.proofs.PlanLemmas.{as-opened, is-same, just-opened}
 use Rattle.session.specs.Profiles.{lists_of}
 use Rattle.xcp_base.specs.declared.err_code.ErrCode.TheVariants.{CmdBusy, MemoryOverflow, Sequence}
 use Rattle.slave.specs.Inner.{AreSets, Busy, HasParts, HasRoom, Idle, IsBusy, IsPlaceRefusal, LooksAtAll, OpensAll, OpensInVain, OpensNone, Prepares, SlaveStarted, StartsInVain, StartsLists, WantsRoom, AreJustOut}
-use Rattle.slave.specs.Log.{Act, Opened, deeds_of, entries_of, is_out, laid, opened, past_of, sent_of}
+use Rattle.slave.specs.Log.{Act, Opened, deeds_of, entries_of, is_out, late_of, opened, past_of, sent_units, waits}
 use Rattle.slave.specs.Standing.{NoneRuns, SlaveHas, PartsStandAfter, SlaveState, number_of}
 use Rattle.slave.proofs.ChannelLemmas.{channel-ends, takes-ended}
 use Rattle.slave.proofs.LogLemmas.{ties}

@@ -62,13 +62,13 @@ module _ {T F : Type 0} (take : TakeGhosts T F) where
   }
 
   -- nothing is known once nothing was found
-  empty-of : (u v : Option (ShareState T)) (o p : OutboxState) (step : Step) → TakesOf take u v o p step → step ≡ Nothing
+  empty-of : (c : ℕ) (u v : Option (ShareState T)) (o p : OutboxState) (step : Step) → TakesOf take c u v o p step → step ≡ Nothing
       → (part : ShareState T) → v ≡ Some part → take.known part.intake.end ≡ []
-  empty-of None None o p step takes none part is = absurd (none_some part is)
-  empty-of None (Some t) o p step takes none part is = elim takes [ ]
-  empty-of (Some s) None o p step takes none part is = elim takes [ ]
-  empty-of (Some s) (Some t) o p step takes none part is =
-      let item = subst (λ z. TakesItem take s.intake t.intake o p s.number z) none takes.1 in
+  empty-of c None None o p step takes none part is = absurd (none_some part is)
+  empty-of c None (Some t) o p step takes none part is = elim takes [ ]
+  empty-of c (Some s) None o p step takes none part is = elim takes [ ]
+  empty-of c (Some s) (Some t) o p step takes none part is =
+      let item = subst (λ z. TakesItem take s.intake t.intake o p s.number c z) none takes.1 in
       subst (λ (q : ShareState T). take.known q.intake.end ≡ []) (some_inj t part is) item.1
 
   -- the sample that found no room
@@ -80,14 +80,14 @@ module _ {T F : Type 0} (take : TakeGhosts T F) where
     passes : Passes take part.intake sample.list
     no_room : HasNoRoom p sample
 
-  held-of : (u v : Option (ShareState T)) (o p : OutboxState) (step : Step) → TakesOf take u v o p step → step ≡ Full → IsHeld v p
-  held-of None None o p step takes full = absurd (not-full (sym takes.0 ∙ full)) where
+  held-of : (c : ℕ) (u v : Option (ShareState T)) (o p : OutboxState) (step : Step) → TakesOf take c u v o p step → step ≡ Full → IsHeld v p
+  held-of c None None o p step takes full = absurd (not-full (sym takes.0 ∙ full)) where
     not-full : Nothing ≡ Full → ⊥
     not-full e = cc
-  held-of None (Some t) o p step takes full = elim takes [ ]
-  held-of (Some s) None o p step takes full = elim takes [ ]
-  held-of (Some s) (Some t) o p step takes full =
-      let (sample, looked, next, passes, room, out) = subst (λ z. TakesItem take s.intake t.intake o p s.number z) full takes.1 in
+  held-of c None (Some t) o p step takes full = elim takes [ ]
+  held-of c (Some s) None o p step takes full = elim takes [ ]
+  held-of c (Some s) (Some t) o p step takes full =
+      let (sample, looked, next, passes, room, out) = subst (λ z. TakesItem take s.intake t.intake o p s.number c z) full takes.1 in
       record {
         part = t;
         sample = sample;
@@ -100,7 +100,7 @@ module _ {T F : Type 0} (take : TakeGhosts T F) where
 module _ {S T F : Type 0} (take : TakeGhosts T F) where
   -- one look at the newest ring of an event channel
   pub looks-once : (v w : SlaveState S T) (xs : List (ChannelState S T)) (o : OutboxState) (c n : ℕ) (step : Step) → w ≡ v → n ≡ acts_of step → c < length w.channels
-      → IsOnlyAt (TakesFromNewer take w.outbox o step) c w.channels xs → LooksOnce take v (record w { outbox = o; channels = xs; acts = w.acts + n }) c step
+      → IsOnlyAt (TakesFromNewer take c w.outbox o step) c w.channels xs → LooksOnce take v (record w { outbox = o; channels = xs; acts = w.acts + n }) c step
   looks-once v w xs o c n step same is_n below only =
       let (x, was) = some-at w.channels c below in
       let (y, is) = some-at xs c (omega (arith, below, only.as_many)) in
@@ -109,9 +109,9 @@ module _ {S T F : Type 0} (take : TakeGhosts T F) where
       subst (λ (z : SlaveState S T). LooksOnce take z b c step) same
       (record {
         nothing = λ none. inr (λ state part at part_is.
-            empty-of take x.newer y.newer w.outbox o step one.takes none part (ap (λ (z : ChannelState S T). z.newer) (some_inj y state (sym is ∙ at)) ∙ part_is));
+            empty-of take c x.newer y.newer w.outbox o step one.takes none part (ap (λ (z : ChannelState S T). z.newer) (some_inj y state (sym is ∙ at)) ∙ part_is));
         full = λ full.
-            let held = held-of take x.newer y.newer w.outbox o step one.takes full in
+            let held = held-of take c x.newer y.newer w.outbox o step one.takes full in
             record {
               state = y;
               part = held.part;
@@ -125,6 +125,19 @@ module _ {S T F : Type 0} (take : TakeGhosts T F) where
         others = only.others;
         counted = ap (λ k. w.acts + k) is_n;
       })
+
+  -- the same sample finds no room, wherever the next look begins
+  pub held-next : (s : SlaveState S T) (c k : ℕ) → IsHeldUp take s c → IsHeldUp take (record s { next = k }) c
+  held-next s c k held = record {
+    state = held.state;
+    part = held.part;
+    sample = held.sample;
+    state_is = held.state_is;
+    part_is = held.part_is;
+    next = held.next;
+    passes = held.passes;
+    no_room = held.no_room;
+  }
 
   -- a slave that is spent looks at nothing
   pub looks-not : (a : SlaveState S T) (c : ℕ) → is_spent a ≡ true → LooksOnce take a a c Nothing
@@ -168,14 +181,16 @@ module _ {S T F : Type 0} (take : TakeGhosts T F) where
             ]
 
   -- a round that took nothing found nothing at any of its rings
-  pub round-empty : (f b : SlaveState S T) (begin c : ℕ) → length b.channels ≤ c → IsQuiet f b (min begin (length b.channels)) c → b.acts ≡ f.acts → EndsRound take f b begin Empty
-  round-empty f b begin c all quiet same =
-      elim (quiet same) [
-        | inl spent ↦ inl spent
-        | inr none ↦ inr (λ k low state part at is.
-            let within = slice_get_within b.channels k state at in
-            none k (omega (arith, low)) (omega (arith, within, all)) state part at is)
-      ]
+  pub round-empty : (f b : SlaveState S T) (begin c : ℕ) → length b.channels ≤ c → IsQuiet f b (min begin (length b.channels)) c → b.acts ≡ f.acts → b.next ≡ 0 → EndsRound take f b begin Empty
+  round-empty f b begin c all quiet same first = (
+    first,
+    elim (quiet same) [
+      | inl spent ↦ inl spent
+      | inr none ↦ inr (λ k low state part at is.
+          let within = slice_get_within b.channels k state at in
+          none k (omega (arith, low)) (omega (arith, within, all)) state part at is)
+    ],
+  )
 
   -- a round that wasn't the last took something, but for the first one
   pub went-more : (f a b : SlaveState S T) (begin rounds : ℕ) (r : Round) → EndsRound take a b begin r → (r ≡ Took) ⊎ ((r ≡ Empty) × (0 < begin)) → f.acts ≤ a.acts → a.acts ≤ b.acts
@@ -183,7 +198,7 @@ module _ {S T F : Type 0} (take : TakeGhosts T F) where
   went-more f a b begin rounds r ends kind from grows went =
       elim kind [
         | inl took ↦
-            let more : a.acts + 3 ≤ b.acts = subst (EndsRound take a b begin) took ends in
+            let more : a.acts + 3 ≤ b.acts = (subst (EndsRound take a b begin) took ends).1 in
             elim went [
               | inl none ↦ omega (arith, none, from, grows)
               | inr w ↦ let so_far = w.1 in omega (arith, more, so_far)
@@ -195,6 +210,14 @@ module _ {S T F : Type 0} (take : TakeGhosts T F) where
             ]
       ]
 
+  -- and the next one begins at the first ring
+  pub next-first : (a b : SlaveState S T) (begin : ℕ) (r : Round) → EndsRound take a b begin r → (r ≡ Took) ⊎ ((r ≡ Empty) × (0 < begin)) → b.next ≡ 0
+  next-first a b begin r ends kind =
+      elim kind [
+        | inl took ↦ (subst (EndsRound take a b begin) took ends).0
+        | inr late ↦ (subst (EndsRound take a b begin) late.0 ends).0
+      ]
+
   -- and the last one looked through all
   pub through-last : (f a b : SlaveState S T) (begin : ℕ) (r : Round) → EndsRound take a b begin r → (r ≡ HeldUp) ⊎ ((r ≡ Empty) × (begin ≡ 0)) → LooksThrough take f b
   through-last f a b begin r ends kind =
@@ -202,16 +225,20 @@ module _ {S T F : Type 0} (take : TakeGhosts T F) where
         | inl held ↦ inl (subst (EndsRound take a b begin) held ends)
         | inr empty ↦
             let zero_begin = empty.1 in
-            elim (subst (EndsRound take a b begin) empty.0 ends) [
-              | inl spent ↦ inr (inr (inl spent))
-              | inr all ↦ inr (inl (λ c. all c (omega (arith, zero_begin))))
+            let (first, found) = subst (EndsRound take a b begin) empty.0 ends in
+            elim found [
+              | inl spent ↦ inr (first, inr (inl spent))
+              | inr all ↦ inr (first, inl (λ c. all c (omega (arith, zero_begin))))
             ]
       ]
 
   -- or there were 1,024 rounds
-  pub through-many : (f b : SlaveState S T) (begin rounds : ℕ) → 1024 ≤ rounds → (rounds ≡ 0) ⊎ ((begin ≡ 0) × (f.acts + 3 * (rounds - 1) ≤ b.acts)) → LooksThrough take f b
-  through-many f b begin rounds many went =
+  pub through-many : (f b : SlaveState S T) (begin rounds : ℕ) → 1024 ≤ rounds → (rounds ≡ 0) ⊎ ((begin ≡ 0) × (f.acts + 3 * (rounds - 1) ≤ b.acts)) → (rounds ≡ 0) ⊎ (b.next ≡ 0) → LooksThrough take f b
+  through-many f b begin rounds many went first =
       elim went [
         | inl none ↦ absurd (omega (arith, many, none))
-        | inr w ↦ let so_far = w.1 in inr (inr (inr (omega (arith, many, so_far))))
+        | inr w ↦ let so_far = w.1 in elim first [
+          | inl none ↦ absurd (omega (arith, many, none))
+          | inr at ↦ inr (at, inr (inr (omega (arith, many, so_far))))
+        ]
       ]

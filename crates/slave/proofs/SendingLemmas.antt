@@ -1,15 +1,14 @@
 -- What a slave stands after once something was sent.
 use Rattle.std.proofs.Common.{◌≡◌, ℕ, zero, suc, ◌+◌, ◌<◌, ◌≤◌, min, List, [], ◌∷◌, ◌++◌, append-nil, length, length-append, drop, take as first, slice_get, refl, sym, ap, ◌∙◌, subst, arith, inl, inr}
 use Rattle.std.proofs.lemmas.Bool.Decides.{leb_tells}
-use Rattle.std.proofs.lemmas.List.{drop-drop, length-drop, length-map}
-use Rattle.std.proofs.lemmas.List.Sums.{sum_by-cons}
+use Rattle.std.proofs.lemmas.List.{length-map}
 use Rattle.channel_ring.specs.declared.ends.TakeEnd.{Ghosts as TakeGhosts}
 use Rattle.session.specs.Standing.{SessionStandsAfter, SessionState}
 use Rattle.frame_outbox.specs.Outboxes.{Laid, OutboxState, unit_of}
 use Rattle.frame_outbox.specs.Outboxes.{StandsAfter as OutboxStandsAfter}
 use Rattle.slave.specs.Hearing.{GoesBy}
 use Rattle.slave.specs.Inner.{PartsGoBy}
-use Rattle.slave.specs.Log.{Act, Sent, laid, past_of, sending, sent_by, sent_of, entries_of}
+use Rattle.slave.specs.Log.{Act, Sent, entries_of, late_of, past_of, sending, sent_units, waits}
 use Rattle.session_account.specs.Accounts.{AccountStandsAfter}
 use Rattle.slave.specs.Standing.{PartsStandAfter, SlaveState}
 use Rattle.slave.specs.declared.limits.TheConstants.{MOST_ACTS, PER_PACKET}
@@ -19,7 +18,7 @@ take-none : {X : Type 0} (n : ℕ) → first {A = X} n [] ≡ []
 take-none zero = refl
 take-none (suc n) = refl
 
-take-whole : {X : Type 0} (n : ℕ) (xs : List X) → length xs ≤ n → first n xs ≡ xs
+pub take-whole : {X : Type 0} (n : ℕ) (xs : List X) → length xs ≤ n → first n xs ≡ xs
 take-whole n [] least = take-none n
 take-whole zero (x ∷ xs) least = absurd (omega (arith, least))
 take-whole (suc n) (x ∷ xs) least = ap (λ ys. x ∷ ys) (take-whole n xs (omega (arith, least)))
@@ -48,14 +47,6 @@ drop-min n m xs is =
       | inr w ↦ drop-whole n xs (omega (arith, w.1)) ∙ sym (drop-whole m xs (omega (arith, is, w.1)))
     ]
 
-take-plus : {X : Type 0} (k n : ℕ) (xs : List X) → first k xs ++ first n (drop k xs) ≡ first (n + k) xs
-take-plus zero n xs = let e : n ≡ n + 0 = omega arith in ap (λ m. first m xs) e
-take-plus (suc k) n [] = take-none n ∙ sym (take-none (n + suc k))
-take-plus (suc k) n (x ∷ xs) = let e : suc (n + k) ≡ n + suc k = omega arith in ap (λ ys. x ∷ ys) (take-plus k n xs) ∙ ap (λ m. first m (x ∷ xs)) e
-
-pub sent-more : (n : ℕ) (log : List Act) → sent_of (Sent n ∷ log) ≡ n + sent_of log
-sent-more n log = sum_by-cons sent_by (Sent n) log
-
 module _ {S T F : Type 0} (take : TakeGhosts T F) where
   -- the first of what waited was sent
   sent-stands : (a b : SlaveState S T) (shown n : ℕ) → n ≡ min shown (length a.outbox.units) → b ≡ record a { outbox = b.outbox }
@@ -64,34 +55,26 @@ module _ {S T F : Type 0} (take : TakeGhosts T F) where
   sent-stands a b shown n many rest moves = λ log few stands.
       let d = a.session.profile in
       let has = stands.has in
-      let k = sent_of log in
-      let xs = laid d log in
-      let waits = drop k xs in
-      let units : length a.outbox.units ≡ length waits = ap length has.outbox.units ∙ length-map waits unit_of in
-      let n_is : n ≡ min shown (length waits) = many ∙ ap (min shown) units in
-      let moved = moves (first k xs) waits has.outbox in
-      let sent_is : first k xs ++ first shown waits ≡ first (sent_of (Sent n ∷ log)) (xs ++ []) =
-      ap (λ ys. first k xs ++ ys) (take-min shown n waits n_is) ∙ take-plus k n xs
-      ∙ ap (λ m. first m xs) (sym (sent-more n log)) ∙ ap (first (sent_of (Sent n ∷ log))) (sym (append-nil xs)) in
-      let left_is : drop shown waits ≡ drop (sent_of (Sent n ∷ log)) (xs ++ []) =
-      drop-min shown n waits n_is ∙ drop-drop n k xs
-      ∙ ap (λ m. drop m xs) (omega (arith, sent-more n log)) ∙ ap (drop (sent_of (Sent n ∷ log))) (sym (append-nil xs)) in
+      let wait = waits d log in
+      let units : length a.outbox.units ≡ length wait = ap length has.outbox.units ∙ length-map wait unit_of in
+      let n_is : n ≡ min shown (length wait) = many ∙ ap (min shown) units in
+      let moved = moves (sent_units d log) wait has.outbox in
       let session = ap (λ (s : SlaveState S T). s.session) rest in
       let channels = ap (λ (s : SlaveState S T). s.channels) rest in
       record {
         has = record {
           few = omega (arith, few);
-          is_log = has.is_log;
-          sent = omega (arith, sent-more n log, has.sent, length-append xs [], length-drop k xs, n_is);
+          is_log = (omega (arith, n_is), has.is_log);
           profile = ap (λ (s : SessionState). s.profile) session;
           session = subst (λ s. SessionStandsAfter s (past_of d log)) (sym session) has.session;
-          outbox = subst (λ ys. OutboxStandsAfter b.outbox ys (drop (sent_of (Sent n ∷ log)) (xs ++ []))) sent_is (subst (λ ys. OutboxStandsAfter b.outbox (first k xs ++ first shown waits) ys) left_is moved);
+          outbox = subst (λ ys. OutboxStandsAfter b.outbox (sent_units d log ++ ys) (drop n wait)) (take-min shown n wait n_is)
+              (subst (λ ys. OutboxStandsAfter b.outbox (sent_units d log ++ first shown wait) ys) (drop-min shown n wait n_is) moved);
           channels = λ c ch at. has.channels c ch (ap (λ zs. slice_get zs c) (sym channels) ∙ at);
           out = λ c ch at. has.out c ch (ap (λ zs. slice_get zs c) (sym channels) ∙ at);
           opens = λ c ch at. has.opens c ch (ap (λ zs. slice_get zs c) (sym channels) ∙ at);
           many = ap length channels ∙ has.many;
           plan = ap (λ (s : SlaveState S T). s.plan) rest ∙ has.plan;
-          account = subst (λ x. AccountStandsAfter x (entries_of d log) (λ l. 0)) (sym (ap (λ (s : SlaveState S T). s.account) rest)) has.account;
+          account = subst (λ x. AccountStandsAfter x (entries_of d log) (late_of d log)) (sym (ap (λ (s : SlaveState S T). s.account) rest)) has.account;
           number = ap (λ (s : SlaveState S T). s.number) rest ∙ has.number;
         };
         ended = λ none c ch at. stands.ended none c ch (ap (λ zs. slice_get zs c) (sym channels) ∙ at);
@@ -99,7 +82,7 @@ module _ {S T F : Type 0} (take : TakeGhosts T F) where
 
   -- where the outbox alone changed, and it stands after the same
   outbox-alone : (a b : SlaveState S T) (log : List Act) → b ≡ record a { outbox = b.outbox }
-      → OutboxStandsAfter b.outbox (first (sent_of log) (laid a.session.profile log)) (drop (sent_of log) (laid a.session.profile log))
+      → OutboxStandsAfter b.outbox (sent_units a.session.profile log) (waits a.session.profile log)
       → PartsStandAfter take a.session.profile a log → PartsStandAfter take a.session.profile b log
   outbox-alone a b log rest outbox stands =
       let d = a.session.profile in
@@ -110,7 +93,6 @@ module _ {S T F : Type 0} (take : TakeGhosts T F) where
         has = record {
           few = has.few;
           is_log = has.is_log;
-          sent = has.sent;
           profile = ap (λ (s : SessionState). s.profile) session;
           session = subst (λ s. SessionStandsAfter s (past_of d log)) (sym session) has.session;
           outbox = outbox;
@@ -119,7 +101,7 @@ module _ {S T F : Type 0} (take : TakeGhosts T F) where
           opens = λ c ch at. has.opens c ch (ap (λ zs. slice_get zs c) (sym channels) ∙ at);
           many = ap length channels ∙ has.many;
           plan = ap (λ (s : SlaveState S T). s.plan) rest ∙ has.plan;
-          account = subst (λ x. AccountStandsAfter x (entries_of d log) (λ l. 0)) (sym (ap (λ (s : SlaveState S T). s.account) rest)) has.account;
+          account = subst (λ x. AccountStandsAfter x (entries_of d log) (late_of d log)) (sym (ap (λ (s : SlaveState S T). s.account) rest)) has.account;
           number = ap (λ (s : SlaveState S T). s.number) rest ∙ has.number;
         };
         ended = λ none c ch at. stands.ended none c ch (ap (λ zs. slice_get zs c) (sym channels) ∙ at);
@@ -131,8 +113,8 @@ module _ {S T F : Type 0} (take : TakeGhosts T F) where
       let d = a.session.profile in
       let box = stands.has.outbox in
       outbox-alone a b log rest
-      (subst (λ o. OutboxStandsAfter o (first (sent_of log) (laid d log)) (drop (sent_of log) (laid d log))) (sym same)
-      (record { contents = box.contents; counter = box.counter; waiting = box.waiting; units = box.units })) stands
+      (subst (λ o. OutboxStandsAfter o (sent_units d log) (waits d log)) (sym same)
+      (record { gone = box.gone; counter = box.counter; waiting = box.waiting; units = box.units })) stands
 
   -- nothing was sent
   sent-nothing : (a b : SlaveState S T) (shown n : ℕ) → n ≡ min shown (length a.outbox.units) → b ≡ record a { outbox = b.outbox }
@@ -141,13 +123,13 @@ module _ {S T F : Type 0} (take : TakeGhosts T F) where
   sent-nothing a b shown n many rest moves none = λ log few stands.
       let d = a.session.profile in
       let box = stands.has.outbox in
-      let k = sent_of log in
-      let waits = drop k (laid d log) in
-      let units : length a.outbox.units ≡ length waits = ap length box.units ∙ length-map waits unit_of in
-      let n_is : 0 ≡ min shown (length waits) = sym none ∙ many ∙ ap (min shown) units in
+      let wait = waits d log in
+      let sent = sent_units d log in
+      let units : length a.outbox.units ≡ length wait = ap length box.units ∙ length-map wait unit_of in
+      let n_is : 0 ≡ min shown (length wait) = sym none ∙ many ∙ ap (min shown) units in
       outbox-alone a b log rest
-      (subst (λ ys. OutboxStandsAfter b.outbox ys waits) (ap (λ ys. first k (laid d log) ++ ys) (take-min shown 0 waits n_is) ∙ append-nil (first k (laid d log)))
-      (subst (λ ys. OutboxStandsAfter b.outbox (first k (laid d log) ++ first shown waits) ys) (drop-min shown 0 waits n_is) (moves (first k (laid d log)) waits box))) stands
+      (subst (λ ys. OutboxStandsAfter b.outbox ys wait) (ap (λ ys. sent ++ ys) (take-min shown 0 wait n_is) ∙ append-nil sent)
+      (subst (λ ys. OutboxStandsAfter b.outbox (sent ++ first shown wait) ys) (drop-min shown 0 wait n_is) (moves sent wait box))) stands
 
   -- so many of what waited, if these are any
   sends : (a b : SlaveState S T) (shown n : ℕ) → n ≡ min shown (length a.outbox.units) → b ≡ record a { outbox = b.outbox } → a.acts < MOST_ACTS + PER_PACKET

@@ -29,7 +29,7 @@ use Rattle.slave_channel.specs.Ordering.{starts_noted, starts_sent}
 use Rattle.slave_channels.specs.Calls.{CanStartAll, Ends, HasSome, Looks, OpensIfAny, StartsAt}
 use Rattle.slave_channels.specs.Each.{IsEach}
 use Rattle.slave.specs.Inner.{AreSets, HasParts, LooksAtAll, OpensAll, OpensBeside, OpensInVain, SlaveStarted, started}
-use Rattle.slave.specs.Log.{Act, Opened, deeds_of, entries_of, has_part, is_opening, is_out, laid, opened, past_of, sent_of}
+use Rattle.slave.specs.Log.{Act, Opened, deeds_of, entries_of, has_part, is_opening, is_out, late_of, opened, past_of, sent_units, waits}
 use Rattle.slave.specs.Openings.{IsOpenedAfter, capacities_of, past_at}
 use Rattle.slave.specs.Standing.{AreOpenedAfter, ChannelHas, HasEnded, IsOut, NoneRuns, SlaveHas, PartsStandAfter, SlaveState, number_of, AreParts, HasReady}
 use Rattle.slave.proofs.ChannelLemmas.{channel-looks, channel-ordered, channel-same, goes-none, takes-looked}
@@ -51,13 +51,6 @@ few-opened log = count_by-le-length is_opening log
 
 one-more : (n k : ℕ) → n ≤ k → 32 * (1 + k) ≤ MAX_TAKEN → (n + 1) % 18446744073709551616 ≡ n + 1
 one-more n k least few = omega (arith, least, few)
-
-same-outbox : {S T : Type 0} (d : Profile) (a b : SlaveState S T) (log : List Act) → b.outbox ≡ a.outbox
-    → OutboxStandsAfter a.outbox (first (sent_of log) (laid d log)) (drop (sent_of log) (laid d log))
-    → OutboxStandsAfter b.outbox (first (sent_of log) (laid d log ++ [])) (drop (sent_of log) (laid d log ++ []))
-same-outbox d a b log same stands =
-    subst (λ xs. OutboxStandsAfter b.outbox (first (sent_of log) xs) (drop (sent_of log) xs)) (sym (append-nil (laid d log)))
-    (subst (λ o. OutboxStandsAfter o (first (sent_of log) (laid d log)) (drop (sent_of log) (laid d log))) (sym same) stands)
 
 none-shown : (s : SessionState) (past : Past) → SessionStandsAfter s past → NoneRuns past → (l : ℕ) → l < MAX_LISTS → shows_running s.store l ≡ false
 none-shown s past stands none l below = sym (active_stands s.store past.calls l stands.store) ∙ none l below
@@ -83,16 +76,15 @@ module _ {S E T F : Type 0} (send : SendGhosts S E) (ring : EndGhosts E) (take :
   opened-rest d a b log at few none has rest as_many channels out opens = record {
     few = omega (arith, few);
     is_log = (none, has.is_log);
-    sent = subst (λ (xs : List Laid). sent_of log ≤ length xs) (sym (append-nil (laid d log))) has.sent;
     profile = ap (λ (s : SessionState). s.profile) rest.session ∙ has.profile;
     session = subst (λ s. SessionStandsAfter s (past_of d log)) (sym rest.session) has.session;
-    outbox = same-outbox d a b log rest.outbox has.outbox;
+    outbox = subst (λ o. OutboxStandsAfter o (sent_units d log) (waits d log)) (sym rest.outbox) has.outbox;
     channels = λ c ch there. subst (λ n. ChannelHas take n (λ m. deeds_of d m c log) ch) (omega (arith, opened-more at log)) (channels c ch there);
     out = out;
     opens = opens;
     many = as_many ∙ has.many;
     plan = rest.plan ∙ plan-by d a.session (past_of d log) (rest.lists ∙ ap lists_of has.profile) has.session;
-    account = subst (λ x. AccountStandsAfter x (entries_of d log) (λ l. 0)) (sym rest.account) has.account;
+    account = subst (λ x. AccountStandsAfter x (entries_of d log) (late_of d log)) (sym rest.account) has.account;
     number = rest.number ∙ ap (λ n. (n + 1) % 18446744073709551616) has.number ∙ one-more (opened log) (length log) (few-opened log) few ∙ omega (arith, opened-more at log);
   }
 
@@ -287,10 +279,9 @@ module _ {S T F : Type 0} (take : TakeGhosts T F) where
       record {
         few = has.few;
         is_log = has.is_log;
-        sent = has.sent;
         profile = ap (λ (s : SessionState). s.profile) session ∙ has.profile;
         session = subst (λ s. SessionStandsAfter s (past_of d log)) (sym session) has.session;
-        outbox = subst (λ o. OutboxStandsAfter o (first (sent_of log) (laid d log)) (drop (sent_of log) (laid d log))) (sym outbox) has.outbox;
+        outbox = subst (λ o. OutboxStandsAfter o (sent_units d log) (waits d log)) (sym outbox) has.outbox;
         channels = λ c ch at.
             let old = get_or a.channels c ch in
             let was = was-there a.channels b.channels c ch looks.channels.as_many at in
@@ -299,7 +290,7 @@ module _ {S T F : Type 0} (take : TakeGhosts T F) where
         opens = opened-each (λ c. Looks) a.channels b.channels d (λ m. past_at d m log) looks.channels (λ c x y l. keeps-looks x y l) has.opens;
         many = looks.channels.as_many ∙ has.many;
         plan = ap (λ (s : SlaveState S T). s.plan) looks.rest ∙ has.plan;
-        account = subst (λ x. AccountStandsAfter x (entries_of d log) (λ l. 0)) (sym (ap (λ (s : SlaveState S T). s.account) looks.rest)) has.account;
+        account = subst (λ x. AccountStandsAfter x (entries_of d log) (late_of d log)) (sym (ap (λ (s : SlaveState S T). s.account) looks.rest)) has.account;
         number = ap (λ (s : SlaveState S T). s.number) looks.rest ∙ has.number;
       }
 
@@ -325,10 +316,9 @@ module _ {S T F : Type 0} (take : TakeGhosts T F) where
       record {
         few = has.few;
         is_log = has.is_log;
-        sent = has.sent;
         profile = ap (λ (s : SessionState). s.profile) session ∙ has.profile;
         session = subst (λ s. SessionStandsAfter s (past_of d log)) (sym session) has.session;
-        outbox = subst (λ o. OutboxStandsAfter o (first (sent_of log) (laid d log)) (drop (sent_of log) (laid d log))) (sym outbox) has.outbox;
+        outbox = subst (λ o. OutboxStandsAfter o (sent_units d log) (waits d log)) (sym outbox) has.outbox;
         channels = λ c ch at.
             let old = get_or a.channels c ch in
             let was = was-there a.channels b.channels c ch starts.as_many at in
@@ -361,7 +351,7 @@ module _ {S T F : Type 0} (take : TakeGhosts T F) where
             opened-kept d (λ m. past_at d m log) c old ch (keeps-orders take old ch _ _ (starts.each c old ch was at set there)) (has.opens c old was);
         many = starts.as_many ∙ has.many;
         plan = ap (λ (s : SlaveState S T). s.plan) rest ∙ has.plan;
-        account = subst (λ x. AccountStandsAfter x (entries_of d log) (λ l. 0)) (sym (ap (λ (s : SlaveState S T). s.account) rest)) has.account;
+        account = subst (λ x. AccountStandsAfter x (entries_of d log) (late_of d log)) (sym (ap (λ (s : SlaveState S T). s.account) rest)) has.account;
         number = ap (λ (s : SlaveState S T). s.number) rest ∙ has.number;
       } where
         is-false : (b : Bool) → (b ≡ true → ⊥) → b ≡ false
@@ -403,7 +393,6 @@ module _ {S T F : Type 0} (take : TakeGhosts T F) where
   starts-no-list d a log lists none has = record {
     few = has.few;
     is_log = has.is_log;
-    sent = has.sent;
     profile = has.profile;
     session = has.session;
     outbox = has.outbox;

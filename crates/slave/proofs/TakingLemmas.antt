@@ -26,20 +26,20 @@ use Rattle.session_account.specs.Accounts.{AccountStandsAfter}
 use Rattle.slave_channels.specs.Each.{IsOnlyAt}
 use Rattle.slave.specs.Hearing.{GoesBy}
 use Rattle.slave.specs.Inner.{PartsGoBy, acts_of, counting}
-use Rattle.slave.specs.Log.{Act, Took, deeds_of, entries_of, is_out, laid, laid_by, opened, past_of, sample_laid, sent_of}
+use Rattle.slave.specs.Log.{Act, Took, deeds_of, entries_of, is_out, laid_by, late_of, opened, past_of, sample_laid, sent_units, waits}
 use Rattle.slave.specs.Standing.{ChannelHas, HasEnded, IsOut, PartsStandAfter, SlaveStandsAfter, SlaveState, number_of, AreOpenedAfter, HasPacketsIfPasses}
 use Rattle.slave.proofs.OutLemmas.{KeepsParts, keeps-same, out-kept, out-same, some-at, opened-kept, opened_of}
 use Rattle.session.specs.declared.profile.Profile.{Profile}
 use Rattle.slave.specs.Openings.{past_at}
 use Rattle.slave.specs.Taking.{TakesItems, is_take}
-use Rattle.slave.proofs.AnsweringLemmas.{more-laid}
+use Rattle.slave.proofs.WaitsLemmas.{waits-took}
 use Rattle.slave.proofs.ChannelLemmas.{channel-same}
 use Rattle.frame_outbox.specs.declared.unit.Origin.TheVariants as origin
 use Rattle.std.specs.List.{list_all}
 use Rattle.std.proofs.lemmas.List.Folds.{list_all-append}
 use Rattle.slave.proofs.DeedLemmas.{deeds-few}
 use Rattle.slave.proofs.HearingLemmas.{assoc}
-use Rattle.slave.proofs.WeightLemmas.{counted, recounted}
+use Rattle.slave.proofs.WeightLemmas.{counted, goes-next, recounted}
 use Rattle.slave.specs.declared.limits.TheConstants.{MOST_ACTS, PER_PACKET}
 
 some_inj : {X : Type 0} (x y : X) → Some x ≡ Some y → x ≡ y
@@ -144,10 +144,9 @@ module _ {S T F : Type 0} (take : TakeGhosts T F) where
   -- what waits behind an act, where what was there stands so
   abbrev pub LaysBehind : SlaveState S T → SlaveState S T → Act → ℕ → IntakeState T → Type 0
   LaysBehind a b act c i =
-      (log : List Act) → ((m : ℕ) (x : Item) → act ≡ Took m c x → StandsAfter take i (deeds_of a.session.profile m c log)) → sent_of log ≤ length (laid a.session.profile log)
-      → OutboxStandsAfter a.outbox (first (sent_of log) (laid a.session.profile log)) (drop (sent_of log) (laid a.session.profile log))
-      → OutboxStandsAfter b.outbox (first (sent_of log) (laid a.session.profile log ++ laid_by a.session.profile act log))
-      (drop (sent_of log) (laid a.session.profile log ++ laid_by a.session.profile act log))
+      (log : List Act) → ((m : ℕ) (x : Item) → act ≡ Took m c x → StandsAfter take i (deeds_of a.session.profile m c log))
+      → OutboxStandsAfter a.outbox (sent_units a.session.profile log) (waits a.session.profile log)
+      → OutboxStandsAfter b.outbox (sent_units a.session.profile log) (waits a.session.profile log ++ laid_by a.session.profile act log)
 
   -- the channels behind a change at one of them
   pub channels-changed : (n : ℕ) (f g : ℕ → ℕ → List Deed) (a b : SlaveState S T) (c : ℕ) (x y : ChannelState S T) → ChangesAt a b c x y
@@ -180,7 +179,7 @@ module _ {S T F : Type 0} (take : TakeGhosts T F) where
     pub keeps : KeepsParts x y
     pub out : (out : ℕ → Bool) → IsOut out x → out m ≡ true
 
-  newer-part : (x y : ChannelState S T) (s t : ShareState T) → x.newer ≡ Some s → y ≡ record x { newer = y.newer } → y.newer ≡ Some t → t.number ≡ s.number → t.opened ≡ s.opened → IsPart x y s.number s.intake t.intake
+  pub newer-part : (x y : ChannelState S T) (s t : ShareState T) → x.newer ≡ Some s → y ≡ record x { newer = y.newer } → y.newer ≡ Some t → t.number ≡ s.number → t.opened ≡ s.opened → IsPart x y s.number s.intake t.intake
   newer-part x y s t was rest is same opened = record {
     part = λ n f has. ((has.newer s was).there, (has.newer s was).stands);
     goes = λ n f g stands others runs has. channel-taken n f g x y s t was rest is same stands others runs has;
@@ -193,7 +192,7 @@ module _ {S T F : Type 0} (take : TakeGhosts T F) where
     out = λ out is. is.newer s.number (ap (λ (o : Option (ShareState T)). number_of o) was);
   }
 
-  older-part : (x y : ChannelState S T) (s t : ShareState T) → x.older ≡ Some s → y ≡ record x { older = y.older } → y.older ≡ Some t → t.number ≡ s.number → t.opened ≡ s.opened → IsPart x y s.number s.intake t.intake
+  pub older-part : (x y : ChannelState S T) (s t : ShareState T) → x.older ≡ Some s → y ≡ record x { older = y.older } → y.older ≡ Some t → t.number ≡ s.number → t.opened ≡ s.opened → IsPart x y s.number s.intake t.intake
   older-part x y s t was rest is same opened = record {
     part = λ n f has. ((has.older s was).0.there, (has.older s was).0.stands);
     goes = λ n f g stands others runs has. channel-taken-older n f g x y s t was rest is same stands others runs has;
@@ -260,17 +259,17 @@ module _ {S T F : Type 0} (take : TakeGhosts T F) where
             },
             has.is_log,
           );
-          sent = omega (arith, has.sent, length-append (laid d log) (laid_by d (Took m c item) log));
           profile = ap (λ (z : SessionState). z.profile) changes.session;
           session = subst (λ z. SessionStandsAfter z (past_of d log)) (sym changes.session) has.session;
-          outbox = lays log (λ k z e. subst (λ q. StandsAfter take i (deeds_of d q c log)) (number_of e) before) has.sent has.outbox;
+          outbox = subst (λ xs. OutboxStandsAfter b.outbox (sent_units d log) xs) (sym (waits-took d m c item log))
+              (lays log (λ k z e. subst (λ q. StandsAfter take i (deeds_of d q c log)) (number_of e) before) has.outbox);
           channels = channels-changed n (λ k q. deeds_of d q k log) (λ k q. deeds_of d q k (Took m c item ∷ log)) a b c x y changes
               (λ k q other. took-else m q c k (TookItem item) (deeds_of d q k log) (λ e z. other (sym z))) here has.channels;
           out = out-changed (λ k q. is_out q k log) (λ k q. is_out q k log) a b c x y changes (λ k q other. refl) (out-kept (λ q. is_out q c log) x y part.keeps (has.out c x changes.was)) has.out;
           opens = opened-changed d (λ q. past_at d q log) a b c x y changes (opened-kept d (λ q. past_at d q log) c x y part.keeps (has.opens c x changes.was)) has.opens;
           many = changes.as_many ∙ has.many;
           plan = changes.plan ∙ has.plan;
-          account = subst (λ z. AccountStandsAfter z (entries_of d log) (λ l. 0)) (sym account) has.account;
+          account = subst (λ z. AccountStandsAfter z (entries_of d log) (late_of d log)) (sym account) has.account;
           number = changes.number ∙ has.number;
         };
         ended = ended-changed a b c x y (past_of d log) changes stands.ended;
@@ -288,17 +287,16 @@ module _ {S T F : Type 0} (take : TakeGhosts T F) where
         has = record {
           few = has.few;
           is_log = has.is_log;
-          sent = has.sent;
           profile = ap (λ (z : SessionState). z.profile) changes.session;
           session = subst (λ z. SessionStandsAfter z (past_of d log)) (sym changes.session) has.session;
-          outbox = subst (λ o. OutboxStandsAfter o (first (sent_of log) (laid d log)) (drop (sent_of log) (laid d log))) (sym outbox) has.outbox;
+          outbox = subst (λ o. OutboxStandsAfter o (sent_units d log) (waits d log)) (sym outbox) has.outbox;
           channels = channels-changed (opened log) (λ k m. deeds_of d m k log) (λ k m. deeds_of d m k log) a b c x y changes (λ k m other. refl)
               (same (opened log) (λ m. deeds_of d m c log) (known log stands) (has.channels c x changes.was)) has.channels;
           out = out-changed (λ k q. is_out q k log) (λ k q. is_out q k log) a b c x y changes (λ k q other. refl) (out-kept (λ q. is_out q c log) x y keeps (has.out c x changes.was)) has.out;
           opens = opened-changed d (λ q. past_at d q log) a b c x y changes (opened-kept d (λ q. past_at d q log) c x y keeps (has.opens c x changes.was)) has.opens;
           many = changes.as_many ∙ has.many;
           plan = changes.plan ∙ has.plan;
-          account = subst (λ z. AccountStandsAfter z (entries_of d log) (λ l. 0)) (sym account) has.account;
+          account = subst (λ z. AccountStandsAfter z (entries_of d log) (late_of d log)) (sym account) has.account;
           number = changes.number ∙ has.number;
         };
         ended = ended-changed a b c x y (past_of d log) changes stands.ended;
@@ -307,18 +305,18 @@ module _ {S T F : Type 0} (take : TakeGhosts T F) where
   -- what waits stays as it is where nothing is laid out, and gains a sample where one passes
   lays-none : (a b : SlaveState S T) (act : Act) (c : ℕ) (i : IntakeState T) → b.outbox ≡ a.outbox
       → ((log : List Act) → ((m : ℕ) (x : Item) → act ≡ Took m c x → StandsAfter take i (deeds_of a.session.profile m c log)) → laid_by a.session.profile act log ≡ []) → LaysBehind a b act c i
-  lays-none a b act c i same none = λ log there few stands.
+  lays-none a b act c i same none = λ log there stands.
       let d = a.session.profile in
-      let all : laid d log ++ laid_by d act log ≡ laid d log = ap (λ xs. laid d log ++ xs) (none log there) ∙ append-nil (laid d log) in
-      subst (λ xs. OutboxStandsAfter b.outbox (first (sent_of log) xs) (drop (sent_of log) xs)) (sym all)
-      (subst (λ o. OutboxStandsAfter o (first (sent_of log) (laid d log)) (drop (sent_of log) (laid d log))) (sym same) stands)
+      let all : waits d log ++ laid_by d act log ≡ waits d log = ap (λ xs. waits d log ++ xs) (none log there) ∙ append-nil (waits d log) in
+      subst (λ xs. OutboxStandsAfter b.outbox (sent_units d log) xs) (sym all)
+      (subst (λ o. OutboxStandsAfter o (sent_units d log) (waits d log)) (sym same) stands)
 
   lays-one : (a b : SlaveState S T) (act : Act) (c : ℕ) (i : IntakeState T) (y : Laid) → LaysOut a.outbox b.outbox y
       → ((log : List Act) → ((m : ℕ) (x : Item) → act ≡ Took m c x → StandsAfter take i (deeds_of a.session.profile m c log)) → laid_by a.session.profile act log ≡ y ∷ []) → LaysBehind a b act c i
-  lays-one a b act c i y lays one = λ log there few stands.
+  lays-one a b act c i y lays one = λ log there stands.
       let d = a.session.profile in
-      subst (λ xs. OutboxStandsAfter b.outbox (first (sent_of log) (laid d log ++ xs)) (drop (sent_of log) (laid d log ++ xs))) (sym (one log there))
-      (more-laid a.outbox b.outbox y (sent_of log) (laid d log) lays few stands)
+      subst (λ xs. OutboxStandsAfter b.outbox (sent_units d log) (waits d log ++ xs)) (sym (one log there))
+      (lays (sent_units d log) (waits d log) stands)
 
   -- it is not spent, and counted nothing yet
   pub record Counts (a b : SlaveState S T) : Type 0 where
@@ -330,7 +328,7 @@ module _ {S T F : Type 0} (take : TakeGhosts T F) where
 
   -- by what became of the next item
   taken-step : (a b : SlaveState S T) (c : ℕ) (x y : ChannelState S T) (m : ℕ) (i j : IntakeState T) → ChangesAt a b c x y → b.account ≡ a.account → Counts a b → length b.channels ≡ length a.channels → IsPart x y m i j
-      → (step : Step) → TakesItem take i j a.outbox b.outbox m step → TakesItems take 1 a (counting b (acts_of step))
+      → (step : Step) → TakesItem take i j a.outbox b.outbox m c step → TakesItems take 1 a (counting b (acts_of step))
   taken-step a b c x y m i j changes account counts many part Nothing (looked, known, out) = record {
     acts = [];
     are = refl;
@@ -368,7 +366,7 @@ module _ {S T F : Type 0} (take : TakeGhosts T F) where
     goes = counted-take a b (Took m c (Sample p) ∷ []) (acts_of (Skipped l)) counts (omega arith) (omega arith) (took-item a b c x y m i j (Sample p) changes account part takes
         (λ deeds before pass. absurd (false≢true (sym (held deeds before) ∙ pass)))
         (lays-none a b (Took m c (Sample p)) c i out
-        (λ log there. ap (λ z. sample_laid z m p) (held (deeds_of a.session.profile m c log) (there m (Sample p) refl)))));
+        (λ log there. ap (λ z. sample_laid z m c p) (held (deeds_of a.session.profile m c log) (there m (Sample p) refl)))));
   }
   taken-step a b c x y m i j changes account counts many part (Wrote l end) (p, takes, list, passes, each, lays) = record {
     acts = Took m c (Sample p) ∷ [];
@@ -379,14 +377,14 @@ module _ {S T F : Type 0} (take : TakeGhosts T F) where
     as_many = many;
     goes = counted-take a b (Took m c (Sample p) ∷ []) (acts_of (Wrote l end)) counts (omega arith) (omega arith) (took-item a b c x y m i j (Sample p) changes account part takes
         (λ deeds before pass. each)
-        (lays-one a b (Took m c (Sample p)) c i (record { origin = origin.Sample m p.list; packets = p.packets })
-        (subst (λ k. LaysOut a.outbox b.outbox (record { origin = origin.Sample m k; packets = p.packets })) list lays)
-        (λ log there. ap (λ z. sample_laid z m p) (passes (deeds_of a.session.profile m c log) (there m (Sample p) refl)))));
+        (lays-one a b (Took m c (Sample p)) c i (record { origin = origin.Sample m c p.list; packets = p.packets })
+        (subst (λ k. LaysOut a.outbox b.outbox (record { origin = origin.Sample m c k; packets = p.packets })) list lays)
+        (λ log there. ap (λ z. sample_laid z m c p) (passes (deeds_of a.session.profile m c log) (there m (Sample p) refl)))));
   }
 
   -- of the newer part, and of the older, if they are there
   taken-newer : (a b : SlaveState S T) (c : ℕ) (x y : ChannelState S T) (step : Step) → ChangesAt a b c x y → b.account ≡ a.account → Counts a b → length b.channels ≡ length a.channels → y ≡ record x { newer = y.newer }
-      → (u v : Option (ShareState T)) → x.newer ≡ u → y.newer ≡ v → TakesOf take u v a.outbox b.outbox step → TakesItems take 1 a (counting b (acts_of step))
+      → (u v : Option (ShareState T)) → x.newer ≡ u → y.newer ≡ v → TakesOf take c u v a.outbox b.outbox step → TakesItems take 1 a (counting b (acts_of step))
   taken-newer a b c x y step changes account counts many rest None None was is (none, out) = record {
     acts = [];
     are = refl;
@@ -402,7 +400,7 @@ module _ {S T F : Type 0} (take : TakeGhosts T F) where
   taken-newer a b c x y step changes account counts many rest (Some s) (Some t) was is (same, takes, opened) = taken-step a b c x y s.number s.intake t.intake changes account counts many (newer-part x y s t was rest is same opened) step takes
 
   taken-older : (a b : SlaveState S T) (c : ℕ) (x y : ChannelState S T) (step : Step) → ChangesAt a b c x y → b.account ≡ a.account → Counts a b → length b.channels ≡ length a.channels → y ≡ record x { older = y.older }
-      → (u v : Option (ShareState T)) → x.older ≡ u → y.older ≡ v → TakesOf take u v a.outbox b.outbox step → TakesItems take 1 a (counting b (acts_of step))
+      → (u v : Option (ShareState T)) → x.older ≡ u → y.older ≡ v → TakesOf take c u v a.outbox b.outbox step → TakesItems take 1 a (counting b (acts_of step))
   taken-older a b c x y step changes account counts many rest None None was is (none, out) = record {
     acts = [];
     are = refl;
@@ -420,7 +418,7 @@ module _ {S T F : Type 0} (take : TakeGhosts T F) where
 module _ {S T F : Type 0} (take : TakeGhosts T F) where
   -- the next item of the newest measurement at an event channel was taken, if there was one
   pub took-one : (v w : SlaveState S T) (xs : List (ChannelState S T)) (o : OutboxState) (c n : ℕ) (step : Step) → w ≡ v → w.acts < MOST_ACTS + PER_PACKET → n ≡ acts_of step → c < length w.channels
-      → IsOnlyAt (TakesFromNewer take w.outbox o step) c w.channels xs → TakesItems take 1 v (record w { outbox = o; channels = xs; acts = w.acts + n })
+      → IsOnlyAt (TakesFromNewer take c w.outbox o step) c w.channels xs → TakesItems take 1 v (record w { outbox = o; channels = xs; acts = w.acts + n })
   took-one v w xs o c n step same fits is_n below only =
       let (x, was) = some-at w.channels c below in
       let (y, is) = some-at xs c (omega (arith, below, only.as_many)) in
@@ -441,7 +439,7 @@ module _ {S T F : Type 0} (take : TakeGhosts T F) where
 
   -- the next item of the measurement before it was taken, if there was one
   pub took-older : (v w : SlaveState S T) (xs : List (ChannelState S T)) (o : OutboxState) (c n : ℕ) (step : Step) → w ≡ v → w.acts < MOST_ACTS + PER_PACKET → n ≡ acts_of step → c < length w.channels
-      → IsOnlyAt (TakesFromOlder take w.outbox o step) c w.channels xs → TakesItems take 1 v (record w { outbox = o; channels = xs; acts = w.acts + n })
+      → IsOnlyAt (TakesFromOlder take c w.outbox o step) c w.channels xs → TakesItems take 1 v (record w { outbox = o; channels = xs; acts = w.acts + n })
   took-older v w xs o c n step same fits is_n below only =
       let (x, was) = some-at w.channels c below in
       let (y, is) = some-at xs c (omega (arith, below, only.as_many)) in
@@ -489,4 +487,16 @@ module _ {S T F : Type 0} (take : TakeGhosts T F) where
     session = one.session;
     as_many = one.as_many;
     goes = one.goes;
+  }
+
+  -- where the next look begins is no part of this
+  pub takes-next : (n k : ℕ) (a b : SlaveState S T) → TakesItems take n a b → TakesItems take n a (record b { next = k })
+  takes-next n k a b one = record {
+    acts = one.acts;
+    are = one.are;
+    few = one.few;
+    counted = one.counted;
+    session = one.session;
+    as_many = one.as_many;
+    goes = goes-next take a b one.acts k one.goes;
   }

@@ -1,7 +1,8 @@
 -- How much a log weighs, and what a slave that counts its acts stands after.
 use Rattle.std.proofs.Common.{◌≡◌, ℕ, zero, suc, ◌+◌, ◌*◌, ◌<◌, ◌≤◌, Bool, true, false, List, [], ◌∷◌, ◌++◌, length, length-append, refl, sym, ap, ◌∙◌, subst, arith}
-use Rattle.std.specs.Prelude.{Option, Some, None}
-use Rattle.std.proofs.lemmas.List.Sums.{sum_by-cons}
+use Rattle.std.specs.Prelude.{nat_lt, Option, Some, None, Err}
+use Rattle.std.proofs.lemmas.Bool.{false≢true}
+use Rattle.std.proofs.lemmas.List.{length-drop, length-map}
 use Rattle.xcp_base.specs.Samples.{SampleParts}
 use Rattle.xcp_base.specs.declared.item.Item.TheVariants.{Marker, Sample}
 use Rattle.channel_ring.specs.declared.ends.TakeEnd.{Ghosts as TakeGhosts}
@@ -9,9 +10,11 @@ use Rattle.list_set.specs.Counts.{one_if}
 use Rattle.session.specs.Exchanges.{reply_in}
 use Rattle.session.specs.declared.profile.Profile.{Profile}
 use Rattle.channel_intake.specs.Deeds.{passes}
+use Rattle.frame_outbox.specs.Outboxes.{has_waiting, unit_of}
+use Rattle.session.specs.Fields.{packet_of}
 use Rattle.slave.specs.Hearing.{GoesBy}
 use Rattle.slave.specs.Inner.{PartsGoBy, counting}
-use Rattle.slave.specs.Log.{Act, CameBack, Heard, HungUp, Opened, Refused, Sent, Took, deeds_of, laid, laid_by, losing, past_of, reply_laid, sample_laid, sending, sent_by, sent_of, weight}
+use Rattle.slave.specs.Log.{Act, CameBack, Discarded, Heard, HungUp, Opened, Refused, Sent, Took, deeds_of, discarding, losing, past_of, reply_laid, sample_laid, sending, waits, weight}
 use Rattle.slave.specs.Standing.{PartsStandAfter, SlaveStandsAfter, SlaveState}
 use Rattle.slave.specs.declared.limits.TheConstants.{MOST_ACTS, PER_PACKET}
 
@@ -23,20 +26,25 @@ one-reply : (reply : Option (List ℕ)) → length (reply_laid reply) ≤ 1
 one-reply None = omega arith
 one-reply (Some packet) = omega arith
 
-one-sample : (b : Bool) (m : ℕ) (s : SampleParts) → length (sample_laid b m s) ≤ 1
-one-sample true m s = omega arith
-one-sample false m s = omega arith
+one-sample : (b : Bool) (m c : ℕ) (s : SampleParts) → length (sample_laid b m c s) ≤ 1
+one-sample true m c s = omega arith
+one-sample false m c s = omega arith
 
--- an act lays out one reply or sample at most
-one-laid : (d : Profile) (act : Act) (log : List Act) → length (laid_by d act log) ≤ 1
-one-laid d (Heard x) log = one-reply (reply_in d (past_of d log) x)
-one-laid d (Refused packet code) log = omega arith
-one-laid d (Opened at) log = omega arith
-one-laid d (Took m c (Sample s)) log = one-sample (passes (deeds_of d m c log) s.list) m s
-one-laid d (Took m c (Marker k)) log = omega arith
-one-laid d (CameBack m c past) log = omega arith
-one-laid d (Sent n) log = omega arith
-one-laid d HungUp log = omega arith
+-- behind an act one reply or sample more waits at most
+one-waits : (d : Profile) (act : Act) (log : List Act) → length (waits d (act ∷ log)) ≤ length (waits d log) + 1
+one-waits d (Heard x) log =
+    let reply = reply_in d (past_of d log) x in
+    omega (arith, length-append (waits d log) (reply_laid reply), one-reply reply)
+one-waits d (Refused packet code) log = omega (arith, length-append (waits d log) (reply_laid (Some (packet_of (Err code)))))
+one-waits d (Opened at) log = omega arith
+one-waits d (Took m c (Sample s)) log =
+    let passed = passes (deeds_of d m c log) s.list in
+    omega (arith, length-append (waits d log) (sample_laid passed m c s), one-sample passed m c s)
+one-waits d (Took m c (Marker k)) log = omega arith
+one-waits d (CameBack m c past) log = omega arith
+one-waits d (Sent n) log = omega (arith, length-drop n (waits d log))
+one-waits d HungUp log = omega arith
+one-waits d Discarded log = omega arith
 
 -- what holds of a slave as it stood inside a call
 pub fits-of : {S T : Type 0} (v w : SlaveState S T) → w ≡ v → w.acts < MOST_ACTS + PER_PACKET → v.acts < MOST_ACTS + PER_PACKET
@@ -47,9 +55,7 @@ pub weight-act : (d : Profile) (act : Act) (log : List Act) → weight d (act �
 weight-act d act log =
     omega (
       arith,
-      length-append (laid d log) (laid_by d act log),
-      one-laid d act log,
-      sum_by-cons sent_by act log,
+      one-waits d act log,
       one-at-most (past_of d (act ∷ log)).connected,
     )
 
@@ -58,28 +64,32 @@ weight-acts d [] log = omega arith
 weight-acts d (act ∷ acts) log = omega (arith, weight-act d act (acts ++ log), weight-acts d acts log)
 
 -- what waits is sent at no more weight
-weight-sent : (d : Profile) (n : ℕ) (log : List Act) → suc n + sent_of log ≤ length (laid d log) → weight d (Sent (suc n) ∷ log) ≤ weight d log
-weight-sent d n log there = omega (arith, there, length-append (laid d log) [], sum_by-cons sent_by (Sent (suc n)) log)
+weight-sent : (d : Profile) (n : ℕ) (log : List Act) → suc n ≤ length (waits d log) → weight d (Sent (suc n) ∷ log) ≤ weight d log
+weight-sent d n log there = omega (arith, there, length-drop (suc n) (waits d log))
 
--- and a master that is connected hangs up at no more
+-- or thrown away
+weight-thrown : (d : Profile) (log : List Act) → 0 < length (waits d log) → weight d (Discarded ∷ log) ≤ weight d log
+weight-thrown d log some = omega (arith, some)
+
+-- and a master that is connected is lost at no more
 weight-hung : (d : Profile) (log : List Act) → (past_of d log).connected ≡ true → weight d (HungUp ∷ log) ≤ weight d log
 weight-hung d log on =
     let one : one_if (past_of d log).connected ≡ 1 = ap one_if on in
-    omega (arith, length-append (laid d log) [], sum_by-cons sent_by HungUp log, one)
+    omega (arith, one)
 
 module _ {S T F : Type 0} (take : TakeGhosts T F) where
   -- a log of a slave that isn't spent is short
   pub short : (d : Profile) (s : SlaveState S T) (log : List Act) → s.acts < MOST_ACTS + PER_PACKET → SlaveStandsAfter take d s log → length log < MOST_ACTS + PER_PACKET
   short d s log fits stands = omega (arith, fits, stands.counted)
 
-  recount : (d : Profile) (s : SlaveState S T) (n : ℕ) (log : List Act) → PartsStandAfter take d s log → PartsStandAfter take d (counting s n) log
-  recount d s n log stands =
+  -- how much was counted, and where the next look begins, are no parts of this
+  pub beside : (d : Profile) (s : SlaveState S T) (n k : ℕ) (log : List Act) → PartsStandAfter take d s log → PartsStandAfter take d (record s { acts = n; next = k }) log
+  beside d s n k log stands =
       let has = stands.has in
       record {
         has = record {
           few = has.few;
           is_log = has.is_log;
-          sent = has.sent;
           profile = has.profile;
           session = has.session;
           outbox = has.outbox;
@@ -96,7 +106,13 @@ module _ {S T F : Type 0} (take : TakeGhosts T F) where
 
   -- what is counted changes nothing of this
   pub recounted : (a b : SlaveState S T) (acts : List Act) (n : ℕ) → PartsGoBy take a b acts → PartsGoBy take a (counting b n) acts
-  recounted a b acts n goes = λ log few stands. recount a.session.profile b n (acts ++ log) (goes log few stands)
+  recounted a b acts n goes = λ log few stands. beside a.session.profile b (b.acts + n) b.next (acts ++ log) (goes log few stands)
+
+  -- nor where the next look begins
+  pub goes-next : (a b : SlaveState S T) (acts : List Act) (k : ℕ) → GoesBy take a b acts → GoesBy take a (record b { next = k }) acts
+  goes-next a b acts k goes = λ log stands.
+      let now = goes log stands in
+      record { parts = beside a.session.profile b b.acts k (acts ++ log) now.parts; counted = now.counted }
 
   -- a slave goes on as its parts do, if it counts three for each act
   pub counted : (a b : SlaveState S T) (acts : List Act) → a.acts < MOST_ACTS + PER_PACKET → length acts ≤ 18 → a.acts + 3 * length acts ≤ b.acts → PartsGoBy take a b acts → GoesBy take a b acts
@@ -111,8 +127,28 @@ module _ {S T F : Type 0} (take : TakeGhosts T F) where
   counted-sent a b (suc n) fits same goes none = λ log stands.
       let d = a.session.profile in
       let parts = goes log (omega (arith, short d a log fits stands)) stands.parts in
-      let there : suc n + sent_of log ≤ length (laid d log) = omega (arith, parts.has.sent, sum_by-cons sent_by (Sent (suc n)) log, length-append (laid d log) []) in
-      record { parts = parts; counted = omega (arith, same, stands.counted, weight-sent d n log there) }
+      record { parts = parts; counted = omega (arith, same, stands.counted, weight-sent d n log parts.has.is_log.0) }
+
+  -- or all that waited was thrown away
+  counted-thrown : (a b : SlaveState S T) → a.acts < MOST_ACTS + PER_PACKET → b.acts ≡ a.acts → 0 < length a.outbox.units → PartsGoBy take a b (Discarded ∷ []) → GoesBy take a b (Discarded ∷ [])
+  counted-thrown a b fits same some goes = λ log stands.
+      let d = a.session.profile in
+      let many : length a.outbox.units ≡ length (waits d log) = ap length stands.parts.has.outbox.units ∙ length-map (waits d log) unit_of in
+      record {
+        parts = goes log (omega (arith, short d a log fits stands)) stands.parts;
+        counted = omega (arith, same, stands.counted, weight-thrown d log (omega (arith, some, many)));
+      }
+
+  -- by whether something waited
+  pub thrown : (a b : SlaveState S T) → a.acts < MOST_ACTS + PER_PACKET → b.acts ≡ a.acts → has_waiting a.outbox ≡ true → PartsGoBy take a b (Discarded ∷ []) → GoesBy take a b (discarding (has_waiting a.outbox))
+  thrown a b fits same some goes =
+      subst (λ x. GoesBy take a b (discarding x)) (sym some) (counted-thrown a b fits same (waiting-some (length a.outbox.units) some) goes) where
+        waiting-some : (n : ℕ) → nat_lt 0 n ≡ true → 0 < n
+        waiting-some zero is = absurd (false≢true is)
+        waiting-some (suc n) is = omega arith
+
+  pub not-thrown : (a : SlaveState S T) → has_waiting a.outbox ≡ false → GoesBy take a a (discarding (has_waiting a.outbox))
+  not-thrown a none = subst (λ x. GoesBy take a a (discarding x)) (sym none) (λ log stands. stands)
 
   -- or a master that was connected hung up
   counted-hung : (a b : SlaveState S T) → a.acts < MOST_ACTS + PER_PACKET → b.acts ≡ a.acts → a.session.connected ≡ true → PartsGoBy take a b (HungUp ∷ []) → GoesBy take a b (HungUp ∷ [])

@@ -353,6 +353,14 @@ module _ {S T F : Type 0} (take : TakeGhosts T F) where
       (b.next ≡ 0) × ((is_spent b ≡ true) ⊎ ((c : ℕ) → begin ≤ c → IsEmptyAt take b c))
   EndsRound a b begin Took = (b.next ≡ 0) × (a.acts + 3 ≤ b.acts)
 
+-- of what waits the first n aren't sent: so much was done with each ring, and so much is late
+abbrev pub left_deeds : Profile → List Act → ℕ → ℕ → ℕ → List Deed
+left_deeds d log n c m = unsent_by m c (first n (origins (waits d log))) ++ deeds_of d m c log
+
+abbrev pub left_late : Profile → List Act → ℕ → ℕ → ℕ
+left_late d log n l =
+    late_of d log l + count_by (is_late log l) (first n (origins (waits d log)))
+
 module _ {S T F : Type 0} (take : TakeGhosts T F) where
   -- the part of measurement m at event channel c was told that a sample of list l isn't sent
   pub record TellsPart (m c l : ℕ) (a b : SlaveState S T) : Type 0 where
@@ -374,14 +382,7 @@ module _ {S T F : Type 0} (take : TakeGhosts T F) where
   LeavesOne (origin.Sample m c l) a b =
       TellsPart m c l a b ⊎ (TellsAccount m c l a b ⊎ ((MAX_LISTS ≤ l) × (b ≡ a)))
 
-  -- of what waits the first n aren't sent: so much was done with each ring, and so much is late
-  abbrev pub left_deeds : Profile → List Act → ℕ → ℕ → ℕ → List Deed
-  left_deeds d log n c m = unsent_by m c (first n (origins (waits d log))) ++ deeds_of d m c log
-
-  abbrev pub left_late : Profile → List Act → ℕ → ℕ → ℕ
-  left_late d log n l =
-      late_of d log l + count_by (is_late log l) (first n (origins (waits d log)))
-
+  -- the first n of what waits were left
   pub record LeavesFirst (n : ℕ) (a b : SlaveState S T) : Type 0 where
     pub outbox : b.outbox ≡ a.outbox
     pub session : b.session ≡ a.session

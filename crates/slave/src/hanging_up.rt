@@ -87,7 +87,8 @@ impl<R: Ring> Slave<R> {
             self.old self.new }
     {
         for i in 0..self.outbox.len() {
-            self.leave(self.outbox.origin(i));
+            let origin = self.outbox.origin(i);
+            self.leave(origin);
         }
     }
 

@@ -1,11 +1,11 @@
-use Rattle.std.proofs.Common.{◌≡◌, ◌+◌, length, min, ap, arith, subst, sym}
+use Rattle.std.proofs.Common.{◌≡◌, ◌+◌, length, min, refl, ap, arith, subst, sym}
 use Rattle.xcp_base.specs.declared.limits.TheConstants.{MAX_CHANNELS}
 use Rattle.slave.specs.Standing.{SlaveState}
 use Rattle.slave.specs.Taking.{IsHeldUp, TakesItems}
 use Rattle.slave.specs.Inner.{EndsRound}
 use Rattle.slave.specs.declared.round.Round.TheVariants.{Empty}
-use Rattle.slave.proofs.RoundLemmas.{IsQuiet, quiet-more, round-empty}
-use Rattle.slave.proofs.TakingLemmas.{takes-more, takes-nothing, takes-within}
+use Rattle.slave.proofs.RoundLemmas.{IsQuiet, held-next, quiet-more, round-empty}
+use Rattle.slave.proofs.TakingLemmas.{takes-more, takes-next, takes-within}
 use Rattle.slave.proofs.slave.Slave.round.Goals as goal
 
 -- one more at most
@@ -28,13 +28,13 @@ returns-then-is_full g c =
     let limit = c.len-len.ensures.limit in
     record {
       takes =
-          subst (λ (s : SlaveState _ _). TakesItems g.R.Take.TakeEnd MAX_CHANNELS c.args.self.now s) (sym c.self-in-loop-c.view_is)
+          subst (λ (s : SlaveState _ _). TakesItems g.R.Take.TakeEnd MAX_CHANNELS c.args.self.now (record s { next = c.loop-c.c })) (sym c.self-in-loop-c.view_is)
+          (takes-next g.R.Take.TakeEnd MAX_CHANNELS c.loop-c.c c.args.self.now c.take_one-step.new.self
           (takes-within g.R.Take.TakeEnd (c.loop-c.c + 1) MAX_CHANNELS c.args.self.now c.take_one-step.new.self (omega (arith, more, limit))
-          (takes-more g.R.Take.TakeEnd c.loop-c.c 1 c.args.self.now c.loop-c.self c.take_one-step.new.self c.loop-c.invariant.takes c.take_one-step.ensures.takes));
-      ends = (
-        c.loop-c.c,
-        subst (λ (s : SlaveState _ _). IsHeldUp g.R.Take.TakeEnd s c.loop-c.c) (sym c.self-in-loop-c.view_is) (c.take_one-step.ensures.looks.full (c.is_full.ensures.yes c.if-is_full.true)),
-      );
+          (takes-more g.R.Take.TakeEnd c.loop-c.c 1 c.args.self.now c.loop-c.self c.take_one-step.new.self c.loop-c.invariant.takes c.take_one-step.ensures.takes)));
+      ends =
+          subst (λ (s : SlaveState _ _). IsHeldUp g.R.Take.TakeEnd (record s { next = c.loop-c.c }) c.loop-c.c) (sym c.self-in-loop-c.view_is)
+          (held-next g.R.Take.TakeEnd c.take_one-step.new.self c.loop-c.c c.loop-c.c (c.take_one-step.ensures.looks.full (c.is_full.ensures.yes c.if-is_full.true)));
     }
 
 -- no ring had anything
@@ -48,7 +48,24 @@ returns-clause-ends g c =
     let now = ap (λ (s : SlaveState _ _). s.acts) c.self-2.view_is in
     let none_more = c.if-self-before.false in
     let done = c.loop-c-test.false in
-    subst (λ (s : SlaveState _ _). EndsRound g.R.Take.TakeEnd c.args.self.now s c.args.begin Empty) (sym c.self-2.view_is)
-    (round-empty g.R.Take.TakeEnd c.args.self.now c.loop-c.self c.args.begin c.loop-c.c (omega (arith, many, done))
+    subst (λ (s : SlaveState _ _). EndsRound g.R.Take.TakeEnd c.args.self.now (record s { next = 0 }) c.args.begin Empty) (sym c.self-2.view_is)
+    (round-empty g.R.Take.TakeEnd c.args.self.now (record c.loop-c.self { next = 0 }) c.args.begin c.loop-c.c (omega (arith, many, done))
     (subst (λ n. IsQuiet g.R.Take.TakeEnd c.args.self.now c.loop-c.self (min c.args.begin n) c.loop-c.c) many c.loop-c.invariant.quiet)
-    (omega (arith, before, now, none_more, counted)))
+    (omega (arith, before, now, none_more, counted)) refl)
+
+-- items were taken
+pub returns-then-self-before-clause-takes : goal.returns-then-self-before-clause-takes
+returns-then-self-before-clause-takes g c =
+    let within = c.loop-c.invariant.within in
+    let limit = c.len-len.ensures.limit in
+    subst (λ (s : SlaveState _ _). TakesItems g.R.Take.TakeEnd MAX_CHANNELS c.args.self.now (record s { next = 0 })) (sym c.self-2.view_is)
+    (takes-next g.R.Take.TakeEnd MAX_CHANNELS 0 c.args.self.now c.loop-c.self
+    (takes-within g.R.Take.TakeEnd c.loop-c.c MAX_CHANNELS c.args.self.now c.loop-c.self (omega (arith, within, limit)) c.loop-c.invariant.takes))
+
+pub returns-clause-takes : goal.returns-clause-takes
+returns-clause-takes g c =
+    let within = c.loop-c.invariant.within in
+    let limit = c.len-len.ensures.limit in
+    subst (λ (s : SlaveState _ _). TakesItems g.R.Take.TakeEnd MAX_CHANNELS c.args.self.now (record s { next = 0 })) (sym c.self-2.view_is)
+    (takes-next g.R.Take.TakeEnd MAX_CHANNELS 0 c.args.self.now c.loop-c.self
+    (takes-within g.R.Take.TakeEnd c.loop-c.c MAX_CHANNELS c.args.self.now c.loop-c.self (omega (arith, within, limit)) c.loop-c.invariant.takes))

@@ -1,12 +1,12 @@
 use Rattle.std.proofs.Common.{◌*◌, ◌+◌, ◌<◌, ◌≤◌, arith, inl, inr, refl}
 use Rattle.xcp_base.specs.declared.limits.TheConstants.{MAX_CHANNELS}
 use Rattle.slave.specs.Taking.{most_taken}
-use Rattle.slave.proofs.RoundLemmas.{through-last, through-many, went-more}
+use Rattle.slave.proofs.RoundLemmas.{next-first, through-last, through-many, went-more}
 use Rattle.slave.proofs.TakingLemmas.{takes-more, takes-within}
 use Rattle.slave.proofs.slave.Slave.take.Goals as goal
 
 pub loop-rounds-init : goal.loop-rounds-init
-loop-rounds-init g c = record { takes = c.let_go.ensures.takes; few = omega arith; went = inl refl }
+loop-rounds-init g c = record { takes = c.let_go.ensures.takes; few = omega arith; went = inl refl; first = inl refl }
 
 -- one round more
 pub loop-rounds-preserved : goal.loop-rounds-preserved
@@ -26,6 +26,7 @@ loop-rounds-preserved g c =
         went-more g.R.Take.TakeEnd c.args.self.now c.loop-rounds.self c.round-round.new.self c.loop-rounds.begin c.loop-rounds.rounds c.round-round.result c.round-round.ensures.ends
             (c.is_last.ensures.no c.if-is_last.false) (omega (arith, was)) (omega (arith, is)) c.loop-rounds.invariant.went,
       );
+      first = inr (next-first g.R.Take.TakeEnd c.loop-rounds.self c.round-round.new.self c.loop-rounds.begin c.round-round.result c.round-round.ensures.ends (c.is_last.ensures.no c.if-is_last.false));
     }
 
 pub returns-then-is_last : goal.returns-then-is_last
@@ -47,5 +48,5 @@ returns g c =
     let done = c.loop-rounds-test.false in
     record {
       takes = takes-within g.R.Take.TakeEnd (1024 * MAX_CHANNELS + MAX_CHANNELS * c.loop-rounds.rounds) most_taken c.args.self.now c.loop-rounds.self (omega (arith, few)) c.loop-rounds.invariant.takes;
-      through = through-many g.R.Take.TakeEnd c.args.self.now c.loop-rounds.self c.loop-rounds.begin c.loop-rounds.rounds (omega (arith, done)) c.loop-rounds.invariant.went;
+      through = through-many g.R.Take.TakeEnd c.args.self.now c.loop-rounds.self c.loop-rounds.begin c.loop-rounds.rounds (omega (arith, done)) c.loop-rounds.invariant.went c.loop-rounds.invariant.first;
     }

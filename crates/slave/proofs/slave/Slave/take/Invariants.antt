@@ -9,6 +9,7 @@ invariant-loop-rounds g l = record {
   takes : TakesItems g.R.Take.TakeEnd (1024 * MAX_CHANNELS + MAX_CHANNELS * l.rounds) l.fn.self l.self;
   few : l.rounds ≤ 1024;
   went : (l.rounds ≡ 0) ⊎ ((l.begin ≡ 0) × (l.fn.self.acts + 3 * (l.rounds - 1) ≤ l.self.acts));
+  first : (l.rounds ≡ 0) ⊎ (l.self.next ≡ 0);
 }
 
 abbrev pub decreases-loop-rounds : goal.decreases-loop-rounds

@@ -1,0 +1,522 @@
+-- What a slave stands after once what waited was thrown away.
+use Rattle.std.proofs.Common.{◌≡◌, ◌≢◌, ℕ, ◌+◌, ◌-◌, ◌*◌, ◌<◌, ◌≤◌, Bool, true, false, ◌&&◌, not, nat_eq, if◌then◌else◌, List, [], ◌∷◌, ◌++◌, append_assoc, append-nil, drop, length, length-append, map, zero, suc, take as first, refl, sym, ap, ◌∙◌, subst, arith, ◌⊎◌, inl, inr, get_or, slice_get}
+use Rattle.std.specs.Prelude.{count_by, Option, Some, None}
+use Rattle.std.specs.List.{AllByRecursion}
+use Rattle.std.proofs.lemmas.Bool.{false≢true}
+use Rattle.std.proofs.lemmas.Bool.Decides.{eqb_tells, leb_tells}
+use Rattle.std.proofs.lemmas.List.{length-map, take_more}
+use Rattle.std.proofs.lemmas.List.Sums.{sum_by-append, sum_by-take-le}
+use Rattle.std.proofs.lemmas.Option.{get_or_from_slice_get, slice_get-get_or, slice_get_within}
+use Rattle.xcp_base.specs.Samples.{SampleParts}
+use Rattle.xcp_base.specs.declared.item.Item.TheVariants.{Marker, Sample}
+use Rattle.xcp_base.specs.declared.limits.TheConstants.{MAX_LISTS, MAX_TAKEN}
+use Rattle.channel_ring.specs.declared.ends.TakeEnd.{Ghosts as TakeGhosts}
+use Rattle.session.specs.Exchanges.{reply_in}
+use Rattle.session.specs.Standing.{SessionStandsAfter, SessionState}
+use Rattle.session.specs.declared.profile.Profile.{Profile}
+use Rattle.channel_intake.specs.Deeds.{Deed, Unsent, passes}
+use Rattle.channel_intake.specs.Deeds.{runs as runs_there}
+use Rattle.channel_intake.specs.Intakes.{StandsAfter}
+use Rattle.channel_intake.proofs.DeedLemmas.{stands-beyond}
+use Rattle.daq_engine.proofs.PidLemmas.{all-append}
+use Rattle.frame_outbox.specs.Outboxes.{Laid, OutboxState, has_waiting, unit_of}
+use Rattle.frame_outbox.specs.Outboxes.{StandsAfter as OutboxStandsAfter}
+use Rattle.frame_outbox.specs.declared.unit.Origin.{Origin}
+use Rattle.frame_outbox.specs.declared.unit.Origin.TheVariants as origin
+use Rattle.frame_outbox.specs.declared.unit.Unit.{Unit as Frames}
+use Rattle.session_account.specs.Accounts.{AccountStandsAfter, AreTotals, Entry, more_unsent}
+use Rattle.session_account.specs.declared.totals.Totals.{Totals}
+use Rattle.slave_channel.specs.Channels.{ChannelState, GoesOnThere, ShareState}
+use Rattle.slave_channels.specs.Calls.{KeepsNoneOf}
+use Rattle.slave.specs.Hearing.{GoesBy}
+use Rattle.slave.specs.Inner.{LeavesFirst, LeavesOne, PartsGoBy, TellsAccount, TellsPart, left_deeds, left_late}
+use Rattle.slave.specs.Log.{Act, CameBack, Discarded, Heard, HungUp, Opened, Refused, Sent, Took, deeds_of, discarding, entries_of, is_late, is_of_ring, is_out, late_of, losing, opened, origins, past_of, reply_laid, sample_laid, sent_units, unsent_by, unsent_one, waits}
+use Rattle.slave.specs.Openings.{past_at}
+use Rattle.slave.specs.Standing.{AreOpenedAfter, ChannelHas, HasEnded, IsLog, IsOut, PartsStandAfter, SlaveStandsAfter, SlaveState, StandsBy, number_of}
+use Rattle.slave.proofs.ChannelLemmas.{channel-same}
+use Rattle.slave.proofs.DeedLemmas.{deeds-and-waits-few, unsent-length}
+use Rattle.slave.proofs.OutLemmas.{opened-kept, out-kept, some-at}
+use Rattle.slave.proofs.SendingLemmas.{take-whole}
+use Rattle.slave.proofs.TakingLemmas.{ChangesAt, IsPart, channels-changed, newer-part, older-part, opened-changed, out-changed}
+use Rattle.session.specs.Past.{Past}
+use Rattle.tasks.specs.Links.{takes_orders}
+
+some_inj : {X : Type 0} (x y : X) → Some x ≡ Some y → x ≡ y
+some_inj x y e = cc
+
+is-bool : (b : Bool) → (b ≡ true) ⊎ (b ≡ false)
+is-bool true = inl refl
+is-bool false = inr refl
+
+-- an account stands by the numbers of its lists alone
+pub same-unsent : (account : List Totals) (entries : List Entry) (f g : ℕ → ℕ) → ((l : ℕ) → l < MAX_LISTS → f l ≡ g l) → AccountStandsAfter account entries f → AccountStandsAfter account entries g
+same-unsent account entries f g same stands = record {
+  entries_are = stands.entries_are;
+  lists = λ l below.
+      let (totals, at, are) = stands.lists l below in
+      (totals, at, subst (λ n. AreTotals entries n l totals) (same l below) are);
+}
+
+-- one more of some
+first-more : {X : Type 0} (xs : List X) (n : ℕ) (x : X) → slice_get xs n ≡ Some x → first (n + 1) xs ≡ first n xs ++ x ∷ []
+first-more xs n x at = take_more xs n x (slice_get_within xs n x at) ∙ ap (λ y. first n xs ++ y ∷ []) (get_or_from_slice_get xs n x x at)
+
+unsent-more : (m c : ℕ) (xs : List Origin) (x : Origin) → unsent_by m c (xs ++ x ∷ []) ≡ unsent_one m c x ++ unsent_by m c xs
+unsent-more m c [] x = sym (append-nil (unsent_one m c x))
+unsent-more m c (y ∷ xs) x =
+    ap (λ ys. ys ++ unsent_one m c y) (unsent-more m c xs x) ∙ append_assoc (unsent_one m c x) (unsent_by m c xs) (unsent_one m c y)
+
+deeds-more : (d : Profile) (log : List Act) (n c m : ℕ) (x : Origin) → slice_get (origins (waits d log)) n ≡ Some x → left_deeds d log (n + 1) c m ≡ unsent_one m c x ++ left_deeds d log n c m
+deeds-more d log n c m x at =
+    let os = origins (waits d log) in
+    ap (λ ys. unsent_by m c ys ++ deeds_of d m c log) (first-more os n x at) ∙ ap (λ ys. ys ++ deeds_of d m c log) (unsent-more m c (first n os) x)
+    ∙ append_assoc (unsent_one m c x) (unsent_by m c (first n os)) (deeds_of d m c log)
+
+late-more : (d : Profile) (log : List Act) (n l : ℕ) (x : Origin) → slice_get (origins (waits d log)) n ≡ Some x → left_late d log (n + 1) l ≡ left_late d log n l + (if is_late log l x then 1 else 0)
+late-more d log n l x at =
+    let os = origins (waits d log) in
+    let one = sum_by-append (λ o. if is_late log l o then 1 else 0) (first n os) (x ∷ []) in
+    let more = ap (count_by (is_late log l)) (first-more os n x at) in
+    omega (arith, more, one)
+
+late-not : (d : Profile) (log : List Act) (n l : ℕ) (x : Origin) → slice_get (origins (waits d log)) n ≡ Some x → is_late log l x ≡ false → left_late d log n l ≡ left_late d log (n + 1) l
+late-not d log n l x at none =
+    let zero_more : ◌≡◌ {A = ℕ} (if is_late log l x then 1 else 0) 0 = ap (λ b. if b then 1 else 0) none in
+    omega (arith, late-more d log n l x at, zero_more)
+
+-- of another ring nothing is thrown away, and of this one a sample of the list is
+one-else : (n m k c l : ℕ) → (m ≡ n → c ≡ k → ⊥) → unsent_one n k (origin.Sample m c l) ≡ []
+one-else n m k c l other =
+    elim (eqb_tells m n) [
+      | inl w ↦ ap (λ b. if b && nat_eq c k then Unsent l ∷ [] else []) w.0 ∙ elim (eqb_tells c k) [
+        | inl v ↦ absurd (other w.1 v.1)
+        | inr v ↦ ap (λ b. if b then Unsent l ∷ [] else []) v.0
+      ]
+      | inr w ↦ ap (λ b. if b && nat_eq c k then Unsent l ∷ [] else []) w.0
+    ]
+
+one-here : (m c l : ℕ) → unsent_one m c (origin.Sample m c l) ≡ Unsent l ∷ []
+one-here m c l = ap (λ b. if b && nat_eq c c then Unsent l ∷ [] else []) (same m) ∙ ap (λ b. if b then Unsent l ∷ [] else []) (same c) where
+  same : (k : ℕ) → nat_eq k k ≡ true
+  same k =
+      elim (eqb_tells k k) [
+        | inl w ↦ w.0
+        | inr w ↦ absurd (w.1 refl)
+      ]
+
+one-runs : (m c : ℕ) (x : Origin) (ds : List Deed) (l : ℕ) → runs_there (unsent_one m c x ++ ds) l ≡ runs_there ds l
+one-runs m c origin.Reply ds l = refl
+one-runs m c (origin.Sample n k j) ds l = by (nat_eq n m && nat_eq k c) where
+  by : (b : Bool) → runs_there ((if b then Unsent j ∷ [] else []) ++ ds) l ≡ runs_there ds l
+  by true = refl
+  by false = refl
+
+-- what waits of samples is of event channels that there are
+abbrev IsThere : Profile → Origin → Type 0
+IsThere d origin.Reply = Unit {0}
+IsThere d (origin.Sample m c l) = c < length d.events.items
+
+abbrev AreThere : Profile → List Laid → Type 0
+AreThere d xs = AllByRecursion (λ (x : Laid). IsThere d x.origin) xs
+
+there-drop : (d : Profile) (n : ℕ) (xs : List Laid) → AreThere d xs → AreThere d (drop n xs)
+there-drop d zero xs are = are
+there-drop d (suc n) [] are = tt
+there-drop d (suc n) (x ∷ xs) are = there-drop d n xs are.1
+
+reply-there : (d : Profile) (reply : Option (List ℕ)) → AreThere d (reply_laid reply)
+reply-there d None = tt
+reply-there d (Some packet) = (tt, tt)
+
+sample-there : (d : Profile) (b : Bool) (m c : ℕ) (s : SampleParts) → c < length d.events.items → AreThere d (sample_laid b m c s)
+sample-there d true m c s within = (within, tt)
+sample-there d false m c s within = tt
+
+waits-there : (d : Profile) (log : List Act) → IsLog d log → AreThere d (waits d log)
+waits-there d [] is = tt
+waits-there d (Heard x ∷ log) is = all-append (λ (y : Laid). IsThere d y.origin) (waits d log) _ (waits-there d log is.2) (reply-there d (reply_in d (past_of d log) x))
+waits-there d (Refused packet code ∷ log) is = all-append (λ (y : Laid). IsThere d y.origin) (waits d log) _ (waits-there d log is.2) (tt, tt)
+waits-there d (Opened at ∷ log) is = waits-there d log is.1
+waits-there d (Took m c (Sample s) ∷ log) is =
+    all-append (λ (y : Laid). IsThere d y.origin) (waits d log) _ (waits-there d log is.2) (sample-there d (passes (deeds_of d m c log) s.list) m c s is.1.within)
+waits-there d (Took m c (Marker k) ∷ log) is = waits-there d log is.2
+waits-there d (CameBack m c past ∷ log) is = waits-there d log is.1
+waits-there d (Sent n ∷ log) is = there-drop d n (waits d log) (waits-there d log is.1)
+waits-there d (HungUp ∷ log) is = waits-there d log is
+waits-there d (Discarded ∷ log) is = tt
+
+there-at : (d : Profile) (xs : List Laid) (n : ℕ) (x : Origin) → AreThere d xs → slice_get (origins xs) n ≡ Some x → IsThere d x
+there-at d [] n x are at = absurd (none at) where
+  none : {y : Origin} → None ≡ Some y → ⊥
+  none e = cc
+there-at d (y ∷ xs) zero x are at = subst (IsThere d) (some_inj y.origin x at) are.0
+there-at d (y ∷ xs) (suc n) x are at = there-at d xs n x are.1 at
+
+-- so much was done at a ring at most, with what of it waits
+few-left : (d : Profile) (log : List Act) (n c m : ℕ) → 32 * (1 + length log) ≤ MAX_TAKEN → length (left_deeds d log n c m) < MAX_TAKEN
+few-left d log n c m few =
+    let os = origins (waits d log) in
+    let front = sum_by-take-le (λ o. if is_of_ring m c o then 1 else 0) os n in
+    omega (arith, few, deeds-and-waits-few d m c log, unsent-length m c (first n os), length-append (unsent_by m c (first n os)) (deeds_of d m c log), front)
+
+-- a part that isn't of the measurement
+part-else : {T F : Type 0} (take : TakeGhosts T F) (d : Profile) (log : List Act) (n k m c l : ℕ) (p : ShareState T) → (m ≡ p.number → c ≡ k → ⊥) → StandsAfter take p.intake (left_deeds d log n k p.number)
+    → StandsAfter take p.intake (unsent_one p.number k (origin.Sample m c l) ++ left_deeds d log n k p.number)
+part-else take d log n k m c l p other stands =
+    subst (λ ds. StandsAfter take p.intake (ds ++ left_deeds d log n k p.number)) (sym (one-else p.number m k c l other)) stands
+
+module _ {S T F : Type 0} (take : TakeGhosts T F) where
+  -- an event channel where more was done with the rings of its parts, and no order
+  has-where : (n : ℕ) (f g : ℕ → List Deed) (ch : ChannelState S T)
+      → ((p : ShareState T) → (ch.newer ≡ Some p) ⊎ (ch.older ≡ Some p) → StandsAfter take p.intake (f p.number) → StandsAfter take p.intake (g p.number))
+      → ((l : ℕ) → runs_there (g (n - 1)) l ≡ runs_there (f (n - 1)) l) → ChannelHas take n f ch → ChannelHas take n g ch
+  has-where n f g ch parts runs has = record {
+    newer = λ p at.
+        let part = has.newer p at in
+        record { there = part.there; stands = parts p (inl at) part.stands };
+    older = λ p at.
+        let (part, less) = has.older p at in
+        (record { there = part.there; stands = parts p (inr at) part.stands }, less);
+    order = has.order;
+    newest = has.newest;
+    running = λ l below. has.running l below ∙ sym (runs l);
+  }
+
+  -- where no event channel changed
+  left-beside : (d : Profile) (log : List Act) (n : ℕ) (x : Origin) (a b : SlaveState S T) → slice_get (origins (waits d log)) n ≡ Some x → b ≡ record a { account = b.account }
+      → ((c : ℕ) (ch : ChannelState S T) (p : ShareState T) → slice_get a.channels c ≡ Some ch → (ch.newer ≡ Some p) ⊎ (ch.older ≡ Some p)
+      → StandsAfter take p.intake (left_deeds d log n c p.number) → StandsAfter take p.intake (unsent_one p.number c x ++ left_deeds d log n c p.number))
+      → AccountStandsAfter b.account (entries_of d log) (left_late d log (n + 1))
+      → StandsBy take (left_deeds d log n) (left_late d log n) d a log → StandsBy take (left_deeds d log (n + 1)) (left_late d log (n + 1)) d b log
+  left-beside d log n x a b at rest parts account has =
+      let channels = ap (λ (s : SlaveState S T). s.channels) rest in
+      let session = ap (λ (s : SlaveState S T). s.session) rest in
+      record {
+        few = has.few;
+        is_log = has.is_log;
+        profile = ap (λ (s : SessionState). s.profile) session ∙ has.profile;
+        session = subst (λ s. SessionStandsAfter s (past_of d log)) (sym session) has.session;
+        outbox = subst (λ o. OutboxStandsAfter o (sent_units d log) (waits d log)) (sym (ap (λ (s : SlaveState S T). s.outbox) rest)) has.outbox;
+        channels = λ c ch there.
+            let was = ap (λ zs. slice_get zs c) (sym channels) ∙ there in
+            has-where _ (left_deeds d log n c) (left_deeds d log (n + 1) c) ch
+            (λ p kept stands. subst (StandsAfter take p.intake) (sym (deeds-more d log n c p.number x at)) (parts c ch p was kept stands))
+            (λ l. ap (λ ds. runs_there ds l) (deeds-more d log n c _ x at) ∙ one-runs _ c x (left_deeds d log n c _) l) (has.channels c ch was);
+        out = λ c ch there. has.out c ch (ap (λ zs. slice_get zs c) (sym channels) ∙ there);
+        opens = λ c ch there. has.opens c ch (ap (λ zs. slice_get zs c) (sym channels) ∙ there);
+        many = ap length channels ∙ has.many;
+        plan = ap (λ (s : SlaveState S T). s.plan) rest ∙ has.plan;
+        number = ap (λ (s : SlaveState S T). s.number) rest ∙ has.number;
+        account = account;
+      }
+
+  -- a reply is thrown away
+  left-reply : (d : Profile) (log : List Act) (n : ℕ) (a b : SlaveState S T) → slice_get (origins (waits d log)) n ≡ Some origin.Reply → b ≡ a
+      → StandsBy take (left_deeds d log n) (left_late d log n) d a log → StandsBy take (left_deeds d log (n + 1)) (left_late d log (n + 1)) d b log
+  left-reply d log n a b at same has =
+      left-beside d log n origin.Reply a b at (same ∙ ap (λ z. record a { account = z }) (ap (λ (s : SlaveState S T). s.account) (sym same))) (λ c ch p is kept stands. stands)
+      (subst (λ z. AccountStandsAfter z (entries_of d log) (left_late d log (n + 1))) (ap (λ (s : SlaveState S T). s.account) (sym same))
+      (same-unsent a.account (entries_of d log) (left_late d log n) (left_late d log (n + 1)) (λ l below. late-not d log n l origin.Reply at refl) has.account)) has
+
+  -- a sample of a list that there can't be
+  left-beyond : (d : Profile) (log : List Act) (n m c l : ℕ) (a b : SlaveState S T) → 32 * (1 + length log) ≤ MAX_TAKEN → slice_get (origins (waits d log)) n ≡ Some (origin.Sample m c l) → MAX_LISTS ≤ l → b ≡ a
+      → StandsBy take (left_deeds d log n) (left_late d log n) d a log → StandsBy take (left_deeds d log (n + 1)) (left_late d log (n + 1)) d b log
+  left-beyond d log n m c l a b few at beyond same has =
+      left-beside d log n (origin.Sample m c l) a b at (same ∙ ap (λ z. record a { account = z }) (ap (λ (s : SlaveState S T). s.account) (sym same)))
+      (λ k ch p is kept stands. by k p (nat_eq m p.number && nat_eq c k) stands)
+      (subst (λ z. AccountStandsAfter z (entries_of d log) (left_late d log (n + 1))) (ap (λ (s : SlaveState S T). s.account) (sym same))
+      (same-unsent a.account (entries_of d log) (left_late d log n) (left_late d log (n + 1)) (λ j below. late-not d log n j (origin.Sample m c l) at (not-of j below)) has.account)) has where
+        by : (k : ℕ) (p : ShareState T) (here : Bool) → StandsAfter take p.intake (left_deeds d log n k p.number) → StandsAfter take p.intake ((if here then Unsent l ∷ [] else []) ++ left_deeds d log n k p.number)
+        by k p true stands = stands-beyond take p.intake l (left_deeds d log n k p.number) beyond (few-left d log n k p.number few) stands
+        by k p false stands = stands
+
+        not-of : (j : ℕ) → j < MAX_LISTS → is_late log j (origin.Sample m c l) ≡ false
+        not-of j below =
+            elim (eqb_tells l j) [
+              | inl w ↦ absurd (omega (arith, w.1, below, beyond))
+              | inr w ↦ ap (λ e. e && not (is_out m c log)) w.0
+            ]
+
+  -- a part that isn't kept isn't out
+  not-out : (out : ℕ → Bool) (ch : ChannelState S T) (m : ℕ) → IsOut out ch → number_of ch.newer ≢ Some m → number_of ch.older ≢ Some m → out m ≡ false
+  not-out out ch m is newer older =
+      elim (is-bool (out m)) [
+        | inl there ↦ absurd (elim (is.kept m there) [ inl w ↦ newer w | inr w ↦ older w ])
+        | inr none ↦ none
+      ]
+
+  -- a sample of a part that came back: the account is told
+  left-late-one : (d : Profile) (log : List Act) (n m c l : ℕ) (a b : SlaveState S T) → slice_get (origins (waits d log)) n ≡ Some (origin.Sample m c l) → TellsAccount take m c l a b
+      → StandsBy take (left_deeds d log n) (left_late d log n) d a log → StandsBy take (left_deeds d log (n + 1)) (left_late d log (n + 1)) d b log
+  left-late-one d log n m c l a b at tells has =
+      let x = origin.Sample m c l in
+      let there : c < length d.events.items = there-at d (waits d log) n x (waits-there d log has.is_log) at in
+      let (ch, here) = some-at a.channels c (omega (arith, there, has.many)) in
+      let none = tells.none ch here in
+      let back : is_out m c log ≡ false = not-out (λ k. is_out k c log) ch m (has.out c ch here) none.0 none.1 in
+      left-beside d log n x a b at tells.rest
+      (λ k other p is kept stands. part-else take d log n k m c l p (λ same also. gone k other p is kept same also) stands)
+      (same-unsent b.account (entries_of d log) (more_unsent l 1 (left_late d log n)) (left_late d log (n + 1)) (λ j below. more j back)
+      (tells.account (entries_of d log) (left_late d log n) has.account)) has where
+        number : (p : ShareState T) (o : Option (ShareState T)) → o ≡ Some p → number_of o ≡ Some p.number
+        number p o is = ap (λ (q : Option (ShareState T)). number_of q) is
+
+        gone : (k : ℕ) (other : ChannelState S T) (p : ShareState T) → slice_get a.channels k ≡ Some other → (other.newer ≡ Some p) ⊎ (other.older ≡ Some p) → m ≡ p.number → c ≡ k → ⊥
+        gone k other p is kept same also =
+            let (newer, older) = tells.none other (ap (slice_get a.channels) also ∙ is) in
+            elim kept [
+              | inl w ↦ newer (number p other.newer w ∙ ap Some (sym same))
+              | inr w ↦ older (number p other.older w ∙ ap Some (sym same))
+            ]
+
+        more : (j : ℕ) → is_out m c log ≡ false → more_unsent l 1 (left_late d log n) j ≡ left_late d log (n + 1) j
+        more j back =
+            elim (eqb_tells j l) [
+              | inl w ↦
+                  let yes_late : is_late log j (origin.Sample m c l) ≡ true = ap (λ e. nat_eq l j && not e) back ∙ and_true (nat_eq l j) ∙ elim (eqb_tells l j) [ inl v ↦ v.0 | inr v ↦ absurd (v.1 (sym w.1)) ] in
+                  let one_more : ◌≡◌ {A = ℕ} (if is_late log j (origin.Sample m c l) then 1 else 0) 1 = ap (λ e. if e then 1 else 0) yes_late in
+                  ap (λ e. if e then left_late d log n j + 1 else left_late d log n j) w.0 ∙ omega (arith, late-more d log n j (origin.Sample m c l) at, one_more)
+              | inr w ↦
+                  let not_late : is_late log j (origin.Sample m c l) ≡ false = elim (eqb_tells l j) [ inl v ↦ absurd (w.1 (sym v.1)) | inr v ↦ ap (λ e. e && not (is_out m c log)) v.0 ] in
+                  ap (λ e. if e then left_late d log n j + 1 else left_late d log n j) w.0 ∙ late-not d log n j (origin.Sample m c l) at not_late
+            ] where
+              and_true : (e : Bool) → (e && true) ≡ e
+              and_true true = refl
+              and_true false = refl
+
+  -- a sample of a part that is kept: the part is told
+  record IsTold (x y : ChannelState S T) (m l : ℕ) : Type 0 where
+    share : ShareState T
+    next : ShareState T
+    part : IsPart take x y m share.intake next.intake
+    goes_on : (ds : List Deed) → length ds < MAX_TAKEN → StandsAfter take share.intake ds → StandsAfter take next.intake (Unsent l ∷ ds)
+
+  part-of : (x y : ChannelState S T) (m l : ℕ) → GoesOnThere take m (Unsent l) x y → IsTold x y m l
+  part-of x y m l goes =
+      elim goes.parts [
+        | inl w ↦
+            let (older, tells) = w in
+            record {
+              share = tells.share;
+              next = tells.next;
+              part = subst (λ k. IsPart take x y k tells.share.intake tells.next.intake) tells.number
+                  (newer-part take x y tells.share tells.next tells.before_is
+                  (ap (λ z. record { link = z; older = y.older; newer = y.newer }) goes.link ∙ ap (λ z. record { link = x.link; older = z; newer = y.newer }) older)
+                  tells.after_is (tells.number_stays ∙ sym tells.number) tells.opened);
+              goes_on = tells.goes_on;
+            }
+        | inr w ↦
+            let (newer, tells) = w in
+            record {
+              share = tells.share;
+              next = tells.next;
+              part = subst (λ k. IsPart take x y k tells.share.intake tells.next.intake) tells.number
+                  (older-part take x y tells.share tells.next tells.before_is
+                  (ap (λ z. record { link = z; older = y.older; newer = y.newer }) goes.link ∙ ap (λ z. record { link = x.link; older = y.older; newer = z }) newer)
+                  tells.after_is (tells.number_stays ∙ sym tells.number) tells.opened);
+              goes_on = tells.goes_on;
+            }
+      ]
+
+  changes-at : (a b : SlaveState S T) (m c l : ℕ) (x y : ChannelState S T) → TellsPart take m c l a b → slice_get a.channels c ≡ Some x → slice_get b.channels c ≡ Some y → ChangesAt take a b c x y
+  changes-at a b m c l x y tells was is = record {
+    was = was;
+    is = is;
+    others = tells.channels.others;
+    quiet = λ off. ap (λ z. takes_orders z.newer) (tells.channels.here x y was is).link ∙ off;
+    as_many = tells.channels.as_many;
+    session = ap (λ (s : SlaveState S T). s.session) tells.rest;
+    plan = ap (λ (s : SlaveState S T). s.plan) tells.rest;
+    number = ap (λ (s : SlaveState S T). s.number) tells.rest;
+  }
+
+  left-told : (d : Profile) (log : List Act) (n m c l : ℕ) (a b : SlaveState S T) → 32 * (1 + length log) ≤ MAX_TAKEN → slice_get (origins (waits d log)) n ≡ Some (origin.Sample m c l) → TellsPart take m c l a b
+      → StandsBy take (left_deeds d log n) (left_late d log n) d a log → StandsBy take (left_deeds d log (n + 1)) (left_late d log (n + 1)) d b log
+  left-told d log n m c l a b few at tells has =
+      let o = origin.Sample m c l in
+      let there : c < length d.events.items = there-at d (waits d log) n o (waits-there d log has.is_log) at in
+      let (x, was) = some-at a.channels c (omega (arith, there, has.many)) in
+      let (y, is) = some-at b.channels c (omega (arith, there, has.many, tells.channels.as_many)) in
+      let changes = changes-at a b m c l x y tells was is in
+      let told = part-of x y m l (tells.channels.here x y was is) in
+      let f = left_deeds d log n in
+      let g = left_deeds d log (n + 1) in
+      let count = opened log in
+      let (within, before) = told.part.part count (f c) (has.channels c x was) in
+      let out : is_out m c log ≡ true = told.part.out (λ k. is_out k c log) (has.out c x was) in
+      let same : (k q : ℕ) → (m ≡ q → c ≡ k → ⊥) → g k q ≡ f k q = λ k q other. deeds-more d log n k q o at ∙ ap (λ ds. ds ++ f k q) (one-else q m k c l other) in
+      let here : ChannelHas take count (g c) y =
+      told.part.goes count (f c) (g c)
+      (subst (StandsAfter take told.next.intake) (sym (deeds-more d log n c m o at ∙ ap (λ ds. ds ++ f c m) (one-here m c l))) (told.goes_on (f c m) (few-left d log n c m few) before))
+      (λ q other. same c q (λ e z. other (sym e)))
+      (λ q j. ap (λ ds. runs_there ds j) (deeds-more d log n c q o at) ∙ one-runs q c o (f c q) j) (has.channels c x was) in
+      record {
+        few = has.few;
+        is_log = has.is_log;
+        profile = ap (λ (z : SessionState). z.profile) changes.session ∙ has.profile;
+        session = subst (λ z. SessionStandsAfter z (past_of d log)) (sym changes.session) has.session;
+        outbox = subst (λ z. OutboxStandsAfter z (sent_units d log) (waits d log)) (sym (ap (λ (s : SlaveState S T). s.outbox) tells.rest)) has.outbox;
+        channels = channels-changed take count f g a b c x y changes (λ k q other. same k q (λ e z. other (sym z))) here has.channels;
+        out = out-changed take (λ k q. is_out q k log) (λ k q. is_out q k log) a b c x y changes (λ k q other. refl) (out-kept (λ q. is_out q c log) x y told.part.keeps (has.out c x was)) has.out;
+        opens = opened-changed take d (λ q. past_at d q log) a b c x y changes (opened-kept d (λ q. past_at d q log) c x y told.part.keeps (has.opens c x was)) has.opens;
+        many = changes.as_many ∙ has.many;
+        plan = changes.plan ∙ has.plan;
+        number = changes.number ∙ has.number;
+        account = subst (λ z. AccountStandsAfter z (entries_of d log) (left_late d log (n + 1))) (sym (ap (λ (s : SlaveState S T). s.account) tells.rest))
+            (same-unsent a.account (entries_of d log) (left_late d log n) (left_late d log (n + 1))
+            (λ j below. late-not d log n j o at (ap (λ e. nat_eq l j && not e) out ∙ and_false (nat_eq l j))) has.account);
+      } where
+        and_false : (e : Bool) → (e && false) ≡ false
+        and_false true = refl
+        and_false false = refl
+
+  -- what is from there isn't sent
+  left-one : (d : Profile) (log : List Act) (n : ℕ) (x : Origin) (a b : SlaveState S T) → 32 * (1 + length log) ≤ MAX_TAKEN → slice_get (origins (waits d log)) n ≡ Some x → LeavesOne take x a b
+      → StandsBy take (left_deeds d log n) (left_late d log n) d a log → StandsBy take (left_deeds d log (n + 1)) (left_late d log (n + 1)) d b log
+  left-one d log n origin.Reply a b few at leaves has = left-reply d log n a b at leaves has
+  left-one d log n (origin.Sample m c l) a b few at leaves has =
+      elim leaves [
+        | inl tells ↦ left-told d log n m c l a b few at tells has
+        | inr w ↦ elim w [
+          | inl tells ↦ left-late-one d log n m c l a b at tells has
+          | inr v ↦ left-beyond d log n m c l a b few at v.0 v.1 has
+        ]
+      ]
+
+  one-stays : (x : Origin) (a b : SlaveState S T) → LeavesOne take x a b → (b.session ≡ a.session) × (b.outbox ≡ a.outbox) × (b.acts ≡ a.acts)
+  one-stays origin.Reply a b same = (ap (λ (s : SlaveState S T). s.session) same, ap (λ (s : SlaveState S T). s.outbox) same, ap (λ (s : SlaveState S T). s.acts) same)
+  one-stays (origin.Sample m c l) a b leaves =
+      elim leaves [
+        | inl tells ↦ (ap (λ (s : SlaveState S T). s.session) tells.rest, ap (λ (s : SlaveState S T). s.outbox) tells.rest, ap (λ (s : SlaveState S T). s.acts) tells.rest)
+        | inr w ↦ elim w [
+          | inl tells ↦ (ap (λ (s : SlaveState S T). s.session) tells.rest, ap (λ (s : SlaveState S T). s.outbox) tells.rest, ap (λ (s : SlaveState S T). s.acts) tells.rest)
+          | inr v ↦ (ap (λ (s : SlaveState S T). s.session) v.1, ap (λ (s : SlaveState S T). s.outbox) v.1, ap (λ (s : SlaveState S T). s.acts) v.1)
+        ]
+      ]
+
+  one-ended : (x : Origin) (a b : SlaveState S T) (past : Past) → LeavesOne take x a b → HasEnded a past → HasEnded b past
+  one-ended origin.Reply a b past same ended = λ none c ch at. ended none c ch (ap (λ (s : SlaveState S T). slice_get s.channels c) (sym same) ∙ at)
+  one-ended (origin.Sample m c l) a b past leaves ended =
+      elim leaves [
+        | inl tells ↦ λ none k ch at.
+            elim (eqb_tells k c) [
+              | inl w ↦
+                  let (x, was) = some-at a.channels k (omega (arith, slice_get_within b.channels k ch at, tells.channels.as_many)) in
+                  ap (λ z. takes_orders z.newer) (tells.channels.here x ch (ap (slice_get a.channels) (sym w.1) ∙ was) (ap (slice_get b.channels) (sym w.1) ∙ at)).link ∙ ended none k x was
+              | inr w ↦ ended none k ch (sym (tells.channels.others k w.1) ∙ at)
+            ]
+        | inr w ↦ elim w [
+          | inl tells ↦ λ none k ch at. ended none k ch (ap (λ (s : SlaveState S T). slice_get s.channels k) (sym tells.rest) ∙ at)
+          | inr v ↦ λ none k ch at. ended none k ch (ap (λ (s : SlaveState S T). slice_get s.channels k) (sym v.1) ∙ at)
+        ]
+      ]
+
+  -- nothing yet
+  pub leaves-none : (a : SlaveState S T) → LeavesFirst take 0 a a
+  leaves-none a = record {
+    outbox = refl;
+    session = refl;
+    counted = refl;
+    leaves = λ log few stands.
+        let has = stands.has in
+        record {
+          few = has.few;
+          is_log = has.is_log;
+          profile = has.profile;
+          session = has.session;
+          outbox = has.outbox;
+          channels = has.channels;
+          out = has.out;
+          opens = has.opens;
+          many = has.many;
+          plan = has.plan;
+          number = has.number;
+          account = same-unsent a.account (entries_of a.session.profile log) (late_of a.session.profile log) (left_late a.session.profile log 0) (λ l below. omega arith) has.account;
+        };
+    ended = λ log few stands. stands.ended;
+  }
+
+  -- one more of what waits
+  pub leaves-more : (n : ℕ) (a s b : SlaveState S T) (x : Origin) (u : Frames) → slice_get a.outbox.units n ≡ Some u → x ≡ u.origin → LeavesFirst take n a s → LeavesOne take x s b → LeavesFirst take (n + 1) a b
+  leaves-more n a s b x u at is leaves one =
+      let (session, outbox, acts) = one-stays x s b one in
+      record {
+        outbox = outbox ∙ leaves.outbox;
+        session = session ∙ leaves.session;
+        counted = acts ∙ leaves.counted;
+        leaves = λ log few stands.
+            let d = a.session.profile in
+            left-one d log n x s b few (origin-at (waits d log) n (ap (λ us. slice_get us n) (sym stands.has.outbox.units) ∙ at) ∙ ap Some (sym is)) one (leaves.leaves log few stands);
+        ended = λ log few stands. one-ended x s b (past_of a.session.profile log) one (leaves.ended log few stands);
+      } where
+        origin-at : (xs : List Laid) (k : ℕ) → slice_get (map unit_of xs) k ≡ Some u → slice_get (origins xs) k ≡ Some u.origin
+        origin-at [] k there = absurd (none there) where
+          none : {y : Frames} → None ≡ Some y → ⊥
+          none e = cc
+        origin-at (y ∷ xs) zero there = ap (λ (v : Frames). Some v.origin) (some_inj (unit_of y) u there)
+        origin-at (y ∷ xs) (suc k) there = origin-at xs k there
+
+  pub leaves-next : (n : ℕ) (a s b v : SlaveState S T) (x : Origin) → v ≡ s → n < length a.outbox.units → ((u : Frames) → slice_get v.outbox.units n ≡ Some u → x ≡ u.origin) → LeavesFirst take n a s → LeavesOne take x s b
+      → LeavesFirst take (n + 1) a b
+  leaves-next n a s b v x view below is leaves one =
+      let u : Frames = get_or a.outbox.units n (record { origin = origin.Reply; len = 0 }) in
+      let at : slice_get a.outbox.units n ≡ Some u = slice_get-get_or a.outbox.units n (record { origin = origin.Reply; len = 0 }) below in
+      let same = ap (λ (z : SlaveState S T). z.outbox) view ∙ leaves.outbox in
+      leaves-more n a s b x u at (is u (ap (λ (o : OutboxState). slice_get o.units n) same ∙ at)) leaves one
+
+  pub leaves-all : (n m : ℕ) (a b : SlaveState S T) → n ≡ m → LeavesFirst take n a b → LeavesFirst take m a b
+  leaves-all n m a b same leaves = subst (λ k. LeavesFirst take k a b) same leaves
+
+  -- the account was told
+  pub told-late : (x : Origin) (m c l k : ℕ) (a w b : SlaveState S T) → x ≡ origin.Sample m c l → w ≡ a → k ≡ l → KeepsNoneOf m c w.channels → b ≡ record w { account = b.account }
+      → ((entries : List Entry) (unsent : ℕ → ℕ) → AccountStandsAfter w.account entries unsent → AccountStandsAfter b.account entries (more_unsent k 1 unsent)) → LeavesOne take x a b
+  told-late x m c l k a w b is same list none rest account =
+      subst (λ o. LeavesOne take o a b) (sym is) (subst (λ (z : SlaveState S T). LeavesOne take (origin.Sample m c l) z b) same
+      (inr (inl (record {
+        none = none;
+        account = subst (λ j. (entries : List Entry) (unsent : ℕ → ℕ) → AccountStandsAfter w.account entries unsent → AccountStandsAfter b.account entries (more_unsent j 1 unsent)) list account;
+        rest = rest;
+      }))))
+
+  -- all of what waited was thrown away
+  pub throws-away : (a s b : SlaveState S T) → LeavesFirst take (length a.outbox.units) a s → b ≡ record s { outbox = b.outbox }
+      → ((sent wait : List Laid) → OutboxStandsAfter s.outbox sent wait → OutboxStandsAfter b.outbox sent []) → PartsGoBy take a b (Discarded ∷ [])
+  throws-away a s b leaves rest discards = λ log few stands.
+      let d = a.session.profile in
+      let os = origins (waits d log) in
+      let has = leaves.leaves log few stands in
+      let many : length os ≤ length a.outbox.units = omega (arith, ap length stands.has.outbox.units, length-map (waits d log) unit_of, length-map (waits d log) (λ (x : Laid). x.origin)) in
+      let all : first (length a.outbox.units) os ≡ os = take-whole (length a.outbox.units) os many in
+      let channels = ap (λ (z : SlaveState S T). z.channels) rest in
+      let session = ap (λ (z : SlaveState S T). z.session) rest in
+      record {
+        has = record {
+          few = omega (arith, few);
+          is_log = has.is_log;
+          profile = ap (λ (z : SessionState). z.profile) session ∙ has.profile;
+          session = subst (λ z. SessionStandsAfter z (past_of d log)) (sym session) has.session;
+          outbox = discards (sent_units d log) (waits d log) has.outbox;
+          channels = λ c ch at.
+              channel-same take (opened log) (left_deeds d log (length a.outbox.units) c) (λ m. deeds_of d m c (Discarded ∷ log)) (λ m. ap (λ ys. unsent_by m c ys ++ deeds_of d m c log) all) ch
+              (has.channels c ch (ap (λ zs. slice_get zs c) (sym channels) ∙ at));
+          out = λ c ch at. has.out c ch (ap (λ zs. slice_get zs c) (sym channels) ∙ at);
+          opens = λ c ch at. has.opens c ch (ap (λ zs. slice_get zs c) (sym channels) ∙ at);
+          many = ap length channels ∙ has.many;
+          plan = ap (λ (z : SlaveState S T). z.plan) rest ∙ has.plan;
+          number = ap (λ (z : SlaveState S T). z.number) rest ∙ has.number;
+          account = subst (λ z. AccountStandsAfter z (entries_of d log) (late_of d (Discarded ∷ log))) (sym (ap (λ (z : SlaveState S T). z.account) rest))
+              (same-unsent s.account (entries_of d log) (left_late d log (length a.outbox.units)) (late_of d (Discarded ∷ log)) (λ l below. ap (λ ys. late_of d log l + count_by (is_late log l) ys) all) has.account);
+        };
+        ended = λ none c ch at. leaves.ended log few stands none c ch (ap (λ zs. slice_get zs c) (sym channels) ∙ at);
+      }
+
+  -- the master was lost, and then what waited was thrown away
+  pub hung-up-and-thrown : (a m b : SlaveState S T) → GoesBy take a m (losing a.session.connected) → m.outbox ≡ a.outbox → m.session.profile ≡ a.session.profile → GoesBy take m b (discarding (has_waiting m.outbox))
+      → GoesBy take a b (discarding (has_waiting a.outbox) ++ losing a.session.connected)
+  hung-up-and-thrown a m b loses outbox profile throws = λ log stands.
+      let d = a.session.profile in
+      let lost = losing a.session.connected in
+      let between = subst (λ p. SlaveStandsAfter take p m (lost ++ log)) (sym profile) (loses log stands) in
+      let behind = subst (λ p. SlaveStandsAfter take p b (discarding (has_waiting m.outbox) ++ (lost ++ log))) profile (throws (lost ++ log) between) in
+      subst (λ xs. SlaveStandsAfter take d b xs) (sym (append_assoc (discarding (has_waiting a.outbox)) lost log))
+      (subst (λ o. SlaveStandsAfter take d b (discarding (has_waiting o) ++ (lost ++ log))) outbox behind)

@@ -1,0 +1,11 @@
+-- What waits behind an act.
+use Rattle.std.proofs.Common.{◌≡◌, ℕ, ◌++◌, ◌∷◌, List, append-nil, refl, sym}
+use Rattle.xcp_base.specs.declared.item.Item.{Item}
+use Rattle.xcp_base.specs.declared.item.Item.TheVariants.{Marker, Sample}
+use Rattle.session.specs.declared.profile.Profile.{Profile}
+use Rattle.slave.specs.Log.{Act, Took, laid_by, waits}
+
+-- behind an item that was taken: what it lays out too
+pub waits-took : (d : Profile) (m c : ℕ) (x : Item) (log : List Act) → waits d (Took m c x ∷ log) ≡ waits d log ++ laid_by d (Took m c x) log
+waits-took d m c (Sample s) log = refl
+waits-took d m c (Marker k) log = sym (append-nil (waits d log))

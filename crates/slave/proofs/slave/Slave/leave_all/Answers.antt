@@ -1,0 +1,19 @@
+use Rattle.std.proofs.Common.{◌<◌, ◌≡◌, ◌∙◌, ap, length, sym, arith}
+use Rattle.slave.proofs.DiscardingLemmas.{leaves-all, leaves-next, leaves-none}
+use Rattle.slave.proofs.slave.Slave.leave_all.Goals as goal
+
+pub loop-i-init : goal.loop-i-init
+loop-i-init g c = leaves-none g.R.Take.TakeEnd c.args.self.now
+
+-- one more
+pub loop-i-preserved : goal.loop-i-preserved
+loop-i-preserved g c =
+    let below : c.loop-i.i < length c.args.self.now.outbox.units =
+    omega (arith, c.loop-i-test.true, c.len-i-end.ensures, ap (λ s. length s.outbox.units) c.self.view_is) in
+    leaves-next g.R.Take.TakeEnd c.loop-i.i c.args.self.now c.loop-i.self c.leave.new.self _ c.origin-origin.result c.self-in-loop-i.view_is below c.origin-origin.ensures.origin c.loop-i.invariant c.leave.ensures.leaves
+
+pub returns : goal.returns
+returns g c = record {
+  leaves = leaves-all g.R.Take.TakeEnd c.loop-i.i (length c.args.self.now.outbox.units) c.args.self.now c.loop-i.self
+      (omega (arith, c.loop-i.auto.i-end, c.loop-i-test.false, c.len-i-end.ensures, ap (λ s. length s.outbox.units) c.self.view_is)) c.loop-i.invariant;
+}
