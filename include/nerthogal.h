@@ -202,7 +202,8 @@ typedef struct {
 /* What happened to the samples of a DAQ list since the opening: how many were due, and how many of
  * these were written, were dropped, or are left, in the ring or not written whole. due = written +
  * dropped + left. Written means that ng_pump, ng_pump_all or ng_drain returned all frames of the
- * sample. The library doesn't know what a socket then did with them. */
+ * sample; of a slave, that ng_slave_sent was told of them. The library doesn't know what a socket
+ * then did with them. */
 typedef struct {
     uint8_t list;
     uint64_t due, written, dropped, left;
