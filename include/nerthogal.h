@@ -202,7 +202,8 @@ typedef struct {
 /* What happened to the samples of a DAQ list since the opening: how many were due, and how many of
  * these were written, were dropped, or are left, in the ring or not written whole. due = written +
  * dropped + left. Written means that ng_pump, ng_pump_all or ng_drain returned all frames of the
- * sample. The library doesn't know what a socket then did with them. */
+ * sample; of a slave, that ng_slave_sent was told of them. The library doesn't know what a socket
+ * then did with them. */
 typedef struct {
     uint8_t list;
     uint64_t due, written, dropped, left;
@@ -475,8 +476,9 @@ ng_status ng_slave_task(ng_slave *slave, uint16_t channel, ng_task *task);
  *   NG_EMPTY      *slave is empty
  *   NG_SPENT      the slave is spent; nothing changes
  *   NG_BAD_FRAME  a frame has LEN 0 or over 64, in these bytes or in earlier ones of this stream.
- *                 The packets before it were answered, and the lists stopped as by
- *                 ng_slave_hang_up. No byte is taken any more until ng_slave_hang_up
+ *                 The packets before it were answered, and then all lists stopped and no master
+ *                 is connected, as after DISCONNECT. What waits is still to be sent. No byte is
+ *                 taken any more until ng_slave_hang_up
  *   NG_OK         the first *taken bytes were taken: all of them, or those up to the end of a frame
  *                 behind which no reply finds room. Pass the others again once replies were sent
  *
@@ -498,7 +500,9 @@ ng_status ng_slave_datagram(ng_slave *slave, const uint8_t *bytes, size_t len, u
 /* The transport was lost: all DAQ lists stop and are freed, and no master is connected, as after
  * DISCONNECT; but nothing is replied. While no master is connected, the lists are as they are. What
  * is held of a frame is dropped: the next byte of a stream is the first of a frame. What waits to
- * be sent waits on. NG_EMPTY if *slave is empty. Proved: all of this. Calls free. */
+ * be sent is thrown away, also what ng_slave_peek laid out, so that it never reaches another
+ * master; its samples are left. The next frame that is sent has the CTR behind that of the last one
+ * that was. NG_EMPTY if *slave is empty. Proved: all of this. Calls free. */
 ng_status ng_slave_hang_up(ng_slave *slave);
 
 /* Takes samples off the rings, and lays frames that wait out in buffer[0] to buffer[*len - 1]: as
@@ -540,8 +544,9 @@ ng_status ng_task_trigger(ng_task *task, const uint8_t *image, size_t image_len,
 ng_status ng_task_finish(ng_task *task);
 
 /* Closes a slave, and returns the account of its session: lines[l] is the line of DAQ list l, over
- * all measurements, modulo 2^64. All lists stop, as by ng_slave_hang_up. What waits, and so isn't
- * sent any more, counts as left. *slave is then empty.
+ * all measurements, modulo 2^64. All lists stop, and what waits is thrown away, as by
+ * ng_slave_hang_up. Written are the samples that ng_slave_sent was told of; left are those that
+ * were thrown away, were from before a stop, or weren't taken. *slave is then empty.
  *
  *   NG_EMPTY         *slave is empty
  *   NG_SMALL_BUFFER  lines_cap is below NG_MAX_LISTS

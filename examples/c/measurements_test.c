@@ -3,10 +3,10 @@
  * the first thread, beside a master that sends orders at random, loses its connection, and sets
  * lists up anew. What the slave sends is read as a master reads it: CTR rises by one, each command
  * has its reply, in order, no packet of a list stands outside of a run, each sample is whole, and
- * the samples of a list rise. A start that is refused with ERR_CMD_BUSY is accepted in the end. The
- * account has what the triggers answered as due and dropped, and what was read as written. The
- * triggers take and free no memory. Prints a line for each seed; ends with status 1 at the first
- * thing that isn't as wanted. */
+ * the samples of a list rise. What waits for a master that is lost never comes. A start that is
+ * refused with ERR_CMD_BUSY is accepted in the end. The account has what the triggers answered as
+ * due and dropped, and what was read as written. The triggers take and free no memory. Prints a
+ * line for each seed; ends with status 1 at the first thing that isn't as wanted. */
 #define _POSIX_C_SOURCE 200809L
 #include "memory.h"
 #include "nerthogal.h"
@@ -286,6 +286,19 @@ static void turn(ng_slave *slave) {
     }
 }
 
+/* How often something waited for a master that was lost. */
+static unsigned long thrown;
+
+/* The master is lost. What waits for it never comes, shown or not, so its commands aren't answered,
+ * and the CTR that comes next is the one behind that of the last frame that was read. */
+static void lose(ng_slave *slave) {
+    if (look(slave) > 0) thrown++;
+    want(ng_slave_hang_up(slave) == NG_OK, "hang up");
+    waiting = running = 0;
+    shown = 0;
+    want(look(slave) == 0, "what waited is thrown away");
+}
+
 /* The end of a measurement: lists are stopped, are given up, or the master is lost. */
 static void finish_measurement(ng_slave *slave) {
     switch (roll(10)) {
@@ -295,9 +308,7 @@ static void finish_measurement(ng_slave *slave) {
         connect(slave);
         break;
     case 2:
-        want(ng_slave_hang_up(slave) == NG_OK, "hang up");
-        drain(slave);
-        running = 0;
+        lose(slave);
         connect(slave);
         break;
     case 3:
@@ -365,7 +376,9 @@ static void play(ng_ring ring, unsigned seed) {
     for (unsigned c = 0; c < CHANNELS; c++)
         want(pthread_create(&threads[c], NULL, sample, &samplings[c]) == 0, "thread");
     connect(&slave);
+    thrown = 0;
     for (unsigned k = 0; k < MEASUREMENTS; k++) measure(&slave);
+    want(thrown > 0, "some master was lost for whom something waited");
     drain(&slave);
     __atomic_store_n(&over, true, __ATOMIC_SEQ_CST);
     for (unsigned c = 0; c < CHANNELS; c++) {

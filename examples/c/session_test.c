@@ -463,6 +463,67 @@ static void start(ng_slave *slave) {
                  "01000500ff" "01000600ff" "02000700ff00");
 }
 
+/* A bad frame ends a measurement, and throws nothing away. */
+static void behind_a_bad_frame(void) {
+    static const ng_line account[] = {{0, 2, 1, 0, 1}};
+    ng_slave slave = open_slave(1);
+    ng_task task = task_of(&slave, 0);
+    uint8_t bytes[64];
+    size_t taken = 77, len = unhex("01000000dc" "4100", bytes);
+    begin("what waits at a bad frame is still sent");
+    start(&slave);
+    trigger(&task, "aabb", 1, 1);
+    hear(&slave, "01000000fd");
+    shows(&slave, "06000800ff4000000000" "0300090000aabb");
+    trigger(&task, "ccdd", 1, 1);
+    want(ng_slave_receive(&slave, bytes, len, CLOCK, &taken) == NG_BAD_FRAME, "a bad LEN");
+    sends(&slave, "06000800ff4000000000" "0300090000aabb" "08000a00ff00000004030201");
+    trigger(&task, "eeff", 0, 0);
+    hear_nothing(&slave);
+    finish(&task);
+    close_with(&slave, account, 1);
+    end();
+}
+
+/* What waits for a master that is gone is thrown away, also what was shown and not sent, and CTR
+ * goes on behind the last frame that was sent. */
+static void lost_masters(void) {
+    static const ng_line account[] = {{0, 5, 2, 0, 3}};
+    ng_slave slave = open_slave(1);
+    ng_task task = task_of(&slave, 0);
+    begin("what waits for a master that is gone never reaches another one");
+    start(&slave);
+    trigger(&task, "aabb", 1, 1);
+    sends(&slave, "0300080000aabb");
+    hear(&slave, "01000000fd");
+    trigger(&task, "ccdd", 1, 1);
+    shows(&slave, "06000900ff4000000000" "03000a0000ccdd");
+    trigger(&task, "eeff", 1, 1);
+    want(ng_slave_hang_up(&slave) == NG_OK, "hang up");
+    want(ng_slave_sent(&slave) == NG_OK, "nothing is shown any more");
+    shows(&slave, "");
+    trigger(&task, "1122", 0, 0);
+    hear(&slave, "02000000ff00");
+    sends(&slave, "08000900ff04804040000101");
+    hear(&slave, "04000000d5000100" "05000000d400000001" "06000000d30000000001"
+                 "06000000e20000000000" "08000000e1ff020000000000" "08000000e000000000000100"
+                 "04000000de010000");
+    sends(&slave, "01000a00ff" "01000b00ff" "01000c00ff" "01000d00ff" "01000e00ff" "01000f00ff"
+                  "02001000ff00");
+    trigger(&task, "3344", 1, 1);
+    sends(&slave, "03001100003344");
+    trigger(&task, "5566", 1, 1);
+    hear(&slave, "01000000fe");
+    shows(&slave, "01001200ff");
+    want(ng_slave_hang_up(&slave) == NG_OK, "hang up, where no master is connected");
+    shows(&slave, "");
+    hear(&slave, "02000000ff00");
+    sends(&slave, "08001200ff04804040000101");
+    finish(&task);
+    close_with(&slave, account, 1);
+    end();
+}
+
 /* Sends what waits, whatever it is. */
 static void skip(ng_slave *slave) {
     size_t len = 0;
@@ -680,6 +741,8 @@ int main(void) {
         datagrams();
         bad_frames();
         many_replies();
+        behind_a_bad_frame();
+        lost_masters();
         full_buffers();
         small_buffers();
         unfinished();

@@ -128,14 +128,9 @@ struct server {
 
 static bool nothing_heard(const struct server *s) { return s->from == s->to; }
 
-/* The connection is gone: what waits would be another master's. */
+/* The connection is gone. What waits is thrown away, so that it never reaches another master. */
 static void lose(struct server *s) {
-    size_t len = 0;
     ng_slave_hang_up(&s->slave);
-    do {
-        ng_slave_peek(&s->slave, s->page, sizeof s->page, &len);
-        ng_slave_sent(&s->slave);
-    } while (len > 0);
     if (s->tcp >= 0) close(s->tcp);
     s->tcp = -1;
     s->by_udp = false;
@@ -183,7 +178,8 @@ static void pass_on(struct server *s) {
         if (s->tcp < 0)
             ng_slave_datagram(&s->slave, bytes, len, now_us(), &taken);
         else if (ng_slave_receive(&s->slave, bytes, len, now_us(), &taken) != NG_OK) {
-            lose(s); /* a bad frame: behind it a stream can't be read on */
+            send_waiting(s); /* the replies to what came before a bad frame */
+            lose(s);         /* behind it a stream can't be read on */
             return;
         }
         s->from += taken;

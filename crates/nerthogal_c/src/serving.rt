@@ -90,7 +90,7 @@ pub extern "C" fn ng_slave_datagram(
     datagram_by(alloc, slave, bytes, clock, taken).number()
 }
 
-/// The transport was lost: all lists stop, and no master is connected.
+/// The transport was lost: all lists stop, no master is connected, and what waits is thrown away.
 ///
 /// Refused if there is no slave.
 #[unsafe(no_mangle)]

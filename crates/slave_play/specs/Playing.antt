@@ -2,8 +2,7 @@
 use Rattle.std.specs.Prelude.{◌≡◌, ℕ, ◌+◌, ◌*◌, ◌≤◌, List, [], ◌∷◌, ◌++◌, length}
 use Rattle.channel_ring.specs.declared.ends.TakeEnd.{Ghosts as TakeGhosts}
 use Rattle.session.specs.declared.profile.Profile.{Profile}
-use Rattle.slave.specs.Log.{Act, CameBack, Heard, HungUp, Opened, Refused, Sent}
-use Rattle.slave.specs.Log.{Took}
+use Rattle.slave.specs.Log.{Act, CameBack, Discarded, Heard, HungUp, Opened, Refused, Sent, Took}
 use Rattle.slave.specs.Session.{SessionLaw, sent_text}
 use Rattle.slave.specs.Standing.{IsLog, SlaveStandsAfter, SlaveState}
 use Rattle.slave.specs.Taking.{most_taken}
@@ -29,6 +28,7 @@ heard_by (Took m c x ∷ log) = heard_by log
 heard_by (CameBack m c past ∷ log) = heard_by log
 heard_by (Sent n ∷ log) = heard_by log
 heard_by (HungUp ∷ log) = heard_by log
+heard_by (Discarded ∷ log) = heard_by log
 
 -- the most acts of a line, and of the end: what is taken for one datagram, and its sending; or
 -- parts that came back, and a packet that is heard behind those

@@ -142,7 +142,7 @@ impl<R: Ring> Player<R> {
         lose(&mut self.slave);
     }
 
-    /// The master hangs up.
+    /// The transport is lost, and what waits is thrown away.
     fn hang_up(&mut self)
         ensures hangs_up { Advances R.Take.TakeEnd most_a_line
             (sending self.old.slave self.old.out.contents)
@@ -152,8 +152,8 @@ impl<R: Ring> Player<R> {
         self.slave.hang_up();
     }
 
-    /// The session ends: the slave hangs up, the tasks finish, all that came back is collected, and
-    /// the slave is closed.
+    /// The session ends: the slave hangs up, which throws away what waits, the tasks finish, all
+    /// that came back is collected, and the slave is closed.
     ///
     /// Refused with `PartLost` if something did not come back.
     pub(crate) fn finish(mut self, alloc: Global) -> Result<Played, PlayFault>

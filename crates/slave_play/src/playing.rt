@@ -18,8 +18,8 @@ use slave_file::{Line, SessionFile};
 use std::alloc::{AllocError, Global};
 use xcp_base::RingKind;
 
-/// Plays a session, line by line, and ends it: the slave hangs up, the tasks finish, and what came
-/// back is collected.
+/// Plays a session, line by line, and ends it: the slave hangs up, which throws away what waits,
+/// the tasks finish, and what came back is collected.
 ///
 /// Refused with `Profile` if the profile is out of a limit; `Memory` may be answered before that.
 pub fn play(alloc: Global, file: SessionFile) -> Result<Played, PlayFault>

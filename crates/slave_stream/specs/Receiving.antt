@@ -38,12 +38,13 @@ module _ {S T F : Type 0} (take : TakeGhosts T F) where
     pub receives : Receives r s a b clock (first taken bytes)
     pub closed : s.closed ≡ true
 
-  -- the same; and then the transport was lost
+  -- the same; and then the slave disconnected, if a master was connected, and what waits waits on
   pub record LosesStream (r s : ReaderState) (a b : SlaveState S T) (clock : ℕ) (bytes : List ℕ)
       : Type 0 where
     pub between : SlaveState S T
     pub breaks_off : BreaksOff r s a between clock bytes
-    pub hangs_up : GoesBy take between b (losing between.session.connected)
+    pub disconnects : GoesBy take between b (losing between.session.connected)
+    pub outbox : b.outbox ≡ between.outbox
     pub profile : b.session.profile ≡ between.session.profile
 
   -- so many bytes of a datagram were taken: frames, whose packets were heard, and then nothing; or

@@ -51,8 +51,8 @@ impl MasterStream {
     /// frame.
     ///
     /// Refused if a frame is bad (LEN 0 or over MAX_CTO), as soon as its LEN is taken. The packets
-    /// before it were heard, and the slave hangs up. From then on every call is refused, and
-    /// changes nothing.
+    /// before it were heard, and the slave disconnects: what waits is still sent. From then on
+    /// every call is refused, and changes nothing.
     pub fn receive<R: Ring>(
         &mut self,
         slave: &mut Slave<R>,
@@ -83,14 +83,14 @@ impl MasterStream {
         match self.read(slave, alloc, bytes, clock) {
             Ok(taken) => Ok(taken),
             Err(fault) => {
-                slave.hang_up();
+                slave.disconnect();
                 Err(fault)
             }
         }
     }
 
     /// Takes bytes, and has the slave hear the packet of each frame that they end, as long as a
-    /// reply finds room. The slave doesn't hang up.
+    /// reply finds room. The slave doesn't disconnect.
     pub(crate) fn read<R: Ring>(
         &mut self,
         slave: &mut Slave<R>,

@@ -1,10 +1,11 @@
 -- What a slave does with the bytes of its master.
-use Rattle.std.specs.Prelude.{◌≡◌, ◌⊎◌, ℕ, ◌≤◌, false, true, List, [], length}
+use Rattle.std.specs.Prelude.{◌≡◌, ◌⊎◌, ℕ, ◌≤◌, false, true, List, [], ◌++◌, length}
 use Rattle.std.specs.Prelude.{take as first}
 use Rattle.channel_ring.specs.declared.ends.TakeEnd.{Ghosts as TakeGhosts}
+use Rattle.frame_outbox.specs.Outboxes.{has_waiting}
 use Rattle.frame_reader.specs.Reading.{ReaderStandsAfter}
 use Rattle.slave.specs.Hearing.{GoesBy, may_hear}
-use Rattle.slave.specs.Log.{losing}
+use Rattle.slave.specs.Log.{discarding, losing}
 use Rattle.slave_stream.specs.Receiving.{HearsDatagram, LosesStream, Receives}
 use Rattle.task_lending.specs.States.{LendingSlaveState}
 
@@ -22,8 +23,8 @@ module _ {S T F : Type 0} (take : TakeGhosts T F) where
     pub no_room : may_hear a.slave ≡ false → (n ≡ 0) × (b ≡ a)
     pub tasks : b.tasks ≡ a.tasks
 
-  -- a frame was bad: the packets before it were heard, the slave hung up, and the stream is closed;
-  -- if it was closed before, nothing changed
+  -- a frame was bad: the packets before it were heard, the slave disconnected, and the stream is
+  -- closed; if it was closed before, nothing changed
   pub record RefusesBytes (a b : LendingSlaveState S T) (clock : ℕ) (bytes : List ℕ) : Type 0 where
     pub bad :
         a.stream.closed ≡ false
@@ -41,9 +42,13 @@ module _ {S T F : Type 0} (take : TakeGhosts T F) where
     pub stream : b.stream ≡ a.stream
     pub tasks : b.tasks ≡ a.tasks
 
-  -- the slave hung up, and another stream begins
+  -- the slave hung up, so that nothing waits, and another stream begins
   pub record HangsUp (a b : LendingSlaveState S T) : Type 0 where
-    pub hangs_up : GoesBy take a.slave b.slave (losing a.slave.session.connected)
+    pub hangs_up :
+        GoesBy take a.slave b.slave
+        (discarding (has_waiting a.slave.outbox) ++ losing a.slave.session.connected)
+    pub none_waits : b.slave.outbox.units ≡ []
+    pub none_shown : b.slave.outbox.shown ≡ 0
     pub profile : b.slave.session.profile ≡ a.slave.session.profile
     pub fresh : ReaderStandsAfter b.stream [] []
     pub is_open : b.stream.closed ≡ false

@@ -34,8 +34,8 @@ impl<R: Ring> LendingSlave<R> {
         datagram(&mut self.slave, alloc, bytes, clock)
     }
 
-    /// The transport was lost: the slave hangs up, and what is held of a frame is dropped. The next
-    /// byte of a stream is the first of another one.
+    /// The transport was lost: the slave hangs up, which throws away what waits, and what is held
+    /// of a frame is dropped. The next byte of a stream is the first of another one.
     pub fn hang_up(&mut self)
         ensures { HangsUp R.Take.TakeEnd self.old self.new }
     {
