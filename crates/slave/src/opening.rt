@@ -1,6 +1,7 @@
-ghost use Rattle.std.specs.Prelude.{◌≡◌, [], IfOk, OnOk, None, Some, length, replicate};
-ghost use Rattle.session.specs.Profiles.{profile_fault};
+ghost use Rattle.std.specs.Prelude.{◌≡◌, [], IfErr, IfOk, OnOk, length, replicate};
+ghost use Rattle.std.specs.List.{list_all};
 ghost use Rattle.slave.specs.Openings.{capacities_in};
+ghost use Rattle.slave.specs.Refusals.{CanOpen, IsOpenRefusal};
 ghost use Rattle.slave.specs.Standing.{SlaveStandsAfter};
 ghost use Rattle.slave_channels.specs.Calls.{no_sampler};
 
@@ -40,6 +41,13 @@ fn capacities(alloc: Global, events: &[EventChannel]) -> Result<Vec<usize>, Allo
     Ok(caps)
 }
 
+/// Whether a ring of this kind may have each of these capacities.
+fn may_have<R: Ring>(caps: &[usize]) -> bool
+    ensures { result ≡ list_all R.is_cap caps.now }
+{
+    caps.iter().all(|&cap| R::is_cap(cap))
+}
+
 impl<R: Ring> Slave<R> {
     /// A slave with this profile, and the tasks of its event channels, in their order. No master is
     /// connected, there is no DAQ list, and nothing waits.
@@ -51,7 +59,8 @@ impl<R: Ring> Slave<R> {
         alloc: Global,
         profile: Profile,
     ) -> Result<(Slave<R>, Vec<Task<R::Send>>), OpenFault>
-        ensures within { OnOk result (profile_fault profile ≡ None) }
+        ensures can { OnOk result (CanOpen R.is_cap profile) }
+        ensures refusal { IfErr result (IsOpenRefusal R.is_cap profile) }
         ensures profile { IfOk result (λ made. made.0.session.profile ≡ profile) }
         ensures stands { IfOk result
             (λ made. SlaveStandsAfter R.Take.TakeEnd profile made.0 []) }
@@ -67,7 +76,7 @@ impl<R: Ring> Slave<R> {
         let Ok(caps) = capacities(alloc, &profile.events) else {
             return Err(OpenFault::Memory);
         };
-        if !caps.iter().all(|&cap| R::is_cap(cap)) {
+        if !may_have::<R>(&caps) {
             return Err(OpenFault::Capacity);
         }
         let Ok(session) = Session::open(alloc, profile) else {

@@ -1,8 +1,16 @@
-use Rattle.std.proofs.Common.{◌<◌, ◌+◌, subst}
+use Rattle.std.proofs.Common.{◌<◌, ◌+◌, not, sym, subst}
 use Rattle.slave_channels.specs.Calls.{KeepsNone, KeepsOne}
+use Rattle.slave.specs.Closing.{Closes}
+use Rattle.slave.specs.Standing.{SlaveState}
 use Rattle.slave.proofs.ClosingLemmas.{closes}
 use Rattle.slave.specs.declared.limits.TheConstants.{MOST_ACTS, PER_PACKET}
 use Rattle.slave.proofs.slave.Slave.close.Goals as goal
 
 pub returns : goal.returns
-returns g c = ?
+returns g c = record {
+  closes =
+      subst (λ (s : SlaveState _ _). Closes g.R.Take.TakeEnd c.args.self s.account (not c.has_parts-is_whole.result)) (sym c.self.view_is)
+      (closes g.R.Take.TakeEnd c.args.self c.hang_up.new.self c.collect.new.self c.has_parts-is_whole.result
+      (subst (λ (s : SlaveState _ _). s.acts < MOST_ACTS + PER_PACKET) c.self.view_is c.self.invariant.1) c.hang_up.ensures.hangs_up c.hang_up.ensures.profile_stays c.collect.ensures
+      (λ none. subst (λ (s : SlaveState _ _). KeepsNone s.channels) c.self.view_is (c.has_parts-is_whole.ensures.none none)) (λ some. subst (λ (s : SlaveState _ _). KeepsOne s.channels) c.self.view_is (c.has_parts-is_whole.ensures.some some)));
+}
