@@ -1,19 +1,18 @@
 -- A slave goes on by what it hears, takes and sends.
-use Rattle.std.proofs.Common.{◌≡◌, ℕ, Bool, true, false, zero, suc, ◌+◌, ◌*◌, ◌≤◌, List, [], ◌∷◌, ◌++◌, append-nil, length, length-append, take as first, drop, Result, Ok, Err, IfOk, OnOk, refl, sym, ap, ◌∙◌, subst, arith, inl, inr}
-use Rattle.std.proofs.lemmas.List.{length-drop, length-map, take-append-drop}
-use Rattle.std.proofs.lemmas.List.Sums.{sum_by-cons}
+use Rattle.std.proofs.Common.{◌≡◌, ℕ, Bool, true, false, zero, suc, ◌+◌, ◌*◌, ◌≤◌, List, [], ◌∷◌, ◌++◌, append-nil, length, length-append, take as first, Result, Ok, Err, IfOk, OnOk, refl, sym, ap, ◌∙◌, subst, arith, inl, inr}
+use Rattle.std.specs.List.{list_all}
+use Rattle.std.proofs.lemmas.List.{length-map}
 use Rattle.channel_ring.specs.declared.ends.TakeEnd.{Ghosts as TakeGhosts}
-use Rattle.frame_outbox.specs.Outboxes.{packets_in, unit_of}
-use Rattle.frame_outbox.proofs.LaidLemmas.{packets_in-append}
+use Rattle.frame_outbox.specs.Outboxes.{has_waiting, packets_in, unit_of}
+use Rattle.frame_outbox.proofs.LaidLemmas.{whole_text}
 use Rattle.frame_writer.specs.Frame.{text}
-use Rattle.frame_writer.proofs.TextLemmas.{text-append}
 use Rattle.session.specs.declared.profile.Profile.{Profile}
 use Rattle.slave.specs.Hearing.{GoesBy, Hears, most_before}
 use Rattle.slave.specs.Finishing.{GivesBack}
 use Rattle.slave_channel.specs.Channels.{FinishedState, IsFinished}
 use Rattle.std.specs.Prelude.{Some}
 use Rattle.channel_ring.specs.declared.ends.RingEnd.{Ghosts as EndGhosts}
-use Rattle.slave.specs.Log.{Act, CameBack, HungUp, Sent, laid, losing, sending as sent_acts, sent_by, sent_of}
+use Rattle.slave.specs.Log.{Act, CameBack, Discarded, HungUp, Sent, discarding, losing, sending as sent_acts, sent_units, waits}
 use Rattle.slave.specs.Standing.{SlaveStandsAfter, SlaveState}
 use Rattle.slave.specs.Taking.{TakesItems, most_taken}
 use Rattle.slave_file.specs.Lines.{LineData, master}
@@ -21,7 +20,7 @@ use Rattle.slave_play.specs.Playing.{Advances, Does, HasPlayed, Sending, StandsS
 use Rattle.slave.specs.Session.{sent_text}
 use Rattle.slave.proofs.SessionLemmas.{session-law}
 use Rattle.slave_play.specs.Thinned.{IsWithout}
-use Rattle.slave_play.proofs.LogLemmas.{heard-append, heard-one, masters-append, takes-nothing, text-stays}
+use Rattle.slave_play.proofs.LogLemmas.{heard-append, heard-one, is_silent, masters-append, takes-nothing, text-stays}
 use Rattle.slave_play.proofs.ThinnedLemmas.{assoc, without-append}
 
 pub if-ok-both : {A B : Type 0} (r : Result A B) (P Q R : A → Type 0) → ((x : A) → P x → Q x → R x) → IfOk r P → IfOk r Q → IfOk r R
@@ -53,14 +52,14 @@ module _ {S T F : Type 0} (take : TakeGhosts T F) where
 
   -- acts that send nothing
   pub silent : (most : ℕ) (a b : SlaveState S T) (acts : List Act) (sent : List ℕ) (packets : List (List ℕ)) → length acts ≤ most → GoesBy take a b acts
-      → heard_by acts ≡ packets → sent_of acts ≡ 0 → Advances take most (sending a sent) (sending b sent) packets
+      → heard_by acts ≡ packets → list_all is_silent acts ≡ true → Advances take most (sending a sent) (sending b sent) packets
   silent most a b acts sent packets below goes heard none = record {
     acts = acts;
     few = below;
     heard = heard;
     goes = λ d log so. record {
       stands = log-goes a b acts goes d log so.stands;
-      text_is = so.text_is ∙ sym (text-stays d acts log none so.stands.parts.has.sent);
+      text_is = so.text_is ∙ sym (text-stays d acts log none);
     };
   }
 
@@ -87,31 +86,21 @@ module _ {S T F : Type 0} (take : TakeGhosts T F) where
   text-puts : (a : SlaveState S T) (d : Profile) (log : List Act) (sent : List ℕ) → SlaveStandsAfter take d a log → sent ≡ sent_text d log
       → sent ++ a.outbox.waits ≡ sent_text d (Sent (length a.outbox.units) ∷ log)
   text-puts a d log sent stands so =
-      let k = sent_of log in
-      let xs = laid d log in
       let n = length a.outbox.units in
       let box = stands.parts.has.outbox in
-      let units : n ≡ length (drop k xs) = ap length box.units ∙ length-map (drop k xs) unit_of in
-      let left = length-drop k xs in
-      let more : sent_of (Sent n ∷ log) ≡ n + k = sum_by-cons sent_by (Sent n) log in
-      let all : first (sent_of (Sent n ∷ log)) (xs ++ []) ≡ xs =
-      ap (first (sent_of (Sent n ∷ log))) (append-nil xs) ∙ take-whole (sent_of (Sent n ∷ log)) xs (omega (arith, more, units, left)) in
-      let front = packets_in (first k xs) in
-      let behind = packets_in (drop k xs) in
-      let zero_more : length front ≡ 0 + length front = omega arith in
-      ap (λ bs. bs ++ a.outbox.waits) so ∙ ap (λ bs. text 0 front ++ bs) box.waiting
-      ∙ ap (λ m. text 0 front ++ text m behind) zero_more ∙ sym (text-append 0 front behind)
-      ∙ ap (text 0) (sym (packets_in-append (first k xs) (drop k xs))) ∙ ap (λ ys. text 0 (packets_in ys)) (take-append-drop k xs)
-      ∙ ap (λ ys. text 0 (packets_in ys)) (sym all)
+      let wait = waits d log in
+      let gone = sent_units d log in
+      let all : first n wait ≡ wait = take-whole n wait (omega (arith, ap length box.units, length-map wait unit_of)) in
+      ap (λ bs. bs ++ a.outbox.waits) so ∙ ap (λ bs. text 0 (packets_in gone) ++ bs) box.waiting
+      ∙ whole_text gone wait ∙ ap (λ ys. text 0 (packets_in (gone ++ ys))) (sym all)
 
   -- nothing waits
   text-none : (a : SlaveState S T) (d : Profile) (log : List Act) (sent : List ℕ) → SlaveStandsAfter take d a log → sent ≡ sent_text d log → length a.outbox.units ≡ 0
       → sent ++ a.outbox.waits ≡ sent_text d log
   text-none a d log sent stands so none =
       let box = stands.parts.has.outbox in
-      let waits = drop (sent_of log) (laid d log) in
-      let units : length waits ≡ 0 = sym (length-map waits unit_of) ∙ sym (ap length box.units) ∙ none in
-      ap (λ bs. sent ++ bs) (box.waiting ∙ ap (λ ys. text (length (packets_in (first (sent_of log) (laid d log)))) (packets_in ys)) (empty waits units)) ∙ append-nil sent ∙ so where
+      let units : length (waits d log) ≡ 0 = sym (length-map (waits d log) unit_of) ∙ sym (ap length box.units) ∙ none in
+      ap (λ bs. sent ++ bs) (box.waiting ∙ ap (λ ys. text (length (packets_in (sent_units d log))) (packets_in ys)) (empty (waits d log) units)) ∙ append-nil sent ∙ so where
         empty : {X : Type 0} (xs : List X) → length xs ≡ 0 → xs ≡ []
         empty [] is = refl
         empty (x ∷ xs) is = absurd (omega (arith, is))
@@ -141,13 +130,15 @@ module _ {S T F : Type 0} (take : TakeGhosts T F) where
       → Advances take 1 (sending a sent) (sending b more) []
   puts a b sent more is goes = puts-some a b sent more (length a.outbox.units) refl is goes
 
-  -- the transport is lost, if a master was connected
-  hangs-if : (a b : SlaveState S T) (sent : List ℕ) (on : Bool) → GoesBy take a b (losing on) → Advances take 1 (sending a sent) (sending b sent) []
-  hangs-if a b sent true goes = silent 1 a b (HungUp ∷ []) sent [] (omega arith) goes refl refl
-  hangs-if a b sent false goes = silent 1 a b [] sent [] (omega arith) goes refl refl
+  -- the master is lost, if one was connected, and what waits is thrown away
+  hangs-if : (a b : SlaveState S T) (sent : List ℕ) (some on : Bool) → GoesBy take a b (discarding some ++ losing on) → Advances take 2 (sending a sent) (sending b sent) []
+  hangs-if a b sent true true goes = silent 2 a b (Discarded ∷ HungUp ∷ []) sent [] (omega arith) goes refl refl
+  hangs-if a b sent true false goes = silent 2 a b (Discarded ∷ []) sent [] (omega arith) goes refl refl
+  hangs-if a b sent false true goes = silent 2 a b (HungUp ∷ []) sent [] (omega arith) goes refl refl
+  hangs-if a b sent false false goes = silent 2 a b [] sent [] (omega arith) goes refl refl
 
-  pub hangs : (a b : SlaveState S T) (sent : List ℕ) → GoesBy take a b (losing a.session.connected) → Advances take 1 (sending a sent) (sending b sent) []
-  hangs a b sent goes = hangs-if a b sent a.session.connected goes
+  pub hangs : (a b : SlaveState S T) (sent : List ℕ) → GoesBy take a b (discarding (has_waiting a.outbox) ++ losing a.session.connected) → Advances take 2 (sending a sent) (sending b sent) []
+  hangs a b sent goes = hangs-if a b sent (has_waiting a.outbox) a.session.connected goes
 
   -- one advance behind another
   pub advances-more : (n k : ℕ) (a m b : Sending S T) (ps qs : List (List ℕ)) → Advances take n a m ps → Advances take k m b qs → Advances take (n + k) a b (ps ++ qs)

@@ -1,5 +1,6 @@
 -- What a slave hears of the bytes of its master.
-use Rattle.std.specs.Prelude.{◌≡◌, ◌⊎◌, ℕ, ◌≤◌, true, List, [], ◌∷◌, ◌++◌, length, take as first}
+use Rattle.std.specs.Prelude.{◌≡◌, ◌⊎◌, ℕ, ◌+◌, ◌*◌, ◌≤◌, true, List, [], ◌∷◌, ◌++◌, length}
+use Rattle.std.specs.Prelude.{take as first}
 use Rattle.channel_ring.specs.declared.ends.TakeEnd.{Ghosts as TakeGhosts}
 use Rattle.frame_reader.specs.Reading.{Leads, ReaderState}
 use Rattle.frame_reader.specs.Split.{EndsSplit, SplitsInto}
@@ -16,11 +17,13 @@ AreHeard clock (packet ∷ packets) acts =
     × IsHearing packet clock act × MayOpen most_before opening × AreHeard clock packets later
 
 module _ {S T F : Type 0} (take : TakeGhosts T F) where
-  -- the packets were heard at this clock, in order; nothing else that a log tells of
+  -- the packets were heard at this clock, in order, each of which counts as 64; nothing else that a
+  -- log tells of
   pub record HearsAll (a b : SlaveState S T) (clock : ℕ) (packets : List (List ℕ)) : Type 0 where
     pub acts : List Act
     pub are : AreHeard clock packets acts
     pub goes : GoesBy take a b acts
+    pub counted : b.acts ≡ a.acts + 64 * length packets
     pub profile : b.session.profile ≡ a.session.profile
 
   -- these bytes were taken, and the packets of the frames that they ended were heard
@@ -45,6 +48,7 @@ module _ {S T F : Type 0} (take : TakeGhosts T F) where
     pub breaks_off : BreaksOff r s a between clock bytes
     pub disconnects : GoesBy take between b (losing between.session.connected)
     pub outbox : b.outbox ≡ between.outbox
+    pub counted : b.acts ≡ between.acts
     pub profile : b.session.profile ≡ between.session.profile
 
   -- so many bytes of a datagram were taken: frames, whose packets were heard, and then nothing; or

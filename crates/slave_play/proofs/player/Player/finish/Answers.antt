@@ -11,8 +11,8 @@ returns-clause-ends g c =
     let was = c.args.self in
     let sent = was.out.contents in (
       c.collect.new.slave,
-      advances-within take (1 + 4 * MAX_CHANNELS) most_a_line (sending was.slave sent) (sending c.collect.new.slave sent) [] (omega arith)
-          (advances-more take 1 (4 * MAX_CHANNELS) (sending was.slave sent) (sending c.hang_up.new.self sent) (sending c.collect.new.slave sent) [] []
+      advances-within take (2 + 4 * MAX_CHANNELS) most_a_line (sending was.slave sent) (sending c.collect.new.slave sent) [] (omega arith)
+          (advances-more take 2 (4 * MAX_CHANNELS) (sending was.slave sent) (sending c.hang_up.new.self sent) (sending c.collect.new.slave sent) [] []
           (hangs take was.slave c.hang_up.new.self sent c.hang_up.ensures.hangs_up)
           (c.in_ok-collect.ensures.collects sent)),
     )

@@ -3,9 +3,9 @@ use Rattle.slave_play.specs.Playing.{most_a_line, sending}
 use Rattle.slave_play.proofs.PlayLemmas.{advances-within, hangs}
 use Rattle.slave_play.proofs.player.Player.hang_up.Goals as goal
 
--- that a master hung up is one act, which sends nothing
+-- that the master is lost, and what waits thrown away, are two acts at most, which send nothing
 pub returns-clause-hangs_up : goal.returns-clause-hangs_up
 returns-clause-hangs_up g c =
     let was = c.args.self.now in
-    advances-within g.R.Take.TakeEnd 1 most_a_line (sending was.slave was.out.contents) (sending c.hang_up.new.self was.out.contents) [] (omega arith)
+    advances-within g.R.Take.TakeEnd 2 most_a_line (sending was.slave was.out.contents) (sending c.hang_up.new.self was.out.contents) [] (omega arith)
     (hangs g.R.Take.TakeEnd was.slave c.hang_up.new.self was.out.contents c.hang_up.ensures.hangs_up)

@@ -7,5 +7,6 @@ returns-in-Err-clause-bad g c = λ _. record {
   breaks_off = c.in-Err.ensures.bad;
   disconnects = c.disconnect.ensures.disconnects;
   outbox = c.disconnect.ensures.outbox_stays;
+  counted = c.disconnect.ensures.acts_stay;
   profile = c.disconnect.ensures.profile_stays;
 }
