@@ -1,4 +1,5 @@
-ghost use Rattle.std.specs.Prelude.{◌≡◌, IfOk, map};
+ghost use Rattle.std.specs.Prelude.{◌≡◌, IfErr, IfOk, OnOk, map};
+ghost use Rattle.slave.specs.Refusals.{CanOpen, IsOpenRefusal};
 ghost use Rattle.task_lending.specs.Lends.{IsOpenedWith};
 ghost use Rattle.task_lending.specs.Slots.{with_task};
 
@@ -48,7 +49,9 @@ impl<R: Ring> LendingSlave<R> {
     /// A slave with this profile, as `Slave::open` opens it. All its tasks are here, and no byte of
     /// a master came.
     pub fn open(alloc: Global, profile: Profile) -> Result<LendingSlave<R>, OpenFault>
-        ensures { IfOk result (IsOpenedWith R.Take.TakeEnd profile) }
+        ensures opened { IfOk result (IsOpenedWith R.Take.TakeEnd profile) }
+        ensures can { OnOk result (CanOpen R.is_cap profile) }
+        ensures refusal { IfErr result (IsOpenRefusal R.is_cap profile) }
     {
         let (slave, tasks) = Slave::open(alloc, profile)?;
         let Ok(slots) = slots_of(alloc, tasks) else {
