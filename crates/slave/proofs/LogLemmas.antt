@@ -8,9 +8,10 @@ use Rattle.session.specs.declared.profile.Profile.{Profile}
 use Rattle.channel_intake.specs.Deeds.{Deed, passes}
 use Rattle.channel_intake.specs.Deeds.{Took as TookItem}
 use Rattle.channel_intake.specs.Deeds.{runs as runs_there}
-use Rattle.slave.specs.Log.{Act, CameBack, Heard, HungUp, Opened, Refused, Sent, Took, deeds_of, is_newest, opened, ordered_by, past_of, starts_at, starts_on, stops_at, with_starts}
+use Rattle.slave.specs.Log.{Act, CameBack, Discarded, Heard, HungUp, Opened, Refused, Sent, Took, deeds_of, is_newest, opened, ordered_by, origins, past_of, starts_at, starts_on, stops_at, waits, with_starts}
 use Rattle.slave.specs.Laws.{NothingOutsideARun}
 use Rattle.slave.specs.Standing.{IsLog}
+use Rattle.slave.proofs.DeedLemmas.{unsent-runs}
 use Rattle.slave.proofs.RunLemmas.{pass-runs, runs-not-started, runs-not-stopped, runs-stopped}
 
 is-bool : (b : Bool) → (b ≡ true) ⊎ (b ≡ false)
@@ -87,10 +88,12 @@ ties d (Opened at ∷ log) is m c l below there = absurd (false≢true (sym (is.
 ties d (Took n k x ∷ log) is m c l below there =
     ties d log is.2 m c l below (sym (took-if (nat_eq n m && nat_eq k c) l (deeds_of d m c log) (TookItem x) refl) ∙ there)
 ties d (CameBack n k past ∷ log) is m c l below there = ties d log is.1 m c l below there
-ties d (Sent n ∷ log) is m c l below there = ties d log is m c l below there
+ties d (Sent n ∷ log) is m c l below there = ties d log is.1 m c l below there
 ties d (HungUp ∷ log) is m c l below there =
     let tells = newest-tells m log in
     newest-if d m c l HungUp log (is_newest m log) tells.0 tells.1 refl below (ties d log is m c l below) there
+ties d (Discarded ∷ log) is m c l below there =
+    ties d log is m c l below (sym (unsent-runs m c (origins (waits d log)) (deeds_of d m c log) l) ∙ there)
 
 pub nothing_outside : NothingOutsideARun
 nothing_outside d log is m c l below passes = ties d log is m c l below (pass-runs (deeds_of d m c log) l passes)
