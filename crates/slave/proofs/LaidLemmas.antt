@@ -25,7 +25,7 @@ use Rattle.frame_outbox.specs.declared.unit.Origin.{Origin}
 use Rattle.frame_outbox.specs.declared.unit.Origin.TheVariants as origin
 use Rattle.slave_channel.specs.Ordering.{one_if, starts_noted, stops_noted}
 use Rattle.slave.specs.Log.{Act, CameBack, Discarded, Heard, HungUp, Opened, Refused, Sent, Took, deeds_of, is_back, is_newest, is_of_ring, is_out, is_sample_of, laid, laid_by, ordered_by, origins, past_of, reply_laid, sample_laid, sent_units, starts_on, stops_at, thrown, unsent_by, unsent_one, waits, with_starts}
-use Rattle.slave.specs.Session.{IsAnswered, IsSince, NoneThrows, answers_in, from_ring, replies_by, replies_of, sample_of, throws}
+use Rattle.slave.specs.Session.{IsAnswered, IsSince, NoneThrows, answers_in, from_ring, replies_by, replies_of, sample_of}
 use Rattle.slave.specs.Standing.{IsLog}
 use Rattle.slave.proofs.DeedLemmas.{out-back, unsent-passed}
 
@@ -76,8 +76,13 @@ each-once d test (Took m c (Sample s) ∷ log) =
 each-once d test (Took m c (Marker k) ∷ log) = ap (count_by test) (append-nil (laid d log)) ∙ each-once d test log
 each-once d test (CameBack m c past ∷ log) = ap (count_by test) (append-nil (laid d log)) ∙ each-once d test log
 each-once d test (Sent n ∷ log) =
-    omega (arith, ap (count_by test) (append-nil (laid d log)), each-once d test log, count-append test (sent_units d log) (first n (waits d log)),
-    sum_by-take-drop (λ x. if test x then 1 else 0) (waits d log) n)
+    omega (
+      arith,
+      ap (count_by test) (append-nil (laid d log)),
+      each-once d test log,
+      count-append test (sent_units d log) (first n (waits d log)),
+      sum_by-take-drop (λ x. if test x then 1 else 0) (waits d log) n,
+    )
 each-once d test (HungUp ∷ log) = ap (count_by test) (append-nil (laid d log)) ∙ each-once d test log
 each-once d test (Discarded ∷ log) =
     omega (arith, ap (count_by test) (append-nil (laid d log)), each-once d test log, count-append test (thrown d log) (waits d log))
@@ -374,8 +379,13 @@ unsent-noted d m c l (HungUp ∷ log) =
     if-unsent (is_newest m log) (ordered_by d c HungUp log ds) ds l (ordered-unsent l d c HungUp log ds) ∙ unsent-noted d m c l log
 unsent-noted d m c l (Discarded ∷ log) =
     let ws = waits d log in
-    omega (arith, count-append (is_unsent_of l) (unsent_by m c (origins ws)) (deeds_of d m c log), unsent-count m c l ws, unsent-noted d m c l log,
-    count-append (is_there m c l) (thrown d log) ws)
+    omega (
+      arith,
+      count-append (is_unsent_of l) (unsent_by m c (origins ws)) (deeds_of d m c log),
+      unsent-count m c l ws,
+      unsent-noted d m c l log,
+      count-append (is_there m c l) (thrown d log) ws,
+    )
 
 -- behind what came back nothing is laid out of its ring
 abbrev pub NoMore : Profile → ℕ → ℕ → List Act → List Act → Type 0

@@ -47,8 +47,8 @@ same-totals account xs ys u v l below one other =
       sym are.all_due ∙ also.all_due,
       sym are.dropped ∙ also.dropped,
       agree-plus (written_in xs l) (t.written + u l) (v l) (v l) (sym are.written) refl
-      ∙ agree-same (t.written + u l + v l) (t.written + v l + u l) (omega arith)
-      ∙ agree-plus (t.written + v l) (written_in ys l) (u l) (u l) also.written refl,
+          ∙ agree-same (t.written + u l + v l) (t.written + v l + u l) (omega arith)
+          ∙ agree-plus (t.written + v l) (written_in ys l) (u l) (u l) also.written refl,
       sym are.left ∙ also.left,
     )
 
