@@ -20,7 +20,7 @@ use Rattle.session.specs.Profiles.{lists_of}
 use Rattle.session.specs.Replies.{is_error, store_reply}
 use Rattle.session.specs.Requests.{request, write_of, writes}
 use Rattle.session.specs.Starts.{runs}
-use Rattle.slave.specs.Log.{Act, CameBack, Heard, HungUp, Opened, Refused, Sent, Took, past_of}
+use Rattle.slave.specs.Log.{Act, CameBack, Discarded, Heard, HungUp, Opened, Refused, Sent, Took, past_of}
 use Rattle.slave.specs.Session.{HasPositive, IsAccepted, is_positive}
 
 -- a write, whatever its bytes are
@@ -119,3 +119,4 @@ change-accepted d (Took m c x) log l other = absurd (other refl)
 change-accepted d (CameBack m c past) log l other = absurd (other refl)
 change-accepted d (Sent n) log l other = absurd (other refl)
 change-accepted d HungUp log l other = tt
+change-accepted d Discarded log l other = absurd (other refl)

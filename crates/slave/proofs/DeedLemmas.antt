@@ -123,9 +123,13 @@ deeds-and-waits-few d m c [] = omega arith
 deeds-and-waits-few d m c (Heard x ∷ log) =
     let ds = deeds_of d m c log in
     let reply = reply_in d (past_of d log) x in
-    omega (arith, deeds-and-waits-few d m c log,
-    if-few (is_newest m log) (ordered_by d c (Heard x) log ds) ds (32 + length ds) (ordered-few d c (Heard x) log ds) (omega arith),
-    count-origins-append (is_of_ring m c) (waits d log) (reply_laid reply), reply-of-none m c reply)
+    omega (
+      arith,
+      deeds-and-waits-few d m c log,
+      if-few (is_newest m log) (ordered_by d c (Heard x) log ds) ds (32 + length ds) (ordered-few d c (Heard x) log ds) (omega arith),
+      count-origins-append (is_of_ring m c) (waits d log) (reply_laid reply),
+      reply-of-none m c reply,
+    )
 deeds-and-waits-few d m c (Refused packet code ∷ log) =
     let reply = Some (packet_of (Err code)) in
     omega (arith, deeds-and-waits-few d m c log, count-origins-append (is_of_ring m c) (waits d log) (reply_laid reply), reply-of-none m c reply)
@@ -133,19 +137,29 @@ deeds-and-waits-few d m c (Opened at ∷ log) = omega (arith, deeds-and-waits-fe
 deeds-and-waits-few d m c (Took n k (Sample s) ∷ log) =
     let ds = deeds_of d m c log in
     let b = passes (deeds_of d n k log) s.list in
-    omega (arith, deeds-and-waits-few d m c log,
-    if-few (nat_eq n m && nat_eq k c) (TookItem (Sample s) ∷ ds) ds (1 + length ds) (omega arith) (omega arith),
-    count-origins-append (is_of_ring m c) (waits d log) (sample_laid b n k s), sample-one m c n k b s)
+    omega (
+      arith,
+      deeds-and-waits-few d m c log,
+      if-few (nat_eq n m && nat_eq k c) (TookItem (Sample s) ∷ ds) ds (1 + length ds) (omega arith) (omega arith),
+      count-origins-append (is_of_ring m c) (waits d log) (sample_laid b n k s),
+      sample-one m c n k b s,
+    )
 deeds-and-waits-few d m c (Took n k (Marker x) ∷ log) =
     let ds = deeds_of d m c log in
-    omega (arith, deeds-and-waits-few d m c log,
-    if-few (nat_eq n m && nat_eq k c) (TookItem (Marker x) ∷ ds) ds (1 + length ds) (omega arith) (omega arith))
+    omega (
+      arith,
+      deeds-and-waits-few d m c log,
+      if-few (nat_eq n m && nat_eq k c) (TookItem (Marker x) ∷ ds) ds (1 + length ds) (omega arith) (omega arith),
+    )
 deeds-and-waits-few d m c (CameBack n k past ∷ log) = omega (arith, deeds-and-waits-few d m c log)
 deeds-and-waits-few d m c (Sent n ∷ log) = omega (arith, deeds-and-waits-few d m c log, count-origins-drop (is_of_ring m c) n (waits d log))
 deeds-and-waits-few d m c (HungUp ∷ log) =
     let ds = deeds_of d m c log in
-    omega (arith, deeds-and-waits-few d m c log,
-    if-few (is_newest m log) (ordered_by d c HungUp log ds) ds (32 + length ds) (ordered-few d c HungUp log ds) (omega arith))
+    omega (
+      arith,
+      deeds-and-waits-few d m c log,
+      if-few (is_newest m log) (ordered_by d c HungUp log ds) ds (32 + length ds) (ordered-few d c HungUp log ds) (omega arith),
+    )
 deeds-and-waits-few d m c (Discarded ∷ log) =
     let os = origins (waits d log) in
     omega (arith, deeds-and-waits-few d m c log, length-append (unsent_by m c os) (deeds_of d m c log), unsent-length m c os)

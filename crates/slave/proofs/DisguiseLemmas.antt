@@ -20,7 +20,7 @@ use Rattle.sampler.specs.Past.{Past as SamplerPast}
 use Rattle.daq_engine.specs.Order.{items_of}
 use Rattle.daq_engine.proofs.PidLemmas.{all-append, all-front, all-indexed, all-items, all-map_range}
 use Rattle.channel_intake.specs.Accounts.{HasPlans}
-use Rattle.channel_intake.specs.Deeds.{Deed, Started, Stopped, Took, passed, passes, taken}
+use Rattle.channel_intake.specs.Deeds.{Deed, Started, Stopped, Took, Unsent, passed, passes, taken}
 use Rattle.frame_writer.specs.Split.{Fits}
 use Rattle.session.specs.Fields.{begins_reply}
 
@@ -80,6 +80,7 @@ pub passed-daq : (deeds : List Deed) → AllByRecursion HasDaq (taken deeds) →
 passed-daq [] all = tt
 passed-daq (Started k ∷ deeds) all = passed-daq deeds all
 passed-daq (Stopped k ∷ deeds) all = passed-daq deeds all
+passed-daq (Unsent k ∷ deeds) all = passed-daq deeds all
 passed-daq (Took (Marker m) ∷ deeds) all = passed-daq deeds (all-front HasDaq (taken deeds) (Marker m ∷ []) all)
 passed-daq (Took (Sample s) ∷ deeds) all =
     let before = passed-daq deeds (all-front HasDaq (taken deeds) (Sample s ∷ []) all) in

@@ -4,7 +4,7 @@ pub mod StartLemmas
 pub mod CollectingLemmas
 pub mod ClosingLemmas
 pub mod LogLemmas
-pub mod ToldLemmas
+pub mod LaidLemmas
 pub mod ReplyLemmas
 pub mod DisguiseLemmas
 pub mod WithinLemmas

@@ -1,73 +1,54 @@
 -- What logs have in common after which one slave stands.
-use Rattle.std.proofs.Common.{◌≡◌, ℕ, ◌+◌, ◌%◌, ◌<◌, Bool, true, false, List, ◌++◌, length, take as first, drop, refl, sym, ap, ◌∙◌, subst, arith, ◌⊎◌, inl, inr, slice_get, take-append-drop}
+use Rattle.std.proofs.Common.{◌≡◌, ℕ, ◌+◌, ◌<◌, Bool, true, false, List, length, refl, sym, ap, ◌∙◌, subst, arith, ◌⊎◌, inl, inr, slice_get}
 use Rattle.std.specs.Prelude.{Option, Some, None}
-use Rattle.std.proofs.lemmas.List.{append_cancel_right}
 use Rattle.std.proofs.lemmas.List.Elements.{All-from_recursion}
 use Rattle.std.specs.List.{AllByRecursion}
 use Rattle.xcp_base.specs.declared.limits.TheConstants.{MAX_LISTS}
 use Rattle.channel_ring.specs.declared.ends.TakeEnd.{Ghosts as TakeGhosts}
+use Rattle.session.specs.Profiles.{IsProfile}
 use Rattle.session.specs.declared.profile.Profile.{Profile}
 use Rattle.channel_intake.specs.Deeds.{Deed, taken}
 use Rattle.channel_intake.specs.Intakes.{StandsAfter}
-use Rattle.frame_outbox.proofs.LaidLemmas.{packets_in-append}
-use Rattle.frame_outbox.specs.Outboxes.{Laid, OutboxState, packets_in}
-use Rattle.frame_outbox.specs.Outboxes.{StandsAfter as OutboxStandsAfter}
+use Rattle.frame_outbox.specs.Outboxes.{packets_in}
 use Rattle.frame_writer.proofs.SplitLemmas.{split_is_unique, split_of_text}
-use Rattle.frame_writer.proofs.TextLemmas.{text-append}
 use Rattle.frame_writer.specs.Frame.{text}
 use Rattle.frame_writer.specs.Split.{Fits, IsSplit, numbered}
 use Rattle.daq_engine.proofs.FrameLemmas.{packets_of_frames-numbered}
 use Rattle.daq_engine.specs.Frames.{packets_of_frames}
+use Rattle.session_account.proofs.TotalsLemmas.{agree-plus, agree-same}
 use Rattle.session_account.specs.Accounts.{AccountStandsAfter, Agree, AreTotals, Entry, accepted_in, dropped_in, due_in, written_in}
 use Rattle.session_account.specs.declared.totals.Totals.{Totals}
 use Rattle.slave_channel.specs.Channels.{ChannelState, ShareState}
-use Rattle.slave.specs.Log.{Act, deeds_of, entries_of, is_out, laid, opened, sent_of}
-use Rattle.slave.specs.Session.{SameStory, packets_sent, sent_text}
+use Rattle.slave.specs.Log.{Act, deeds_of, entries_of, is_out, late_of, waits}
+use Rattle.slave.specs.Session.{SameStory, packets_sent}
 use Rattle.slave.specs.Standing.{IsOut, SlaveHas, PartsStandAfter, SlaveState, number_of}
 use Rattle.slave.proofs.OutLemmas.{some-at}
-use Rattle.slave.proofs.SessionLemmas.{laid-fits, sent-fits}
-
--- what was sent, and what waits, of what one outbox wrote
-contents-split : (o : OutboxState) (sent waits : List Laid) → OutboxStandsAfter o sent waits → o.writer.out.contents ≡ text 0 (packets_in sent) ++ o.waits
-contents-split o sent waits stands =
-    stands.contents ∙ ap (text 0) (packets_in-append sent waits) ∙ text-append 0 (packets_in sent) (packets_in waits)
-    ∙ ap (λ xs. text 0 (packets_in sent) ++ xs) (at (0 + length (packets_in sent)) (length (packets_in sent)) (omega arith) ∙ sym stands.waiting) where
-      at : (m n : ℕ) → m ≡ n → text m (packets_in waits) ≡ text n (packets_in waits)
-      at m n same = ap (λ k. text k (packets_in waits)) same
-
-same-sent : (o : OutboxState) (xs ys us vs : List Laid) → OutboxStandsAfter o xs ys → OutboxStandsAfter o us vs → text 0 (packets_in xs) ≡ text 0 (packets_in us)
-same-sent o xs ys us vs one other =
-    append_cancel_right (text 0 (packets_in xs)) (text 0 (packets_in us)) o.waits (sym (contents-split o xs ys one) ∙ contents-split o us vs other)
+use Rattle.slave.proofs.SessionLemmas.{sent-fits, waits-fit}
 
 -- bytes are the frames of one list of packets
-same-packets : (xs ys : List (List ℕ)) → AllByRecursion Fits xs → AllByRecursion Fits ys → text 0 xs ≡ text 0 ys → xs ≡ ys
-same-packets xs ys fit_x fit_y same =
-    let split_x = split_of_text 0 xs (All-from_recursion Fits xs fit_x) in
-    let split_y = split_of_text 0 ys (All-from_recursion Fits ys fit_y) in
-    sym (packets_of_frames-numbered 0 xs)
-    ∙ ap packets_of_frames (split_is_unique (text 0 xs) (numbered 0 xs) (numbered 0 ys) split_x (subst (λ bytes. IsSplit bytes (numbered 0 ys)) (sym same) split_y))
-    ∙ packets_of_frames-numbered 0 ys
-
-contents-laid : (d : Profile) (log : List Act) (o : OutboxState) → OutboxStandsAfter o (first (sent_of log) (laid d log)) (drop (sent_of log) (laid d log)) → o.writer.out.contents ≡ text 0 (packets_in (laid d log))
-contents-laid d log o stands = stands.contents ∙ ap (λ xs. text 0 (packets_in xs)) (take-append-drop (sent_of log) (laid d log))
-
--- all that was laid out, by what was sent and what waits
-all-laid : (d : Profile) (log : List Act) (o : OutboxState) → OutboxStandsAfter o (first (sent_of log) (laid d log)) (drop (sent_of log) (laid d log)) → o.writer.counter ≡ length (packets_in (laid d log)) % 65536
-all-laid d log o stands = stands.counter ∙ ap (λ xs. length (packets_in xs) % 65536) (take-append-drop (sent_of log) (laid d log))
+same-packets : (n : ℕ) (xs ys : List (List ℕ)) → AllByRecursion Fits xs → AllByRecursion Fits ys → text n xs ≡ text n ys → xs ≡ ys
+same-packets n xs ys fit_x fit_y same =
+    let split_x = split_of_text n xs (All-from_recursion Fits xs fit_x) in
+    let split_y = split_of_text n ys (All-from_recursion Fits ys fit_y) in
+    sym (packets_of_frames-numbered n xs)
+    ∙ ap packets_of_frames (split_is_unique (text n xs) (numbered n xs) (numbered n ys) split_x (subst (λ bytes. IsSplit bytes (numbered n ys)) (sym same) split_y))
+    ∙ packets_of_frames-numbered n ys
 
 some-inj : {X : Type 0} (x y : X) → Some x ≡ Some y → x ≡ y
 some-inj x y e = cc
 
--- the totals of one account
-same-totals : (account : List Totals) (xs ys : List Entry) (l : ℕ) → l < MAX_LISTS → AccountStandsAfter account xs (λ k. 0) → AccountStandsAfter account ys (λ k. 0)
-    → Agree (due_in xs l) (due_in ys l) × Agree (dropped_in xs l) (dropped_in ys l) × Agree (written_in xs l) (written_in ys l) × Agree (accepted_in xs l) (accepted_in ys l)
-same-totals account xs ys l below one other =
+-- the totals of one account, where so many samples were thrown away late
+same-totals : (account : List Totals) (xs ys : List Entry) (u v : ℕ → ℕ) (l : ℕ) → l < MAX_LISTS → AccountStandsAfter account xs u → AccountStandsAfter account ys v
+    → Agree (due_in xs l) (due_in ys l) × Agree (dropped_in xs l) (dropped_in ys l) × Agree (written_in xs l + v l) (written_in ys l + u l) × Agree (accepted_in xs l) (accepted_in ys l)
+same-totals account xs ys u v l below one other =
     let (t, at, are) = one.lists l below in
-    let (u, at_u, are_u) = other.lists l below in
-    let also : AreTotals ys 0 l t = subst (AreTotals ys 0 l) (some-inj u t (sym at_u ∙ at)) are_u in (
+    let (other_t, also_at, also_are) = other.lists l below in
+    let also : AreTotals ys (v l) l t = subst (AreTotals ys (v l) l) (some-inj other_t t (sym also_at ∙ at)) also_are in (
       sym are.all_due ∙ also.all_due,
       sym are.dropped ∙ also.dropped,
-      sym are.written ∙ also.written,
+      agree-plus (written_in xs l) (t.written + u l) (v l) (v l) (sym are.written) refl
+          ∙ agree-same (t.written + u l + v l) (t.written + v l + u l) (omega arith)
+          ∙ agree-plus (t.written + v l) (written_in ys l) (u l) (u l) also.written refl,
       sym are.left ∙ also.left,
     )
 
@@ -119,23 +100,31 @@ module _ {S T F : Type 0} (take : TakeGhosts T F) where
             same-taken take p m (λ k. deeds_of d k c a) (λ k. deeds_of d k c b) number ((one.channels c ch at).older p is).0.stands ((other.channels c ch at).older p is).0.stands
       ]
 
+  same-packets-sent : (d : Profile) (s : SlaveState S T) (a b : List Act) → SlaveHas take d s a → SlaveHas take d s b → IsProfile d → packets_sent d a ≡ packets_sent d b
+  same-packets-sent d s a b one other profile =
+      same-packets 0 (packets_sent d a) (packets_sent d b) (sent-fits d a one.is_log profile) (sent-fits d b other.is_log profile) (sym one.outbox.gone ∙ other.outbox.gone)
+
+  same-packets-wait : (d : Profile) (s : SlaveState S T) (a b : List Act) → SlaveHas take d s a → SlaveHas take d s b → IsProfile d → packets_in (waits d a) ≡ packets_in (waits d b)
+  same-packets-wait d s a b one other profile =
+      same-packets (length (packets_sent d b)) (packets_in (waits d a)) (packets_in (waits d b)) (waits-fit d a one.is_log profile) (waits-fit d b other.is_log profile)
+      (ap (λ qs. text (length qs) (packets_in (waits d a))) (sym (same-packets-sent d s a b one other profile)) ∙ sym one.outbox.waiting ∙ other.outbox.waiting)
+
   pub same-story : (d : Profile) (s : SlaveState S T) (a b : List Act) → PartsStandAfter take d s a → PartsStandAfter take d s b → SameStory d a b
   same-story d s a b stands_a stands_b =
       let one = stands_a.has in
       let other = stands_b.has in
+      let totals = λ (l : ℕ) (below : l < MAX_LISTS). same-totals s.account (entries_of d a) (entries_of d b) (late_of d a) (late_of d b) l below one.account other.account in
       record {
-        sent = same-sent s.outbox (first (sent_of a) (laid d a)) (drop (sent_of a) (laid d a)) (first (sent_of b) (laid d b)) (drop (sent_of b) (laid d b)) one.outbox other.outbox;
-        waits = sym one.outbox.waiting ∙ other.outbox.waiting;
-        packets = λ profile. same-packets (packets_sent d a) (packets_sent d b) (sent-fits d a one.is_log profile) (sent-fits d b other.is_log profile)
-            (same-sent s.outbox (first (sent_of a) (laid d a)) (drop (sent_of a) (laid d a)) (first (sent_of b) (laid d b)) (drop (sent_of b) (laid d b)) one.outbox other.outbox);
-        all_packets = λ profile. same-packets (packets_in (laid d a)) (packets_in (laid d b)) (laid-fits d a one.is_log profile) (laid-fits d b other.is_log profile)
-            (sym (contents-laid d a s.outbox one.outbox) ∙ contents-laid d b s.outbox other.outbox);
-        counter = sym (all-laid d a s.outbox one.outbox) ∙ all-laid d b s.outbox other.outbox;
+        sent = sym one.outbox.gone ∙ other.outbox.gone;
+        waits_are = sym one.outbox.waiting ∙ other.outbox.waiting;
+        packets = same-packets-sent d s a b one other;
+        packets_wait = same-packets-wait d s a b one other;
+        counter = sym one.outbox.counter ∙ other.outbox.counter;
         units = sym one.outbox.units ∙ other.outbox.units;
-        due = λ l below. (same-totals s.account (entries_of d a) (entries_of d b) l below one.account other.account).0;
-        dropped = λ l below. (same-totals s.account (entries_of d a) (entries_of d b) l below one.account other.account).1;
-        written = λ l below. (same-totals s.account (entries_of d a) (entries_of d b) l below one.account other.account).2;
-        accepted = λ l below. (same-totals s.account (entries_of d a) (entries_of d b) l below one.account other.account).3;
+        due = λ l below. (totals l below).0;
+        dropped = λ l below. (totals l below).1;
+        written = λ l below. (totals l below).2;
+        accepted = λ l below. (totals l below).3;
         measurements = sym one.number ∙ other.number;
         plan = sym one.plan ∙ other.plan;
         out = same-out d s a b one other;

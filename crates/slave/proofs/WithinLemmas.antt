@@ -1,5 +1,5 @@
 -- Samples are laid out only within their measurement, and where their list runs.
-use Rattle.std.proofs.Common.{◌≡◌, ℕ, zero, suc, ◌+◌, ◌<◌, ◌≤◌, Bool, true, false, ◌&&◌, not, nat_eq, if◌then◌else◌, List, [], ◌∷◌, ◌++◌, append-nil, map, refl, sym, ap, ◌∙◌, subst, arith, ◌⊎◌, inl, inr}
+use Rattle.std.proofs.Common.{◌≡◌, ℕ, zero, suc, ◌+◌, ◌<◌, ◌≤◌, Bool, true, false, ◌&&◌, not, nat_eq, if◌then◌else◌, List, [], ◌∷◌, ◌++◌, append-nil, refl, sym, ap, ◌∙◌, subst, arith, ◌⊎◌, inl, inr}
 use Rattle.std.specs.Prelude.{find, Option, Some, None}
 use Rattle.std.proofs.lemmas.Bool.{false≢true}
 use Rattle.std.proofs.lemmas.Bool.Decides.{eqb_tells, leb_tells}
@@ -15,16 +15,15 @@ use Rattle.channel_intake.specs.Deeds.{Deed, Started, Stopped, is_order_of, is_s
 use Rattle.channel_intake.specs.Deeds.{Took as TookItem}
 use Rattle.channel_intake.specs.Deeds.{runs as runs_there}
 use Rattle.frame_outbox.specs.Outboxes.{Laid}
-use Rattle.frame_outbox.specs.Units.{is_sample_of}
 use Rattle.slave_channel.specs.Ordering.{one_if, starts_noted, stops_noted}
-use Rattle.slave.specs.Log.{Act, CameBack, Heard, HungUp, Opened, Refused, Sent, Took, deeds_of, is_newest, opened, ordered_by, past_of, reply_laid, sample_laid, starts_on, stops_at, with_starts}
-use Rattle.slave.specs.Session.{HasPositive, IsWithin, Master, Rests, Ring, Told, from_list, sample_of, told, told_by}
+use Rattle.slave.specs.Log.{Act, CameBack, Discarded, Heard, HungUp, Opened, Refused, Sent, Took, deeds_of, is_newest, is_sample_of, laid, laid_by, opened, ordered_by, origins, past_of, reply_laid, sample_laid, starts_on, stops_at, waits, with_starts}
+use Rattle.slave.specs.Session.{HasPositive, IsWithin, Rests, from_list, sample_of}
 use Rattle.slave.specs.Standing.{IsLog, IsStart, JustOpened, NoneRuns}
 use Rattle.slave.proofs.ChangeLemmas.{change-accepted}
-use Rattle.slave.proofs.DeedLemmas.{opened-more}
+use Rattle.slave.proofs.DeedLemmas.{opened-more, unsent-runs}
+use Rattle.slave.proofs.LaidLemmas.{log-behind}
 use Rattle.slave.proofs.LogLemmas.{ties}
 use Rattle.slave.proofs.RunLemmas.{apart, pass-runs}
-use Rattle.slave.proofs.ToldLemmas.{log-behind}
 
 is-bool : (b : Bool) → (b ≡ true) ⊎ (b ≡ false)
 is-bool true = inl refl
@@ -65,6 +64,7 @@ none-over d m c l (CameBack n k past ∷ log) over = none-over d m c l log over
 none-over d m c l (Sent n ∷ log) over = none-over d m c l log over
 none-over d m c l (HungUp ∷ log) over =
     if-low (is_newest m log) (ordered_by d c HungUp log (deeds_of d m c log)) (deeds_of d m c log) l (ordered-low d c HungUp log (deeds_of d m c log) l over) ∙ none-over d m c l log over
+none-over d m c l (Discarded ∷ log) over = unsent-runs m c (origins (waits d log)) (deeds_of d m c log) l ∙ none-over d m c l log over
 
 -- a list of which a sample passes is one that there may be
 below-max : (d : Profile) (m c l : ℕ) (log : List Act) → passes (deeds_of d m c log) l ≡ true → l < MAX_LISTS
@@ -143,6 +143,7 @@ opened-last d (Took m c x ∷ log) is just = absurd just
 opened-last d (CameBack m c past ∷ log) is just = absurd just
 opened-last d (Sent n ∷ log) is just = absurd just
 opened-last d (HungUp ∷ log) is just = absurd just
+opened-last d (Discarded ∷ log) is just = absurd just
 
 -- a packet behind which a list runs, and before which none does, starts it
 exchange-starts : (d : Profile) (past : Past) (x : Exchange) (l : ℕ) → runs past l ≡ false → runs (past_behind d past x) l ≡ true → starts d past x.packet l ≡ true
@@ -193,8 +194,9 @@ open-so d (Refused packet code ∷ log) is some = goes-on d (Refused packet code
 open-so d (Opened at ∷ log) is some = absurd (some-not-none (past_of d log) some is.0)
 open-so d (Took m c x ∷ log) is some = goes-on d (Took m c x) log refl some (open-so d log is.2 some)
 open-so d (CameBack m c past ∷ log) is some = goes-on d (CameBack m c past) log refl some (open-so d log is.1 some)
-open-so d (Sent n ∷ log) is some = goes-on d (Sent n) log refl some (open-so d log is some)
+open-so d (Sent n ∷ log) is some = goes-on d (Sent n) log refl some (open-so d log is.1 some)
 open-so d (HungUp ∷ log) is some = absurd (false≢true (sym (none-new some.0) ∙ some.2))
+open-so d (Discarded ∷ log) is some = goes-on d Discarded log refl some (open-so d log is some)
 
 within-so : (d : Profile) (m l : ℕ) (log : List Act) → m + 1 ≡ opened log → runs (past_of d log) l ≡ true → IsOpen d log → IsWithin d m l log
 within-so d m l log newest running open_so = record {
@@ -225,18 +227,18 @@ within d log is m c s later earlier split pass =
     passes-within d m c s.list earlier there.2 pass
 
 -- a list that doesn't run
-list-append : (l : ℕ) (xs ys : List Told) → from_list l (xs ++ ys) ≡ from_list l xs ++ from_list l ys
-list-append l xs ys = filter-append (λ (t : Told). is_sample_of l t.unit.origin) xs ys
+list-append : (l : ℕ) (xs ys : List Laid) → from_list l (xs ++ ys) ≡ from_list l xs ++ from_list l ys
+list-append l xs ys = filter-append (λ (x : Laid). is_sample_of l x.origin) xs ys
 
-reply-no-list : (l : ℕ) (reply : Option (List ℕ)) → from_list l (map (λ (x : Laid). record { source = Master; unit = x }) (reply_laid reply)) ≡ []
+reply-no-list : (l : ℕ) (reply : Option (List ℕ)) → from_list l (reply_laid reply) ≡ []
 reply-no-list l None = refl
 reply-no-list l (Some packet) = refl
 
-sample-no-list : (l n k : ℕ) (b : Bool) (s : SampleParts) → (b ≡ true → nat_eq s.list l ≡ false) → from_list l (map (λ (x : Laid). record { source = Ring n k; unit = x }) (sample_laid b n s)) ≡ []
+sample-no-list : (l n k : ℕ) (b : Bool) (s : SampleParts) → (b ≡ true → nat_eq s.list l ≡ false) → from_list l (sample_laid b n k s) ≡ []
 sample-no-list l n k false s other = refl
-sample-no-list l n k true s other = ap (λ b. if b then record { source = Ring n k; unit = sample_of n s } ∷ [] else []) (other refl)
+sample-no-list l n k true s other = ap (λ b. if b then sample_of n k s ∷ [] else []) (other refl)
 
-by-none : (d : Profile) (act : Act) (log : List Act) (l : ℕ) → IsLog d (act ∷ log) → runs (past_of d log) l ≡ false → from_list l (told_by d act log) ≡ []
+by-none : (d : Profile) (act : Act) (log : List Act) (l : ℕ) → IsLog d (act ∷ log) → runs (past_of d log) l ≡ false → from_list l (laid_by d act log) ≡ []
 by-none d (Heard x) log l is rests = reply-no-list l (reply_in d (past_of d log) x)
 by-none d (Refused packet code) log l is rests = refl
 by-none d (Opened at) log l is rests = refl
@@ -247,19 +249,20 @@ by-none d (Took m c (Marker k)) log l is rests = refl
 by-none d (CameBack m c past) log l is rests = refl
 by-none d (Sent n) log l is rests = refl
 by-none d HungUp log l is rests = refl
+by-none d Discarded log l is rests = refl
 
 rests-before : (d : Profile) (l : ℕ) (act : Act) (since before : List Act) → Rests d l (act ∷ since) before → Rests d l since before
 rests-before d l act since before rests = λ later sooner x is. rests (act ∷ later) sooner x (ap (λ xs. act ∷ xs) is)
 
-silent-so : (d : Profile) (l : ℕ) (since before : List Act) → IsLog d (since ++ before) → Rests d l since before → from_list l (told d (since ++ before)) ≡ from_list l (told d before)
+silent-so : (d : Profile) (l : ℕ) (since before : List Act) → IsLog d (since ++ before) → Rests d l since before → from_list l (laid d (since ++ before)) ≡ from_list l (laid d before)
 silent-so d l [] before is rests = refl
 silent-so d l (act ∷ since) before is rests =
-    let own = told_by d act (since ++ before) in
-    list-append l (told d (since ++ before)) own
-    ∙ ap (λ xs. from_list l (told d (since ++ before)) ++ xs) (by-none d act (since ++ before) l is (rests [] since act refl))
-    ∙ append-nil (from_list l (told d (since ++ before)))
+    let own = laid_by d act (since ++ before) in
+    list-append l (laid d (since ++ before)) own
+    ∙ ap (λ xs. from_list l (laid d (since ++ before)) ++ xs) (by-none d act (since ++ before) l is (rests [] since act refl))
+    ∙ append-nil (from_list l (laid d (since ++ before)))
     ∙ silent-so d l since before (log-behind d (act ∷ []) (since ++ before) is) (rests-before d l act since before rests)
 
 pub silent : (d : Profile) (log : List Act) → IsLog d log → (l : ℕ) (later since before : List Act) → log ≡ later ++ (since ++ before) → Rests d l since before
-    → from_list l (told d (since ++ before)) ≡ from_list l (told d before)
+    → from_list l (laid d (since ++ before)) ≡ from_list l (laid d before)
 silent d log is l later since before split rests = silent-so d l since before (log-behind d later (since ++ before) (subst (IsLog d) split is)) rests

@@ -10,16 +10,20 @@ pub fn nothing_outside_a_run()
 {}
 
 /// The law of a session: what a slave's log says of the bytes that were sent. They split into
-/// frames whose counters rise by one; the packets that begin as replies do are the replies, in
-/// order and each once; samples stand only within their measurement and where their DAQ list runs;
-/// and what came back of each event channel tells which samples they are, which of them are marked,
-/// and how many were due, written, dropped and left.
+/// frames whose counters rise by one. What is laid out and what is sent stand in the order of the
+/// acts; each reply and sample that was laid out was sent or thrown away, or waits, once; and as
+/// long as nothing was thrown away, what was sent are the first of what was laid out. The replies
+/// that were laid out are those to the packets heard, in order and each once; and once the parts
+/// came back of which samples were sent, the packets that begin as replies do are the replies that
+/// were sent. Samples stand only within their measurement and where their DAQ list runs; and what
+/// came back of each event channel tells which samples they are, which of them are marked, and how
+/// many were due, written, dropped and left.
 pub fn session()
     ensures { SessionOfLog }
 {}
 
 /// Two logs after which one slave stands tell one story: the same bytes were sent and wait, the
-/// lines of the account are the same, and the same parts of measurements are still out.
+/// sums over what came back agree modulo 2^64, and the same parts of measurements are still out.
 pub fn one_slave_one_story<R: Ring>()
     ensures { OneSlaveOneStory R.Take.TakeEnd R.Send }
 {}
