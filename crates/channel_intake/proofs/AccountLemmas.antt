@@ -38,7 +38,6 @@ written-le-taken l (Took (Sample s) ∷ deeds) =
       | true ↦ omega (arith, more, split, last)
       | false ↦ omega (arith, more, split)
     ]
-
 written-le-taken l (Unsent k ∷ deeds) = written-le-taken l deeds
 
 -- nor more than were sent

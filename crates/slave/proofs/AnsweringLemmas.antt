@@ -1,5 +1,5 @@
 -- What a slave stands after once a packet was heard, or the master was lost.
-use Rattle.std.proofs.Common.{◌≡◌, ℕ, ◌<◌, ◌≤◌, Bool, true, false, ◌&&◌, not, if◌then◌else◌, List, [], ◌∷◌, ◌++◌, append-nil, length, refl, sym, ap, ◌∙◌, subst, arith}
+use Rattle.std.proofs.Common.{◌≡◌, ℕ, ◌<◌, Bool, true, false, ◌&&◌, not, if◌then◌else◌, List, [], ◌∷◌, ◌++◌, append-nil, refl, sym, ap, ◌∙◌, subst, arith}
 use Rattle.std.specs.Prelude.{Option, Some, None}
 use Rattle.xcp_base.specs.Lists.{has_list}
 use Rattle.xcp_base.specs.declared.limits.TheConstants.{MAX_LISTS}
@@ -9,7 +9,7 @@ use Rattle.daq_store.specs.declared.command.Command.{Command}
 use Rattle.daq_store.specs.declared.command.Command.TheVariants.{FreeDaq, AllocDaq, AllocOdt, AllocOdtEntry, SetDaqPtr, WriteDaq, SetDaqListMode, StartStopDaqList, StartStopSynch, ClearDaqList, ReadDaq}
 use Rattle.session.proofs.ListSetLemmas.{empty_has_none}
 use Rattle.session.proofs.StartLemmas.{StartsNoList, other_call}
-use Rattle.session.specs.Exchanges.{Exchange, MayBeOut, past_after_greeting, past_after_packet, past_after_read, past_behind, reply_in}
+use Rattle.session.specs.Exchanges.{Exchange, MayBeOut, past_after_greeting, past_after_packet, past_after_read, past_behind}
 use Rattle.session.specs.Past.{Past, new_past}
 use Rattle.session.specs.Profiles.{lists_of}
 use Rattle.session.specs.Requests.{request}

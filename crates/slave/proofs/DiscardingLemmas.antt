@@ -2,8 +2,7 @@
 use Rattle.std.proofs.Common.{◌≡◌, ◌≢◌, ℕ, ◌+◌, ◌-◌, ◌*◌, ◌<◌, ◌≤◌, Bool, true, false, ◌&&◌, not, nat_eq, if◌then◌else◌, List, [], ◌∷◌, ◌++◌, append_assoc, append-nil, drop, length, length-append, map, zero, suc, take as first, refl, sym, ap, ◌∙◌, subst, arith, ◌⊎◌, inl, inr, get_or, slice_get}
 use Rattle.std.specs.Prelude.{count_by, Option, Some, None}
 use Rattle.std.specs.List.{AllByRecursion}
-use Rattle.std.proofs.lemmas.Bool.{false≢true}
-use Rattle.std.proofs.lemmas.Bool.Decides.{eqb_tells, leb_tells}
+use Rattle.std.proofs.lemmas.Bool.Decides.{eqb_tells}
 use Rattle.std.proofs.lemmas.List.{length-map, take_more}
 use Rattle.std.proofs.lemmas.List.Sums.{sum_by-append, sum_by-take-le}
 use Rattle.std.proofs.lemmas.Option.{get_or_from_slice_get, slice_get-get_or, slice_get_within}
@@ -32,7 +31,7 @@ use Rattle.slave.specs.Hearing.{GoesBy}
 use Rattle.slave.specs.Inner.{LeavesFirst, LeavesOne, PartsGoBy, TellsAccount, TellsPart, left_deeds, left_late}
 use Rattle.slave.specs.Log.{Act, CameBack, Discarded, Heard, HungUp, Opened, Refused, Sent, Took, deeds_of, discarding, entries_of, is_late, is_of_ring, is_out, late_of, losing, opened, origins, past_of, reply_laid, sample_laid, sent_units, unsent_by, unsent_one, waits}
 use Rattle.slave.specs.Openings.{past_at}
-use Rattle.slave.specs.Standing.{AreOpenedAfter, ChannelHas, HasEnded, IsLog, IsOut, PartsStandAfter, SlaveStandsAfter, SlaveState, StandsBy, number_of}
+use Rattle.slave.specs.Standing.{ChannelHas, HasEnded, IsLog, IsOut, SlaveStandsAfter, SlaveState, StandsBy, number_of}
 use Rattle.slave.proofs.ChannelLemmas.{channel-same}
 use Rattle.slave.proofs.DeedLemmas.{deeds-and-waits-few, unsent-length}
 use Rattle.slave.proofs.OutLemmas.{opened-kept, out-kept, some-at}

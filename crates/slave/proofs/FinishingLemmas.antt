@@ -1,5 +1,5 @@
 -- What a slave stands after once something came back.
-use Rattle.std.proofs.Common.{◌≡◌, ℕ, ◌+◌, ◌<◌, Bool, true, false, ◌&&◌, ◌||◌, not, nat_eq, List, [], ◌∷◌, append-nil, length, length-append, drop, take as first, refl, sym, ap, ◌∙◌, subst, arith, inl, inr, ◌*◌, ◌%◌, ◌≤◌, slice_get}
+use Rattle.std.proofs.Common.{◌≡◌, ℕ, ◌+◌, ◌<◌, Bool, true, false, ◌&&◌, ◌||◌, not, nat_eq, List, [], ◌∷◌, length, refl, sym, ap, ◌∙◌, subst, arith, inl, inr, ◌*◌, ◌%◌, ◌≤◌, slice_get}
 use Rattle.std.specs.Prelude.{Option, Some, None, IfSome, IsNone, IsSome}
 use Rattle.std.proofs.lemmas.Bool.Decides.{eqb_tells}
 use Rattle.sampler.specs.Past.{Past as SamplerPast}

@@ -15,7 +15,7 @@ use Rattle.slave.specs.Hearing.{FindsNoPlaces, GoesBy, Hears, most_before, HasNo
 use Rattle.session.specs.declared.profile.Profile.{Profile}
 use Rattle.slave.specs.Inner.{Answers, PartsGoBy, counting, AreAsOpened, HasOther, HasParts, IsOfOne, LaysReply, Prepares, SlaveStarted, StartsInVain, WantsPlaces}
 use Rattle.session_account.specs.Accounts.{AccountStandsAfter}
-use Rattle.slave.specs.Log.{Act, Heard, Refused, entries_of, late_of, past_of, reply_laid, sent_units, waits}
+use Rattle.slave.specs.Log.{Act, Heard, Refused, entries_of, late_of, past_of, sent_units, waits}
 use Rattle.slave.specs.Standing.{PartsStandAfter, SlaveState, StartsOther, StartsWell}
 use Rattle.slave.proofs.AnsweringLemmas.{reply-laid}
 use Rattle.slave.proofs.StartLemmas.{starts-list}

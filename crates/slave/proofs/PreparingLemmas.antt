@@ -17,18 +17,16 @@ use Rattle.slave_channel.specs.Channels.{ChannelState, keeps_two}
 use Rattle.slave_channels.specs.Calls.{CanStartAll, HasSome, Looks, OpensAt, OpenedAndEnded, StartsAt}
 use Rattle.slave_channels.specs.Each.{IsEach}
 use Rattle.slave.specs.Hearing.{MayOpen, most_before, HasNoRoom, IsIdleRefusal}
-use Rattle.slave.specs.Openings.{capacities_of, past_at}
+use Rattle.slave.specs.Openings.{capacities_of}
 use Rattle.slave.specs.Plans.{IsSame, plan_of}
 use Rattle.slave.proofs.PlanLemmas.{as-opened, is-same, just-opened}
 use Rattle.session.specs.Profiles.{lists_of}
 use Rattle.xcp_base.specs.declared.err_code.ErrCode.TheVariants.{CmdBusy, MemoryOverflow, Sequence}
 use Rattle.slave.specs.Inner.{AreSets, Busy, HasParts, HasRoom, Idle, IsBusy, IsPlaceRefusal, LooksAtAll, OpensAll, OpensInVain, OpensNone, Prepares, SlaveStarted, StartsInVain, StartsLists, WantsRoom, AreJustOut}
-use Rattle.slave.specs.Log.{Act, Opened, deeds_of, entries_of, is_out, late_of, opened, past_of, sent_units, waits}
-use Rattle.slave.specs.Standing.{NoneRuns, SlaveHas, PartsStandAfter, SlaveState, number_of}
-use Rattle.slave.proofs.ChannelLemmas.{channel-ends, takes-ended}
-use Rattle.slave.proofs.LogLemmas.{ties}
+use Rattle.slave.specs.Log.{Act, Opened, opened, past_of}
+use Rattle.slave.specs.Standing.{SlaveHas, PartsStandAfter, SlaveState, number_of}
 use Rattle.slave.proofs.StandingLemmas.{looks-at-all, looks-ended, opens-all, opens-in-vain, parts-all, parts-vain, starts-all, starts-no-list, starts-parts, Parts, are-parts, has-some, there-is}
-use Rattle.slave.proofs.OutLemmas.{keeps-ends, opened-each, out-each, was-there, new-number}
+use Rattle.slave.proofs.OutLemmas.{was-there, new-number}
 use Rattle.slave.proofs.DeedLemmas.{opened-more}
 use Rattle.session.specs.Past.{Past}
 use Rattle.session.specs.Starts.{is_on, shows_on}

@@ -1,5 +1,5 @@
 -- What a slave stands after once a measurement is opened, and once lists are started.
-use Rattle.std.proofs.Common.{◌≡◌, ◌≢◌, ℕ, ◌+◌, ◌*◌, ◌%◌, ◌<◌, ◌≤◌, Bool, true, false, ◌&&◌, not, nat_eq, if◌then◌else◌, List, [], ◌∷◌, ◌++◌, append-nil, length, get_or, drop, take as first, slice_get, refl, sym, ap, ◌∙◌, subst, arith, ◌⊎◌, inl, inr, zero, suc}
+use Rattle.std.proofs.Common.{◌≡◌, ◌≢◌, ℕ, ◌+◌, ◌*◌, ◌%◌, ◌<◌, ◌≤◌, Bool, true, false, ◌&&◌, not, nat_eq, if◌then◌else◌, List, [], ◌∷◌, ◌++◌, length, get_or, slice_get, refl, sym, ap, ◌∙◌, subst, arith, ◌⊎◌, inl, inr, zero, suc}
 use Rattle.std.specs.Prelude.{Option, Some, None}
 use Rattle.std.proofs.lemmas.Bool.{false≢true}
 use Rattle.std.proofs.lemmas.Bool.Decides.{eqb_tells, leb_tells}
@@ -20,7 +20,6 @@ use Rattle.session.specs.Starts.{is_on}
 use Rattle.session.specs.declared.profile.Profile.{Profile}
 use Rattle.channel_intake.specs.Deeds.{Deed}
 use Rattle.channel_intake.specs.Deeds.{runs as runs_there}
-use Rattle.frame_outbox.specs.Outboxes.{Laid}
 use Rattle.frame_outbox.specs.Outboxes.{StandsAfter as OutboxStandsAfter}
 use Rattle.tasks.specs.Links.{AwayState, CanStart, takes_orders}
 use Rattle.session_account.specs.Accounts.{AccountStandsAfter}

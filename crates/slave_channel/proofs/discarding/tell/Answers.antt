@@ -1,7 +1,7 @@
 use Rattle.std.proofs.Common.{◌≡◌, refl, sym, ap, ◌∙◌, subst, arith}
 use Rattle.channel_intake.specs.Deeds.{Unsent}
 use Rattle.channel_intake.specs.Intakes.{GoesOn}
-use Rattle.slave_channel.specs.Channels.{PartGoesOn, ShareState}
+use Rattle.slave_channel.specs.Channels.{ShareState}
 use Rattle.slave_channel.proofs.discarding.tell.Goals as goal
 
 -- the part of the measurement was told

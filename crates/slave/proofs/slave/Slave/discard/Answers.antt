@@ -1,4 +1,4 @@
-use Rattle.std.proofs.Common.{Bool, true, false, not, ◌≡◌, ◌<◌, ◌+◌, refl, sym, ap, subst, ◌∙◌}
+use Rattle.std.proofs.Common.{Bool, true, false, not, ◌≡◌, ◌<◌, ◌+◌, refl, sym, subst, ◌∙◌}
 use Rattle.std.proofs.lemmas.Bool.{false≢true}
 use Rattle.frame_outbox.specs.Outboxes.{has_waiting}
 use Rattle.slave.proofs.WeightLemmas.{not-thrown, thrown}

@@ -1,4 +1,3 @@
-use Rattle.std.proofs.Common.{ap, ◌∙◌}
 use Rattle.slave.proofs.DiscardingLemmas.{hung-up-and-thrown}
 use Rattle.slave.proofs.slave.Slave.hang_up.Goals as goal
 

@@ -1,4 +1,4 @@
-use Rattle.std.proofs.Common.{◌<◌, ◌≡◌, ◌∙◌, ap, length, sym, arith}
+use Rattle.std.proofs.Common.{◌<◌, ap, length, arith}
 use Rattle.slave.proofs.DiscardingLemmas.{leaves-all, leaves-next, leaves-none}
 use Rattle.slave.proofs.slave.Slave.leave_all.Goals as goal
 

@@ -1,4 +1,4 @@
-use Rattle.std.proofs.Common.{get_or, sym, ap, ◌∙◌}
+use Rattle.std.proofs.Common.{ap, ◌∙◌}
 use Rattle.std.proofs.Common.{slice_set}
 use Rattle.std.proofs.lemmas.List.{set-get_or}
 use Rattle.slave_channels.proofs.channels.Channels.unsent.Goals as goal
