@@ -1,5 +1,5 @@
 -- What was laid out, in order: the answers, and what is from each ring; and what became of it.
-use Rattle.std.proofs.Common.{◌≡◌, ℕ, zero, suc, ◌+◌, Bool, true, false, ◌&&◌, ◌||◌, nat_eq, if◌then◌else◌, List, [], ◌∷◌, ◌++◌, append-nil, append_assoc, map, take as first, drop, refl, sym, ap, ◌∙◌, subst, arith, ◌⊎◌, inl, inr}
+use Rattle.std.proofs.Common.{◌≡◌, ℕ, zero, suc, ◌+◌, Bool, true, false, ◌&&◌, ◌||◌, nat_eq, if◌then◌else◌, List, [], ◌∷◌, ◌++◌, append-nil, append_assoc, length, length-append, map, take as first, drop, refl, sym, ap, ◌∙◌, subst, arith, ◌⊎◌, inl, inr}
 use Rattle.std.specs.Prelude.{count_by, option_to_list, Err, Option, Some, None}
 use Rattle.std.specs.List.{AllByRecursion}
 use mathlib.Core.List.{IsPrefix}
@@ -27,7 +27,9 @@ use Rattle.slave_channel.specs.Ordering.{one_if, starts_noted, stops_noted}
 use Rattle.slave.specs.Log.{Act, CameBack, Discarded, Heard, HungUp, Opened, Refused, Sent, Took, deeds_of, is_back, is_newest, is_of_ring, is_out, is_sample_of, laid, laid_by, ordered_by, origins, past_of, reply_laid, sample_laid, sent_units, starts_on, stops_at, thrown, unsent_by, unsent_one, waits, with_starts}
 use Rattle.slave.specs.Session.{IsAnswered, IsSince, NoneThrows, answers_in, from_ring, replies_by, replies_of, sample_of}
 use Rattle.slave.specs.Standing.{IsLog}
+use Rattle.slave.specs.Thinned.{IsWithout}
 use Rattle.slave.proofs.DeedLemmas.{out-back, unsent-passed}
+use Rattle.slave.proofs.ThinnedLemmas.{without-behind, without-filter, without-packets, without-same}
 
 -- what is laid out later stands behind, and so is what is sent later
 grows : (d : Profile) (later earlier : List Act) → IsPrefix (laid d earlier) (laid d (later ++ earlier))
@@ -161,6 +163,55 @@ since-so d (Discarded ∷ later) earlier none = absurd (false≢true (sym none))
 pub is-since : (d : Profile) (log later earlier : List Act) → log ≡ later ++ earlier → NoneThrows later → IsSince d log earlier
 is-since d log later earlier is none = subst (λ xs. IsSince d xs earlier) (sym is) (since-so d later earlier none)
 
+-- what went by is a front of what was laid out, and what was sent is that without what was thrown away
+record IsGone (d : Profile) (log : List Act) : Type 0 where
+  front : List Laid
+  laid_is : laid d log ≡ front ++ waits d log
+  sent_is : IsWithout (length (thrown d log)) front (sent_units d log)
+
+gone-same : (d : Profile) (act : Act) (log : List Act) → thrown d (act ∷ log) ≡ thrown d log → sent_units d (act ∷ log) ≡ sent_units d log → waits d (act ∷ log) ≡ waits d log ++ laid_by d act log → IsGone d log → IsGone d (act ∷ log)
+gone-same d act log same sent wait gone = record {
+  front = gone.front;
+  laid_is = ap (λ xs. xs ++ laid_by d act log) gone.laid_is ∙ append_assoc gone.front (waits d log) (laid_by d act log) ∙ ap (λ xs. gone.front ++ xs) (sym wait);
+  sent_is = subst (λ xs. IsWithout (length xs) gone.front (sent_units d (act ∷ log))) (sym same) (subst (λ xs. IsWithout (length (thrown d log)) gone.front xs) (sym sent) gone.sent_is);
+}
+
+is-gone : (d : Profile) (log : List Act) → IsGone d log
+is-gone d [] = record { front = []; laid_is = refl; sent_is = (refl, refl) }
+is-gone d (Heard x ∷ log) = gone-same d (Heard x) log refl refl refl (is-gone d log)
+is-gone d (Refused packet code ∷ log) = gone-same d (Refused packet code) log refl refl refl (is-gone d log)
+is-gone d (Opened at ∷ log) = gone-same d (Opened at) log refl refl (sym (append-nil (waits d log))) (is-gone d log)
+is-gone d (Took m c (Sample s) ∷ log) = gone-same d (Took m c (Sample s)) log refl refl refl (is-gone d log)
+is-gone d (Took m c (Marker k) ∷ log) = gone-same d (Took m c (Marker k)) log refl refl (sym (append-nil (waits d log))) (is-gone d log)
+is-gone d (CameBack m c past ∷ log) = gone-same d (CameBack m c past) log refl refl (sym (append-nil (waits d log))) (is-gone d log)
+is-gone d (Sent n ∷ log) =
+    let gone = is-gone d log in
+    let wait = waits d log in
+    record {
+      front = gone.front ++ first n wait;
+      laid_is =
+          append-nil (laid d log) ∙ gone.laid_is ∙ ap (λ xs. gone.front ++ xs) (sym (take-append-drop n wait))
+          ∙ sym (append_assoc gone.front (first n wait) (drop n wait));
+      sent_is = without-same (length (thrown d log)) gone.front (sent_units d log) (first n wait) gone.sent_is;
+    }
+is-gone d (HungUp ∷ log) = gone-same d HungUp log refl refl (sym (append-nil (waits d log))) (is-gone d log)
+is-gone d (Discarded ∷ log) =
+    let gone = is-gone d log in
+    let wait = waits d log in
+    record {
+      front = gone.front ++ wait;
+      laid_is = append-nil (laid d log) ∙ gone.laid_is ∙ sym (append-nil (gone.front ++ wait));
+      sent_is = subst (λ k. IsWithout k (gone.front ++ wait) (sent_units d log)) (sym (length-append (thrown d log) wait))
+          (without-behind (length (thrown d log)) gone.front (sent_units d log) wait gone.sent_is);
+    }
+
+-- so with what waits
+pub sent-are : (d : Profile) (log : List Act) → IsWithout (length (thrown d log) + length (waits d log)) (laid d log) (sent_units d log)
+sent-are d log =
+    let gone = is-gone d log in
+    subst (λ xs. IsWithout (length (thrown d log) + length (waits d log)) xs (sent_units d log)) (sym gone.laid_is)
+    (without-behind (length (thrown d log)) gone.front (sent_units d log) (waits d log) gone.sent_is)
+
 pub packets-append : (xs ys : List Laid) → packets_in (xs ++ ys) ≡ packets_in xs ++ packets_in ys
 packets-append xs ys = flat_map-append (λ (x : Laid). x.packets) xs ys
 
@@ -198,6 +249,12 @@ answers-laid d (act ∷ log) =
     ∙ ap (λ qs. replies_of d log ++ qs) (answers-by d act log)
 
 -- those that were sent since nothing waited are the first of those that were laid out since
+pub answers-sent : (d : Profile) (log : List Act) → (n : ℕ) × IsWithout n (replies_of d log) (packets_in (answers_in (sent_units d log)))
+answers-sent d log =
+    let answers = without-filter (λ (x : Laid). is_reply x.origin) (length (thrown d log) + length (waits d log)) (laid d log) (sent_units d log) (sent-are d log) in
+    let packets = without-packets answers.0 (answers_in (laid d log)) (answers_in (sent_units d log)) answers.1 in
+    (packets.0, subst (λ qs. IsWithout packets.0 qs (packets_in (answers_in (sent_units d log)))) (answers-laid d log) packets.1)
+
 pub is-answered : (d : Profile) (log later earlier : List Act) → log ≡ later ++ earlier → NoneThrows later → waits d earlier ≡ [] → IsAnswered d log earlier
 is-answered d log later earlier is none nothing =
     let so = is-since d log later earlier is none in

@@ -4,6 +4,7 @@ pub mod StartLemmas
 pub mod CollectingLemmas
 pub mod ClosingLemmas
 pub mod LogLemmas
+pub mod ThinnedLemmas
 pub mod LaidLemmas
 pub mod ReplyLemmas
 pub mod DisguiseLemmas

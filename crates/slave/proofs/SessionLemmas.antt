@@ -29,7 +29,7 @@ use Rattle.slave.specs.Standing.{ComesBack, IsLog}
 use Rattle.slave.proofs.ChangeLemmas.{change-accepted}
 use Rattle.slave.proofs.DisguiseLemmas.{HasPackets, IsDaq, taken-daq}
 use Rattle.slave.proofs.KnownLemmas.{all-known}
-use Rattle.slave.proofs.LaidLemmas.{all-parts, answers-laid, both-same, each-once, in-order, is-answered, is-bool, is-since, log-behind, no-more, sent-in-order, unsent-noted, written-laid}
+use Rattle.slave.proofs.LaidLemmas.{all-parts, answers-laid, answers-sent, both-same, each-once, in-order, is-answered, is-bool, is-since, log-behind, no-more, sent-are, sent-in-order, unsent-noted, written-laid}
 use Rattle.slave.proofs.ReplyLemmas.{IfReply, IsReply, refusal-is, reply-fits, reply-is}
 use Rattle.slave.proofs.RunLemmas.{here}
 use Rattle.slave.proofs.StopLemmas.{stop-holds}
@@ -313,12 +313,14 @@ session-law d log is =
     record {
       in_order = in-order d log;
       sent_in_order = sent-in-order d log;
+      sent_are = sent-are d log;
       each = λ test. each-once d test log;
       since = is-since d log;
       unsent = λ m c l. unsent-noted d m c l log;
       known = all-known d log is;
       frames = λ profile. split_of_text 0 (packets_sent d log) (All-from_recursion Fits (packets_sent d log) (sent-fits d log is profile));
       answers = answers-laid d log;
+      answers_sent = answers-sent d log;
       answered = is-answered d log;
       begins = All-from_recursion (λ q. begins_reply q ≡ true) (replies_of d log) (subst (AllByRecursion (λ q. begins_reply q ≡ true)) (answers-laid d log) (answer-begins d (laid d log) (answers-reply d log)));
       no_disguise = All-from_recursion (BeginsOtherwise log) (laid d log) (all-mono (OfKnown log (AllPackets IsDaq)) (BeginsOtherwise log) (laid d log) (no-disguise log) (known-daq d log is));

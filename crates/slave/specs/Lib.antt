@@ -7,6 +7,7 @@ pub mod Hearing
 pub mod Taking
 pub mod Finishing
 pub mod Closing
+pub mod Thinned
 pub mod Session
 pub mod Laws
 pub mod Inner

@@ -41,6 +41,7 @@ use Rattle.slave.specs.Log.{is_sample_of, laid, late_of, opened, past_of, sent_u
 use Rattle.slave.specs.Log.{waits}
 use Rattle.slave.specs.Plans.{plan_at}
 use Rattle.slave.specs.Standing.{NoneRuns}
+use Rattle.slave.specs.Thinned.{IsWithout}
 
 -- In each definition below the log has the acts so far, the newest first.
 
@@ -233,6 +234,9 @@ pub record SessionLaw (d : Profile) (log : List Act) : Type 0 where
   pub sent_in_order :
       (later earlier : List Act) → log ≡ later ++ earlier
       → IsPrefix (sent_units d earlier) (sent_units d log)
+  -- what was sent is what was laid out, in order, without what was thrown away and what waits
+  pub sent_are :
+      IsWithout (length (thrown d log) + length (waits d log)) (laid d log) (sent_units d log)
   -- each reply and sample that was laid out was sent or thrown away, or waits, once
   pub each :
       (test : Laid → Bool)
@@ -254,8 +258,11 @@ pub record SessionLaw (d : Profile) (log : List Act) : Type 0 where
   -- modulo 65536
   pub frames : IsProfile d → IsSplit (sent_text d log) (numbered 0 (packets_sent d log))
   -- the answers that were laid out are the replies to the packets heard, in order and each once;
-  -- and as long as nothing was thrown away, those that were sent are the first of them
+  -- those that were sent are these, without some; and as long as nothing was thrown away, they are
+  -- the first of them
   pub answers : packets_in (answers_in (laid d log)) ≡ replies_of d log
+  pub answers_sent :
+      (n : ℕ) × IsWithout n (replies_of d log) (packets_in (answers_in (sent_units d log)))
   pub answered :
       (later earlier : List Act) → log ≡ later ++ earlier → NoneThrows later
       → waits d earlier ≡ [] → IsAnswered d log earlier

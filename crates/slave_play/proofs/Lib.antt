@@ -1,3 +1,2 @@
-pub mod ThinnedLemmas
 pub mod LogLemmas
 pub mod PlayLemmas

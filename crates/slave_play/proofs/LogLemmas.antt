@@ -11,7 +11,7 @@ use Rattle.slave.specs.Taking.{is_take}
 use Rattle.slave_file.specs.Lines.{LineData, master, trigger, send, lose, hang_up}
 use Rattle.slave.specs.Session.{sent_text}
 use Rattle.slave_play.specs.Playing.{heard_by, masters}
-use Rattle.slave_play.proofs.ThinnedLemmas.{assoc}
+use Rattle.slave.proofs.ThinnedLemmas.{assoc}
 
 -- the packets of the master, line by line
 pub masters-append : (xs ys : List LineData) → masters (xs ++ ys) ≡ masters xs ++ masters ys

@@ -19,9 +19,9 @@ use Rattle.slave_file.specs.Lines.{LineData, master}
 use Rattle.slave_play.specs.Playing.{Advances, Does, HasPlayed, Sending, StandsSo, heard_by, masters, most_a_line, sending}
 use Rattle.slave.specs.Session.{sent_text}
 use Rattle.slave.proofs.SessionLemmas.{session-law}
-use Rattle.slave_play.specs.Thinned.{IsWithout}
+use Rattle.slave.specs.Thinned.{IsWithout}
 use Rattle.slave_play.proofs.LogLemmas.{heard-append, heard-one, is_silent, masters-append, takes-nothing, text-stays}
-use Rattle.slave_play.proofs.ThinnedLemmas.{assoc, without-append}
+use Rattle.slave.proofs.ThinnedLemmas.{assoc, without-append}
 
 pub if-ok-both : {A B : Type 0} (r : Result A B) (P Q R : A → Type 0) → ((x : A) → P x → Q x → R x) → IfOk r P → IfOk r Q → IfOk r R
 if-ok-both (Ok x) P Q R f p q = f x p q

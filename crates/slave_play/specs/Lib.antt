@@ -1,2 +1,1 @@
-pub mod Thinned
 pub mod Playing

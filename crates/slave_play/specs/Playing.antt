@@ -7,7 +7,7 @@ use Rattle.slave.specs.Session.{SessionLaw, sent_text}
 use Rattle.slave.specs.Standing.{IsLog, SlaveStandsAfter, SlaveState}
 use Rattle.slave.specs.Taking.{most_taken}
 use Rattle.slave_file.specs.Lines.{LineData, master, trigger, send, lose, hang_up}
-use Rattle.slave_play.specs.Thinned.{IsWithout}
+use Rattle.slave.specs.Thinned.{IsWithout}
 
 -- the packets of the lines that are packets of the master
 abbrev pub masters : List LineData → List (List ℕ)
