@@ -41,7 +41,7 @@ module _ {X : Type 0} where
 
   -- of those that pass a test
   pub without-filter : (test : X → Bool) (n : ℕ) (xs ys : List X) → IsWithout n xs ys → (m : ℕ) × IsWithout m (filter test xs) (filter test ys)
-  without-filter test n [] ys one = (0, refl, ap (filter test) one.1)
+  without-filter test n [] ys one = (0, (refl, ap (filter test) one.1))
   without-filter test n (x ∷ xs) ys (inl w) =
       let (m, rest) = without-filter test n xs w.0 w.2 in
       (m, subst (λ zs. IsWithout m (filter test (x ∷ xs)) (filter test zs)) (sym w.1) (by (test x) m (filter test xs) (filter test w.0) rest)) where
@@ -57,10 +57,10 @@ module _ {X : Type 0} where
 
 -- of the packets of some
 pub without-packets : (n : ℕ) (xs ys : List Laid) → IsWithout n xs ys → (m : ℕ) × IsWithout m (packets_in xs) (packets_in ys)
-without-packets n [] ys one = (0, refl, ap packets_in one.1)
+without-packets n [] ys one = (0, (refl, ap packets_in one.1))
 without-packets n (x ∷ xs) ys (inl w) =
     let (m, rest) = without-packets n xs w.0 w.2 in
-    (m, subst (λ zs. IsWithout m (packets_in (x ∷ xs)) (packets_in zs)) (sym w.1) (without-append 0 m x.packets x.packets (packets_in xs) (packets_in w.0) (without-none x.packets) rest))
+    (0 + m, subst (λ zs. IsWithout (0 + m) (packets_in (x ∷ xs)) (packets_in zs)) (sym w.1) (without-append 0 m x.packets x.packets (packets_in xs) (packets_in w.0) (without-none x.packets) rest))
 without-packets n (x ∷ xs) ys (inr w) =
     let (m, rest) = without-packets w.0 xs ys w.2 in
     (length x.packets + m, without-append (length x.packets) m x.packets [] (packets_in xs) (packets_in ys) (without-all x.packets) rest)
