@@ -11,7 +11,7 @@ use Rattle.xcp_base.specs.declared.limits.TheConstants.{MAX_LISTS}
 use Rattle.session.specs.Exchanges.{reply_in}
 use Rattle.session.specs.Fields.{packet_of}
 use Rattle.session.specs.declared.profile.Profile.{Profile}
-use Rattle.channel_intake.specs.Deeds.{Deed, Started, Stopped, Unsent, is_mark_of, is_stop_of, marks_of, passed, passes, stops_of, taken}
+use Rattle.channel_intake.specs.Deeds.{Deed, Started, Stopped, Unsent, marks_of, passed, passes, stops_of, taken}
 use Rattle.channel_intake.specs.Deeds.{Took as TookItem}
 use Rattle.channel_intake.specs.Deeds.{runs as runs_there}
 use Rattle.frame_outbox.specs.Outboxes.{Laid}
@@ -40,10 +40,10 @@ pub unsent-runs : (m c : ℕ) (os : List Origin) (ds : List Deed) (l : ℕ) → 
 unsent-runs m c os ds l = unsent-changes-not (λ xs. runs_there xs l) (λ k xs. refl) m c os ds
 
 pub unsent-stops : (m c : ℕ) (os : List Origin) (ds : List Deed) (l : ℕ) → stops_of (unsent_by m c os ++ ds) l ≡ stops_of ds l
-unsent-stops m c os ds l = unsent-changes-not (λ xs. stops_of xs l) (λ k xs. sum_by-cons (λ x. if is_stop_of l x then 1 else 0) (Unsent k) xs) m c os ds
+unsent-stops m c os ds l = unsent-changes-not (λ xs. stops_of xs l) (λ k xs. refl) m c os ds
 
 pub unsent-marks : (m c : ℕ) (os : List Origin) (ds : List Deed) (l : ℕ) → marks_of (unsent_by m c os ++ ds) l ≡ marks_of ds l
-unsent-marks m c os ds l = unsent-changes-not (λ xs. marks_of xs l) (λ k xs. sum_by-cons (λ x. if is_mark_of l x then 1 else 0) (Unsent k) xs) m c os ds
+unsent-marks m c os ds l = unsent-changes-not (λ xs. marks_of xs l) (λ k xs. refl) m c os ds
 
 pub unsent-passes : (m c : ℕ) (os : List Origin) (ds : List Deed) (l : ℕ) → passes (unsent_by m c os ++ ds) l ≡ passes ds l
 unsent-passes m c os ds l =
