@@ -31,6 +31,7 @@ pub mod SendingLemmas
 pub mod NewLemmas
 pub mod FinishingLemmas
 pub mod WeightLemmas
+pub mod FairLemmas
 pub mod RoundLemmas
 pub mod WaitsLemmas
 pub mod DiscardingLemmas
