@@ -8,5 +8,6 @@ pub mod Taking
 pub mod Finishing
 pub mod Closing
 pub mod Session
+pub mod Turns
 pub mod Laws
 pub mod Inner
