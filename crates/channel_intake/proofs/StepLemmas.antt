@@ -109,6 +109,7 @@ module _ {T E : Type 0} (take : TakeGhosts T E) where
         k,
         record {
           goes_on = goes_on-marker take a b k (subst (λ x. Notes a.lists b.lists (Marked x)) is (subst (λ xs. Notes xs b.lists (Marked l)) looked.lists notes)) go.gains;
+          gains = go.gains;
           first_known = go.first_known;
           ring = ring ∙ looked.ring;
         },
@@ -121,6 +122,7 @@ module _ {T E : Type 0} (take : TakeGhosts T E) where
         s,
         record {
           goes_on = goes_on-skipped take a b s (notes ∙ looked.lists) go.gains held;
+          gains = go.gains;
           first_known = go.first_known;
           ring = ring ∙ looked.ring;
         },
@@ -134,6 +136,7 @@ module _ {T E : Type 0} (take : TakeGhosts T E) where
         s,
         record {
           goes_on = goes_on-wrote take a b s (subst (λ x. Notes a.lists b.lists (Wrote x end)) lays.1 (subst (λ xs. Notes xs b.lists (Wrote l end)) looked.lists notes)) go.gains may_pass;
+          gains = go.gains;
           first_known = go.first_known;
           ring = ring ∙ looked.ring;
         },

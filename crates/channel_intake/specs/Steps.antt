@@ -40,10 +40,11 @@ module _ {T E : Type 0} (take : TakeGhosts T E) where
   abbrev pub IsHeldBack : IntakeState T → ℕ → Type 0
   IsHeldBack a l = (deeds : List Deed) → StandsAfter take a deeds → passes deeds l ≡ false
 
-  -- this item was taken: it was the first that was known, if any was; and none of the others that
-  -- were known is forgotten
+  -- this item was taken: what was received gains it; it was the first that was known, if any was;
+  -- and none of the others that were known is forgotten
   pub record Takes (a b : IntakeState T) (x : Item) : Type 0 where
     pub goes_on : GoesOn take a b (Took x)
+    pub gains : take.received b.end ≡ take.received a.end ++ x ∷ []
     pub first_known : IsPrefix (take.known a.end) (x ∷ take.known b.end)
     pub ring : take.ring b.end ≡ take.ring a.end
 

@@ -32,6 +32,8 @@ pub mod SendingLemmas
 pub mod NewLemmas
 pub mod FinishingLemmas
 pub mod WeightLemmas
+pub mod FairLemmas
+pub mod TurnLemmas
 pub mod RoundLemmas
 pub mod WaitsLemmas
 pub mod DiscardingLemmas

@@ -15,15 +15,15 @@ use Rattle.channel_intake.specs.declared.step.Step.TheVariants.{Full, Marked, No
 use Rattle.frame_outbox.specs.Outboxes.{OutboxState}
 use Rattle.frame_outbox.specs.Taking.{HasNoRoom, TakesItem}
 use Rattle.slave_channel.specs.Channels.{ChannelState, ShareState, TakesOf}
-use Rattle.slave_channels.specs.Calls.{TakesFromNewer}
+use Rattle.slave_channels.specs.Calls.{TakesFromNewer, TakesFromOlder}
 use Rattle.slave_channels.specs.Each.{IsOnlyAt}
 use Rattle.slave.specs.Hearing.{is_spent}
-use Rattle.slave.specs.Inner.{EndsRound, LooksOnce, acts_of}
+use Rattle.slave.specs.Inner.{EndsRound, KeepsNewest, LooksOnce, acts_of}
 use Rattle.slave.specs.Standing.{SlaveState}
-use Rattle.slave.specs.Taking.{IsEmptyAt, IsHeldUp, LooksThrough}
+use Rattle.slave.specs.Taking.{IsEmptyAt, IsHeldUp, LooksAt, LooksThrough, LooksTimes, newest_at, newest_part}
 use Rattle.slave.specs.declared.round.Round.{Round}
 use Rattle.slave.specs.declared.round.Round.TheVariants.{Empty, HeldUp, Took}
-use Rattle.slave.specs.declared.limits.TheConstants.{MOST_ACTS}
+use Rattle.slave.proofs.FairLemmas.{FairSoFar, looked-through, looks-held, looks-still, looks-turn, still-spent}
 use Rattle.slave.proofs.OutLemmas.{some-at}
 use Rattle.std.proofs.lemmas.Option.{slice_get_within}
 
@@ -33,6 +33,11 @@ none_some x e = cc
 some_inj : {X : Type 0} (x y : X) → Some x ≡ Some y → x ≡ y
 some_inj x y e = cc
 
+-- where the next look begins behind many rounds
+pub next-many : (rounds next : ℕ) → 1024 ≤ rounds → (rounds ≡ 0) ⊎ (next ≡ 0) → next ≡ 0
+next-many rounds next many (inl none) = absurd (omega (arith, many, none))
+next-many rounds next many (inr first) = first
+
 -- what counts as nothing and found room is nothing
 acts-none : (step : Step) → acts_of step ≡ 0 → step ≢ Full → step ≡ Nothing
 acts-none Nothing none other = refl
@@ -40,18 +45,6 @@ acts-none Full none other = absurd (other refl)
 acts-none (Marked l) none other = absurd (omega (arith, none))
 acts-none (Skipped l) none other = absurd (omega (arith, none))
 acts-none (Wrote l end) none other = absurd (omega (arith, none))
-
--- what is spent stays so
-still-spent : {S T : Type 0} (a b : SlaveState S T) → a.acts ≤ b.acts → is_spent a ≡ true → is_spent b ≡ true
-still-spent a b grows spent =
-    elim (leb_tells MOST_ACTS b.acts) [
-      | inl w ↦ w.0
-      | inr w ↦
-          elim (leb_tells MOST_ACTS a.acts) [
-            | inl t ↦ absurd (omega (arith, t.1, w.1, grows))
-            | inr t ↦ absurd (false≢true (sym t.0 ∙ spent))
-          ]
-    ]
 
 module _ {T F : Type 0} (take : TakeGhosts T F) where
   looked-back : (a b : IntakeState T) → OnlyLooked take a b → (deeds : List Deed) → StandsAfter take b deeds → StandsAfter take a deeds
@@ -98,14 +91,19 @@ module _ {T F : Type 0} (take : TakeGhosts T F) where
       }
 
 module _ {S T F : Type 0} (take : TakeGhosts T F) where
+  parts : (n : ℕ) (a b : SlaveState S T) (c : ℕ) (u v : Option (ShareState T)) → newest_at a c ≡ u → newest_at b c ≡ v → LooksTimes take n u v → LooksAt take n a b c
+  parts n a b c u v was is looks = subst (λ z. LooksTimes take n z (newest_at b c)) (sym was) (subst (λ z. LooksTimes take n u z) (sym is) looks)
+
   -- one look at the newest ring of an event channel
   pub looks-once : (v w : SlaveState S T) (xs : List (ChannelState S T)) (o : OutboxState) (c n : ℕ) (step : Step) → w ≡ v → n ≡ acts_of step → c < length w.channels
-      → IsOnlyAt (TakesFromNewer take c w.outbox o step) c w.channels xs → LooksOnce take v (record w { outbox = o; channels = xs; acts = w.acts + n }) c step
-  looks-once v w xs o c n step same is_n below only =
+      → is_spent v ≡ false → IsOnlyAt (TakesFromNewer take c w.outbox o step) c w.channels xs → LooksOnce take v (record w { outbox = o; channels = xs; acts = w.acts + n }) c step
+  looks-once v w xs o c n step same is_n below fresh only =
       let (x, was) = some-at w.channels c below in
       let (y, is) = some-at xs c (omega (arith, below, only.as_many)) in
       let one = only.here x y was is in
       let b : SlaveState S T = record w { outbox = o; channels = xs; acts = w.acts + n } in
+      let part : newest_at w c ≡ x.newer = ap newest_part was in
+      let next : newest_at b c ≡ y.newer = ap newest_part is in
       subst (λ (z : SlaveState S T). LooksOnce take z b c step) same
       (record {
         nothing = λ none. inr (λ state part at part_is.
@@ -124,6 +122,28 @@ module _ {S T F : Type 0} (take : TakeGhosts T F) where
             };
         others = only.others;
         counted = ap (λ k. w.acts + k) is_n;
+        spent = λ is. absurd (false≢true (sym (ap (λ (z : SlaveState S T). is_spent z) same ∙ fresh) ∙ is));
+        turn = λ is other. parts 1 w b c x.newer y.newer part next (looks-turn take c x.newer y.newer w.outbox o step one.takes other);
+        held = λ full. parts 0 w b c x.newer y.newer part next (looks-held take c x.newer y.newer w.outbox o step one.takes full);
+      })
+
+  -- a look at the ring of an event channel's measurement before it
+  pub keeps-older : (v w : SlaveState S T) (xs : List (ChannelState S T)) (o : OutboxState) (c n : ℕ) (step : Step) → w ≡ v → c < length w.channels
+      → IsOnlyAt (TakesFromOlder take c w.outbox o step) c w.channels xs → KeepsNewest v (record w { outbox = o; channels = xs; acts = w.acts + n })
+  keeps-older v w xs o c n step same below only =
+      let (x, was) = some-at w.channels c below in
+      let (y, is) = some-at xs c (omega (arith, below, only.as_many)) in
+      let one = only.here x y was is in
+      let b : SlaveState S T = record w { outbox = o; channels = xs; acts = w.acts + n } in
+      let here : newest_at b c ≡ newest_at w c = ap newest_part is ∙ ap (λ (z : ChannelState S T). z.newer) one.rest ∙ sym (ap newest_part was) in
+      subst (λ (z : SlaveState S T). KeepsNewest z b) same
+      (record {
+        newest = λ k.
+            elim (eqb_tells k c) [
+              | inl e ↦ subst (λ j. newest_at b j ≡ newest_at w j) (sym e.1) here
+              | inr e ↦ ap newest_part (only.others k e.1)
+            ];
+        next = refl;
       })
 
   -- the same sample finds no room, wherever the next look begins
@@ -146,6 +166,9 @@ module _ {S T F : Type 0} (take : TakeGhosts T F) where
     full = λ full. absurd (not-full full);
     others = λ k other. refl;
     counted = omega arith;
+    spent = λ is. refl;
+    turn = λ fresh. absurd (false≢true (sym fresh ∙ spent));
+    held = λ full. absurd (not-full full);
   } where
     not-full : Nothing ≡ Full → ⊥
     not-full e = cc
@@ -218,6 +241,9 @@ module _ {S T F : Type 0} (take : TakeGhosts T F) where
         | inr late ↦ (subst (EndsRound take a b begin) late.0 ends).0
       ]
 
+  pub next-empty : (a b : SlaveState S T) (begin : ℕ) (r : Round) → EndsRound take a b begin r → r ≡ Empty → b.next ≡ 0
+  next-empty a b begin r ends empty = (subst (EndsRound take a b begin) empty ends).0
+
   -- and the last one looked through all
   pub through-last : (f a b : SlaveState S T) (begin : ℕ) (r : Round) → EndsRound take a b begin r → (r ≡ HeldUp) ⊎ ((r ≡ Empty) × (begin ≡ 0)) → LooksThrough take f b
   through-last f a b begin r ends kind =
@@ -233,12 +259,12 @@ module _ {S T F : Type 0} (take : TakeGhosts T F) where
       ]
 
   -- or there were 1,024 rounds
-  pub through-many : (f b : SlaveState S T) (begin rounds : ℕ) → 1024 ≤ rounds → (rounds ≡ 0) ⊎ ((begin ≡ 0) × (f.acts + 3 * (rounds - 1) ≤ b.acts)) → (rounds ≡ 0) ⊎ (b.next ≡ 0) → LooksThrough take f b
-  through-many f b begin rounds many went first =
+  pub through-many : (f b : SlaveState S T) (begin rounds : ℕ) → rounds ≡ 1024 → (rounds ≡ 0) ⊎ ((begin ≡ 0) × (f.acts + 3 * (rounds - 1) ≤ b.acts)) → b.next ≡ 0 → FairSoFar take f b rounds → LooksThrough take f b
+  through-many f b begin rounds many went first fair =
       elim went [
         | inl none ↦ absurd (omega (arith, many, none))
-        | inr w ↦ let so_far = w.1 in elim first [
-          | inl none ↦ absurd (omega (arith, many, none))
-          | inr at ↦ inr (at, inr (inr (omega (arith, many, so_far))))
+        | inr w ↦ let so_far = w.1 in elim (looked-through take f b rounds many fair) [
+          | inl spent ↦ inr (first, inr (inl spent))
+          | inr looks ↦ inr (first, inr (inr (omega (arith, many, so_far), looks)))
         ]
       ]

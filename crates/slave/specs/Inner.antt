@@ -38,7 +38,7 @@ use Rattle.slave_channels.specs.Calls.{HaveRoom, KeepsNoneOf, Looks, OpenedAndEn
 use Rattle.slave_channels.specs.Calls.{StartsAt, StopsAll}
 use Rattle.slave_channels.specs.Each.{IsEach, IsOnlyAt}
 use Rattle.slave.specs.Hearing.{IsStartRefusal, MayOpen, IsIdleRefusal, is_spent}
-use Rattle.slave.specs.Taking.{IsEmptyAt, IsHeldUp}
+use Rattle.slave.specs.Taking.{IsEmptyAt, IsHeldUp, LooksAt, newest_at}
 use Rattle.slave.specs.declared.round.Round.{Round}
 use Rattle.slave.specs.declared.round.Round.TheVariants.{Empty, HeldUp, Took}
 use Rattle.slave.specs.Log.{Act, Heard}
@@ -129,6 +129,17 @@ acts_of (Skipped l) = PER_ACT
 acts_of (Wrote l end) = PER_ACT
 
 module _ {S T : Type 0} where
+  -- the newest measurement's parts are as they were, and the next look begins there too
+  pub record KeepsNewest (a b : SlaveState S T) : Type 0 where
+    pub newest : (c : ℕ) → newest_at b c ≡ newest_at a c
+    pub next : b.next ≡ a.next
+
+  -- a round ended at event channel `end`
+  abbrev pub EndsAt : SlaveState S T → ℕ → Round → Type 0
+  EndsAt b end HeldUp = b.next ≡ end
+  EndsAt b end Empty = length b.channels ≤ end
+  EndsAt b end Took = length b.channels ≤ end
+
   -- the orders of the tasks were looked at
   pub record LooksAtAll (a b : SlaveState S T) : Type 0 where
     pub channels : IsEach (λ c. Looks) a.channels b.channels
@@ -345,6 +356,25 @@ module _ {S T F : Type 0} (take : TakeGhosts T F) where
     pub full : step ≡ Full → IsHeldUp take b c
     pub others : (k : ℕ) → k ≢ c → slice_get b.channels k ≡ slice_get a.channels k
     pub counted : b.acts ≡ a.acts + acts_of step
+    pub spent : is_spent a ≡ true → b ≡ a
+    pub turn : is_spent a ≡ false → step ≢ Full → LooksAt take 1 a b c
+    pub held : step ≡ Full → LooksAt take 0 a b c
+
+  -- the newest rings from event channel `begin` on, below `end`, were looked at once, and of the
+  -- others nothing was taken
+  pub record LooksFrom (begin end : ℕ) (a b : SlaveState S T) : Type 0 where
+    pub before : (c : ℕ) → c < begin → LooksAt take 0 a b c
+    pub there : (c : ℕ) → begin ≤ c → c < end → LooksAt take 1 a b c
+    pub behind : (c : ℕ) → end ≤ c → LooksAt take 0 a b c
+
+  -- in a round from `begin` on each ring was looked at once, up to one that is held up; or until the
+  -- slave was spent, and of one that was spent before nothing is taken
+  pub record GoesRound (a b : SlaveState S T) (begin : ℕ) (round : Round) : Type 0 where
+    pub end : ℕ
+    pub reach : begin ≤ end
+    pub looks : LooksFrom begin end a b
+    pub ends : EndsAt b end round ⊎ (is_spent b ≡ true)
+    pub spent : is_spent a ≡ true → (c : ℕ) → LooksAt take 0 a b c
 
   -- how a round ended that began at event channel `begin`, and where the next one begins
   abbrev pub EndsRound : SlaveState S T → SlaveState S T → ℕ → Round → Type 0

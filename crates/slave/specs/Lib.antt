@@ -9,5 +9,6 @@ pub mod Finishing
 pub mod Closing
 pub mod Thinned
 pub mod Session
+pub mod Turns
 pub mod Laws
 pub mod Inner

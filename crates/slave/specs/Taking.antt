@@ -1,8 +1,9 @@
 -- What a slave does with the items of its rings.
-use Rattle.std.specs.Prelude.{◌≡◌, ◌⊎◌, ℕ, ◌+◌, ◌*◌, ◌≤◌, Bool, true, false}
-use Rattle.std.specs.Prelude.{List, [], ◌∷◌, length, slice_get, Some}
+use Rattle.std.specs.Prelude.{◌≡◌, ◌⊎◌, ℕ, ◌+◌, ◌*◌, ◌<◌, ◌≤◌, Bool, true, false}
+use Rattle.std.specs.Prelude.{List, [], ◌∷◌, ◌++◌, length, slice_get, Option, Some, None}
 use mathlib.Core.List.{IsPrefix}
 use Rattle.xcp_base.specs.Samples.{SampleParts}
+use Rattle.xcp_base.specs.declared.item.Item.{Item}
 use Rattle.xcp_base.specs.declared.item.Item.TheVariants.{Sample}
 use Rattle.std.specs.List.{list_all}
 use Rattle.xcp_base.specs.declared.limits.TheConstants.{MAX_CHANNELS}
@@ -28,6 +29,19 @@ is_take Discarded = false
 -- ring of items has places
 abbrev pub most_taken : ℕ
 most_taken = 2 * 1024 * MAX_CHANNELS
+
+-- the newest measurement's part at an event channel, if there is one
+abbrev pub newest_part : {S T : Type 0} → Option (ChannelState S T) → Option (ShareState T)
+newest_part None = None
+newest_part (Some ch) = ch.newer
+
+abbrev pub newest_at : {S T : Type 0} → SlaveState S T → ℕ → Option (ShareState T)
+newest_at s c = newest_part (slice_get s.channels c)
+
+-- going round over the event channels from `begin` on, one comes by c before `end`
+abbrev pub ComesBefore : ℕ → ℕ → ℕ → Type 0
+ComesBefore begin end c =
+    ((begin ≤ c) × (c < end)) ⊎ ((end < begin) × ((begin ≤ c) ⊎ (c < end)))
 
 module _ {S T F : Type 0} (take : TakeGhosts T F) where
   -- items were taken, if there were some, and no more than so many; each counts as three
@@ -59,12 +73,49 @@ module _ {S T F : Type 0} (take : TakeGhosts T F) where
       → slice_get s.channels c ≡ Some state → state.newer ≡ Some part
       → take.known part.intake.end ≡ []
 
+module _ {T F : Type 0} (take : TakeGhosts T F) where
+  -- what was received of a part's ring, and what is known to be in it; of no part, nothing
+  abbrev pub received_of : Option (ShareState T) → List Item
+  received_of None = []
+  received_of (Some p) = take.received p.intake.end
+
+  abbrev pub known_of : Option (ShareState T) → List Item
+  known_of None = []
+  known_of (Some p) = take.known p.intake.end
+
+  -- a part's ring was looked at n times, and each look took the next item, if one was known: these
+  -- were taken, the oldest first, and none that was known is forgotten; they are n at most, and
+  -- fewer only if all are among them that were known before
+  pub record LooksTimes (n : ℕ) (a b : Option (ShareState T)) : Type 0 where
+    pub taken : List Item
+    pub gains : received_of b ≡ received_of a ++ taken
+    pub in_order : IsPrefix (known_of a) (taken ++ known_of b)
+    pub most : length taken ≤ n
+    pub fewer : length taken < n → length (known_of a) ≤ length taken
+
+module _ {S T F : Type 0} (take : TakeGhosts T F) where
+  -- so at event channel c, in the newest measurement
+  abbrev pub LooksAt : ℕ → SlaveState S T → SlaveState S T → ℕ → Type 0
+  LooksAt n a b c = LooksTimes take n (newest_at a c) (newest_at b c)
+
+  -- the rings of the newest measurement were looked at by turns, from the one on where the look was
+  -- to begin: all of them so many times, and once more those before the one where the next look
+  -- begins; or where it ended, if the slave is spent
+  pub record TakesFairly (a b : SlaveState S T) : Type 0 where
+    pub rounds : ℕ
+    pub end : ℕ
+    pub once_more : (c : ℕ) → ComesBefore a.next end c → LooksAt (rounds + 1) a b c
+    pub others : (c : ℕ) → ¬ ComesBefore a.next end c → LooksAt rounds a b c
+    pub next : (b.next ≡ end) ⊎ (is_spent b ≡ true)
+
   -- the rings of the newest measurement were looked through: an event channel is held up, and the
   -- next look begins there; or it begins at the first, and no item is known at any of them, or the
-  -- slave is spent, or it took 1,023 items at least
+  -- slave is spent, or it took 1,023 items at least, and looked at each ring 1,023 times or 1,024
   abbrev pub LooksThrough : SlaveState S T → SlaveState S T → Type 0
   LooksThrough a b =
-      IsHeldUp b b.next
+      IsHeldUp take b b.next
       ⊎ ((b.next ≡ 0)
-      × (((c : ℕ) → IsEmptyAt b c)
-      ⊎ ((is_spent b ≡ true) ⊎ (a.acts + 3 * 1023 ≤ b.acts))))
+      × (((c : ℕ) → IsEmptyAt take b c)
+      ⊎ ((is_spent b ≡ true)
+      ⊎ ((a.acts + 3 * 1023 ≤ b.acts)
+      × ((c : ℕ) → LooksAt 1023 a b c ⊎ LooksAt 1024 a b c)))))

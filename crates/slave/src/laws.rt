@@ -1,5 +1,6 @@
 //! What follows from the definitions.
 ghost use Rattle.slave.specs.Laws.{NothingOutsideARun, OneSlaveOneStory, SessionOfLog};
+ghost use Rattle.slave.specs.Turns.{FairShares};
 
 use daq_engine::Ring;
 
@@ -26,4 +27,11 @@ pub fn session()
 /// sums over what came back agree modulo 2^64, and the same parts of measurements are still out.
 pub fn one_slave_one_story<R: Ring>()
     ensures { OneSlaveOneStory R.Take.TakeEnd R.Send }
+{}
+
+/// Over as many calls of `take` as one likes, each of which begins at the ring that the one before
+/// it named, no ring gives more than one item more than a ring of which each call leaves some: so
+/// two that always hold items share alike what is taken.
+pub fn fair_shares<R: Ring>()
+    ensures { FairShares R.Take.TakeEnd R.Send }
 {}

@@ -6,9 +6,9 @@ ghost use Rattle.frame_outbox.specs.Outboxes.{Shows};
 ghost use Rattle.frame_outbox.specs.Putting.{Hands};
 ghost use Rattle.frame_writer.specs.Shown.{shown};
 ghost use Rattle.slave.specs.Hearing.{GoesBy};
-ghost use Rattle.slave.specs.Inner.{EndsRound, LooksOnce, acts_of};
+ghost use Rattle.slave.specs.Inner.{EndsRound, GoesRound, KeepsNewest, LooksOnce, acts_of};
 ghost use Rattle.slave.specs.Log.{sending};
-ghost use Rattle.slave.specs.Taking.{LooksThrough, TakesItems, most_taken};
+ghost use Rattle.slave.specs.Taking.{LooksThrough, TakesFairly, TakesItems, most_taken};
 ghost use Rattle.slave.specs.declared.limits.TheConstants.{PER_ACT};
 
 use crate::limits::PER_ACT;
@@ -43,6 +43,7 @@ impl<R: Ring> Slave<R> {
     pub fn take(&mut self)
         ensures takes { TakesItems R.Take.TakeEnd most_taken self.old self.new }
         ensures through { LooksThrough R.Take.TakeEnd self.old self.new }
+        ensures fair { TakesFairly R.Take.TakeEnd self.old self.new }
     {
         self.let_go();
         let mut begin = self.next;
@@ -61,6 +62,7 @@ impl<R: Ring> Slave<R> {
     fn round(&mut self, begin: usize) -> Round
         ensures takes { TakesItems R.Take.TakeEnd MAX_CHANNELS self.old self.new }
         ensures ends { EndsRound R.Take.TakeEnd self.old self.new begin result }
+        ensures goes { GoesRound R.Take.TakeEnd self.old self.new begin result }
     {
         let before = self.acts;
         let len = self.channels.len();
@@ -81,6 +83,7 @@ impl<R: Ring> Slave<R> {
     /// Takes what the rings of the measurements before the last still hold.
     fn let_go(&mut self)
         ensures takes { TakesItems R.Take.TakeEnd (1024 * MAX_CHANNELS) self.old self.new }
+        ensures keeps { KeepsNewest self.old self.new }
     {
         for c in 0..self.channels.len() {
             self.take_from_older(c);
@@ -91,6 +94,7 @@ impl<R: Ring> Slave<R> {
     fn take_from_older(&mut self, c: usize)
         requires channel { c < length self.old.channels }
         ensures takes { TakesItems R.Take.TakeEnd 1024 self.old self.new }
+        ensures keeps { KeepsNewest self.old self.new }
     {
         let mut taken = 0;
         while taken < MOST_ITEMS {
@@ -119,6 +123,7 @@ impl<R: Ring> Slave<R> {
     fn take_one_older(&mut self, c: usize) -> Step
         requires channel { c < length self.old.channels }
         ensures takes { TakesItems R.Take.TakeEnd 1 self.old self.new }
+        ensures keeps { KeepsNewest self.old self.new }
     {
         if self.is_spent() {
             return Step::Nothing;

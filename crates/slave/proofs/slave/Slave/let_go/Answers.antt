@@ -1,16 +1,20 @@
 use Rattle.std.proofs.Common.{◌*◌, ◌+◌, arith}
 use Rattle.xcp_base.specs.declared.limits.TheConstants.{MAX_CHANNELS}
+use Rattle.slave.proofs.FairLemmas.{keeps-all, keeps-more}
 use Rattle.slave.proofs.TakingLemmas.{takes-more, takes-nothing, takes-within}
 use Rattle.slave.proofs.slave.Slave.let_go.Goals as goal
 
 pub loop-c-init : goal.loop-c-init
-loop-c-init g c = takes-nothing g.R.Take.TakeEnd c.args.self.now
+loop-c-init g c = record { takes = takes-nothing g.R.Take.TakeEnd c.args.self.now; keeps = keeps-all c.args.self.now }
 
 -- those of one event channel more
 pub loop-c-preserved : goal.loop-c-preserved
-loop-c-preserved g c =
-    takes-within g.R.Take.TakeEnd (1024 * c.loop-c.c + 1024) (1024 * (c.loop-c.c + 1)) c.args.self.now c.take_from_older.new.self (omega arith)
-    (takes-more g.R.Take.TakeEnd (1024 * c.loop-c.c) 1024 c.args.self.now c.loop-c.self c.take_from_older.new.self c.loop-c.invariant c.take_from_older.ensures.takes)
+loop-c-preserved g c = record {
+  takes =
+      takes-within g.R.Take.TakeEnd (1024 * c.loop-c.c + 1024) (1024 * (c.loop-c.c + 1)) c.args.self.now c.take_from_older.new.self (omega arith)
+      (takes-more g.R.Take.TakeEnd (1024 * c.loop-c.c) 1024 c.args.self.now c.loop-c.self c.take_from_older.new.self c.loop-c.invariant.takes c.take_from_older.ensures.takes);
+  keeps = keeps-more c.args.self.now c.loop-c.self c.take_from_older.new.self c.loop-c.invariant.keeps c.take_from_older.ensures.keeps;
+}
 
 -- there are no more event channels than a slave may have
 pub returns : goal.returns
@@ -18,5 +22,6 @@ returns g c =
     let within = c.loop-c.auto.c-end in
     let limit = c.len-c-end.ensures.limit in
     record {
-      takes = takes-within g.R.Take.TakeEnd (1024 * c.loop-c.c) (1024 * MAX_CHANNELS) c.args.self.now c.loop-c.self (omega (arith, within, limit)) c.loop-c.invariant;
+      takes = takes-within g.R.Take.TakeEnd (1024 * c.loop-c.c) (1024 * MAX_CHANNELS) c.args.self.now c.loop-c.self (omega (arith, within, limit)) c.loop-c.invariant.takes;
+      keeps = c.loop-c.invariant.keeps;
     }

@@ -2,20 +2,38 @@ use Rattle.std.proofs.Common.{◌≡◌, ◌+◌, length, min, refl, ap, arith, 
 use Rattle.xcp_base.specs.declared.limits.TheConstants.{MAX_CHANNELS}
 use Rattle.slave.specs.Standing.{SlaveState}
 use Rattle.slave.specs.Taking.{IsHeldUp, TakesItems}
-use Rattle.slave.specs.Inner.{EndsRound}
-use Rattle.slave.specs.declared.round.Round.TheVariants.{Empty}
-use Rattle.slave.proofs.RoundLemmas.{IsQuiet, held-next, quiet-more, round-empty}
-use Rattle.slave.proofs.TakingLemmas.{takes-more, takes-next, takes-within}
+use Rattle.slave.specs.Inner.{EndsRound, GoesRound}
+use Rattle.slave.specs.declared.round.Round.TheVariants.{Empty, HeldUp, Took}
+use Rattle.slave.proofs.FairLemmas.{round-begins, round-done, round-goes-on, round-held}
+use Rattle.slave.proofs.RoundLemmas.{IsQuiet, held-next, quiet-more, quiet-none, round-empty}
+use Rattle.slave.proofs.TakingLemmas.{takes-more, takes-next, takes-nothing, takes-within}
 use Rattle.slave.proofs.slave.Slave.round.Goals as goal
+
+-- none so far
+pub loop-c-init : goal.loop-c-init
+loop-c-init g c =
+    let from = c.min-c.ensures in
+    record {
+      takes = takes-within g.R.Take.TakeEnd 0 c.min-c.result c.args.self.now c.args.self.now (omega arith) (takes-nothing g.R.Take.TakeEnd c.args.self.now);
+      from = omega (arith, from);
+      within = omega (arith, from);
+      so_far = round-begins g.R.Take.TakeEnd c.args.self.now c.args.begin c.min-c.result (omega (arith, from));
+      quiet = quiet-none g.R.Take.TakeEnd c.args.self.now c.args.self.now (min c.args.begin c.len-len.result) c.min-c.result (omega (arith, from));
+    }
 
 -- one more at most
 pub loop-c-preserved : goal.loop-c-preserved
 loop-c-preserved g c =
     let more = c.loop-c-test.true in
     let grows = c.loop-c.invariant.takes.counted in
+    let from = c.loop-c.invariant.from in
     record {
       takes = takes-more g.R.Take.TakeEnd c.loop-c.c 1 c.args.self.now c.loop-c.self c.take_one-step.new.self c.loop-c.invariant.takes c.take_one-step.ensures.takes;
+      from = omega (arith, from);
       within = omega (arith, more);
+      so_far =
+          round-goes-on g.R.Take.TakeEnd c.args.self.now c.loop-c.self c.take_one-step.new.self c.args.begin c.loop-c.c c.take_one-step.result c.take_one-step.ensures.looks (c.is_full.ensures.no c.if-is_full.false)
+          (omega (arith, from, more)) (omega (arith, grows)) c.loop-c.invariant.so_far;
       quiet =
           quiet-more g.R.Take.TakeEnd c.args.self.now c.loop-c.self c.take_one-step.new.self _ c.loop-c.c c.take_one-step.result c.take_one-step.ensures.looks (c.is_full.ensures.no c.if-is_full.false)
           (omega (arith, grows)) c.loop-c.invariant.quiet;
@@ -26,6 +44,8 @@ pub returns-then-is_full : goal.returns-then-is_full
 returns-then-is_full g c =
     let more = c.loop-c-test.true in
     let limit = c.len-len.ensures.limit in
+    let grows = c.loop-c.invariant.takes.counted in
+    let from = c.loop-c.invariant.from in
     record {
       takes =
           subst (λ (s : SlaveState _ _). TakesItems g.R.Take.TakeEnd MAX_CHANNELS c.args.self.now (record s { next = c.loop-c.c })) (sym c.self-in-loop-c.view_is)
@@ -35,6 +55,10 @@ returns-then-is_full g c =
       ends =
           subst (λ (s : SlaveState _ _). IsHeldUp g.R.Take.TakeEnd (record s { next = c.loop-c.c }) c.loop-c.c) (sym c.self-in-loop-c.view_is)
           (held-next g.R.Take.TakeEnd c.take_one-step.new.self c.loop-c.c c.loop-c.c (c.take_one-step.ensures.looks.full (c.is_full.ensures.yes c.if-is_full.true)));
+      goes =
+          subst (λ (s : SlaveState _ _). GoesRound g.R.Take.TakeEnd c.args.self.now (record s { next = c.loop-c.c }) c.args.begin HeldUp) (sym c.self-in-loop-c.view_is)
+          (round-held g.R.Take.TakeEnd c.args.self.now c.loop-c.self c.take_one-step.new.self c.args.begin c.loop-c.c c.take_one-step.result c.take_one-step.ensures.looks (c.is_full.ensures.yes c.if-is_full.true)
+          (omega (arith, from, more)) (omega (arith, grows)) c.loop-c.invariant.so_far);
     }
 
 -- no ring had anything
@@ -69,3 +93,22 @@ returns-clause-takes g c =
     subst (λ (s : SlaveState _ _). TakesItems g.R.Take.TakeEnd MAX_CHANNELS c.args.self.now (record s { next = 0 })) (sym c.self-2.view_is)
     (takes-next g.R.Take.TakeEnd MAX_CHANNELS 0 c.args.self.now c.loop-c.self
     (takes-within g.R.Take.TakeEnd c.loop-c.c MAX_CHANNELS c.args.self.now c.loop-c.self (omega (arith, within, limit)) c.loop-c.invariant.takes))
+
+-- each ring was looked at once
+pub returns-then-self-before-clause-goes : goal.returns-then-self-before-clause-goes
+returns-then-self-before-clause-goes g c =
+    let as_many = c.loop-c.invariant.takes.as_many in
+    let channels = ap (λ (s : SlaveState _ _). length s.channels) c.self.view_is in
+    let many : c.len-len.result ≡ length c.loop-c.self.channels = omega (arith, c.len-len.ensures.value, channels, as_many) in
+    let done = c.loop-c-test.false in
+    subst (λ (s : SlaveState _ _). GoesRound g.R.Take.TakeEnd c.args.self.now (record s { next = 0 }) c.args.begin Took) (sym c.self-2.view_is)
+    (round-done g.R.Take.TakeEnd c.args.self.now c.loop-c.self c.args.begin c.loop-c.c Took (λ end all. all) (omega (arith, many, done)) c.loop-c.invariant.so_far)
+
+pub returns-clause-goes : goal.returns-clause-goes
+returns-clause-goes g c =
+    let as_many = c.loop-c.invariant.takes.as_many in
+    let channels = ap (λ (s : SlaveState _ _). length s.channels) c.self.view_is in
+    let many : c.len-len.result ≡ length c.loop-c.self.channels = omega (arith, c.len-len.ensures.value, channels, as_many) in
+    let done = c.loop-c-test.false in
+    subst (λ (s : SlaveState _ _). GoesRound g.R.Take.TakeEnd c.args.self.now (record s { next = 0 }) c.args.begin Empty) (sym c.self-2.view_is)
+    (round-done g.R.Take.TakeEnd c.args.self.now c.loop-c.self c.args.begin c.loop-c.c Empty (λ end all. all) (omega (arith, many, done)) c.loop-c.invariant.so_far)

@@ -1,12 +1,15 @@
 use Rattle.std.proofs.Common.{◌≤◌, min}
 use Rattle.slave.specs.Taking.{TakesItems}
+use Rattle.slave.proofs.FairLemmas.{RoundSoFar}
 use Rattle.slave.proofs.RoundLemmas.{IsQuiet}
 use Rattle.slave.proofs.slave.Slave.round.Given as goal
 
--- one item of a ring was taken at most, and where none was, nothing is known at the rings so far
+-- one item of a ring was taken at most, and of those from `begin` on, if one was known; and where none was, nothing is known at the rings so far
 abbrev pub invariant-loop-c : goal.invariant-loop-c
 invariant-loop-c g l = record {
   takes : TakesItems g.R.Take.TakeEnd l.c l.fn.self l.self;
+  from : min l.begin l.len ≤ l.c;
   within : l.c ≤ l.len;
+  so_far : RoundSoFar g.R.Take.TakeEnd l.fn.self l.self l.begin l.c;
   quiet : IsQuiet g.R.Take.TakeEnd l.fn.self l.self (min l.begin l.len) l.c;
 }

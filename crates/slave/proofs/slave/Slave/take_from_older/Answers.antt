@@ -1,4 +1,5 @@
 use Rattle.std.proofs.Common.{◌+◌, ◌<◌, arith}
+use Rattle.slave.proofs.FairLemmas.{keeps-all, keeps-more}
 use Rattle.slave.proofs.TakingLemmas.{takes-more, takes-within}
 use Rattle.slave.proofs.slave.Slave.take_from_older.Goals as goal
 
@@ -8,6 +9,7 @@ loop-taken-preserved g c =
     let more : c.loop-taken.taken < 1024 = c.loop-taken-test.true in
     record {
       takes = takes-more g.R.Take.TakeEnd c.loop-taken.taken 1 c.args.self.now c.loop-taken.self c.take_one_older.new.self c.loop-taken.invariant.takes c.take_one_older.ensures.takes;
+      keeps = keeps-more c.args.self.now c.loop-taken.self c.take_one_older.new.self c.loop-taken.invariant.keeps c.take_one_older.ensures.keeps;
       few = omega (arith, more);
     }
 
@@ -19,4 +21,5 @@ returns-in-Nothing g c =
       takes =
           takes-within g.R.Take.TakeEnd (c.loop-taken.taken + 1) 1024 c.args.self.now c.take_one_older.new.self (omega (arith, more))
           (takes-more g.R.Take.TakeEnd c.loop-taken.taken 1 c.args.self.now c.loop-taken.self c.take_one_older.new.self c.loop-taken.invariant.takes c.take_one_older.ensures.takes);
+      keeps = keeps-more c.args.self.now c.loop-taken.self c.take_one_older.new.self c.loop-taken.invariant.keeps c.take_one_older.ensures.keeps;
     }

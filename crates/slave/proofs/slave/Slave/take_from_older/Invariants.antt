@@ -1,10 +1,15 @@
 use Rattle.std.proofs.Common.{◌≤◌, ◌-◌}
+use Rattle.slave.specs.Inner.{KeepsNewest}
 use Rattle.slave.specs.Taking.{TakesItems}
 use Rattle.slave.proofs.slave.Slave.take_from_older.Given as goal
 
--- so many items were taken at most
+-- so many items were taken at most, and none of the newest part
 abbrev pub invariant-loop-taken : goal.invariant-loop-taken
-invariant-loop-taken g l = record { takes : TakesItems g.R.Take.TakeEnd l.taken l.fn.self l.self; few : l.taken ≤ 1024 }
+invariant-loop-taken g l = record {
+  takes : TakesItems g.R.Take.TakeEnd l.taken l.fn.self l.self;
+  keeps : KeepsNewest l.fn.self l.self;
+  few : l.taken ≤ 1024;
+}
 
 abbrev pub decreases-loop-taken : goal.decreases-loop-taken
 decreases-loop-taken g l = 1024 - l.taken
