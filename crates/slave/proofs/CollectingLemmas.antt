@@ -64,17 +64,18 @@ idle-behind d past number b code opening acts are is =
 
 module _ {S T F : Type 0} (take : TakeGhosts T F) where
   pub collects-nothing : (a : SlaveState S T) → Collects take 0 a a
-  collects-nothing a = record { session = refl; outbox = refl; as_many = refl; number = refl; counted = refl; acts = []; are = refl; few = omega arith; goes = λ log few stands. stands }
+  collects-nothing a = record { session = refl; outbox = refl; as_many = refl; number = refl; counted = refl; next = refl; acts = []; are = refl; few = omega arith; goes = λ log few stands. stands }
 
   -- what came back at one event channel, if something did
-  collects-some : {E : Type 0} (ring : EndGhosts E) (a b : SlaveState S T) (c : ℕ) (answer : Option (FinishedState E T)) → GivesBackBy take (PartsGoBy take) ring a b c answer → b.acts ≡ a.acts → IfSome answer (IsFinished ring take) → Collects take 1 a b
-  collects-some ring a b c None gives counted whole = record { session = gives.session; outbox = gives.outbox; as_many = gives.as_many; number = gives.number; counted = counted; acts = []; are = refl; few = omega arith; goes = gives.none refl }
-  collects-some ring a b c (Some f) gives counted whole = record {
+  collects-some : {E : Type 0} (ring : EndGhosts E) (a b : SlaveState S T) (c : ℕ) (answer : Option (FinishedState E T)) → GivesBackBy take (PartsGoBy take) ring a b c answer → b.acts ≡ a.acts → b.next ≡ a.next → IfSome answer (IsFinished ring take) → Collects take 1 a b
+  collects-some ring a b c None gives counted next whole = record { session = gives.session; outbox = gives.outbox; as_many = gives.as_many; number = gives.number; counted = counted; next = next; acts = []; are = refl; few = omega arith; goes = gives.none refl }
+  collects-some ring a b c (Some f) gives counted next whole = record {
     session = gives.session;
     outbox = gives.outbox;
     as_many = gives.as_many;
     number = gives.number;
     counted = counted;
+    next = next;
     acts = CameBack f.number c whole.0 ∷ [];
     are = refl;
     few = omega arith;
@@ -88,6 +89,7 @@ module _ {S T F : Type 0} (take : TakeGhosts T F) where
     as_many = two.as_many ∙ one.as_many;
     number = two.number ∙ one.number;
     counted = two.counted ∙ one.counted;
+    next = two.next ∙ one.next;
     acts = two.acts ++ one.acts;
     are = list_all-append is_return two.acts one.acts ∙ ap (λ z. z && list_all is_return one.acts) two.are ∙ one.are;
     few = omega (arith, length-append two.acts one.acts, one.few, two.few);
@@ -108,14 +110,15 @@ module _ {S T F : Type 0} (take : TakeGhosts T F) where
     as_many = one.as_many;
     number = one.number;
     counted = one.counted;
+    next = one.next;
     acts = one.acts;
     are = one.are;
     few = omega (arith, below, one.few);
     goes = one.goes;
   }
 
-  pub collects-one : {E : Type 0} (ring : EndGhosts E) (a b : SlaveState S T) (c : ℕ) (answer : Option (FinishedState E T)) → GivesBackBy take (PartsGoBy take) ring a b c answer → b.acts ≡ a.acts → IfSome answer (IsFinished ring take) → Collects take 1 a b
-  collects-one ring a b c answer gives counted whole = collects-some ring a b c answer gives counted whole
+  pub collects-one : {E : Type 0} (ring : EndGhosts E) (a b : SlaveState S T) (c : ℕ) (answer : Option (FinishedState E T)) → GivesBackBy take (PartsGoBy take) ring a b c answer → b.acts ≡ a.acts → b.next ≡ a.next → IfSome answer (IsFinished ring take) → Collects take 1 a b
+  collects-one ring a b c answer gives counted next whole = collects-some ring a b c answer gives counted next whole
 
   -- a log in which what came back stands behind a measurement that was opened
   pub record Between (a m : SlaveState S T) (acts opening : List Act) (log : List Act) : Type 1 where

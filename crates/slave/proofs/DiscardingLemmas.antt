@@ -382,14 +382,14 @@ module _ {S T F : Type 0} (take : TakeGhosts T F) where
         ]
       ]
 
-  one-stays : (x : Origin) (a b : SlaveState S T) → LeavesOne take x a b → (b.session ≡ a.session) × (b.outbox ≡ a.outbox) × (b.acts ≡ a.acts)
-  one-stays origin.Reply a b same = (ap (λ (s : SlaveState S T). s.session) same, ap (λ (s : SlaveState S T). s.outbox) same, ap (λ (s : SlaveState S T). s.acts) same)
+  one-stays : (x : Origin) (a b : SlaveState S T) → LeavesOne take x a b → (b.session ≡ a.session) × (b.outbox ≡ a.outbox) × (b.acts ≡ a.acts) × (b.next ≡ a.next)
+  one-stays origin.Reply a b same = (ap (λ (s : SlaveState S T). s.session) same, ap (λ (s : SlaveState S T). s.outbox) same, ap (λ (s : SlaveState S T). s.acts) same, ap (λ (s : SlaveState S T). s.next) same)
   one-stays (origin.Sample m c l) a b leaves =
       elim leaves [
-        | inl tells ↦ (ap (λ (s : SlaveState S T). s.session) tells.rest, ap (λ (s : SlaveState S T). s.outbox) tells.rest, ap (λ (s : SlaveState S T). s.acts) tells.rest)
+        | inl tells ↦ (ap (λ (s : SlaveState S T). s.session) tells.rest, ap (λ (s : SlaveState S T). s.outbox) tells.rest, ap (λ (s : SlaveState S T). s.acts) tells.rest, ap (λ (s : SlaveState S T). s.next) tells.rest)
         | inr w ↦ elim w [
-          | inl tells ↦ (ap (λ (s : SlaveState S T). s.session) tells.rest, ap (λ (s : SlaveState S T). s.outbox) tells.rest, ap (λ (s : SlaveState S T). s.acts) tells.rest)
-          | inr v ↦ (ap (λ (s : SlaveState S T). s.session) v.1, ap (λ (s : SlaveState S T). s.outbox) v.1, ap (λ (s : SlaveState S T). s.acts) v.1)
+          | inl tells ↦ (ap (λ (s : SlaveState S T). s.session) tells.rest, ap (λ (s : SlaveState S T). s.outbox) tells.rest, ap (λ (s : SlaveState S T). s.acts) tells.rest, ap (λ (s : SlaveState S T). s.next) tells.rest)
+          | inr v ↦ (ap (λ (s : SlaveState S T). s.session) v.1, ap (λ (s : SlaveState S T). s.outbox) v.1, ap (λ (s : SlaveState S T). s.acts) v.1, ap (λ (s : SlaveState S T). s.next) v.1)
         ]
       ]
 
@@ -416,6 +416,7 @@ module _ {S T F : Type 0} (take : TakeGhosts T F) where
     outbox = refl;
     session = refl;
     counted = refl;
+    next = refl;
     leaves = λ log few stands.
         let has = stands.has in
         record {
@@ -438,11 +439,12 @@ module _ {S T F : Type 0} (take : TakeGhosts T F) where
   -- one more of what waits
   pub leaves-more : (n : ℕ) (a s b : SlaveState S T) (x : Origin) (u : Frames) → slice_get a.outbox.units n ≡ Some u → x ≡ u.origin → LeavesFirst take n a s → LeavesOne take x s b → LeavesFirst take (n + 1) a b
   leaves-more n a s b x u at is leaves one =
-      let (session, outbox, acts) = one-stays x s b one in
+      let (session, outbox, acts, next) = one-stays x s b one in
       record {
         outbox = outbox ∙ leaves.outbox;
         session = session ∙ leaves.session;
         counted = acts ∙ leaves.counted;
+        next = next ∙ leaves.next;
         leaves = λ log few stands.
             let d = a.session.profile in
             left-one d log n x s b few (origin-at (waits d log) n (ap (λ us. slice_get us n) (sym stands.has.outbox.units) ∙ at) ∙ ap Some (sym is)) one (leaves.leaves log few stands);

@@ -296,7 +296,7 @@ module _ {S E T F : Type 0} (send : SendGhosts S E) (ring : EndGhosts E) (take :
   opens-of v w x store caps sets all are_all are same st plan lists many_caps many_sets caps_are opens =
       subst (λ (u : SlaveState S T). AreSets u.session all sets → u.plan ≡ plan_of u.session.store → u.session.store.profile ≡ lists_of u.session.profile → length caps ≡ length u.channels → length sets ≡ length u.channels → caps ≡ capacities_of u.session.profile → IsEach (OpensAt send ring take u.session.store u.number caps sets) u.channels x
       → OpensAll send ring take v (record u { channels = x; number = (u.number + 1) % 18446744073709551616 })) (sym same)
-      (λ e k f p q r o. record { caps = caps; caps_are = r; sets = sets; all = all; are_all = are_all; are = e; as_many_caps = p; as_many_sets = q; channels = o; rest = record { session = refl; outbox = refl; plan = k; lists = f; account = refl; number = refl; counted = refl } }) are plan lists many_caps many_sets caps_are (subst (λ z. IsEach (OpensAt send ring take z w.number caps sets) w.channels x) st opens)
+      (λ e k f p q r o. record { caps = caps; caps_are = r; sets = sets; all = all; are_all = are_all; are = e; as_many_caps = p; as_many_sets = q; channels = o; rest = record { session = refl; outbox = refl; plan = k; lists = f; account = refl; number = refl; counted = refl; next = refl } }) are plan lists many_caps many_sets caps_are (subst (λ z. IsEach (OpensAt send ring take z w.number caps sets) w.channels x) st opens)
 
   -- whatever plan there was before
   pub opens-anyhow : (v b : SlaveState S T) (plan : List Configuration) → OpensAll send ring take (record v { plan = plan }) b → OpensAll send ring take v b
@@ -310,7 +310,7 @@ module _ {S E T F : Type 0} (send : SendGhosts S E) (ring : EndGhosts E) (take :
     as_many_caps = o.as_many_caps;
     as_many_sets = o.as_many_sets;
     channels = o.channels;
-    rest = record { session = o.rest.session; outbox = o.rest.outbox; plan = o.rest.plan; lists = o.rest.lists; account = o.rest.account; number = o.rest.number; counted = o.rest.counted };
+    rest = record { session = o.rest.session; outbox = o.rest.outbox; plan = o.rest.plan; lists = o.rest.lists; account = o.rest.account; number = o.rest.number; counted = o.rest.counted; next = o.rest.next };
   }
 
   pub vain-of : (v w : SlaveState S T) (x : List (ChannelState S T)) (store : StoreState) (caps sets : List ℕ) → w ≡ v → store ≡ w.session.store → w.plan ≡ plan_of w.session.store → w.session.store.profile ≡ lists_of w.session.profile → length caps ≡ length w.channels → length sets ≡ length w.channels → caps ≡ capacities_of w.session.profile
@@ -319,7 +319,7 @@ module _ {S E T F : Type 0} (send : SendGhosts S E) (ring : EndGhosts E) (take :
   vain-of v w x store caps sets same st plan lists many_caps many_sets caps_are opens =
       subst (λ (u : SlaveState S T). u.plan ≡ plan_of u.session.store → u.session.store.profile ≡ lists_of u.session.profile → length caps ≡ length u.channels → length sets ≡ length u.channels → caps ≡ capacities_of u.session.profile → IsEach (OpenedAndEnded send ring take u.session.store u.number caps sets) u.channels x
       → OpensInVain send ring take v (record u { channels = x; number = (u.number + 1) % 18446744073709551616 })) (sym same)
-      (λ k f p q r o. record { caps = caps; caps_are = r; sets = sets; as_many_caps = p; as_many_sets = q; channels = o; rest = record { session = refl; outbox = refl; plan = k; lists = f; account = refl; number = refl; counted = refl } }) plan lists many_caps many_sets caps_are (subst (λ z. IsEach (OpenedAndEnded send ring take z w.number caps sets) w.channels x) st opens)
+      (λ k f p q r o. record { caps = caps; caps_are = r; sets = sets; as_many_caps = p; as_many_sets = q; channels = o; rest = record { session = refl; outbox = refl; plan = k; lists = f; account = refl; number = refl; counted = refl; next = refl } }) plan lists many_caps many_sets caps_are (subst (λ z. IsEach (OpenedAndEnded send ring take z w.number caps sets) w.channels x) st opens)
 
   -- where a measurement was just opened each event channel of which a list is ready has a sampler that was just handed out
   pub just-out : (a m : SlaveState S T) → OpensAll send ring take a m → AreJustOut m

@@ -200,6 +200,7 @@ module _ {S T : Type 0} where
     pub account : b.account ≡ a.account
     pub number : b.number ≡ (a.number + 1) % 18446744073709551616
     pub counted : b.acts ≡ a.acts
+    pub next : b.next ≡ a.next
 
 module _ {S T F : Type 0} (take : TakeGhosts T F) where
   -- whatever the parts of the one stand after, short of 2^57 acts, those of the other stand after
@@ -246,6 +247,7 @@ module _ {S T F : Type 0} (take : TakeGhosts T F) where
     pub as_many : length b.channels ≡ length a.channels
     pub number : b.number ≡ a.number
     pub counted : b.acts ≡ a.acts
+    pub next : b.next ≡ a.next
     pub acts : List Act
     pub are : list_all is_return acts ≡ true
     pub few : length acts ≤ most
@@ -417,6 +419,7 @@ module _ {S T F : Type 0} (take : TakeGhosts T F) where
     pub outbox : b.outbox ≡ a.outbox
     pub session : b.session ≡ a.session
     pub counted : b.acts ≡ a.acts
+    pub next : b.next ≡ a.next
     pub leaves :
         (log : List Act) → 32 * (1 + length log) ≤ MAX_TAKEN
         → PartsStandAfter take a.session.profile a log

@@ -17,6 +17,7 @@ impl<R: Ring> Slave<R> {
         ensures answers { Answers R.Take.TakeEnd self.old self.new packet.now clock }
         ensures profile_stays { self.new.session.profile ≡ self.old.session.profile }
         ensures acts_stay { self.new.acts ≡ self.old.acts }
+        ensures next_stays { self.new.next ≡ self.old.next }
     {
         let before = self.session.running();
         let reply = self.session.answer(packet, clock);

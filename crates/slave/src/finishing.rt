@@ -31,6 +31,7 @@ impl<R: Ring> Slave<R> {
         ensures back { GivesBack R.Take.TakeEnd R.Send.End.RingEnd self.old self.new c result }
         ensures counts { OnSome result (self.new.acts ≡ self.old.acts + PER_ACT) }
         ensures acts_stay { IsNone result → self.new.acts ≡ self.old.acts }
+        ensures next_stays { self.new.next ≡ self.old.next }
     {
         if self.is_spent() {
             return None;
@@ -45,6 +46,7 @@ impl<R: Ring> Slave<R> {
         ensures back { GivesBackBy R.Take.TakeEnd (PartsGoBy R.Take.TakeEnd)
             R.Send.End.RingEnd self.old self.new c result }
         ensures acts_stay { self.new.acts ≡ self.old.acts }
+        ensures next_stays { self.new.next ≡ self.old.next }
     {
         if c >= self.channels.len() {
             return None;
@@ -106,6 +108,7 @@ impl<R: Ring> Slave<R> {
         ensures back { GivesBackBy R.Take.TakeEnd (PartsGoBy R.Take.TakeEnd)
             R.Send.End.RingEnd self.old self.new c result }
         ensures acts_stay { self.new.acts ≡ self.old.acts }
+        ensures next_stays { self.new.next ≡ self.old.next }
     {
         let part = self.channels.take_older(c);
         note(&mut self.account, &part);
@@ -119,6 +122,7 @@ impl<R: Ring> Slave<R> {
         ensures back { GivesBackBy R.Take.TakeEnd (PartsGoBy R.Take.TakeEnd)
             R.Send.End.RingEnd self.old self.new c result }
         ensures acts_stay { self.new.acts ≡ self.old.acts }
+        ensures next_stays { self.new.next ≡ self.old.next }
     {
         let part = self.channels.take_newer(c);
         note(&mut self.account, &part);

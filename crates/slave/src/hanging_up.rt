@@ -23,6 +23,7 @@ impl<R: Ring> Slave<R> {
         ensures none_shown { self.new.outbox.shown ≡ 0 }
         ensures profile_stays { self.new.session.profile ≡ self.old.session.profile }
         ensures acts_stay { self.new.acts ≡ self.old.acts }
+        ensures next_stays { self.new.next ≡ self.old.next }
     {
         self.disconnect();
         self.discard();
@@ -37,6 +38,7 @@ impl<R: Ring> Slave<R> {
         ensures outbox_stays { self.new.outbox ≡ self.old.outbox }
         ensures profile_stays { self.new.session.profile ≡ self.old.session.profile }
         ensures acts_stay { self.new.acts ≡ self.old.acts }
+        ensures next_stays { self.new.next ≡ self.old.next }
     {
         if self.session.is_connected() {
             self.lose_master();
@@ -49,6 +51,7 @@ impl<R: Ring> Slave<R> {
         ensures outbox_stays { self.new.outbox ≡ self.old.outbox }
         ensures profile_stays { self.new.session.profile ≡ self.old.session.profile }
         ensures acts_stay { self.new.acts ≡ self.old.acts }
+        ensures next_stays { self.new.next ≡ self.old.next }
     {
         let before = self.session.running();
         self.session.hang_up();
@@ -63,6 +66,7 @@ impl<R: Ring> Slave<R> {
         ensures none_shown { self.new.outbox.shown ≡ 0 }
         ensures session_stays { self.new.session ≡ self.old.session }
         ensures acts_stay { self.new.acts ≡ self.old.acts }
+        ensures next_stays { self.new.next ≡ self.old.next }
     {
         if !self.outbox.is_empty() {
             self.throw_away();
@@ -76,6 +80,7 @@ impl<R: Ring> Slave<R> {
         ensures none_shown { self.new.outbox.shown ≡ 0 }
         ensures session_stays { self.new.session ≡ self.old.session }
         ensures acts_stay { self.new.acts ≡ self.old.acts }
+        ensures next_stays { self.new.next ≡ self.old.next }
     {
         self.leave_all();
         self.outbox.discard();

@@ -45,6 +45,7 @@ impl<R: Ring> Slave<R> {
             → Hears R.Take.TakeEnd self.old self.new packet.now clock }
         ensures counts { result ≡ true → self.new.acts ≡ self.old.acts + PER_PACKET }
         ensures profile_stays { self.new.session.profile ≡ self.old.session.profile }
+        ensures next_stays { self.new.next ≡ self.old.next }
     {
         if !self.has_room() {
             return false;
@@ -61,6 +62,7 @@ impl<R: Ring> Slave<R> {
             packet.now clock }
         ensures profile_stays { self.new.session.profile ≡ self.old.session.profile }
         ensures acts_stay { self.new.acts ≡ self.old.acts }
+        ensures next_stays { self.new.next ≡ self.old.next }
     {
         let lists = self.session.starts_of(packet);
         match self.prepare(alloc, lists) {

@@ -143,6 +143,7 @@ impl<R: Ring> Slave<R> {
         ensures stays { GoesBy R.Take.TakeEnd self.old self.new [] }
         ensures profile_stays { self.new.session.profile ≡ self.old.session.profile }
         ensures acts_stay { self.new.acts ≡ self.old.acts }
+        ensures next_stays { self.new.next ≡ self.old.next }
     {
         self.outbox.peek(buffer)
     }
@@ -154,6 +155,7 @@ impl<R: Ring> Slave<R> {
         ensures none_shown { self.new.outbox.shown ≡ 0 }
         ensures profile_stays { self.new.session.profile ≡ self.old.session.profile }
         ensures acts_stay { self.new.acts ≡ self.old.acts }
+        ensures next_stays { self.new.next ≡ self.old.next }
     {
         self.outbox.sent();
     }
@@ -170,6 +172,7 @@ impl<R: Ring> Slave<R> {
             (sending (length self.old.outbox.units))) }
         ensures err { OnErr result (self.new ≡ self.old) }
         ensures acts_stay { self.new.acts ≡ self.old.acts }
+        ensures next_stays { self.new.next ≡ self.old.next }
     {
         self.outbox.put(out)
     }

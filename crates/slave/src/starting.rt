@@ -38,6 +38,7 @@ impl<R: Ring> Slave<R> {
         ensures session_stays { self.new.session ≡ self.old.session }
         ensures outbox_stays { self.new.outbox ≡ self.old.outbox }
         ensures acts_stay { self.new.acts ≡ self.old.acts }
+        ensures next_stays { self.new.next ≡ self.old.next }
     {
         if lists.is_empty() {
             return Ok(());
@@ -69,6 +70,7 @@ impl<R: Ring> Slave<R> {
         ensures session_stays { self.new.session ≡ self.old.session }
         ensures outbox_stays { self.new.outbox ≡ self.old.outbox }
         ensures acts_stay { self.new.acts ≡ self.old.acts }
+        ensures next_stays { self.new.next ≡ self.old.next }
     {
         self.collect();
         self.start_new(alloc, lists)
@@ -83,6 +85,7 @@ impl<R: Ring> Slave<R> {
         ensures session_stays { self.new.session ≡ self.old.session }
         ensures outbox_stays { self.new.outbox ≡ self.old.outbox }
         ensures acts_stay { self.new.acts ≡ self.old.acts }
+        ensures next_stays { self.new.next ≡ self.old.next }
     {
         if !self.can_open() {
             return Err(ErrCode::CmdBusy);

@@ -4,4 +4,4 @@ use Rattle.slave.proofs.slave.Slave.collect_one.Goals as goal
 
 pub returns-in-Some : goal.returns-in-Some
 returns-in-Some g c =
-    collects-one g.R.Take.TakeEnd g.R.Send.End.RingEnd c.args.self.now c.back_at.new.self c.args.c (Some c.in-Some.part) c.in-Some.ensures.back c.in-Some.ensures.acts_stay c.number.ensures.finished
+    collects-one g.R.Take.TakeEnd g.R.Send.End.RingEnd c.args.self.now c.back_at.new.self c.args.c (Some c.in-Some.part) c.in-Some.ensures.back c.in-Some.ensures.acts_stay c.in-Some.ensures.next_stays c.number.ensures.finished

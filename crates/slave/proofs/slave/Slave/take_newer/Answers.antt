@@ -11,4 +11,5 @@ returns g c = record {
       (subst (λ (s : SlaveState _ _). IsOver s c.args.c) (sym c.self.view_is) c.requires.over)
       (subst (λ xs. c.args.c < length xs) (sym (ap (λ s. s.channels) c.self.view_is)) c.requires.channel) c.take_newer-part.ensures.back;
   acts_stay = ap (λ s. s.acts) c.self.view_is;
+  next_stays = ap (λ s. s.next) c.self.view_is;
 }

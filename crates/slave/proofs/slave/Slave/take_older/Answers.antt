@@ -8,4 +8,5 @@ returns g c = record {
       gives-older g.R.Send.SendEnd g.R.Send.End.RingEnd g.R.Take.TakeEnd c.args.self.now _ c.take_older-part.new.self c.note.new.account c.args.c c.take_older-part.result c.self.view_is c.note.ensures
       (subst (λ xs. c.args.c < length xs) (sym (ap (λ s. s.channels) c.self.view_is)) c.requires.channel) c.take_older-part.ensures.back;
   acts_stay = ap (λ s. s.acts) c.self.view_is;
+  next_stays = ap (λ s. s.next) c.self.view_is;
 }
