@@ -1,5 +1,5 @@
 -- The rings of the newest measurement are looked at by turns.
-use Rattle.std.proofs.Common.{◌≡◌, ◌≢◌, ◌⊎◌, ℕ, ◌+◌, ◌-◌, ◌<◌, ◌≤◌, true, false, List, [], ◌∷◌, ◌++◌, append-nil, append_assoc, length, length-append, slice_get, refl, sym, ap, ◌∙◌, subst, arith, inl, inr}
+use Rattle.std.proofs.Common.{◌≡◌, ◌≢◌, ◌⊎◌, ℕ, ◌+◌, ◌-◌, ◌<◌, ◌≤◌, true, List, [], ◌∷◌, ◌++◌, append-nil, append_assoc, length, length-append, slice_get, refl, sym, ap, ◌∙◌, subst, arith, inl, inr}
 use Rattle.std.specs.Prelude.{Option, Some, None}
 use mathlib.Core.List.{IsPrefix}
 use Rattle.std.proofs.lemmas.Bool.{false≢true}
@@ -7,17 +7,17 @@ use Rattle.std.proofs.lemmas.Bool.Decides.{eqb_tells, leb_tells}
 use Rattle.std.proofs.lemmas.Option.{slice_get_past}
 use Rattle.xcp_base.specs.declared.item.Item.{Item}
 use Rattle.channel_ring.specs.declared.ends.TakeEnd.{Ghosts as TakeGhosts}
-use Rattle.channel_intake.specs.Intakes.{IntakeState, OnlyLooked}
+use Rattle.channel_intake.specs.Intakes.{OnlyLooked}
 use Rattle.channel_intake.specs.Steps.{Takes}
 use Rattle.channel_intake.specs.declared.step.Step.{Step}
 use Rattle.channel_intake.specs.declared.step.Step.TheVariants.{Full, Marked, Nothing, Skipped, Wrote}
 use Rattle.frame_outbox.specs.Outboxes.{OutboxState}
 use Rattle.frame_outbox.specs.Taking.{TakesItem}
-use Rattle.slave_channel.specs.Channels.{ChannelState, ShareState, TakesOf}
+use Rattle.slave_channel.specs.Channels.{ShareState, TakesOf}
 use Rattle.slave.specs.Hearing.{is_spent}
 use Rattle.slave.specs.Inner.{EndsAt, GoesRound, KeepsNewest, LooksFrom, LooksOnce}
 use Rattle.slave.specs.Standing.{SlaveState}
-use Rattle.slave.specs.Taking.{ComesBefore, LooksAt, LooksTimes, TakesFairly, known_of, newest_at, newest_part, received_of}
+use Rattle.slave.specs.Taking.{LooksAt, LooksTimes, TakesFairly, known_of, newest_at, newest_part, received_of}
 use Rattle.slave.specs.declared.round.Round.{Round}
 use Rattle.slave.specs.declared.round.Round.TheVariants.{Empty, HeldUp, Took}
 use Rattle.slave.specs.declared.limits.TheConstants.{MOST_ACTS}

@@ -23,7 +23,7 @@ use Rattle.slave.specs.Standing.{SlaveState}
 use Rattle.slave.specs.Taking.{IsEmptyAt, IsHeldUp, LooksAt, LooksThrough, LooksTimes, newest_at, newest_part}
 use Rattle.slave.specs.declared.round.Round.{Round}
 use Rattle.slave.specs.declared.round.Round.TheVariants.{Empty, HeldUp, Took}
-use Rattle.slave.proofs.FairLemmas.{FairSoFar, looked-through, looks-held, looks-still, looks-turn, still-spent}
+use Rattle.slave.proofs.FairLemmas.{FairSoFar, looked-through, looks-held, looks-turn, still-spent}
 use Rattle.slave.proofs.OutLemmas.{some-at}
 use Rattle.std.proofs.lemmas.Option.{slice_get_within}
 

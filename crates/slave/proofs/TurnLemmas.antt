@@ -1,12 +1,12 @@
 -- Over many calls each ring has its turns.
-use Rattle.std.proofs.Common.{◌≡◌, ◌⊎◌, ℕ, ◌+◌, ◌-◌, ◌<◌, ◌≤◌, true, false, if◌then◌else◌, List, [], ◌∷◌, length, length-append, refl, sym, ap, ◌∙◌, subst, arith, inl, inr}
+use Rattle.std.proofs.Common.{◌≡◌, ◌⊎◌, ℕ, ◌+◌, ◌<◌, ◌≤◌, false, if◌then◌else◌, List, [], ◌∷◌, length, length-append, sym, ap, ◌∙◌, subst, arith, inl, inr}
 use Rattle.std.specs.Prelude.{nat_le}
 use Rattle.std.proofs.lemmas.Bool.{false≢true}
 use Rattle.std.proofs.lemmas.Bool.Decides.{leb_tells}
 use Rattle.channel_ring.specs.declared.ends.TakeEnd.{Ghosts as TakeGhosts}
 use Rattle.slave.specs.Hearing.{is_spent}
 use Rattle.slave.specs.Standing.{SlaveState}
-use Rattle.slave.specs.Taking.{ComesBefore, LooksAt, TakesFairly, known_of, newest_at, received_of}
+use Rattle.slave.specs.Taking.{LooksAt, TakesFairly, known_of, newest_at, received_of}
 use Rattle.slave.specs.Turns.{Call, FairShares, LeaveSome, TakeByTurns, taken_by, taken_by_all}
 
 -- 1 from event channel x on, and 0 below it

@@ -369,8 +369,8 @@ module _ {S T F : Type 0} (take : TakeGhosts T F) where
     pub there : (c : ℕ) → begin ≤ c → c < end → LooksAt take 1 a b c
     pub behind : (c : ℕ) → end ≤ c → LooksAt take 0 a b c
 
-  -- in a round from `begin` on each ring was looked at once, up to one that is held up; or until the
-  -- slave was spent, and of one that was spent before nothing is taken
+  -- in a round from `begin` on each ring was looked at once, up to one that is held up; or until
+  -- the slave was spent, and of one that was spent before nothing is taken
   pub record GoesRound (a b : SlaveState S T) (begin : ℕ) (round : Round) : Type 0 where
     pub end : ℕ
     pub reach : begin ≤ end

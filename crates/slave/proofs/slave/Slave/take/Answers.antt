@@ -1,4 +1,4 @@
-use Rattle.std.proofs.Common.{◌*◌, ◌+◌, ◌<◌, ◌≤◌, ap, ◌∙◌, arith, inl, inr, refl}
+use Rattle.std.proofs.Common.{◌*◌, ◌+◌, ◌<◌, ap, ◌∙◌, arith, inl, inr, refl}
 use Rattle.xcp_base.specs.declared.limits.TheConstants.{MAX_CHANNELS}
 use Rattle.slave.specs.Standing.{SlaveState}
 use Rattle.slave.specs.Taking.{most_taken}

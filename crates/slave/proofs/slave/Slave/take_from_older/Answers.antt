@@ -1,5 +1,5 @@
 use Rattle.std.proofs.Common.{◌+◌, ◌<◌, arith}
-use Rattle.slave.proofs.FairLemmas.{keeps-all, keeps-more}
+use Rattle.slave.proofs.FairLemmas.{keeps-more}
 use Rattle.slave.proofs.TakingLemmas.{takes-more, takes-within}
 use Rattle.slave.proofs.slave.Slave.take_from_older.Goals as goal
 
