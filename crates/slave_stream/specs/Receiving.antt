@@ -24,6 +24,7 @@ module _ {S T F : Type 0} (take : TakeGhosts T F) where
     pub are : AreHeard clock packets acts
     pub goes : GoesBy take a b acts
     pub counted : b.acts ≡ a.acts + 64 * length packets
+    pub next : b.next ≡ a.next
     pub profile : b.session.profile ≡ a.session.profile
 
   -- these bytes were taken, and the packets of the frames that they ended were heard
@@ -49,6 +50,7 @@ module _ {S T F : Type 0} (take : TakeGhosts T F) where
     pub disconnects : GoesBy take between b (losing between.session.connected)
     pub outbox : b.outbox ≡ between.outbox
     pub counted : b.acts ≡ between.acts
+    pub next : b.next ≡ between.next
     pub profile : b.session.profile ≡ between.session.profile
 
   -- so many bytes of a datagram were taken: frames, whose packets were heard, and then nothing; or

@@ -50,6 +50,7 @@ module _ {S T F : Type 0} (take : TakeGhosts T F) where
     pub none_waits : b.slave.outbox.units ≡ []
     pub none_shown : b.slave.outbox.shown ≡ 0
     pub counted : b.slave.acts ≡ a.slave.acts
+    pub next : b.slave.next ≡ a.slave.next
     pub profile : b.slave.session.profile ≡ a.slave.session.profile
     pub fresh : ReaderStandsAfter b.stream [] []
     pub is_open : b.stream.closed ≡ false

@@ -6,21 +6,23 @@ use Rattle.frame_outbox.specs.Outboxes.{Shows}
 use Rattle.slave.specs.Hearing.{GoesBy}
 use Rattle.slave.specs.Log.{sending}
 use Rattle.slave.specs.Standing.{SlaveState}
-use Rattle.slave.specs.Taking.{LooksThrough, TakesItems, most_taken}
+use Rattle.slave.specs.Taking.{LooksThrough, TakesFairly, TakesItems, most_taken}
 use Rattle.task_lending.specs.States.{LendingSlaveState}
 
 module _ {S T F : Type 0} (take : TakeGhosts T F) where
-  -- items were taken, as far as there were some and found room; and then as many of the replies and
+  -- items were taken, by turns and as far as there were some and found room; and then as many of the replies and
   -- samples that waited as find room were copied to the front of the buffer, n bytes
   pub record Peeks (a b : LendingSlaveState S T) (before after : List ℕ) (n : ℕ) : Type 0 where
     pub taken : SlaveState S T
     pub takes : TakesItems take most_taken a.slave taken
     pub through : LooksThrough take a.slave taken
+    pub fair : TakesFairly take a.slave taken
     pub shows : Shows taken.outbox (length before) b.slave.outbox.shown n
     pub bytes : first n after ≡ first n taken.outbox.waits
     pub behind : drop n after ≡ drop n before
     pub stays : GoesBy take taken b.slave []
     pub counted : b.slave.acts ≡ taken.acts
+    pub next : b.slave.next ≡ taken.next
     pub profile : b.slave.session.profile ≡ a.slave.session.profile
     pub stream : b.stream ≡ a.stream
     pub tasks : b.tasks ≡ a.tasks
@@ -32,6 +34,7 @@ module _ {S T F : Type 0} (take : TakeGhosts T F) where
         (sending (min a.slave.outbox.shown (length a.slave.outbox.units)))
     pub none_shown : b.slave.outbox.shown ≡ 0
     pub counted : b.slave.acts ≡ a.slave.acts
+    pub next : b.slave.next ≡ a.slave.next
     pub profile : b.slave.session.profile ≡ a.slave.session.profile
     pub stream : b.stream ≡ a.stream
     pub tasks : b.tasks ≡ a.tasks

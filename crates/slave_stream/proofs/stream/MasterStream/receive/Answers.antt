@@ -8,5 +8,6 @@ returns-in-Err-clause-bad g c = λ _. record {
   disconnects = c.disconnect.ensures.disconnects;
   outbox = c.disconnect.ensures.outbox_stays;
   counted = c.disconnect.ensures.acts_stay;
+  next = c.disconnect.ensures.next_stays;
   profile = c.disconnect.ensures.profile_stays;
 }
