@@ -10,8 +10,8 @@ use Rattle.slave.specs.Taking.{LooksThrough, TakesFairly, TakesItems, most_taken
 use Rattle.task_lending.specs.States.{LendingSlaveState}
 
 module _ {S T F : Type 0} (take : TakeGhosts T F) where
-  -- items were taken, by turns and as far as there were some and found room; and then as many of the replies and
-  -- samples that waited as find room were copied to the front of the buffer, n bytes
+  -- items were taken, by turns, as far as some were known and found room; and then as many of the
+  -- replies and samples that waited as find room were copied to the front of the buffer, n bytes
   pub record Peeks (a b : LendingSlaveState S T) (before after : List ℕ) (n : ℕ) : Type 0 where
     pub taken : SlaveState S T
     pub takes : TakesItems take most_taken a.slave taken
