@@ -514,11 +514,11 @@ ng_status ng_slave_hang_up(ng_slave *slave);
  *   NG_OK            the frames stand in the buffer; *len is 0 if nothing waits
  *
  * They are checked in this order. Except on NG_OK, nothing changes. On NG_OK, the bytes after the
- * first *len are unchanged. A buffer of 1400 bytes fits a datagram. The rings are looked at by turns,
- * an item of each a round, until a sample finds no room among what waits: the next peek begins at
- * its ring. Else until nothing is known to be there. Proved: all of this, and which frames they are,
- * from the items that were taken. Only tested: that what a ring holds is known to be there, and that
- * it calls neither malloc nor realloc. */
+ * first *len are unchanged. A buffer of 1400 bytes fits a datagram. The rings are looked at by
+ * turns, an item of each a round, until a sample finds no room among what waits, and then the next
+ * peek begins at its ring; or until nothing is known to be there, or after 1,024 rounds. Proved:
+ * all of this, and which frames they are, from the items that were taken. Only tested: that what a
+ * ring holds is known to be there, and that it calls neither malloc nor realloc. */
 ng_status ng_slave_peek(ng_slave *slave, uint8_t *buffer, size_t buffer_cap, size_t *len);
 
 /* What the last ng_slave_peek laid out was sent, and waits no more. NG_EMPTY if *slave is empty.
