@@ -30,8 +30,9 @@ pub fn one_slave_one_story<R: Ring>()
 {}
 
 /// Over as many calls of `take` as one likes, each of which begins at the ring that the one before
-/// it named, no ring gives more than one item more than a ring of which each call leaves some: so
-/// two that always hold items share alike what is taken.
+/// it named, no ring gives more than one item more than a ring of which each call leaves some that
+/// was known before it: two such rings share alike what is taken. None of the calls spends the
+/// slave.
 pub fn fair_shares<R: Ring>()
     ensures { FairShares R.Take.TakeEnd R.Send }
 {}

@@ -38,8 +38,8 @@ impl<R: Ring> Slave<R> {
     /// channel. It lays those samples out whose DAQ list runs, as long as their frames end within
     /// the page; the call ends at the first sample that finds no room, and the next one begins at
     /// its ring. Else it ends once a round over all rings found nothing, or after 1,024 rounds. So
-    /// the rings have their turns: no ring gives more than one item more than one that always holds
-    /// some (`laws::fair_shares`).
+    /// the rings have their turns: no ring gives more than one item more than one of which each
+    /// call leaves some (`laws::fair_shares`).
     ///
     /// What the rings of measurements before the last still hold is let go, so that their tasks'
     /// stops find room. It takes no memory; and nothing off the rings of a slave that is spent.
