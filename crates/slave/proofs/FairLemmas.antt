@@ -232,6 +232,7 @@ module _ {S T F : Type 0} (take : TakeGhosts T F) where
   } where
     still : (k : ℕ) → k ≢ c → LooksAt take 0 a b k
     still k other = looks-still a b k (same-channel a b k (once.others k other))
+
     below : (k c : ℕ) → k < c + 1 → k ≢ c → k < c
     below k c high other =
         elim (leb_tells (k + 1) c) [

@@ -82,32 +82,35 @@ module _ {S T F : Type 0} (take : TakeGhosts T F) where
         | inl far ↦ (fair.rounds, λ c. up c (far.1) (from_tells a.next c) (from_tells fair.end c))
         | inr near ↦ (fair.rounds + 1, λ c. round c (near.1) (from_tells a.next c) (from_tells fair.end c))
       ]) where
-    known : ℕ → ℕ
-    known c = length (known_of take (newest_at a c))
-    by : (c looks turns : ℕ) → LooksAt take looks a b c → HasTurns looks turns a.next fair.end c → Turns turns a.next fair.end c (taken_by take c (a, b)) (taken_by take c (a, b) < known c)
-    by c looks turns at has = by-looks looks turns a.next fair.end c (taken_by take c (a, b)) (known c) (counts looks a b c at) has
-    up : (c : ℕ) → a.next ≤ fair.end → Tells a.next c → Tells fair.end c → Turns fair.rounds a.next fair.end c (taken_by take c (a, b)) (taken_by take c (a, b) < known c)
-    up c far (inl p) (inl q) = let high = q.0 in by c fair.rounds fair.rounds (fair.others c (λ w. elim w [
-        | inl v ↦ let low = v.1 in omega (arith, low, high)
-        | inr v ↦ let low = v.0 in omega (arith, low, far)
-      ])) (omega (arith, p.1, q.1))
-    up c far (inl p) (inr q) = by c (fair.rounds + 1) fair.rounds (fair.once_more c (inl (p.0, q.0))) (omega (arith, p.1, q.1))
-    up c far (inr p) (inl q) = let high = q.0 in let low = p.0 in absurd (omega (arith, high, low, far))
-    up c far (inr p) (inr q) = let below = p.0 in by c fair.rounds fair.rounds (fair.others c (λ w. elim w [
-        | inl v ↦ let low = v.0 in omega (arith, low, below)
-        | inr v ↦ let low = v.0 in omega (arith, low, far)
-      ])) (omega (arith, p.1, q.1))
-    round : (c : ℕ) → fair.end < a.next → Tells a.next c → Tells fair.end c → Turns (fair.rounds + 1) a.next fair.end c (taken_by take c (a, b)) (taken_by take c (a, b) < known c)
-    round c near (inl p) (inl q) = by c (fair.rounds + 1) (fair.rounds + 1) (fair.once_more c (inr (near, inl p.0))) (omega (arith, p.1, q.1))
-    round c near (inl p) (inr q) = let low = p.0 in let high = q.0 in absurd (omega (arith, low, high, near))
-    round c near (inr p) (inr q) = by c (fair.rounds + 1) (fair.rounds + 1) (fair.once_more c (inr (near, inr q.0))) (omega (arith, p.1, q.1))
-    round c near (inr p) (inl q) = let below = p.0 in let above = q.0 in by c fair.rounds (fair.rounds + 1) (fair.others c (λ w. elim w [
-        | inl v ↦ let low = v.0 in omega (arith, low, below)
-        | inr v ↦ elim v.1 [
-          | inl low ↦ omega (arith, low, below)
-          | inr high ↦ omega (arith, high, above)
-        ]
-      ])) (omega (arith, p.1, q.1))
+        known : ℕ → ℕ
+        known c = length (known_of take (newest_at a c))
+
+        by : (c looks turns : ℕ) → LooksAt take looks a b c → HasTurns looks turns a.next fair.end c → Turns turns a.next fair.end c (taken_by take c (a, b)) (taken_by take c (a, b) < known c)
+        by c looks turns at has = by-looks looks turns a.next fair.end c (taken_by take c (a, b)) (known c) (counts looks a b c at) has
+
+        up : (c : ℕ) → a.next ≤ fair.end → Tells a.next c → Tells fair.end c → Turns fair.rounds a.next fair.end c (taken_by take c (a, b)) (taken_by take c (a, b) < known c)
+        up c far (inl p) (inl q) = let high = q.0 in by c fair.rounds fair.rounds (fair.others c (λ w. elim w [
+          | inl v ↦ let low = v.1 in omega (arith, low, high)
+          | inr v ↦ let low = v.0 in omega (arith, low, far)
+        ])) (omega (arith, p.1, q.1))
+        up c far (inl p) (inr q) = by c (fair.rounds + 1) fair.rounds (fair.once_more c (inl (p.0, q.0))) (omega (arith, p.1, q.1))
+        up c far (inr p) (inl q) = let high = q.0 in let low = p.0 in absurd (omega (arith, high, low, far))
+        up c far (inr p) (inr q) = let below = p.0 in by c fair.rounds fair.rounds (fair.others c (λ w. elim w [
+          | inl v ↦ let low = v.0 in omega (arith, low, below)
+          | inr v ↦ let low = v.0 in omega (arith, low, far)
+        ])) (omega (arith, p.1, q.1))
+
+        round : (c : ℕ) → fair.end < a.next → Tells a.next c → Tells fair.end c → Turns (fair.rounds + 1) a.next fair.end c (taken_by take c (a, b)) (taken_by take c (a, b) < known c)
+        round c near (inl p) (inl q) = by c (fair.rounds + 1) (fair.rounds + 1) (fair.once_more c (inr (near, inl p.0))) (omega (arith, p.1, q.1))
+        round c near (inl p) (inr q) = let low = p.0 in let high = q.0 in absurd (omega (arith, low, high, near))
+        round c near (inr p) (inr q) = by c (fair.rounds + 1) (fair.rounds + 1) (fair.once_more c (inr (near, inr q.0))) (omega (arith, p.1, q.1))
+        round c near (inr p) (inl q) = let below = p.0 in let above = q.0 in by c fair.rounds (fair.rounds + 1) (fair.others c (λ w. elim w [
+          | inl v ↦ let low = v.0 in omega (arith, low, below)
+          | inr v ↦ elim v.1 [
+            | inl low ↦ omega (arith, low, below)
+            | inr high ↦ omega (arith, high, above)
+          ]
+        ])) (omega (arith, p.1, q.1))
 
   -- and many
   record Has (next : ℕ) (calls : List (Call S T)) : Type 0 where
