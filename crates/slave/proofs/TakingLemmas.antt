@@ -24,7 +24,7 @@ use Rattle.slave_channel.specs.Channels.{ChannelState, ShareState, TakesOf}
 use Rattle.slave_channels.specs.Calls.{TakesFromNewer, TakesFromOlder}
 use Rattle.session_account.specs.Accounts.{AccountStandsAfter}
 use Rattle.slave_channels.specs.Each.{IsOnlyAt}
-use Rattle.slave.specs.Hearing.{GoesBy}
+use Rattle.slave.specs.Hearing.{GoesBy, is_spent}
 use Rattle.slave.specs.Inner.{PartsGoBy, acts_of, counting}
 use Rattle.slave.specs.Log.{Act, Took, deeds_of, entries_of, is_out, laid_by, late_of, opened, past_of, sample_laid, sent_units, waits}
 use Rattle.slave.specs.Standing.{ChannelHas, HasEnded, IsOut, PartsStandAfter, SlaveStandsAfter, SlaveState, number_of, AreOpenedAfter, HasPacketsIfPasses}
@@ -318,10 +318,12 @@ module _ {S T F : Type 0} (take : TakeGhosts T F) where
       subst (λ xs. OutboxStandsAfter b.outbox (sent_units d log) (waits d log ++ xs)) (sym (one log there))
       (lays (sent_units d log) (waits d log) stands)
 
-  -- it is not spent, and counted nothing yet
+  -- it is not spent, counted nothing yet, and showed nothing more
   pub record Counts (a b : SlaveState S T) : Type 0 where
     pub fits : a.acts < MOST_ACTS + PER_PACKET
     pub same : b.acts ≡ a.acts
+    pub fresh : is_spent a ≡ false
+    pub shown : b.outbox.shown ≡ a.outbox.shown
 
   counted-take : (a b : SlaveState S T) (acts : List Act) (n : ℕ) → Counts a b → length acts ≤ 1 → 3 * length acts ≤ n → PartsGoBy take a b acts → GoesBy take a (counting b n) acts
   counted-take a b acts n counts few enough goes = counted take a (counting b n) acts counts.fits (omega (arith, few)) (omega (arith, counts.same, enough)) (recounted take a b acts n goes)
@@ -336,6 +338,8 @@ module _ {S T F : Type 0} (take : TakeGhosts T F) where
     counted = omega (arith, counts.same);
     session = changes.session;
     as_many = many;
+    shown = counts.shown;
+    spent = λ is. absurd (false≢true (sym counts.fresh ∙ is));
     goes = counted-take a b ([]) (acts_of Nothing) counts (omega arith) (omega arith) (took-none a b c x y (Unit {0}) changes part.keeps out account (λ log z. tt) (λ n f u has. part.goes n f f (looked-stands take i j looked (f m) (part.part n f has).1) (λ k o. refl) (λ k l. refl) has));
   }
   taken-step a b c x y m i j changes account counts many part Full (p, looked, known, passes, room, out) = record {
@@ -345,6 +349,8 @@ module _ {S T F : Type 0} (take : TakeGhosts T F) where
     counted = omega (arith, counts.same);
     session = changes.session;
     as_many = many;
+    shown = counts.shown;
+    spent = λ is. absurd (false≢true (sym counts.fresh ∙ is));
     goes = counted-take a b ([]) (acts_of Full) counts (omega arith) (omega arith) (took-none a b c x y (Unit {0}) changes part.keeps out account (λ log z. tt) (λ n f u has. part.goes n f f (looked-stands take i j looked (f m) (part.part n f has).1) (λ k o. refl) (λ k l. refl) has));
   }
   taken-step a b c x y m i j changes account counts many part (Marked l) (mark, takes, list, out) = record {
@@ -354,6 +360,8 @@ module _ {S T F : Type 0} (take : TakeGhosts T F) where
     counted = omega (arith, counts.same);
     session = changes.session;
     as_many = many;
+    shown = counts.shown;
+    spent = λ is. absurd (false≢true (sym counts.fresh ∙ is));
     goes = counted-take a b (Took m c (Marker mark) ∷ []) (acts_of (Marked l)) counts (omega arith) (omega arith) (took-item a b c x y m i j (Marker mark) changes account part takes (λ deeds before. tt) (lays-none a b (Took m c (Marker mark)) c i out (λ log there. refl)));
   }
   taken-step a b c x y m i j changes account counts many part (Skipped l) (p, takes, list, held, out) = record {
@@ -363,6 +371,8 @@ module _ {S T F : Type 0} (take : TakeGhosts T F) where
     counted = omega (arith, counts.same);
     session = changes.session;
     as_many = many;
+    shown = counts.shown;
+    spent = λ is. absurd (false≢true (sym counts.fresh ∙ is));
     goes = counted-take a b (Took m c (Sample p) ∷ []) (acts_of (Skipped l)) counts (omega arith) (omega arith) (took-item a b c x y m i j (Sample p) changes account part takes
         (λ deeds before pass. absurd (false≢true (sym (held deeds before) ∙ pass)))
         (lays-none a b (Took m c (Sample p)) c i out
@@ -375,6 +385,8 @@ module _ {S T F : Type 0} (take : TakeGhosts T F) where
     counted = omega (arith, counts.same);
     session = changes.session;
     as_many = many;
+    shown = counts.shown;
+    spent = λ is. absurd (false≢true (sym counts.fresh ∙ is));
     goes = counted-take a b (Took m c (Sample p) ∷ []) (acts_of (Wrote l end)) counts (omega arith) (omega arith) (took-item a b c x y m i j (Sample p) changes account part takes
         (λ deeds before pass. each)
         (lays-one a b (Took m c (Sample p)) c i (record { origin = origin.Sample m c p.list; packets = p.packets })
@@ -392,6 +404,8 @@ module _ {S T F : Type 0} (take : TakeGhosts T F) where
     counted = let zero_acts : acts_of step ≡ 0 = ap acts_of none in omega (arith, counts.same, zero_acts);
     session = changes.session;
     as_many = many;
+    shown = counts.shown;
+    spent = λ is. absurd (false≢true (sym counts.fresh ∙ is));
     goes = counted-take a b ([]) (acts_of step) counts (omega arith) (omega arith) (let same : y ≡ x = rest ∙ ap (λ z. record x { newer = z }) (is ∙ sym was) in
         took-none a b c x y (Unit {0}) changes (keeps-same x y same) out account (λ log z. tt) (λ n f u has. subst (ChannelHas take n f) (sym same) has));
   }
@@ -408,6 +422,8 @@ module _ {S T F : Type 0} (take : TakeGhosts T F) where
     counted = let zero_acts : acts_of step ≡ 0 = ap acts_of none in omega (arith, counts.same, zero_acts);
     session = changes.session;
     as_many = many;
+    shown = counts.shown;
+    spent = λ is. absurd (false≢true (sym counts.fresh ∙ is));
     goes = counted-take a b ([]) (acts_of step) counts (omega arith) (omega arith) (let same : y ≡ x = rest ∙ ap (λ z. record x { older = z }) (is ∙ sym was) in
         took-none a b c x y (Unit {0}) changes (keeps-same x y same) out account (λ log z. tt) (λ n f u has. subst (ChannelHas take n f) (sym same) has));
   }
@@ -417,9 +433,9 @@ module _ {S T F : Type 0} (take : TakeGhosts T F) where
 
 module _ {S T F : Type 0} (take : TakeGhosts T F) where
   -- the next item of the newest measurement at an event channel was taken, if there was one
-  pub took-one : (v w : SlaveState S T) (xs : List (ChannelState S T)) (o : OutboxState) (c n : ℕ) (step : Step) → w ≡ v → w.acts < MOST_ACTS + PER_PACKET → n ≡ acts_of step → c < length w.channels
+  pub took-one : (v w : SlaveState S T) (xs : List (ChannelState S T)) (o : OutboxState) (c n : ℕ) (step : Step) → w ≡ v → w.acts < MOST_ACTS + PER_PACKET → is_spent v ≡ false → n ≡ acts_of step → c < length w.channels → o.shown ≡ w.outbox.shown
       → IsOnlyAt (TakesFromNewer take c w.outbox o step) c w.channels xs → TakesItems take 1 v (record w { outbox = o; channels = xs; acts = w.acts + n })
-  took-one v w xs o c n step same fits is_n below only =
+  took-one v w xs o c n step same fits fresh is_n below shown only =
       let (x, was) = some-at w.channels c below in
       let (y, is) = some-at xs c (omega (arith, below, only.as_many)) in
       let one = only.here x y was is in
@@ -435,12 +451,12 @@ module _ {S T F : Type 0} (take : TakeGhosts T F) where
         number = refl;
       } in
       subst (λ (z : SlaveState S T). TakesItems take 1 z (counting b n)) same
-      (subst (λ k. TakesItems take 1 w (counting b k)) (sym is_n) (taken-newer take w b c x y step changes refl (record { fits = fits; same = refl }) only.as_many one.rest x.newer y.newer refl refl one.takes))
+      (subst (λ k. TakesItems take 1 w (counting b k)) (sym is_n) (taken-newer take w b c x y step changes refl (record { fits = fits; same = refl; fresh = ap is_spent same ∙ fresh; shown = shown }) only.as_many one.rest x.newer y.newer refl refl one.takes))
 
   -- the next item of the measurement before it was taken, if there was one
-  pub took-older : (v w : SlaveState S T) (xs : List (ChannelState S T)) (o : OutboxState) (c n : ℕ) (step : Step) → w ≡ v → w.acts < MOST_ACTS + PER_PACKET → n ≡ acts_of step → c < length w.channels
+  pub took-older : (v w : SlaveState S T) (xs : List (ChannelState S T)) (o : OutboxState) (c n : ℕ) (step : Step) → w ≡ v → w.acts < MOST_ACTS + PER_PACKET → is_spent v ≡ false → n ≡ acts_of step → c < length w.channels → o.shown ≡ w.outbox.shown
       → IsOnlyAt (TakesFromOlder take c w.outbox o step) c w.channels xs → TakesItems take 1 v (record w { outbox = o; channels = xs; acts = w.acts + n })
-  took-older v w xs o c n step same fits is_n below only =
+  took-older v w xs o c n step same fits fresh is_n below shown only =
       let (x, was) = some-at w.channels c below in
       let (y, is) = some-at xs c (omega (arith, below, only.as_many)) in
       let one = only.here x y was is in
@@ -456,10 +472,10 @@ module _ {S T F : Type 0} (take : TakeGhosts T F) where
         number = refl;
       } in
       subst (λ (z : SlaveState S T). TakesItems take 1 z (counting b n)) same
-      (subst (λ k. TakesItems take 1 w (counting b k)) (sym is_n) (taken-older take w b c x y step changes refl (record { fits = fits; same = refl }) only.as_many one.rest x.older y.older refl refl one.takes))
+      (subst (λ k. TakesItems take 1 w (counting b k)) (sym is_n) (taken-older take w b c x y step changes refl (record { fits = fits; same = refl; fresh = ap is_spent same ∙ fresh; shown = shown }) only.as_many one.rest x.older y.older refl refl one.takes))
 
   pub takes-nothing : (a : SlaveState S T) → TakesItems take 0 a a
-  takes-nothing a = record { acts = []; are = refl; few = omega arith; counted = omega arith; session = refl; as_many = refl; goes = λ log stands. stands }
+  takes-nothing a = record { acts = []; are = refl; few = omega arith; counted = omega arith; session = refl; as_many = refl; shown = refl; spent = λ is. refl; goes = λ log stands. stands }
 
   -- items were taken, and then others
   pub takes-more : (n k : ℕ) (a m b : SlaveState S T) → TakesItems take n a m → TakesItems take k m b → TakesItems take (n + k) a b
@@ -470,6 +486,10 @@ module _ {S T F : Type 0} (take : TakeGhosts T F) where
     counted = omega (arith, length-append two.acts one.acts, one.counted, two.counted);
     session = two.session ∙ one.session;
     as_many = two.as_many ∙ one.as_many;
+    shown = two.shown ∙ one.shown;
+    spent = λ is.
+        let first : m ≡ record a { next = m.next } = one.spent is in
+        two.spent (ap is_spent first ∙ is) ∙ ap (λ (s : SlaveState S T). record s { next = b.next }) first;
     goes = λ log stands.
         let profile = ap (λ (s : SessionState). s.profile) one.session in
         subst (λ xs. SlaveStandsAfter take a.session.profile b xs) (sym (assoc two.acts one.acts log))
@@ -486,6 +506,8 @@ module _ {S T F : Type 0} (take : TakeGhosts T F) where
     counted = one.counted;
     session = one.session;
     as_many = one.as_many;
+    shown = one.shown;
+    spent = one.spent;
     goes = one.goes;
   }
 
@@ -498,5 +520,7 @@ module _ {S T F : Type 0} (take : TakeGhosts T F) where
     counted = one.counted;
     session = one.session;
     as_many = one.as_many;
+    shown = one.shown;
+    spent = λ is. ap (λ (s : SlaveState S T). record s { next = k }) (one.spent is);
     goes = goes-next take a b one.acts k one.goes;
   }

@@ -44,7 +44,9 @@ ComesBefore begin end c =
     ((begin ≤ c) × (c < end)) ⊎ ((end < begin) × ((begin ≤ c) ⊎ (c < end)))
 
 module _ {S T F : Type 0} (take : TakeGhosts T F) where
-  -- items were taken, if there were some, and no more than so many; each counts as three
+  -- items were taken, if there were some, and no more than so many; each counts as three. What the
+  -- last peek showed is shown still; and of a slave that is spent nothing changes, but for where
+  -- the next look begins
   pub record TakesItems (most : ℕ) (a b : SlaveState S T) : Type 0 where
     pub acts : List Act
     pub few : length acts ≤ most
@@ -52,6 +54,8 @@ module _ {S T F : Type 0} (take : TakeGhosts T F) where
     pub are : list_all is_take acts ≡ true
     pub session : b.session ≡ a.session
     pub as_many : length b.channels ≡ length a.channels
+    pub shown : b.outbox.shown ≡ a.outbox.shown
+    pub spent : is_spent a ≡ true → b ≡ record a { next = b.next }
     pub goes : GoesBy take a b acts
 
   -- the next sample of the newest measurement at event channel c is known, its list runs, and its

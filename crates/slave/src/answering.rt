@@ -15,6 +15,7 @@ impl<R: Ring> Slave<R> {
     pub(crate) fn answer(&mut self, packet: &[u8], clock: u32)
         requires room { has_room self.old.outbox ≡ true }
         ensures answers { Answers R.Take.TakeEnd self.old self.new packet.now clock }
+        ensures shown_stays { self.new.outbox.shown ≡ self.old.outbox.shown }
         ensures profile_stays { self.new.session.profile ≡ self.old.session.profile }
         ensures acts_stay { self.new.acts ≡ self.old.acts }
         ensures next_stays { self.new.next ≡ self.old.next }
@@ -30,6 +31,7 @@ impl<R: Ring> Slave<R> {
     pub(crate) fn refuse(&mut self, code: ErrCode)
         requires room { has_room self.old.outbox ≡ true }
         ensures lays { LaysReply self.old.outbox self.new.outbox (Some (packet_of (Err code))) }
+        ensures shown_stays { self.new.outbox.shown ≡ self.old.outbox.shown }
         ensures rest_stays { self.new ≡ record self.old { outbox = self.new.outbox } }
     {
         let _ = self.outbox.reply(&[0xFE, code.byte()]);
@@ -50,6 +52,7 @@ impl<R: Ring> Slave<R> {
     fn lay(&mut self, reply: Option<Cto>)
         requires room { has_room self.old.outbox ≡ true }
         ensures lays { LaysReply self.old.outbox self.new.outbox reply }
+        ensures shown_stays { self.new.outbox.shown ≡ self.old.outbox.shown }
         ensures rest_stays { self.new ≡ record self.old { outbox = self.new.outbox } }
     {
         if let Some(reply) = reply {

@@ -44,6 +44,7 @@ impl<R: Ring> Slave<R> {
         ensures heard { result ≡ true
             → Hears R.Take.TakeEnd self.old self.new packet.now clock }
         ensures counts { result ≡ true → self.new.acts ≡ self.old.acts + PER_PACKET }
+        ensures shown_stays { self.new.outbox.shown ≡ self.old.outbox.shown }
         ensures profile_stays { self.new.session.profile ≡ self.old.session.profile }
         ensures next_stays { self.new.next ≡ self.old.next }
     {
@@ -60,6 +61,7 @@ impl<R: Ring> Slave<R> {
         requires room { has_room self.old.outbox ≡ true }
         ensures heard { Hears R.Take.TakeEnd self.old (counting self.new PER_PACKET)
             packet.now clock }
+        ensures shown_stays { self.new.outbox.shown ≡ self.old.outbox.shown }
         ensures profile_stays { self.new.session.profile ≡ self.old.session.profile }
         ensures acts_stay { self.new.acts ≡ self.old.acts }
         ensures next_stays { self.new.next ≡ self.old.next }

@@ -65,6 +65,8 @@ impl<R: Ring> Slave<R> {
         ensures stands { IfOk result
             (λ made. SlaveStandsAfter R.Take.TakeEnd profile made.0 []) }
         ensures counts { IfOk result (λ made. made.0.acts ≡ 0) }
+        ensures next { IfOk result (λ made. made.0.next ≡ 0) }
+        ensures none_shown { IfOk result (λ made. made.0.outbox.shown ≡ 0) }
         ensures channels { IfOk result
             (λ made. length made.0.channels ≡ length profile.events.items) }
         ensures tasks { IfOk result

@@ -1,5 +1,6 @@
 //! Items are taken off the rings, and what waits is sent.
-ghost use Rattle.std.specs.Prelude.{◌≡◌, ◌*◌, ◌<◌, ◌≤◌, [], min, length, drop, OnErr, OnOk};
+ghost use Rattle.std.specs.Prelude.{◌≡◌, ◌*◌, ◌<◌, ◌≤◌, [], min, length, drop, IsOk};
+ghost use Rattle.std.specs.Prelude.{OnErr, OnOk};
 ghost use Rattle.std.specs.Prelude.{take as first};
 ghost use Rattle.xcp_base.specs.declared.limits.TheConstants.{MAX_CHANNELS};
 ghost use Rattle.frame_outbox.specs.Outboxes.{Shows};
@@ -171,6 +172,8 @@ impl<R: Ring> Slave<R> {
     pub fn put<O: Out>(&mut self, out: &mut O) -> Result<(), PutFault>
         ensures hands { Hands (shown O.Out out.old) (shown O.Out out.new)
             self.old.outbox.waits result }
+        ensures none { self.old.outbox.waits ≡ [] → IsOk result × (out.new ≡ out.old) }
+        ensures none_shown { OnOk result (self.new.outbox.shown ≡ 0) }
         ensures ok { OnOk result (GoesBy R.Take.TakeEnd self.old self.new
             (sending (length self.old.outbox.units))) }
         ensures err { OnErr result (self.new ≡ self.old) }

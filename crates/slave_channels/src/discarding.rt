@@ -1,5 +1,5 @@
 //! A sample of one event channel that was laid out is thrown away.
-ghost use Rattle.std.specs.Prelude.{◌≡◌, true, false};
+ghost use Rattle.std.specs.Prelude.{◌≡◌, ◌<◌, length, true, false};
 ghost use Rattle.channel_intake.specs.Deeds.{Unsent};
 ghost use Rattle.slave_channel.specs.Channels.{GoesOnThere};
 ghost use Rattle.slave_channels.specs.Calls.{KeepsNoneOf};
@@ -14,6 +14,7 @@ impl<R: Ring> Channels<R> {
     /// away, and isn't sent: the measurement's part there counts it as left. Returns whether that
     /// part is kept; if it isn't, nothing changes.
     pub fn unsent(&mut self, c: u8, number: u64, l: ListId) -> bool
+        ensures there { result ≡ true → c < length self.old }
         ensures told { result ≡ true → IsOnlyAt
             (GoesOnThere R.Take.TakeEnd number (Unsent l)) c self.old self.new }
         ensures none { result ≡ false → KeepsNoneOf number c self.old }

@@ -81,15 +81,16 @@ module _ {S T F : Type 0} (take : TakeGhosts T F) where
       (two (xs ++ log) (subst (λ p. SlaveStandsAfter take p m (xs ++ log)) (sym profile) (one log stands))))
 
   hears-none : (a : SlaveState S T) (clock : ℕ) → HearsAll take a a clock []
-  hears-none a clock = record { acts = []; are = refl; goes = λ log stands. stands; counted = omega arith; next = refl; profile = refl }
+  hears-none a clock = record { acts = []; are = refl; goes = λ log stands. stands; counted = omega arith; next = refl; shown = refl; profile = refl }
 
-  hears-one : (a b : SlaveState S T) (clock : ℕ) (packet : List ℕ) → Hears take a b packet clock → b.acts ≡ a.acts + 64 → b.next ≡ a.next → b.session.profile ≡ a.session.profile → HearsAll take a b clock (packet ∷ [])
-  hears-one a b clock packet hears counts next profile = record {
+  hears-one : (a b : SlaveState S T) (clock : ℕ) (packet : List ℕ) → Hears take a b packet clock → b.acts ≡ a.acts + 64 → b.next ≡ a.next → b.outbox.shown ≡ a.outbox.shown → b.session.profile ≡ a.session.profile → HearsAll take a b clock (packet ∷ [])
+  hears-one a b clock packet hears counts next shown profile = record {
     acts = hears.act ∷ hears.opening;
     are = ([], hears.act, hears.opening, refl, hears.is, hears.may_open, refl);
     goes = hears.goes;
     counted = omega (arith, counts);
     next = next;
+    shown = shown;
     profile = profile;
   }
 
@@ -100,6 +101,7 @@ module _ {S T F : Type 0} (take : TakeGhosts T F) where
     goes = goes-more a m b one.acts two.acts one.profile one.goes two.goes;
     counted = omega (arith, one.counted, two.counted, length-append ps qs);
     next = two.next ∙ one.next;
+    shown = two.shown ∙ one.shown;
     profile = two.profile ∙ one.profile;
   }
 
@@ -118,9 +120,9 @@ module _ {S T F : Type 0} (take : TakeGhosts T F) where
   no-packet r s a clock bytes leads = record { packets = []; leads = leads; hears = hears-none a clock }
 
   -- bytes that end a frame, whose packet is heard
-  pub one-packet : (r s : ReaderState) (a b : SlaveState S T) (clock : ℕ) (bytes packet : List ℕ) → Leads r s bytes (packet ∷ []) → Hears take a b packet clock → b.acts ≡ a.acts + 64 → b.next ≡ a.next → b.session.profile ≡ a.session.profile
+  pub one-packet : (r s : ReaderState) (a b : SlaveState S T) (clock : ℕ) (bytes packet : List ℕ) → Leads r s bytes (packet ∷ []) → Hears take a b packet clock → b.acts ≡ a.acts + 64 → b.next ≡ a.next → b.outbox.shown ≡ a.outbox.shown → b.session.profile ≡ a.session.profile
       → Receives take r s a b clock bytes
-  one-packet r s a b clock bytes packet leads hears counts next profile = record { packets = packet ∷ []; leads = leads; hears = hears-one a b clock packet hears counts next profile }
+  one-packet r s a b clock bytes packet leads hears counts next shown profile = record { packets = packet ∷ []; leads = leads; hears = hears-one a b clock packet hears counts next shown profile }
 
   -- some bytes, and then others
   receives-more : (r s t : ReaderState) (a m b : SlaveState S T) (clock : ℕ) (xs ys : List ℕ) → Receives take r s a m clock xs → Receives take s t m b clock ys → Receives take r t a b clock (xs ++ ys)

@@ -18,13 +18,14 @@ AreHeard clock (packet ∷ packets) acts =
 
 module _ {S T F : Type 0} (take : TakeGhosts T F) where
   -- the packets were heard at this clock, in order, each of which counts as 64; nothing else that a
-  -- log tells of
+  -- log tells of; and what the last peek showed is shown still
   pub record HearsAll (a b : SlaveState S T) (clock : ℕ) (packets : List (List ℕ)) : Type 0 where
     pub acts : List Act
     pub are : AreHeard clock packets acts
     pub goes : GoesBy take a b acts
     pub counted : b.acts ≡ a.acts + 64 * length packets
     pub next : b.next ≡ a.next
+    pub shown : b.outbox.shown ≡ a.outbox.shown
     pub profile : b.session.profile ≡ a.session.profile
 
   -- these bytes were taken, and the packets of the frames that they ended were heard

@@ -1,7 +1,10 @@
 use Rattle.std.proofs.Common.{◌+◌, ◌<◌, arith}
-use Rattle.slave.proofs.FairLemmas.{keeps-more}
-use Rattle.slave.proofs.TakingLemmas.{takes-more, takes-within}
+use Rattle.slave.proofs.FairLemmas.{keeps-all, keeps-more}
+use Rattle.slave.proofs.TakingLemmas.{takes-more, takes-nothing, takes-within}
 use Rattle.slave.proofs.slave.Slave.take_from_older.Goals as goal
+
+pub loop-taken-init : goal.loop-taken-init
+loop-taken-init g c = record { takes = takes-nothing g.R.Take.TakeEnd c.args.self.now; keeps = keeps-all c.args.self.now; few = omega arith }
 
 -- one more
 pub loop-taken-preserved : goal.loop-taken-preserved

@@ -12,8 +12,8 @@ returns-then-is_spent g c = record {
 pub returns : goal.returns
 returns g c = record {
   takes =
-      took-one g.R.Take.TakeEnd c.args.self.now _ c.take-step.new.self c.take-step.new.outbox c.args.c c.acts_of.result c.take-step.result c.self.view_is c.self.invariant.1 c.acts_of.ensures.value
-      (subst (λ xs. c.args.c < length xs) (sym (ap (λ s. s.channels) c.self.view_is)) c.requires.channel) c.take-step.ensures.takes;
+      took-one g.R.Take.TakeEnd c.args.self.now _ c.take-step.new.self c.take-step.new.outbox c.args.c c.acts_of.result c.take-step.result c.self.view_is c.self.invariant.1 (sym c.is_spent.ensures ∙ c.if-is_spent.false) c.acts_of.ensures.value
+      (subst (λ xs. c.args.c < length xs) (sym (ap (λ s. s.channels) c.self.view_is)) c.requires.channel) c.take-step.ensures.shown_stays c.take-step.ensures.takes;
   looks =
       looks-once g.R.Take.TakeEnd c.args.self.now _ c.take-step.new.self c.take-step.new.outbox c.args.c c.acts_of.result c.take-step.result c.self.view_is c.acts_of.ensures.value
       (subst (λ xs. c.args.c < length xs) (sym (ap (λ s. s.channels) c.self.view_is)) c.requires.channel) (sym c.is_spent.ensures ∙ c.if-is_spent.false) c.take-step.ensures.takes;

@@ -1,4 +1,4 @@
-use Rattle.std.proofs.Common.{◌<◌, length, ap, subst, sym, arith}
+use Rattle.std.proofs.Common.{◌<◌, ◌∙◌, length, ap, subst, sym, arith}
 use Rattle.slave.proofs.FairLemmas.{keeps-all}
 use Rattle.slave.proofs.RoundLemmas.{keeps-older}
 use Rattle.slave.proofs.TakingLemmas.{takes-nothing, takes-within, took-older}
@@ -10,8 +10,8 @@ returns-then-is_spent g c = record { takes = takes-within g.R.Take.TakeEnd 0 1 c
 pub returns : goal.returns
 returns g c = record {
   takes =
-      took-older g.R.Take.TakeEnd c.args.self.now _ c.take_from_older-step.new.self c.take_from_older-step.new.outbox c.args.c c.acts_of.result c.take_from_older-step.result c.self.view_is c.self.invariant.1 c.acts_of.ensures.value
-      (subst (λ xs. c.args.c < length xs) (sym (ap (λ s. s.channels) c.self.view_is)) c.requires.channel) c.take_from_older-step.ensures.takes;
+      took-older g.R.Take.TakeEnd c.args.self.now _ c.take_from_older-step.new.self c.take_from_older-step.new.outbox c.args.c c.acts_of.result c.take_from_older-step.result c.self.view_is c.self.invariant.1 (sym c.is_spent.ensures ∙ c.if-is_spent.false) c.acts_of.ensures.value
+      (subst (λ xs. c.args.c < length xs) (sym (ap (λ s. s.channels) c.self.view_is)) c.requires.channel) c.take_from_older-step.ensures.shown_stays c.take_from_older-step.ensures.takes;
   keeps =
       keeps-older g.R.Take.TakeEnd c.args.self.now _ c.take_from_older-step.new.self c.take_from_older-step.new.outbox c.args.c c.acts_of.result c.take_from_older-step.result c.self.view_is
       (subst (λ xs. c.args.c < length xs) (sym (ap (λ s. s.channels) c.self.view_is)) c.requires.channel) c.take_from_older-step.ensures.takes;

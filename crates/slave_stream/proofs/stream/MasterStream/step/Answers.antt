@@ -23,4 +23,4 @@ returns-clause-ok g c =
     one-packet g.R.Take.TakeEnd c.args.self.now c.feed.new.self c.args.slave.now c.hear.new.self c.args.clock bytes packet
     (subst (λ r. Leads r c.feed.new.self bytes (packet ∷ [])) c.self.view_is (subst P c.in-Some.is c.in_ok-taken.ensures.ok))
     (subst (λ p. Hears g.R.Take.TakeEnd c.args.slave.now c.hear.new.self p c.args.clock) c.as_slice.ensures.value (c.hear.ensures.heard (c.hear.ensures.room ∙ c.requires.room)))
-    (c.hear.ensures.counts (c.hear.ensures.room ∙ c.requires.room)) c.hear.ensures.next_stays c.hear.ensures.profile_stays
+    (c.hear.ensures.counts (c.hear.ensures.room ∙ c.requires.room)) c.hear.ensures.next_stays c.hear.ensures.shown_stays c.hear.ensures.profile_stays
