@@ -41,7 +41,7 @@ prefix-more xs ys zs ts us (ps, one) (qs, two) = (
   sym (append_assoc xs ps qs) ∙ ap (λ z. z ++ qs) one ∙ append_assoc ts ys qs ∙ ap (λ z. ts ++ z) two ∙ sym (append_assoc ts us zs),
 )
 
-prefix-length : (xs ys ts : List Item) → IsPrefix xs (ts ++ ys) → length xs ≤ length ts + length ys
+pub prefix-length : (xs ys ts : List Item) → IsPrefix xs (ts ++ ys) → length xs ≤ length ts + length ys
 prefix-length xs ys ts (ps, one) = omega (arith, length-append xs ps, length-append ts ys, ap length one)
 
 -- the round came to this event channel

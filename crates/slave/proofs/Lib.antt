@@ -16,6 +16,7 @@ pub mod SessionLemmas
 pub mod StoryLemmas
 pub mod ChannelLemmas
 pub mod OpeningLemmas
+pub mod OlderLemmas
 pub mod OpenedLemmas
 pub mod DeedLemmas
 pub mod OrderLemmas

@@ -55,7 +55,7 @@ module _ {T F : Type 0} (take : TakeGhosts T F) where
   }
 
   -- nothing is known once nothing was found
-  empty-of : (c : ℕ) (u v : Option (ShareState T)) (o p : OutboxState) (step : Step) → TakesOf take c u v o p step → step ≡ Nothing
+  pub empty-of : (c : ℕ) (u v : Option (ShareState T)) (o p : OutboxState) (step : Step) → TakesOf take c u v o p step → step ≡ Nothing
       → (part : ShareState T) → v ≡ Some part → take.known part.intake.end ≡ []
   empty-of c None None o p step takes none part is = absurd (none_some part is)
   empty-of c None (Some t) o p step takes none part is = elim takes [ ]
@@ -65,15 +65,15 @@ module _ {T F : Type 0} (take : TakeGhosts T F) where
       subst (λ (q : ShareState T). take.known q.intake.end ≡ []) (some_inj t part is) item.1
 
   -- the sample that found no room
-  record IsHeld (v : Option (ShareState T)) (p : OutboxState) : Type 0 where
-    part : ShareState T
-    sample : SampleParts
-    part_is : v ≡ Some part
-    next : IsPrefix (Sample sample ∷ []) (take.known part.intake.end)
-    passes : Passes take part.intake sample.list
-    no_room : HasNoRoom p sample
+  pub record IsHeld (v : Option (ShareState T)) (p : OutboxState) : Type 0 where
+    pub part : ShareState T
+    pub sample : SampleParts
+    pub part_is : v ≡ Some part
+    pub next : IsPrefix (Sample sample ∷ []) (take.known part.intake.end)
+    pub passes : Passes take part.intake sample.list
+    pub no_room : HasNoRoom p sample
 
-  held-of : (c : ℕ) (u v : Option (ShareState T)) (o p : OutboxState) (step : Step) → TakesOf take c u v o p step → step ≡ Full → IsHeld v p
+  pub held-of : (c : ℕ) (u v : Option (ShareState T)) (o p : OutboxState) (step : Step) → TakesOf take c u v o p step → step ≡ Full → IsHeld v p
   held-of c None None o p step takes full = absurd (not-full (sym takes.0 ∙ full)) where
     not-full : Nothing ≡ Full → ⊥
     not-full e = cc

@@ -1,6 +1,5 @@
 -- Lists without some of their items, one behind another.
-use Rattle.std.proofs.Common.{◌≡◌, ℕ, zero, suc, ◌+◌, Bool, true, false, if◌then◌else◌, ◌⊎◌, List, [], ◌∷◌, ◌++◌, append-nil, length, filter, refl, sym, ap, ◌∙◌, subst, arith, inl, inr}
-use Rattle.std.proofs.lemmas.List.Concat.{flat_map-append}
+use Rattle.std.proofs.Common.{◌≡◌, ℕ, suc, ◌+◌, Bool, true, false, if◌then◌else◌, List, [], ◌∷◌, ◌++◌, append-nil, length, filter, refl, sym, ap, subst, arith, inl, inr}
 use Rattle.frame_outbox.specs.Outboxes.{Laid, packets_in}
 use Rattle.slave.specs.Thinned.{IsWithout}
 

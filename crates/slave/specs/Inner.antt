@@ -38,7 +38,8 @@ use Rattle.slave_channels.specs.Calls.{HaveRoom, KeepsNoneOf, Looks, OpenedAndEn
 use Rattle.slave_channels.specs.Calls.{StartsAt, StopsAll}
 use Rattle.slave_channels.specs.Each.{IsEach, IsOnlyAt}
 use Rattle.slave.specs.Hearing.{IsStartRefusal, MayOpen, IsIdleRefusal, is_spent}
-use Rattle.slave.specs.Taking.{IsEmptyAt, IsHeldUp, LooksAt, newest_at}
+use Rattle.slave.specs.Taking.{HasRunning, IsEmptyAt, IsHeldUp, LetsGoAt, LooksAt, LooksTimes}
+use Rattle.slave.specs.Taking.{known_of, newest_at, older_at}
 use Rattle.slave.specs.declared.round.Round.{Round}
 use Rattle.slave.specs.declared.round.Round.TheVariants.{Empty, HeldUp, Took}
 use Rattle.slave.specs.Log.{Act, Heard}
@@ -133,6 +134,10 @@ module _ {S T : Type 0} where
   pub record KeepsNewest (a b : SlaveState S T) : Type 0 where
     pub newest : (c : ℕ) → newest_at b c ≡ newest_at a c
     pub next : b.next ≡ a.next
+
+  -- and so are those of the measurement before
+  abbrev pub KeepsOlder : SlaveState S T → SlaveState S T → Type 0
+  KeepsOlder a b = (c : ℕ) → older_at b c ≡ older_at a c
 
   -- a round ended at event channel `end`
   abbrev pub EndsAt : SlaveState S T → ℕ → Round → Type 0
@@ -361,6 +366,20 @@ module _ {S T F : Type 0} (take : TakeGhosts T F) where
     pub spent : is_spent a ≡ true → b ≡ a
     pub turn : is_spent a ≡ false → step ≢ Full → LooksAt take 1 a b c
     pub held : step ≡ Full → LooksAt take 0 a b c
+
+  -- one look at the ring of event channel c in the measurement before the newest, if the slave isn't
+  -- spent; the other event channels' are as they were
+  pub record LooksOlder (a b : SlaveState S T) (c : ℕ) (step : Step) : Type 0 where
+    pub nothing : step ≡ Nothing → (is_spent b ≡ true) ⊎ (known_of take (older_at b c) ≡ [])
+    pub full : step ≡ Full → HasRunning take (older_at b c)
+    pub turn :
+        step ≢ Full → (is_spent b ≡ true) ⊎ LooksTimes take 1 (older_at a c) (older_at b c)
+    pub others : (k : ℕ) → k ≢ c → older_at b k ≡ older_at a k
+
+  -- what that ring holds is let go, there alone
+  pub record LetsGoThere (a b : SlaveState S T) (c : ℕ) : Type 0 where
+    pub there : (is_spent b ≡ true) ⊎ LetsGoAt take a b c
+    pub others : (k : ℕ) → k ≢ c → older_at b k ≡ older_at a k
 
   -- the newest rings from event channel `begin` on, below `end`, were looked at once, and of the
   -- others nothing was taken

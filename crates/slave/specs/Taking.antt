@@ -38,6 +38,14 @@ newest_part (Some ch) = ch.newer
 abbrev pub newest_at : {S T : Type 0} → SlaveState S T → ℕ → Option (ShareState T)
 newest_at s c = newest_part (slice_get s.channels c)
 
+-- and of the measurement before it
+abbrev pub older_part : {S T : Type 0} → Option (ChannelState S T) → Option (ShareState T)
+older_part None = None
+older_part (Some ch) = ch.older
+
+abbrev pub older_at : {S T : Type 0} → SlaveState S T → ℕ → Option (ShareState T)
+older_at s c = older_part (slice_get s.channels c)
+
 -- going round over the event channels from `begin` on, one comes by c before `end`
 abbrev pub ComesBefore : ℕ → ℕ → ℕ → Type 0
 ComesBefore begin end c =
@@ -97,6 +105,13 @@ module _ {T F : Type 0} (take : TakeGhosts T F) where
     pub most : length taken ≤ n
     pub fewer : length taken < n → length (known_of a) ≤ length taken
 
+  -- what a part's ring holds next is known, a sample whose list runs
+  abbrev pub HasRunning : Option (ShareState T) → Type 0
+  HasRunning None = ⊥
+  HasRunning (Some p) =
+      (x : SampleParts) × IsPrefix (Sample x ∷ []) (take.known p.intake.end)
+      × Passes take p.intake x.list
+
 module _ {S T F : Type 0} (take : TakeGhosts T F) where
   -- so at event channel c, in the newest measurement
   abbrev pub LooksAt : ℕ → SlaveState S T → SlaveState S T → ℕ → Type 0
@@ -123,3 +138,13 @@ module _ {S T F : Type 0} (take : TakeGhosts T F) where
       ⊎ ((is_spent b ≡ true)
       ⊎ ((a.acts + 3 * 1023 ≤ b.acts)
       × ((c : ℕ) → LooksAt 1023 a b c ⊎ LooksAt 1024 a b c)))))
+
+  -- the ring of the measurement before the newest was looked at 1,024 times at event channel c: so
+  -- all that was known is taken, or so many items. Or it holds a sample next whose list runs, which
+  -- is never so, since that measurement has ended
+  abbrev pub LetsGoAt : SlaveState S T → SlaveState S T → ℕ → Type 0
+  LetsGoAt a b c = LooksTimes take 1024 (older_at a c) (older_at b c) ⊎ HasRunning take (older_at b c)
+
+  -- so at each event channel, or the slave is spent
+  abbrev pub LetsGo : SlaveState S T → SlaveState S T → Type 0
+  LetsGo a b = (is_spent b ≡ true) ⊎ ((c : ℕ) → LetsGoAt a b c)

@@ -7,9 +7,11 @@ ghost use Rattle.frame_outbox.specs.Outboxes.{Shows};
 ghost use Rattle.frame_outbox.specs.Putting.{Hands};
 ghost use Rattle.frame_writer.specs.Shown.{shown};
 ghost use Rattle.slave.specs.Hearing.{GoesBy};
-ghost use Rattle.slave.specs.Inner.{EndsRound, GoesRound, KeepsNewest, LooksOnce, acts_of};
+ghost use Rattle.slave.specs.Inner.{EndsRound, GoesRound, KeepsNewest, KeepsOlder};
+ghost use Rattle.slave.specs.Inner.{LetsGoThere, LooksOlder, LooksOnce, acts_of};
 ghost use Rattle.slave.specs.Log.{sending};
-ghost use Rattle.slave.specs.Taking.{LooksThrough, TakesFairly, TakesItems, most_taken};
+ghost use Rattle.slave.specs.Taking.{LetsGo, LooksThrough, TakesFairly, TakesItems};
+ghost use Rattle.slave.specs.Taking.{most_taken};
 ghost use Rattle.slave.specs.declared.limits.TheConstants.{PER_ACT};
 
 use crate::limits::PER_ACT;
@@ -48,6 +50,7 @@ impl<R: Ring> Slave<R> {
         ensures takes { TakesItems R.Take.TakeEnd most_taken self.old self.new }
         ensures through { LooksThrough R.Take.TakeEnd self.old self.new }
         ensures fair { TakesFairly R.Take.TakeEnd self.old self.new }
+        ensures lets_go { LetsGo R.Take.TakeEnd self.old self.new }
     {
         self.let_go();
         let mut begin = self.next;
@@ -67,6 +70,7 @@ impl<R: Ring> Slave<R> {
         ensures takes { TakesItems R.Take.TakeEnd MAX_CHANNELS self.old self.new }
         ensures ends { EndsRound R.Take.TakeEnd self.old self.new begin result }
         ensures goes { GoesRound R.Take.TakeEnd self.old self.new begin result }
+        ensures older { KeepsOlder self.old self.new }
     {
         let before = self.acts;
         let len = self.channels.len();
@@ -88,6 +92,7 @@ impl<R: Ring> Slave<R> {
     fn let_go(&mut self)
         ensures takes { TakesItems R.Take.TakeEnd (1024 * MAX_CHANNELS) self.old self.new }
         ensures keeps { KeepsNewest self.old self.new }
+        ensures goes { LetsGo R.Take.TakeEnd self.old self.new }
     {
         for c in 0..self.channels.len() {
             self.take_from_older(c);
@@ -99,6 +104,7 @@ impl<R: Ring> Slave<R> {
         requires channel { c < length self.old.channels }
         ensures takes { TakesItems R.Take.TakeEnd 1024 self.old self.new }
         ensures keeps { KeepsNewest self.old self.new }
+        ensures goes { LetsGoThere R.Take.TakeEnd self.old self.new c }
     {
         let mut taken = 0;
         while taken < MOST_ITEMS {
@@ -114,6 +120,7 @@ impl<R: Ring> Slave<R> {
         requires channel { c < length self.old.channels }
         ensures takes { TakesItems R.Take.TakeEnd 1 self.old self.new }
         ensures looks { LooksOnce R.Take.TakeEnd self.old self.new c result }
+        ensures older { KeepsOlder self.old self.new }
     {
         if self.is_spent() {
             return Step::Nothing;
@@ -128,6 +135,7 @@ impl<R: Ring> Slave<R> {
         requires channel { c < length self.old.channels }
         ensures takes { TakesItems R.Take.TakeEnd 1 self.old self.new }
         ensures keeps { KeepsNewest self.old self.new }
+        ensures looks { LooksOlder R.Take.TakeEnd self.old self.new c result }
     {
         if self.is_spent() {
             return Step::Nothing;

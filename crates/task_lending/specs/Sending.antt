@@ -6,17 +6,20 @@ use Rattle.frame_outbox.specs.Outboxes.{Shows}
 use Rattle.slave.specs.Hearing.{GoesBy}
 use Rattle.slave.specs.Log.{sending}
 use Rattle.slave.specs.Standing.{SlaveState}
-use Rattle.slave.specs.Taking.{LooksThrough, TakesFairly, TakesItems, most_taken}
+use Rattle.slave.specs.Taking.{LetsGo, LooksThrough, TakesFairly, TakesItems}
+use Rattle.slave.specs.Taking.{most_taken}
 use Rattle.task_lending.specs.States.{LendingSlaveState}
 
 module _ {S T F : Type 0} (take : TakeGhosts T F) where
-  -- items were taken, by turns, as far as some were known and found room; and then as many of the
+  -- items were taken, by turns, as far as some were known and found room, and what measurements
+  -- before the newest held was let go; and then as many of the
   -- replies and samples that waited as find room were copied to the front of the buffer, n bytes
   pub record Peeks (a b : LendingSlaveState S T) (before after : List ℕ) (n : ℕ) : Type 0 where
     pub taken : SlaveState S T
     pub takes : TakesItems take most_taken a.slave taken
     pub through : LooksThrough take a.slave taken
     pub fair : TakesFairly take a.slave taken
+    pub lets_go : LetsGo take a.slave taken
     pub shows : Shows taken.outbox (length before) b.slave.outbox.shown n
     pub bytes : first n after ≡ first n taken.outbox.waits
     pub behind : drop n after ≡ drop n before

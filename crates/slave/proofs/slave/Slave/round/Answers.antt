@@ -1,7 +1,7 @@
-use Rattle.std.proofs.Common.{◌≡◌, ◌+◌, length, min, refl, ap, arith, subst, sym}
+use Rattle.std.proofs.Common.{◌≡◌, ◌+◌, ◌∙◌, length, min, refl, ap, arith, subst, sym}
 use Rattle.xcp_base.specs.declared.limits.TheConstants.{MAX_CHANNELS}
 use Rattle.slave.specs.Standing.{SlaveState}
-use Rattle.slave.specs.Taking.{IsHeldUp, TakesItems}
+use Rattle.slave.specs.Taking.{IsHeldUp, TakesItems, older_at}
 use Rattle.slave.specs.Inner.{EndsRound, GoesRound}
 use Rattle.slave.specs.declared.round.Round.TheVariants.{Empty, HeldUp, Took}
 use Rattle.slave.proofs.FairLemmas.{round-begins, round-done, round-goes-on, round-held}
@@ -17,6 +17,7 @@ loop-c-init g c =
       takes = takes-within g.R.Take.TakeEnd 0 c.min-c.result c.args.self.now c.args.self.now (omega arith) (takes-nothing g.R.Take.TakeEnd c.args.self.now);
       from = omega (arith, from);
       within = omega (arith, from);
+      older = λ k. refl;
       so_far = round-begins g.R.Take.TakeEnd c.args.self.now c.args.begin c.min-c.result (omega (arith, from));
       quiet = quiet-none g.R.Take.TakeEnd c.args.self.now c.args.self.now (min c.args.begin c.len-len.result) c.min-c.result (omega (arith, from));
     }
@@ -31,6 +32,7 @@ loop-c-preserved g c =
       takes = takes-more g.R.Take.TakeEnd c.loop-c.c 1 c.args.self.now c.loop-c.self c.take_one-step.new.self c.loop-c.invariant.takes c.take_one-step.ensures.takes;
       from = omega (arith, from);
       within = omega (arith, more);
+      older = λ k. c.take_one-step.ensures.older k ∙ c.loop-c.invariant.older k;
       so_far =
           round-goes-on g.R.Take.TakeEnd c.args.self.now c.loop-c.self c.take_one-step.new.self c.args.begin c.loop-c.c c.take_one-step.result c.take_one-step.ensures.looks (c.is_full.ensures.no c.if-is_full.false)
           (omega (arith, from, more)) (omega (arith, grows)) c.loop-c.invariant.so_far;
@@ -55,6 +57,7 @@ returns-then-is_full g c =
       ends =
           subst (λ (s : SlaveState _ _). IsHeldUp g.R.Take.TakeEnd (record s { next = c.loop-c.c }) c.loop-c.c) (sym c.self-in-loop-c.view_is)
           (held-next g.R.Take.TakeEnd c.take_one-step.new.self c.loop-c.c c.loop-c.c (c.take_one-step.ensures.looks.full (c.is_full.ensures.yes c.if-is_full.true)));
+      older = λ k. ap (λ (s : SlaveState _ _). older_at s k) c.self-in-loop-c.view_is ∙ c.take_one-step.ensures.older k ∙ c.loop-c.invariant.older k;
       goes =
           subst (λ (s : SlaveState _ _). GoesRound g.R.Take.TakeEnd c.args.self.now (record s { next = c.loop-c.c }) c.args.begin HeldUp) (sym c.self-in-loop-c.view_is)
           (round-held g.R.Take.TakeEnd c.args.self.now c.loop-c.self c.take_one-step.new.self c.args.begin c.loop-c.c c.take_one-step.result c.take_one-step.ensures.looks (c.is_full.ensures.yes c.if-is_full.true)

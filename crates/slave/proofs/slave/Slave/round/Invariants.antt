@@ -1,4 +1,5 @@
 use Rattle.std.proofs.Common.{◌≤◌, min}
+use Rattle.slave.specs.Inner.{KeepsOlder}
 use Rattle.slave.specs.Taking.{TakesItems}
 use Rattle.slave.proofs.FairLemmas.{RoundSoFar}
 use Rattle.slave.proofs.RoundLemmas.{IsQuiet}
@@ -10,6 +11,7 @@ invariant-loop-c g l = record {
   takes : TakesItems g.R.Take.TakeEnd l.c l.fn.self l.self;
   from : min l.begin l.len ≤ l.c;
   within : l.c ≤ l.len;
+  older : KeepsOlder l.fn.self l.self;
   so_far : RoundSoFar g.R.Take.TakeEnd l.fn.self l.self l.begin l.c;
   quiet : IsQuiet g.R.Take.TakeEnd l.fn.self l.self (min l.begin l.len) l.c;
 }

@@ -1,6 +1,6 @@
 use Rattle.std.proofs.Common.{◌≡◌, ◌⊎◌, ◌≤◌, ◌+◌, ◌*◌, ◌-◌}
 use Rattle.xcp_base.specs.declared.limits.TheConstants.{MAX_CHANNELS}
-use Rattle.slave.specs.Taking.{TakesItems}
+use Rattle.slave.specs.Taking.{LetsGo, TakesItems}
 use Rattle.slave.proofs.FairLemmas.{Begins, FairSoFar}
 use Rattle.slave.proofs.slave.Slave.take.Given as goal
 
@@ -13,6 +13,7 @@ invariant-loop-rounds g l = record {
   went : (l.rounds ≡ 0) ⊎ ((l.begin ≡ 0) × (l.fn.self.acts + 3 * (l.rounds - 1) ≤ l.self.acts));
   first : (l.rounds ≡ 0) ⊎ (l.self.next ≡ 0);
   begins : Begins l.fn.self l.rounds l.begin;
+  goes : LetsGo g.R.Take.TakeEnd l.fn.self l.self;
   fair : FairSoFar g.R.Take.TakeEnd l.fn.self l.self l.rounds;
 }
 

@@ -1,4 +1,5 @@
-use Rattle.std.proofs.Common.{◌<◌, ◌∙◌, length, ap, subst, sym, arith}
+use Rattle.std.proofs.Common.{◌<◌, ◌∙◌, length, refl, ap, subst, sym, arith}
+use Rattle.slave.proofs.OlderLemmas.{keeps-others}
 use Rattle.slave.proofs.RoundLemmas.{looks-not, looks-once}
 use Rattle.slave.proofs.TakingLemmas.{takes-nothing, takes-within, took-one}
 use Rattle.slave.proofs.slave.Slave.take_one.Goals as goal
@@ -7,6 +8,7 @@ pub returns-then-is_spent : goal.returns-then-is_spent
 returns-then-is_spent g c = record {
   takes = takes-within g.R.Take.TakeEnd 0 1 c.args.self.now c.args.self.now (omega arith) (takes-nothing g.R.Take.TakeEnd c.args.self.now);
   looks = looks-not g.R.Take.TakeEnd c.args.self.now c.args.c (sym c.is_spent.ensures ∙ c.if-is_spent.true);
+  older = λ k. refl;
 }
 
 pub returns : goal.returns
@@ -17,4 +19,7 @@ returns g c = record {
   looks =
       looks-once g.R.Take.TakeEnd c.args.self.now _ c.take-step.new.self c.take-step.new.outbox c.args.c c.acts_of.result c.take-step.result c.self.view_is c.acts_of.ensures.value
       (subst (λ xs. c.args.c < length xs) (sym (ap (λ s. s.channels) c.self.view_is)) c.requires.channel) (sym c.is_spent.ensures ∙ c.if-is_spent.false) c.take-step.ensures.takes;
+  older =
+      keeps-others g.R.Take.TakeEnd c.args.self.now _ c.take-step.new.self c.take-step.new.outbox c.args.c c.acts_of.result c.take-step.result c.self.view_is
+      (subst (λ xs. c.args.c < length xs) (sym (ap (λ s. s.channels) c.self.view_is)) c.requires.channel) c.take-step.ensures.takes;
 }

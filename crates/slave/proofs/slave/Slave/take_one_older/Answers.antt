@@ -1,11 +1,12 @@
 use Rattle.std.proofs.Common.{◌<◌, ◌∙◌, length, ap, subst, sym, arith}
 use Rattle.slave.proofs.FairLemmas.{keeps-all}
+use Rattle.slave.proofs.OlderLemmas.{looks-older, older-not}
 use Rattle.slave.proofs.RoundLemmas.{keeps-older}
 use Rattle.slave.proofs.TakingLemmas.{takes-nothing, takes-within, took-older}
 use Rattle.slave.proofs.slave.Slave.take_one_older.Goals as goal
 
 pub returns-then-is_spent : goal.returns-then-is_spent
-returns-then-is_spent g c = record { takes = takes-within g.R.Take.TakeEnd 0 1 c.args.self.now c.args.self.now (omega arith) (takes-nothing g.R.Take.TakeEnd c.args.self.now); keeps = keeps-all c.args.self.now }
+returns-then-is_spent g c = record { takes = takes-within g.R.Take.TakeEnd 0 1 c.args.self.now c.args.self.now (omega arith) (takes-nothing g.R.Take.TakeEnd c.args.self.now); keeps = keeps-all c.args.self.now; looks = older-not g.R.Take.TakeEnd c.args.self.now c.args.c (sym c.is_spent.ensures ∙ c.if-is_spent.true) }
 
 pub returns : goal.returns
 returns g c = record {
@@ -14,5 +15,8 @@ returns g c = record {
       (subst (λ xs. c.args.c < length xs) (sym (ap (λ s. s.channels) c.self.view_is)) c.requires.channel) c.take_from_older-step.ensures.shown_stays c.take_from_older-step.ensures.takes;
   keeps =
       keeps-older g.R.Take.TakeEnd c.args.self.now _ c.take_from_older-step.new.self c.take_from_older-step.new.outbox c.args.c c.acts_of.result c.take_from_older-step.result c.self.view_is
+      (subst (λ xs. c.args.c < length xs) (sym (ap (λ s. s.channels) c.self.view_is)) c.requires.channel) c.take_from_older-step.ensures.takes;
+  looks =
+      looks-older g.R.Take.TakeEnd c.args.self.now _ c.take_from_older-step.new.self c.take_from_older-step.new.outbox c.args.c c.acts_of.result c.take_from_older-step.result c.self.view_is
       (subst (λ xs. c.args.c < length xs) (sym (ap (λ s. s.channels) c.self.view_is)) c.requires.channel) c.take_from_older-step.ensures.takes;
 }
