@@ -12,7 +12,7 @@ use Rattle.a2l.specs.declared.description.Measurement.{Measurement}
 use Rattle.a2l.specs.declared.description.Method.{Method}
 use Rattle.a2l_entries.specs.Gives.{◌>>=◌}
 use Rattle.a2l.specs.Names.{place_of}
-use Rattle.a2l_entries.specs.MeasurementSaid.{Measured}
+use Rattle.a2l_entries.specs.MeasurementSaid.{Measured, operation_of}
 use Rattle.a2l_entries.specs.MethodSaid.{Converted, Formula, identical, linear, rational_of}
 use Rattle.a2l_entries.specs.MethodSaid.{texts_named, other}
 use Rattle.a2l_entries.specs.TableSaid.{Texts, Named, texts_seen}
@@ -107,6 +107,7 @@ value_at order m method address = record {
     data_type = m.data_type;
     order = unwrap_or m.options.order order;
     mask = m.options.mask;
+    operation = operation_of m.options;
   };
   address = address;
   method = method;

@@ -290,6 +290,7 @@ fn measured(
         data_type: block.data_type,
         order: block.options.order.unwrap_or(order),
         mask: block.options.mask,
+        operation: block.options.operation(),
     };
     Ok(Measurement {
         name,

@@ -7,7 +7,7 @@ use Rattle.a2l_words.specs.Tokens.{Token, begin, end, plain, quoted}
 use Rattle.a2l_blocks.specs.Trees.{Elements, none, word, text, block, printed_before, printed, IsWithin}
 use Rattle.a2l_blocks.specs.Roles.{inside, after_plain, after_text, part_of}
 use Rattle.a2l_blocks.specs.Parts.{Section}
-use Rattle.a2l_blocks.specs.Ahead.{Open, in_front, ended, gathered_with, sections_from}
+use Rattle.a2l_blocks.specs.Ahead.{Open, begun_with, in_front, ended, gathered_with, sections_from}
 use Rattle.a2l_blocks.specs.Reading.{ReadsElements, sections_of}
 use Rattle.a2l_blocks.specs.declared.part.Part.{Part}
 use Rattle.a2l_blocks.specs.declared.role.Role.{Role}
@@ -65,12 +65,12 @@ completes (plain b ∷ ws) role os g ss room r e =
 completes (quoted b ∷ ws) role os g ss room r e =
     with_text room (names_of os) b ws (completes ws (after_text role) os (gathered_with role (quoted b) g) ss room r e)
 completes (begin ∷ plain n ∷ ws) role os g ss zero r e =
-    let h = guard (ltb (length os) 64) (sections_from (inside role n) (record { name = n; outer = role } ∷ os) g ws) ss e in
+    let h = guard (ltb (length os) 64) (sections_from (inside role n) (record { name = n; outer = role } ∷ os) (begun_with (inside role n) n g) ws) ss e in
     let no_room : ltb (length os) 64 ≡ false = le-ltb (length os) 64 (omega arith) in
     absurd cc
 completes (begin ∷ plain n ∷ ws) role os g ss (suc room) r e =
-    let h = guard (ltb (length os) 64) (sections_from (inside role n) (record { name = n; outer = role } ∷ os) g ws) ss e in
-    with_block room (names_of os) n ws (completes ws (inside role n) (record { name = n; outer = role } ∷ os) g ss room (omega arith) h.1)
+    let h = guard (ltb (length os) 64) (sections_from (inside role n) (record { name = n; outer = role } ∷ os) (begun_with (inside role n) n g) ws) ss e in
+    with_block room (names_of os) n ws (completes ws (inside role n) (record { name = n; outer = role } ∷ os) (begun_with (inside role n) n g) ss room (omega arith) h.1)
 completes (end ∷ plain n ∷ ws) role (o ∷ os) g ss room r e =
     let h = guard (bytes_eq n o.name) (ended (part_of role) g (sections_from o.outer os [] ws) (sections_from o.outer os g ws)) ss e in
     let same : n ≡ o.name = (bytes_eq-Decides n o.name).0 h.0 in

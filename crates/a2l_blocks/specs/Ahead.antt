@@ -7,7 +7,7 @@ use Rattle.a2l_blocks.specs.Parts.{Section}
 use Rattle.a2l_blocks.specs.declared.part.Part.{Part}
 use Rattle.a2l_blocks.specs.declared.role.Role.{Role}
 use Rattle.a2l_blocks.specs.declared.role.Role.TheVariants.{File, Project, Module, Data, Xcp}
-use Rattle.a2l_blocks.specs.declared.role.Role.TheVariants.{Gathered, Passed}
+use Rattle.a2l_blocks.specs.declared.role.Role.TheVariants.{Gathered, Joined, Passed}
 
 -- an open block: its name, and the role of what it stands in
 pub record Open : Type 0 where
@@ -22,7 +22,20 @@ gathered_with Module w gathered = gathered
 gathered_with Data w gathered = gathered
 gathered_with Xcp w gathered = gathered
 gathered_with (Gathered p) w gathered = gathered ++ w ∷ []
+gathered_with Joined w gathered = gathered ++ w ∷ []
 gathered_with Passed w gathered = gathered
+
+-- the same at the beginning of a block of a role: its name, if its words are gathered with those of
+-- the part that it stands in
+abbrev pub begun_with : Role → List ℕ → List Token → List Token
+begun_with File name gathered = gathered
+begun_with Project name gathered = gathered
+begun_with Module name gathered = gathered
+begun_with Data name gathered = gathered
+begun_with Xcp name gathered = gathered
+begun_with (Gathered p) name gathered = gathered
+begun_with Joined name gathered = gathered ++ plain name ∷ []
+begun_with Passed name gathered = gathered
 
 abbrev pub in_front : List Section → Option (List Section) → Option (List Section)
 in_front sections None = None
@@ -51,7 +64,8 @@ sections_from role os gathered (quoted bytes ∷ words) =
     sections_from (after_text role) os (gathered_with role (quoted bytes) gathered) words
 sections_from role os gathered (begin ∷ plain name ∷ words) =
     if nat_lt (length os) 64
-    then sections_from (inside role name) (record { name = name; outer = role } ∷ os) gathered words
+    then sections_from (inside role name) (record { name = name; outer = role } ∷ os)
+    (begun_with (inside role name) name gathered) words
     else None
 sections_from role (o ∷ os) gathered (end ∷ plain name ∷ words) =
     if bytes_eq name o.name

@@ -4,7 +4,7 @@ use Rattle.a2l_blocks.specs.declared.part.Part.{Part}
 use Rattle.a2l_blocks.specs.declared.part.Part.TheVariants as part
 use Rattle.a2l_blocks.specs.declared.role.Role.{Role}
 use Rattle.a2l_blocks.specs.declared.role.Role.TheVariants.{File, Project, Module, Data, Xcp}
-use Rattle.a2l_blocks.specs.declared.role.Role.TheVariants.{Gathered, Passed}
+use Rattle.a2l_blocks.specs.declared.role.Role.TheVariants.{Gathered, Joined, Passed}
 
 -- a block directly in a MODULE
 abbrev pub module_block : List ℕ → Role
@@ -16,6 +16,17 @@ module_block name =
     else (if bytes_eq name (codes "MOD_COMMON") then Gathered part.Defaults
     else (if bytes_eq name (codes "IF_DATA") then Data else Passed)))))
 
+-- a block directly in a part: a MEASUREMENT has options in BIT_OPERATION
+abbrev pub inside_part : Part → List ℕ → Role
+inside_part part.Defaults name = Passed
+inside_part part.Measurement name =
+    if bytes_eq name (codes "BIT_OPERATION") then Joined else Passed
+inside_part part.Method name = Passed
+inside_part part.Table name = Passed
+inside_part part.Ranges name = Passed
+inside_part part.Timestamp name = Passed
+inside_part part.Module name = Passed
+
 -- a block in a block
 abbrev pub inside : Role → List ℕ → Role
 inside File name = if bytes_eq name (codes "PROJECT") then Project else Passed
@@ -24,7 +35,8 @@ inside Module name = module_block name
 inside Data name = Passed
 inside Xcp name =
     if bytes_eq name (codes "TIMESTAMP_SUPPORTED") then Gathered part.Timestamp else Xcp
-inside (Gathered p) name = Passed
+inside (Gathered p) name = inside_part p name
+inside Joined name = Passed
 inside Passed name = Passed
 
 -- the first word of an IF_DATA says whose it is
@@ -35,6 +47,7 @@ after_plain Module word = Module
 after_plain Data word = if bytes_eq word (codes "XCP") then Xcp else Passed
 after_plain Xcp word = Xcp
 after_plain (Gathered p) word = Gathered p
+after_plain Joined word = Joined
 after_plain Passed word = Passed
 
 abbrev pub after_text : Role → Role
@@ -44,6 +57,7 @@ after_text Module = Module
 after_text Data = Passed
 after_text Xcp = Xcp
 after_text (Gathered p) = Gathered p
+after_text Joined = Joined
 after_text Passed = Passed
 
 -- what a block is, if it is a part
@@ -54,4 +68,5 @@ part_of Module = Some part.Module
 part_of Data = None
 part_of Xcp = None
 part_of (Gathered p) = Some p
+part_of Joined = None
 part_of Passed = None

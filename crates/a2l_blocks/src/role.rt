@@ -1,5 +1,6 @@
 ghost use Rattle.std.specs.Prelude.{◌≡◌, bytes_eq};
-ghost use Rattle.a2l_blocks.specs.Roles.{inside, module_block, after_plain, after_text, part_of};
+ghost use Rattle.a2l_blocks.specs.Roles.{inside, inside_part, module_block, after_plain};
+ghost use Rattle.a2l_blocks.specs.Roles.{after_text, part_of};
 
 use crate::part::Part;
 
@@ -16,6 +17,8 @@ pub enum Role {
     Xcp,
     /// Its words are gathered.
     Gathered(Part),
+    /// Its name and its words are gathered with those of the part that it stands in.
+    Joined,
     /// It is passed over, with all that stands in it.
     Passed,
 }
@@ -38,6 +41,7 @@ impl Role {
             Role::Module => module_block(name),
             Role::Xcp if is(name, "TIMESTAMP_SUPPORTED") => Role::Gathered(Part::Timestamp),
             Role::Xcp => Role::Xcp,
+            Role::Gathered(part) => inside_part(part, name),
             _ => Role::Passed,
         }
     }
@@ -72,6 +76,16 @@ impl Role {
             Role::Gathered(part) => Some(part),
             _ => None,
         }
+    }
+}
+
+/// The role of a block of this name directly in a part.
+fn inside_part(part: Part, name: &[u8]) -> Role
+    ensures { result ≡ inside_part part name.now }
+{
+    match part {
+        Part::Measurement if is(name, "BIT_OPERATION") => Role::Joined,
+        _ => Role::Passed,
     }
 }
 

@@ -15,7 +15,8 @@ mod table_block;
 mod tick_block;
 
 pub use entry_fault::{Awaited, Refused};
-pub use keywords::{MeasurementKeyword, MethodKeyword, MethodKind, default_order};
+pub use keywords::{MeasurementKeyword, MethodKeyword, MethodKind, OperationKeyword};
+pub use keywords::default_order;
 pub use left::Left;
 pub use measurement_block::{MeasurementBlock, measurement_of};
 pub use measurement_options::MeasurementOptions;

@@ -1,18 +1,24 @@
 //! From bytes to a raw value.
-ghost use Rattle.std.specs.Prelude.{◌≡◌, ◌-◌, ◌*◌, ◌<◌, ◌≤◌, ◌^◌, ◌↔◌, IfSome, IsSome, length};
+ghost use Rattle.std.specs.Prelude.{◌≡◌, ◌-◌, ◌*◌, ◌/◌, ◌%◌, ◌<◌, ◌≤◌, ◌^◌, ◌↔◌, IfSome, IsSome};
+ghost use Rattle.std.specs.Prelude.{length};
 ghost use Rattle.measurement.specs.Encodings.{size_of};
 ghost use Rattle.measured_values.specs.Raws.{IsSize, masked, number_of_bytes, raw_in, raw_value};
 ghost use Rattle.measured_values.specs.Raws.{signed_in, twos_complement, unsigned_in};
+ghost use Rattle.measured_values.specs.Raws.{highest_bit, is_signed, keeps_sign, mask_in, moved};
+ghost use Rattle.measured_values.specs.Raws.{operated, operated_in, raw_by, raw_with};
+ghost use Rattle.measured_values.specs.Raws.{sign_extended};
 
 use crate::raw::Raw;
-use measurement::{ByteOrder, DataType, Encoding};
+use measurement::{BitOperation, ByteOrder, DataType, Encoding};
 use std::num::{f32_from_bits_with_nan, f64_from_bits_with_nan};
 
 /// The raw value of bytes; `None` if there are not as many as the data type has.
 ///
-/// A mask takes its bits of an integer, signed or not, and moves the lowest of them to bit 0; the
-/// result is unsigned, and 0 if the mask is. A mask has no effect on a float (ASAM MCD-2 MC,
-/// MEASUREMENT: BIT_MASK, BYTE_ORDER). A NaN's payload isn't kept.
+/// A mask takes its bits of an integer, signed or not, and without an operation moves the lowest of
+/// them to bit 0; the result is unsigned, and 0 if the mask is. With an operation nothing is moved
+/// but as it says, and the result is signed if it extends the sign, or if there is no mask and the
+/// data type is signed. Neither has an effect on a float (ASAM MCD-2 MC, MEASUREMENT: BIT_MASK,
+/// BIT_OPERATION, BYTE_ORDER). A NaN's payload isn't kept.
 pub fn raw_of(encoding: Encoding, bytes: &[u8]) -> Option<Raw>
     ensures size { IsSome result ↔ (length bytes.now ≡ size_of encoding.data_type) }
     ensures value { IfSome result (λ raw. raw ≡ raw_value encoding bytes.now) }
@@ -21,7 +27,7 @@ pub fn raw_of(encoding: Encoding, bytes: &[u8]) -> Option<Raw>
         return None;
     }
     let number = number_in(encoding.order, bytes)?;
-    Some(raw_in(encoding.data_type, encoding.mask, number))
+    Some(raw_by(encoding, number))
 }
 
 /// The unsigned number of 1, 2, 4 or 8 bytes; `None` for another number of them.
@@ -64,6 +70,126 @@ fn number_of_8(order: ByteOrder, bytes: [u8; 8]) -> u64
     match order {
         ByteOrder::MsbLast => u64::from_le_bytes(bytes),
         ByteOrder::MsbFirst => u64::from_be_bytes(bytes),
+    }
+}
+
+/// The raw value of the number that the bytes are.
+fn raw_by(encoding: Encoding, number: u64) -> Raw
+    requires { number < 256 ^ size_of encoding.data_type }
+    ensures { result ≡ raw_by encoding.operation encoding.data_type encoding.mask number }
+{
+    match encoding.operation {
+        Some(operation) => raw_with(operation, encoding.data_type, encoding.mask, number),
+        None => raw_in(encoding.data_type, encoding.mask, number),
+    }
+}
+
+/// The raw value of a number behind an operation.
+fn raw_with(operation: BitOperation, data_type: DataType, mask: Option<u64>, number: u64) -> Raw
+    requires { number < 256 ^ size_of data_type }
+    ensures { result ≡ raw_with operation data_type mask number }
+{
+    match data_type {
+        DataType::Float32 | DataType::Float64 => raw_in(data_type, mask, number),
+        _ => operated_in(operation, data_type, mask, number),
+    }
+}
+
+/// The bits of an integer behind an operation.
+fn operated_in(operation: BitOperation, data_type: DataType, mask: Option<u64>, number: u64) -> Raw
+    ensures { result ≡ operated_in operation data_type mask number }
+{
+    let signed = operation.extends_sign | keeps_sign(data_type, mask);
+    operated(operation, signed, mask_in(data_type, mask), number)
+}
+
+/// The bits that count of a data type.
+fn mask_in(data_type: DataType, mask: Option<u64>) -> u64
+    ensures { result ≡ mask_in data_type mask }
+{
+    let all = u64::MAX >> (64 - 8 * data_type.size());
+    match mask {
+        Some(mask) => mask & all,
+        None => all,
+    }
+}
+
+/// Whether values are signed without an operation that says so.
+fn keeps_sign(data_type: DataType, mask: Option<u64>) -> bool
+    ensures { result ≡ keeps_sign data_type mask }
+{
+    match mask {
+        Some(_) => false,
+        None => is_signed(data_type),
+    }
+}
+
+fn is_signed(data_type: DataType) -> bool
+    ensures { result ≡ is_signed data_type }
+{
+    match data_type {
+        DataType::SByte | DataType::SWord | DataType::SLong | DataType::AInt64 => true,
+        _ => false,
+    }
+}
+
+/// The bits of a number that a mask takes, moved; signed, if that is wanted, by the highest bit of
+/// the mask.
+fn operated(operation: BitOperation, signed: bool, mask: u64, number: u64) -> Raw
+    ensures { result ≡ operated operation signed mask number }
+{
+    let bits = moved(operation, number & mask);
+    if signed {
+        Raw::Signed(sign_extended(highest_bit(moved(operation, mask)), bits))
+    } else {
+        Raw::Unsigned(bits)
+    }
+}
+
+/// Bits moved up, and then down.
+fn moved(operation: BitOperation, number: u64) -> u64
+    ensures { result ≡ moved operation number }
+{
+    moved_down(moved_up(number, operation.left), operation.right)
+}
+
+/// Bits moved up, without those that are moved out of the 64.
+fn moved_up(number: u64, bits: u8) -> u64
+    ensures { result ≡ number * 2 ^ bits % 2 ^ 64 }
+{
+    if bits < 64 { number << bits } else { 0 }
+}
+
+/// Bits moved down.
+fn moved_down(number: u64, bits: u8) -> u64
+    ensures { result ≡ number / 2 ^ bits }
+{
+    if bits < 64 { number >> bits } else { 0 }
+}
+
+/// What the highest bit is worth that is set in a number; of 0 it is 1.
+fn highest_bit(number: u64) -> u64
+    ensures value { result ≡ highest_bit number }
+    ensures some { 0 < result }
+    ensures limit { result ≤ 2 ^ 63 }
+{
+    if number == 0 {
+        return 1;
+    }
+    1 << (63 - number.leading_zeros())
+}
+
+/// The number whose bit that is worth `sign` is copied to all bits above it.
+fn sign_extended(sign: u64, number: u64) -> i64
+    requires some { 0 < sign }
+    requires limit { sign ≤ 2 ^ 63 }
+    ensures { result ≡ sign_extended sign number }
+{
+    let below = number % sign;
+    if number / sign % 2 == 0 {
+        below as i64
+    } else {
+        -1 - ((sign - 1 - below) as i64)
     }
 }
 
