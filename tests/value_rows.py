@@ -246,6 +246,46 @@ RAW = [
     ("A_UINT64", LAST, "0x8000000000000000", "ffffffffffffffff", "1"),
 ]
 
+# A data type, a mask, what BIT_OPERATION says, bytes (MSB_LAST), and what is shown of them: the bits
+# of the mask (B4 under F0 is B0), moved up and then down, and then the sign, from the highest bit of
+# the mask, which was moved with them (B is -5, of four bits). Nothing else is moved.
+OPERATIONS = [
+    ("UBYTE", "0xF0", "RIGHT_SHIFT 4 SIGN_EXTEND", "b4", "-5"),
+    ("UBYTE", "0xF0", "RIGHT_SHIFT 4 SIGN_EXTEND", "7f", "7"),
+    ("UBYTE", "0xF0", "SIGN_EXTEND RIGHT_SHIFT 4", "b4", "-5"),
+    ("UBYTE", "0xF0", "RIGHT_SHIFT 4", "b4", "11"),
+    ("UBYTE", "0xF0", "SIGN_EXTEND", "b4", "-80"),
+    ("UBYTE", "0xF0", "", "b4", "176"),
+    ("UBYTE", "0xF0", "LEFT_SHIFT 0", "b4", "176"),
+    ("UBYTE", "0xF0", None, "b4", "11"),
+    ("UBYTE", None, "LEFT_SHIFT 4", "01", "16"),
+    ("UBYTE", "0x01", "LEFT_SHIFT 4", "01", "16"),
+    ("UBYTE", "0x01", None, "01", "1"),
+    ("UBYTE", None, "LEFT_SHIFT 4", "ff", "4080"),
+    ("UBYTE", None, "LEFT_SHIFT 4 SIGN_EXTEND", "ff", "-16"),
+    ("UBYTE", "0x3c", "LEFT_SHIFT 4 RIGHT_SHIFT 6", "28", "10"),
+    ("UBYTE", "0x3c", "LEFT_SHIFT 4 RIGHT_SHIFT 6 SIGN_EXTEND", "28", "-6"),
+    ("UBYTE", "0x01", "SIGN_EXTEND", "01", "-1"),
+    ("UBYTE", "0xF0", "RIGHT_SHIFT 8 SIGN_EXTEND", "b4", "0"),
+    ("SBYTE", "0xF0", "RIGHT_SHIFT 4", "b4", "11"),
+    ("SBYTE", None, "RIGHT_SHIFT 4", "b4", "-5"),
+    ("SBYTE", None, "", "b4", "-76"),
+    ("SBYTE", "0xffffffff", "SIGN_EXTEND", "b4", "-76"),
+    ("UWORD", "0x0FF0", "RIGHT_SHIFT 4 SIGN_EXTEND", "507f", "-11"),
+    ("UWORD", None, "SIGN_EXTEND", "feff", "-2"),
+    ("ULONG", None, "SIGN_EXTEND", "00000080", "-2147483648"),
+    ("A_UINT64", None, "SIGN_EXTEND", "ffffffffffffffff", "-1"),
+    ("A_UINT64", "0x8000000000000000", "SIGN_EXTEND RIGHT_SHIFT 63", "ffffffffffffffff", "-1"),
+    ("A_UINT64", None, "LEFT_SHIFT 63", "0300000000000000", "9223372036854775808"),
+    ("A_UINT64", None, "LEFT_SHIFT 60 RIGHT_SHIFT 60", "fa00000000000000", "10"),
+    ("FLOAT32_IEEE", "0xF0", "RIGHT_SHIFT 4 SIGN_EXTEND", "0000c03f", "1.5"),
+    ("FLOAT64_IEEE", None, "LEFT_SHIFT 1", "000000000000f83f", "1.5"),
+]
+
+# Bits of a shift: what is no number of them.
+SHIFT = "expected a shift by 0 to 63 bits"
+SHIFTS = [("64", SHIFT), ("18446744073709551615", SHIFT), ("-1", INTEGER), ("x", INTEGER)]
+
 # A method, a data type, bytes (MSB_LAST), and what is shown of them. Of a raw value n: LINEAR is
 # n / 2 - 40, RATIONAL the x for which (2 x + 10) / 4 is n; of ranges that overlap the first counts.
 LINEAR = 'LINEAR "" "" COEFFS_LINEAR 0.5 -40'
@@ -263,6 +303,19 @@ PHYSICAL = [
     (LINEAR, "FLOAT32_IEEE", struct.pack("<f", 0.25), "-39.875"),
     (RATIONAL, "UBYTE", bytes([3]), "1.0"),
     (RATIONAL, "FLOAT64_IEEE", struct.pack("<d", -2.5), "-10.0"),
+    # of a FLOAT32_IEEE the shortest decimal, with any method that leaves it one: 0.1 has the bits
+    # 3dcccccd, and is 0.100000001490116..
+    ('IDENTICAL "" ""', "FLOAT32_IEEE", bytes.fromhex("cdcccc3d"), "0.1"),
+    ('LINEAR "" "" COEFFS_LINEAR 1 0', "FLOAT32_IEEE", bytes.fromhex("cdcccc3d"), "0.1"),
+    ('LINEAR "" "" COEFFS_LINEAR -2 0', "FLOAT32_IEEE", bytes.fromhex("cdcccc3d"), "-0.2"),
+    ('RAT_FUNC "" "" COEFFS 0 1 0 0 0 1', "FLOAT32_IEEE", bytes.fromhex("cdcccc3d"), "0.1"),
+    ('LINEAR "" "" COEFFS_LINEAR 1 0', "FLOAT32_IEEE", bytes.fromhex("0000c07f"), "NaN"),
+    ('LINEAR "" "" COEFFS_LINEAR 1 0', "FLOAT32_IEEE", bytes.fromhex("000080ff"), "-inf"),
+    # 16777216 and 1: no float of 32 bits has their sum
+    ('LINEAR "" "" COEFFS_LINEAR 1 1', "FLOAT32_IEEE", bytes.fromhex("0000804b"), "16777217.0"),
+    # a float of 64 bits is written as one: the same number is another one there
+    ('LINEAR "" "" COEFFS_LINEAR 1 0', "FLOAT64_IEEE", bytes.fromhex("000000a09999b93f"),
+     "0.10000000149011612"),
     (TEXT, "UBYTE", bytes([0]), "off"),
     (TEXT, "SBYTE", bytes([4]), "low"),
     (TEXT, "UBYTE", bytes([7]), "high, by far"),
@@ -347,6 +400,14 @@ EXAMPLE_ROWS = [
 # -0 and 0 is the least one.
 NOTED = [float("nan"), 2.5, -0.0, 0.0, 4.0, 0.5]
 NOTED_LINE = ["6", "-0", "4", "1.4", "a"]
+
+# Singles, and their line of the table: the mean of 0.1, 0.1 and 0.1 is 0.1; that of 0.1 and 0.3 is
+# (0.100000001490116.. + 0.300000011920928..) / 2, which no float of 32 bits has.
+SINGLES = [
+    ([0.1, 0.1, 0.1], ["3", "0.1", "0.1", "0.1", "a"]),
+    ([0.1, 0.3], ["2", "0.1", "0.3", "0.20000000670552254", "a"]),
+    ([1.0, 16777216.0], ["2", "1", "16777216", "8388608.5", "a"]),
+]
 
 # A picture of three measurements, the place of each in memory and of its samples the list, the
 # ticks, the value, and whether samples were dropped before it. The 2 s are 720 units wide, so 0.1 s
@@ -467,6 +528,22 @@ def check(tell, reader, recorder, room):
         blocks = measurement(data_type, options)
         row(f"{data} as {data_type}, {options}", in_module(blocks), {"a": shown},
             bytes.fromhex(data))
+    for data_type, mask, operation, data, shown in OPERATIONS:
+        options = f"BIT_MASK {mask} " if mask else ""
+        if operation is not None:
+            options += f"/begin BIT_OPERATION {operation} /end BIT_OPERATION"
+        row(f"{data} as {data_type}, {options}", in_module(measurement(data_type, options)),
+            {"a": shown}, bytes.fromhex(data))
+    for side in "LEFT", "RIGHT":
+        for word, said in SHIFTS:
+            blocks = measurement("UBYTE", f"/begin BIT_OPERATION {side}_SHIFT {word} "
+                                          "/end BIT_OPERATION")
+            row(f"{side}_SHIFT {word}", in_module(blocks),
+                f"line 2, column {len(side) + 97}: {said}")
+    row("a shift without its number",
+        in_module('/begin MEASUREMENT a "" UBYTE NO_COMPU_METHOD 0 0 0 1 /begin BIT_OPERATION '
+                  "LEFT_SHIFT /end BIT_OPERATION /end MEASUREMENT"),
+        "line 2, column 106: expected a shift by 0 to 63 bits")
     for words, data_type, data, shown in PHYSICAL:
         blocks = TABLES + method(words) + measurement(data_type, method="m")
         head = "a [raw]" if words.startswith("FORM") else "a"
@@ -494,6 +571,15 @@ def check(tell, reader, recorder, room):
     lines = [line.split() for line in text.splitlines()[1:]]
     holds = (lines, said, status) == ([NOTED_LINE], "", 0)
     tell("six values in the table, of which one is no number", holds, text + said)
+
+    for values, wanted in SINGLES:
+        for words in 'IDENTICAL "" ""', 'LINEAR "" "" COEFFS_LINEAR 1 0':
+            one.write([(0, at, struct.pack("<f", value), False) for at, value in enumerate(values)])
+            blocks = method(words) + measurement("FLOAT32_IEEE", method="m")
+            text, said, status = read(one, in_module(blocks), "--summary")
+            lines = [line.split() for line in text.splitlines()[1:]]
+            tell(f"{values} as FLOAT32_IEEE in the table, {words}",
+                 (lines, said, status) == ([wanted], "", 0), text + said)
 
     three.write([(of, at, struct.pack("<d", value), lost) for of, at, value, lost in CURVE_SAMPLES])
     text, said, status = read(three, in_module(CURVES), "--svg", "--tick=0.001")
