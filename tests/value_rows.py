@@ -31,10 +31,22 @@ def method(words):
 NONE = "no such measurement in the recording"
 BYTES = bytes(range(100, 107)) + bytes([0x00, 0x00, 0xC0, 0x3F]) + bytes(range(111, 140))
 
+# What a file is that is no text.
+EMPTY = "bad a2l: the file is empty"
+UTF_16 = "bad a2l: the file is in UTF-16: write it in UTF-8 or ISO 8859-1"
+ZERO = "bad a2l: the file is no text: it has a byte 0"
+
 # A whole text.
 TEXTS = [
     # nothing; blanks; the mark of UTF-8
-    ("an empty text", "", NONE),
+    ("an empty file", "", EMPTY),
+    ("nothing but the mark of UTF-16", "\xff\xfe", UTF_16),
+    ("a text in UTF-16, MSB last", "\xff\xfe/\0b\0e\0g\0i\0n\0", UTF_16),
+    ("a text in UTF-16, MSB first", "\xfe\xff\0/\0b\0e\0g\0i\0n", UTF_16),
+    ("a text in UTF-16 without its mark", "/\0b\0e\0g\0i\0n\0", ZERO),
+    ("a program", "\x7fELF\x02\x01\x01\0\0\0\0\0\0\0\0\0\x03\0>\0", ZERO),
+    ("a byte 0 at the end of a whole text", in_module(measurement("UBYTE")) + "\0", ZERO),
+    ("a letter of ISO 8859-1 in front", "\xff " + in_module(measurement("UBYTE")), {"a": "100"}),
     ("each kind of blank", " \t\r\n\x0b\x0c", NONE),
     ("where blanks end", "/begin A \t\r\n\x0b\x0c", "line 2, column 3: expected /end A"),
     ("the mark of UTF-8 alone", "\xef\xbb\xbf", NONE),
@@ -141,6 +153,15 @@ MODULES = [
     ("a block with its name in quotes", '/begin "A"',
      "line 2, column 8: expected the name of a block"),
     ("another file", '/include "b.a2l"', "line 2, column 1: /include is not supported"),
+    ("another file in A2ML is passed over, in quotes or not",
+     '/begin A2ML /include "b.aml" block "IF_DATA" struct { /include c.aml /begin X /include d '
+     "/end X }; /end A2ML " + measurement("UBYTE"), {"a": "100"}),
+    ("another file behind A2ML", "/begin A2ML /include a /end A2ML /include b",
+     "line 2, column 34: /include is not supported"),
+    ("another file in a block named A2ML in another one",
+     "/begin B /begin A2ML /include a /end A2ML /end B",
+     "line 2, column 22: /include is not supported"),
+    ("A2ML without its end", "/begin A2ML /include a", "line 3, column 6: expected /end A2ML"),
     ("a comment without an end, in a block", "/begin A /* x",
      "line 2, column 10: the comment has no end"),
     ("a text without an end, in a MODULE", '"x', "line 2, column 1: the text has no closing quote"),
@@ -168,6 +189,19 @@ MODULES = [
     ("a word with a backslash at its end", measurement("UBYTE", name="\\n\\t\\x\\"),
      {"\n\t\\x\\": "100"}),
 ]
+
+# Of seven, one is shown: the others lie partly or wholly behind the 40 bytes of the list's entry,
+# or in another memory, are more than one value, are computed, or are an instance of a type.
+HIDDEN = (measurement("UBYTE", name="shown", address=1)
+          + measurement("UBYTE", "ECU_ADDRESS_EXTENSION 1", name="extended")
+          + measurement("UWORD", name="split", address=39)
+          + '/begin INSTANCE pump "A pump" t 0x10 /end INSTANCE\n'
+          + measurement("UBYTE", name="far", address="0x70000000")
+          + measurement("UBYTE", "ARRAY_SIZE 2", name="array")
+          + '/begin MEASUREMENT computed "" UBYTE NO_COMPU_METHOD 0 0 0 1 /begin VIRTUAL shown '
+          "/end VIRTUAL /end MEASUREMENT\n")
+HIDDEN_LINE = "xcpread: not shown of the a2l: 6 of 7 measurements and instances\n"
+HIDDEN_NAMES = ["split", "far", "extended", "pump", "array", "computed"]
 
 # A mask, and what is shown under it of 64 bits that are all set: itself if it is odd.
 INTEGER = "expected a whole number that is not negative"
@@ -232,6 +266,23 @@ RAW = [
     ("A_UINT64", LAST, None, "0100000000002000", "9007199254740993"),
     ("A_INT64", LAST, None, "ffffffffffffffff", "-1"),
     ("A_INT64", FIRST, None, "8000000000000000", "-9223372036854775808"),
+    # sign, 5 bits of exponent, whose bias is 15, and 10 of fraction: 65504 is (2 - 2^-10) 2^15, the
+    # greatest one, 2^-24 the least one above 0, and 3ff the greatest one without a hidden bit
+    ("FLOAT16_IEEE", LAST, None, "003c", "1.0"),
+    ("FLOAT16_IEEE", FIRST, None, "3c00", "1.0"),
+    ("FLOAT16_IEEE", FIRST, None, "c000", "-2.0"),
+    ("FLOAT16_IEEE", FIRST, None, "3555", "0.333251953125"),
+    ("FLOAT16_IEEE", FIRST, None, "7bff", "65504.0"),
+    ("FLOAT16_IEEE", FIRST, None, "0001", "5.960464477539063e-8"),
+    ("FLOAT16_IEEE", FIRST, None, "83ff", "-0.00006097555160522461"),
+    ("FLOAT16_IEEE", FIRST, None, "0400", "0.00006103515625"),
+    ("FLOAT16_IEEE", FIRST, None, "0000", "0.0"),
+    ("FLOAT16_IEEE", FIRST, None, "8000", "-0.0"),
+    ("FLOAT16_IEEE", FIRST, None, "7c00", "inf"),
+    ("FLOAT16_IEEE", FIRST, None, "fc00", "-inf"),
+    ("FLOAT16_IEEE", FIRST, None, "7e00", "NaN"),
+    ("FLOAT16_IEEE", FIRST, None, "fc01", "NaN"),
+    ("FLOAT16_IEEE", FIRST, "1", "3c00", "1.0"),
     ("FLOAT32_IEEE", LAST, None, "0000c03f", "1.5"),
     ("FLOAT32_IEEE", FIRST, None, "3dcccccd", "0.1"),
     ("FLOAT32_IEEE", LAST, None, "0100c07f", "NaN"),
@@ -246,9 +297,9 @@ RAW = [
     ("A_UINT64", LAST, "0x8000000000000000", "ffffffffffffffff", "1"),
 ]
 
-# A data type, a mask, what BIT_OPERATION says, bytes (MSB_LAST), and what is shown of them: the bits
-# of the mask (B4 under F0 is B0), moved up and then down, and then the sign, from the highest bit of
-# the mask, which was moved with them (B is -5, of four bits). Nothing else is moved.
+# A data type, a mask, what BIT_OPERATION says, bytes (MSB_LAST), and what is shown of them: the
+# bits of the mask (B4 under F0 is B0), moved up and then down, and then the sign, from the highest
+# bit of the mask, which was moved with them (B is -5, of four bits). Nothing else is moved.
 OPERATIONS = [
     ("UBYTE", "0xF0", "RIGHT_SHIFT 4 SIGN_EXTEND", "b4", "-5"),
     ("UBYTE", "0xF0", "RIGHT_SHIFT 4 SIGN_EXTEND", "7f", "7"),
@@ -301,6 +352,7 @@ PHYSICAL = [
     (LINEAR, "UBYTE", bytes([100]), "10.0"),
     (LINEAR, "SBYTE", bytes([256 - 100]), "-90.0"),
     (LINEAR, "FLOAT32_IEEE", struct.pack("<f", 0.25), "-39.875"),
+    (LINEAR, "FLOAT16_IEEE", bytes([0x00, 0x34]), "-39.875"),
     (RATIONAL, "UBYTE", bytes([3]), "1.0"),
     (RATIONAL, "FLOAT64_IEEE", struct.pack("<d", -2.5), "-10.0"),
     # of a FLOAT32_IEEE the shortest decimal, with any method that leaves it one: 0.1 has the bits
@@ -499,7 +551,7 @@ def check(tell, reader, recorder, room):
             shown = [each[3:] for each in csv.reader(io.StringIO(text, newline=""))]
             holds = (said, status, shown) == ("", 0, [[*wanted], [*wanted.values()]])
         else:
-            line = wanted if wanted == NONE else f"bad a2l: {wanted}"
+            line = wanted if wanted in (NONE, EMPTY, UTF_16, ZERO) else f"bad a2l: {wanted}"
             holds = (text, said, status) == ("", f"xcpread: {line}\n", 2)
         tell(name, holds, text + said)
 
@@ -565,6 +617,25 @@ def check(tell, reader, recorder, room):
     shown = [*csv.reader(io.StringIO(text, newline=""))]
     wanted = [EXAMPLE_HEADS, *(values for _, _, values in EXAMPLE_ROWS)]
     tell("a whole file", (shown, said, status) == (wanted, "", 0), text + said)
+
+    one.write([(0, 0, BYTES, False)])
+    text, said, status = read(one, in_module(HIDDEN), "--csv")
+    tell("what isn't shown is counted", (text.splitlines()[0], said, status)
+         == ("time [ticks],list,overload,shown", HIDDEN_LINE, 0), text + said)
+    tell("and with a picture too", read(one, in_module(HIDDEN), "--svg")[1:] == (HIDDEN_LINE, 0))
+    text, said, status = read(one, in_module(HIDDEN))
+    wanted = HIDDEN_LINE + "".join(f"xcpread: not shown: {name}\n" for name in HIDDEN_NAMES)
+    tell("with the table it is named", (said, status) == (wanted, 0), text + said)
+    tell("unless some are chosen", read(one, in_module(HIDDEN), "--only=shown")[1:] == ("", 0))
+    three.write([(0, 0, bytes(8), False)])
+    a2l = in_module(measurement("UWORD", name="a", address=6)
+                    + measurement("UWORD", name="b", address=7))
+    tell("a value of bytes in two entries isn't shown", read(three, a2l)[1:]
+         == ("xcpread: not shown of the a2l: 1 of 2 measurements and instances\n"
+             "xcpread: not shown: b\n", 0))
+    row("an INSTANCE alone", in_module('/begin INSTANCE a "" t 0 /end INSTANCE'), NONE)
+    row("an INSTANCE without a name", in_module('/begin INSTANCE "a" "" t 0 /end INSTANCE'),
+        "line 2, column 17: expected a name")
 
     one.write([(0, at, struct.pack("<d", value), False) for at, value in enumerate(NOTED)])
     text, said, status = read(one, in_module(measurement("FLOAT64_IEEE")), "--summary")

@@ -1,6 +1,6 @@
 -- What a MODULE says, each name replaced by what it names.
 use Rattle.std.specs.Prelude.{ℕ, ◌+◌, Bool, List, [], ◌∷◌, ◌++◌, map, slice_get, Option, Some, None}
-use Rattle.std.specs.Prelude.{if◌then◌else◌, string_bytes}
+use Rattle.std.specs.Prelude.{if◌then◌else◌, is_some, string_bytes}
 use Rattle.std.specs.Option.{option_map, option_and_then, option_to_list, unwrap_or}
 use Rattle.std.specs.Float.Ieee.{Float}
 use Rattle.measurement.specs.declared.byte_order.ByteOrder.{ByteOrder}
@@ -99,6 +99,10 @@ method_place before place (Some name) = option_map (λ k. Some (before + k)) (pl
 -- the address of a measurement that is kept
 abbrev pub kept_address : Measured → Option ℕ
 kept_address m = if m.options.apart then None else m.options.address
+
+-- the name of a measurement that isn't kept
+abbrev pub name_if_left : Measured → List (List ℕ)
+name_if_left m = if is_some (kept_address m) then [] else m.name ∷ []
 
 abbrev pub value_at : ByteOrder → Measured → Option ℕ → ℕ → Value
 value_at order m method address = record {

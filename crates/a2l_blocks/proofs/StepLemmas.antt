@@ -12,7 +12,7 @@ use Rattle.a2l_words.specs.Faults.{Stalls}
 use Rattle.a2l_words.specs.declared.fault.WordFault.{WordFault}
 use Rattle.a2l_words.specs.declared.word.Word.{Word}
 use Rattle.a2l_words.proofs.LawLemmas.{one_word_is_next, no_word_at_the_end, no_word_at_a_fault, no_end_at_a_fault}
-use Rattle.a2l_blocks.specs.Roles.{inside, after_plain, after_text, part_of}
+use Rattle.a2l_blocks.specs.Roles.{inside, after_plain, after_text, may_include, part_of}
 use Rattle.a2l_blocks.specs.Parts.{Section}
 use Rattle.a2l_blocks.specs.Ahead.{Open, begun_with, ended, gathered_with, sections_from}
 use Rattle.a2l_blocks.specs.Steps.{State, plain_bytes, WordIs, TakesWord, HasNoMore, Reaches, ReachesPart, Ends, StepIs, StopsAt, UnlessMemory, HasNoWords, HasNoName, coming, coming_behind}
@@ -225,9 +225,16 @@ stray_end role g old new n takes words a =
     let t = takes.there words a in
     ap (λ (x : List Token). sections_from role [] g (end ∷ x)) t.1 ∙ stray role g n t.0
 
-pub included : (role : Role) (os : List Open) (g words : List Token) → sections_from role os g (include ∷ words) ≡ None
+pub included : (role : Role) (os : List Open) (g words : List Token) → may_include role ≡ false → sections_from role os g (include ∷ words) ≡ None
 unfolding sections_from
-included role os g words = refl
+included role os g words e = rw e refl
+
+pub include_step : (s : State) → may_include s.role ≡ true → Reaches s.ahead (λ words. sections_from s.role s.around s.gathered (include ∷ words)) s
+unfolding sections_from
+include_step s e = record {
+  there = λ words a. (words, a, rw e refl);
+  back = λ rest a. (rest, a);
+}
 
 -- no name stands behind /begin or /end
 nameless_begin : (role : Role) (os : List Open) (g : List Token) (old : List ℕ) (words : List Token) → ((name : List ℕ) (others : List Token) → words ≡ plain name ∷ others → ⊥)

@@ -1,13 +1,13 @@
 -- The parts that the words ahead make, where some blocks are open.
 use Rattle.std.specs.Prelude.{ℕ, List, [], ◌∷◌, ◌++◌, length, bytes_eq, nat_lt, Option, Some, None}
 use Rattle.std.specs.Prelude.{if◌then◌else◌}
-use Rattle.a2l_words.specs.Tokens.{Token, begin, end, plain, quoted}
-use Rattle.a2l_blocks.specs.Roles.{inside, after_plain, after_text, part_of}
+use Rattle.a2l_words.specs.Tokens.{Token, begin, end, include, plain, quoted}
+use Rattle.a2l_blocks.specs.Roles.{inside, after_plain, after_text, may_include, part_of}
 use Rattle.a2l_blocks.specs.Parts.{Section}
 use Rattle.a2l_blocks.specs.declared.part.Part.{Part}
 use Rattle.a2l_blocks.specs.declared.role.Role.{Role}
 use Rattle.a2l_blocks.specs.declared.role.Role.TheVariants.{File, Project, Module, Data, Xcp}
-use Rattle.a2l_blocks.specs.declared.role.Role.TheVariants.{Gathered, Joined, Passed}
+use Rattle.a2l_blocks.specs.declared.role.Role.TheVariants.{Gathered, Grammar, Joined, Passed}
 
 -- an open block: its name, and the role of what it stands in
 pub record Open : Type 0 where
@@ -23,6 +23,7 @@ gathered_with Data w gathered = gathered
 gathered_with Xcp w gathered = gathered
 gathered_with (Gathered p) w gathered = gathered ++ w ∷ []
 gathered_with Joined w gathered = gathered ++ w ∷ []
+gathered_with Grammar w gathered = gathered
 gathered_with Passed w gathered = gathered
 
 -- the same at the beginning of a block of a role: its name, if its words are gathered with those of
@@ -35,6 +36,7 @@ begun_with Data name gathered = gathered
 begun_with Xcp name gathered = gathered
 begun_with (Gathered p) name gathered = gathered
 begun_with Joined name gathered = gathered ++ plain name ∷ []
+begun_with Grammar name gathered = gathered
 begun_with Passed name gathered = gathered
 
 abbrev pub in_front : List Section → Option (List Section) → Option (List Section)
@@ -62,6 +64,8 @@ sections_from role os gathered (plain bytes ∷ words) =
     sections_from (after_plain role bytes) os (gathered_with role (plain bytes) gathered) words
 sections_from role os gathered (quoted bytes ∷ words) =
     sections_from (after_text role) os (gathered_with role (quoted bytes) gathered) words
+sections_from role os gathered (include ∷ words) =
+    if may_include role then sections_from role os gathered words else None
 sections_from role os gathered (begin ∷ plain name ∷ words) =
     if nat_lt (length os) 64
     then sections_from (inside role name) (record { name = name; outer = role } ∷ os)

@@ -1,13 +1,13 @@
 -- The parts of an A2L file that say what is measured.
 use Rattle.std.specs.Prelude.{ℕ, List, [], ◌∷◌, ◌++◌}
 use Rattle.a2l_words.specs.Tokens.{Token, plain, quoted}
-use Rattle.a2l_blocks.specs.Trees.{Elements, none, word, text, block, direct}
+use Rattle.a2l_blocks.specs.Trees.{Elements, none, word, text, include, block, direct}
 use Rattle.a2l_blocks.specs.Roles.{inside, after_plain, after_text}
 use Rattle.a2l_blocks.specs.declared.part.Part.{Part}
 use Rattle.a2l_blocks.specs.declared.part.Part.TheVariants as part
 use Rattle.a2l_blocks.specs.declared.role.Role.{Role}
 use Rattle.a2l_blocks.specs.declared.role.Role.TheVariants.{File, Project, Module, Data, Xcp}
-use Rattle.a2l_blocks.specs.declared.role.Role.TheVariants.{Gathered, Joined, Passed}
+use Rattle.a2l_blocks.specs.declared.role.Role.TheVariants.{Gathered, Grammar, Joined, Passed}
 
 -- a part, and the words directly in it; behind its name those of each block that has options of it
 pub record Section : Type 0 where
@@ -23,6 +23,7 @@ joined Data name words = []
 joined Xcp name words = []
 joined (Gathered p) name words = []
 joined Joined name words = plain name ∷ words
+joined Grammar name words = []
 joined Passed name words = []
 
 -- the words of a block of a role
@@ -30,6 +31,7 @@ abbrev pub words_in : Role → Elements → List Token
 words_in role none = []
 words_in role (word bytes others) = plain bytes ∷ words_in role others
 words_in role (text bytes others) = quoted bytes ∷ words_in role others
+words_in role (include others) = words_in role others
 words_in role (block name inner others) =
     joined (inside role name) name (direct inner) ++ words_in role others
 
@@ -42,6 +44,7 @@ whole Data words inner = inner
 whole Xcp words inner = inner
 whole (Gathered p) words inner = record { part = p; words = words } ∷ []
 whole Joined words inner = []
+whole Grammar words inner = []
 whole Passed words inner = []
 
 -- the parts among the elements of a block of a role, in their order
@@ -49,6 +52,7 @@ abbrev pub parts : Role → Elements → List Section
 parts role none = []
 parts role (word bytes others) = parts (after_plain role bytes) others
 parts role (text bytes others) = parts (after_text role) others
+parts role (include others) = parts role others
 parts role (block name inner others) =
     whole (inside role name) (words_in (inside role name) inner) (parts (inside role name) inner)
     ++ parts role others

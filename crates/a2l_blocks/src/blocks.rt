@@ -2,7 +2,7 @@ ghost use Rattle.std.specs.Prelude.{◌≡◌, bytes_eq, ◌<◌, ◌≤◌, [],
 ghost use Rattle.std.specs.Prelude.{IfOk, OnOk, IfErr, IsSome};
 ghost use Rattle.a2l_words.specs.Words.{without_mark};
 ghost use Rattle.a2l_words.specs.TokenOf.{token_of};
-ghost use Rattle.a2l_words.specs.Tokens.{begin, end};
+ghost use Rattle.a2l_words.specs.Tokens.{begin, end, include};
 ghost use Rattle.a2l_words.specs.State.{rest_of};
 ghost use Rattle.a2l_blocks.specs.Ahead.{begun_with, gathered_with};
 ghost use Rattle.a2l_blocks.specs.Steps.{WordIs, NameIs, HasNoWords, HasNoName, plain_bytes};
@@ -116,7 +116,7 @@ impl<'a> Blocks<'a> {
                 Ok(None)
             }
             Word::End => self.end(),
-            Word::Include => Err(BlockFault::Include),
+            Word::Include => self.include(),
             Word::Plain(bytes) => {
                 gather(self.role, &mut self.gathered, Located { word, at })?;
                 self.role = self.role.after_plain(bytes);
@@ -128,6 +128,21 @@ impl<'a> Blocks<'a> {
                 Ok(None)
             }
         }
+    }
+
+    /// Passes over the `/include` that was read last, if it may stand there.
+    fn include(&mut self) -> Result<Option<Part>, BlockFault>
+        ensures ok { IfOk result (λ part. StepIs part (rest_of self.old.words)
+            (coming_behind include (state_of self.old)) (state_of self.new)) }
+        ensures no_longer { OnOk result
+            (length (rest_of self.new.words) ≤ length (rest_of self.old.words)) }
+        ensures err { IfErr result (λ fault. StopsAt fault (rest_of self.old.words)
+            (coming_behind include (state_of self.old))) }
+    {
+        if self.role.may_include() {
+            return Ok(None);
+        }
+        Err(BlockFault::Include)
     }
 
     /// Opens the block whose `/begin` is the word that was read last.

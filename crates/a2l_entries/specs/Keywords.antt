@@ -122,9 +122,10 @@ data_type_of word =
     else (if bytes_eq word (codes "SLONG") then Some data_type.SLong
     else (if bytes_eq word (codes "A_UINT64") then Some data_type.AUint64
     else (if bytes_eq word (codes "A_INT64") then Some data_type.AInt64
+    else (if bytes_eq word (codes "FLOAT16_IEEE") then Some data_type.Float16
     else (if bytes_eq word (codes "FLOAT32_IEEE") then Some data_type.Float32
     else (if bytes_eq word (codes "FLOAT64_IEEE") then Some data_type.Float64
-    else None)))))))))
+    else None))))))))))
 
 unfoldable pub data_type_said : Token → Option DataType
 data_type_said w = plain_said w >>= data_type_of

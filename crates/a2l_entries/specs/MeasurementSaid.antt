@@ -205,6 +205,12 @@ method_first ws = do
   method ← method_named first.0
   Some (method, first.1)
 
+-- the name of an INSTANCE
+unfoldable pub instance_said : List Token → Option (List ℕ)
+instance_said ws = do
+  name ← name_first ws
+  Some name.0
+
 -- behind the resolution, the accuracy and the two limits
 unfoldable pub behind_limits : List Token → Option (List Token)
 behind_limits ws = do

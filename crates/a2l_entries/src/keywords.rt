@@ -308,6 +308,9 @@ fn data_type_of(bytes: &[u8]) -> Option<DataType>
     if is(bytes, "A_INT64") {
         return Some(DataType::AInt64);
     }
+    if is(bytes, "FLOAT16_IEEE") {
+        return Some(DataType::Float16);
+    }
     if is(bytes, "FLOAT32_IEEE") {
         return Some(DataType::Float32);
     }

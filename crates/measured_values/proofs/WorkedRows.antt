@@ -4,7 +4,7 @@ use Rattle.std.specs.Prelude.{bit_and}
 use Rattle.measurement.specs.declared.bit_operation.BitOperation.{BitOperation}
 use Rattle.measurement.specs.declared.byte_order.ByteOrder.TheVariants.{MsbFirst, MsbLast}
 use Rattle.measured_values.specs.Decimals.{placed}
-use Rattle.measured_values.specs.Raws.{highest_bit, masked, moved, number_of_bytes, sign_extended}
+use Rattle.measured_values.specs.Raws.{half_exponent, half_fraction, half_units, highest_bit, masked, moved, number_of_bytes, sign_extended}
 use Rattle.measured_values.specs.Raws.{twos_complement}
 
 intel_word : number_of_bytes MsbLast 2 (0x34 ∷ 0x12 ∷ []) ≡ 0x1234
@@ -58,3 +58,14 @@ sixteen = refl
 highest_of_fifteen : highest_bit 0xf ≡ 8
 unfolding lib.Count.count_leading_zeros
 highest_of_fifteen = refl
+
+-- floats of 16 bits, in units of 2 ^ -24: 1 is 3C00, the least one above 0 is 0001, and the greatest
+-- one 7BFF, which is 65504
+half_of_one : half_units (half_exponent 0x3c00) (half_fraction 0x3c00) ≡ 16777216
+half_of_one = refl
+
+least_half : half_units (half_exponent 1) (half_fraction 1) ≡ 1
+least_half = refl
+
+greatest_half : half_units (half_exponent 0x7bff) (half_fraction 0x7bff) ≡ 65504 * 16777216
+greatest_half = refl

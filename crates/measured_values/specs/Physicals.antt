@@ -71,6 +71,7 @@ written type.ULong x = Double x
 written type.SLong x = Double x
 written type.AUint64 x = Double x
 written type.AInt64 x = Double x
+written type.Float16 x = Double x
 written type.Float32 x = narrowed x
 written type.Float64 x = Double x
 

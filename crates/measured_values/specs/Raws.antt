@@ -1,18 +1,19 @@
 -- The raw value of bytes, and the number of a raw value (ASAM MCD-2 MC, MEASUREMENT: data types,
 -- BYTE_ORDER, BIT_MASK and BIT_OPERATION).
-use Rattle.std.specs.Prelude.{◌≡◌, ◌⊎◌, ◌==◌, ℕ, ◌-◌, ◌*◌, ◌/◌, ◌%◌, ◌^◌, ℤ, pos, ◌-ℤ◌, nat_lt}
+use Rattle.std.specs.Prelude.{◌≡◌, ◌⊎◌, ◌==◌, ℕ, ◌+◌, ◌-◌, ◌*◌, ◌/◌, ◌%◌, ◌^◌, ℤ, pos, ◌-ℤ◌}
 use Rattle.std.specs.Prelude.{if◌then◌else◌, bit_and, from_bits, Option, Some, None, List}
-use Rattle.std.specs.Prelude.{slice_index, Bool, true, false, ◌&&◌, ◌||◌}
+use Rattle.std.specs.Prelude.{slice_index, nat_lt, Bool, true, false, ◌||◌}
 use Rattle.std.specs.Int.{leading_zeros, sum_through, trailing_zeros, w64}
-use Rattle.std.specs.Float.{Float, binary32, binary64}
-use Rattle.std.specs.Float.Ieee.{of_int}
+use Rattle.std.specs.Float.{Float, binary32, binary64, inf, nan}
+use Rattle.std.specs.Float.Ieee.{div, neg, of_int}
 use Rattle.measurement.specs.Encodings.{size_of}
 use Rattle.measurement.specs.declared.bit_operation.BitOperation.{BitOperation}
 use Rattle.measurement.specs.declared.byte_order.ByteOrder.{ByteOrder}
 use Rattle.measurement.specs.declared.byte_order.ByteOrder.TheVariants.{MsbFirst, MsbLast}
 use Rattle.measurement.specs.declared.data_type.DataType.{DataType}
-use Rattle.measurement.specs.declared.data_type.DataType.TheVariants.{AInt64, AUint64, Float32}
-use Rattle.measurement.specs.declared.data_type.DataType.TheVariants.{Float64, SByte, SLong, SWord}
+use Rattle.measurement.specs.declared.data_type.DataType.TheVariants.{AInt64, AUint64, Float16}
+use Rattle.measurement.specs.declared.data_type.DataType.TheVariants.{Float32, Float64, SByte}
+use Rattle.measurement.specs.declared.data_type.DataType.TheVariants.{SLong, SWord}
 use Rattle.measurement.specs.declared.data_type.DataType.TheVariants.{UByte, ULong, UWord}
 use Rattle.measurement.specs.declared.encoding.Encoding.{Encoding}
 use Rattle.measured_values.specs.declared.raw.Raw.{Raw}
@@ -48,6 +49,32 @@ abbrev pub signed_in : ℕ → Option ℕ → ℕ → Raw
 signed_in half (Some mask) n = Unsigned (masked mask n)
 signed_in half None n = Signed (twos_complement half n)
 
+-- the exponent and the fraction of a float of 16 bits (IEEE 754, binary16), as they stand in it
+abbrev pub half_exponent : ℕ → ℕ
+half_exponent n = n / 2 ^ 10 % 2 ^ 5
+
+abbrev pub half_fraction : ℕ → ℕ
+half_fraction n = n % 2 ^ 10
+
+-- how many times 2 ^ -24 it is, without its sign: a hidden bit stands before the fraction, unless
+-- the exponent is 0
+abbrev pub half_units : ℕ → ℕ → ℕ
+half_units exponent fraction =
+    if exponent == 0 then fraction else (2 ^ 10 + fraction) * 2 ^ (exponent - 1)
+
+-- without its sign: the exponent of all ones is that of the infinities and of no number
+abbrev pub half_size : ℕ → ℕ → Float
+half_size exponent fraction =
+    if exponent == 31 then (if fraction == 0 then inf false else nan)
+    else div binary64 (of_int binary64 (pos (half_units exponent fraction)))
+    (of_int binary64 (pos (2 ^ 24)))
+
+-- a float of 16 bits, whose highest bit is that of the sign
+abbrev pub half : ℕ → Float
+half n =
+    if n / 2 ^ 15 == 0 then half_size (half_exponent n) (half_fraction n)
+    else neg (half_size (half_exponent n) (half_fraction n))
+
 -- the raw value of a number, by data type and mask alone
 abbrev pub raw_in : DataType → Option ℕ → ℕ → Raw
 raw_in UByte mask n = unsigned_in mask n
@@ -58,6 +85,7 @@ raw_in ULong mask n = unsigned_in mask n
 raw_in SLong mask n = signed_in (2 ^ 31) mask n
 raw_in AUint64 mask n = unsigned_in mask n
 raw_in AInt64 mask n = signed_in (2 ^ 63) mask n
+raw_in Float16 mask n = Double (half n)
 raw_in Float32 mask n = Single (from_bits binary32 n)
 raw_in Float64 mask n = Double (from_bits binary64 n)
 
@@ -97,6 +125,7 @@ is_signed ULong = false
 is_signed SLong = true
 is_signed AUint64 = false
 is_signed AInt64 = true
+is_signed Float16 = false
 is_signed Float32 = false
 is_signed Float64 = false
 
@@ -119,6 +148,7 @@ raw_with o ULong mask n = operated_in o ULong mask n
 raw_with o SLong mask n = operated_in o SLong mask n
 raw_with o AUint64 mask n = operated_in o AUint64 mask n
 raw_with o AInt64 mask n = operated_in o AInt64 mask n
+raw_with o Float16 mask n = raw_in Float16 mask n
 raw_with o Float32 mask n = raw_in Float32 mask n
 raw_with o Float64 mask n = raw_in Float64 mask n
 

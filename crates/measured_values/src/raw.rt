@@ -3,8 +3,9 @@ ghost use Rattle.measured_values.specs.Physicals.{computed, narrowed, written};
 ghost use Rattle.measured_values.specs.Raws.{number_of_raw};
 
 use measurement::DataType;
-use std::num::{f32_to_f64_with_nan, nearest_f64_to_f32_with_nan};
-use std::num::{nearest_i64_to_f64, nearest_u64_to_f64};
+use std::num::{
+    f32_to_f64_with_nan, nearest_f64_to_f32_with_nan, nearest_i64_to_f64, nearest_u64_to_f64,
+};
 
 /// A raw value: what the bytes of a measured value say, before any conversion.
 #[derive(Clone, Copy, Debug)]
@@ -15,7 +16,7 @@ pub enum Raw {
     Signed(i64),
     /// A FLOAT32_IEEE.
     Single(f32),
-    /// A FLOAT64_IEEE.
+    /// A FLOAT64_IEEE, or a FLOAT16_IEEE.
     Double(f64),
 }
 

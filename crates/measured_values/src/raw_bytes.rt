@@ -1,16 +1,17 @@
 //! From bytes to a raw value.
 ghost use Rattle.std.specs.Prelude.{◌≡◌, ◌-◌, ◌*◌, ◌/◌, ◌%◌, ◌<◌, ◌≤◌, ◌^◌, ◌↔◌, IfSome, IsSome};
-ghost use Rattle.std.specs.Prelude.{length};
+ghost use Rattle.std.specs.Prelude.{false, length};
+ghost use Rattle.std.specs.Float.{inf, nan};
 ghost use Rattle.measurement.specs.Encodings.{size_of};
 ghost use Rattle.measured_values.specs.Raws.{IsSize, masked, number_of_bytes, raw_in, raw_value};
 ghost use Rattle.measured_values.specs.Raws.{signed_in, twos_complement, unsigned_in};
 ghost use Rattle.measured_values.specs.Raws.{highest_bit, is_signed, keeps_sign, mask_in, moved};
 ghost use Rattle.measured_values.specs.Raws.{operated, operated_in, raw_by, raw_with};
-ghost use Rattle.measured_values.specs.Raws.{sign_extended};
+ghost use Rattle.measured_values.specs.Raws.{half, half_size, half_units, sign_extended};
 
 use crate::raw::Raw;
 use measurement::{BitOperation, ByteOrder, DataType, Encoding};
-use std::num::{f32_from_bits_with_nan, f64_from_bits_with_nan};
+use std::num::{f32_from_bits_with_nan, f64_from_bits_with_nan, nearest_u64_to_f64};
 
 /// The raw value of bytes; `None` if there are not as many as the data type has.
 ///
@@ -90,7 +91,9 @@ fn raw_with(operation: BitOperation, data_type: DataType, mask: Option<u64>, num
     ensures { result ≡ raw_with operation data_type mask number }
 {
     match data_type {
-        DataType::Float32 | DataType::Float64 => raw_in(data_type, mask, number),
+        DataType::Float16 | DataType::Float32 | DataType::Float64 => {
+            raw_in(data_type, mask, number)
+        }
         _ => operated_in(operation, data_type, mask, number),
     }
 }
@@ -207,8 +210,59 @@ fn raw_in(data_type: DataType, mask: Option<u64>, number: u64) -> Raw
         DataType::SLong => signed_in(1 << 31, mask, number),
         DataType::AUint64 => unsigned_in(mask, number),
         DataType::AInt64 => signed_in(1 << 63, mask, number),
+        DataType::Float16 => Raw::Double(half(number)),
         DataType::Float32 => Raw::Single(f32_from_bits_with_nan(number as u32)),
         DataType::Float64 => Raw::Double(f64_from_bits_with_nan(number)),
+    }
+}
+
+/// A float of 16 bits (IEEE 754, binary16), which one of 64 bits has too.
+fn half(number: u64) -> f64
+    requires { number < 2 ^ 16 }
+    ensures { result ≡ half number }
+{
+    let size = half_size(number / 1024 % 32, number % 1024);
+    if number / 32768 == 0 { size } else { -size }
+}
+
+/// A float of 16 bits without its sign, by its exponent and its fraction as they stand in its bits.
+fn half_size(exponent: u64, fraction: u64) -> f64
+    requires exponent { exponent < 2 ^ 5 }
+    requires fraction { fraction < 2 ^ 10 }
+    ensures { result ≡ half_size exponent fraction }
+{
+    if exponent == 31 {
+        return if fraction == 0 {
+            infinity()
+        } else {
+            no_number()
+        };
+    }
+    nearest_u64_to_f64(half_units(exponent, fraction)) / nearest_u64_to_f64(16_777_216)
+}
+
+fn infinity() -> f64
+    ensures { result ≡ inf false }
+{
+    f64::INFINITY
+}
+
+fn no_number() -> f64
+    ensures { result ≡ nan }
+{
+    f64::NAN
+}
+
+/// How many times 2^-24 it is.
+fn half_units(exponent: u64, fraction: u64) -> u64
+    requires exponent { exponent < 31 }
+    requires fraction { fraction < 2 ^ 10 }
+    ensures { result ≡ half_units exponent fraction }
+{
+    if exponent == 0 {
+        fraction
+    } else {
+        (1024 + fraction) << (exponent - 1)
     }
 }
 

@@ -111,7 +111,10 @@ fn write_number(text: &mut String, data_type: DataType, number: f64) -> Result<(
     ensures { OnOk result (IsNumberText (written data_type number) (string_bytes text.new)) }
 {
     text.clear();
-    push_physical(text, &Physical::unconverted(Raw::written(data_type, number)))
+    push_physical(
+        text,
+        &Physical::unconverted(Raw::written(data_type, number)),
+    )
 }
 
 /// A text without the `.0` at its end, if it has one.
