@@ -31,10 +31,22 @@ def method(words):
 NONE = "no such measurement in the recording"
 BYTES = bytes(range(100, 107)) + bytes([0x00, 0x00, 0xC0, 0x3F]) + bytes(range(111, 140))
 
+# What a file is that is no text.
+EMPTY = "bad a2l: the file is empty"
+UTF_16 = "bad a2l: the file is in UTF-16: write it in UTF-8 or ISO 8859-1"
+ZERO = "bad a2l: the file is no text: it has a byte 0"
+
 # A whole text.
 TEXTS = [
     # nothing; blanks; the mark of UTF-8
-    ("an empty text", "", NONE),
+    ("an empty file", "", EMPTY),
+    ("nothing but the mark of UTF-16", "\xff\xfe", UTF_16),
+    ("a text in UTF-16, MSB last", "\xff\xfe/\0b\0e\0g\0i\0n\0", UTF_16),
+    ("a text in UTF-16, MSB first", "\xfe\xff\0/\0b\0e\0g\0i\0n", UTF_16),
+    ("a text in UTF-16 without its mark", "/\0b\0e\0g\0i\0n\0", ZERO),
+    ("a program", "\x7fELF\x02\x01\x01\0\0\0\0\0\0\0\0\0\x03\0>\0", ZERO),
+    ("a byte 0 at the end of a whole text", in_module(measurement("UBYTE")) + "\0", ZERO),
+    ("a letter of ISO 8859-1 in front", "\xff " + in_module(measurement("UBYTE")), {"a": "100"}),
     ("each kind of blank", " \t\r\n\x0b\x0c", NONE),
     ("where blanks end", "/begin A \t\r\n\x0b\x0c", "line 2, column 3: expected /end A"),
     ("the mark of UTF-8 alone", "\xef\xbb\xbf", NONE),
@@ -141,6 +153,15 @@ MODULES = [
     ("a block with its name in quotes", '/begin "A"',
      "line 2, column 8: expected the name of a block"),
     ("another file", '/include "b.a2l"', "line 2, column 1: /include is not supported"),
+    ("another file in A2ML is passed over, in quotes or not",
+     '/begin A2ML /include "b.aml" block "IF_DATA" struct { /include c.aml /begin X /include d '
+     "/end X }; /end A2ML " + measurement("UBYTE"), {"a": "100"}),
+    ("another file behind A2ML", "/begin A2ML /include a /end A2ML /include b",
+     "line 2, column 34: /include is not supported"),
+    ("another file in a block named A2ML in another one",
+     "/begin B /begin A2ML /include a /end A2ML /end B",
+     "line 2, column 22: /include is not supported"),
+    ("A2ML without its end", "/begin A2ML /include a", "line 3, column 6: expected /end A2ML"),
     ("a comment without an end, in a block", "/begin A /* x",
      "line 2, column 10: the comment has no end"),
     ("a text without an end, in a MODULE", '"x', "line 2, column 1: the text has no closing quote"),
@@ -168,6 +189,19 @@ MODULES = [
     ("a word with a backslash at its end", measurement("UBYTE", name="\\n\\t\\x\\"),
      {"\n\t\\x\\": "100"}),
 ]
+
+# Of seven, one is shown: the others lie partly or wholly behind the 40 bytes of the list's entry,
+# or in another memory, are more than one value, are computed, or are an instance of a type.
+HIDDEN = (measurement("UBYTE", name="shown", address=1)
+          + measurement("UBYTE", "ECU_ADDRESS_EXTENSION 1", name="extended")
+          + measurement("UWORD", name="split", address=39)
+          + '/begin INSTANCE pump "A pump" t 0x10 /end INSTANCE\n'
+          + measurement("UBYTE", name="far", address="0x70000000")
+          + measurement("UBYTE", "ARRAY_SIZE 2", name="array")
+          + '/begin MEASUREMENT computed "" UBYTE NO_COMPU_METHOD 0 0 0 1 /begin VIRTUAL shown '
+          "/end VIRTUAL /end MEASUREMENT\n")
+HIDDEN_LINE = "xcpread: not shown of the a2l: 6 of 7 measurements and instances\n"
+HIDDEN_NAMES = ["split", "far", "extended", "pump", "array", "computed"]
 
 # A mask, and what is shown under it of 64 bits that are all set: itself if it is odd.
 INTEGER = "expected a whole number that is not negative"
@@ -232,6 +266,23 @@ RAW = [
     ("A_UINT64", LAST, None, "0100000000002000", "9007199254740993"),
     ("A_INT64", LAST, None, "ffffffffffffffff", "-1"),
     ("A_INT64", FIRST, None, "8000000000000000", "-9223372036854775808"),
+    # sign, 5 bits of exponent, whose bias is 15, and 10 of fraction: 65504 is (2 - 2^-10) 2^15, the
+    # greatest one, 2^-24 the least one above 0, and 3ff the greatest one without a hidden bit
+    ("FLOAT16_IEEE", LAST, None, "003c", "1.0"),
+    ("FLOAT16_IEEE", FIRST, None, "3c00", "1.0"),
+    ("FLOAT16_IEEE", FIRST, None, "c000", "-2.0"),
+    ("FLOAT16_IEEE", FIRST, None, "3555", "0.333251953125"),
+    ("FLOAT16_IEEE", FIRST, None, "7bff", "65504.0"),
+    ("FLOAT16_IEEE", FIRST, None, "0001", "5.960464477539063e-8"),
+    ("FLOAT16_IEEE", FIRST, None, "83ff", "-0.00006097555160522461"),
+    ("FLOAT16_IEEE", FIRST, None, "0400", "0.00006103515625"),
+    ("FLOAT16_IEEE", FIRST, None, "0000", "0.0"),
+    ("FLOAT16_IEEE", FIRST, None, "8000", "-0.0"),
+    ("FLOAT16_IEEE", FIRST, None, "7c00", "inf"),
+    ("FLOAT16_IEEE", FIRST, None, "fc00", "-inf"),
+    ("FLOAT16_IEEE", FIRST, None, "7e00", "NaN"),
+    ("FLOAT16_IEEE", FIRST, None, "fc01", "NaN"),
+    ("FLOAT16_IEEE", FIRST, "1", "3c00", "1.0"),
     ("FLOAT32_IEEE", LAST, None, "0000c03f", "1.5"),
     ("FLOAT32_IEEE", FIRST, None, "3dcccccd", "0.1"),
     ("FLOAT32_IEEE", LAST, None, "0100c07f", "NaN"),
@@ -245,6 +296,46 @@ RAW = [
     ("ULONG", LAST, "0xffffffff00000000", "ffffffff", "0"),
     ("A_UINT64", LAST, "0x8000000000000000", "ffffffffffffffff", "1"),
 ]
+
+# A data type, a mask, what BIT_OPERATION says, bytes (MSB_LAST), and what is shown of them: the
+# bits of the mask (B4 under F0 is B0), moved up and then down, and then the sign, from the highest
+# bit of the mask, which was moved with them (B is -5, of four bits). Nothing else is moved.
+OPERATIONS = [
+    ("UBYTE", "0xF0", "RIGHT_SHIFT 4 SIGN_EXTEND", "b4", "-5"),
+    ("UBYTE", "0xF0", "RIGHT_SHIFT 4 SIGN_EXTEND", "7f", "7"),
+    ("UBYTE", "0xF0", "SIGN_EXTEND RIGHT_SHIFT 4", "b4", "-5"),
+    ("UBYTE", "0xF0", "RIGHT_SHIFT 4", "b4", "11"),
+    ("UBYTE", "0xF0", "SIGN_EXTEND", "b4", "-80"),
+    ("UBYTE", "0xF0", "", "b4", "176"),
+    ("UBYTE", "0xF0", "LEFT_SHIFT 0", "b4", "176"),
+    ("UBYTE", "0xF0", None, "b4", "11"),
+    ("UBYTE", None, "LEFT_SHIFT 4", "01", "16"),
+    ("UBYTE", "0x01", "LEFT_SHIFT 4", "01", "16"),
+    ("UBYTE", "0x01", None, "01", "1"),
+    ("UBYTE", None, "LEFT_SHIFT 4", "ff", "4080"),
+    ("UBYTE", None, "LEFT_SHIFT 4 SIGN_EXTEND", "ff", "-16"),
+    ("UBYTE", "0x3c", "LEFT_SHIFT 4 RIGHT_SHIFT 6", "28", "10"),
+    ("UBYTE", "0x3c", "LEFT_SHIFT 4 RIGHT_SHIFT 6 SIGN_EXTEND", "28", "-6"),
+    ("UBYTE", "0x01", "SIGN_EXTEND", "01", "-1"),
+    ("UBYTE", "0xF0", "RIGHT_SHIFT 8 SIGN_EXTEND", "b4", "0"),
+    ("SBYTE", "0xF0", "RIGHT_SHIFT 4", "b4", "11"),
+    ("SBYTE", None, "RIGHT_SHIFT 4", "b4", "-5"),
+    ("SBYTE", None, "", "b4", "-76"),
+    ("SBYTE", "0xffffffff", "SIGN_EXTEND", "b4", "-76"),
+    ("UWORD", "0x0FF0", "RIGHT_SHIFT 4 SIGN_EXTEND", "507f", "-11"),
+    ("UWORD", None, "SIGN_EXTEND", "feff", "-2"),
+    ("ULONG", None, "SIGN_EXTEND", "00000080", "-2147483648"),
+    ("A_UINT64", None, "SIGN_EXTEND", "ffffffffffffffff", "-1"),
+    ("A_UINT64", "0x8000000000000000", "SIGN_EXTEND RIGHT_SHIFT 63", "ffffffffffffffff", "-1"),
+    ("A_UINT64", None, "LEFT_SHIFT 63", "0300000000000000", "9223372036854775808"),
+    ("A_UINT64", None, "LEFT_SHIFT 60 RIGHT_SHIFT 60", "fa00000000000000", "10"),
+    ("FLOAT32_IEEE", "0xF0", "RIGHT_SHIFT 4 SIGN_EXTEND", "0000c03f", "1.5"),
+    ("FLOAT64_IEEE", None, "LEFT_SHIFT 1", "000000000000f83f", "1.5"),
+]
+
+# Bits of a shift: what is no number of them.
+SHIFT = "expected a shift by 0 to 63 bits"
+SHIFTS = [("64", SHIFT), ("18446744073709551615", SHIFT), ("-1", INTEGER), ("x", INTEGER)]
 
 # A method, a data type, bytes (MSB_LAST), and what is shown of them. Of a raw value n: LINEAR is
 # n / 2 - 40, RATIONAL the x for which (2 x + 10) / 4 is n; of ranges that overlap the first counts.
@@ -261,8 +352,22 @@ PHYSICAL = [
     (LINEAR, "UBYTE", bytes([100]), "10.0"),
     (LINEAR, "SBYTE", bytes([256 - 100]), "-90.0"),
     (LINEAR, "FLOAT32_IEEE", struct.pack("<f", 0.25), "-39.875"),
+    (LINEAR, "FLOAT16_IEEE", bytes([0x00, 0x34]), "-39.875"),
     (RATIONAL, "UBYTE", bytes([3]), "1.0"),
     (RATIONAL, "FLOAT64_IEEE", struct.pack("<d", -2.5), "-10.0"),
+    # of a FLOAT32_IEEE the shortest decimal, with any method that leaves it one: 0.1 has the bits
+    # 3dcccccd, and is 0.100000001490116..
+    ('IDENTICAL "" ""', "FLOAT32_IEEE", bytes.fromhex("cdcccc3d"), "0.1"),
+    ('LINEAR "" "" COEFFS_LINEAR 1 0', "FLOAT32_IEEE", bytes.fromhex("cdcccc3d"), "0.1"),
+    ('LINEAR "" "" COEFFS_LINEAR -2 0', "FLOAT32_IEEE", bytes.fromhex("cdcccc3d"), "-0.2"),
+    ('RAT_FUNC "" "" COEFFS 0 1 0 0 0 1', "FLOAT32_IEEE", bytes.fromhex("cdcccc3d"), "0.1"),
+    ('LINEAR "" "" COEFFS_LINEAR 1 0', "FLOAT32_IEEE", bytes.fromhex("0000c07f"), "NaN"),
+    ('LINEAR "" "" COEFFS_LINEAR 1 0', "FLOAT32_IEEE", bytes.fromhex("000080ff"), "-inf"),
+    # 16777216 and 1: no float of 32 bits has their sum
+    ('LINEAR "" "" COEFFS_LINEAR 1 1', "FLOAT32_IEEE", bytes.fromhex("0000804b"), "16777217.0"),
+    # a float of 64 bits is written as one: the same number is another one there
+    ('LINEAR "" "" COEFFS_LINEAR 1 0', "FLOAT64_IEEE", bytes.fromhex("000000a09999b93f"),
+     "0.10000000149011612"),
     (TEXT, "UBYTE", bytes([0]), "off"),
     (TEXT, "SBYTE", bytes([4]), "low"),
     (TEXT, "UBYTE", bytes([7]), "high, by far"),
@@ -347,6 +452,14 @@ EXAMPLE_ROWS = [
 # -0 and 0 is the least one.
 NOTED = [float("nan"), 2.5, -0.0, 0.0, 4.0, 0.5]
 NOTED_LINE = ["6", "-0", "4", "1.4", "a"]
+
+# Singles, and their line of the table: the mean of 0.1, 0.1 and 0.1 is 0.1; that of 0.1 and 0.3 is
+# (0.100000001490116.. + 0.300000011920928..) / 2, which no float of 32 bits has.
+SINGLES = [
+    ([0.1, 0.1, 0.1], ["3", "0.1", "0.1", "0.1", "a"]),
+    ([0.1, 0.3], ["2", "0.1", "0.3", "0.20000000670552254", "a"]),
+    ([1.0, 16777216.0], ["2", "1", "16777216", "8388608.5", "a"]),
+]
 
 # A picture of three measurements, the place of each in memory and of its samples the list, the
 # ticks, the value, and whether samples were dropped before it. The 2 s are 720 units wide, so 0.1 s
@@ -438,7 +551,7 @@ def check(tell, reader, recorder, room):
             shown = [each[3:] for each in csv.reader(io.StringIO(text, newline=""))]
             holds = (said, status, shown) == ("", 0, [[*wanted], [*wanted.values()]])
         else:
-            line = wanted if wanted == NONE else f"bad a2l: {wanted}"
+            line = wanted if wanted in (NONE, EMPTY, UTF_16, ZERO) else f"bad a2l: {wanted}"
             holds = (text, said, status) == ("", f"xcpread: {line}\n", 2)
         tell(name, holds, text + said)
 
@@ -467,6 +580,22 @@ def check(tell, reader, recorder, room):
         blocks = measurement(data_type, options)
         row(f"{data} as {data_type}, {options}", in_module(blocks), {"a": shown},
             bytes.fromhex(data))
+    for data_type, mask, operation, data, shown in OPERATIONS:
+        options = f"BIT_MASK {mask} " if mask else ""
+        if operation is not None:
+            options += f"/begin BIT_OPERATION {operation} /end BIT_OPERATION"
+        row(f"{data} as {data_type}, {options}", in_module(measurement(data_type, options)),
+            {"a": shown}, bytes.fromhex(data))
+    for side in "LEFT", "RIGHT":
+        for word, said in SHIFTS:
+            blocks = measurement("UBYTE", f"/begin BIT_OPERATION {side}_SHIFT {word} "
+                                          "/end BIT_OPERATION")
+            row(f"{side}_SHIFT {word}", in_module(blocks),
+                f"line 2, column {len(side) + 97}: {said}")
+    row("a shift without its number",
+        in_module('/begin MEASUREMENT a "" UBYTE NO_COMPU_METHOD 0 0 0 1 /begin BIT_OPERATION '
+                  "LEFT_SHIFT /end BIT_OPERATION /end MEASUREMENT"),
+        "line 2, column 106: expected a shift by 0 to 63 bits")
     for words, data_type, data, shown in PHYSICAL:
         blocks = TABLES + method(words) + measurement(data_type, method="m")
         head = "a [raw]" if words.startswith("FORM") else "a"
@@ -489,11 +618,39 @@ def check(tell, reader, recorder, room):
     wanted = [EXAMPLE_HEADS, *(values for _, _, values in EXAMPLE_ROWS)]
     tell("a whole file", (shown, said, status) == (wanted, "", 0), text + said)
 
+    one.write([(0, 0, BYTES, False)])
+    text, said, status = read(one, in_module(HIDDEN), "--csv")
+    tell("what isn't shown is counted", (text.splitlines()[0], said, status)
+         == ("time [ticks],list,overload,shown", HIDDEN_LINE, 0), text + said)
+    tell("and with a picture too", read(one, in_module(HIDDEN), "--svg")[1:] == (HIDDEN_LINE, 0))
+    text, said, status = read(one, in_module(HIDDEN))
+    wanted = HIDDEN_LINE + "".join(f"xcpread: not shown: {name}\n" for name in HIDDEN_NAMES)
+    tell("with the table it is named", (said, status) == (wanted, 0), text + said)
+    tell("unless some are chosen", read(one, in_module(HIDDEN), "--only=shown")[1:] == ("", 0))
+    three.write([(0, 0, bytes(8), False)])
+    a2l = in_module(measurement("UWORD", name="a", address=6)
+                    + measurement("UWORD", name="b", address=7))
+    tell("a value of bytes in two entries isn't shown", read(three, a2l)[1:]
+         == ("xcpread: not shown of the a2l: 1 of 2 measurements and instances\n"
+             "xcpread: not shown: b\n", 0))
+    row("an INSTANCE alone", in_module('/begin INSTANCE a "" t 0 /end INSTANCE'), NONE)
+    row("an INSTANCE without a name", in_module('/begin INSTANCE "a" "" t 0 /end INSTANCE'),
+        "line 2, column 17: expected a name")
+
     one.write([(0, at, struct.pack("<d", value), False) for at, value in enumerate(NOTED)])
     text, said, status = read(one, in_module(measurement("FLOAT64_IEEE")), "--summary")
     lines = [line.split() for line in text.splitlines()[1:]]
     holds = (lines, said, status) == ([NOTED_LINE], "", 0)
     tell("six values in the table, of which one is no number", holds, text + said)
+
+    for values, wanted in SINGLES:
+        for words in 'IDENTICAL "" ""', 'LINEAR "" "" COEFFS_LINEAR 1 0':
+            one.write([(0, at, struct.pack("<f", value), False) for at, value in enumerate(values)])
+            blocks = method(words) + measurement("FLOAT32_IEEE", method="m")
+            text, said, status = read(one, in_module(blocks), "--summary")
+            lines = [line.split() for line in text.splitlines()[1:]]
+            tell(f"{values} as FLOAT32_IEEE in the table, {words}",
+                 (lines, said, status) == ([wanted], "", 0), text + said)
 
     three.write([(of, at, struct.pack("<d", value), lost) for of, at, value, lost in CURVE_SAMPLES])
     text, said, status = read(three, in_module(CURVES), "--svg", "--tick=0.001")

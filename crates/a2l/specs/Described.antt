@@ -1,5 +1,6 @@
 -- What an A2L file says of what can be measured.
 use Rattle.std.specs.Prelude.{◌≡◌, ℕ, List, [], ◌∷◌, ◌++◌, map, length, Option, Some, None}
+use Rattle.std.specs.Prelude.{string_bytes}
 use Rattle.std.specs.Option.{option_map, unwrap_or}
 use Rattle.measurement.specs.declared.byte_order.ByteOrder.TheVariants.{MsbLast}
 use Rattle.a2l_words.specs.Tokens.{Token}
@@ -11,25 +12,29 @@ use Rattle.a2l_blocks.specs.declared.role.Role.TheVariants.{File}
 use Rattle.measurement.specs.declared.tick.Tick.{Tick}
 use Rattle.a2l.specs.declared.description.Description.{Description}
 use Rattle.a2l_entries.specs.Gives.{◌>>=◌}
+use Rattle.a2l_entries.specs.MeasurementSaid.{instance_said, measurement_said}
 use Rattle.a2l_entries.specs.TickSaid.{tick_said}
-use Rattle.a2l.specs.ModuleSaid.{Told, no_parts, with_part}
+use Rattle.a2l.specs.ModuleSaid.{Told, no_parts, with_measured, with_part}
 use Rattle.a2l.specs.Resolved.{Value, Conversions, described_measurement, described_method}
-use Rattle.a2l.specs.Resolved.{values_of, methods_of, with_front}
+use Rattle.a2l.specs.Resolved.{name_if_left, values_of, methods_of, with_front}
 
 pub record Described : Type 0 where
   pub values : List Value
   pub methods : List Conversions
   pub tick : Option Tick
+  -- the names of the measurements that aren't kept, and of the instances
+  pub left_out : List (List ℕ)
 
 abbrev pub description_seen : Description → Described
 description_seen d = record {
   values = map described_measurement d.measurements.items;
   methods = map described_method d.methods.items;
   tick = d.tick;
+  left_out = map (λ s. string_bytes s) d.left_out.items;
 }
 
 abbrev pub nothing : Described
-nothing = record { values = []; methods = []; tick = None }
+nothing = record { values = []; methods = []; tick = None; left_out = [] }
 
 -- the first tick counts
 abbrev pub first_tick : Option Tick → List Token → Option Tick
@@ -49,13 +54,26 @@ with_tick ws d = do
   tick ← first_tick d.tick ws
   Some (record d { tick = Some tick })
 
+-- with what a MEASUREMENT says: it stands among those of its MODULE, and its name among those that
+-- are left out if it isn't kept
+unfoldable pub with_measurement : List Token → Told × Described → Option (Told × Described)
+with_measurement ws s = do
+  measured ← measurement_said ws
+  Some (with_measured measured s.0, record s.1 { left_out = s.1.left_out ++ name_if_left measured })
+
+-- an INSTANCE is left out
+unfoldable pub with_instance : List Token → Described → Option Described
+with_instance ws d = do
+  name ← instance_said ws
+  Some (record d { left_out = d.left_out ++ name ∷ [] })
+
 -- one part more: what the parts of the same MODULE said so far, and the description so far
 abbrev pub after_part : Part → List Token → Told × Described → Option (Told × Described)
 after_part part.Module ws s = option_map (λ d. (no_parts, d)) (with_module s.0 s.1)
 after_part part.Timestamp ws s = option_map (λ d. (s.0, d)) (with_tick ws s.1)
 after_part part.Defaults ws s = option_map (λ told. (told, s.1)) (with_part part.Defaults ws s.0)
-after_part part.Measurement ws s =
-    option_map (λ told. (told, s.1)) (with_part part.Measurement ws s.0)
+after_part part.Measurement ws s = with_measurement ws s
+after_part part.Instance ws s = option_map (λ d. (s.0, d)) (with_instance ws s.1)
 after_part part.Method ws s = option_map (λ told. (told, s.1)) (with_part part.Method ws s.0)
 after_part part.Table ws s = option_map (λ told. (told, s.1)) (with_part part.Table ws s.0)
 after_part part.Ranges ws s = option_map (λ told. (told, s.1)) (with_part part.Ranges ws s.0)

@@ -8,7 +8,7 @@ use Rattle.measurement.specs.declared.byte_order.ByteOrder.{ByteOrder}
 use Rattle.a2l.specs.declared.module_parts.ModuleParts.{ModuleParts}
 use Rattle.a2l_entries.specs.Gives.{◌>>=◌}
 use Rattle.a2l_entries.specs.Keywords.{default_said}
-use Rattle.a2l_entries.specs.MeasurementSaid.{Measured, measurement_seen, measurement_said}
+use Rattle.a2l_entries.specs.MeasurementSaid.{Measured, measurement_seen}
 use Rattle.a2l_entries.specs.MethodSaid.{Converted, method_seen, method_said}
 use Rattle.a2l_entries.specs.TableSaid.{Named, table_seen, table_said, ranges_said}
 
@@ -30,14 +30,17 @@ module_seen m = record {
 abbrev pub no_parts : Told
 no_parts = record { order = None; measurements = []; methods = []; tables = [] }
 
--- with what one more part says
+-- with a measurement more
+abbrev pub with_measured : Measured → Told → Told
+with_measured m told = record told { measurements = told.measurements ++ m ∷ [] }
+
+-- with what one more part says that is no measurement
 unfoldable pub with_part : Part → List Token → Told → Option Told
 with_part part.Defaults ws told = do
   order ← default_said ws
   Some (record told { order = option_or told.order order })
-with_part part.Measurement ws told = do
-  measured ← measurement_said ws
-  Some (record told { measurements = told.measurements ++ measured ∷ [] })
+with_part part.Measurement ws told = Some told
+with_part part.Instance ws told = Some told
 with_part part.Method ws told = do
   converted ← method_said ws
   Some (record told { methods = told.methods ++ converted ∷ [] })

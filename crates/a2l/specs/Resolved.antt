@@ -1,6 +1,6 @@
 -- What a MODULE says, each name replaced by what it names.
 use Rattle.std.specs.Prelude.{ℕ, ◌+◌, Bool, List, [], ◌∷◌, ◌++◌, map, slice_get, Option, Some, None}
-use Rattle.std.specs.Prelude.{if◌then◌else◌, string_bytes}
+use Rattle.std.specs.Prelude.{if◌then◌else◌, is_some, string_bytes}
 use Rattle.std.specs.Option.{option_map, option_and_then, option_to_list, unwrap_or}
 use Rattle.std.specs.Float.Ieee.{Float}
 use Rattle.measurement.specs.declared.byte_order.ByteOrder.{ByteOrder}
@@ -12,7 +12,7 @@ use Rattle.a2l.specs.declared.description.Measurement.{Measurement}
 use Rattle.a2l.specs.declared.description.Method.{Method}
 use Rattle.a2l_entries.specs.Gives.{◌>>=◌}
 use Rattle.a2l.specs.Names.{place_of}
-use Rattle.a2l_entries.specs.MeasurementSaid.{Measured}
+use Rattle.a2l_entries.specs.MeasurementSaid.{Measured, operation_of}
 use Rattle.a2l_entries.specs.MethodSaid.{Converted, Formula, identical, linear, rational_of}
 use Rattle.a2l_entries.specs.MethodSaid.{texts_named, other}
 use Rattle.a2l_entries.specs.TableSaid.{Texts, Named, texts_seen}
@@ -100,6 +100,10 @@ method_place before place (Some name) = option_map (λ k. Some (before + k)) (pl
 abbrev pub kept_address : Measured → Option ℕ
 kept_address m = if m.options.apart then None else m.options.address
 
+-- the name of a measurement that isn't kept
+abbrev pub name_if_left : Measured → List (List ℕ)
+name_if_left m = if is_some (kept_address m) then [] else m.name ∷ []
+
 abbrev pub value_at : ByteOrder → Measured → Option ℕ → ℕ → Value
 value_at order m method address = record {
   name = m.name;
@@ -107,6 +111,7 @@ value_at order m method address = record {
     data_type = m.data_type;
     order = unwrap_or m.options.order order;
     mask = m.options.mask;
+    operation = operation_of m.options;
   };
   address = address;
   method = method;

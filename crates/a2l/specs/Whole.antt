@@ -4,6 +4,7 @@ use Rattle.a2l_words.specs.Tokens.{Token}
 use Rattle.a2l_words.specs.Words.{AreWords, without_mark}
 use Rattle.a2l_blocks.specs.Trees.{Elements, IsWithin, printed}
 use Rattle.a2l_blocks.specs.declared.block_fault.BlockFault.TheVariants as block
+use Rattle.a2l_blocks.specs.declared.role.Role.TheVariants.{File}
 use Rattle.a2l_blocks.specs.Steps.{State, UnlessMemory, StopsAt, coming, cleared}
 use Rattle.a2l.specs.declared.fault.A2lFault.{A2lFault}
 use Rattle.a2l.specs.declared.fault.A2lFault.TheVariants as fault
@@ -15,9 +16,10 @@ use Rattle.a2l_entries.specs.Gives.{◌>>=◌, Stops}
 use Rattle.a2l.specs.ModuleSaid.{Told, no_parts}
 use Rattle.a2l.specs.Described.{Described, nothing, described_from, description_of}
 
--- the words of a text are those of elements, of which at most 64 blocks stand in one another
+-- the words of a text are those of elements, of which at most 64 blocks stand in one another, with
+-- /include in A2ML alone
 pub record IsTextOf (text : List ℕ) (elements : Elements) : Type 0 where
-  pub within : IsWithin 64 elements
+  pub within : IsWithin 64 File elements
   pub words : AreWords (without_mark text) (printed elements)
 
 -- the text has elements, and they describe this

@@ -11,6 +11,10 @@ pub struct Description {
     pub measurements: Vec<Measurement>,
     /// The conversion methods, in the order of the file (ASAM MCD-2 MC, COMPU_METHOD).
     pub methods: Vec<Method>,
+    /// The names of what can't be measured as it is, in the order of the file: the measurements
+    /// without an address, with an address extension other than 0, or that are arrays, and the
+    /// instances (ASAM MCD-2 MC, INSTANCE).
+    pub left_out: Vec<String>,
     /// How long a tick of a timestamp is (ASAM MCD-1 XCP, TIMESTAMP_SUPPORTED).
     pub tick: Option<Tick>,
 }

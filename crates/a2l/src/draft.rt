@@ -1,18 +1,20 @@
-ghost use Rattle.std.specs.Prelude.{◌≡◌};
+ghost use Rattle.std.specs.Prelude.{◌≡◌, ◌++◌, OnOk, map, string_bytes};
 ghost use Rattle.a2l_entries.specs.Gives.{Gives};
 ghost use Rattle.a2l_entries.specs.Said.{tokens_of};
 ghost use Rattle.a2l.specs.Drafts.{draft_seen};
 ghost use Rattle.a2l.specs.Described.{after_part, nothing, description_seen, with_module};
-ghost use Rattle.a2l.specs.Described.{with_tick};
+ghost use Rattle.a2l.specs.Described.{with_instance, with_measurement, with_tick};
+ghost use Rattle.a2l.specs.Resolved.{name_if_left};
+ghost use Rattle.a2l_entries.specs.MeasurementSaid.{measurement_seen};
 ghost use Rattle.a2l.specs.ModuleSaid.{module_seen, no_parts};
 
 use crate::description::Description;
 use crate::module_parts::ModuleParts;
-use crate::resolving::{add_measurements, add_methods};
+use crate::resolving::{add_measurements, add_methods, address_of};
 use a2l_blocks::Part;
-use a2l_entries::{Left, Stop, tick_of};
+use a2l_entries::{Left, MeasurementBlock, Stop, instance_of, measurement_of, tick_of};
 use measurement::ByteOrder;
-use std::alloc::Global;
+use std::alloc::{AllocError, Global};
 use std::mem;
 
 /// How many bytes the copies of texts that several methods share may take: 256 MiB.
@@ -37,6 +39,7 @@ impl Draft {
         let description = Description {
             measurements: Vec::new(alloc),
             methods: Vec::new(alloc),
+            left_out: Vec::new(alloc),
             tick: None,
         };
         Draft {
@@ -57,9 +60,52 @@ impl Draft {
                 add_module(alloc, &mut self.description, &module, &mut self.room)
             }
             Part::Timestamp => note_tick(&mut self.description, words),
+            Part::Instance => note_instance(alloc, &mut self.description, words),
+            Part::Measurement => self.take_measurement(alloc, words),
             _ => self.parts.take(alloc, part, words),
         }
     }
+
+    /// Adds a measurement, and its name to those that are left out if it isn't kept.
+    #[tactic(auto, unfolding(crate::specs::Described::with_measurement))]
+    fn take_measurement(&mut self, alloc: Global, words: Left<'_, '_>) -> Result<(), Stop>
+        ensures { Gives (λ _. draft_seen self.new) result
+            (with_measurement (tokens_of words.entry) (draft_seen self.old)) }
+    {
+        let measurement = measurement_of(alloc, words)?;
+        note_left_out(&mut self.description.left_out, &measurement)?;
+        self.parts.measurements.push(measurement)?;
+        Ok(())
+    }
+}
+
+/// Adds the name of a measurement, if it isn't kept.
+fn note_left_out(names: &mut Vec<String>, measurement: &MeasurementBlock) -> Result<(), AllocError>
+    ensures { OnOk result (map (λ s. string_bytes s) names.new.items
+        ≡ map (λ s. string_bytes s) names.old.items
+        ++ name_if_left (measurement_seen measurement.now)) }
+{
+    if address_of(measurement).is_some() {
+        return Ok(());
+    }
+    let name = measurement.name.clone()?;
+    names.push(name)?;
+    Ok(())
+}
+
+/// Adds the name of an instance.
+#[tactic(auto, unfolding(crate::specs::Described::with_instance))]
+fn note_instance(
+    alloc: Global,
+    description: &mut Description,
+    words: Left<'_, '_>,
+) -> Result<(), Stop>
+    ensures { Gives (λ _. description_seen description.new) result
+        (with_instance (tokens_of words.entry) (description_seen description.old)) }
+{
+    let name = instance_of(alloc, words)?;
+    description.left_out.push(name)?;
+    Ok(())
 }
 
 /// Adds what the blocks of a MODULE say.

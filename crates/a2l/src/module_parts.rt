@@ -5,8 +5,8 @@ ghost use Rattle.a2l.specs.ModuleSaid.{module_seen, no_parts, with_part};
 
 use a2l_blocks::Part;
 use a2l_entries::{
-    Left, MeasurementBlock, MethodBlock, Stop, TableBlock, default_order, measurement_of,
-    method_of, ranges_of, table_of,
+    Left, MeasurementBlock, MethodBlock, Stop, TableBlock, default_order, method_of, ranges_of,
+    table_of,
 };
 use measurement::ByteOrder;
 use std::alloc::Global;
@@ -34,19 +34,19 @@ impl ModuleParts {
         }
     }
 
-    /// Adds what a part says. A part that says nothing of measurements is passed over.
+    /// Adds what a part says that is no measurement. A part that says nothing of how values are
+    /// shown is passed over.
     #[tactic(auto, unfolding(crate::specs::ModuleSaid::with_part))]
     pub fn take(&mut self, alloc: Global, part: Part, words: Left<'_, '_>) -> Result<(), Stop>
         ensures { Gives (λ _. module_seen self.new) result
             (with_part part (tokens_of words.entry) (module_seen self.old)) }
     {
         match part {
-            Part::Measurement => self.measurements.push(measurement_of(alloc, words)?)?,
             Part::Method => self.methods.push(method_of(alloc, words)?)?,
             Part::Table => self.tables.push(table_of(alloc, words)?)?,
             Part::Ranges => self.tables.push(ranges_of(alloc, words)?)?,
             Part::Defaults => self.order = self.order.or(default_order(words)?),
-            Part::Timestamp | Part::Module => {}
+            Part::Measurement | Part::Instance | Part::Timestamp | Part::Module => {}
         }
         Ok(())
     }

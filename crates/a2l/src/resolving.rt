@@ -265,7 +265,7 @@ fn method_place(method: &Option<Reference>, setting: Setting<'_>) -> Result<Opti
 }
 
 /// The address of a measurement that is kept.
-fn address_of(measurement: &MeasurementBlock) -> Option<u32>
+pub fn address_of(measurement: &MeasurementBlock) -> Option<u32>
     ensures { result ≡ kept_address (measurement_seen measurement.now) }
 {
     if measurement.options.apart {
@@ -290,6 +290,7 @@ fn measured(
         data_type: block.data_type,
         order: block.options.order.unwrap_or(order),
         mask: block.options.mask,
+        operation: block.options.operation(),
     };
     Ok(Measurement {
         name,

@@ -3,42 +3,44 @@ use Rattle.std.proofs.Common.{◌≡◌, ℕ, zero, suc, ◌+◌, Bool, true, fa
 use Rattle.std.specs.Str.{bytes_eq}
 use Rattle.std.proofs.lemmas.Bool.{le-ltb}
 use Rattle.std.proofs.lemmas.Slice.Eq.{bytes_eq-Decides}
+use Rattle.a2l_words.specs.Tokens as token
 use Rattle.a2l_words.specs.Tokens.{Token, begin, end, plain, quoted}
-use Rattle.a2l_blocks.specs.Trees.{Elements, none, word, text, block, printed_before, printed, IsWithin}
-use Rattle.a2l_blocks.specs.Roles.{inside, after_plain, after_text, part_of}
+use Rattle.a2l_blocks.specs.Trees.{Elements, none, word, text, include, block, printed_before, printed, IsWithin}
+use Rattle.a2l_blocks.specs.Roles.{inside, after_plain, after_text, may_include, part_of}
 use Rattle.a2l_blocks.specs.Parts.{Section}
-use Rattle.a2l_blocks.specs.Ahead.{Open, in_front, ended, gathered_with, sections_from}
+use Rattle.a2l_blocks.specs.Ahead.{Open, begun_with, in_front, ended, gathered_with, sections_from}
 use Rattle.a2l_blocks.specs.Reading.{ReadsElements, sections_of}
 use Rattle.a2l_blocks.specs.declared.part.Part.{Part}
 use Rattle.a2l_blocks.specs.declared.role.Role.{Role}
 use Rattle.a2l_blocks.specs.declared.role.Role.TheVariants.{File}
 use Rattle.a2l_blocks.proofs.TreeLaws.{reads_all}
 
--- the words are those that end open blocks of these names, the innermost first, each with so much room and one more
-abbrev pub Completes : ℕ → List (List ℕ) → List Token → Type 0
-Completes room [] ws = (f : Elements) × IsWithin room f × (ws ≡ printed f)
-Completes room (n ∷ ns) ws =
-    (f : Elements) × (rest : List Token) × IsWithin room f × (ws ≡ printed_before f (end ∷ plain n ∷ rest)) × Completes (suc room) ns rest
+-- the words are those that end a block of this role and the open blocks around it, the innermost first, with so much room in it and one more in each of those
+abbrev pub Completes : ℕ → Role → List Open → List Token → Type 0
+Completes room role [] ws = (f : Elements) × IsWithin room role f × (ws ≡ printed f)
+Completes room role (o ∷ os) ws =
+    (f : Elements) × (rest : List Token) × IsWithin room role f × (ws ≡ printed_before f (end ∷ plain o.name ∷ rest)) × Completes (suc room) o.outer os rest
 
-with_word : (room : ℕ) (ns : List (List ℕ)) (b : List ℕ) (ws : List Token) → Completes room ns ws → Completes room ns (plain b ∷ ws)
-with_word room [] b ws c = (word b c.0, c.1, ap (λ (x : List Token). plain b ∷ x) c.2)
-with_word room (n ∷ ns) b ws c = (word b c.0, c.1, c.2, ap (λ (x : List Token). plain b ∷ x) c.3, c.4)
+with_word : (room : ℕ) (role : Role) (os : List Open) (b : List ℕ) (ws : List Token) → Completes room (after_plain role b) os ws → Completes room role os (plain b ∷ ws)
+with_word room role [] b ws c = (word b c.0, c.1, ap (λ (x : List Token). plain b ∷ x) c.2)
+with_word room role (o ∷ os) b ws c = (word b c.0, c.1, c.2, ap (λ (x : List Token). plain b ∷ x) c.3, c.4)
 
-with_text : (room : ℕ) (ns : List (List ℕ)) (b : List ℕ) (ws : List Token) → Completes room ns ws → Completes room ns (quoted b ∷ ws)
-with_text room [] b ws c = (text b c.0, c.1, ap (λ (x : List Token). quoted b ∷ x) c.2)
-with_text room (n ∷ ns) b ws c = (text b c.0, c.1, c.2, ap (λ (x : List Token). quoted b ∷ x) c.3, c.4)
+with_text : (room : ℕ) (role : Role) (os : List Open) (b : List ℕ) (ws : List Token) → Completes room (after_text role) os ws → Completes room role os (quoted b ∷ ws)
+with_text room role [] b ws c = (text b c.0, c.1, ap (λ (x : List Token). quoted b ∷ x) c.2)
+with_text room role (o ∷ os) b ws c = (text b c.0, c.1, c.2, ap (λ (x : List Token). quoted b ∷ x) c.3, c.4)
 
-with_end : (room : ℕ) (ns : List (List ℕ)) (n : List ℕ) (ws : List Token) → Completes (suc room) ns ws → Completes room (n ∷ ns) (end ∷ plain n ∷ ws)
-with_end room ns n ws c = (none, ws, tt, refl, c)
+with_include : (room : ℕ) (role : Role) (os : List Open) (ws : List Token) → may_include role ≡ true → Completes room role os ws → Completes room role os (token.include ∷ ws)
+with_include room role [] ws may c = (include c.0, (may, c.1), ap (λ (x : List Token). token.include ∷ x) c.2)
+with_include room role (o ∷ os) ws may c = (include c.0, c.1, (may, c.2), ap (λ (x : List Token). token.include ∷ x) c.3, c.4)
 
-with_block : (room : ℕ) (ns : List (List ℕ)) (n : List ℕ) (ws : List Token) → Completes room (n ∷ ns) ws → Completes (suc room) ns (begin ∷ plain n ∷ ws)
-with_block room [] n ws c =
+with_end : (room : ℕ) (role : Role) (o : Open) (os : List Open) (ws : List Token) → Completes (suc room) o.outer os ws → Completes room role (o ∷ os) (end ∷ plain o.name ∷ ws)
+with_end room role o os ws c = (none, ws, tt, refl, c)
+
+with_block : (room : ℕ) (role : Role) (os : List Open) (n : List ℕ) (ws : List Token) → Completes room (inside role n) (record { name = n; outer = role } ∷ os) ws → Completes (suc room) role os (begin ∷ plain n ∷ ws)
+with_block room role [] n ws c =
     (block n c.0 c.4.0, (c.2, c.4.1), ap (λ (x : List Token). begin ∷ plain n ∷ x) (c.3 ∙ ap (λ (x : List Token). printed_before c.0 (end ∷ plain n ∷ x)) c.4.2))
-with_block room (m ∷ ns) n ws c =
+with_block room role (m ∷ os) n ws c =
     (block n c.0 c.4.0, c.4.1, (c.2, c.4.2), ap (λ (x : List Token). begin ∷ plain n ∷ x) (c.3 ∙ ap (λ (x : List Token). printed_before c.0 (end ∷ plain n ∷ x)) c.4.3), c.4.4)
-
-abbrev names_of : List Open → List (List ℕ)
-names_of os = map (λ o. o.name) os
 
 -- a test that went well
 guard : {A : Type 0} (b : Bool) (x : Option A) (y : A) → cond b x None ≡ Some y → (b ≡ true) × (x ≡ Some y)
@@ -56,28 +58,31 @@ end_goes None g fresh kept ss P hf hk e = hk ss e
 end_goes (Some p) g fresh kept ss P hf hk e = let x = front (record { part = p; words = g } ∷ []) fresh ss e in hf x.0 x.1
 
 completes : (ws : List Token) (role : Role) (os : List Open) (g : List Token) (ss : List Section) (room : ℕ) → length os + room ≡ 64
-    → sections_from role os g ws ≡ Some ss → Completes room (names_of os) ws
+    → sections_from role os g ws ≡ Some ss → Completes room role os ws
 unfolding sections_from
 completes [] role [] g ss room r e = (none, tt, refl)
 completes [] role (o ∷ os) g ss room r e = absurd cc
 completes (plain b ∷ ws) role os g ss room r e =
-    with_word room (names_of os) b ws (completes ws (after_plain role b) os (gathered_with role (plain b) g) ss room r e)
+    with_word room role os b ws (completes ws (after_plain role b) os (gathered_with role (plain b) g) ss room r e)
 completes (quoted b ∷ ws) role os g ss room r e =
-    with_text room (names_of os) b ws (completes ws (after_text role) os (gathered_with role (quoted b) g) ss room r e)
+    with_text room role os b ws (completes ws (after_text role) os (gathered_with role (quoted b) g) ss room r e)
+completes (token.include ∷ ws) role os g ss room r e =
+    let h = guard (may_include role) (sections_from role os g ws) ss e in
+    with_include room role os ws h.0 (completes ws role os g ss room r h.1)
 completes (begin ∷ plain n ∷ ws) role os g ss zero r e =
-    let h = guard (ltb (length os) 64) (sections_from (inside role n) (record { name = n; outer = role } ∷ os) g ws) ss e in
+    let h = guard (ltb (length os) 64) (sections_from (inside role n) (record { name = n; outer = role } ∷ os) (begun_with (inside role n) n g) ws) ss e in
     let no_room : ltb (length os) 64 ≡ false = le-ltb (length os) 64 (omega arith) in
     absurd cc
 completes (begin ∷ plain n ∷ ws) role os g ss (suc room) r e =
-    let h = guard (ltb (length os) 64) (sections_from (inside role n) (record { name = n; outer = role } ∷ os) g ws) ss e in
-    with_block room (names_of os) n ws (completes ws (inside role n) (record { name = n; outer = role } ∷ os) g ss room (omega arith) h.1)
+    let h = guard (ltb (length os) 64) (sections_from (inside role n) (record { name = n; outer = role } ∷ os) (begun_with (inside role n) n g) ws) ss e in
+    with_block room role os n ws (completes ws (inside role n) (record { name = n; outer = role } ∷ os) (begun_with (inside role n) n g) ss room (omega arith) h.1)
 completes (end ∷ plain n ∷ ws) role (o ∷ os) g ss room r e =
     let h = guard (bytes_eq n o.name) (ended (part_of role) g (sections_from o.outer os [] ws) (sections_from o.outer os g ws)) ss e in
     let same : n ≡ o.name = (bytes_eq-Decides n o.name).0 h.0 in
-    let left : Completes (suc room) (names_of os) ws = end_goes (part_of role) g (sections_from o.outer os [] ws) (sections_from o.outer os g ws) ss (Completes (suc room) (names_of os) ws)
+    let left : Completes (suc room) o.outer os ws = end_goes (part_of role) g (sections_from o.outer os [] ws) (sections_from o.outer os g ws) ss (Completes (suc room) o.outer os ws)
     (λ ts t. completes ws o.outer os [] ts (suc room) (omega arith) t)
     (λ ts t. completes ws o.outer os g ts (suc room) (omega arith) t) h.1 in
-    subst (λ (m : List ℕ). Completes room (o.name ∷ names_of os) (end ∷ plain m ∷ ws)) (sym same) (with_end room (names_of os) o.name ws left)
+    subst (λ (m : List ℕ). Completes room role (o ∷ os) (end ∷ plain m ∷ ws)) (sym same) (with_end room role o os ws left)
 completes (w ∷ ws) role [] g ss room r e = absurd cc
 completes (w ∷ ws) role (o ∷ os) g ss room r e = absurd cc
 

@@ -12,9 +12,9 @@ use Rattle.a2l_words.specs.Faults.{Stalls}
 use Rattle.a2l_words.specs.declared.fault.WordFault.{WordFault}
 use Rattle.a2l_words.specs.declared.word.Word.{Word}
 use Rattle.a2l_words.proofs.LawLemmas.{one_word_is_next, no_word_at_the_end, no_word_at_a_fault, no_end_at_a_fault}
-use Rattle.a2l_blocks.specs.Roles.{inside, after_plain, after_text, part_of}
+use Rattle.a2l_blocks.specs.Roles.{inside, after_plain, after_text, may_include, part_of}
 use Rattle.a2l_blocks.specs.Parts.{Section}
-use Rattle.a2l_blocks.specs.Ahead.{Open, ended, gathered_with, sections_from}
+use Rattle.a2l_blocks.specs.Ahead.{Open, begun_with, ended, gathered_with, sections_from}
 use Rattle.a2l_blocks.specs.Steps.{State, plain_bytes, WordIs, TakesWord, HasNoMore, Reaches, ReachesPart, Ends, StepIs, StopsAt, UnlessMemory, HasNoWords, HasNoName, coming, coming_behind}
 use Rattle.a2l_blocks.specs.States.{open_of}
 use Rattle.a2l_blocks.specs.declared.blocks.OpenBlock.{OpenBlock}
@@ -152,7 +152,7 @@ text_step role os g ahead b h e = record {
 
 -- a block begins
 pub begin_step : (role : Role) (os : List Open) (g : List Token) (old new : List ℕ) (n : List ℕ) → TakesWord (plain n) old new → length os < 64
-    → Reaches old (λ words. sections_from role os g (begin ∷ words)) (record { role = inside role n; around = record { name = n; outer = role } ∷ os; gathered = g; ahead = new })
+    → Reaches old (λ words. sections_from role os g (begin ∷ words)) (record { role = inside role n; around = record { name = n; outer = role } ∷ os; gathered = begun_with (inside role n) n g; ahead = new })
 begin_step role os g old new n takes lt = record {
   there = λ words a.
       let t = takes.there words a in
@@ -225,9 +225,16 @@ stray_end role g old new n takes words a =
     let t = takes.there words a in
     ap (λ (x : List Token). sections_from role [] g (end ∷ x)) t.1 ∙ stray role g n t.0
 
-pub included : (role : Role) (os : List Open) (g words : List Token) → sections_from role os g (include ∷ words) ≡ None
+pub included : (role : Role) (os : List Open) (g words : List Token) → may_include role ≡ false → sections_from role os g (include ∷ words) ≡ None
 unfolding sections_from
-included role os g words = refl
+included role os g words e = rw e refl
+
+pub include_step : (s : State) → may_include s.role ≡ true → Reaches s.ahead (λ words. sections_from s.role s.around s.gathered (include ∷ words)) s
+unfolding sections_from
+include_step s e = record {
+  there = λ words a. (words, a, rw e refl);
+  back = λ rest a. (rest, a);
+}
 
 -- no name stands behind /begin or /end
 nameless_begin : (role : Role) (os : List Open) (g : List Token) (old : List ℕ) (words : List Token) → ((name : List ℕ) (others : List Token) → words ≡ plain name ∷ others → ⊥)
@@ -303,10 +310,10 @@ pushed items new x e = ap (λ (l : List OpenBlock). reverse (map open_of l)) e �
 pub depth : (items : List OpenBlock) → length (reverse (map open_of items)) ≡ length items
 depth items = length-reverse (map open_of items) ∙ length-map items open_of
 
-pub begin_done : (role role' : Role) (os os' : List Open) (g : List Token) (old new n : List ℕ) → TakesWord (plain n) old new → length os < 64
-    → role' ≡ inside role n → os' ≡ record { name = n; outer = role } ∷ os
-    → Reaches old (λ words. sections_from role os g (begin ∷ words)) (record { role = role'; around = os'; gathered = g; ahead = new })
-begin_done role role' os os' g old new n takes lt e f = rw (e, f) (begin_step role os g old new n takes lt)
+pub begin_done : (role role' : Role) (os os' : List Open) (g h : List Token) (old new n : List ℕ) → TakesWord (plain n) old new → length os < 64
+    → role' ≡ inside role n → os' ≡ record { name = n; outer = role } ∷ os → h ≡ begun_with role' n g
+    → Reaches old (λ words. sections_from role os g (begin ∷ words)) (record { role = role'; around = os'; gathered = h; ahead = new })
+begin_done role role' os os' g h old new n takes lt e f k = rw (k, e, f) (begin_step role os g old new n takes lt)
 
 pub end_done : (role : Role) (q : Option Part) (o : Open) (os' os : List Open) (g : List Token) (old new n : List ℕ) → TakesWord (plain n) old new → n ≡ o.name
     → q ≡ part_of role → os' ≡ o ∷ os

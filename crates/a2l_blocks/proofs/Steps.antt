@@ -6,14 +6,14 @@ use Rattle.std.proofs.lemmas.Slice.Eq.{bytes_eq-Decides}
 use Rattle.a2l_words.specs.Tokens.{Token, begin, end, plain}
 use Rattle.a2l_blocks.specs.Roles.{inside, part_of}
 use Rattle.a2l_blocks.specs.Parts.{Section}
-use Rattle.a2l_blocks.specs.Ahead.{Open, in_front, ended, sections_from}
+use Rattle.a2l_blocks.specs.Ahead.{Open, begun_with, in_front, ended, sections_from}
 use Rattle.a2l_blocks.specs.declared.role.Role.{Role}
 
 pub same_text : (n : List ℕ) → bytes_eq n n ≡ true
 same_text n = (bytes_eq-Decides n n).1 refl
 
 pub opens : (role : Role) (os : List Open) (g : List Token) (n : List ℕ) (ws : List Token) → length os < 64
-    → sections_from role os g (begin ∷ plain n ∷ ws) ≡ sections_from (inside role n) (record { name = n; outer = role } ∷ os) g ws
+    → sections_from role os g (begin ∷ plain n ∷ ws) ≡ sections_from (inside role n) (record { name = n; outer = role } ∷ os) (begun_with (inside role n) n g) ws
 unfolding sections_from
 opens role os g n ws lt = rw (lt-ltb (length os) 64 lt) refl
 

@@ -10,11 +10,11 @@ use Rattle.a2l_blocks.specs.declared.role.Role.TheVariants.{File}
 abbrev pub sections_of : List Token → Option (List Section)
 sections_of words = sections_from File [] [] words
 
--- the words are those of elements, of which at most 64 blocks stand in one another, and these are
--- their parts
+-- the words are those of elements, of which at most 64 blocks stand in one another, with /include
+-- in A2ML alone, and these are their parts
 pub record HaveParts (words : List Token) (sections : List Section) : Type 0 where
   pub elements : Elements
-  pub within : IsWithin 64 elements
+  pub within : IsWithin 64 File elements
   pub words_are : words ≡ printed elements
   pub parts_are : sections ≡ parts File elements
 
@@ -27,5 +27,5 @@ ReadsElements =
 -- the parts of elements are read of their words
 abbrev pub ReadsAll : Type 0
 ReadsAll =
-    (elements : Elements) → IsWithin 64 elements
+    (elements : Elements) → IsWithin 64 File elements
     → sections_of (printed elements) ≡ Some (parts File elements)

@@ -1,20 +1,35 @@
 -- What a block is to the reader of an A2L file, by its name and the block in which it stands.
-use Rattle.std.specs.Prelude.{ℕ, List, codes, bytes_eq, Option, Some, None, if◌then◌else◌}
+use Rattle.std.specs.Prelude.{ℕ, Bool, true, false, List, codes, bytes_eq, Option, Some, None}
+use Rattle.std.specs.Prelude.{if◌then◌else◌}
 use Rattle.a2l_blocks.specs.declared.part.Part.{Part}
 use Rattle.a2l_blocks.specs.declared.part.Part.TheVariants as part
 use Rattle.a2l_blocks.specs.declared.role.Role.{Role}
 use Rattle.a2l_blocks.specs.declared.role.Role.TheVariants.{File, Project, Module, Data, Xcp}
-use Rattle.a2l_blocks.specs.declared.role.Role.TheVariants.{Gathered, Passed}
+use Rattle.a2l_blocks.specs.declared.role.Role.TheVariants.{Gathered, Grammar, Joined, Passed}
 
 -- a block directly in a MODULE
 abbrev pub module_block : List ℕ → Role
 module_block name =
     if bytes_eq name (codes "MEASUREMENT") then Gathered part.Measurement
+    else (if bytes_eq name (codes "INSTANCE") then Gathered part.Instance
     else (if bytes_eq name (codes "COMPU_METHOD") then Gathered part.Method
     else (if bytes_eq name (codes "COMPU_VTAB") then Gathered part.Table
     else (if bytes_eq name (codes "COMPU_VTAB_RANGE") then Gathered part.Ranges
     else (if bytes_eq name (codes "MOD_COMMON") then Gathered part.Defaults
-    else (if bytes_eq name (codes "IF_DATA") then Data else Passed)))))
+    else (if bytes_eq name (codes "IF_DATA") then Data
+    else (if bytes_eq name (codes "A2ML") then Grammar else Passed)))))))
+
+-- a block directly in a part: a MEASUREMENT has options in BIT_OPERATION
+abbrev pub inside_part : Part → List ℕ → Role
+inside_part part.Defaults name = Passed
+inside_part part.Measurement name =
+    if bytes_eq name (codes "BIT_OPERATION") then Joined else Passed
+inside_part part.Instance name = Passed
+inside_part part.Method name = Passed
+inside_part part.Table name = Passed
+inside_part part.Ranges name = Passed
+inside_part part.Timestamp name = Passed
+inside_part part.Module name = Passed
 
 -- a block in a block
 abbrev pub inside : Role → List ℕ → Role
@@ -24,7 +39,9 @@ inside Module name = module_block name
 inside Data name = Passed
 inside Xcp name =
     if bytes_eq name (codes "TIMESTAMP_SUPPORTED") then Gathered part.Timestamp else Xcp
-inside (Gathered p) name = Passed
+inside (Gathered p) name = inside_part p name
+inside Joined name = Passed
+inside Grammar name = Grammar
 inside Passed name = Passed
 
 -- the first word of an IF_DATA says whose it is
@@ -35,6 +52,8 @@ after_plain Module word = Module
 after_plain Data word = if bytes_eq word (codes "XCP") then Xcp else Passed
 after_plain Xcp word = Xcp
 after_plain (Gathered p) word = Gathered p
+after_plain Joined word = Joined
+after_plain Grammar word = Grammar
 after_plain Passed word = Passed
 
 abbrev pub after_text : Role → Role
@@ -44,7 +63,21 @@ after_text Module = Module
 after_text Data = Passed
 after_text Xcp = Xcp
 after_text (Gathered p) = Gathered p
+after_text Joined = Joined
+after_text Grammar = Grammar
 after_text Passed = Passed
+
+-- other files may be included in A2ML, which is passed over
+abbrev pub may_include : Role → Bool
+may_include File = false
+may_include Project = false
+may_include Module = false
+may_include Data = false
+may_include Xcp = false
+may_include (Gathered p) = false
+may_include Joined = false
+may_include Grammar = true
+may_include Passed = false
 
 -- what a block is, if it is a part
 abbrev pub part_of : Role → Option Part
@@ -54,4 +87,6 @@ part_of Module = Some part.Module
 part_of Data = None
 part_of Xcp = None
 part_of (Gathered p) = Some p
+part_of Joined = None
+part_of Grammar = None
 part_of Passed = None

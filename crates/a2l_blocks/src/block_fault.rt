@@ -14,7 +14,7 @@ pub enum BlockFault {
     /// The text has no next word.
     #[error(transparent)]
     Words(WordFault),
-    /// `/include`: other files aren't read.
+    /// `/include`, but in A2ML: other files aren't read.
     #[error("/include is not supported")]
     Include,
     /// More than 64 blocks are open.

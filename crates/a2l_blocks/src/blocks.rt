@@ -2,9 +2,9 @@ ghost use Rattle.std.specs.Prelude.{◌≡◌, bytes_eq, ◌<◌, ◌≤◌, [],
 ghost use Rattle.std.specs.Prelude.{IfOk, OnOk, IfErr, IsSome};
 ghost use Rattle.a2l_words.specs.Words.{without_mark};
 ghost use Rattle.a2l_words.specs.TokenOf.{token_of};
-ghost use Rattle.a2l_words.specs.Tokens.{begin, end};
+ghost use Rattle.a2l_words.specs.Tokens.{begin, end, include};
 ghost use Rattle.a2l_words.specs.State.{rest_of};
-ghost use Rattle.a2l_blocks.specs.Ahead.{gathered_with};
+ghost use Rattle.a2l_blocks.specs.Ahead.{begun_with, gathered_with};
 ghost use Rattle.a2l_blocks.specs.Steps.{WordIs, NameIs, HasNoWords, HasNoName, plain_bytes};
 ghost use Rattle.a2l_blocks.specs.Steps.{token_at, Reaches, StepIs, StopsAt, NextIs, coming};
 ghost use Rattle.a2l_blocks.specs.Steps.{coming_behind, cleared};
@@ -29,7 +29,7 @@ pub struct OpenBlock<'a> {
 }
 
 /// The blocks of a text that say what is measured, one after another. Every other block is passed
-/// over by its `/begin` and `/end`.
+/// over by its `/begin` and `/end`, but for one that has options of a part.
 #[derive(Drop)]
 pub struct Blocks<'a> {
     words: Words<'a>,
@@ -82,7 +82,8 @@ impl<'a> Blocks<'a> {
         }
     }
 
-    /// The words that stand directly in the part that was read last, in their order.
+    /// The words that stand directly in the part that was read last, in their order, and behind its
+    /// name those of each block that has options of it.
     pub fn words(&self) -> &[Located<'a>]
         ensures { map token_at result.now ≡ (state_of self.now).gathered }
     {
@@ -115,7 +116,7 @@ impl<'a> Blocks<'a> {
                 Ok(None)
             }
             Word::End => self.end(),
-            Word::Include => Err(BlockFault::Include),
+            Word::Include => self.include(),
             Word::Plain(bytes) => {
                 gather(self.role, &mut self.gathered, Located { word, at })?;
                 self.role = self.role.after_plain(bytes);
@@ -127,6 +128,21 @@ impl<'a> Blocks<'a> {
                 Ok(None)
             }
         }
+    }
+
+    /// Passes over the `/include` that was read last, if it may stand there.
+    fn include(&mut self) -> Result<Option<Part>, BlockFault>
+        ensures ok { IfOk result (λ part. StepIs part (rest_of self.old.words)
+            (coming_behind include (state_of self.old)) (state_of self.new)) }
+        ensures no_longer { OnOk result
+            (length (rest_of self.new.words) ≤ length (rest_of self.old.words)) }
+        ensures err { IfErr result (λ fault. StopsAt fault (rest_of self.old.words)
+            (coming_behind include (state_of self.old))) }
+    {
+        if self.role.may_include() {
+            return Ok(None);
+        }
+        Err(BlockFault::Include)
     }
 
     /// Opens the block whose `/begin` is the word that was read last.
@@ -145,6 +161,7 @@ impl<'a> Blocks<'a> {
         let outer = self.role;
         self.around.push(OpenBlock { name, outer })?;
         self.role = outer.inside(name);
+        gather_name(self.role, &mut self.gathered, name, self.words.start())?;
         Ok(())
     }
 
@@ -224,8 +241,26 @@ fn gather<'a>(
     ensures { OnOk result (map token_at gathered.new.items
         ≡ gathered_with role (token_at word.entry) (map token_at gathered.old.items)) }
 {
-    if let Role::Gathered(_) = role {
-        gathered.push(word)?;
+    match role {
+        Role::Gathered(_) | Role::Joined => gathered.push(word)?,
+        _ => {}
+    }
+    Ok(())
+}
+
+/// Keeps the name of a block, if it is one whose words are gathered with those around it.
+fn gather_name<'a>(
+    role: Role,
+    gathered: &mut Vec<Located<'a>>,
+    name: &'a [u8],
+    at: usize,
+) -> Result<(), AllocError>
+    ensures { OnOk result (map token_at gathered.new.items
+        ≡ begun_with role name.now (map token_at gathered.old.items)) }
+{
+    if let Role::Joined = role {
+        let word = Word::Plain(name);
+        gathered.push(Located { word, at })?;
     }
     Ok(())
 }

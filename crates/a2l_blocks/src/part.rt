@@ -5,6 +5,8 @@ pub enum Part {
     Defaults,
     /// MEASUREMENT.
     Measurement,
+    /// INSTANCE.
+    Instance,
     /// COMPU_METHOD.
     Method,
     /// COMPU_VTAB.

@@ -1,5 +1,6 @@
 ghost use Rattle.std.specs.Prelude.{◌≡◌, bytes_eq};
-ghost use Rattle.a2l_blocks.specs.Roles.{inside, module_block, after_plain, after_text, part_of};
+ghost use Rattle.a2l_blocks.specs.Roles.{inside, inside_part, module_block, after_plain};
+ghost use Rattle.a2l_blocks.specs.Roles.{after_text, may_include, part_of};
 
 use crate::part::Part;
 
@@ -16,6 +17,10 @@ pub enum Role {
     Xcp,
     /// Its words are gathered.
     Gathered(Part),
+    /// Its name and its words are gathered with those of the part that it stands in.
+    Joined,
+    /// In A2ML, the grammar of IF_DATA: it is passed over, and may name other files to include.
+    Grammar,
     /// It is passed over, with all that stands in it.
     Passed,
 }
@@ -38,6 +43,8 @@ impl Role {
             Role::Module => module_block(name),
             Role::Xcp if is(name, "TIMESTAMP_SUPPORTED") => Role::Gathered(Part::Timestamp),
             Role::Xcp => Role::Xcp,
+            Role::Gathered(part) => inside_part(part, name),
+            Role::Grammar => Role::Grammar,
             _ => Role::Passed,
         }
     }
@@ -63,6 +70,13 @@ impl Role {
         }
     }
 
+    /// Whether `/include` is passed over in the block.
+    pub fn may_include(self) -> bool
+        ensures { result ≡ may_include self }
+    {
+        matches!(self, Role::Grammar)
+    }
+
     /// What the block is, if it is a part.
     pub fn part(self) -> Option<Part>
         ensures { result ≡ part_of self }
@@ -75,12 +89,25 @@ impl Role {
     }
 }
 
+/// The role of a block of this name directly in a part.
+fn inside_part(part: Part, name: &[u8]) -> Role
+    ensures { result ≡ inside_part part name.now }
+{
+    match part {
+        Part::Measurement if is(name, "BIT_OPERATION") => Role::Joined,
+        _ => Role::Passed,
+    }
+}
+
 /// The role of a block of this name directly in a MODULE.
 fn module_block(name: &[u8]) -> Role
     ensures { result ≡ module_block name.now }
 {
     if is(name, "MEASUREMENT") {
         return Role::Gathered(Part::Measurement);
+    }
+    if is(name, "INSTANCE") {
+        return Role::Gathered(Part::Instance);
     }
     if is(name, "COMPU_METHOD") {
         return Role::Gathered(Part::Method);
@@ -96,6 +123,9 @@ fn module_block(name: &[u8]) -> Role
     }
     if is(name, "IF_DATA") {
         return Role::Data;
+    }
+    if is(name, "A2ML") {
+        return Role::Grammar;
     }
     Role::Passed
 }

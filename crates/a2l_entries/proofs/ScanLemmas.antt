@@ -2,7 +2,7 @@
 use Rattle.std.proofs.Common.{◌≡◌, ℕ, zero, suc, ◌+◌, ◌-◌, ◌<◌, ◌≤◌, List, [], ◌∷◌, ◌++◌, length, map, Option, Some, None, refl, sym, ap, subst, ◌∙◌, append_assoc, arith}
 use Rattle.std.specs.Option.{option_map, MatchOption}
 use Rattle.a2l_blocks.specs.declared.located.Located.{Located}
-use Rattle.std.proofs.lemmas.List.{append-nil}
+use Rattle.std.proofs.lemmas.List.{append-nil, length-map}
 use Rattle.a2l_words.specs.Tokens.{Token}
 use Rattle.a2l_entries.specs.declared.stop.Stop.{Stop}
 use Rattle.a2l_entries.specs.declared.stop.Stop.TheVariants as stop
@@ -69,6 +69,18 @@ none_left (Some x) P Q n m = absurd (n x refl)
 pub no_tokens : (ls : List Located) → length ls ≡ 0 → map token_at ls ≡ []
 no_tokens [] e = refl
 no_tokens (l ∷ ls) e = absurd (omega arith)
+
+-- no more words are left than there were
+behind_keeps : (n : ℕ) (ws rest : List Token) → behind n ws ≡ Some rest → length rest ≤ length ws
+behind_keeps zero ws rest e = let same : ws ≡ rest = cc in omega (arith, ap length same)
+behind_keeps (suc n) [] rest e = absurd cc
+behind_keeps (suc n) (w ∷ ws) rest e = omega (arith, behind_keeps n ws rest e)
+
+-- fewer words are left behind a keyword and the words that belong to it
+pub fewer_left : (n : ℕ) (old words rest : List Located) (word : Located) → old ≡ word ∷ words
+    → behind n (map token_at words) ≡ Some (map token_at rest) → length rest < length old
+fewer_left n old words rest word is e =
+    omega (arith, ap length is, behind_keeps n (map token_at words) (map token_at rest) e, length-map words token_at, length-map rest token_at)
 
 -- the same, where keywords are told apart first
 module _ {O K : Type 0} (none : O) (or : O → O → O) (key : Token → K) (args : K → ℕ) (one : K → List Token → Option O) where

@@ -8,6 +8,8 @@ use Rattle.measurement.specs.declared.data_type.DataType.{DataType}
 use Rattle.measurement.specs.declared.data_type.DataType.TheVariants as data_type
 use Rattle.a2l_entries.specs.declared.keywords.MeasurementKeyword.{MeasurementKeyword}
 use Rattle.a2l_entries.specs.declared.keywords.MeasurementKeyword.TheVariants as option
+use Rattle.a2l_entries.specs.declared.keywords.OperationKeyword.{OperationKeyword}
+use Rattle.a2l_entries.specs.declared.keywords.OperationKeyword.TheVariants as operation
 use Rattle.a2l_entries.specs.declared.keywords.MethodKeyword.{MethodKeyword}
 use Rattle.a2l_entries.specs.declared.keywords.MethodKeyword.TheVariants as method
 use Rattle.a2l_entries.specs.declared.keywords.MethodKind.{MethodKind}
@@ -27,6 +29,14 @@ other_keyword_of word =
     else (if bytes_eq word (codes "SYMBOL_LINK") then option.Two
     else option.Other)))))))
 
+abbrev pub operation_keyword_of : List ℕ → MeasurementKeyword
+operation_keyword_of word =
+    if bytes_eq word (codes "BIT_OPERATION") then option.Operation operation.Name
+    else (if bytes_eq word (codes "LEFT_SHIFT") then option.Operation operation.Left
+    else (if bytes_eq word (codes "RIGHT_SHIFT") then option.Operation operation.Right
+    else (if bytes_eq word (codes "SIGN_EXTEND") then option.Operation operation.Sign
+    else other_keyword_of word)))
+
 abbrev pub measurement_keyword_of : List ℕ → MeasurementKeyword
 measurement_keyword_of word =
     if bytes_eq word (codes "ECU_ADDRESS") then option.Address
@@ -36,7 +46,7 @@ measurement_keyword_of word =
     else (if bytes_eq word (codes "PHYS_UNIT") then option.Unit
     else (if bytes_eq word (codes "ARRAY_SIZE") then option.Size
     else (if bytes_eq word (codes "MATRIX_DIM") then option.Dimensions
-    else other_keyword_of word))))))
+    else operation_keyword_of word))))))
 
 unfoldable pub measurement_keyword : Token → MeasurementKeyword
 measurement_keyword begin = option.Other
@@ -45,10 +55,17 @@ measurement_keyword include = option.Other
 measurement_keyword (plain bytes) = measurement_keyword_of bytes
 measurement_keyword (quoted bytes) = option.Other
 
+abbrev pub operation_arguments_of : OperationKeyword → ℕ
+operation_arguments_of operation.Name = 0
+operation_arguments_of operation.Left = 1
+operation_arguments_of operation.Right = 1
+operation_arguments_of operation.Sign = 0
+
 -- the numbers of MATRIX_DIM are no keywords, and passed over as such
 abbrev pub arguments_of : MeasurementKeyword → ℕ
 arguments_of option.Order = 1
 arguments_of option.Mask = 1
+arguments_of (option.Operation keyword) = operation_arguments_of keyword
 arguments_of option.Address = 1
 arguments_of option.Extension = 1
 arguments_of option.Size = 1
@@ -105,9 +122,10 @@ data_type_of word =
     else (if bytes_eq word (codes "SLONG") then Some data_type.SLong
     else (if bytes_eq word (codes "A_UINT64") then Some data_type.AUint64
     else (if bytes_eq word (codes "A_INT64") then Some data_type.AInt64
+    else (if bytes_eq word (codes "FLOAT16_IEEE") then Some data_type.Float16
     else (if bytes_eq word (codes "FLOAT32_IEEE") then Some data_type.Float32
     else (if bytes_eq word (codes "FLOAT64_IEEE") then Some data_type.Float64
-    else None)))))))))
+    else None))))))))))
 
 unfoldable pub data_type_said : Token → Option DataType
 data_type_said w = plain_said w >>= data_type_of

@@ -1,12 +1,15 @@
 -- What a block MEASUREMENT says (ASAM MCD-2 MC, MEASUREMENT).
 use Rattle.std.specs.Prelude.{ℕ, zero, suc, ◌<◌, ◌^◌, Bool, true, false, not, ◌||◌, ◌==◌, nat_lt}
 use Rattle.std.specs.Prelude.{List, [], ◌∷◌, codes, Option, Some, None, if◌then◌else◌, string_bytes}
-use Rattle.std.specs.Option.{option_map, option_or}
+use Rattle.std.specs.Option.{option_map, option_or, unwrap_or}
 use Rattle.a2l_words.specs.Tokens.{Token}
+use Rattle.measurement.specs.declared.bit_operation.BitOperation.{BitOperation}
 use Rattle.measurement.specs.declared.byte_order.ByteOrder.{ByteOrder}
 use Rattle.measurement.specs.declared.data_type.DataType.{DataType}
 use Rattle.a2l_entries.specs.declared.keywords.MeasurementKeyword.{MeasurementKeyword}
 use Rattle.a2l_entries.specs.declared.keywords.MeasurementKeyword.TheVariants as option
+use Rattle.a2l_entries.specs.declared.keywords.OperationKeyword.{OperationKeyword}
+use Rattle.a2l_entries.specs.declared.keywords.OperationKeyword.TheVariants as operation
 use Rattle.a2l_entries.specs.declared.measurement_options.MeasurementOptions.{MeasurementOptions}
 use Rattle.a2l_entries.specs.declared.measurement_block.MeasurementBlock.{MeasurementBlock}
 use Rattle.a2l_entries.specs.declared.said.Reference.{Reference}
@@ -21,6 +24,11 @@ use Rattle.a2l_entries.specs.Keywords.{data_type_said, is_keyword}
 pub record Options : Type 0 where
   pub order : Option ByteOrder
   pub mask : Option ℕ
+  -- a BIT_OPERATION stands there, with LEFT_SHIFT, RIGHT_SHIFT and SIGN_EXTEND
+  pub operates : Bool
+  pub left : Option ℕ
+  pub right : Option ℕ
+  pub extends_sign : Bool
   pub address : Option ℕ
   pub unit : Option (List ℕ)
   -- an array, or an extension of the address other than 0
@@ -30,29 +38,65 @@ abbrev pub options_seen : MeasurementOptions → Options
 options_seen o = record {
   order = o.order;
   mask = o.mask;
+  operates = o.operates;
+  left = o.left;
+  right = o.right;
+  extends_sign = o.extends_sign;
   address = o.address;
   unit = option_map (λ s. string_bytes s) o.unit;
   apart = o.apart;
 }
 
 abbrev pub no_options : Options
-no_options = record { order = None; mask = None; address = None; unit = None; apart = false }
+no_options = record {
+  order = None;
+  mask = None;
+  operates = false;
+  left = None;
+  right = None;
+  extends_sign = false;
+  address = None;
+  unit = None;
+  apart = false;
+}
 
 -- these options, and others for what these leave open
 abbrev pub options_or : Options → Options → Options
 options_or a b = record {
   order = option_or a.order b.order;
   mask = option_or a.mask b.mask;
+  operates = a.operates || b.operates;
+  left = option_or a.left b.left;
+  right = option_or a.right b.right;
+  extends_sign = a.extends_sign || b.extends_sign;
   address = option_or a.address b.address;
   unit = option_or a.unit b.unit;
   apart = a.apart || b.apart;
 }
+
+-- what is done behind the mask: nothing is moved by what isn't said
+abbrev pub operation_of : Options → Option BitOperation
+operation_of o =
+    if o.operates
+    then Some (record {
+      left = unwrap_or o.left 0;
+      right = unwrap_or o.right 0;
+      extends_sign = o.extends_sign;
+    })
+    else None
 
 abbrev pub mask_of : ℕ → Option ℕ
 mask_of n = if n == 0 then None else Some n
 
 unfoldable pub mask_said : Token → Option ℕ
 mask_said w = integer_said w >>= mask_of
+
+abbrev pub shift_of : ℕ → Option ℕ
+shift_of n = if nat_lt 63 n then None else Some n
+
+-- by how many bits a value is moved
+unfoldable pub shift_said : Token → Option ℕ
+shift_said w = integer_said w >>= shift_of
 
 abbrev pub address_of : ℕ → Option ℕ
 address_of n = if nat_lt n (2 ^ 32) then Some n else None
@@ -79,6 +123,19 @@ abbrev pub has_elements : List Token → Bool
 has_elements [] = false
 has_elements (w ∷ ws) = other_than_one (integer_said w) (has_elements ws)
 
+-- what a word of BIT_OPERATION says, by the words behind it
+unfoldable pub operation_said : OperationKeyword → List Token → Option Options
+operation_said operation.Name ws = Some (record no_options { operates = true })
+operation_said operation.Left ws = do
+  first ← first_of ws
+  shift ← shift_said first.0
+  Some (record no_options { left = Some shift })
+operation_said operation.Right ws = do
+  first ← first_of ws
+  shift ← shift_said first.0
+  Some (record no_options { right = Some shift })
+operation_said operation.Sign ws = Some (record no_options { extends_sign = true })
+
 -- what an option says, by the words behind its keyword
 unfoldable pub option_said : MeasurementKeyword → List Token → Option Options
 option_said option.Order ws = do
@@ -89,6 +146,7 @@ option_said option.Mask ws = do
   first ← first_of ws
   mask ← mask_said first.0
   Some (record no_options { mask = Some mask })
+option_said (option.Operation keyword) ws = operation_said keyword ws
 option_said option.Address ws = do
   first ← first_of ws
   address ← address_said first.0
@@ -146,6 +204,12 @@ method_first ws = do
   first ← first_of ws
   method ← method_named first.0
   Some (method, first.1)
+
+-- the name of an INSTANCE
+unfoldable pub instance_said : List Token → Option (List ℕ)
+instance_said ws = do
+  name ← name_first ws
+  Some name.0
 
 -- behind the resolution, the accuracy and the two limits
 unfoldable pub behind_limits : List Token → Option (List Token)

@@ -2,7 +2,9 @@ ghost use Rattle.std.specs.Prelude.{◌≡◌, option_map};
 ghost use Rattle.a2l_entries.specs.Gives.{Gives};
 ghost use Rattle.a2l_entries.specs.Said.{token_at, tokens_of};
 ghost use Rattle.a2l_entries.specs.Keywords.{measurement_keyword, measurement_keyword_of};
-ghost use Rattle.a2l_entries.specs.Keywords.{other_keyword_of, arguments_of, method_keyword};
+ghost use Rattle.a2l_entries.specs.Keywords.{operation_keyword_of, other_keyword_of};
+ghost use Rattle.a2l_entries.specs.Keywords.{arguments_of, operation_arguments_of};
+ghost use Rattle.a2l_entries.specs.Keywords.{method_keyword};
 ghost use Rattle.a2l_entries.specs.Keywords.{method_keyword_of, method_arguments_of, kind_said};
 ghost use Rattle.a2l_entries.specs.Keywords.{kind_of, data_type_said, data_type_of, order_said};
 ghost use Rattle.a2l_entries.specs.Keywords.{is_keyword, behind_keyword, default_said};
@@ -20,6 +22,7 @@ use measurement::{ByteOrder, DataType};
 pub enum MeasurementKeyword {
     Order,
     Mask,
+    Operation(OperationKeyword),
     Address,
     Extension,
     Size,
@@ -31,6 +34,16 @@ pub enum MeasurementKeyword {
     Two,
     /// Any other word.
     Other,
+}
+
+/// A word of BIT_OPERATION (ASAM MCD-2 MC, BIT_OPERATION).
+#[derive(Clone, Copy)]
+pub enum OperationKeyword {
+    /// The name of the block, with which it begins.
+    Name,
+    Left,
+    Right,
+    Sign,
 }
 
 /// An option of a COMPU_METHOD (ASAM MCD-2 MC, COMPU_METHOD).
@@ -91,6 +104,25 @@ fn measurement_keyword_of(bytes: &[u8]) -> MeasurementKeyword
     if is(bytes, "MATRIX_DIM") {
         return MeasurementKeyword::Dimensions;
     }
+    operation_keyword_of(bytes)
+}
+
+/// The options of BIT_OPERATION.
+fn operation_keyword_of(bytes: &[u8]) -> MeasurementKeyword
+    ensures { result ≡ operation_keyword_of bytes.now }
+{
+    if is(bytes, "BIT_OPERATION") {
+        return MeasurementKeyword::Operation(OperationKeyword::Name);
+    }
+    if is(bytes, "LEFT_SHIFT") {
+        return MeasurementKeyword::Operation(OperationKeyword::Left);
+    }
+    if is(bytes, "RIGHT_SHIFT") {
+        return MeasurementKeyword::Operation(OperationKeyword::Right);
+    }
+    if is(bytes, "SIGN_EXTEND") {
+        return MeasurementKeyword::Operation(OperationKeyword::Sign);
+    }
     other_keyword_of(bytes)
 }
 
@@ -132,9 +164,22 @@ impl MeasurementKeyword {
         ensures { result ≡ arguments_of self }
     {
         match self {
+            MeasurementKeyword::Operation(keyword) => keyword.arguments(),
             MeasurementKeyword::Dimensions | MeasurementKeyword::Other => 0,
             MeasurementKeyword::Two => 2,
             _ => 1,
+        }
+    }
+}
+
+impl OperationKeyword {
+    /// How many words belong to it.
+    pub fn arguments(self) -> usize
+        ensures { result ≡ operation_arguments_of self }
+    {
+        match self {
+            OperationKeyword::Name | OperationKeyword::Sign => 0,
+            OperationKeyword::Left | OperationKeyword::Right => 1,
         }
     }
 }
@@ -262,6 +307,9 @@ fn data_type_of(bytes: &[u8]) -> Option<DataType>
     }
     if is(bytes, "A_INT64") {
         return Some(DataType::AInt64);
+    }
+    if is(bytes, "FLOAT16_IEEE") {
+        return Some(DataType::Float16);
     }
     if is(bytes, "FLOAT32_IEEE") {
         return Some(DataType::Float32);

@@ -15,9 +15,11 @@ mod table_block;
 mod tick_block;
 
 pub use entry_fault::{Awaited, Refused};
-pub use keywords::{MeasurementKeyword, MethodKeyword, MethodKind, default_order};
+pub use keywords::{
+    MeasurementKeyword, MethodKeyword, MethodKind, OperationKeyword, default_order,
+};
 pub use left::Left;
-pub use measurement_block::{MeasurementBlock, measurement_of};
+pub use measurement_block::{MeasurementBlock, instance_of, measurement_of};
 pub use measurement_options::MeasurementOptions;
 pub use method_block::{MethodBlock, Rule, method_of};
 pub use method_options::{Coefficients, Line};

@@ -1,8 +1,9 @@
-ghost use Rattle.std.specs.Prelude.{option_map};
+ghost use Rattle.std.specs.Prelude.{option_map, string_bytes};
 ghost use Rattle.a2l_entries.specs.Gives.{Gives};
 ghost use Rattle.a2l_entries.specs.Said.{tokens_of};
 ghost use Rattle.a2l_entries.specs.MeasurementSaid.{measurement_seen, measurement_said};
 ghost use Rattle.a2l_entries.specs.MeasurementSaid.{method_first, behind_limits, name_of};
+ghost use Rattle.a2l_entries.specs.MeasurementSaid.{instance_said};
 
 use crate::entry_fault::Awaited;
 use crate::keywords::{data_type_in, is_keyword};
@@ -41,6 +42,15 @@ pub fn measurement_of(alloc: Global, words: Left<'_, '_>) -> Result<MeasurementB
         method,
         options,
     })
+}
+
+/// The name that the words directly in an INSTANCE begin with (ASAM MCD-2 MC, INSTANCE).
+#[tactic(auto, unfolding(crate::specs::MeasurementSaid::instance_said))]
+pub fn instance_of(alloc: Global, words: Left<'_, '_>) -> Result<String, Stop>
+    ensures { Gives (λ s. string_bytes s) result (instance_said (tokens_of words.entry)) }
+{
+    let (name, _) = words.name(alloc)?;
+    Ok(name)
 }
 
 /// The name of a method, or NO_COMPU_METHOD, and what is behind it.

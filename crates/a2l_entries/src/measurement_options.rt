@@ -3,15 +3,16 @@ ghost use Rattle.a2l_entries.specs.Gives.{Gives};
 ghost use Rattle.a2l_entries.specs.Said.{token_at, tokens_of};
 ghost use Rattle.a2l_entries.specs.MeasurementSaid.{options_seen, no_options, options_or};
 ghost use Rattle.a2l_entries.specs.MeasurementSaid.{options_said, option_said, mask_said};
+ghost use Rattle.a2l_entries.specs.MeasurementSaid.{operation_of, operation_said, shift_said};
 ghost use Rattle.a2l_entries.specs.MeasurementSaid.{address_said, extended_said, has_elements};
 
 use crate::entry_fault::Awaited;
-use crate::keywords::{MeasurementKeyword, measurement_keyword, order_in};
+use crate::keywords::{MeasurementKeyword, OperationKeyword, measurement_keyword, order_in};
 use crate::left::Left;
 use crate::said::{integer_in, number_in, text_in, whole_number};
 use crate::stop::Stop;
 use a2l_blocks::Located;
-use measurement::ByteOrder;
+use measurement::{BitOperation, ByteOrder};
 use std::alloc::Global;
 
 /// What the options of a MEASUREMENT say (ASAM MCD-2 MC, MEASUREMENT).
@@ -19,6 +20,14 @@ use std::alloc::Global;
 pub struct MeasurementOptions {
     pub order: Option<ByteOrder>,
     pub mask: Option<u64>,
+    /// A BIT_OPERATION stands there.
+    pub operates: bool,
+    /// LEFT_SHIFT.
+    pub left: Option<u8>,
+    /// RIGHT_SHIFT.
+    pub right: Option<u8>,
+    /// SIGN_EXTEND.
+    pub extends_sign: bool,
     pub address: Option<u32>,
     pub unit: Option<String>,
     /// It is an array, or its address has an extension other than 0.
@@ -32,6 +41,10 @@ impl MeasurementOptions {
         MeasurementOptions {
             order: None,
             mask: None,
+            operates: false,
+            left: None,
+            right: None,
+            extends_sign: false,
             address: None,
             unit: None,
             apart: false,
@@ -45,10 +58,28 @@ impl MeasurementOptions {
         MeasurementOptions {
             order: self.order.or(others.order),
             mask: self.mask.or(others.mask),
+            operates: self.operates | others.operates,
+            left: self.left.or(others.left),
+            right: self.right.or(others.right),
+            extends_sign: self.extends_sign | others.extends_sign,
             address: self.address.or(others.address),
             unit: self.unit.or(others.unit),
             apart: self.apart | others.apart,
         }
+    }
+
+    /// What is done behind the mask, if a BIT_OPERATION says so.
+    pub fn operation(&self) -> Option<BitOperation>
+        ensures { result ≡ operation_of (options_seen self.now) }
+    {
+        if !self.operates {
+            return None;
+        }
+        Some(BitOperation {
+            left: self.left.unwrap_or(0),
+            right: self.right.unwrap_or(0),
+            extends_sign: self.extends_sign,
+        })
     }
 }
 
@@ -97,6 +128,7 @@ fn option_of(
                 ..MeasurementOptions::none()
             })
         }
+        MeasurementKeyword::Operation(keyword) => operation_option(keyword, left),
         MeasurementKeyword::Address => {
             let (word, _) = left.first(Awaited::Address)?;
             let address = address_in(word)?;
@@ -140,6 +172,54 @@ fn option_of(
             Ok(MeasurementOptions::none())
         }
     }
+}
+
+/// What a word of BIT_OPERATION says, by the words behind it.
+#[tactic(auto, unfolding(crate::specs::MeasurementSaid::operation_said))]
+fn operation_option(
+    keyword: OperationKeyword,
+    left: Left<'_, '_>,
+) -> Result<MeasurementOptions, Stop>
+    ensures { Gives options_seen result (operation_said keyword (tokens_of left.entry)) }
+{
+    match keyword {
+        OperationKeyword::Name => Ok(MeasurementOptions {
+            operates: true,
+            ..MeasurementOptions::none()
+        }),
+        OperationKeyword::Left => {
+            let (word, _) = left.first(Awaited::Shift)?;
+            let shift = shift_in(word)?;
+            Ok(MeasurementOptions {
+                left: Some(shift),
+                ..MeasurementOptions::none()
+            })
+        }
+        OperationKeyword::Right => {
+            let (word, _) = left.first(Awaited::Shift)?;
+            let shift = shift_in(word)?;
+            Ok(MeasurementOptions {
+                right: Some(shift),
+                ..MeasurementOptions::none()
+            })
+        }
+        OperationKeyword::Sign => Ok(MeasurementOptions {
+            extends_sign: true,
+            ..MeasurementOptions::none()
+        }),
+    }
+}
+
+/// By how many bits a value is moved: 0 to 63.
+#[tactic(auto, unfolding(crate::specs::MeasurementSaid::shift_said))]
+fn shift_in(word: Located<'_>) -> Result<u8, Stop>
+    ensures { Gives (λ x. x) result (shift_said (token_at word.entry)) }
+{
+    let bits = integer_in(word)?;
+    if bits > 63 {
+        return Err(Stop::Awaited(word.at, Awaited::Shift));
+    }
+    Ok(bits as u8)
 }
 
 /// A mask, of which a bit is set.

@@ -1,11 +1,14 @@
 -- The physical value of a raw one (ASAM MCD-2 MC, COMPU_METHOD).
 use Rattle.std.specs.Prelude.{Bool, ◌&&◌, List, ℕ, Option, Some, None, string_bytes, find}
+use Rattle.std.specs.Prelude.{if◌then◌else◌}
 use Rattle.std.specs.Option.{option_map}
-use Rattle.std.specs.Float.{Float, binary64}
-use Rattle.std.specs.Float.Ieee.{add, div, le, mul, sub}
+use Rattle.std.specs.Float.{Float, binary32, binary64, round_to_format}
+use Rattle.std.specs.Float.Ieee.{add, div, eq, le, mul, sub}
 use Rattle.measurement.specs.declared.conversion.Conversion.{Conversion}
 use Rattle.measurement.specs.declared.conversion.Conversion.TheVariants.{Identical, Linear, Other}
 use Rattle.measurement.specs.declared.conversion.Conversion.TheVariants.{Rational, Texts}
+use Rattle.measurement.specs.declared.data_type.DataType.{DataType}
+use Rattle.measurement.specs.declared.data_type.DataType.TheVariants as type
 use Rattle.measurement.specs.declared.text_table.TextRow.{TextRow}
 use Rattle.measurement.specs.declared.text_table.TextTable.{TextTable}
 use Rattle.measured_values.specs.Raws.{number_of_raw}
@@ -53,12 +56,38 @@ abbrev pub words_or : Option (List ℕ) → Raw → Shown
 words_or (Some text) raw = Words text
 words_or None raw = Value raw
 
+-- a number that a float of 32 bits has too, as such a float; and any other as one of 64 bits
+abbrev pub narrowed : Float → Raw
+narrowed x =
+    if eq (round_to_format binary32 x) x then Single (round_to_format binary32 x) else Double x
+
+-- what is written of a number of values of a data type
+abbrev pub written : DataType → Float → Raw
+written type.UByte x = Double x
+written type.SByte x = Double x
+written type.UWord x = Double x
+written type.SWord x = Double x
+written type.ULong x = Double x
+written type.SLong x = Double x
+written type.AUint64 x = Double x
+written type.AInt64 x = Double x
+written type.Float16 x = Double x
+written type.Float32 x = narrowed x
+written type.Float64 x = Double x
+
+-- what is written of a number that was computed of a raw value
+abbrev pub computed : Raw → Float → Raw
+computed (Unsigned n) x = Double x
+computed (Signed z) x = Double x
+computed (Single y) x = narrowed x
+computed (Double y) x = Double x
+
 -- the physical value of a raw one
 abbrev pub converted : Conversion → Raw → Shown
 converted Identical raw = Value raw
 converted (Linear factor offset) raw =
-    Value (Double (add binary64 (mul binary64 factor (number_of_raw raw)) offset))
+    Value (computed raw (add binary64 (mul binary64 factor (number_of_raw raw)) offset))
 converted (Rational b c f) raw =
-    Value (Double (div binary64 (sub binary64 (mul binary64 f (number_of_raw raw)) c) b))
+    Value (computed raw (div binary64 (sub binary64 (mul binary64 f (number_of_raw raw)) c) b))
 converted (Texts table) raw = words_or (text_in table (number_of_raw raw)) raw
 converted Other raw = Value raw

@@ -10,7 +10,8 @@ use measurement::{Conversion, TextRow, TextTable};
 
 /// The physical value of a raw one (ASAM MCD-2 MC, COMPU_METHOD).
 ///
-/// The numbers of LINEAR and RAT_FUNC are computed in `f64`, of the raw value's nearest `f64`. A
+/// The numbers of LINEAR and RAT_FUNC are computed in `f64`, of the raw value's nearest `f64`; of a
+/// FLOAT32_IEEE one that an `f32` has too is an `f32` again, so that it is written like one. A
 /// table gives the text of the first row that takes that number in, else its default text, else
 /// the raw value itself; so do IDENTICAL and a method that isn't carried out.
 pub fn physical_of<'t>(conversion: &'t Conversion, raw: Raw) -> Physical<'t>
@@ -19,9 +20,11 @@ pub fn physical_of<'t>(conversion: &'t Conversion, raw: Raw) -> Physical<'t>
     match conversion {
         Conversion::Identical => Physical::unconverted(raw),
         Conversion::Linear { factor, offset } => {
-            Physical::Double(*factor * raw.number() + *offset)
+            Physical::unconverted(raw.computed(*factor * raw.number() + *offset))
         }
-        Conversion::Rational { b, c, f } => Physical::Double((*f * raw.number() - *c) / *b),
+        Conversion::Rational { b, c, f } => {
+            Physical::unconverted(raw.computed((*f * raw.number() - *c) / *b))
+        }
         Conversion::Texts(table) => match text_in(table, raw.number()) {
             Some(text) => Physical::Text(text),
             None => Physical::unconverted(raw),

@@ -1,8 +1,9 @@
 -- How many bytes the values of a data type have.
 use Rattle.std.specs.Prelude.{ℕ}
 use Rattle.measurement.specs.declared.data_type.DataType.{DataType}
-use Rattle.measurement.specs.declared.data_type.DataType.TheVariants.{AInt64, AUint64, Float32}
-use Rattle.measurement.specs.declared.data_type.DataType.TheVariants.{Float64, SByte, SLong, SWord}
+use Rattle.measurement.specs.declared.data_type.DataType.TheVariants.{AInt64, AUint64, Float16}
+use Rattle.measurement.specs.declared.data_type.DataType.TheVariants.{Float32, Float64, SByte}
+use Rattle.measurement.specs.declared.data_type.DataType.TheVariants.{SLong, SWord}
 use Rattle.measurement.specs.declared.data_type.DataType.TheVariants.{UByte, ULong, UWord}
 
 abbrev pub size_of : DataType → ℕ
@@ -14,5 +15,6 @@ size_of ULong = 4
 size_of SLong = 4
 size_of AUint64 = 8
 size_of AInt64 = 8
+size_of Float16 = 2
 size_of Float32 = 4
 size_of Float64 = 8

@@ -12,6 +12,7 @@ pub enum DataType {
     SLong,
     AUint64,
     AInt64,
+    Float16,
     Float32,
     Float64,
 }
@@ -25,7 +26,7 @@ impl DataType {
     {
         match self {
             DataType::UByte | DataType::SByte => 1,
-            DataType::UWord | DataType::SWord => 2,
+            DataType::UWord | DataType::SWord | DataType::Float16 => 2,
             DataType::ULong | DataType::SLong | DataType::Float32 => 4,
             DataType::AUint64 | DataType::AInt64 | DataType::Float64 => 8,
         }

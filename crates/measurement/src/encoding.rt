@@ -1,3 +1,4 @@
+use crate::bit_operation::BitOperation;
 use crate::byte_order::ByteOrder;
 use crate::data_type::DataType;
 
@@ -8,6 +9,9 @@ pub struct Encoding {
     pub data_type: DataType,
     /// In which order they stand.
     pub order: ByteOrder,
-    /// The bits that count, if not all of them do (BIT_MASK). The lowest of them becomes bit 0.
+    /// The bits that count, if not all of them do (BIT_MASK). Without an operation the lowest of
+    /// them becomes bit 0.
     pub mask: Option<u64>,
+    /// What is done with them (BIT_OPERATION).
+    pub operation: Option<BitOperation>,
 }

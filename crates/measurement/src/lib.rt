@@ -2,6 +2,7 @@
 //! image, and how a physical value comes of them (ASAM MCD-2 MC, MEASUREMENT and COMPU_METHOD).
 #![tactic(auto)]
 
+mod bit_operation;
 mod byte_order;
 mod conversion;
 mod data_type;
@@ -9,6 +10,7 @@ mod encoding;
 mod text_table;
 mod tick;
 
+pub use bit_operation::BitOperation;
 pub use byte_order::ByteOrder;
 pub use conversion::Conversion;
 pub use data_type::DataType;

@@ -9,6 +9,8 @@ mod explaining;
 pub mod laws;
 mod messages;
 mod mode;
+mod no_text;
+mod not_shown;
 mod piece;
 mod place;
 mod program_fault;

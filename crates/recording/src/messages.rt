@@ -64,6 +64,19 @@ impl<E: Write + Drop> Messages<E> {
         }
     }
 
+    /// Tells that so many of all that an A2L file names aren't shown, in a line of its own.
+    pub fn tell_not_shown(&mut self, hidden: usize, all: usize) {
+        let _ = writeln!(
+            self.err,
+            "xcpread: not shown of the a2l: {hidden} of {all} measurements and instances"
+        );
+    }
+
+    /// Tells one of them, in a line of its own.
+    pub fn tell_hidden(&mut self, name: &str) {
+        let _ = writeln!(self.err, "xcpread: not shown: {name}");
+    }
+
     /// Tells a fault, in a line of its own, and its reason behind it.
     pub fn tell_fault(&mut self, fault: ProgramFault) {
         let _ = writeln!(self.err, "{fault}{}", self.detail);

@@ -12,6 +12,7 @@ ghost use Rattle.value_tables.specs.Columns.{AreColumns, HasChosen};
 
 use crate::messages::Messages;
 use crate::mode::Mode;
+use crate::not_shown::tell_not_shown;
 use crate::piece::Piece;
 use crate::program_fault::ProgramFault;
 use crate::recording::read_frames;
@@ -69,6 +70,7 @@ pub fn show_values<I: Read, W: Write + Drop, E: Write + Drop>(
 {
     let shapes = shapes_of(alloc, store)?;
     let columns = chosen_columns(alloc, values, &shapes, messages)?;
+    tell_not_shown(values, &shapes, messages);
     let shown = Shown {
         columns,
         tick: values.tick,

@@ -4,6 +4,7 @@ ghost use Rattle.std.specs.Prelude.{◌≡◌, ◌≤◌, ◌↔◌, IfOk, true}
 use crate::command_line::{CommandLine, Options, read_command_line};
 use crate::explaining::{RunRecording, explain_samples, tell_replies};
 use crate::messages::Messages;
+use crate::no_text::no_text;
 use crate::program_fault::ProgramFault;
 use crate::recording::pass_replies;
 use crate::showing::show_samples;
@@ -154,6 +155,10 @@ fn description_of<R: Files, E: Write + Drop>(
         return Ok(None);
     };
     let text = text_of(rt, alloc, path, messages)?;
+    if let Some(reason) = no_text(&text) {
+        messages.detail(reason);
+        return Err(ProgramFault::BadA2l);
+    }
     match Description::read(alloc, &text) {
         Ok(description) => Ok(Some(description)),
         Err(A2lFault::Memory) => Err(ProgramFault::MEMORY),

@@ -3,10 +3,13 @@ use Rattle.std.specs.Prelude.{◌≡◌, ◌⊎◌, ◌≢◌, ℕ, ◌-◌, ◌
 use Rattle.std.specs.Prelude.{reverse}
 use Rattle.std.specs.Prelude.{Option, Some, None}
 use Rattle.std.specs.Fmt.{decimal, format_spec, padded}
-use Rattle.std.specs.Float.{Float, binary64}
+use Rattle.std.specs.Float.{Float}
 use Rattle.std.specs.List.{AllZip}
 use Rattle.measured_values.specs.Tallies.{IsAbove, IsBelow, IsBestIfAny, counted, mean_of}
-use Rattle.measured_values.specs.Texts.{IsFloatText}
+use Rattle.measured_values.specs.Texts.{IsNumberText}
+use Rattle.measured_values.specs.Physicals.{written}
+use Rattle.measured_values.specs.declared.raw.Raw.{Raw}
+use Rattle.measurement.specs.declared.data_type.DataType.{DataType}
 use Rattle.copy_plan.specs.Config.{ListPlan}
 use Rattle.daq_reader.specs.Recorded.{Recorded}
 use Rattle.sample_tables.specs.Tables.{line_feed, right_aligned}
@@ -24,21 +27,21 @@ IsWithoutZero whole text =
     (whole ≡ text ++ codes ".0")
     ⊎ ((text ≡ whole) × ((front : List ℕ) → whole ≢ front ++ codes ".0"))
 
--- the text of a number: that of the float, without `.0`
-abbrev pub IsShortText : Float → List ℕ → Type 0
-IsShortText x text = (whole : List ℕ) × IsFloatText binary64 16 4 x whole × IsWithoutZero whole text
+-- the text of a number, without `.0`
+abbrev pub IsShortText : Raw → List ℕ → Type 0
+IsShortText x text = (whole : List ℕ) × IsNumberText x whole × IsWithoutZero whole text
 
--- the same, or `-` where there is none
-abbrev pub IsTextIfAny : Option Float → List ℕ → Type 0
-IsTextIfAny None text = text ≡ codes "-"
-IsTextIfAny (Some x) text = IsShortText x text
+-- the text of a number of values of a data type, or `-` where there is none
+abbrev pub IsTextIfAny : DataType → Option Float → List ℕ → Type 0
+IsTextIfAny t None text = text ≡ codes "-"
+IsTextIfAny t (Some x) text = IsShortText (written t x) text
 
 -- a text in its column: behind a space, with spaces before it up to a width of 14
 abbrev pub cell_text : List ℕ → List ℕ
 cell_text text = codes " " ++ padded (format_spec 32 3 0 14 (2 ^ 64 - 1)) text
 
-abbrev pub IsNumberCell : Option Float → List ℕ → Type 0
-IsNumberCell number cell = (text : List ℕ) × IsTextIfAny number text × (cell ≡ cell_text text)
+abbrev pub IsNumberCell : DataType → Option Float → List ℕ → Type 0
+IsNumberCell t number cell = (text : List ℕ) × IsTextIfAny t number text × (cell ≡ cell_text text)
 
 -- the name of a column behind two spaces, and the end of the line
 abbrev pub name_text : List ℕ → List ℕ
@@ -54,9 +57,9 @@ pub record IsLine (values : List Float) (column : Column) (line : List ℕ) : Ty
   pub least_cell : List ℕ
   pub greatest_cell : List ℕ
   pub mean_cell : List ℕ
-  pub is_least_cell : IsNumberCell least least_cell
-  pub is_greatest_cell : IsNumberCell greatest greatest_cell
-  pub is_mean_cell : IsNumberCell (mean_of values) mean_cell
+  pub is_least_cell : IsNumberCell column.encoding.data_type least least_cell
+  pub is_greatest_cell : IsNumberCell column.encoding.data_type greatest greatest_cell
+  pub is_mean_cell : IsNumberCell column.encoding.data_type (mean_of values) mean_cell
   pub text :
       line ≡ right_aligned 11 (decimal (counted (length values))) ++ least_cell ++ greatest_cell
       ++ mean_cell ++ name_text (head_of column)

@@ -131,7 +131,7 @@ fn is_chosen(name: &str, only: Option<&str>) -> bool
 }
 
 /// Whether some list has the bytes of a measurement.
-fn is_recorded(measurement: &Measurement, shapes: &[ListShape]) -> bool
+pub fn is_recorded(measurement: &Measurement, shapes: &[ListShape]) -> bool
     ensures { result ≡ is_recorded shapes.now measurement.now }
 {
     for shape in shapes {

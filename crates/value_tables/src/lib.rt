@@ -15,7 +15,7 @@ mod value_rows;
 mod value_tallies;
 
 pub use column::Column;
-pub use columns::{columns_of, unknown_name};
+pub use columns::{columns_of, is_recorded, unknown_name};
 pub use tally_text::print_tallies;
 pub use value_curves::ValueCurves;
 pub use value_rows::ValueRows;

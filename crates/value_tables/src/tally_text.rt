@@ -1,10 +1,11 @@
 //! Prints what there is of the values of each column.
 ghost use Rattle.std.specs.Prelude.{ℕ, List, OnOk, string_bytes};
-ghost use Rattle.std.specs.Float.{Float, binary64};
+ghost use Rattle.std.specs.Float.{Float};
 ghost use Rattle.std.specs.Fmt.{decimal};
 ghost use Rattle.std.specs.Io.KnownBytes.{Appends};
 ghost use Rattle.measured_values.specs.Tallies.{IsTally};
-ghost use Rattle.measured_values.specs.Texts.{IsFloatText};
+ghost use Rattle.measured_values.specs.Physicals.{written};
+ghost use Rattle.measured_values.specs.Texts.{IsNumberText};
 ghost use Rattle.sample_tables.specs.Tables.{right_aligned};
 ghost use Rattle.value_tables.specs.TallyText.{IsLine, IsNumberCell, IsTable};
 ghost use Rattle.value_tables.specs.TallyText.{IsWithoutZero, cell_text, head_line, name_text};
@@ -13,14 +14,15 @@ ghost use Rattle.value_tables.specs.ValueRows.{head_of};
 use crate::column::Column;
 use crate::row_writer::write_head;
 use crate::value_tallies::ValueTallies;
-use measured_values::{Physical, Tally, push_physical};
+use measured_values::{Physical, Raw, Tally, push_physical};
+use measurement::DataType;
 use std::alloc::{AllocError, Global};
 use std::io::{self, ErrorKind, Write};
 
 /// Prints the head of the table, and a line for each column in its order: how many values it has,
 /// the least and the greatest of them, their mean, its name, and its unit in brackets if it has
-/// one. A number is printed as `push_physical` writes it, without `.0` at its end; `-` if there is
-/// none.
+/// one. A number is printed as `push_physical` writes what `Raw::written` makes of it, without `.0`
+/// at its end; `-` if there is none.
 pub fn print_tallies<W: Write>(
     alloc: Global,
     out: &mut W,
@@ -63,10 +65,11 @@ fn print_line<W: Write>(
         × IsLine values column.now line
         × Appends (W.contents out.old) (W.contents out.new) line) }
 {
+    let data_type = column.encoding.data_type;
     print_count(out, tally.count())?;
-    print_number(out, text, tally.least())?;
-    print_number(out, text, tally.greatest())?;
-    print_number(out, text, tally.mean())?;
+    print_number(out, text, data_type, tally.least())?;
+    print_number(out, text, data_type, tally.greatest())?;
+    print_number(out, text, data_type, tally.mean())?;
     print_name(out, text, column)
 }
 
@@ -78,15 +81,20 @@ fn print_count<W: Write>(out: &mut W, values: u64) -> io::Result<()>
     write!(out, "{values:>11}")
 }
 
-/// Prints a number, or `-` if there is none.
-fn print_number<W: Write>(out: &mut W, text: &mut String, number: Option<f64>) -> io::Result<()>
-    ensures { OnOk result ((cell : List ℕ) × IsNumberCell number cell
+/// Prints a number of values of a data type, or `-` if there is none.
+fn print_number<W: Write>(
+    out: &mut W,
+    text: &mut String,
+    data_type: DataType,
+    number: Option<f64>,
+) -> io::Result<()>
+    ensures { OnOk result ((cell : List ℕ) × IsNumberCell data_type number cell
         × Appends (W.contents out.old) (W.contents out.new) cell) }
 {
     let Some(number) = number else {
         return print_cell(out, "-");
     };
-    write_number(text, number).map_err(|_| ErrorKind::OutOfMemory)?;
+    write_number(text, data_type, number).map_err(|_| ErrorKind::OutOfMemory)?;
     print_cell(out, without_zero(text.as_str()))
 }
 
@@ -98,12 +106,15 @@ fn print_cell<W: Write>(out: &mut W, text: &str) -> io::Result<()>
     write!(out, " {text:>14}")
 }
 
-/// Makes a text that of a number.
-fn write_number(text: &mut String, number: f64) -> Result<(), AllocError>
-    ensures { OnOk result (IsFloatText binary64 16 4 number (string_bytes text.new)) }
+/// Makes a text that of a number of values of a data type.
+fn write_number(text: &mut String, data_type: DataType, number: f64) -> Result<(), AllocError>
+    ensures { OnOk result (IsNumberText (written data_type number) (string_bytes text.new)) }
 {
     text.clear();
-    push_physical(text, &Physical::Double(number))
+    push_physical(
+        text,
+        &Physical::unconverted(Raw::written(data_type, number)),
+    )
 }
 
 /// A text without the `.0` at its end, if it has one.

@@ -3,7 +3,7 @@ use Rattle.std.proofs.lemmas.Result.{err_from_is_err_and}
 use Rattle.a2l_entries.specs.Said.{token_at, tokens_of}
 use Rattle.a2l_entries.specs.Keywords.{measurement_keyword, arguments_of}
 use Rattle.a2l_entries.specs.MeasurementSaid.{options_seen, no_options, options_or, option_said, options_said}
-use Rattle.a2l_entries.proofs.ScanLemmas.{none_left, no_tokens, starts, options_go_on, options_stop, options_stop_behind, options_done}
+use Rattle.a2l_entries.proofs.ScanLemmas.{fewer_left, none_left, no_tokens, starts, options_go_on, options_stop, options_stop_behind, options_done}
 use Rattle.a2l_entries.proofs.OptionLemmas.{options_monoid}
 use Rattle.a2l_entries.proofs.measurement_options.measurement_options.Goals as goal
 
@@ -32,3 +32,7 @@ unfolding options_said
 returns c =
     let none = none_left _ _ _ c.in_default.not-Some c.split_first.ensures.cases in
     options_done no_options options_or measurement_keyword arguments_of option_said options_monoid (options_seen c.loop-word.options) (tokens_of c.loop-word.rest) _ (no_tokens c.loop-word.rest.words.now none) c.loop-word.invariant
+
+-- a keyword is passed, with the words that belong to it
+pub loop-word-smaller : goal.loop-word-smaller
+loop-word-smaller c = fewer_left _ c.loop-word.rest.words.now c.in-Some.words.now c.in_ok-rest.rest.words.now _ c.in-Some.ensures.cases.0 c.in_ok-rest.ensures

@@ -29,7 +29,7 @@ returns g c values is =
         mean_cell = mean.0;
         is_least_cell = least.1;
         is_greatest_cell = greatest.1;
-        is_mean_cell = subst (λ (m : Option Float). IsNumberCell m mean.0) (c.mean.ensures values is) mean.1;
+        is_mean_cell = subst (λ (m : Option Float). IsNumberCell c.args.column.now.encoding.data_type m mean.0) (c.mean.ensures values is) mean.1;
         text = ap (λ (n : ℕ). right_aligned 11 (decimal n) ++ least.0 ++ greatest.0 ++ mean.0 ++ name) (c.count.ensures values is);
       },
       Appends-trans _ _ _ _ _ (Appends-trans _ _ _ _ _ (Appends-trans _ _ _ _ _ (Appends-trans _ _ _ _ _ c.in_ok-print_count.ensures least.2) greatest.2) mean.2) end,

@@ -18,5 +18,5 @@ returns-then-len-ge-MAX_DEPTH-clause-err c =
 pub returns-clause-ok : goal.returns-clause-ok
 returns-clause-ok c =
     let s = state_of c.args.self.now in
-    begin_done s.role _ s.around _ s.gathered s.ahead _ _ c.in_ok-name.ensures.ok (omega (arith, depth c.args.self.now.around.items)) c.inside-self.ensures
-    (pushed c.args.self.now.around.items _ _ c.in_ok-push.ensures.items)
+    begin_done s.role _ s.around _ s.gathered _ s.ahead _ _ c.in_ok-name.ensures.ok (omega (arith, depth c.args.self.now.around.items)) c.inside-self.ensures
+    (pushed c.args.self.now.around.items _ _ c.in_ok-push.ensures.items) c.in_ok-gather_name.ensures

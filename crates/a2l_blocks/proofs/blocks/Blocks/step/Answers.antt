@@ -1,11 +1,8 @@
 use Rattle.std.proofs.Common.{ap}
 use Rattle.a2l_words.specs.TokenOf.{token_of}
 use Rattle.a2l_blocks.specs.States.{state_of}
-use Rattle.a2l_blocks.proofs.StepLemmas.{included, plain_done, text_done}
+use Rattle.a2l_blocks.proofs.StepLemmas.{plain_done, text_done}
 use Rattle.a2l_blocks.proofs.blocks.Blocks.step.Goals as goal
-
-pub returns-in-Include-clause-err : goal.returns-in-Include-clause-err
-returns-in-Include-clause-err c = rw c.in-Include.is (λ words a. included _ _ _ words)
 
 pub returns-in_ok-gather-in-Plain-clause-ok : goal.returns-in_ok-gather-in-Plain-clause-ok
 returns-in_ok-gather-in-Plain-clause-ok c =
