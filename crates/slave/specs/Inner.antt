@@ -367,8 +367,8 @@ module _ {S T F : Type 0} (take : TakeGhosts T F) where
     pub turn : is_spent a ≡ false → step ≢ Full → LooksAt take 1 a b c
     pub held : step ≡ Full → LooksAt take 0 a b c
 
-  -- one look at the ring of event channel c in the measurement before the newest, if the slave isn't
-  -- spent; the other event channels' are as they were
+  -- one look at the ring that event channel c has in the measurement before the newest, unless the
+  -- slave is spent; the other event channels' rings are as they were
   pub record LooksOlder (a b : SlaveState S T) (c : ℕ) (step : Step) : Type 0 where
     pub nothing : step ≡ Nothing → (is_spent b ≡ true) ⊎ (known_of take (older_at b c) ≡ [])
     pub full : step ≡ Full → HasRunning take (older_at b c)

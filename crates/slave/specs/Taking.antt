@@ -143,7 +143,8 @@ module _ {S T F : Type 0} (take : TakeGhosts T F) where
   -- all that was known is taken, or so many items. Or it holds a sample next whose list runs, which
   -- is never so, since that measurement has ended
   abbrev pub LetsGoAt : SlaveState S T → SlaveState S T → ℕ → Type 0
-  LetsGoAt a b c = LooksTimes take 1024 (older_at a c) (older_at b c) ⊎ HasRunning take (older_at b c)
+  LetsGoAt a b c =
+      LooksTimes take 1024 (older_at a c) (older_at b c) ⊎ HasRunning take (older_at b c)
 
   -- so at each event channel, or the slave is spent
   abbrev pub LetsGo : SlaveState S T → SlaveState S T → Type 0
