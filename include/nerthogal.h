@@ -53,6 +53,21 @@
  *     when it calls malloc, realloc and free. They must align a block to each power of two up to 16
  *     that divides its size; to 8, for example, if the size is 24 bytes.
  *
+ * Memory
+ *   - A slave with n event channels and their tasks, and with l DAQ lists that have o ODTs and e
+ *     entries in all, has at most so many bytes of malloc's. Only tested, by session_test.c:
+ *         the slave, from its opening on   28000 + 12000 n; with NG_RING_BYTES 28000 + 16000 n
+ *         its lists, until they are freed  40 l + 24 o + 12 e
+ *         a measurement                    4000 n + 160 l + 100 o + 56 e, and for each ring 560
+ *                                          times its capacity, or with NG_RING_BYTES its capacity
+ *   - A measurement that has ended, by DISCONNECT too, is freed where the next one begins, or by
+ *     ng_slave_close. A task that took no trigger since, or whose stops found no room, keeps it
+ *     longer; then it stands beside the next one. There are never more than two.
+ *   - For example, two event channels of 64 samples and 15 lists of 8 ODTs of 15 entries take
+ *     242 kB while they are measured, and 217 kB behind DISCONNECT. At the limits, 8 event channels
+ *     of 1024 samples and 16 lists of 8 ODTs of 32 entries, it is 4.98 MB, and with two
+ *     measurements 9.73 MB.
+ *
  * No call aborts, and none reads or writes beyond the given lengths, whatever bytes and numbers it
  * is given. */
 #ifndef NERTHOGAL_H
@@ -84,7 +99,7 @@ enum {
     NG_OK = 0,              /* it was done */
     NG_EMPTY = 1,           /* the handle is empty */
     NG_IN_USE = 2,          /* the handle to be filled isn't empty */
-    NG_BAD_LIMITS = 3,      /* a number is out of its limits */
+    NG_BAD_LIMITS = 3,      /* a number is out of its limits: each call says which it can be */
     NG_SMALL_BUFFER = 4,    /* the buffer is too short */
     NG_MEMORY = 5,          /* out of memory */
     NG_BAD_CAPS = 6,        /* not one capacity per channel, or one out of its limits */
@@ -232,7 +247,7 @@ typedef struct {
  * two, FIRST_PID is 0, and all lists together have at most 128.
  *
  *   NG_IN_USE      *store isn't empty
- *   NG_BAD_LIMITS  one of the four numbers is out of its limits
+ *   NG_BAD_LIMITS  channels, image_len, id or stamp_size is out of its limits
  *   NG_MEMORY      malloc failed
  *   NG_OK          *store holds the new store
  *
@@ -356,8 +371,8 @@ ng_status ng_pump(ng_engine *engine, uint8_t *buffer, size_t buffer_cap, size_t 
 /* Pumps as ng_pump does, again and again, until a pump finds nothing or the frames of the next
  * sample don't fit, and writes the frames of all samples to buffer[0] to buffer[*len - 1]. A sample
  * that doesn't fit stays in its ring, and the next call goes on at this ring; after a call at which
- * all fitted, and after ng_pump and ng_drain, it begins at event channel 0. A buffer of 1400 bytes
- * fits a datagram.
+ * all fitted, after ng_pump, and after an ng_drain that found something left, it begins at event
+ * channel 0. A buffer of 1400 bytes fits a datagram.
  *
  *   NG_EMPTY         *engine is empty
  *   NG_SMALL_BUFFER  buffer_cap is below NG_PUMP_ALL_BYTES; nothing is taken, and nothing lost
@@ -367,10 +382,9 @@ ng_status ng_pump(ng_engine *engine, uint8_t *buffer, size_t buffer_cap, size_t 
  * They are checked in this order. Except on NG_OK, nothing changes. On NG_OK, the first *len bytes
  * of the buffer are whole frames of whole samples, and the bytes after them are unchanged. While
  * samplers go on in other threads, a call goes on with what they send until the buffer is full; a
- * stop takes no bytes of it. Proved: all of this, but that it begins at event channel 0 after
- * ng_drain only if something was left there; and what was taken and written: the items that such
- * pumps take, in their order. The tests show that it calls neither malloc nor realloc, and that its
- * bytes are those of ng_pump. */
+ * stop takes no bytes of it. Proved: all of this, and what was taken and written: the items that
+ * such pumps take, in their order. The tests show that it calls neither malloc nor realloc, and
+ * that its bytes are those of ng_pump. */
 ng_status ng_pump_all(ng_engine *engine, uint8_t *buffer, size_t buffer_cap, size_t *len,
                       ng_pumped_all *pumped);
 
@@ -444,8 +458,10 @@ ng_status ng_sampler_free(ng_sampler *sampler);
  * master is connected, there is no DAQ list, and nothing waits. Its CTR begins at 0.
  *
  *   NG_IN_USE      *slave isn't empty
- *   NG_BAD_LIMITS  channels is 0 or over NG_MAX_CHANNELS, or a number or a name of the profile or
- *                  of an event channel is out of its limits
+ *   NG_BAD_LIMITS  channels is 0 or over NG_MAX_CHANNELS; or one of these is out of its limits: of
+ *                  the profile image_len, base with image_len, id, ring, ticks, unit, stamp_size or
+ *                  name; of an event channel capacity, for this kind of rings, name or cycle_unit.
+ *                  cycle and priority have any value
  *   NG_MEMORY      malloc failed
  *   NG_OK          *slave holds the new slave
  *
@@ -491,9 +507,12 @@ ng_status ng_slave_receive(ng_slave *slave, const uint8_t *bytes, size_t len, ui
                            size_t *taken);
 
 /* The same of one datagram, as UDP has it, which holds whole frames. A part of a frame at the end,
- * or a frame with LEN 0 or over 64, drops what is left of the datagram, and nothing else. NG_EMPTY
- * if *slave is empty, NG_SPENT if the slave is spent; then *taken is unchanged. Proved and only
- * tested: as for ng_slave_receive. */
+ * or a frame with LEN 0 or over 64, drops what is left of the datagram, and nothing else. *taken is
+ * len, with what was dropped; or less, where no reply finds room behind a frame. Then the first
+ * *taken bytes were heard, and the others are this datagram's: pass them, from bytes + *taken on,
+ * to this call once replies were sent, before any later datagram. NG_EMPTY if *slave is empty,
+ * NG_SPENT if the slave is spent; then *taken is unchanged. Proved and only tested: as for
+ * ng_slave_receive. */
 ng_status ng_slave_datagram(ng_slave *slave, const uint8_t *bytes, size_t len, uint32_t clock,
                             size_t *taken);
 
@@ -526,7 +545,11 @@ ng_status ng_slave_peek(ng_slave *slave, uint8_t *buffer, size_t buffer_cap, siz
 ng_status ng_slave_sent(ng_slave *slave);
 
 /* Does what the slave ordered of this task, and then takes a trigger of its event channel, as
- * ng_trigger does. While there is no measurement nothing is due.
+ * ng_trigger does. While there is no measurement nothing is due. Orders are done in the order of
+ * the master's commands. A stop needs room in the ring, a place or 3 bytes: in a full one it waits,
+ * and the orders behind it with it, until a trigger after ng_slave_peek took something off. Till
+ * then the list goes on being due, as *taken says; but the master was answered, and gets nothing of
+ * it any more.
  *
  *   NG_EMPTY        *task is empty
  *   NG_WRONG_IMAGE  in a measurement: image_len isn't that of the profile

@@ -7,6 +7,7 @@ In texts of A2L files each character is a byte."""
 
 import csv
 import io
+import re
 import struct
 import subprocess
 
@@ -100,9 +101,46 @@ MODULES = [
     ("a virtual measurement",
      '/begin MEASUREMENT a "" UBYTE NO_COMPU_METHOD 0 0 0 1 /end MEASUREMENT', NONE),
     ("an address that is extended", measurement("UBYTE", "ECU_ADDRESS_EXTENSION -1"), NONE),
-    ("an array", measurement("UBYTE", "ARRAY_SIZE 2"), NONE),
-    ("a matrix", '/begin MEASUREMENT a "" UBYTE NO_COMPU_METHOD 0 0 0 1 MATRIX_DIM 1 3 '
-     "ECU_ADDRESS 1 /end MEASUREMENT", NONE),
+    ("an array of no element", measurement("UBYTE", "ARRAY_SIZE 0"), NONE),
+    ("a dimension of 0 among others", measurement("UBYTE", "MATRIX_DIM 2 0 2"), NONE),
+    ("an array of 65,537 elements", measurement("UBYTE", "MATRIX_DIM 65537"), NONE),
+    ("dimensions whose product has more than 64 bits",
+     measurement("UBYTE", "MATRIX_DIM 4294967296 4294967296 4294967296"), NONE),
+    ("columns of three dimensions",
+     measurement("UBYTE", "MATRIX_DIM 2 2 2 LAYOUT COLUMN_DIR"), NONE),
+    # arrays, whose elements stand one behind another
+    ("ARRAY_SIZE", measurement("UBYTE", 'ARRAY_SIZE 2 PHYS_UNIT "V"'),
+     {"a[0] [V]": "100", "a[1] [V]": "101"}),
+    ("MATRIX_DIM of one dimension, with two of 1",
+     measurement("UBYTE", "MATRIX_DIM 4 1 1", address=1),
+     {"a[0]": "101", "a[1]": "102", "a[2]": "103", "a[3]": "104"}),
+    ("MATRIX_DIM counts, and not ARRAY_SIZE", measurement("UBYTE", "ARRAY_SIZE 4 MATRIX_DIM 2"),
+     {"a[0]": "100", "a[1]": "101"}),
+    ("two dimensions: the first runs fastest",
+     measurement("UBYTE", "LAYOUT ROW_DIR MATRIX_DIM 3 2"),
+     {"a[0][0]": "100", "a[1][0]": "101", "a[2][0]": "102",
+      "a[0][1]": "103", "a[1][1]": "104", "a[2][1]": "105"}),
+    ("column by column: the second does",
+     measurement("UBYTE", "MATRIX_DIM 3 2 1 LAYOUT COLUMN_DIR"),
+     {"a[0][0]": "100", "a[0][1]": "101", "a[1][0]": "102",
+      "a[1][1]": "103", "a[2][0]": "104", "a[2][1]": "105"}),
+    ("a column alone", measurement("UBYTE", "MATRIX_DIM 2 LAYOUT COLUMN_DIR"),
+     {"a[0]": "100", "a[1]": "101"}),
+    ("three dimensions", measurement("UBYTE", "MATRIX_DIM 2 1 2"),
+     {"a[0][0][0]": "100", "a[1][0][0]": "101", "a[0][0][1]": "102", "a[1][0][1]": "103"}),
+    ("a first dimension of 1", '/begin MEASUREMENT a "" UBYTE NO_COMPU_METHOD 0 0 0 1 '
+     "MATRIX_DIM 1 3 ECU_ADDRESS 1 /end MEASUREMENT",
+     {"a[0][0]": "101", "a[0][1]": "102", "a[0][2]": "103"}),
+    ("elements of two bytes, MSB first", measurement(
+        "UWORD", "MATRIX_DIM 2 BYTE_ORDER MSB_FIRST", address=11),
+     {"a[0]": "28528", "a[1]": "29042"}),
+    ("the elements that the entry has", measurement("UWORD", "ARRAY_SIZE 4", address=35),
+     {"a[0]": "34951", "a[1]": "35465"}),
+    ("the first ones of 65,536", measurement("UBYTE", "MATRIX_DIM 256 256"),
+     {f"a[{i}][0]": str(BYTES[i]) for i in range(40)}),
+    ("a layout that isn't one",
+     '/begin MEASUREMENT a "" UBYTE m 0 0 0 1 LAYOUT ROWS /end MEASUREMENT',
+     "line 2, column 48: expected a layout, ROW_DIR or COLUMN_DIR"),
     # names, types, numbers, masks
     ("a method behind it; the first of its name counts",
      measurement("UBYTE", method="m", address=1) + method('IDENTICAL "" "V"')
@@ -191,17 +229,17 @@ MODULES = [
 ]
 
 # Of seven, one is shown: the others lie partly or wholly behind the 40 bytes of the list's entry,
-# or in another memory, are more than one value, are computed, or are an instance of a type.
+# or in another memory, are computed, or are an instance of a type.
 HIDDEN = (measurement("UBYTE", name="shown", address=1)
           + measurement("UBYTE", "ECU_ADDRESS_EXTENSION 1", name="extended")
           + measurement("UWORD", name="split", address=39)
           + '/begin INSTANCE pump "A pump" t 0x10 /end INSTANCE\n'
           + measurement("UBYTE", name="far", address="0x70000000")
-          + measurement("UBYTE", "ARRAY_SIZE 2", name="array")
+          + measurement("UBYTE", "ARRAY_SIZE 2", name="array", address=40)
           + '/begin MEASUREMENT computed "" UBYTE NO_COMPU_METHOD 0 0 0 1 /begin VIRTUAL shown '
           "/end VIRTUAL /end MEASUREMENT\n")
 HIDDEN_LINE = "xcpread: not shown of the a2l: 6 of 7 measurements and instances\n"
-HIDDEN_NAMES = ["split", "far", "extended", "pump", "array", "computed"]
+HIDDEN_NAMES = ["split", "far", "extended", "pump", "computed", "array"]
 
 # A mask, and what is shown under it of 64 bits that are all set: itself if it is odd.
 INTEGER = "expected a whole number that is not negative"
@@ -499,6 +537,29 @@ PIECES = [
     ("a label of the axis", ">10.5</text>"),
 ]
 
+# Pictures of a measurement with texts: its table, its values, 100 ticks apart, the curve, and the
+# texts at its left with their lines. Between the least and the greatest value the curve is 64 units
+# high, and lines go from 65 up to 9: at 7/8 of the height, no two of them nearer than 13.
+STEPS = [
+    ("values with texts are steps; a text is cut, and is written as XML has it",
+     'COMPU_VTAB t "" TAB_VERB 4 0 "off" 1 "<on>" 2 "fourteen letters" 7 "never" /end COMPU_VTAB',
+     [0, 2, 1, 1], "M0 64H240V0H480V32H720V32",
+     [("off", "65"), ("&lt;on&gt;", "37"), ("fourteen lette\u2026", "9")]),
+    ("of ten texts those that find room",
+     'COMPU_VTAB t "" TAB_VERB 10 ' + " ".join(f'{n} "n{n}"' for n in range(10))
+     + " /end COMPU_VTAB", [0, 9], "M0 64H720V0",
+     [("n0", "65"), ("n3", "46.3"), ("n6", "27.6"), ("n9", "9")]),
+    ("texts of ranges stand at their least values that are shown",
+     'COMPU_VTAB_RANGE t "" 3 0 4 "low" 5 8 "high" 10 20 "never" /end COMPU_VTAB_RANGE',
+     [2, 9], "M0 64H720V0", [("low", "65"), ("high", "41")]),
+    ("a value that never changes", 'COMPU_VTAB t "" TAB_VERB 1 3 "on" /end COMPU_VTAB',
+     [3, 3], "M0 32H720V32", [("on", "37")]),
+    ("numbers, if no value has a text",
+     'COMPU_VTAB t "" TAB_VERB 1 3 "on" DEFAULT_VALUE "off" /end COMPU_VTAB',
+     [4, 6], "M0 64H720V0", [("6", "9"), ("4", "65")]),
+]
+TEXT_AT = re.compile(r'<text class="m e" x="-8" y="([0-9.]+)">([^<]*)</text>')
+
 
 class Recordings:
     """Recordings of DAQ lists of one entry each, of these sizes, one behind another in memory."""
@@ -633,6 +694,13 @@ def check(tell, reader, recorder, room):
     tell("a value of bytes in two entries isn't shown", read(three, a2l)[1:]
          == ("xcpread: not shown of the a2l: 1 of 2 measurements and instances\n"
              "xcpread: not shown: b\n", 0))
+    a2l = in_module(measurement("UWORD", "ARRAY_SIZE 3", address=5))
+    text, said, status = read(three, a2l, "--csv")
+    tell("nor is an element; the others of its array are", (text.splitlines()[0], said, status)
+         == ("time [ticks],list,overload,a[0],a[2]", "", 0), text + said)
+    text, said, status = read(three, a2l, "--csv", "--only=a[2]")
+    tell("an element is chosen by its name", (text.splitlines()[0], said, status)
+         == ("time [ticks],list,overload,a[2]", "", 0), text + said)
     row("an INSTANCE alone", in_module('/begin INSTANCE a "" t 0 /end INSTANCE'), NONE)
     row("an INSTANCE without a name", in_module('/begin INSTANCE "a" "" t 0 /end INSTANCE'),
         "line 2, column 17: expected a name")
@@ -656,3 +724,10 @@ def check(tell, reader, recorder, room):
     text, said, status = read(three, in_module(CURVES), "--svg", "--tick=0.001")
     for name, piece in PIECES:
         tell(f"a picture has {name}", (said, status) == ("", 0) and piece in text, text + said)
+    for name, table, values, curve, texts in STEPS:
+        one.write([(0, 100 * at, bytes([value]), False) for at, value in enumerate(values)])
+        blocks = method('TAB_VERB "" "" COMPU_TAB_REF t') + measurement("UBYTE", method="m")
+        text, said, status = read(one, in_module(f"{blocks}/begin {table}\n"), "--svg")
+        lines = [(words, line) for line, words in TEXT_AT.findall(text)]
+        tell(f"a picture: {name}", (said, status, lines) == ("", 0, texts)
+             and f'<path class="v" d="{curve}"/>' in text, text + said)

@@ -1,5 +1,6 @@
 #include "memory.h"
 #include <stddef.h>
+#include <stdint.h>
 
 void *__real_malloc(size_t bytes);
 void *__real_realloc(void *block, size_t bytes);
@@ -7,6 +8,10 @@ void __real_free(void *block);
 
 unsigned long memory_asked;
 unsigned long memory_held;
+unsigned long memory_bytes;
+
+/* Before a block stands its size, in so many bytes that the block is as aligned as malloc's. */
+#define FRONT 16
 
 static bool refuses;
 static bool refused;
@@ -46,22 +51,34 @@ static bool refuse(void) {
     return false;
 }
 
+static size_t *front_of(void *block) { return (size_t *)(void *)((char *)block - FRONT); }
+
+/* The block behind this front, which now has so many bytes; they were counted before as so many. */
+static void *block_of(void *front, size_t bytes, size_t before) {
+    if (front == NULL) return NULL;
+    *(size_t *)front = bytes;
+    add(&memory_bytes, (long)bytes - (long)before);
+    return (char *)front + FRONT;
+}
+
 void *__wrap_malloc(size_t bytes) {
-    if (refuse()) return NULL;
-    void *block = __real_malloc(bytes);
+    if (refuse() || bytes > SIZE_MAX - FRONT) return NULL;
+    void *block = block_of(__real_malloc(FRONT + bytes), bytes, 0);
     if (block != NULL) add(&memory_held, 1);
     return block;
 }
 
 void *__wrap_realloc(void *block, size_t bytes) {
-    if (refuse()) return NULL;
-    void *moved = __real_realloc(block, bytes);
-    if (moved != NULL && block == NULL) add(&memory_held, 1);
-    return moved;
+    if (block == NULL) return __wrap_malloc(bytes);
+    if (refuse() || bytes > SIZE_MAX - FRONT) return NULL;
+    size_t before = *front_of(block);
+    return block_of(__real_realloc(front_of(block), FRONT + bytes), bytes, before);
 }
 
 void __wrap_free(void *block) {
     calls++;
-    if (block != NULL) add(&memory_held, -1);
-    __real_free(block);
+    if (block == NULL) return;
+    add(&memory_held, -1);
+    add(&memory_bytes, -(long)*front_of(block));
+    __real_free(front_of(block));
 }

@@ -8,6 +8,7 @@
 
 extern unsigned long memory_asked; /* calls of malloc and realloc */
 extern unsigned long memory_held;  /* blocks that were given and not freed */
+extern unsigned long memory_bytes; /* what was asked for of these */
 
 /* Gives as many more blocks as are said, refuses the one behind them, and gives all others. */
 void memory_refuse_behind(unsigned long blocks);

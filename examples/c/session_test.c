@@ -224,7 +224,7 @@ static const struct {
     {"01000600da", "08000500ff53000001000000"},
     {"01000700d9", "08000600ff013f0100340100"},
     {"02000800f501", "02000700fe29"},
-    {"04000900d7000000", "07000800ff041002010600"},
+    {"04000900d7000000", "07000800ff441002010600"},
     {"02000a00f502", "03000900ff6530"},
     {"02000b00f501", "02000a00fe22"},
     {"04000c00d7000100", "02000b00fe22"},
@@ -452,6 +452,157 @@ static void many_replies(void) {
     want(ng_slave_sent(&slave) == NG_OK, "sent");
     want(ng_slave_datagram(&slave, bytes + taken, 25, 0, &len) == NG_OK && len == 25, "the others");
     close_with(&slave, NULL, 0);
+    end();
+}
+
+/* Hears a command, and sends its reply, which is positive. */
+static void ask(ng_slave *slave, const char *packet) {
+    uint8_t frame[68];
+    size_t len = unhex(packet, frame + 4), taken = 77;
+    memcpy(frame, (uint8_t[]){(uint8_t)len, 0, 0, 0}, 4);
+    want(ng_slave_datagram(slave, frame, 4 + len, 0, &taken) == NG_OK && taken == 4 + len, packet);
+    want(ng_slave_peek(slave, buffer, sizeof buffer, &len) == NG_OK && len > 4, packet);
+    want(buffer[4] == 0xFF && ng_slave_sent(slave) == NG_OK, packet);
+}
+
+#define ASK(slave, ...) \
+    do { \
+        char packet[64]; \
+        snprintf(packet, sizeof packet, __VA_ARGS__); \
+        ask(slave, packet); \
+    } while (0)
+
+/* DAQ lists of one event channel or more, in turn, each with as many ODTs, and these with as many
+ * entries. */
+struct load {
+    unsigned channels, capacity;
+    unsigned lists, odts, entries, size;
+    ng_id_kind id;
+};
+
+static void set_up(ng_slave *slave, const struct load *load) {
+    ASK(slave, "ff00");
+    ASK(slave, "d500%02x00", load->lists);
+    for (unsigned l = 0; l < load->lists; l++) ASK(slave, "d400%02x00%02x", l, load->odts);
+    for (unsigned l = 0; l < load->lists; l++)
+        for (unsigned k = 0; k < load->odts; k++)
+            ASK(slave, "d300%02x00%02x%02x", l, k, load->entries);
+    for (unsigned l = 0; l < load->lists; l++) {
+        for (unsigned k = 0; k < load->odts; k++) {
+            ASK(slave, "e200%02x00%02x00", l, k);
+            for (unsigned e = 0; e < load->entries; e++)
+                ASK(slave, "e1ff%02x00%02x000000", load->size, e * (load->size + 1));
+        }
+        ASK(slave, "e010%02x00%02x000100", l, l % load->channels);
+    }
+}
+
+/* Starts all lists. */
+static void start_all(ng_slave *slave, const struct load *load) {
+    for (unsigned l = 0; l < load->lists; l++) ASK(slave, "de02%02x00", l);
+    ask(slave, "dd01");
+}
+
+static void trigger_all(ng_task *tasks, const struct load *load) {
+    static uint8_t image[256];
+    unsigned long bytes = memory_bytes;
+    ng_taken taken;
+    for (unsigned c = 0; c < load->channels; c++)
+        want(ng_task_trigger(&tasks[c], image, sizeof image, 0, &taken) == NG_OK, "trigger");
+    want(bytes == memory_bytes, "triggers take no memory, and give none back");
+}
+
+/* What nerthogal.h says of the bytes that a slave takes at most, and when it gives them back. */
+static void heap_of(const struct load *load) {
+    bool of_bytes = ring == NG_RING_BYTES;
+    unsigned l = load->lists, o = l * load->odts, e = o * load->entries, n = load->channels;
+    unsigned long capacity = of_bytes ? 64 * load->capacity : load->capacity;
+    if (of_bytes && capacity < NG_MIN_BYTE_RING) capacity = NG_MIN_BYTE_RING;
+    unsigned long of_slave = 28000 + (of_bytes ? 16000 : 12000) * n, of_lists = 40 * l + 24 * o + 12 * e;
+    unsigned long most = 4000 * n + 160 * l + 100 * o + 56 * e + n * (of_bytes ? 1 : 560) * capacity;
+    ng_profile profile = profile_of();
+    ng_event events[8] = {event_of("e")};
+    ng_slave slave = NG_SLAVE_INIT;
+    ng_task tasks[8];
+    unsigned long before = memory_bytes;
+    profile.image_len = 256;
+    profile.id = load->id;
+    for (unsigned c = 0; c < n; c++) {
+        events[c] = events[0];
+        events[c].capacity = capacity;
+    }
+    want(ng_slave_open(&profile, events, n, &slave) == NG_OK, "open");
+    for (unsigned c = 0; c < n; c++) tasks[c] = task_of(&slave, (uint16_t)c);
+    unsigned long opened = memory_bytes;
+    want(opened - before <= of_slave, "of a slave");
+    set_up(&slave, load);
+    want(memory_bytes == opened + of_lists, "of its DAQ lists");
+    start_all(&slave, load);
+    unsigned long measures = memory_bytes;
+    want(measures - opened - of_lists <= most, "of a measurement");
+    if (n == 2 && !of_bytes)
+        want(measures - before > 230000 && measures - before < 254000, "some 242 kB");
+    trigger_all(tasks, load);
+    ask(&slave, "fe");
+    for (unsigned k = 0; k < 4; k++) { /* each stop of a list finds room, also in a ring of one place */
+        size_t len;
+        trigger_all(tasks, load);
+        want(ng_slave_peek(&slave, buffer, sizeof buffer, &len) == NG_OK, "peek");
+        want(ng_slave_sent(&slave) == NG_OK, "sent");
+    }
+    want(memory_bytes == measures - of_lists, "it is kept behind DISCONNECT");
+    set_up(&slave, load);
+    start_all(&slave, load);
+    want(memory_bytes == measures, "the next one takes its place");
+    trigger_all(tasks, load);
+    ask(&slave, "dd00");
+    start_all(&slave, load);
+    want(memory_bytes > measures && memory_bytes - measures <= most, "beside one that tasks have");
+    unsigned long both = memory_bytes;
+    ask(&slave, "dd00");
+    start_all(&slave, load);
+    want(memory_bytes == both, "there are no more than two");
+    for (unsigned c = 0; c < n; c++) want(ng_task_finish(&tasks[c]) == NG_OK, "finish");
+    bool whole = false;
+    want(ng_slave_close(&slave, lines, NG_MAX_LISTS, &whole) == NG_OK && whole, "close");
+    want(memory_bytes == before, "all is given back");
+}
+
+static void heap(void) {
+    static const struct load loads[] = {{1, 1, 1, 1, 1, 1, NG_ABSOLUTE},
+                                        {1, 64, 15, 8, 17, 1, NG_ABSOLUTE},
+                                        {2, 64, 15, 8, 15, 3, NG_ABSOLUTE},
+                                        {8, 1, 16, 1, 1, 1, NG_ABSOLUTE},
+                                        {8, 1024, 16, 8, 32, 1, NG_RELATIVE_WORD}};
+    begin("a slave takes as many bytes as are said, and gives them back");
+    for (size_t k = 0; k < LEN(loads); k++) heap_of(&loads[k]);
+    end();
+}
+
+/* In a ring that has room for nothing a stop waits, and so does a start behind it. */
+static void waiting_stop(void) {
+    static const struct load load = {1, 4, 3, 1, 1, 1, NG_ABSOLUTE};
+    ng_slave slave = open_slave(1);
+    ng_task task = task_of(&slave, 0);
+    uint8_t image[2] = {0};
+    ng_taken taken = {0};
+    size_t len;
+    begin("a stop waits for room in a full ring, and a later start behind it");
+    set_up(&slave, &load);
+    ask(&slave, "de010000"); /* three lists are ready, and the first one is started */
+    /* each sample takes 12 bytes of a record, 1 for the packet's length, and 6: 532 has 28 */
+    while (taken.dropped == 0)
+        want(ng_task_trigger(&task, image, 2, 0, &taken) == NG_OK && taken.due == 1, "0 is due");
+    hear(&slave, "04000000de010200" "04000000de000000" "04000000de010100");
+    want(ng_task_trigger(&task, image, 2, 0, &taken) == NG_OK, "trigger");
+    want(taken.due == 5 && taken.accepted == 0, "2 was started before; 0 still runs, 1 doesn't");
+    want(ng_slave_peek(&slave, buffer, sizeof buffer, &len) == NG_OK && len > 0, "peek");
+    want(ng_task_trigger(&task, image, 2, 0, &taken) == NG_OK, "trigger");
+    want(taken.due == 6 && taken.accepted == 6, "the stop is done, and then the start");
+    want(ng_task_finish(&task) == NG_OK, "finish");
+    bool whole = false;
+    want(ng_slave_close(&slave, lines, NG_MAX_LISTS, &whole) == NG_OK && whole, "close");
+    want(lines[0].written == 0, "the stop holds for the master at once");
     end();
 }
 
@@ -750,6 +901,8 @@ int main(void) {
         other_kinds();
         no_memory();
         long_run();
+        heap();
+        waiting_stop();
     }
     ring = NG_RING_ITEMS;
     begin("all memory was given back");

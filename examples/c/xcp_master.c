@@ -1,15 +1,17 @@
 /* A small master of XCP on Ethernet, to try xcp_server with: it measures all variables of
  * xcp_server.a2l, and prints a row of CSV for each sample.
  *
- *   xcp_master --tcp PORT [--samples N] [--times N] [--pause MS] [--vanish] [--bad]
+ *   xcp_master --tcp PORT [--samples N] [--times N] [--pause MS] [--vanish] [--bad] [--wait MS]
  *   xcp_master --udp PORT [the same]
  *
  * It measures until N samples of the fast task came (100), and that as often as is said (once), each
  * time with lists that are set up anew. It checks what comes: counters rise by one; each reply is to
  * its command; no sample stands outside of a measurement; a sample's values are those of one trigger,
- * and its timestamp is theirs; an overload is marked exactly where triggers are missing.
+ * and its timestamp is theirs; an overload is marked exactly where triggers are missing. The slow
+ * task's counter is measured by the fast task too, and rises there as well.
  * With --pause it reads nothing for so long in the middle of a measurement, so that samples are
- * dropped. With --vanish it goes in the middle of one, and with --bad it sends a bad frame then.
+ * dropped. With --vanish it goes in the middle of one, and with --bad it sends a bad frame then. It
+ * waits for a reply for as long as is said (10000).
  * Its last line on standard error says how many samples came, and how many overloads. Ends with
  * status 1 at the first thing that isn't as it should be. Link with -lm. */
 #define _POSIX_C_SOURCE 200809L
@@ -48,7 +50,18 @@ static const struct variable {
     {"state", UBYTE, 0x1000001A, 1, 1},
 };
 
-enum { VARIABLES = sizeof variables / sizeof variables[0], EVENTS = 2, FIRST_OF_SLOW = 4 };
+enum { VARIABLES = sizeof variables / sizeof variables[0], EVENTS = 2, SLOW_COUNTER = 4 };
+
+/* Whether the list of an event channel has a variable: its own, and the slow counter in both. */
+static bool has(unsigned event, unsigned v) {
+    return variables[v].event == event || v == SLOW_COUNTER;
+}
+
+static unsigned entries_of(unsigned event) {
+    unsigned n = 0;
+    for (unsigned v = 0; v < VARIABLES; v++) n += has(event, v);
+    return n;
+}
 
 static void fail(const char *what) {
     fflush(stdout);
@@ -76,6 +89,9 @@ static bool measures;                      /* between the reply to a start and t
 static bool came[EVENTS];                  /* whether a sample of the list came in this measurement */
 static uint32_t last[EVENTS];              /* the counter of its last one */
 static unsigned long samples[EVENTS], overloads;
+static struct {
+    uint32_t slow, stamp;
+} begun, now; /* the slow counter, as the fast task first and last sampled it, and when */
 
 /* Whether a task computes these values at one trigger; as xcp_server.c does. */
 static bool are_of_one_trigger(unsigned event, const int32_t *raw, uint32_t stamp) {
@@ -88,12 +104,23 @@ static bool are_of_one_trigger(unsigned event, const int32_t *raw, uint32_t stam
     return raw[2] == (int32_t)(200 + turn % 50) && raw[3] == (int32_t)(turn / 25 % 4);
 }
 
+/* The slow counter in a sample of the fast task: it never falls. */
+static void look_at_slow_counter(uint32_t slow, uint32_t stamp) {
+    if (samples[0] == 0) {
+        begun.slow = slow;
+        begun.stamp = stamp;
+    } else want(slow >= now.slow, "slow_counter falls by event 1 ms");
+    now.slow = slow;
+    now.stamp = stamp;
+}
+
 static void print_row(unsigned event, uint32_t stamp, bool marked, const int32_t *raw) {
+    unsigned n = 0;
     printf("%.6f,%s,%d", stamp / 1e6, event == 0 ? "1 ms" : "10 ms", marked);
     for (unsigned v = 0; v < VARIABLES; v++) {
         printf(",");
-        if (variables[v].event != event) continue;
-        int32_t value = raw[v - (event == 0 ? 0 : FIRST_OF_SLOW)];
+        if (!has(event, v)) continue;
+        int32_t value = raw[n++];
         if (variables[v].type == ULONG) printf("%lu", (unsigned long)(uint32_t)value);
         else printf("%g", value / variables[v].raw_of_one);
     }
@@ -109,7 +136,7 @@ static void take_sample(const uint8_t *packet, unsigned len) {
     want(event < EVENTS, "a PID of no list");
     for (unsigned v = 0; v < VARIABLES; v++) {
         unsigned size = sizes[variables[v].type];
-        if (variables[v].event != event) continue;
+        if (!has(event, v)) continue;
         want(at + size <= len, "a sample that is too short");
         uint32_t value = get(packet + at, size);
         raw[n++] = variables[v].type == SWORD ? (int16_t)value : (int32_t)value;
@@ -119,6 +146,7 @@ static void take_sample(const uint8_t *packet, unsigned len) {
     want(are_of_one_trigger(event, raw, get(packet + 1, 4)), "values of more than one trigger");
     if (came[event])
         want(((uint32_t)raw[0] != last[event] + 1) == marked, "a gap without a mark, or a mark without a gap");
+    if (event == 0) look_at_slow_counter((uint32_t)raw[4], get(packet + 1, 4));
     came[event] = true;
     last[event] = (uint32_t)raw[0];
     samples[event]++;
@@ -130,6 +158,7 @@ static void take_sample(const uint8_t *packet, unsigned len) {
 
 static int line;                      /* the socket */
 static bool by_stream;
+static int patience = 10000;          /* for a reply, in milliseconds */
 static uint8_t heard[1 << 16];        /* what came and wasn't looked at yet */
 static size_t from, to;
 static uint16_t sent, expected;       /* CTR of the next frame, there and here */
@@ -175,7 +204,7 @@ static const uint8_t *ask(const uint8_t *packet, unsigned len) {
     send_frame(packet, len);
     for (;;) {
         unsigned size = 0;
-        const uint8_t *reply = next_packet(&size, 10000);
+        const uint8_t *reply = next_packet(&size, patience);
         want(reply != NULL, "no reply");
         if (reply[0] < 0xFE) take_sample(reply, size);
         else {
@@ -187,18 +216,19 @@ static const uint8_t *ask(const uint8_t *packet, unsigned len) {
 
 #define ASK(...) ask((const uint8_t[]){__VA_ARGS__}, sizeof((const uint8_t[]){__VA_ARGS__}))
 
-/* A list for each event channel, of one ODT: a timestamp and all variables of that event channel. */
+/* A list for each event channel, of one ODT: a timestamp, and what its event channel samples. */
 static void set_up(void) {
     ASK(0xD6);                       /* FREE_DAQ */
     ASK(0xD5, 0, EVENTS, 0);         /* ALLOC_DAQ */
     for (uint8_t l = 0; l < EVENTS; l++) ASK(0xD4, 0, l, 0, 1);             /* ALLOC_ODT */
-    for (uint8_t l = 0; l < EVENTS; l++) ASK(0xD3, 0, l, 0, 0, VARIABLES / 2); /* ALLOC_ODT_ENTRY */
+    for (uint8_t l = 0; l < EVENTS; l++)
+        ASK(0xD3, 0, l, 0, 0, (uint8_t)entries_of(l)); /* ALLOC_ODT_ENTRY */
     for (uint8_t l = 0; l < EVENTS; l++) {
         ASK(0xE2, 0, l, 0, 0, 0);    /* SET_DAQ_PTR */
         for (unsigned v = 0; v < VARIABLES; v++) {
             uint8_t write[8] = {0xE1, 0xFF, sizes[variables[v].type], 0};
             put(write + 4, 4, variables[v].address);
-            if (variables[v].event == l) ask(write, sizeof write); /* WRITE_DAQ */
+            if (has(l, v)) ask(write, sizeof write); /* WRITE_DAQ */
         }
         ASK(0xE0, 0x10, l, 0, l, 0, 1, 0); /* SET_DAQ_LIST_MODE: TIMESTAMP, event channel l */
         ASK(0xDE, 2, l, 0);          /* START_STOP_DAQ_LIST: select */
@@ -256,6 +286,7 @@ static struct options read_options(int argc, char **argv) {
         else if (more && strcmp(argv[i], "--samples") == 0) o.samples = strtoul(argv[++i], NULL, 10);
         else if (more && strcmp(argv[i], "--times") == 0) o.times = strtoul(argv[++i], NULL, 10);
         else if (more && strcmp(argv[i], "--pause") == 0) o.pause = atoi(argv[++i]);
+        else if (more && strcmp(argv[i], "--wait") == 0) patience = atoi(argv[++i]);
         else if (more && strcmp(argv[i], "--tcp") == 0) {
             o.kind = SOCK_STREAM;
             o.port = (unsigned)atoi(argv[++i]);
@@ -266,7 +297,7 @@ static struct options read_options(int argc, char **argv) {
     }
     if (o.port == 0) {
         fprintf(stderr, "usage: xcp_master --tcp PORT | --udp PORT [--samples N] [--times N] "
-                        "[--pause MS] [--vanish] [--bad]\n");
+                        "[--pause MS] [--vanish] [--bad] [--wait MS]\n");
         exit(2);
     }
     return o;
@@ -284,6 +315,8 @@ int main(int argc, char **argv) {
         measure(o.samples, o.pause, o.vanish, o.bad);
     }
     ASK(0xFE); /* DISCONNECT */
+    /* it counts each 10 ms */
+    want(now.slow > begun.slow || now.stamp - begun.stamp < 200000, "slow_counter stands still");
     fprintf(stderr, "samples %lu and %lu, overloads %lu\n", samples[0], samples[1], overloads);
     return 0;
 }

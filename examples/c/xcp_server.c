@@ -2,15 +2,15 @@
  * millisecond, one each ten. xcp_server.a2l tells a master its variables.
  *
  *   xcp_server [--udp PORT] [--tcp PORT] [--seconds N] [--any]
+ *   xcp_server --help
  *
- * Without ports both are 5555; 0 is a port that the system chooses. It listens on 127.0.0.1, or
- * with --any on all addresses: XCP knows no password. Its first line says the ports. It ends after N
- * seconds, or at SIGINT or SIGTERM, and prints the account of the session.
+ * Its first line says the ports. It ends after N seconds, or at SIGINT or SIGTERM, and prints the
+ * account of the session. Both tasks write one image, as those of a controller do.
  *
- * One master at a time: a second TCP connection is refused, and ends none; by UDP the master is
- * whoever sent CONNECT last. No line decodes a command: what comes goes to the library, and what
- * that lays out goes to the master. Link with -lm and -pthread. */
-#define _POSIX_C_SOURCE 200809L
+ * One master at a time, and --help says which. No line carries out a command: CONNECT and
+ * DISCONNECT tell who the master is, what the master sends goes to the library, and what that lays
+ * out goes to the master. Link with -lm and -pthread. */
+#define _DEFAULT_SOURCE /* for IP_RECVERR, beside what POSIX has */
 #include "nerthogal.h"
 #include <arpa/inet.h>
 #include <errno.h>
@@ -28,7 +28,7 @@
 #include <time.h>
 #include <unistd.h>
 
-/* ---- the variables: each has its address in one image, which begins at BASE */
+/* ---- the variables: each has its address in the one image, which begins at BASE */
 
 #define BASE 0x10000000u
 #define IMAGE_BYTES 32u
@@ -75,12 +75,22 @@ static void end(int signal) {
     __atomic_store_n(&over, 1, __ATOMIC_SEQ_CST);
 }
 
-/* Microseconds: what timestamps and the DAQ clock count. */
-static uint32_t now_us(void) {
+static uint64_t now_ns(void) {
     struct timespec now;
     clock_gettime(CLOCK_MONOTONIC, &now);
-    return (uint32_t)((uint64_t)now.tv_sec * 1000000u + (uint64_t)now.tv_nsec / 1000u);
+    return (uint64_t)now.tv_sec * 1000000000u + (uint64_t)now.tv_nsec;
 }
+
+/* Microseconds: what timestamps and the DAQ clock count. */
+static uint32_t now_us(void) { return (uint32_t)(now_ns() / 1000u); }
+
+static uint32_t now_ms(void) { return (uint32_t)(now_ns() / 1000000u); }
+
+/* The image: both tasks write their variables there, and read it under the gate alone. */
+static uint8_t variables[IMAGE_BYTES];
+static pthread_mutex_t gate = PTHREAD_MUTEX_INITIALIZER;
+
+static uint32_t due_at; /* when a trigger last found a DAQ list due, by now_ms */
 
 struct task {
     ng_task task;
@@ -90,18 +100,23 @@ struct task {
     pthread_t thread;
 };
 
-/* Computes its part of the image, which is this thread's own, and takes a trigger, once a period. */
+/* Computes its part of the image, and takes a trigger of a copy of the whole, once a period. */
 static void *run_task(void *argument) {
     struct task *self = argument;
-    uint8_t image[IMAGE_BYTES] = {0};
+    uint8_t image[IMAGE_BYTES];
     struct timespec next;
     clock_gettime(CLOCK_MONOTONIC, &next);
     for (uint32_t turn = 0; !is_over(); turn++) {
         uint32_t now = now_us();
         ng_taken taken;
-        self->compute(image, turn, now);
+        pthread_mutex_lock(&gate);
+        self->compute(variables, turn, now);
+        memcpy(image, variables, sizeof image);
+        pthread_mutex_unlock(&gate);
         if (ng_task_trigger(&self->task, image, sizeof image, now, &taken) != NG_OK)
             self->fault = true;
+        else if (taken.due != 0)
+            __atomic_store_n(&due_at, now_ms(), __ATOMIC_SEQ_CST);
         next.tv_nsec += self->period;
         if (next.tv_nsec >= 1000000000) {
             next.tv_nsec -= 1000000000;
@@ -115,34 +130,60 @@ static void *run_task(void *argument) {
 
 /* ---- the transports */
 
+#define FRAME_BYTES 68 /* of the longest frame of a master: LEN, CTR and MAX_CTO */
+#define GUESTS 4       /* connections that may wait, of which no CONNECT came yet */
+#define SILENCE 10000u /* after so many milliseconds a master that is silent may be replaced */
+
+/* A connection of which no CONNECT came yet. */
+struct guest {
+    int socket; /* -1 where there is none */
+    uint8_t heard[FRAME_BYTES];
+    size_t len;
+};
+
+/* Where in a frame the master's bytes stand. */
+struct place {
+    size_t at; /* bytes of it that came */
+    uint8_t front[6];
+};
+
 struct server {
     ng_slave slave;
-    int udp, listener, tcp;    /* sockets; tcp is -1 where none is connected */
-    struct sockaddr_in master; /* whoever sent CONNECT last by UDP */
-    bool by_udp;               /* whether there is one */
-    uint8_t heard[2048];       /* bytes that came and weren't taken yet */
-    size_t from, to;           /* where they stand */
-    uint8_t page[1400];        /* frames that wait, as the last peek laid them out */
-    size_t gone;               /* so many bytes of them went out by TCP */
+    int udp, listener, tcp;      /* sockets; tcp is -1 where no master is connected by it */
+    struct guest guests[GUESTS]; /* the oldest first */
+    struct sockaddr_in master;   /* its address, by UDP */
+    bool by_udp;                 /* whether there is one */
+    struct place place;
+    bool left;                   /* whether the master sent DISCONNECT last, and no CONNECT then */
+    uint32_t heard_at;           /* when it was heard last, by now_ms */
+    uint8_t heard[2048];         /* bytes that came and weren't taken yet */
+    size_t from, to;             /* where they stand */
+    uint8_t page[1400];          /* frames that wait, as the last peek laid them out */
+    size_t gone;                 /* so many bytes of them went out by TCP */
 };
 
 static bool nothing_heard(const struct server *s) { return s->from == s->to; }
+
+static bool is_recent(uint32_t at) { return now_ms() - at < SILENCE; }
+
+/* Whether there is a master that another one's CONNECT doesn't replace. */
+static bool is_taken(const struct server *s) {
+    if ((s->tcp < 0 && !s->by_udp) || s->left) return false;
+    return is_recent(s->heard_at) || is_recent(__atomic_load_n(&due_at, __ATOMIC_SEQ_CST));
+}
 
 /* The connection is gone. What waits is thrown away, so that it never reaches another master. */
 static void lose(struct server *s) {
     ng_slave_hang_up(&s->slave);
     if (s->tcp >= 0) close(s->tcp);
     s->tcp = -1;
-    s->by_udp = false;
-    s->from = s->to = s->gone = 0;
+    s->by_udp = s->left = false;
+    s->from = s->to = s->gone = s->place.at = 0;
 }
 
 /* Sends a page by UDP, whole, or not at all. */
 static bool send_datagram(struct server *s, size_t len) {
-    if (sendto(s->udp, s->page, len, 0, (struct sockaddr *)&s->master, sizeof s->master) >= 0)
-        return true;
-    if (errno == ECONNREFUSED) lose(s); /* nobody listens there any more */
-    return false;
+    return sendto(s->udp, s->page, len, 0, (struct sockaddr *)&s->master, sizeof s->master) >= 0;
 }
 
 /* Sends what is left of a page by TCP; answers whether all of it went out. */
@@ -188,6 +229,45 @@ static void pass_on(struct server *s) {
     }
 }
 
+/* The length of a frame whose LEN stands here; 0 for a LEN that is none. */
+static size_t frame_len(const uint8_t *bytes) {
+    size_t len = bytes[0] | (size_t)bytes[1] << 8;
+    return len == 0 || len > FRAME_BYTES - 4 ? 0 : 4 + len;
+}
+
+/* What the bytes of one who isn't the master begin with: a CONNECT, whole or in part, or others. */
+enum front { PART, CONNECTS, OTHERS };
+static enum front front_of(const uint8_t *bytes, size_t len) {
+    if (len < 6) return PART;
+    if (frame_len(bytes) < 6 || bytes[4] != 0xFF || bytes[5] != 0) return OTHERS;
+    return len < frame_len(bytes) ? PART : CONNECTS;
+}
+
+/* Follows the frames of the master's bytes, and notes whether it left. */
+static void follow(struct server *s, const uint8_t *bytes, size_t len) {
+    struct place *place = &s->place;
+    for (size_t i = 0; i < len; i++) {
+        if (place->at < sizeof place->front) place->front[place->at] = bytes[i];
+        place->at++;
+        if (place->at < 4) continue;
+        size_t whole = frame_len(place->front);
+        if (whole == 0) return; /* the library reads no further either */
+        if (place->at < whole) continue;
+        if (place->front[4] == 0xFE) s->left = true;
+        if (front_of(place->front, 6) != OTHERS) s->left = false;
+        place->at = 0;
+    }
+}
+
+/* So many bytes of the master were heard. */
+static void take_heard(struct server *s, size_t len) {
+    s->from = 0;
+    s->to = len;
+    s->heard_at = now_ms();
+    if (s->by_udp) s->place.at = 0; /* a datagram begins with a frame */
+    follow(s, s->heard, len);
+}
+
 static void hear_stream(struct server *s) {
     ssize_t got = recv(s->tcp, s->heard, sizeof s->heard, 0);
     if (got < 0 && (errno == EAGAIN || errno == EWOULDBLOCK || errno == EINTR)) return;
@@ -195,8 +275,7 @@ static void hear_stream(struct server *s) {
         lose(s);
         return;
     }
-    s->from = 0;
-    s->to = (size_t)got;
+    take_heard(s, (size_t)got);
 }
 
 static bool is_master(const struct server *s, const struct sockaddr_in *from) {
@@ -204,49 +283,90 @@ static bool is_master(const struct server *s, const struct sockaddr_in *from) {
         && from->sin_addr.s_addr == s->master.sin_addr.s_addr;
 }
 
-/* Takes a datagram of the master; or of another address, if that begins with a CONNECT. */
+/* Takes a datagram of the master; or of another address, if that begins with a CONNECT and there is
+ * no master that stays. */
 static void hear_datagram(struct server *s) {
     struct sockaddr_in from;
     socklen_t size = sizeof from;
     ssize_t got = recvfrom(s->udp, s->heard, sizeof s->heard, 0, (struct sockaddr *)&from, &size);
-    if (got < 0 && errno == ECONNREFUSED) lose(s);
-    if (got < 0 || s->tcp >= 0) return;
+    if (got < 0) return;
     if (!is_master(s, &from)) {
-        static const uint8_t connect_to[2] = {0xFF, 0x00};
-        if (got < 6 || memcmp(s->heard + 4, connect_to, sizeof connect_to) != 0) return;
+        if (front_of(s->heard, (size_t)got) != CONNECTS || is_taken(s)) return;
         lose(s);
         s->master = from;
         s->by_udp = true;
     }
-    s->from = 0;
-    s->to = (size_t)got;
+    take_heard(s, (size_t)got);
 }
 
-/* Takes a connection, in place of a master by UDP; a second one is closed at once. The buffer of the
- * socket is small: a master that doesn't keep up is told so by the overload bit, and not by samples
- * that are old. */
-static void accept_master(struct server *s) {
+/* Looks where the network says that datagrams don't arrive: a master there is lost. */
+static void hear_errors(struct server *s) {
+#ifdef IP_RECVERR
+    struct sockaddr_in at;
+    uint8_t more[512];
+    for (;;) {
+        struct msghdr error = {.msg_name = &at, .msg_namelen = sizeof at,
+                               .msg_control = more, .msg_controllen = sizeof more};
+        if (recvmsg(s->udp, &error, MSG_ERRQUEUE | MSG_DONTWAIT) < 0) return;
+        if (is_master(s, &at)) lose(s);
+    }
+#else
+    (void)s;
+#endif
+}
+
+static void forget(struct guest *guest) { *guest = (struct guest){.socket = -1}; }
+
+/* Hears a connection that isn't the master's. Its CONNECT makes it the master's, if there is none
+ * that stays. Where it sends anything else, or comes too soon, it is closed. */
+static void hear_guest(struct server *s, struct guest *guest) {
+    size_t room = sizeof guest->heard - guest->len;
+    ssize_t got = recv(guest->socket, guest->heard + guest->len, room, 0);
+    if (got < 0 && (errno == EAGAIN || errno == EWOULDBLOCK || errno == EINTR)) return;
+    if (got > 0) guest->len += (size_t)got;
+    enum front front = front_of(guest->heard, guest->len);
+    if (got > 0 && front == PART) return;
+    if (got > 0 && front == CONNECTS && !is_taken(s)) {
+        lose(s);
+        s->tcp = guest->socket;
+        memcpy(s->heard, guest->heard, guest->len);
+        take_heard(s, guest->len);
+    } else close(guest->socket);
+    forget(guest);
+}
+
+/* Takes a connection, which waits for its CONNECT in the last place; where all are taken the oldest
+ * one is closed. The buffer of the socket is small: a master that doesn't keep up is told so by the
+ * overload bit, and not by samples that are old. */
+static void take_guest(struct server *s) {
     int client = accept(s->listener, NULL, NULL), one = 1, room = 8192;
     if (client < 0) return;
-    if (s->tcp >= 0) {
-        close(client);
-        return;
-    }
-    if (s->by_udp) lose(s);
     fcntl(client, F_SETFL, O_NONBLOCK);
     setsockopt(client, IPPROTO_TCP, TCP_NODELAY, &one, sizeof one);
     setsockopt(client, SOL_SOCKET, SO_SNDBUF, &room, sizeof room);
-    s->tcp = client;
+    int free = 0;
+    while (free < GUESTS - 1 && s->guests[free].socket >= 0) free++;
+    if (s->guests[free].socket >= 0) {
+        close(s->guests[0].socket);
+        memmove(s->guests, s->guests + 1, sizeof s->guests - sizeof *s->guests);
+    }
+    forget(&s->guests[free]);
+    s->guests[free].socket = client;
 }
 
 /* Waits for a millisecond, or until something comes, and does what is to be done. */
 static void serve_once(struct server *s) {
     short hears = nothing_heard(s) ? POLLIN : 0, sends = s->gone > 0 ? POLLOUT : 0;
-    struct pollfd sockets[] = {
+    struct pollfd sockets[3 + GUESTS] = {
         {s->udp, hears, 0}, {s->listener, POLLIN, 0}, {s->tcp, (short)(hears | sends), 0}};
-    if (poll(sockets, 3, 1) > 0) {
-        if (sockets[1].revents & POLLIN) accept_master(s);
-        if (nothing_heard(s) && sockets[0].revents != 0) hear_datagram(s);
+    for (int g = 0; g < GUESTS; g++)
+        sockets[3 + g] = (struct pollfd){s->guests[g].socket, POLLIN, 0};
+    if (poll(sockets, 3 + GUESTS, 1) > 0) {
+        if (sockets[0].revents & POLLERR) hear_errors(s);
+        for (int g = 0; g < GUESTS; g++)
+            if (sockets[3 + g].revents != 0) hear_guest(s, &s->guests[g]);
+        if (sockets[1].revents & POLLIN) take_guest(s);
+        if (nothing_heard(s) && sockets[0].revents & POLLIN) hear_datagram(s);
         if (nothing_heard(s) && s->tcp == sockets[2].fd && (sockets[2].revents & ~POLLOUT))
             hear_stream(s);
     }
@@ -256,20 +376,25 @@ static void serve_once(struct server *s) {
 
 /* ---- opening and closing */
 
-/* A socket of this kind on a port, and which port that is; or ends the program. */
+/* A socket of this kind on a port, and which port that is; or ends the program. No two servers have
+ * one port; by TCP one may have it while connections of an earlier one end. */
 static int listen_on(int kind, unsigned port, bool any, unsigned *is) {
     struct sockaddr_in at = {.sin_family = AF_INET, .sin_port = htons((uint16_t)port)};
     socklen_t size = sizeof at;
     int s = socket(AF_INET, kind, 0), one = 1;
     at.sin_addr.s_addr = htonl(any ? INADDR_ANY : INADDR_LOOPBACK);
-    setsockopt(s, SOL_SOCKET, SO_REUSEADDR, &one, sizeof one);
+    if (kind == SOCK_STREAM) setsockopt(s, SOL_SOCKET, SO_REUSEADDR, &one, sizeof one);
     if (s < 0 || bind(s, (struct sockaddr *)&at, sizeof at) < 0
-        || (kind == SOCK_STREAM && listen(s, 4) < 0)
+        || (kind == SOCK_STREAM && listen(s, GUESTS) < 0)
         || getsockname(s, (struct sockaddr *)&at, &size) < 0) {
-        perror("xcp_server");
+        fprintf(stderr, "xcp_server: %s port %u: %s\n", kind == SOCK_STREAM ? "TCP" : "UDP", port,
+                strerror(errno));
         exit(1);
     }
     fcntl(s, F_SETFL, O_NONBLOCK);
+#ifdef IP_RECVERR
+    if (kind == SOCK_DGRAM) setsockopt(s, IPPROTO_IP, IP_RECVERR, &one, sizeof one);
+#endif
     *is = ntohs(at.sin_port);
     return s;
 }
@@ -316,6 +441,22 @@ static unsigned number_of(const char *text, unsigned long most) {
     return (unsigned)number;
 }
 
+static const char usage[] = "usage: xcp_server [--udp PORT] [--tcp PORT] [--seconds N] [--any]\n";
+
+static const char help[] =
+    "\n"
+    "A slave of XCP on Ethernet with tasks of 1 ms and 10 ms; xcp_server.a2l has its variables.\n"
+    "\n"
+    "  --udp PORT, --tcp PORT  5555 where nothing is said; 0 is a port that the system chooses\n"
+    "  --seconds N             ends after so long; else at SIGINT or SIGTERM\n"
+    "  --any                   listens on all addresses, and not on 127.0.0.1 alone; XCP has no\n"
+    "                          password\n"
+    "\n"
+    "One master at a time: whoever was answered to CONNECT, until it sends DISCONNECT or its\n"
+    "connection is lost. Another one's CONNECT, by UDP or by TCP, gets no reply while the master\n"
+    "measures or was heard within the last 10 seconds; then it takes the master's place. A\n"
+    "connection by TCP whose first frame isn't a CONNECT that is answered is closed.\n";
+
 static struct options read_options(int argc, char **argv) {
     struct options o = {5555, 5555, 0, false};
     for (int i = 1; i < argc; i++) {
@@ -324,8 +465,11 @@ static struct options read_options(int argc, char **argv) {
         else if (more && strcmp(argv[i], "--udp") == 0) o.udp = number_of(argv[++i], 65535);
         else if (more && strcmp(argv[i], "--tcp") == 0) o.tcp = number_of(argv[++i], 65535);
         else if (more && strcmp(argv[i], "--seconds") == 0) o.seconds = number_of(argv[++i], 86400);
-        else {
-            fprintf(stderr, "usage: xcp_server [--udp PORT] [--tcp PORT] [--seconds N] [--any]\n");
+        else if (strcmp(argv[i], "--help") == 0) {
+            printf("%s%s", usage, help);
+            exit(0);
+        } else {
+            fprintf(stderr, "%s", usage);
             exit(2);
         }
     }
@@ -339,6 +483,7 @@ int main(int argc, char **argv) {
     struct task tasks[2] = {{.task = NG_TASK_INIT, .compute = compute_fast, .period = 1000000},
                             {.task = NG_TASK_INIT, .compute = compute_slow, .period = 10000000}};
     unsigned udp, tcp;
+    for (int g = 0; g < GUESTS; g++) forget(&s.guests[g]);
     sigaction(SIGINT, &ends, NULL);
     sigaction(SIGTERM, &ends, NULL);
     if (!open_slave(&s, tasks)) return 1;
@@ -355,5 +500,7 @@ int main(int argc, char **argv) {
     end(0);
     for (int t = 0; t < 2; t++) pthread_join(tasks[t].thread, NULL);
     lose(&s);
+    for (int g = 0; g < GUESTS; g++)
+        if (s.guests[g].socket >= 0) close(s.guests[g].socket);
     return print_account(&s.slave) && !tasks[0].fault && !tasks[1].fault ? 0 : 1;
 }

@@ -5,3 +5,4 @@ pub mod Described
 pub mod Drafts
 pub mod Whole
 pub mod Units
+pub mod Elements

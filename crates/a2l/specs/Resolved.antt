@@ -12,7 +12,8 @@ use Rattle.a2l.specs.declared.description.Measurement.{Measurement}
 use Rattle.a2l.specs.declared.description.Method.{Method}
 use Rattle.a2l_entries.specs.Gives.{◌>>=◌}
 use Rattle.a2l.specs.Names.{place_of}
-use Rattle.a2l_entries.specs.MeasurementSaid.{Measured, operation_of}
+use Rattle.a2l_entries.specs.MeasurementSaid.{Measured, operation_of, dims_of, has_shape, layout_of}
+use Rattle.a2l_entries.specs.declared.layout.Layout.{Layout}
 use Rattle.a2l_entries.specs.MethodSaid.{Converted, Formula, identical, linear, rational_of}
 use Rattle.a2l_entries.specs.MethodSaid.{texts_named, other}
 use Rattle.a2l_entries.specs.TableSaid.{Texts, Named, texts_seen}
@@ -81,6 +82,9 @@ pub record Value : Type 0 where
   -- the place of its method
   pub method : Option ℕ
   pub unit : Option (List ℕ)
+  -- the dimensions of an array, and how its elements stand; of a single value none
+  pub dims : List ℕ
+  pub layout : Layout
 
 abbrev pub described_measurement : Measurement → Value
 described_measurement m = record {
@@ -89,6 +93,8 @@ described_measurement m = record {
   address = m.address;
   method = m.method;
   unit = option_map (λ s. string_bytes s) m.unit;
+  dims = m.dims.items;
+  layout = m.layout;
 }
 
 -- the place of a method by that of its name, where so many stand before those of the MODULE
@@ -98,7 +104,8 @@ method_place before place (Some name) = option_map (λ k. Some (before + k)) (pl
 
 -- the address of a measurement that is kept
 abbrev pub kept_address : Measured → Option ℕ
-kept_address m = if m.options.apart then None else m.options.address
+kept_address m =
+    if m.options.apart then None else (if has_shape m.options then m.options.address else None)
 
 -- the name of a measurement that isn't kept
 abbrev pub name_if_left : Measured → List (List ℕ)
@@ -116,6 +123,8 @@ value_at order m method address = record {
   address = address;
   method = method;
   unit = m.options.unit;
+  dims = dims_of m.options;
+  layout = layout_of m.options;
 }
 
 -- a measurement, if it is kept

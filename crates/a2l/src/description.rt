@@ -2,35 +2,42 @@ ghost use Rattle.std.specs.Prelude.{◌≡◌, map};
 ghost use Rattle.a2l.specs.Units.{unit_at};
 ghost use Rattle.a2l.specs.Resolved.{described_method};
 
+use a2l_entries::Layout;
 use measurement::{Conversion, Encoding, Tick};
 
 /// What an A2L file says of what can be measured.
 #[derive(Debug, Drop)]
 pub struct Description {
-    /// The measurements that have an address and are no array, in the order of the file.
+    /// The measurements that have an address, in the order of the file.
     pub measurements: Vec<Measurement>,
     /// The conversion methods, in the order of the file (ASAM MCD-2 MC, COMPU_METHOD).
     pub methods: Vec<Method>,
     /// The names of what can't be measured as it is, in the order of the file: the measurements
-    /// without an address, with an address extension other than 0, or that are arrays, and the
-    /// instances (ASAM MCD-2 MC, INSTANCE).
+    /// without an address, with an address extension other than 0, or that are arrays of no or of
+    /// more than 65,536 elements, or of an order that isn't known, and the instances (ASAM MCD-2
+    /// MC, INSTANCE).
     pub left_out: Vec<String>,
     /// How long a tick of a timestamp is (ASAM MCD-1 XCP, TIMESTAMP_SUPPORTED).
     pub tick: Option<Tick>,
 }
 
-/// A value that can be measured (ASAM MCD-2 MC, MEASUREMENT).
+/// A value that can be measured, or an array of such values (ASAM MCD-2 MC, MEASUREMENT).
 #[derive(Debug, Drop)]
 pub struct Measurement {
     pub name: String,
     /// How the value stands in its bytes.
     pub encoding: Encoding,
-    /// Where its bytes begin (ECU_ADDRESS).
+    /// Where its bytes, or those of its first element, begin (ECU_ADDRESS).
     pub address: u32,
     /// The place of its method among the description's, if it has one: NO_COMPU_METHOD has none.
     pub method: Option<usize>,
     /// Its own unit (PHYS_UNIT).
     pub unit: Option<String>,
+    /// The dimensions of an array, x first, without those of 1 at their end (MATRIX_DIM,
+    /// ARRAY_SIZE). A single value has none.
+    pub dims: Vec<u64>,
+    /// In which order the elements of an array stand (LAYOUT).
+    pub layout: Layout,
 }
 
 /// How physical values come of raw ones (ASAM MCD-2 MC, COMPU_METHOD).

@@ -4,12 +4,13 @@
 
 mod description;
 mod draft;
+mod elements;
 mod fault;
 mod module_parts;
 mod names;
 mod reading;
 mod resolving;
 
-pub use a2l_entries::{Awaited, Refused};
+pub use a2l_entries::{Awaited, Layout, Refused};
 pub use description::{Description, Measurement, Method};
 pub use fault::{A2lFault, Reason};

@@ -174,7 +174,8 @@ fn copy_of_rows(alloc: Global, rows: &[TextRow]) -> Result<Vec<TextRow>, AllocEr
     Ok(copies)
 }
 
-fn copy_of_text(text: &Option<String>) -> Result<Option<String>, AllocError>
+/// A copy of a text, if there is one.
+pub fn copy_of_text(text: &Option<String>) -> Result<Option<String>, AllocError>
     ensures { IfOk result
         (λ copy. option_map (λ s. string_bytes s) copy ≡ option_map
         (λ s. string_bytes s) text.now) }
@@ -195,8 +196,8 @@ struct Setting<'m> {
     before: usize,
 }
 
-/// Appends the measurements of a MODULE that have an address and are no array. `order` is the byte
-/// order of those that have none of their own, `before` how many methods stand before the MODULE's.
+/// Appends the measurements of a MODULE that are kept. `order` is the byte order of those that have
+/// none of their own, `before` how many methods stand before the MODULE's.
 pub fn add_measurements(
     alloc: Global,
     out: &mut Vec<Measurement>,
@@ -217,14 +218,15 @@ pub fn add_measurements(
         before,
     };
     for measurement in measurements {
-        add_measurement(out, measurement, setting)?;
+        add_measurement(alloc, out, measurement, setting)?;
     }
     Ok(())
 }
 
-/// Appends a measurement, if it has an address and is no array.
+/// Appends a measurement, if it is kept.
 #[tactic(auto, unfolding(crate::specs::Resolved::value_of))]
 fn add_measurement(
+    alloc: Global,
     out: &mut Vec<Measurement>,
     measurement: &MeasurementBlock,
     setting: Setting<'_>,
@@ -238,7 +240,7 @@ fn add_measurement(
     match address_of(measurement) {
         None => Ok(()),
         Some(address) => {
-            let measurement = measured(measurement, address, method, setting.order)?;
+            let measurement = measured(alloc, measurement, address, method, setting.order)?;
             out.push(measurement)?;
             Ok(())
         }
@@ -264,17 +266,22 @@ fn method_place(method: &Option<Reference>, setting: Setting<'_>) -> Result<Opti
     }
 }
 
-/// The address of a measurement that is kept.
+/// The address of a measurement that is kept: that has one, without an extension, and, if it is an
+/// array, elements in an order that is known.
 pub fn address_of(measurement: &MeasurementBlock) -> Option<u32>
     ensures { result ≡ kept_address (measurement_seen measurement.now) }
 {
     if measurement.options.apart {
         return None;
     }
+    if !measurement.options.has_shape() {
+        return None;
+    }
     measurement.options.address
 }
 
 fn measured(
+    alloc: Global,
     block: &MeasurementBlock,
     address: u32,
     method: Option<usize>,
@@ -286,6 +293,7 @@ fn measured(
 {
     let name = block.name.clone()?;
     let unit = copy_of_text(&block.options.unit)?;
+    let dims = Vec::from_slice(alloc, block.options.dims())?;
     let encoding = Encoding {
         data_type: block.data_type,
         order: block.options.order.unwrap_or(order),
@@ -298,5 +306,7 @@ fn measured(
         address,
         method,
         unit,
+        dims,
+        layout: block.options.layout(),
     })
 }

@@ -1,3 +1,4 @@
 pub mod SaidLemmas
 pub mod ScanLemmas
 pub mod OptionLemmas
+mod DimensionLemmas

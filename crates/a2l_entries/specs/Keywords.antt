@@ -1,5 +1,5 @@
 -- The keywords of blocks (ASAM MCD-2 MC), and how many words belong to each.
-use Rattle.std.specs.Prelude.{ℕ, Bool, true, false, List, [], ◌∷◌, codes, bytes_eq, Option, Some}
+use Rattle.std.specs.Prelude.{ℕ, Bool, false, List, [], ◌∷◌, codes, bytes_eq, Option, Some}
 use Rattle.std.specs.Prelude.{None, if◌then◌else◌}
 use Rattle.a2l_words.specs.Tokens.{Token, begin, end, include, plain, quoted}
 use Rattle.measurement.specs.declared.byte_order.ByteOrder.{ByteOrder}
@@ -14,6 +14,8 @@ use Rattle.a2l_entries.specs.declared.keywords.MethodKeyword.{MethodKeyword}
 use Rattle.a2l_entries.specs.declared.keywords.MethodKeyword.TheVariants as method
 use Rattle.a2l_entries.specs.declared.keywords.MethodKind.{MethodKind}
 use Rattle.a2l_entries.specs.declared.keywords.MethodKind.TheVariants as kind
+use Rattle.a2l_entries.specs.declared.layout.Layout.{Layout}
+use Rattle.a2l_entries.specs.declared.layout.Layout.TheVariants.{Rows, Columns}
 use Rattle.a2l_entries.specs.Gives.{◌>>=◌}
 use Rattle.a2l_entries.specs.Said.{plain_said, first_of}
 
@@ -22,7 +24,7 @@ other_keyword_of word =
     if bytes_eq word (codes "DISPLAY_IDENTIFIER") then option.One
     else (if bytes_eq word (codes "ERROR_MASK") then option.One
     else (if bytes_eq word (codes "FORMAT") then option.One
-    else (if bytes_eq word (codes "LAYOUT") then option.One
+    else (if bytes_eq word (codes "LAYOUT") then option.Layout
     else (if bytes_eq word (codes "MODEL_LINK") then option.One
     else (if bytes_eq word (codes "REF_MEMORY_SEGMENT") then option.One
     else (if bytes_eq word (codes "MAX_REFRESH") then option.Two
@@ -70,6 +72,7 @@ arguments_of option.Address = 1
 arguments_of option.Extension = 1
 arguments_of option.Size = 1
 arguments_of option.Dimensions = 0
+arguments_of option.Layout = 1
 arguments_of option.Unit = 1
 arguments_of option.One = 1
 arguments_of option.Two = 2
@@ -137,6 +140,14 @@ order_of word =
 
 unfoldable pub order_said : Token → Option ByteOrder
 order_said w = plain_said w >>= order_of
+
+abbrev pub layout_of : List ℕ → Option Layout
+layout_of word =
+    if bytes_eq word (codes "ROW_DIR") then Some Rows
+    else (if bytes_eq word (codes "COLUMN_DIR") then Some Columns else None)
+
+unfoldable pub layout_said : Token → Option Layout
+layout_said w = plain_said w >>= layout_of
 
 abbrev pub is_keyword : List ℕ → Token → Bool
 is_keyword keyword begin = false

@@ -1,5 +1,6 @@
 pub mod Gives
 pub mod Said
+pub mod Dimensions
 pub mod Scans
 pub mod Keywords
 pub mod MeasurementSaid

@@ -1,6 +1,8 @@
 -- What a block MEASUREMENT says (ASAM MCD-2 MC, MEASUREMENT).
-use Rattle.std.specs.Prelude.{ℕ, zero, suc, ◌<◌, ◌^◌, Bool, true, false, not, ◌||◌, ◌==◌, nat_lt}
+use Rattle.std.specs.Prelude.{ℕ, ◌^◌, Bool, true, false, not, ◌||◌, ◌==◌, nat_lt}
 use Rattle.std.specs.Prelude.{List, [], ◌∷◌, codes, Option, Some, None, if◌then◌else◌, string_bytes}
+use Rattle.std.specs.Prelude.{◌&&◌, is_some, length, nat_le}
+use Rattle.std.specs.Global.{Vec}
 use Rattle.std.specs.Option.{option_map, option_or, unwrap_or}
 use Rattle.a2l_words.specs.Tokens.{Token}
 use Rattle.measurement.specs.declared.bit_operation.BitOperation.{BitOperation}
@@ -18,7 +20,10 @@ use Rattle.a2l_entries.specs.Said.{first_of, name_said, text_said, number_said, 
 use Rattle.a2l_entries.specs.Said.{name_first, behind_text, number_first}
 use Rattle.a2l_entries.specs.Scans.{scanned}
 use Rattle.a2l_entries.specs.Keywords.{measurement_keyword, arguments_of, order_said}
-use Rattle.a2l_entries.specs.Keywords.{data_type_said, is_keyword}
+use Rattle.a2l_entries.specs.Keywords.{data_type_said, is_keyword, layout_said}
+use Rattle.a2l_entries.specs.Dimensions.{element_count, dimensions_said, trimmed}
+use Rattle.a2l_entries.specs.declared.layout.Layout.{Layout}
+use Rattle.a2l_entries.specs.declared.layout.Layout.TheVariants.{Columns, Rows}
 
 -- what the options say
 pub record Options : Type 0 where
@@ -31,8 +36,15 @@ pub record Options : Type 0 where
   pub extends_sign : Bool
   pub address : Option ℕ
   pub unit : Option (List ℕ)
-  -- an array, or an extension of the address other than 0
+  -- the dimensions of an array, by MATRIX_DIM and by ARRAY_SIZE
+  pub dimensions : Option (List ℕ)
+  pub size : Option (List ℕ)
+  pub layout : Option Layout
+  -- the address has an extension other than 0
   pub apart : Bool
+
+abbrev pub items_of : Vec ℕ → List ℕ
+items_of v = v.items
 
 abbrev pub options_seen : MeasurementOptions → Options
 options_seen o = record {
@@ -44,6 +56,9 @@ options_seen o = record {
   extends_sign = o.extends_sign;
   address = o.address;
   unit = option_map (λ s. string_bytes s) o.unit;
+  dimensions = option_map items_of o.dimensions;
+  size = option_map items_of o.size;
+  layout = o.layout;
   apart = o.apart;
 }
 
@@ -57,6 +72,9 @@ no_options = record {
   extends_sign = false;
   address = None;
   unit = None;
+  dimensions = None;
+  size = None;
+  layout = None;
   apart = false;
 }
 
@@ -71,6 +89,9 @@ options_or a b = record {
   extends_sign = a.extends_sign || b.extends_sign;
   address = option_or a.address b.address;
   unit = option_or a.unit b.unit;
+  dimensions = option_or a.dimensions b.dimensions;
+  size = option_or a.size b.size;
+  layout = option_or a.layout b.layout;
   apart = a.apart || b.apart;
 }
 
@@ -84,6 +105,23 @@ operation_of o =
       extends_sign = o.extends_sign;
     })
     else None
+
+-- the dimensions of an array: MATRIX_DIM counts, and ARRAY_SIZE without it; of a single value none
+abbrev pub dims_of : Options → List ℕ
+dims_of o = unwrap_or (option_or o.dimensions o.size) []
+
+abbrev pub layout_of : Options → Layout
+layout_of o = unwrap_or o.layout Rows
+
+-- which element stands where is known of rows, and of columns in two dimensions
+abbrev pub has_order : Layout → ℕ → Bool
+has_order Rows n = true
+has_order Columns n = nat_le n 2
+
+-- its elements, if it is an array, are as many as are read, and in an order that is known
+abbrev pub has_shape : Options → Bool
+has_shape o =
+    is_some (element_count (dims_of o)) && has_order (layout_of o) (length (dims_of o))
 
 abbrev pub mask_of : ℕ → Option ℕ
 mask_of n = if n == 0 then None else Some n
@@ -113,15 +151,6 @@ unfoldable pub extended_said : Token → Option Bool
 extended_said w = do
   number ← number_said w
   Some (is_extended (integer_said w))
-
-abbrev pub other_than_one : Option ℕ → Bool → Bool
-other_than_one None more = false
-other_than_one (Some n) more = not (n == 1) || more
-
--- one of the whole numbers in front is other than 1
-abbrev pub has_elements : List Token → Bool
-has_elements [] = false
-has_elements (w ∷ ws) = other_than_one (integer_said w) (has_elements ws)
 
 -- what a word of BIT_OPERATION says, by the words behind it
 unfoldable pub operation_said : OperationKeyword → List Token → Option Options
@@ -162,8 +191,13 @@ option_said option.Extension ws = do
 option_said option.Size ws = do
   first ← first_of ws
   size ← integer_said first.0
-  Some (record no_options { apart = not (size == 1) })
-option_said option.Dimensions ws = Some (record no_options { apart = has_elements ws })
+  Some (record no_options { size = Some (trimmed (size ∷ [])) })
+option_said option.Dimensions ws =
+    Some (record no_options { dimensions = Some (dimensions_said ws) })
+option_said option.Layout ws = do
+  first ← first_of ws
+  layout ← layout_said first.0
+  Some (record no_options { layout = Some layout })
 option_said option.One ws = Some no_options
 option_said option.Two ws = Some no_options
 option_said option.Other ws = Some no_options

@@ -7,9 +7,11 @@ ghost use Rattle.a2l_entries.specs.Keywords.{arguments_of, operation_arguments_o
 ghost use Rattle.a2l_entries.specs.Keywords.{method_keyword};
 ghost use Rattle.a2l_entries.specs.Keywords.{method_keyword_of, method_arguments_of, kind_said};
 ghost use Rattle.a2l_entries.specs.Keywords.{kind_of, data_type_said, data_type_of, order_said};
+ghost use Rattle.a2l_entries.specs.Keywords.{layout_said};
 ghost use Rattle.a2l_entries.specs.Keywords.{is_keyword, behind_keyword, default_said};
 
 use crate::entry_fault::{Awaited, Refused};
+use crate::layout::Layout;
 use crate::left::Left;
 use crate::said::{is, plain_in};
 use crate::stop::Stop;
@@ -27,6 +29,7 @@ pub enum MeasurementKeyword {
     Extension,
     Size,
     Dimensions,
+    Layout,
     Unit,
     /// Another keyword to which one word belongs.
     One,
@@ -126,7 +129,7 @@ fn operation_keyword_of(bytes: &[u8]) -> MeasurementKeyword
     other_keyword_of(bytes)
 }
 
-/// The options that say nothing of how a value is measured.
+/// LAYOUT, and the options that say nothing of how a value is measured.
 fn other_keyword_of(bytes: &[u8]) -> MeasurementKeyword
     ensures { result ≡ other_keyword_of bytes.now }
 {
@@ -140,7 +143,7 @@ fn other_keyword_of(bytes: &[u8]) -> MeasurementKeyword
         return MeasurementKeyword::One;
     }
     if is(bytes, "LAYOUT") {
-        return MeasurementKeyword::One;
+        return MeasurementKeyword::Layout;
     }
     if is(bytes, "MODEL_LINK") {
         return MeasurementKeyword::One;
@@ -339,6 +342,21 @@ pub fn order_in(word: Located<'_>) -> Result<ByteOrder, Stop>
         return Err(Stop::Refused(word.at, Refused::OldByteOrder));
     }
     Err(Stop::Awaited(word.at, Awaited::ByteOrder))
+}
+
+/// The layout that a word names.
+#[tactic(auto, unfolding(crate::specs::Keywords::layout_said))]
+pub fn layout_in(word: Located<'_>) -> Result<Layout, Stop>
+    ensures { Gives (λ x. x) result (layout_said (token_at word.entry)) }
+{
+    let bytes = plain_in(word, Awaited::Layout)?;
+    if is(bytes, "ROW_DIR") {
+        return Ok(Layout::Rows);
+    }
+    if is(bytes, "COLUMN_DIR") {
+        return Ok(Layout::Columns);
+    }
+    Err(Stop::Awaited(word.at, Awaited::Layout))
 }
 
 /// Whether a word is this keyword.

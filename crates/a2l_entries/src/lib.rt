@@ -2,8 +2,10 @@
 //! conversion methods, tables of texts and the unit of a timestamp, before names are looked up.
 #![tactic(auto)]
 
+mod dimensions;
 mod entry_fault;
 mod keywords;
+mod layout;
 mod left;
 mod measurement_block;
 mod measurement_options;
@@ -14,10 +16,12 @@ mod stop;
 mod table_block;
 mod tick_block;
 
+pub use dimensions::element_count;
 pub use entry_fault::{Awaited, Refused};
 pub use keywords::{
     MeasurementKeyword, MethodKeyword, MethodKind, OperationKeyword, default_order,
 };
+pub use layout::Layout;
 pub use left::Left;
 pub use measurement_block::{MeasurementBlock, instance_of, measurement_of};
 pub use measurement_options::MeasurementOptions;

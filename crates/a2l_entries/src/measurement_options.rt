@@ -4,10 +4,15 @@ ghost use Rattle.a2l_entries.specs.Said.{token_at, tokens_of};
 ghost use Rattle.a2l_entries.specs.MeasurementSaid.{options_seen, no_options, options_or};
 ghost use Rattle.a2l_entries.specs.MeasurementSaid.{options_said, option_said, mask_said};
 ghost use Rattle.a2l_entries.specs.MeasurementSaid.{operation_of, operation_said, shift_said};
-ghost use Rattle.a2l_entries.specs.MeasurementSaid.{address_said, extended_said, has_elements};
+ghost use Rattle.a2l_entries.specs.MeasurementSaid.{address_said, extended_said, dims_of};
+ghost use Rattle.a2l_entries.specs.MeasurementSaid.{has_shape, layout_of};
 
+use crate::dimensions::{dimension_of, dimensions_in, element_count};
 use crate::entry_fault::Awaited;
-use crate::keywords::{MeasurementKeyword, OperationKeyword, measurement_keyword, order_in};
+use crate::keywords::{
+    MeasurementKeyword, OperationKeyword, layout_in, measurement_keyword, order_in,
+};
+use crate::layout::Layout;
 use crate::left::Left;
 use crate::said::{integer_in, number_in, text_in, whole_number};
 use crate::stop::Stop;
@@ -30,7 +35,13 @@ pub struct MeasurementOptions {
     pub extends_sign: bool,
     pub address: Option<u32>,
     pub unit: Option<String>,
-    /// It is an array, or its address has an extension other than 0.
+    /// The dimensions of an array, without those of 1 at their end (MATRIX_DIM).
+    pub dimensions: Option<Vec<u64>>,
+    /// The same of an array of one dimension (ARRAY_SIZE).
+    pub size: Option<Vec<u64>>,
+    /// In which order the elements of an array stand (LAYOUT).
+    pub layout: Option<Layout>,
+    /// Its address has an extension other than 0.
     pub apart: bool,
 }
 
@@ -47,6 +58,9 @@ impl MeasurementOptions {
             extends_sign: false,
             address: None,
             unit: None,
+            dimensions: None,
+            size: None,
+            layout: None,
             apart: false,
         }
     }
@@ -64,6 +78,9 @@ impl MeasurementOptions {
             extends_sign: self.extends_sign | others.extends_sign,
             address: self.address.or(others.address),
             unit: self.unit.or(others.unit),
+            dimensions: self.dimensions.or(others.dimensions),
+            size: self.size.or(others.size),
+            layout: self.layout.or(others.layout),
             apart: self.apart | others.apart,
         }
     }
@@ -80,6 +97,40 @@ impl MeasurementOptions {
             right: self.right.unwrap_or(0),
             extends_sign: self.extends_sign,
         })
+    }
+
+    /// The dimensions of an array, without those of 1 at their end: MATRIX_DIM counts, and
+    /// ARRAY_SIZE without it. A single value has none.
+    pub fn dims(&self) -> &[u64]
+        ensures { result.now ≡ dims_of (options_seen self.now) }
+    {
+        match (&self.dimensions, &self.size) {
+            (Some(dims), _) => dims,
+            (None, Some(dims)) => dims,
+            (None, None) => &[],
+        }
+    }
+
+    /// In which order the elements of an array stand: row by row, unless LAYOUT says otherwise.
+    pub fn layout(&self) -> Layout
+        ensures { result ≡ layout_of (options_seen self.now) }
+    {
+        self.layout.unwrap_or(Layout::Rows)
+    }
+
+    /// Whether its elements, if it is an array, are at most 65,536 and at least one, and stand in
+    /// an order that is known: one of columns is, in two dimensions.
+    pub fn has_shape(&self) -> bool
+        ensures { result ≡ has_shape (options_seen self.now) }
+    {
+        let dims = self.dims();
+        if element_count(dims).is_none() {
+            return false;
+        }
+        match self.layout() {
+            Layout::Rows => true,
+            Layout::Columns => dims.len() <= 2,
+        }
     }
 }
 
@@ -156,15 +207,24 @@ fn option_of(
         MeasurementKeyword::Size => {
             let (word, _) = left.first(Awaited::Integer)?;
             let size = integer_in(word)?;
+            let dims = dimension_of(alloc, size)?;
             Ok(MeasurementOptions {
-                apart: size != 1,
+                size: Some(dims),
                 ..MeasurementOptions::none()
             })
         }
         MeasurementKeyword::Dimensions => {
-            let apart = has_elements(left);
+            let dims = dimensions_in(alloc, left)?;
             Ok(MeasurementOptions {
-                apart,
+                dimensions: Some(dims),
+                ..MeasurementOptions::none()
+            })
+        }
+        MeasurementKeyword::Layout => {
+            let (word, _) = left.first(Awaited::Layout)?;
+            let layout = layout_in(word)?;
+            Ok(MeasurementOptions {
+                layout: Some(layout),
                 ..MeasurementOptions::none()
             })
         }
@@ -256,19 +316,4 @@ fn is_extended(word: Located<'_>) -> Result<bool, Stop>
         Some(extension) => Ok(extension != 0),
         None => Ok(true),
     }
-}
-
-/// Whether one of the whole numbers in front is other than 1.
-fn has_elements(left: Left<'_, '_>) -> bool
-    ensures { result ≡ has_elements (tokens_of left.entry) }
-{
-    for word in left.words {
-        let Some(number) = whole_number(*word) else {
-            return false;
-        };
-        if number != 1 {
-            return true;
-        }
-    }
-    false
 }

@@ -51,6 +51,9 @@ impl SendEnd for ByteSend {
 
     ghost ring = { λ s. name_of s.producer.end };
 
+    // that the take end is gone is told by no ring
+    ghost is_lost = { λ _. Unit {0} };
+
     fn offer(&mut self, item: Item) -> Result<(), Item> {
         let len = write_record(&mut self.spelled, &item);
         if push_whole(&mut self.producer, &mut self.count, &self.spelled[..len]) {

@@ -29,6 +29,14 @@ impl Model for ControlSend {
 }
 
 impl ControlSend {
+    /// A law of each send end: what isn't known to be free is taken up by what was sent.
+    pub fn enough(&self)
+        ensures { self.now.capacity ≤ self.now.free + length self.now.sent }
+    {
+        // for the proof: opens what the end keeps of its ring
+        let _ = &self.producer;
+    }
+
     /// Sends an order, or gives it back. It takes no memory.
     ///
     /// It may succeed if no place is known to be free: the take end may have freed some since.
@@ -42,8 +50,6 @@ impl ControlSend {
         ensures err { OnErr result (self.new.sent ≡ self.old.sent) }
         ensures err_free { OnErr result (self.old.free ≤ self.new.free) }
 
-        // what isn't known to be free is taken up by what was sent
-        ensures enough { self.new.capacity ≤ self.new.free + length self.new.sent }
         ensures capacity_stays { self.new.capacity ≡ self.old.capacity }
         ensures ring_stays { self.new.ring ≡ self.old.ring }
     {

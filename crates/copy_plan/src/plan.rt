@@ -21,7 +21,7 @@ use xcp_base::{IdKind, PacketForm};
 #[derive(Clone, Copy, Debug, PartialEq, Eq, Error)]
 pub enum PlanFault {
     /// Memory was wanting.
-    #[error("want of memory")]
+    #[error("out of memory")]
     Memory,
 }
 

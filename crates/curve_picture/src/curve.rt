@@ -15,6 +15,8 @@ pub struct Plot {
     pub ruler: Ruler,
     pub heights: Heights,
     pub reach: u64,
+    /// Whether a value stands until the next one: the curve goes in steps.
+    pub stepped: bool,
 }
 
 /// The values of a bin, and whether samples were dropped before one of them.
@@ -49,15 +51,30 @@ impl Plot {
         push_tenths(text, self.heights.y(point.value))
     }
 
+    /// Goes on to a value: straight or, in steps, first to its place and then to its height.
+    fn push_on(&self, text: &mut String, point: Point) -> Result<(), AllocError> {
+        if !self.stepped {
+            return self.push_point(text, "L", point);
+        }
+        text.push_str("H")?;
+        push_tenths(text, self.ruler.x(point.at))?;
+        text.push_str("V")?;
+        push_tenths(text, self.heights.y(point.value))
+    }
+
     /// Writes a stretch as a part of a path: from its first value over its least and its greatest
-    /// one to its last one.
+    /// one to its last one; `joined`: the curve goes on to its first value.
     fn push_stretch(
         &self,
         text: &mut String,
-        letter: &str,
+        joined: bool,
         stretch: &Stretch,
     ) -> Result<(), AllocError> {
-        self.push_point(text, letter, stretch.first)?;
+        if joined {
+            self.push_on(text, stretch.first)?;
+        } else {
+            self.push_point(text, "M", stretch.first)?;
+        }
         if stretch.first.at == stretch.last.at && stretch.greatest <= stretch.least {
             return Ok(());
         }
@@ -73,7 +90,7 @@ impl Plot {
             text.push_str("V")?;
             push_tenths(text, high)?;
         }
-        self.push_point(text, "L", stretch.last)
+        self.push_on(text, stretch.last)
     }
 }
 
@@ -95,8 +112,7 @@ pub fn push_curve(text: &mut String, pieces: &[Piece], plot: &Plot) -> Result<()
     text.push_str("<path class=\"v\" d=\"")?;
     let mut before = None;
     for piece in pieces {
-        let letter = if plot.joins(before, piece) { "L" } else { "M" };
-        plot.push_stretch(text, letter, &piece.stretch)?;
+        plot.push_stretch(text, plot.joins(before, piece), &piece.stretch)?;
         before = Some(piece.stretch.last.at);
     }
     text.push_str("\"/>\n")

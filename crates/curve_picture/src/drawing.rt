@@ -7,18 +7,27 @@ use crate::curve::{Plot, pieces_of, push_curve, push_dots};
 use crate::furniture::{LEFT, ROW, TOP, push_axis, push_head};
 use crate::heights::Heights;
 use crate::label::label_of;
+use crate::levels::{Level, levels_of};
 use crate::marks::marks_of;
 use crate::row::Row;
-use crate::words::Words;
-use sample_picture::{Grid, Losses, Ruler, lost_spans, push_number, push_strokes, push_triangles};
+use crate::words::{Words, push_cut};
+use measurement::TextTable;
+use sample_picture::{
+    Grid, Losses, Ruler, lost_spans, push_number, push_strokes, push_tenths, push_triangles,
+};
 use std::alloc::{AllocError, Global};
 
-/// The text of a picture of these rows.
+/// No more letters of a text stand at the left of a curve.
+const LETTERS: usize = 14;
+
+/// The text of a picture of these rows. The values of a row that has a table are drawn as steps,
+/// with their texts at the left.
 pub fn text_of(
     alloc: Global,
     words: &[Words],
     rows: &[Row],
     losses: &[Losses],
+    tables: &[Option<&TextTable>],
     grid: &Grid,
     axis: CurveAxis,
 ) -> Result<String, AllocError>
@@ -34,7 +43,8 @@ pub fn text_of(
             words.push_caption(&mut text)?;
         }
         let lost = losses.get(place).unwrap_or(&Losses::NONE);
-        push_row(alloc, &mut text, row, lost, grid)?;
+        let table = tables.get(place).copied().flatten();
+        push_row(alloc, &mut text, row, lost, table, grid)?;
         text.push_str("</g>\n")?;
         top = top.saturating_add(ROW);
     }
@@ -48,6 +58,7 @@ fn push_row(
     text: &mut String,
     row: &Row,
     losses: &Losses,
+    table: Option<&TextTable>,
     grid: &Grid,
 ) -> Result<(), AllocError> {
     text.push_str("<path class=\"g\" d=\"M0 0h720\"/><path class=\"b\" d=\"M0 64h720\"/>\n")?;
@@ -58,7 +69,7 @@ fn push_row(
         return push_nothing(text, row.values);
     };
     let heights = Heights::of(&whole);
-    push_ends(alloc, text, &heights)?;
+    push_left(alloc, text, &heights, table)?;
     if grid.first > grid.last {
         return Ok(());
     }
@@ -71,6 +82,7 @@ fn push_row(
         ruler,
         heights,
         reach: row.reach(),
+        stepped: table.is_some(),
     };
     let pieces = pieces_of(alloc, row, grid)?;
     push_curve(text, &pieces, &plot)?;
@@ -114,6 +126,36 @@ fn push_total(text: &mut String, values: u64) -> Result<(), AllocError> {
     push_number(text, values)?;
     let plural = if values == 1 { "" } else { "s" };
     writeln!(text, " value{plural}</text>")
+}
+
+/// Writes the texts of values at the left of a curve, or without a text the greatest and the least
+/// value.
+fn push_left(
+    alloc: Global,
+    text: &mut String,
+    heights: &Heights,
+    table: Option<&TextTable>,
+) -> Result<(), AllocError> {
+    let Some(table) = table else {
+        return push_ends(alloc, text, heights);
+    };
+    let levels = levels_of(alloc, table, heights)?;
+    if levels.is_empty() {
+        return push_ends(alloc, text, heights);
+    }
+    for level in &levels {
+        push_level(text, level)?;
+    }
+    Ok(())
+}
+
+/// Writes a text at its height.
+fn push_level(text: &mut String, level: &Level<'_>) -> Result<(), AllocError> {
+    text.push_str("<text class=\"m e\" x=\"-8\" y=\"")?;
+    push_tenths(text, level.line)?;
+    text.push_str("\">")?;
+    push_cut(text, level.text, LETTERS)?;
+    text.push_str("</text>\n")
 }
 
 /// Writes the greatest and the least value at the left of a curve; the one value if all are the

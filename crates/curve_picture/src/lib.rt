@@ -9,6 +9,7 @@ mod drawing;
 mod furniture;
 mod heights;
 mod label;
+mod levels;
 mod marks;
 mod picture;
 mod point;

@@ -12,6 +12,7 @@ use crate::drawing::text_of;
 use crate::point::Point;
 use crate::row::Row;
 use crate::words::Words;
+use measurement::TextTable;
 use sample_picture::{BINS, Grid, Losses, double_losses};
 use std::alloc::{AllocError, Global};
 use std::io::{self, Write};
@@ -97,9 +98,15 @@ impl CurvePicture {
         self.rows[row].note(slot, Point { at, value }, lost);
     }
 
-    /// Writes the picture as SVG. What is written is at most some 50 kilobytes for each row; the
-    /// faults are those of `out`, and lack of memory.
-    pub fn print<W: Write>(&self, out: &mut W, axis: CurveAxis) -> io::Result<()>
+    /// Writes the picture as SVG. The values of a row that has a table, of the tables in the order
+    /// of the rows, are drawn as steps, with their texts at the left. What is written is at most
+    /// some 50 kilobytes for each row; the faults are those of `out`, and lack of memory.
+    pub fn print<W: Write>(
+        &self,
+        out: &mut W,
+        tables: &[Option<&TextTable>],
+        axis: CurveAxis,
+    ) -> io::Result<()>
         ensures { OnOk result ((text : List ℕ) × IsClosed text
             × Appends (W.contents out.old) (W.contents out.new) text) }
     {
@@ -108,6 +115,7 @@ impl CurvePicture {
             &self.words,
             &self.rows,
             &self.losses,
+            tables,
             &self.grid,
             axis,
         )?;

@@ -45,7 +45,7 @@ impl Words {
 }
 
 /// Writes the front of some words, with three dots if they are longer.
-fn push_cut(text: &mut String, words: &str, room: usize) -> Result<(), AllocError> {
+pub fn push_cut(text: &mut String, words: &str, room: usize) -> Result<(), AllocError> {
     for (place, letter) in words.chars().enumerate() {
         if place >= room {
             return text.push_str("\u{2026}");

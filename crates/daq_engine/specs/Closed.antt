@@ -26,8 +26,10 @@ pub record HasClosed (drain : Bool) (start : WriterState) (ps : List (ℕ × Ite
     (a : TransmitterState) (ends : List JoinedEnd) (past : ℕ → Past) (report : Report)
     (out : OutState)
     : Type 0 where
+  -- the transmitter as it was at last: fixed by `drained` and `written`
   pub last : TransmitterState
   pub drained : WasDrained drain (sent_by ends) a last
+  -- fixed by `taken`: what was received, in the order of the frames
   pub more : List (ℕ × Item)
   pub taken : HasTaken start last (ps ++ more)
   pub headline : Headline start last ends past report

@@ -9,7 +9,7 @@ use Rattle.frame_writer.specs.declared.out.Out.{Ghosts as OutGhosts}
 use Rattle.sampler.specs.State.{JoinedEnd, SamplerState, sent_by}
 use Rattle.daq_engine.specs.Closed.{HasClosed}
 use Rattle.daq_engine.specs.Engines.{EngineState, Standing, engine_state}
-use Rattle.daq_engine.specs.Samplers.{sent_of_each}
+use Rattle.daq_engine.specs.Samplers.{SomeIsLost, sent_of_each}
 use Rattle.daq_engine.specs.Standings.{EndsStandInOrder}
 use Rattle.daq_engine.specs.declared.report.Report.{Report}
 use Rattle.daq_engine.specs.declared.unclosed.Unclosed.{Unclosed}
@@ -21,6 +21,7 @@ use Rattle.daq_engine.specs.declared.unclosed.Unclosed.TheVariants.{Lost, Memory
 pub record ClosesEngine {S E : Type 0} (send : SendGhosts S E) (ring : EndGhosts E) (drain : Bool)
     (e : EngineState S) (st : Standing) (report : Report) (out : OutState)
     : Type 0 where
+  -- fixed by all that follows
   pub ends : List JoinedEnd
   pub as_many : length ends ≡ length e.samplers
   pub sent : sent_by ends ≡ sent_of_each send e.samplers
@@ -32,10 +33,11 @@ pub record ClosesEngine {S E : Type 0} (send : SendGhosts S E) (ring : EndGhosts
   pub closed : HasClosed drain st.start st.taken e.transmitter ends st.past report out
 
 -- what comes back of an engine that was not closed: itself, as it was; or its frame writer, which
--- shows what it showed
+-- shows what it showed, and then only where the end of a sampler was lost
 abbrev pub GivesBack :
     {O T S E : Type 0} {left : EndGhosts E} {send : SendGhosts S E} {ring : EndGhosts E}
     (out : OutGhosts O) (take : TakeGhosts T E)
     → Unclosed O T S E E out take left send ring → EngineState S → Type 0
 GivesBack out take (Memory e) s = engine_state out take e ≡ s
-GivesBack out take (Lost writer) s = state_of out writer ≡ s.transmitter.writer
+GivesBack {send = send} out take (Lost writer) s =
+    (state_of out writer ≡ s.transmitter.writer) × SomeIsLost send s.samplers

@@ -66,6 +66,7 @@ pub record Stands {S E : Type 0} (send : SendGhosts S E) (ring : EndGhosts E) (e
 pub record IsOpenedFrom {S E : Type 0} (send : SendGhosts S E) (ring : EndGhosts E)
     (s : StoreState) (caps : List ℕ) (start : WriterState) (e : EngineState S)
     : Type 0 where
+  -- fixed by `opened`, for the channels that there are
   pub openings : ℕ → Opening
   pub opened : AreOpened send ring s caps e.samplers openings
   pub stands : Stands send ring e (first_standing start openings)

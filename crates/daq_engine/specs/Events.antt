@@ -43,6 +43,7 @@ pub record TriggersAt {S E : Type 0} (send : SendGhosts S E) (ring : EndGhosts E
     (before after : List (SamplerState S)) (c : ℕ) (taken : Taken) (past : ℕ → Past)
     (image : List ℕ) (stamp : ℕ)
     : Type 0 where
+  -- fixed by `was` and `is`
   pub old : SamplerState S
   pub new : SamplerState S
   pub was : slice_get before c ≡ Some old

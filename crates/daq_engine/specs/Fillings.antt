@@ -26,10 +26,11 @@ next_ring e = next_of e.transmitter
 pub record IsFillStep (n : ℕ) (sent : ℕ → List Item) (from next room end : ℕ)
     (a b : TransmitterState) (p : PumpedAll)
     : Type 0 where
-  -- what was left in each ring, in rising channel
+  -- what was left in each ring, in rising channel: fixed by `leaves`
   pub left : List (List Item)
   pub as_many : length left ≡ n
   pub leaves : (c : ℕ) → c < n → of_ring a.received c ++ of_ring left c ≡ sent c
+  -- fixed by `looks`, and what it knows by `fills`
   pub filled : TransmitterState
   pub fills : Fills from next room end (record a { known = left }) filled p
   pub looks : Looked filled b

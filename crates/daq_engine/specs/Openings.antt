@@ -93,6 +93,7 @@ pub record IsOpenedOver {S E : Type 0} (send : SendGhosts S E) (ring : EndGhosts
     (s : StoreState) (caps : List ℕ) (start : WriterState) (samplers : List (SamplerState S))
     (t : TransmitterState)
     : Type 0 where
+  -- fixed by `opened`, for the channels that there are
   pub openings : ℕ → Opening
   pub opened : AreOpened send ring s caps samplers openings
   pub paired : IsPaired send samplers start t

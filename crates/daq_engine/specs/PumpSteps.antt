@@ -18,10 +18,11 @@ use Rattle.transmitter.specs.declared.faults.PumpFault.TheVariants.{Failed}
 pub record IsPumpStep (n : ℕ) (sent : ℕ → List Item) (a b : TransmitterState)
     (answer : Result Pumped PumpFault)
     : Type 0 where
-  -- what was left in each ring, in rising channel
+  -- what was left in each ring, in rising channel: fixed by `leaves`
   pub left : List (List Item)
   pub as_many : length left ≡ n
   pub leaves : (c : ℕ) → c < n → of_ring a.received c ++ of_ring left c ≡ sent c
+  -- fixed by `looks`, and what it knows by `pumps`
   pub pumped : TransmitterState
   pub pumps : IsPump (record a { known = left }) pumped answer
   pub takes_all : (p : Pumped) → answer ≡ Ok p → pumps.taken ≡ round 0 left

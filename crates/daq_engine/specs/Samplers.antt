@@ -50,6 +50,7 @@ pub record OnlyAt {S E : Type 0} (send : SendGhosts S E) (c : ℕ)
 pub record FreesAt {S E : Type 0} (send : SendGhosts S E) (c : ℕ)
     (before after : List (SamplerState S))
     : Type 0 where
+  -- fixed by `was` and `is`
   pub old : SamplerState S
   pub new : SamplerState S
   pub was : slice_get before c ≡ Some old
@@ -99,3 +100,8 @@ pub record AreFinished {S E : Type 0} (send : SendGhosts S E) (ring : EndGhosts 
       map (λ (e : SamplerEndState E). e.capacity) ends
       ≡ map (λ (s : SamplerState S). send.capacity s.end) samplers
   pub sent : sent_by (map (joined ring) ends) ≡ sent_of_each send samplers
+
+-- of the end of one of them `finish` may give nothing
+abbrev pub SomeIsLost : {S E : Type 0} → SendGhosts S E → List (SamplerState S) → Type 0
+SomeIsLost send samplers =
+    (c : ℕ) × (s : SamplerState _) × (slice_get samplers c ≡ Some s) × send.is_lost s.end

@@ -64,6 +64,7 @@ where
             ≡ (engine_state O.Out T.TakeEnd self).transmitter }
         ensures beside { AreBeside T.Send.SendEnd result.0.items
             (transmission O.Out T.TakeEnd result.1) }
+        ensures next { next_of result.1 ≡ next_ring self }
     {
         let Engine {
             samplers,
@@ -179,7 +180,7 @@ where
     ///
     /// A fault of the drain doesn't keep it from being closed: the report says that the writer
     /// failed. Refused with `Memory`, before anything is done, and then the engine comes back; or
-    /// with `Lost` where a ring's `finish` gave nothing, and then the frame writer does.
+    /// with `Lost` only where a ring's `finish` gave nothing, and then the frame writer does.
     pub fn close(self, alloc: Global, drain: bool) -> Result<(Report, O), Unclosed<O, T>>
         ensures closed { IfOk result (λ r. (st : Standing) →
             Stands T.Send.SendEnd T.End.RingEnd (engine_state O.Out T.TakeEnd self) st →

@@ -1,6 +1,6 @@
 //! From samplers to their ends, and from these to the account.
 ghost use Rattle.std.specs.Prelude.{◌≡◌, ◌↔◌, ◌≤◌, map, vec_capacity, vec_len};
-ghost use Rattle.std.specs.Prelude.{IfErr, IfOk, IfSome, OnOk};
+ghost use Rattle.std.specs.Prelude.{IfErr, IfOk, IfSome, IsNone, OnOk};
 ghost use Rattle.xcp_base.specs.declared.limits.TheConstants.{MAX_LISTS};
 ghost use Rattle.frame_writer.specs.Shown.{shown};
 ghost use Rattle.sampler.specs.State.{joined, sent_by};
@@ -9,7 +9,7 @@ ghost use Rattle.transmitter.specs.Pumps.{TakesMore};
 ghost use Rattle.transmitter.specs.Written.{transmission};
 ghost use Rattle.daq_engine.specs.Closed.{ClosesWith, WasDrained};
 ghost use Rattle.daq_engine.specs.Headline.{AreEndsOf};
-ghost use Rattle.daq_engine.specs.Samplers.{AreFinished};
+ghost use Rattle.daq_engine.specs.Samplers.{AreFinished, SomeIsLost};
 
 use crate::closing::{account, room_for};
 use crate::faults::CloseFault;
@@ -33,6 +33,7 @@ pub fn finish_all<S: SendEnd>(
     requires enough { vec_len samplers ≤ vec_capacity room }
     ensures finishes { IfSome result (λ ends.
         AreFinished S.SendEnd S.End.RingEnd samplers.items ends.items) }
+    ensures none { IsNone result → SomeIsLost S.SendEnd samplers.items }
 {
     let mut ends = room;
     for sampler in samplers {

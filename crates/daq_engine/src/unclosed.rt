@@ -9,7 +9,7 @@ use thiserror::Error;
 #[derive(Drop, Error)]
 pub enum Unclosed<O: Out, T: Beside> {
     /// There was no memory for its closing. The engine is as it was.
-    #[error("want of memory")]
+    #[error("out of memory")]
     Memory(Engine<O, T>),
     /// What is left of a sampler didn't come back from its ring; the frame writer shows what it
     /// showed. No ring of these crates does so while its transmitter is there.

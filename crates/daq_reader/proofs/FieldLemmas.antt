@@ -11,7 +11,7 @@ use Rattle.xcp_base.proofs.FormLemmas.{length-id_field, names-id_field}
 use Rattle.copy_plan.specs.Config.{IsPlan, ListPlan}
 use Rattle.copy_plan.specs.Pids.{field, pid}
 use Rattle.daq_reader.specs.declared.packet_fault.PacketFault.{PacketFault}
-use Rattle.daq_reader.specs.declared.packet_fault.PacketFault.TheVariants.{NoField, OtherList, OutOfTurn, WrongLength}
+use Rattle.daq_reader.specs.declared.packet_fault.PacketFault.TheVariants.{OtherList, OutOfTurn, WrongLength}
 use Rattle.daq_reader.specs.Recorded.{is_of_list}
 use Rattle.daq_reader.specs.Faults.{fault_of, is_pid, len_of}
 use Rattle.daq_reader.specs.Inner.Fitting.{Fits}
@@ -38,7 +38,7 @@ field_in_front RelativeWord f n l k o (x ∷ y ∷ z ∷ xs) long is first small
 -- the checks, one after another
 abbrev first_fault : Bool → Bool → Bool → Bool → Option PacketFault
 first_fault a b c d =
-    if a then Some NoField
+    if a then Some OtherList
     else if not b then Some OtherList
     else if not c then Some OutOfTurn
     else if d then None else Some WrongLength

@@ -4,7 +4,7 @@ use Rattle.xcp_base.specs.declared.id_kind.IdKind.TheVariants.{Absolute, Relativ
 use Rattle.xcp_base.specs.declared.stamp_size.StampSize.TheVariants.{One, Four}
 use Rattle.xcp_base.specs.declared.packet_form.PacketForm.{PacketForm}
 use Rattle.copy_plan.specs.Config.{ListPlan}
-use Rattle.daq_reader.specs.declared.packet_fault.PacketFault.TheVariants.{NoField, OtherList, OutOfTurn, WrongLength}
+use Rattle.daq_reader.specs.declared.packet_fault.PacketFault.TheVariants.{OtherList, OutOfTurn, WrongLength}
 use Rattle.daq_reader.specs.Faults.{fault_of}
 use Rattle.daq_reader.specs.Recorded.{Recorded, packet_of, packets_of}
 
@@ -34,7 +34,7 @@ fault-none : fault_of (stamped_list (record { id = Absolute; stamp = Four })) 1 
 unfolding stamped_list
 fault-none = refl
 
-fault-no_field : fault_of (stamped_list (record { id = RelativeWord; stamp = One })) 1 (0x01 ∷ 0x01 ∷ []) ≡ Some NoField
+fault-no_field : fault_of (stamped_list (record { id = RelativeWord; stamp = One })) 1 (0x01 ∷ 0x01 ∷ []) ≡ Some OtherList
 unfolding stamped_list
 fault-no_field = refl
 

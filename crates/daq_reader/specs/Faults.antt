@@ -6,7 +6,7 @@ use Rattle.xcp_base.specs.Packets.{packet_len}
 use Rattle.copy_plan.specs.Config.{ListPlan, elements_len}
 use Rattle.copy_plan.specs.Pids.{pid}
 use Rattle.daq_reader.specs.declared.packet_fault.PacketFault.{PacketFault}
-use Rattle.daq_reader.specs.declared.packet_fault.PacketFault.TheVariants.{NoField, OtherList}
+use Rattle.daq_reader.specs.declared.packet_fault.PacketFault.TheVariants.{OtherList}
 use Rattle.daq_reader.specs.declared.packet_fault.PacketFault.TheVariants.{OutOfTurn, WrongLength}
 use Rattle.daq_reader.specs.Recorded.{is_of_list}
 
@@ -19,11 +19,11 @@ is_pid plan k q =
 abbrev pub len_of : ListPlan → ℕ → ℕ
 len_of plan k = packet_len plan.form plan.stamped k (elements_len plan k)
 
--- what is wrong with a packet if that of ODT k is awaited: it is shorter than an identification
--- field; or else it is of another list; or else of another ODT; or else it has another length
+-- what is wrong with a packet if that of ODT k is awaited: it is of another list, as is one that is
+-- shorter than an identification field; or else of another ODT; or else it has another length
 abbrev pub fault_of : ListPlan → ℕ → List ℕ → Option PacketFault
 fault_of plan k q =
-    if nat_lt (length q) (field_len plan.form.id) then Some NoField
+    if nat_lt (length q) (field_len plan.form.id) then Some OtherList
     else if not (is_of_list plan q) then Some OtherList
     else if not (is_pid plan k q) then Some OutOfTurn
     else if length q == len_of plan k then None else Some WrongLength

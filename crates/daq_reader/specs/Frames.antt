@@ -17,6 +17,7 @@ pub record IsNext (a b : Unread) (q : List ℕ) : Type 0 where
 
 -- a whole frame comes next
 pub record HasFrame (a : Unread) (n : ℕ) : Type 0 where
+  -- fixed by `bytes`
   pub packet : List ℕ
   pub behind : List ℕ
   pub legal : IsFrame (n, packet)

@@ -57,6 +57,7 @@ StandsWith lists qs samples (Some i) =
 -- the list that a packet is of takes it, and the others stay; `whole` is the list's place if its
 -- sample is whole with it
 pub record Takes (old now : List Reading) (q : List ℕ) (whole : Option ℕ) : Type 0 where
+  -- fixed by `at` and `is`
   pub before : Reading
   pub after : Reading
   pub at : slice_get old (place_in (plans_of old) q) ≡ Some before

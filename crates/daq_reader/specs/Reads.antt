@@ -15,6 +15,7 @@ use Rattle.daq_reader.specs.Recorded.{Recorded}
 pub record HasRead (lists : List Reading) (qs : List (List ℕ)) (samples : List (ℕ × Recorded))
     (before now : Unread)
     : Type 0 where
+  -- fixed by `bytes`
   pub read : List (List ℕ)
   pub legal : All Fits read
   pub bytes : before.rest ≡ text before.counter read ++ now.rest

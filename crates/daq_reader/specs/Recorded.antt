@@ -57,6 +57,7 @@ packets_of plan r = map (packet_of plan r) (range_with_len 0 (length plan.odts))
 
 -- the packets begin those of some sample of the list
 pub record Begin (plan : ListPlan) (qs : List (List ℕ)) : Type 0 where
+  -- any: of the packets that are still to come nothing is known
   pub sample : Recorded
   pub is : IsRecorded plan sample
   pub front : IsPrefix qs (packets_of plan sample)

@@ -30,6 +30,7 @@ pub record AreSampled (plans : List ListPlan) (samples : List (ℕ × Recorded))
 pub record IsRecordingOf (plans : List ListPlan) (samples : List (ℕ × Recorded))
     (before : List (List ℕ)) (a : Unread)
     : Type 0 where
+  -- fixed by `bytes`
   pub packets : List (List ℕ)
   pub legal : All Fits packets
   pub bytes : a.rest ≡ text a.counter packets

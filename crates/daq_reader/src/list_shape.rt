@@ -186,8 +186,9 @@ impl ListShape {
         requires { k < length self.now.odts }
         ensures { result ≡ fault_of self.now k packet.now }
     {
+        // a packet without an identification field is of no list
         if packet.len() < self.form.id.field_len() {
-            return Some(PacketFault::NoField);
+            return Some(PacketFault::OtherList);
         }
         if !self.names(packet) {
             return Some(PacketFault::OtherList);

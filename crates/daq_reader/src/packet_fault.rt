@@ -3,10 +3,7 @@ use thiserror::Error;
 /// Why a packet doesn't go on with a sample of a DAQ list, in the order of the checks.
 #[derive(Clone, Copy, Debug, PartialEq, Eq, Error)]
 pub enum PacketFault {
-    /// It is shorter than an identification field.
-    #[error("the packet is shorter than its identification field")]
-    NoField,
-    /// Its identification field names another list.
+    /// Its identification field names another list, or it is shorter than such a field.
     #[error("the packet is of another DAQ list")]
     OtherList,
     /// Its PID isn't that of the ODT that is awaited.

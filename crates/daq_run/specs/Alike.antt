@@ -18,6 +18,7 @@ use Rattle.daq_run.specs.SetUps.{IsStoreAfter}
 -- what a run in one thread came to: what its writer showed before and after, how many of its steps
 -- were refused, and the account
 pub record RunOutcome (run : RunData) : Type 0 where
+  -- any: the rest is said of these
   pub before : OutState
   pub after : OutState
   pub refused : ℕ
@@ -45,6 +46,7 @@ RefuseAlike {run} a b =
 -- both writers took the same bytes since the run began, and nothing went wrong at either; the lines
 -- of the accounts are the same, as many steps were refused, and each channel came to the same past
 pub record AreSame {run : RunData} (a b : RunOutcome run) : Type 0 where
+  -- fixed by `first`
   pub gained : List ℕ
   pub first : a.after ≡ after_bytes a.before gained
   pub second : b.after ≡ after_bytes b.before gained

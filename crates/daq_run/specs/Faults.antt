@@ -17,6 +17,7 @@ use Rattle.daq_run.specs.SetUps.{IsSetUp, StopsInSetUp, replies_of}
 
 -- a run was set up, and nothing was done then; whether a DAQ list runs
 pub record StopsBefore (run : RunData) (before after : OutState) (runs : Bool) : Type 0 where
+  -- fixed by `set_up`
   pub store : StoreState
   pub writer : WriterState
   pub set_up : IsSetUp run before store writer
@@ -25,6 +26,7 @@ pub record StopsBefore (run : RunData) (before after : OutState) (runs : Bool) :
 
 -- the steps of a run were done, and its engine was not closed
 pub record StopsBehind (run : RunData) (before after : OutState) : Type 0 where
+  -- any: how many steps were refused is told by no fault
   pub refused : ℕ
   pub has_run : HasRun run before refused
   pub written : after ≡ has_run.transmitter.writer.out

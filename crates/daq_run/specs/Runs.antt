@@ -43,6 +43,7 @@ settings_of_run run c = record {
 -- list that it found due, and drops only within the bound
 pub record HasPasts (run : RunData) (before : OutState) (writer : WriterState) (past : ℕ → Past)
     : Type 0 where
+  -- fixed by `set_up`
   pub store : StoreState
   pub keeps : IsStore store
   pub set_up : IsSetUp run before store writer
@@ -58,13 +59,15 @@ pub record HasPasts (run : RunData) (before : OutState) (writer : WriterState) (
 
 -- the steps of such a run were done one after another, of which so many were refused
 pub record HasRun (run : RunData) (before : OutState) (refused : ℕ) : Type 0 where
+  -- fixed by `has_pasts`
   pub writer : WriterState
-  -- what each channel had behind it at last
+  -- what each channel had behind it at last: fixed by `are_done`, but for what its ring refused
   pub past : ℕ → Past
   pub has_pasts : HasPasts run before writer past
-  -- what was done, and what the transmitter of that writer took and wrote
+  -- what was done: fixed by `are_done`, but for what the rings refused
   pub done : List Done
   pub counted : refused ≡ count_by is_refused_step done
+  -- what the transmitter of that writer took and wrote: fixed by `taken`, but for what it knows
   pub transmitter : TransmitterState
   pub taken : HasTaken writer transmitter (taken_in done)
   pub are_done :
@@ -76,6 +79,7 @@ pub record HasRun (run : RunData) (before : OutState) (refused : ℕ) : Type 0 w
 pub record IsClosed (run : RunData) (writer : WriterState) (past : ℕ → Past)
     (taken : List (ℕ × Item)) (transmitter : TransmitterState) (report : Report) (after : OutState)
     : Type 0 where
+  -- fixed by `as_many`, `sent` and `closed`; of their capacities and costs nothing is said
   pub ends : List JoinedEnd
   pub as_many : length ends ≡ run.channels
   pub sent : (c : ℕ) (e : JoinedEnd) → slice_get ends c ≡ Some e → e.sent ≡ sent_in (past c)

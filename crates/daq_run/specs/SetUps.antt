@@ -37,10 +37,12 @@ pub record IsSetUp (run : RunData) (before : OutState) (s : StoreState) (w : Wri
 -- the packets before one were carried out and answered. That one needs memory: it was not carried
 -- out, and not answered
 pub record StopsInSetUp (run : RunData) (before after : OutState) : Type 0 where
+  -- fixed by `split` and `written`
   pub done : List (List ℕ)
   pub packet : List ℕ
   pub left : List (List ℕ)
   pub split : run.setup ≡ done ++ packet ∷ left
+  -- fixed by `stands`
   pub store : StoreState
   pub stands : IsStoreAfter run store done
   pub needs : NeedsMemory store packet

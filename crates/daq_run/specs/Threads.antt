@@ -26,11 +26,13 @@ refused_in n told = sum_by (λ c. count_by was_refused (told c)) (upto 0 n)
 -- the steps of a run that was set up and opened were done channel by channel, each beside the
 -- others, and so many were refused
 pub record HasRunApart (run : RunData) (before : OutState) (refused : ℕ) : Type 0 where
+  -- fixed by `has_pasts`
   pub writer : WriterState
-  -- what each channel had behind it at last
+  -- what each channel had behind it at last: fixed by `answered`, but for what its ring refused
   pub past : ℕ → Past
   pub has_pasts : HasPasts run before writer past
-  -- what each channel was asked for, with its answers
+  -- what each channel was asked for, with its answers: fixed by `answered`, but for which stops
+  -- found no room
   pub told : ℕ → List Answered
   pub answered :
       (c : ℕ) → c < run.channels
@@ -41,7 +43,8 @@ pub record HasRunApart (run : RunData) (before : OutState) (refused : ℕ) : Typ
       (c : ℕ) → c < run.channels
       → HoldsAll (settings_of_run run c) (past c).opening (asked_of c (map run_step run.steps))
       → DropsNothing (settings_of_run run c) (asked_of c (map run_step run.steps)) (told c) (past c)
-  -- what the transmitter of that writer took meanwhile, and wrote
+  -- what the transmitter of that writer took meanwhile, and wrote: fixed by `taken`, and by what
+  -- was written at the close
   pub items : List (ℕ × Item)
   pub transmitter : TransmitterState
   pub taken : HasTaken writer transmitter items
@@ -58,11 +61,14 @@ pub record ThreadsComeTo (run : RunData) (before : OutState) (refused : ℕ) (re
 -- a run was set up and opened, and the transmitter took and wrote something; nothing is known of
 -- its channels
 pub record StopsAmongThreads (run : RunData) (before after : OutState) : Type 0 where
+  -- fixed by `set_up`
   pub store : StoreState
   pub writer : WriterState
   pub set_up : IsSetUp run before store writer
   pub running : some_list_runs store ≡ true
+  -- any: that the frames are those of samples is all that is said of them
   pub items : List (ℕ × Item)
+  -- its bytes fixed by `written`, the rest by `taken`
   pub transmitter : TransmitterState
   pub taken : HasTaken writer transmitter items
   pub written : after ≡ transmitter.writer.out

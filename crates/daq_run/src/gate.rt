@@ -9,7 +9,7 @@ pub trait Gate {
     /// Follows the step.
     fn answered(&self, channel: u8, step: usize);
 
-    /// Follows each pump that answered Ok.
+    /// Follows each pump that answered Ok, once, with its answer.
     fn pumped(&self, pumped: &Pumped);
 }
 

@@ -45,7 +45,7 @@ pub fn read_command_line<'a>(
             ErrorKind::DisplayHelp => Ok(CommandLine::Help(error)),
             ErrorKind::OutOfMemory => Err(ProgramFault::MEMORY),
             _ => {
-                why.tell(error);
+                why.tell_words(error);
                 Err(ProgramFault::CommandLine)
             }
         },

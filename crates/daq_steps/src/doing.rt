@@ -5,6 +5,7 @@ ghost use Rattle.sampler.specs.History.{Opening};
 ghost use Rattle.run_file.specs.Lent.{step_data};
 ghost use Rattle.daq_engine.specs.Engines.{Stands, engine_state, first_standing};
 ghost use Rattle.daq_engine.specs.Samplers.{StayThose};
+ghost use Rattle.daq_steps.specs.Cames.{IsCame, TellsCames};
 ghost use Rattle.daq_steps.specs.Runs.{AnswersStepAt, DoesStep, HasDone, IsStepOf};
 ghost use Rattle.daq_steps.specs.Steps.{run_step};
 ghost use Rattle.daq_steps.specs.Watched.{TellsSteps, cause_of, refusals};
@@ -29,6 +30,9 @@ where
     ensures answers { AnswersStepAt T.Send.SendEnd T.End.RingEnd
         (engine_state O.Out T.TakeEnd engine.old) (engine_state O.Out T.TakeEnd engine.new)
         (run_step (step_data step.entry)) (cause_of result) }
+    ensures came { IsCame T.Send.SendEnd T.End.RingEnd
+        (engine_state O.Out T.TakeEnd engine.old) (engine_state O.Out T.TakeEnd engine.new)
+        (run_step (step_data step.entry)) result }
     ensures samplers_stay { StayThose T.Send.SendEnd
         (engine_state O.Out T.TakeEnd engine.old).samplers
         (engine_state O.Out T.TakeEnd engine.new).samplers }
@@ -107,6 +111,9 @@ where
         → HasDone T.Send.SendEnd T.End.RingEnd (engine_state O.Out T.TakeEnd engine.new)
         start openings (map run_step run.now.steps) result }
     ensures tells { TellsSteps W.notes watch.old watch.new (length run.now.steps) result }
+    ensures cames { TellsCames T.Send.SendEnd T.End.RingEnd W.notes
+        (engine_state O.Out T.TakeEnd engine.old) (engine_state O.Out T.TakeEnd engine.new)
+        watch.old watch.new (map run_step run.now.steps) result }
     ensures few { result ≤ length run.now.steps }
     ensures samplers_stay { StayThose T.Send.SendEnd
         (engine_state O.Out T.TakeEnd engine.old).samplers

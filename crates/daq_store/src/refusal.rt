@@ -14,7 +14,7 @@ pub enum Refusal {
     #[error("refused: {0:?}")]
     Code(ErrCode),
     /// Every check passed, and memory ran out.
-    #[error("want of memory")]
+    #[error("out of memory")]
     Memory,
 }
 
@@ -36,7 +36,7 @@ impl From<AllocError> for Refusal {
 
 /// A command met lack of memory. It isn't carried out, and the store is unchanged.
 #[derive(Clone, Copy, Debug, PartialEq, Eq, Error)]
-#[error("want of memory")]
+#[error("out of memory")]
 pub struct NoMemory;
 
 /// The number of event channels or the length of the images is out of its limits, or there is no

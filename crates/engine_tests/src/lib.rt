@@ -1,6 +1,6 @@
 //! The tests of whole engines, and of what else calls alone show: the fixed run over writers that
-//! fail, a send end over a list and one that can't be finished, orders, texts. As a library this
-//! crate is empty.
+//! fail, a send end over a list and one that can't be finished, ends that aren't an engine's,
+//! orders, texts. As a library this crate is empty.
 #![tactic(auto)]
 
 #[cfg(test)]
@@ -14,6 +14,8 @@ mod no_end;
 #[cfg(test)]
 mod orders;
 #[cfg(test)]
+mod orders_between;
+#[cfg(test)]
 mod same;
 #[cfg(test)]
 mod stores;
@@ -21,3 +23,5 @@ mod stores;
 mod texts;
 #[cfg(test)]
 mod whole_run;
+#[cfg(test)]
+mod wrong_ends;

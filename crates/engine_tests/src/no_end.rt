@@ -24,6 +24,8 @@ impl SendEnd for NoEnd {
 
     ghost ring = { λ _. no_ring };
 
+    ghost is_lost = { λ _. Unit {0} };
+
     fn offer(&mut self, item: Item) -> Result<(), Item> {
         Err(item)
     }

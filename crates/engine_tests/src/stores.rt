@@ -39,7 +39,7 @@ fn carry(store: &mut Store, packet: &[u8]) -> Result<(), Fail> {
     match command::carry_out(store, command) {
         Ok(Reply::Error(_)) => Err(Fail::from("a command that is refused")),
         Ok(_) => Ok(()),
-        Err(_) => Err(Fail::from("want of memory")),
+        Err(_) => Err(Fail::from("out of memory")),
     }
 }
 

@@ -15,7 +15,7 @@ fn a_refusal_says_why(rt: HostRuntime) -> Result<(), Fail> {
         "the text",
     );
     let memory = format!(in rt.alloc(); "{}", Refusal::Memory)?;
-    same(&rt, memory.as_str(), "want of memory", "memory", "the text");
+    same(&rt, memory.as_str(), "out of memory", "memory", "the text");
     let limits = format!(in rt.alloc(); "{BadLimits}")?;
     let wanted = "event channels, image length or timestamp size out of their limits";
     same(&rt, limits.as_str(), wanted, "limits", "the text");

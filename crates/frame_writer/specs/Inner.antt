@@ -10,11 +10,13 @@ text_len (q ∷ qs) = 4 + length q + text_len qs
 
 -- so many bytes reach behind the frames of the first `count` packets, and not behind the next one's
 pub record ReachesInto (qs : List (List ℕ)) (bytes count : ℕ) : Type 0 where
+  -- fixed by `packets` and `as_many`
   pub whole : List (List ℕ)
   pub torn : List ℕ
   pub unsent : List (List ℕ)
   pub packets : qs ≡ whole ++ torn ∷ unsent
   pub as_many : count ≡ length whole
+  -- fixed by `are`
   pub into : ℕ
   pub within : into < 4 + length torn
   pub are : bytes ≡ text_len whole + into

@@ -22,6 +22,7 @@ Rose a b = (b.failures ≢ a.failures) ⊎ (b.stalls ≢ a.stalls)
 
 -- it failed or stalled, once, within these bytes: it took a proper prefix of them
 pub record BreaksOff (a b : OutState) (bytes : List ℕ) : Type 0 where
+  -- fixed by `contents`
   pub kept : ℕ
   pub proper : kept < length bytes
   pub contents : b.contents ≡ a.contents ++ take kept bytes

@@ -58,6 +58,7 @@ after_text a qs = record {
 -- the frames of the first packets were written whole, and the writer failed within the next one's:
 -- what is left is what it would be had each packet been sent by itself
 pub record FailsWithinText (a b : WriterState) (qs : List (List ℕ)) : Type 0 where
+  -- fixed by `packets`, and by how many bytes there are in `fails`
   pub whole : List (List ℕ)
   pub torn : List ℕ
   pub unsent : List (List ℕ)

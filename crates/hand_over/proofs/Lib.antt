@@ -1,1 +1,3 @@
+pub mod EndLemmas
+pub mod PlaceLemmas
 pub mod SendLemmas

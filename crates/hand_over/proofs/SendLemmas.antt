@@ -1,4 +1,4 @@
--- Places and ways back may go to another thread, where what goes over them may. For callers that move
+-- Ends of lines and ways back may go to another thread, where what goes over them may. For callers that move
 -- them there.
 use denote.RattleType.{RattleType}
 use denote.Param.Send.{IsSend, IsSync, sendable, struct_send, struct_sync, recorded_send, recorded_sync}
@@ -10,7 +10,9 @@ use Rattle.std.specs.contracts.alloc.Global as Global
 use Rattle.std.specs.contracts.impls.GlobalAllocator.TheImpl.{ghosts as heap_ghosts}
 use Rattle.hand_over.specs.declared.rule.Rule.{Ghosts as RuleOf}
 use Rattle.hand_over.specs.contracts.coming_back.ComingBack as ComingBack
-use Rattle.hand_over.specs.contracts.place.Place as Place
+use Rattle.hand_over.specs.contracts.borrower.Borrower as Borrower
+use Rattle.hand_over.specs.contracts.lender.Lender as Lender
+use Rattle.hand_over.specs.contracts.parcel.Parcel as Parcel
 use Rattle.hand_over.specs.contracts.returns.Return as Return
 use Rattle.hand_over.specs.contracts.way_back.WayBack as WayBack
 use Rattle.atomic_table.specs.declared.shared.TableRule.{Ghosts as TableGhosts}
@@ -38,9 +40,6 @@ module _ (S V P : RattleType) (g : TableGhosts P.Denot S.Denot V.Denot Unit) (go
       let queue = Slotted.the_type S V P Global.the_row g heap_ghosts in
       recorded_sync _ _ _ queue.to_one (struct_sync (shape queue) (table_sync, (search sendable, (search sendable, tt))))
 
-pub place_send : (T : RattleType) → IsSend T → IsSend (Place.the_row T)
-place_send T goes = search (sendable, crosses, seat_send, queue_send, queue_sync) depth 60 fits 20000
-
 module _ (T L R : RattleType) (rule : RuleOf R.Denot T.Denot L.Denot) (goes : IsSend T) (comes : IsSend L) where
   return_send : IsSend (Return.the_row T L)
   return_send = search (sendable, crosses) depth 60 fits 20000
@@ -50,3 +49,16 @@ module _ (T L R : RattleType) (rule : RuleOf R.Denot T.Denot L.Denot) (goes : Is
 
   pub coming_send : IsSend (ComingBack.the_row T L R rule)
   coming_send = search (sendable, crosses, ring_end, return_send) depth 60 fits 20000
+
+  parcel_send : IsSend (Parcel.the_row T L)
+  parcel_send = search (sendable, crosses, seat_send) depth 60 fits 20000
+
+  pub lender_send : IsSend (Lender.the_row T L R rule)
+  lender_send =
+      search (sendable, crosses, seat_send, queue_send, queue_sync, ring_end, parcel_send)
+      depth 60 fits 20000
+
+  pub borrower_send : IsSend (Borrower.the_row T L R rule)
+  borrower_send =
+      search (sendable, crosses, seat_send, queue_send, queue_sync, ring_end, parcel_send)
+      depth 60 fits 20000

@@ -10,7 +10,7 @@ pub enum ArgumentsFault {
     #[error("bad command line")]
     NotText,
     /// Memory ran out.
-    #[error("want of memory")]
+    #[error("out of memory")]
     Memory,
 }
 

@@ -12,7 +12,7 @@ pub enum TextFault {
     #[error("cannot read the text")]
     Unreadable,
     /// Memory ran out.
-    #[error("want of memory")]
+    #[error("out of memory")]
     Memory,
 }
 

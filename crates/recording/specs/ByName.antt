@@ -38,6 +38,7 @@ IsByName mode tick columns before after plans samples =
 pub record ShowsByName (values : Values) (lists : List Reading) (input rest : Option (List ℕ))
     (first last : Piece) (before after : Option (List ℕ))
     : Type 0 where
+  -- fixed by `are`
   pub columns : List Column
   pub are : AreColumns values.description.now (plans_of lists) (option_copied values.only) columns
   pub chosen : HasChosen values.description.now (plans_of lists) (option_copied values.only)

@@ -49,6 +49,7 @@ IsLeftUnread rest a piece = (left : List ℕ) × (rest ≡ Some left) × (unread
 pub record HasPassed (lists : List Reading) (qs : List (List ℕ)) (samples : List (ℕ × Recorded))
     (input rest : Option (List ℕ)) (before now : Piece)
     : Type 0 where
+  -- fixed by `of_input`
   pub taken : List ℕ
   pub of_input : Consumes input rest taken
   pub read :
@@ -68,6 +69,7 @@ Passes old given now samples input rest before piece =
 
 -- some packets were read, and the lists and the samples stand after them
 pub record StandSomewhere (lists : List Reading) (samples : List (ℕ × Recorded)) : Type 0 where
+  -- any: the clauses speak of each that it may be
   pub packets : List (List ℕ)
   pub stands : Stands lists packets samples
 

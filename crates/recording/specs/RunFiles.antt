@@ -26,7 +26,9 @@ use Rattle.recording.specs.declared.piece.Piece.{Piece}
 -- all of them after a drain
 pub record IsFileOf (run : RunData) (past : ℕ → Past) (store : StoreState) (file : List ℕ)
     : Type 0 where
+  -- fixed by `is_recording`, in their order but for samples of lists whose packets stand mixed
   pub samples : List (ℕ × Recorded)
+  -- fixed by `begins`
   pub behind : List ℕ
   pub begins : file ≡ text 0 (replies_of run) ++ behind
   pub is_recording :

@@ -27,6 +27,7 @@ IsShown Svg plans samples before after =
 pub record ShowsBy (IsSo : List ListPlan → List (ℕ × Recorded) → Type 0) (lists : List Reading)
     (input rest : Option (List ℕ)) (first last : Piece)
     : Type 0 where
+  -- fixed by `read`
   pub now : List Reading
   pub samples : List (ℕ × Recorded)
   pub read : Passes lists [] now samples input rest first last

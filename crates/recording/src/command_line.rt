@@ -56,7 +56,7 @@ pub fn read_command_line<'a>(
             ErrorKind::DisplayHelp => Ok(CommandLine::Help(error)),
             ErrorKind::OutOfMemory => Err(ProgramFault::MEMORY),
             _ => {
-                why.tell(error);
+                why.tell_words(error);
                 Err(ProgramFault::CommandLine)
             }
         },
@@ -210,14 +210,14 @@ fn a2l_of<'a>(matches: &ArgMatches<'a>, why: &mut Why) -> Result<Option<&'a str>
 {
     let a2l = matches.get_str("a2l");
     if a2l.is_none() && is_of_values(matches) {
-        why.tell("--only and --tick want --a2l\n");
+        why.tell_words("--only and --tick want --a2l\n");
         return Err(ProgramFault::CommandLine);
     }
     if !matches.get_flag("long") {
         return Ok(a2l);
     }
     if !matches.get_flag("csv") {
-        why.tell("--long wants --csv\n");
+        why.tell_words("--long wants --csv\n");
         return Err(ProgramFault::CommandLine);
     }
     Ok(None)
@@ -238,7 +238,7 @@ fn tick_in(matches: &ArgMatches<'_>, why: &mut Why) -> Result<Option<Tick>, Prog
     match tick_of(text) {
         Some(tick) => Ok(Some(tick)),
         None => {
-            why.tell("--tick wants a number of seconds, such as 0.001 or 1e-6\n");
+            why.tell_words("--tick wants a number of seconds, such as 0.001 or 1e-6\n");
             Err(ProgramFault::CommandLine)
         }
     }

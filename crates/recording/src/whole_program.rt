@@ -11,6 +11,7 @@ use crate::showing::show_samples;
 use crate::values::{Values, show_values};
 use a2l::{A2lFault, Description};
 use clap::Error;
+use daq_reader::shapes_of;
 use daq_run::set_up;
 use frame_writer::VecOut;
 use program_input::{TextFault, bytes_from};
@@ -20,6 +21,7 @@ use std::alloc::Global;
 use std::fs;
 use std::io::{BufWriter, Read, Write};
 use std::rt::Files;
+use value_tables::with_elements;
 
 /// The program over its arguments, without its name, its standard output and standard error. It
 /// returns its status.
@@ -83,6 +85,7 @@ fn show<R: Files, W: Write + Drop, E: Write + Drop>(
 {
     let run = run_of(rt, alloc, options.run, &mut messages.why)?;
     let description = description_of(rt, alloc, options.a2l, messages)?;
+    let description = with_arrays(alloc, description, &run)?;
     show_run(
         rt,
         alloc,
@@ -121,6 +124,22 @@ fn show_run<R: Files, W: Write + Drop, E: Write + Drop>(
         description,
     };
     show_recorded(rt, alloc, options, &recorded, out, messages)
+}
+
+/// A description, if there is one, with the elements of arrays that the lists of a run have.
+fn with_arrays(
+    alloc: Global,
+    description: Option<Description>,
+    run: &Run,
+) -> Result<Option<Description>, ProgramFault> {
+    let Some(description) = description else {
+        return Ok(None);
+    };
+    let Ok((store, _)) = set_up(alloc, run, VecOut::new(alloc)) else {
+        return Err(ProgramFault::MEMORY);
+    };
+    let shapes = shapes_of(alloc, &store)?;
+    Ok(Some(with_elements(alloc, description, &shapes)?))
 }
 
 /// Opens the file of a recording, and prints its samples.

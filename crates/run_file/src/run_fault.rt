@@ -17,6 +17,6 @@ pub enum RunFault {
     #[error("step {0}")]
     BadStep(usize),
     /// Memory ran out. It may be answered before any other fault is looked for.
-    #[error("want of memory")]
+    #[error("out of memory")]
     Memory,
 }

@@ -1,10 +1,23 @@
 //! Why a text is no run.
+use crate::alike::near_key;
 use crate::expected::write_expected;
-use crate::near_key::near_key;
 use crate::place_in_text::{line_of_key, line_of_string};
 use run_file::{BadKey, RunFault, is_key};
 use std::alloc::{AllocError, Global};
 use toml::{Table, Value};
+
+/// The keys of a run file.
+const KEYS: [&str; 9] = [
+    "channels",
+    "image_len",
+    "caps",
+    "setup",
+    "steps",
+    "drain",
+    "ring",
+    "id",
+    "stamp_size",
+];
 
 /// Why a text, which has this name and this fault, is no run: where it stands, what stands there,
 /// and what was expected.
@@ -83,7 +96,7 @@ fn write_key(
 }
 
 /// Writes a key with its value, or if that is an array of strings how many there are.
-fn write_value(why: &mut String, key: &str, value: &Value) -> Result<(), AllocError> {
+pub fn write_value(why: &mut String, key: &str, value: &Value) -> Result<(), AllocError> {
     match value.as_array() {
         Some(array) if array.as_slice().len() > 16 => {
             writeln!(why, "{key} has {} values", array.as_slice().len())
@@ -100,19 +113,22 @@ fn write_unknown(
     text: &str,
     table: &Table,
 ) -> Result<(), AllocError> {
+    if table.get("script").is_some() {
+        return writeln!(why, "{name}: this is a session file: try ./xcpslave");
+    }
     for key in table.keys() {
         let key = key.as_str();
         if !is_key(key) {
             write_place(why, name, line_of_key(text, key))?;
             writeln!(why, "{key} is no key of a run file")?;
-            return writeln!(why, "the nearest key is {}", near_key(alloc, key)?);
+            return writeln!(why, "the nearest key is {}", near_key(alloc, key, &KEYS)?);
         }
     }
     Ok(())
 }
 
-/// Writes the string at a place of an array.
-fn write_string(
+/// Writes the string at a place of an array, and where it stands.
+pub fn write_string(
     why: &mut String,
     name: &str,
     text: &str,
@@ -137,7 +153,7 @@ fn write_string(
 }
 
 /// Writes the name of a text and the number of a line, if it was found.
-fn write_place(why: &mut String, name: &str, line: Option<usize>) -> Result<(), AllocError> {
+pub fn write_place(why: &mut String, name: &str, line: Option<usize>) -> Result<(), AllocError> {
     match line {
         Some(line) => write!(why, "{name}, line {line}: "),
         None => write!(why, "{name}: "),

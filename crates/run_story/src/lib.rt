@@ -3,6 +3,7 @@
 //! a run from a text, with that reason.
 #![tactic(auto)]
 
+mod alike;
 mod bad_run;
 mod broken;
 mod byte_text;
@@ -12,7 +13,6 @@ mod expected;
 mod frame_lines;
 mod keeping_out;
 mod list_set_text;
-mod near_key;
 mod other_run;
 mod place_in_text;
 mod reply_text;
@@ -24,11 +24,16 @@ mod stop;
 mod story;
 mod why;
 
-pub use bad_run::why_no_run;
+pub use alike::near_key;
+pub use bad_run::{why_no_run, write_place, write_string, write_value};
 pub use broken::why_broken;
+pub use byte_text::ByteText;
+pub use command_text::CommandText;
 pub use frame_lines::write_sample;
 pub use keeping_out::KeepingOut;
 pub use other_run::why_other_run;
+pub use place_in_text::line_of_key;
+pub use reply_text::ReplyText;
 pub use run_text::{run_from, run_or_why};
 pub use run_text_fault::RunTextFault;
 pub use step_log::StepLog;

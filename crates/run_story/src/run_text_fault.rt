@@ -12,7 +12,7 @@ pub enum RunTextFault {
     #[error("bad run: {0}")]
     Run(RunFault),
     /// Memory ran out.
-    #[error("want of memory")]
+    #[error("out of memory")]
     Memory,
 }
 

@@ -4,8 +4,8 @@ use run_file::{Run, RunFault};
 use std::alloc::Global;
 use std::fmt::Display;
 
-/// What is printed on standard error behind the line of a fault, if that is wanted. If memory for
-/// it is refused, nothing is printed.
+/// What is printed on standard error behind the line of a fault: what is wrong with the words, and
+/// if that is wanted all else. If memory for it is refused, nothing is printed.
 #[derive(Drop)]
 pub struct Why {
     alloc: Global,
@@ -36,8 +36,13 @@ impl Why {
     /// Tells a text.
     pub fn tell<D: Display + Drop>(&mut self, text: D) {
         if self.is_wanted {
-            let _ = write!(self.text, "{text}");
+            self.tell_words(text);
         }
+    }
+
+    /// Tells what is wrong with the words of a command, also where nothing is wanted.
+    pub fn tell_words<D: Display + Drop>(&mut self, text: D) {
+        let _ = write!(self.text, "{text}");
     }
 
     /// Tells why a file can't be read or made.

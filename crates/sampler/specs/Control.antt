@@ -17,11 +17,12 @@ use Rattle.sampler.specs.Stays.{HasNoRoomFor, OnlyLooked}
 use Rattle.sampler.specs.declared.polled.Polled.{Polled}
 use Rattle.sampler.specs.declared.polled.Polled.TheVariants.{Done, Nothing, Refused, Waiting}
 
--- what an order that is carried out is to a sampler: a start or a stop is one event more; an order
--- to end is for who holds the sampler, which stays as it was
+-- what an order that is carried out is to a sampler: a start or a stop is one event more, and a
+-- start leaves its end of the ring as it was; an order to end is for who holds the sampler, which
+-- stays as it was
 abbrev pub CarriesOut :
     {S E : Type 0} → SendGhosts S E → EndGhosts E → SamplerState S → SamplerState S → Order → Type 0
-CarriesOut send ring s t (order.Start l) = GoesOn send ring s t (Start l)
+CarriesOut send ring s t (order.Start l) = GoesOn send ring s t (Start l) × (t.end ≡ s.end)
 CarriesOut send ring s t (order.Stop l) = GoesOn send ring s t (Stop l)
 CarriesOut send ring s t order.End = t ≡ s
 

@@ -1,5 +1,6 @@
 ghost use Rattle.std.specs.Prelude.{◌≡◌, ℕ, ◌<◌, ◌≤◌, ◌+◌, ◌↔◌, ◌≢◌, ◌&&◌, true, [], ◌++◌, None};
-ghost use Rattle.std.specs.Prelude.{IfOk, IfSome, OnErr, OnOk, length, map, nat_eq, option_map};
+ghost use Rattle.std.specs.Prelude.{IfOk, IfSome, IsNone, OnErr, OnOk, length, map, nat_eq};
+ghost use Rattle.std.specs.Prelude.{option_map};
 ghost use Rattle.std.specs.List.{list_any};
 ghost use Rattle.std.specs.Result.{result_err};
 ghost use Rattle.xcp_base.specs.declared.limits.TheConstants.{MAX_CHANNELS};
@@ -287,8 +288,8 @@ impl<S: SendEnd> Sampler<S> {
         take.beside(&mut self.end)
     }
 
-    /// Gives the sampler up; what it sent stays in the ring. `None` if the ring's `finish` answers
-    /// it, since the take end was dropped before.
+    /// Gives the sampler up; what it sent stays in the ring. `None` only if the ring's `finish`
+    /// answers it, since the take end was dropped before.
     pub fn finish(self) -> Option<SamplerEnd<S::End>>
         ensures stands { IfSome result (λ left.
             (past : Past) → StandsAfter S.SendEnd S.End.RingEnd self past
@@ -300,6 +301,7 @@ impl<S: SendEnd> Sampler<S> {
         ensures capacity { IfSome result (λ left. left.capacity ≡ S.capacity self.end) }
         ensures sent { IfSome result (λ left. S.End.all_sent left.end ≡ S.sent self.end) }
         ensures ring { IfSome result (λ left. S.End.ring left.end ≡ S.ring self.end) }
+        ensures none { IsNone result → S.is_lost self.end }
     {
         let Sampler {
             channel,

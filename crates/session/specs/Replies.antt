@@ -157,7 +157,7 @@ list_info_reply d calls l =
 -- GET_DAQ_EVENT_INFO, and the text that UPLOAD reads then
 abbrev pub event_fields : EventChannel → List ℕ
 event_fields e =
-    BYTE 0x04  -- DAQ_EVENT_PROPERTIES: DAQ
+    BYTE 0x44  -- DAQ_EVENT_PROPERTIES: DAQ, CONSISTENCY DAQ
     ++ BYTE MAX_LISTS  -- MAX_DAQ_LIST
     ++ BYTE (length e.name.items)  -- EVENT_CHANNEL_NAME_LENGTH
     ++ BYTE e.cycle  -- EVENT_CHANNEL_TIME_CYCLE

@@ -208,7 +208,7 @@ impl Session {
         let name = event.name.as_slice();
         let len = name.len() as u8;
         let reply = Cto::positive(&[
-            0x04,
+            0x44,
             MAX_LISTS as u8,
             len,
             event.cycle,

@@ -218,7 +218,7 @@ module _ {S T F : Type 0} (take : TakeGhosts T F) where
   ended-takes : (a b : Option (AwayState S)) → EndsUnordered a b → takes_orders b ≡ false
   ended-takes None b ends = elim ends [ ]
   ended-takes (Some x) None ends = elim ends [ ]
-  ended-takes (Some x) (Some y) ends = ap (λ (z : AwayState S). not z.ended) ends
+  ended-takes (Some x) (Some y) ends = ap (λ (z : AwayState S). not z.ended) ends.rest
 
   end-sent-takes : (a b : Option (AwayState S)) → SendsToNewest a b order.End → takes_orders b ≡ false
   end-sent-takes None b sends = elim sends [ ]
@@ -228,8 +228,8 @@ module _ {S T F : Type 0} (take : TakeGhosts T F) where
   ends-takes : (a b : LinkState S) → EndsNewest a b → takes_orders b.newer ≡ false
   ends-takes a b ends =
       elim ends.way [
-        | inl w ↦ ended-takes a.newer b.newer w.2
-        | inr w ↦ end-sent-takes a.newer b.newer w.1
+        | inl w ↦ ended-takes a.newer b.newer w
+        | inr w ↦ end-sent-takes a.newer b.newer w
       ]
 
   takes-running : (a : Option (AwayState S)) (l : ℕ) → takes_orders a ≡ false → is_running a l ≡ false

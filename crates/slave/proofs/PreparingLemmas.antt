@@ -31,6 +31,7 @@ use Rattle.slave.proofs.DeedLemmas.{opened-more}
 use Rattle.session.specs.Past.{Past}
 use Rattle.session.specs.Starts.{is_on, shows_on}
 use Rattle.sampler.specs.State.{SamplerState}
+use Rattle.control_ring.specs.Orders.{TakeState}
 use Rattle.tasks.specs.Links.{AwayState, CanStart, just_out, runs_of}
 use Rattle.tasks.proofs.NeedLemmas.{how_many-le}
 use Rattle.slave_channels.proofs.CallLemmas.{looks-same}
@@ -95,10 +96,10 @@ some-set set true none some other = absurd (other (none refl))
 some-set set false none some other = some refl
 
 -- at a sampler that was just handed out all starts find places
-can-just-out : {S : Type 0} (o : Option (AwayState S)) (sampler : SamplerState S) (set : ℕ → Bool) → o ≡ Some (just_out sampler) → CanStart o set
-can-just-out o sampler set is =
+can-just-out : {S : Type 0} (o : Option (AwayState S)) (sampler : SamplerState S) (went : TakeState) (set : ℕ → Bool) → o ≡ Some (just_out sampler went) → CanStart o set
+can-just-out o sampler went set is =
     subst (λ z. CanStart z set) (sym is)
-    (record { takes_orders = refl; places = omega (arith, how_many-le MAX_LISTS set, how_many-le MAX_LISTS (λ l. runs_of (just_out sampler) l || set l)) })
+    (record { takes_orders = refl; places = omega (arith, how_many-le MAX_LISTS set, how_many-le MAX_LISTS (λ l. runs_of (just_out sampler went) l || set l)) })
 
 module _ {S T : Type 0} where
   pub looks-of : (v w : SlaveState S T) (x : List (ChannelState S T)) → w ≡ v → IsEach (λ c. Looks) w.channels x → LooksAtAll v (record w { channels = x })
@@ -110,7 +111,7 @@ module _ {S T : Type 0} where
       let one = set_on.some some in
       let on = right (has_list lists one.0) (shows_on s.session.store c one.0) (sym (set_on.shown one.0 one.1) ∙ one.2) in
       let out = subst (λ (z : SlaveState S T). AreJustOut z) (sym same) opened c one.0 ch one.1 on at in
-      can-just-out ch.link.newer out.0 (has_list set) out.1 where
+      can-just-out ch.link.newer out.0 out.1 (has_list set) out.2 where
         right : (x y : Bool) → (x && y) ≡ true → y ≡ true
         right true y is = is
         right false y is = absurd (false≢true is)
@@ -333,7 +334,7 @@ module _ {S E T F : Type 0} (send : SendGhosts S E) (ring : EndGhosts E) (take :
       let one : has_list set l ≡ true
       = (opens.are c set there).shown l below ∙ both (has_list opens.all l) (shows_on a.session.store c l) (opens.are_all l below) (ap (λ (s : SessionState). shows_on s.store c l) (sym opens.rest.session) ∙ on) in
       let new = (opens.channels.each c old ch was at cap set (there-is opens.caps (length a.channels) c opens.as_many_caps here) there).1 (has-some set l one) in
-      (new.sampler, new.handed.newer) where
+      (new.sampler, new.handed.went, new.handed.newer) where
         both : (x y : Bool) → x ≡ true → y ≡ true → (x && y) ≡ true
         both true true a b = refl
         both true false a b = b

@@ -19,6 +19,7 @@ use Rattle.session.specs.Exchanges.{Exchange}
 use Rattle.session.specs.Starts.{is_on, shows_on, starts}
 use Rattle.session.specs.declared.profile.Profile.{Profile}
 use Rattle.sampler.specs.State.{SamplerState}
+use Rattle.control_ring.specs.Orders.{TakeState}
 use Rattle.tasks.specs.Links.{just_out}
 use Rattle.channel_intake.specs.Deeds.{Deed, Unsent}
 use Rattle.channel_intake.specs.declared.step.Step.{Step}
@@ -190,7 +191,8 @@ module _ {S T : Type 0} where
   AreJustOut s =
       (c l : ℕ) (ch : ChannelState S T)
       → l < MAX_LISTS → shows_on s.session.store c l ≡ true → slice_get s.channels c ≡ Some ch
-      → (sampler : SamplerState S) × (ch.link.newer ≡ Some (just_out sampler))
+      → (sampler : SamplerState S) × (went : TakeState)
+      × (ch.link.newer ≡ Some (just_out sampler went))
 
   -- so starts are refused
   abbrev pub IsBusy : SlaveState S T → SlaveState S T → ℕ → ErrCode → Type 0

@@ -17,13 +17,6 @@ pub struct Closed {
     pub is_whole: bool,
 }
 
-/// Gives back what is left at the places of tasks that were finished.
-fn give_back<S: channel_ring::SendEnd>(ends: Vec<TaskEnd<S>>) {
-    for end in ends {
-        end.give_back();
-    }
-}
-
 impl<R: Ring> Slave<R> {
     /// The account of the session so far: of each DAQ list what was due, written, dropped and left,
     /// over all parts of measurements that came back. What was laid out counts as written, as long
@@ -37,13 +30,14 @@ impl<R: Ring> Slave<R> {
     /// Closes the slave, and returns the account of the session. All DAQ lists stop, and what waits
     /// is thrown away and left, as by `hang_up`; then what came back of the tasks is taken back.
     ///
-    /// The tasks are to be finished before, and what is left of each handed in: of a task that
-    /// wasn't, the measurement that it holds is not in the account, which then isn't whole.
+    /// The tasks are to be finished before, and what is left of each handed in, which is freed here:
+    /// of a task that wasn't, the measurement that it holds is not in the account, which then isn't
+    /// whole. What a task did not fetch is recalled.
     pub fn close(mut self, ends: Vec<TaskEnd<R::Send>>) -> Closed
         ensures closes { Closes R.Take.TakeEnd self result.account result.is_whole }
     {
+        drop(ends);
         self.hang_up();
-        give_back(ends);
         self.collect();
         let is_whole = !self.channels.has_parts();
         Closed {

@@ -26,7 +26,7 @@ pub enum OpenFault {
     #[error("a ring of this kind may not have one of the capacities")]
     Capacity,
     /// There is no memory.
-    #[error("there is no memory")]
+    #[error("out of memory")]
     Memory,
 }
 

@@ -16,8 +16,7 @@ use Rattle.task_lending.specs.Slots.{SlotState, with_task}
 use Rattle.task_lending.specs.States.{LendingSlaveState}
 use Rattle.task_lending.specs.declared.lend_fault.LendFault.{LendFault}
 use Rattle.task_lending.specs.declared.lend_fault.LendFault.TheVariants as refusal
-use Rattle.hand_over.specs.Places.{PlaceState}
-use Rattle.tasks.specs.Tasks.{HeldState, TakesTurn, TaskState}
+use Rattle.tasks.specs.Tasks.{TakesTurn, TaskEndState, TaskState}
 use Rattle.slave_calls.specs.OnHandles.{OnSlave, OnTask}
 
 -- what a fault is to C
@@ -72,7 +71,7 @@ module _ {S E : Type 0} (send : SendGhosts S E) (ring : EndGhosts E) where
 -- by `LentTask::finish` alone
 abbrev pub FinishesTask : {S : Type 0} → TaskState S → Status → Type 0
 FinishesTask s result =
-    (result ≡ status.Ok) × ((end : PlaceState (HeldState _)) × (end.taken ≡ s.came))
+    (result ≡ status.Ok) × ((end : TaskEndState _) × (end.came ≡ s.came))
 
 -- a task is held
 abbrev pub IsTask : Content → Type 0

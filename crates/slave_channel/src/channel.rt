@@ -101,11 +101,11 @@ impl<R: Ring> Channel<R> {
     /// The slave's side of an event channel, and its task. No measurement is there.
     pub fn new(alloc: Global) -> Result<(Channel<R>, Task<R::Send>), AllocError>
         ensures channel { IfOk result (λ made. made.0 ≡ record {
-          link = record { put = []; taken_back = []; older = None; newer = None };
+          link = record { older = None; newer = None };
           older = None;
           newer = None;
         }) }
-        ensures task { IfOk result (λ made. made.1 ≡ record { came = []; held = None }) }
+        ensures task { IfOk result (λ made. made.1 ≡ record { came = []; gave = []; held = None }) }
     {
         let (link, task) = TaskLink::new(alloc)?;
         let channel = Channel {

@@ -24,14 +24,14 @@ HasSome lists = (l : ℕ) × (l < MAX_LISTS) × (has_list lists l ≡ true)
 -- an event channel with no measurement
 abbrev pub no_measurement : {S T : Type 0} → ChannelState S T
 no_measurement = record {
-  link = record { put = []; taken_back = []; older = None; newer = None };
+  link = record { older = None; newer = None };
   older = None;
   newer = None;
 }
 
 -- a task to which no sampler came
 abbrev pub no_sampler : {S : Type 0} → TaskState S
-no_sampler = record { came = []; held = None }
+no_sampler = record { came = []; gave = []; held = None }
 
 module _ {S T : Type 0} where
   -- the measurement that is there ended, if one is

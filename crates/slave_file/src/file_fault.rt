@@ -18,6 +18,6 @@ pub enum FileFault {
     #[error("line {0}")]
     BadLine(usize),
     /// Memory ran out. It may be answered before any other fault is looked for.
-    #[error("want of memory")]
+    #[error("out of memory")]
     Memory,
 }

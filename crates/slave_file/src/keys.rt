@@ -16,7 +16,7 @@ pub fn has_file_keys(table: &Table) -> bool
 }
 
 /// Whether a word is a key of a session file.
-fn is_file_key(word: &str) -> bool
+pub fn is_file_key(word: &str) -> bool
     ensures { result ≡ is_among keys word.now }
 {
     word == "image_len"

@@ -2,6 +2,7 @@
 //! session.
 #![tactic(auto)]
 
+mod bad_key;
 mod events;
 mod file_fault;
 mod keys;
@@ -11,6 +12,8 @@ mod lines;
 mod session_file;
 mod values;
 
+pub use bad_key::BadKey;
 pub use file_fault::FileFault;
+pub use keys::is_file_key;
 pub use line::Line;
 pub use session_file::SessionFile;

@@ -9,7 +9,7 @@ pub enum PlayFault {
     #[error("{0}")]
     Profile(ProfileFault),
     /// Memory ran out.
-    #[error("want of memory")]
+    #[error("out of memory")]
     Memory,
     /// What is left of a task did not come back, so the account would not be whole.
     #[error("what is left of a task did not come back")]

@@ -46,10 +46,10 @@ fn is_taken<S: SendEnd>(
     tasks[c].trigger(image, stamp).is_ok()
 }
 
-/// Finishes tasks, and gives back what is left of what they hold.
+/// Finishes tasks, which give back what is left of what they hold.
 fn finish_all<S: SendEnd>(tasks: Vec<Task<S>>) {
     for task in tasks {
-        task.finish().give_back();
+        let _end = task.finish();
     }
 }
 

@@ -2,3 +2,4 @@ pub mod OpenLemmas
 pub mod SendLemmas
 pub mod SendingLemmas
 pub mod TaskLemmas
+pub mod SlotLemmas

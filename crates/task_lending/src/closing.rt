@@ -8,10 +8,10 @@ use daq_engine::Ring;
 use slave::Closed;
 use std::alloc::Global;
 
-/// Gives back what is left at the places of all tasks that aren't away.
-fn give_back<S: SendEnd>(slots: Vec<Slot<S>>) {
+/// Finishes all tasks that weren't handed out.
+fn finish<S: SendEnd>(slots: Vec<Slot<S>>) {
     for slot in slots {
-        slot.give_back();
+        slot.finish();
     }
 }
 
@@ -27,7 +27,7 @@ impl<R: Ring> LendingSlave<R> {
             stream: _,
             slots,
         } = self;
-        give_back(slots);
+        finish(slots);
         slave.close(Vec::new(alloc))
     }
 }

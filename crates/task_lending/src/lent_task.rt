@@ -22,8 +22,7 @@ impl<S: SendEnd> Model for LentTask<S> {
 }
 
 impl<S: SendEnd> LentTask<S> {
-    ghost use Rattle.std.specs.Prelude.{◌≡◌};
-    ghost use Rattle.tasks.specs.Tasks.{TakesTurn};
+    ghost use Rattle.tasks.specs.Tasks.{FinishesAs, TakesTurn};
     ghost use Rattle.task_lending.specs.Lends.{most_steps, none_due};
 
     /// Does all that the slave ordered, in its order, and then takes a trigger, as `Task::trigger`.
@@ -36,7 +35,7 @@ impl<S: SendEnd> LentTask<S> {
 
     /// Finishes the task, and gives what is left of it back to its slave.
     pub fn finish(self) -> Given<Task<S>, TaskEnd<S>, AnyLeft>
-        ensures came { result.left.taken ≡ self.came }
+        ensures { FinishesAs S.SendEnd S.End.RingEnd self result.left }
     {
         let LentTask { task, way } = self;
         way.give(task.finish())

@@ -30,13 +30,6 @@ impl<S: SendEnd> Model for Slot<S> {
     ghost invariant = { λ s. IsOneOf (is_some s.here) (is_some s.coming) (is_some s.back) };
 }
 
-/// Finishes a task that wasn't handed out, if there is one, and gives back what was handed to it.
-fn finish<S: SendEnd>(here: Option<Task<S>>) {
-    if let Some(task) = here {
-        task.finish().give_back();
-    }
-}
-
 impl<S: SendEnd> Slot<S> {
     /// Of a task that wasn't handed out.
     pub fn of(task: Task<S>) -> Slot<S>
@@ -88,16 +81,15 @@ impl<S: SendEnd> Slot<S> {
         true
     }
 
-    /// Gives back to the slave what was handed to the task and was not fetched any more.
-    pub fn give_back(self) {
+    /// Finishes the task, if it wasn't handed out, and frees what is left of it.
+    pub fn finish(self) {
         let Slot {
             here,
             coming: _,
-            back,
+            back: _,
         } = self;
-        finish(here);
-        if let Some(end) = back {
-            end.give_back();
+        if let Some(task) = here {
+            let _end = task.finish();
         }
     }
 }

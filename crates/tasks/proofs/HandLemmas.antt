@@ -1,9 +1,9 @@
 -- What a hand-out answers.
-use Rattle.std.proofs.Common.{◌≡◌, Bool, true, false, true≢false, [], ◌∷◌, ◌++◌, Option, Some, None, Result, Ok, Err, inl, refl, sym, ap, ◌∙◌, subst}
+use Rattle.std.proofs.Common.{◌≡◌, Bool, true, false, true≢false, [], Option, Some, None, Result, Ok, Err, refl, sym, ap, ◌∙◌, subst}
 use Rattle.std.specs.Prelude.{IfErr}
 use Rattle.sampler.specs.State.{SamplerState}
 use Rattle.hand_over.specs.Newest.{one_before}
-use Rattle.tasks.specs.Links.{AnswersHandOut, AwayState, EndsNewest, EndsUnordered, HandsOut, LinkState, first_refusal, just_out}
+use Rattle.tasks.specs.Links.{AnswersHandOut, AwayState, HandsOut, LinkState, first_refusal, just_out}
 use Rattle.tasks.specs.Tasks.{HeldState}
 use Rattle.tasks.specs.declared.fault.HandFault.{HandFault}
 use Rattle.tasks.specs.declared.fault.HandFault.TheVariants.{Busy, Memory, NotEnded}
@@ -34,23 +34,14 @@ answers-busy (Some fault) r none busy = absurd (true≢false (ap (λ (o : Option
 answers-busy None (Ok x) none busy = tt
 answers-busy None (Err e) none busy = λ is. true≢false (sym (ap is_busy busy) ∙ ap is_busy is)
 
--- the newest was taken back
-pub taken-back : {S : Type 0} (v a b : LinkState S) (h : HeldState S) → v ≡ a → b.older ≡ v.older → b.put ≡ v.put
-    → b.taken_back ≡ v.taken_back ++ h ∷ [] → EndsUnordered v.newer b.newer → EndsNewest a b
-taken-back v a b h same older put taken ends =
-    subst (λ (x : LinkState _). EndsNewest x b) same (record { older = older; put = put; way = inl (h, taken, ends) })
-
--- a sampler went into the place, and is the newest
-pub put-in : {S : Type 0} (v a b : LinkState S) (h : HeldState S) (n : AwayState S) → v ≡ a → h.orders.received ≡ []
-    → b.put ≡ v.put ++ h ∷ [] → b.taken_back ≡ v.taken_back → b.newer ≡ Some n → n ≡ just_out h.sampler
+-- a sampler went out, and is the newest
+pub put-in : {S : Type 0} (v a b : LinkState S) (h : HeldState S) (n : AwayState S) → v ≡ a
+    → h.orders.received ≡ [] → b.newer ≡ Some n → n ≡ just_out h.sampler h.orders
     → b.older ≡ one_before v.older v.newer → HandsOut a b h.sampler
-put-in v a b h n same none put taken newer is older =
+put-in v a b h n same none newer is older =
     subst (λ (x : LinkState _). HandsOut x b h.sampler) same (record {
-      handed = h;
-      sampler = refl;
+      went = h.orders;
       no_order = none;
-      put = put;
-      taken_back = taken;
       newer = newer ∙ ap (λ (x : AwayState _). Some x) is;
       older = older;
     })

@@ -1,5 +1,6 @@
 pub mod DeedLemmas
 pub mod HandLemmas
+pub mod LineLemmas
 pub mod NeedLemmas
 pub mod RunningLemmas
 pub mod SendLemmas

@@ -19,9 +19,10 @@ use Rattle.copy_plan.specs.contracts.plan.CopyPlan as CopyPlan
 use Rattle.control_ring.specs.contracts.order.Order as Order
 use Rattle.control_ring.specs.contracts.send.ControlSend as ControlSend
 use Rattle.control_ring.specs.contracts.take.ControlTake as ControlTake
-use Rattle.hand_over.proofs.SendLemmas.{coming_send, place_send, way_send}
+use Rattle.hand_over.proofs.SendLemmas.{borrower_send, lender_send}
 use Rattle.tasks.specs.contracts.away.Away as Away
 use Rattle.tasks.specs.contracts.handed.Handed as Handed
+use Rattle.tasks.specs.contracts.lost.Lost as Lost
 use Rattle.tasks.specs.contracts.link.TaskLink as TaskLink
 use Rattle.tasks.specs.contracts.task.Task as Task
 use Rattle.tasks.specs.contracts.task_end.TaskEnd as TaskEnd
@@ -38,21 +39,24 @@ take_send = search (sendable, crosses, ring_end, order_send) depth 60 fits 20000
 sending_send : IsSend ControlSend.the_row
 sending_send = search (sendable, crosses, ring_end, order_send) depth 60 fits 20000
 
+lost_send : IsSend Lost.the_row
+lost_send = search (sendable, crosses) depth 40
+
 module _ (S E : RattleType) (send : SendGhosts S.Denot E.Denot) (ring : EndGhosts E.Denot) (s_goes : IsSend S) (e_goes : IsSend E) where
   handed_send : IsSend (Handed.the_row S E send ring)
-  handed_send = search (sendable, crosses, copy_plan, take_send, way_send) depth 60 fits 20000
+  handed_send = search (sendable, crosses, copy_plan, take_send) depth 60 fits 20000
 
   pub task_send : IsSend (Task.the_row S E send ring)
-  task_send = search (sendable, crosses, place_send, handed_send) depth 60 fits 20000
+  task_send = search (sendable, crosses, borrower_send, handed_send, copy_plan, take_send, lost_send) depth 60 fits 20000
 
   pub task_end_send : IsSend (TaskEnd.the_row S E send ring)
-  task_end_send = search (sendable, crosses, place_send, handed_send) depth 60 fits 20000
+  task_end_send = search (sendable, crosses, borrower_send, handed_send, copy_plan, take_send, lost_send) depth 60 fits 20000
 
   away_send : IsSend (Away.the_row S E send ring)
-  away_send = search (sendable, crosses, copy_plan, take_send, sending_send, coming_send, ring_end) depth 60 fits 20000
+  away_send = search (sendable, crosses, copy_plan, take_send, sending_send, lost_send, ring_end) depth 60 fits 20000
 
   pub link_send : IsSend (TaskLink.the_row S E send ring)
-  link_send = search (sendable, crosses, place_send, handed_send, away_send) depth 60 fits 20000
+  link_send = search (sendable, crosses, lender_send, handed_send, away_send, copy_plan, take_send, lost_send) depth 60 fits 20000
 
 -- what is left of the send end of a ring of items
 abbrev Left : RattleType

@@ -1,6 +1,6 @@
 -- What a trigger of a sampler is to its task, and what its orders are.
-use Rattle.std.proofs.Common.{◌≡◌, ◌≢◌, ◌↔◌, ℕ, List, [], ◌∷◌, ◌++◌, ◌∙◌, ap, false, refl, sym, subst, Result, Ok, Err, Option, Some, None, length}
-use Rattle.std.specs.Prelude.{IfOk, IfSome, OnErr}
+use Rattle.std.proofs.Common.{◌≡◌, ◌≢◌, ◌↔◌, ℕ, List, [], ◌∷◌, ◌++◌, ◌∙◌, false, refl, sym, subst, Result, Ok, Err, Option, Some, None, length}
+use Rattle.std.specs.Prelude.{IfOk, IfSome, IsNone, OnErr}
 use Rattle.xcp_base.specs.declared.limits.TheConstants.{MAX_TRIGGERS}
 use Rattle.channel_ring.specs.declared.ends.SendEnd.{Ghosts as SendGhosts}
 use Rattle.channel_ring.specs.declared.ends.RingEnd.{Ghosts as EndGhosts}
@@ -17,7 +17,8 @@ use Rattle.sampler.specs.declared.faults.TriggerFault.TheVariants.{Spent, WrongI
 use Rattle.control_ring.specs.declared.order.Order.{Order}
 use Rattle.control_ring.specs.declared.order.Order.TheVariants as order
 use Rattle.tasks.specs.Deeds.{is_end}
-use Rattle.tasks.specs.Tasks.{HeldState, Obeys, ObeysHeld, Steps, StepsFrom, StepsThrough, TaskState, TriggersSampler}
+use Rattle.tasks.specs.Inner.{ObeysAs, ObeysHeldAs}
+use Rattle.tasks.specs.Tasks.{GivesBack, GivesBackHeld, GivesBackIfAny, HeldState, Obeys, ObeysHeld, Rests, RestsHeld, Steps, StepsBy, StepsThrough, TaskState, TriggersSampler}
 
 -- what there is, with something weaker known of it
 pub some-with : {A : Type 0} {P Q : A → Type 0} → ((x : A) → P x → Q x) → (o : Option A) → IfSome o P → IfSome o Q
@@ -26,6 +27,9 @@ some-with f (Some x) is = f x is
 
 same-head : (x o : Order) → ◌≡◌ {A = List Order} (x ∷ []) (o ∷ []) → x ≡ o
 same-head x o is = cc
+
+one-none : (x : Order) → ◌≡◌ {A = List Order} (x ∷ []) [] → ⊥
+one-none x is = absurd cc
 
 module _ {S E : Type 0} (send : SendGhosts S E) (ring : EndGhosts E) where
   -- a trigger of the sampler
@@ -38,46 +42,74 @@ module _ {S E : Type 0} (send : SendGhosts S E) (ring : EndGhosts E) where
   triggers s t image stamp (Err WrongImage) ok wrong spent err keeps = (wrong.0 refl, err)
   triggers s t image stamp (Err Spent) ok wrong spent err keeps = ((spent.0 refl).0, (spent.0 refl).1, err)
 
-  -- a start or a stop that was taken off
-  pub taken-steps : (a b : Option (HeldState S)) (p : Polled) (o : Order) → answered p ≡ o ∷ [] → is_end o ≡ false
-      → ObeysHeld send ring a b p → (h : HeldState S) × (a ≡ Some h) × StepsFrom send ring h b
-  taken-steps (Some h) (Some k) (Done x) o is not does = (h, refl, (x, ap is_end (same-head x o is) ∙ not, does))
-  taken-steps (Some h) (Some k) (Refused x) o is not does = (h, refl, (x, ap is_end (same-head x o is) ∙ not, does))
-  taken-steps (Some h) (Some k) Nothing o is not does = absurd cc
-  taken-steps (Some h) (Some k) (Waiting x) o is not does = absurd cc
-  taken-steps None None Nothing o is not does = absurd cc
-  taken-steps None None (Done x) o is not does = elim does [ ]
-  taken-steps None None (Refused x) o is not does = elim does [ ]
-  taken-steps None None (Waiting x) o is not does = elim does [ ]
-  taken-steps None (Some k) p o is not does = elim does [ ]
-  taken-steps (Some h) None p o is not does = elim does [ ]
+  -- what was answered, as an order or none
+  pub obeys-as : (a b : Option (HeldState S)) (p : Polled) (answer : Option Order)
+      → IfSome answer (λ o. answered p ≡ o ∷ []) → (IsNone answer → answered p ≡ [])
+      → ObeysHeld send ring a b p → ObeysHeldAs send ring a b answer
+  obeys-as None None Nothing None some none does = tt
+  obeys-as None None Nothing (Some o) some none does = absurd cc
+  obeys-as None None (Done x) answer some none does = elim does [ ]
+  obeys-as None None (Refused x) answer some none does = elim does [ ]
+  obeys-as None None (Waiting x) answer some none does = elim does [ ]
+  obeys-as None (Some k) p answer some none does = elim does [ ]
+  obeys-as (Some h) None p answer some none does = elim does [ ]
+  obeys-as (Some h) (Some k) Nothing None some none does = does
+  obeys-as (Some h) (Some k) (Waiting x) None some none does = does
+  obeys-as (Some h) (Some k) (Done x) None some none does = absurd (one-none x (none refl))
+  obeys-as (Some h) (Some k) (Refused x) None some none does = absurd (one-none x (none refl))
+  obeys-as (Some h) (Some k) Nothing (Some o) some none does = absurd cc
+  obeys-as (Some h) (Some k) (Waiting x) (Some o) some none does = absurd cc
+  obeys-as (Some h) (Some k) (Done x) (Some o) some none does =
+      subst (λ (y : Order). Obeys send ring h.sampler k.sampler h.orders k.orders y)
+      (same-head x o some) does
+  obeys-as (Some h) (Some k) (Refused x) (Some o) some none does =
+      subst (λ (y : Order). Obeys send ring h.sampler k.sampler h.orders k.orders y)
+      (same-head x o some) does
 
-  -- an order to end
-  pub ended-steps : (a b : Option (HeldState S)) (p : Polled) → answered p ≡ order.End ∷ []
-      → ObeysHeld send ring a b p → (h : HeldState S) × (a ≡ Some h) × StepsFrom send ring h None
-  ended-steps (Some h) (Some k) (Done x) is does =
-      (h, refl, (k, subst (λ (y : Order). Obeys send ring h.sampler k.sampler h.orders k.orders y) (same-head x order.End is) does))
-  ended-steps (Some h) (Some k) (Refused x) is does =
-      (h, refl, (k, subst (λ (y : Order). Obeys send ring h.sampler k.sampler h.orders k.orders y) (same-head x order.End is) does))
-  ended-steps (Some h) (Some k) Nothing is does = absurd cc
-  ended-steps (Some h) (Some k) (Waiting x) is does = absurd cc
-  ended-steps None None Nothing is does = absurd cc
-  ended-steps None None (Done x) is does = elim does [ ]
-  ended-steps None None (Refused x) is does = elim does [ ]
-  ended-steps None None (Waiting x) is does = elim does [ ]
-  ended-steps None (Some k) p is does = elim does [ ]
-  ended-steps (Some h) None p is does = elim does [ ]
+  -- an order that isn't one to end was carried out
+  pub obeyed-steps : (a b : TaskState S) (o : Order) → is_end o ≡ false
+      → ObeysAs send ring a b (Some o) → Steps send ring a b
+  obeyed-steps a b o not does = steps a.held b.held does.held where
+    steps : (x y : Option (HeldState S)) → ObeysHeldAs send ring x y (Some o)
+        → StepsBy send ring x y a b
+    steps None None is = elim is [ ]
+    steps None (Some k) is = elim is [ ]
+    steps (Some h) None is = elim is [ ]
+    steps (Some h) (Some k) is = (does.came, does.gave, (o, not, is))
 
-  -- what is held steps, and no other came
-  pub held-steps : (a b : Option (HeldState S)) (came : List (HeldState S))
-      → (h : HeldState S) × (a ≡ Some h) × StepsFrom send ring h b → Steps send ring a b came came
-  held-steps a b came (h, is, does) =
-      subst (λ (x : Option (HeldState S)). Steps send ring x b came came) (sym is) (refl, does)
+  -- an order to end was carried out, and then what is left was given back
+  pub ended-steps : (a b c : TaskState S) → ObeysAs send ring a b (Some order.End)
+      → GivesBackHeld send ring b c → Steps send ring a c
+  ended-steps a b c does gives =
+      subst (λ (z : Option (HeldState S)). StepsBy send ring a.held z a c) (sym gives.held)
+      (steps a.held b.held does.held gives.gives) where
+        steps : (x y : Option (HeldState S)) → ObeysHeldAs send ring x y (Some order.End)
+            → GivesBackIfAny send ring y b.gave c.gave → StepsBy send ring x None a c
+        steps None None is back = elim is [ ]
+        steps None (Some k) is back = elim is [ ]
+        steps (Some h) None is back = elim is [ ]
+        steps (Some h) (Some k) is back = (
+          gives.came ∙ does.came,
+          (
+            k,
+            is,
+            subst (λ gave. GivesBack send ring k gave c.gave) does.gave back,
+          ),
+        )
+
+  pub rests : (a b : TaskState S) → ObeysAs send ring a b None → Rests send ring a b
+  rests a b does =
+      record { came = does.came; gave = does.gave; held = still a.held b.held does.held } where
+        still : (x y : Option (HeldState S)) → ObeysHeldAs send ring x y None → RestsHeld send ring x y
+        still None None is = is
+        still None (Some k) is = is
+        still (Some h) None is = is
+        still (Some h) (Some k) is = is
 
   -- a step more
   pub steps-more : (a : TaskState S) (states : List (TaskState S)) (b c : TaskState S)
-      → StepsThrough send ring a states b → Steps send ring b.held c.held b.came c.came
+      → StepsThrough send ring a states b → Steps send ring b c
       → StepsThrough send ring a (states ++ c ∷ []) c
   steps-more a [] b c same step =
-      (subst (λ (x : TaskState S). Steps send ring x.held c.held x.came c.came) same step, refl)
+      (subst (λ (x : TaskState S). Steps send ring x c) same step, refl)
   steps-more a (x ∷ xs) b c steps step = (steps.0, steps-more x xs b c steps.1 step)

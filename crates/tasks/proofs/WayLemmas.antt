@@ -1,7 +1,6 @@
 -- A sampler that went with its orders, and what came of it.
-use Rattle.std.proofs.Common.{◌≡◌, ℕ, List, [], ◌∷◌, ◌++◌, append-nil, le_refl, refl, sym, ap, ◌∙◌, subst, inl, inr, Result, Ok, Err, true, false}
+use Rattle.std.proofs.Common.{◌≡◌, ℕ, List, [], ◌∷◌, ◌++◌, append-nil, append_assoc, le_refl, refl, sym, ap, ◌∙◌, subst, inl, inr, Result, Ok, Err, Option, Some, None, true, false}
 use Rattle.std.specs.Prelude.{IfOk, OnErr}
-use Rattle.channel_ring.specs.Ends.{RingName}
 use Rattle.channel_ring.specs.declared.ends.SendEnd.{Ghosts as SendGhosts}
 use Rattle.channel_ring.specs.declared.ends.RingEnd.{Ghosts as EndGhosts}
 use Rattle.control_ring.specs.Orders.{TakeState}
@@ -10,16 +9,19 @@ use Rattle.control_ring.specs.declared.order.Order.TheVariants as order
 use Rattle.sampler.specs.Control.{CarriesOut, Polls, Refuses, answered}
 use Rattle.sampler.specs.History.{Start, Stop}
 use Rattle.sampler.specs.Past.{Past}
-use Rattle.sampler.specs.Standing.{EndStandsAfter, StandsAfter, TakesTrigger}
-use Rattle.sampler.specs.State.{SamplerEndState, SamplerState, joined}
+use Rattle.sampler.specs.Standing.{StandsAfter, TakesTrigger}
+use Rattle.sampler.specs.State.{SamplerEndState, SamplerState}
 use Rattle.sampler.specs.Stays.{KeepsSetUp, OnlyLooked}
 use Rattle.sampler.specs.declared.polled.Polled.{Polled}
 use Rattle.sampler.specs.declared.polled.Polled.TheVariants.{Done, Nothing, Refused, Waiting}
 use Rattle.sampler.specs.declared.taken.Taken.{Taken}
 use Rattle.sampler.specs.declared.faults.TriggerFault.{TriggerFault}
-use Rattle.tasks.specs.Deeds.{Obeyed, Took, past_after, past_after_order, unless_refused}
-use Rattle.tasks.specs.Tasks.{Idles, Obeys, ObeysNext}
-use Rattle.tasks.specs.Ways.{HasCome, IsLeftAfterDeeds}
+use Rattle.sampler.specs.declared.faults.TriggerFault.TheVariants.{Spent, WrongImage}
+use Rattle.tasks.specs.Deeds.{Obeyed, Took, orders_in, past_after, past_after_order, unless_refused}
+use Rattle.tasks.specs.Inner.{HoldsLast, HoldsOne}
+use Rattle.tasks.specs.Tasks.{HeldState, Idles, Obeys, ObeysHeld, ObeysNext, TriggersHeld, TriggersSampler}
+use Rattle.tasks.specs.Ways.{HasCome, IsLeftOf, LeavesBy}
+use Rattle.tasks.specs.declared.lost.Lost.{Lost}
 use Rattle.tasks.proofs.DeedLemmas.{orders-obeyed, orders-took, past-more}
 
 module _ {S E : Type 0} (send : SendGhosts S E) (ring : EndGhosts E) where
@@ -33,19 +35,21 @@ module _ {S E : Type 0} (send : SendGhosts S E) (ring : EndGhosts E) where
   }
 
   -- an order more
-  come-obeyed : (s : SamplerState S) (r : RingName) (t u : SamplerState S) (o p : TakeState) (x : Order)
+  come-obeyed : (s : SamplerState S) (r : TakeState) (t u : SamplerState S) (o p : TakeState) (x : Order)
       → Obeys send ring t u o p x → HasCome send ring s r t o → HasCome send ring s r u p
   come-obeyed s r t u o p x does come = record {
     one_ring = does.one_ring ∙ come.one_ring;
     set_up = keeps-more s t u come.set_up does.set_up;
     deeds = come.deeds ++ Obeyed x ∷ [];
-    obeyed = orders-obeyed come.deeds x ∙ ap (λ (os : List Order). os ++ x ∷ []) come.obeyed ∙ sym does.taken;
+    obeyed = does.taken ∙ ap (λ (os : List Order). os ++ x ∷ []) come.obeyed
+        ∙ append_assoc r.received (orders_in come.deeds) (x ∷ [])
+        ∙ ap (λ (os : List Order). r.received ++ os) (sym (orders-obeyed come.deeds x));
     stands = λ past st.
         subst (λ (q : Past). StandsAfter send ring u q) (sym (past-more past come.deeds (Obeyed x)))
         (does.stands (past_after past come.deeds) (come.stands past st));
   }
 
-  come-idle : (s : SamplerState S) (r : RingName) (t u : SamplerState S) (o p : TakeState)
+  come-idle : (s : SamplerState S) (r : TakeState) (t u : SamplerState S) (o p : TakeState)
       → Idles send ring t u o p → HasCome send ring s r t o → HasCome send ring s r u p
   come-idle s r t u o p does come = record {
     one_ring = does.one_ring ∙ come.one_ring;
@@ -57,11 +61,11 @@ module _ {S E : Type 0} (send : SendGhosts S E) (ring : EndGhosts E) where
       ring = does.looked.ring;
     });
     deeds = come.deeds;
-    obeyed = come.obeyed ∙ sym does.none_taken;
+    obeyed = does.none_taken ∙ come.obeyed;
     stands = λ past st. does.looked.stands (past_after past come.deeds) (come.stands past st);
   }
 
-  pub come-next : (s : SamplerState S) (r : RingName) (t u : SamplerState S) (o p : TakeState) (answer : Polled)
+  pub come-next : (s : SamplerState S) (r : TakeState) (t u : SamplerState S) (o p : TakeState) (answer : Polled)
       → ObeysNext send ring t u o p answer → HasCome send ring s r t o → HasCome send ring s r u p
   come-next s r t u o p Nothing does come = come-idle s r t u o p does come
   come-next s r t u o p (Waiting x) does come = come-idle s r t u o p does come
@@ -69,7 +73,7 @@ module _ {S E : Type 0} (send : SendGhosts S E) (ring : EndGhosts E) where
   come-next s r t u o p (Done x) does come = come-obeyed s r t u o p x does come
 
   -- a trigger more
-  pub come-trigger : (s : SamplerState S) (r : RingName) (t u : SamplerState S) (o : TakeState) (image : List ℕ) (stamp : ℕ)
+  pub come-trigger : (s : SamplerState S) (r : TakeState) (t u : SamplerState S) (o : TakeState) (image : List ℕ) (stamp : ℕ)
       (answer : Result Taken TriggerFault)
       → IfOk answer (λ taken. (past : Past) → StandsAfter send ring t past → TakesTrigger send ring t u taken past image stamp)
       → OnErr answer (u ≡ t) → KeepsSetUp send t u → HasCome send ring s r t o → HasCome send ring s r u o
@@ -79,7 +83,8 @@ module _ {S E : Type 0} (send : SendGhosts S E) (ring : EndGhosts E) where
     one_ring = come.one_ring;
     set_up = keeps-more s t u come.set_up keeps;
     deeds = come.deeds ++ Took taken image stamp ∷ [];
-    obeyed = orders-took come.deeds taken image stamp ∙ come.obeyed;
+    obeyed = come.obeyed
+        ∙ ap (λ (os : List Order). r.received ++ os) (sym (orders-took come.deeds taken image stamp));
     stands = λ past st.
         subst (λ (q : Past). StandsAfter send ring u q) (sym (past-more past come.deeds (Took taken image stamp)))
         (takes (past_after past come.deeds) (come.stands past st)).stands;
@@ -99,7 +104,7 @@ module _ {S E : Type 0} (send : SendGhosts S E) (ring : EndGhosts E) where
   stands-carried : (s t : SamplerState S) (o : Order) → Refuses send ring s o false → CarriesOut send ring s t o
       → (past : Past) → StandsAfter send ring s past → StandsAfter send ring t (past_after_order past o)
   stands-carried s t (order.Start l) not goes past st =
-      subst (λ b. StandsAfter send ring t (unless_refused b past (Start l))) (sym (not past st)) (goes past st)
+      subst (λ b. StandsAfter send ring t (unless_refused b past (Start l))) (sym (not past st)) (goes.0 past st)
   stands-carried s t (order.Stop l) not goes past st =
       subst (λ b. StandsAfter send ring t (unless_refused b past (Stop l))) (sym (not past st)) (goes past st)
   stands-carried s t order.End not same past st = subst (λ (u : SamplerState S). StandsAfter send ring u past) (sym same) st
@@ -146,28 +151,84 @@ module _ {S E : Type 0} (send : SendGhosts S E) (ring : EndGhosts E) where
   }
 
   -- nothing was done yet
-  pub come-here : (s : SamplerState S) (o : TakeState) → o.received ≡ [] → HasCome send ring s o.ring s o
-  come-here s o none = record {
+  pub come-here : (s : SamplerState S) (o : TakeState) → HasCome send ring s o s o
+  come-here s o = record {
     one_ring = refl;
     set_up = record { channel = refl; image_len = refl; plans = refl; capacity = refl; ring = refl };
     deeds = [];
-    obeyed = sym none;
+    obeyed = sym (append-nil o.received);
     stands = λ past st. st;
   }
 
   -- what is left of a sampler that came so far
-  pub come-left : (s : SamplerState S) (r : RingName) (t : SamplerState S) (o : TakeState) (e : SamplerEndState E)
-      → HasCome send ring s r t o
-      → e.channel ≡ t.channel → e.plans ≡ t.plans → e.capacity ≡ send.capacity t.end → ring.ring e.end ≡ send.ring t.end
-      → ((past : Past) → StandsAfter send ring t past → EndStandsAfter (joined ring e) past)
-      → IsLeftAfterDeeds send ring s r e o
-  come-left s r t o e come channel plans capacity same stands = record {
-    one_ring = come.one_ring;
-    channel = channel ∙ come.set_up.channel;
-    plans = plans ∙ come.set_up.plans;
-    capacity = capacity ∙ come.set_up.capacity;
-    same_ring = same ∙ come.set_up.ring;
-    deeds = come.deeds;
-    obeyed = come.obeyed;
-    stands = λ past st. stands (past_after past come.deeds) (come.stands past st);
+  pub come-left : (s : SamplerState S) (r : TakeState) (t : SamplerState S) (o : TakeState)
+      (left : Result (SamplerEndState E) Lost × TakeState) → HasCome send ring s r t o
+      → IfOk left.0 (IsLeftOf send ring t) → left.1 ≡ o → LeavesBy send ring s r left
+  come-left s r t o (Ok e, back) come of same = record {
+    one_ring = ap (λ (k : TakeState). k.ring) same ∙ come.one_ring;
+    after = record {
+      channel = of.channel ∙ come.set_up.channel;
+      plans = of.plans ∙ come.set_up.plans;
+      capacity = of.capacity ∙ come.set_up.capacity;
+      same_ring = of.same_ring ∙ come.set_up.ring;
+      deeds = come.deeds;
+      obeyed = ap (λ (k : TakeState). k.received) same ∙ come.obeyed;
+      stands = λ past st. of.stands (past_after past come.deeds) (come.stands past st);
+    };
   }
+  come-left s r t o (Err lost, back) come of same = record {
+    one_ring = ap (λ (k : TakeState). k.ring) same ∙ come.one_ring;
+    after = tt;
+  }
+
+  -- a trigger, or its refusal
+  pub come-triggers : (s : SamplerState S) (r : TakeState) (t u : SamplerState S) (o : TakeState)
+      (image : List ℕ) (stamp : ℕ) (answer : Result Taken TriggerFault)
+      → TriggersSampler send ring t u image stamp answer → HasCome send ring s r t o
+      → HasCome send ring s r u o
+  come-triggers s r t u o image stamp (Ok taken) takes come =
+      come-trigger s r t u o image stamp (Ok taken)
+      (λ past st. takes.1 past st) tt takes.0 come
+  come-triggers s r t u o image stamp (Err WrongImage) takes come =
+      subst (λ (v : SamplerState S). HasCome send ring s r v o) (sym takes.1) come
+  come-triggers s r t u o image stamp (Err Spent) takes come =
+      subst (λ (v : SamplerState S). HasCome send ring s r v o) (sym takes.2) come
+
+  -- what a task holds goes on, as it came from what was fetched last
+  module _ (fetched : List (HeldState S)) (gave : List (Result (SamplerEndState E) Lost × TakeState)) where
+    holds-next : (h k : HeldState S) → HoldsOne send ring fetched gave h
+        → ((s : SamplerState S) (r : TakeState) → HasCome send ring s r h.sampler h.orders
+        → HasCome send ring s r k.sampler k.orders)
+        → HoldsOne send ring fetched gave k
+    holds-next h k holds on = record {
+      before = holds.before;
+      went = holds.went;
+      last = holds.last;
+      many = holds.many;
+      come = on holds.went.sampler holds.went.orders holds.come;
+    }
+
+    pub holds-obeyed : (a b : Option (HeldState S)) (answer : Polled)
+        → ObeysHeld send ring a b answer → HoldsLast send ring fetched gave a
+        → HoldsLast send ring fetched gave b
+    holds-obeyed None None Nothing does holds = holds
+    holds-obeyed None None (Done x) does holds = elim does [ ]
+    holds-obeyed None None (Refused x) does holds = elim does [ ]
+    holds-obeyed None None (Waiting x) does holds = elim does [ ]
+    holds-obeyed (Some h) (Some k) answer does holds =
+        holds-next h k holds
+        (λ s r come. come-next s r h.sampler k.sampler h.orders k.orders answer does come)
+    holds-obeyed None (Some k) answer does holds = elim does [ ]
+    holds-obeyed (Some h) None answer does holds = elim does [ ]
+
+    pub holds-triggered : (none : Taken) (a b : Option (HeldState S)) (image : List ℕ) (stamp : ℕ)
+        (answer : Result Taken TriggerFault)
+        → TriggersHeld send ring none a b image stamp answer → HoldsLast send ring fetched gave a
+        → HoldsLast send ring fetched gave b
+    holds-triggered none None None image stamp answer does holds = holds
+    holds-triggered none (Some h) (Some k) image stamp answer does holds =
+        holds-next h k holds
+        (λ s r come. subst (λ (o : TakeState). HasCome send ring s r k.sampler o) (sym does.0)
+        (come-triggers s r h.sampler k.sampler h.orders image stamp answer does.1 come))
+    holds-triggered none None (Some k) image stamp answer does holds = elim does [ ]
+    holds-triggered none (Some h) None image stamp answer does holds = elim does [ ]

@@ -1,4 +1,5 @@
 pub mod Deeds
+pub mod Inner
 pub mod Links
 pub mod Needs
 pub mod Tasks

@@ -1,7 +1,8 @@
 -- The slave's side of a task.
 use Rattle.std.specs.Prelude.{◌≡◌, ◌≢◌, ℕ, ◌+◌, ◌≤◌, ◌⊎◌, Bool, true, false, ◌&&◌, ◌||◌, not}
-use Rattle.std.specs.Prelude.{nat_eq, List, [], ◌∷◌, ◌++◌, length}
-use Rattle.std.specs.Prelude.{Option, Some, None, Result, Ok, Err}
+use Rattle.std.specs.Prelude.{nat_eq, List, [], ◌∷◌, ◌++◌, length, map}
+use Rattle.std.specs.Prelude.{Option, Some, None, IfSome, Result, Ok, Err}
+use Rattle.control_ring.specs.Orders.{TakeState}
 use Rattle.std.specs.Option.{is_some}
 use Rattle.channel_ring.specs.declared.ends.SendEnd.{Ghosts as SendGhosts}
 use Rattle.channel_ring.specs.declared.ends.RingEnd.{Ghosts as EndGhosts}
@@ -11,26 +12,29 @@ use Rattle.sampler.specs.State.{SamplerEndState, SamplerState, joined, runs_in}
 use Rattle.hand_over.specs.Newest.{one_before}
 use Rattle.tasks.specs.Deeds.{Deed, is_end, orders_in, past_after}
 use Rattle.tasks.specs.Needs.{places_for}
-use Rattle.tasks.specs.Tasks.{HeldState}
+use Rattle.tasks.specs.Ways.{LeftState}
+use Rattle.sampler.specs.declared.track.Track.{Track}
 use Rattle.tasks.specs.declared.fault.HandFault.{HandFault}
 use Rattle.tasks.specs.declared.fault.HandFault.TheVariants.{Busy, NotEnded}
 use Rattle.control_ring.specs.declared.order.Order.{Order}
 use Rattle.control_ring.specs.declared.order.Order.TheVariants as order
 use Rattle.xcp_base.specs.declared.limits.TheConstants.{MAX_CONTROL_RING}
 
--- a sampler that was handed out, as it was then; the orders that were sent behind it; how many
--- places for orders are known to be free; and whether its measurement has ended
+-- a sampler that was handed out, and the task's end of its orders, as they were then; the orders
+-- that were sent behind it; how many places for orders are known to be free; whether its
+-- measurement has ended; whether it is out; and what came back of it, if that is here
 pub record AwayState (S : Type 0) : Type 0 where
   pub sampler : SamplerState S
+  pub went : TakeState
   pub orders : List Order
   pub free : ℕ
   pub ended : Bool
+  pub out : Bool
+  pub here : Option LeftState
 
--- the samplers that were put into the place and those that were taken back out of it; and the two
--- that may be out: the one before the last, and the last
+-- the two samplers that were handed out last, of which something may be out: the one before the
+-- last, and the last
 pub record LinkState (S : Type 0) : Type 0 where
-  pub put : List (HeldState S)
-  pub taken_back : List (HeldState S)
   pub older : Option (AwayState S)
   pub newer : Option (AwayState S)
 
@@ -66,17 +70,20 @@ module _ {S : Type 0} where
     pub takes_orders : a.ended ≡ false
     pub places : places_for (runs_of a) lists ≤ a.free
 
-  -- a look at the ring of orders: places that are known to be free stay known
+  -- a look: places that are known to be free stay known, and something may have come back
   pub record LooksAtOrders (a b : AwayState S) : Type 0 where
-    pub rest : b ≡ record a { free = b.free }
+    pub rest : b ≡ record a { free = b.free; out = b.out; here = b.here }
     pub grows : a.free ≤ b.free
 
   -- an order was sent
   pub record SendsOrder (a b : AwayState S) (o : Order) : Type 0 where
     pub sampler : b.sampler ≡ a.sampler
+    pub went : b.went ≡ a.went
     pub orders : b.orders ≡ a.orders ++ o ∷ []
     pub spent : a.free ≡ b.free + 1
     pub ended : b.ended ≡ is_end o
+    pub out : b.out ≡ a.out
+    pub here : b.here ≡ a.here
 
   -- the newest takes orders
   abbrev pub takes_orders : Option (AwayState S) → Bool
@@ -104,32 +111,45 @@ module _ {S : Type 0} where
   LooksAtNewest (Some a) (Some b) = LooksAtOrders a b
   LooksAtNewest _ _ = ⊥
 
-  -- the newest ended with no order
+  -- this is left of a sampler that was recalled and finished: what it had counted
+  pub record IsFinishedHere (a : AwayState S) (left : LeftState) : Type 0 where
+    pub orders : left.orders ≡ a.went
+    pub counts :
+        IfSome left.end (λ e. (e.plans ≡ a.sampler.plans)
+        × (e.counts ≡ map (λ (track : Track). track.counts) a.sampler.tracks))
+
+  -- the measurement ended with no order: its sampler was recalled, and finished here
+  pub record EndsHere (a b : AwayState S) : Type 0 where
+    pub left : LeftState
+    pub rest : b ≡ record a { ended = true; out = false; here = Some left }
+    pub finished : IsFinishedHere a left
+
   abbrev pub EndsUnordered : Option (AwayState S) → Option (AwayState S) → Type 0
-  EndsUnordered (Some a) (Some b) = b ≡ record a { ended = true }
+  EndsUnordered (Some a) (Some b) = EndsHere a b
   EndsUnordered _ _ = ⊥
 
-  -- the measurement ended: its sampler was taken back out of the place, or an order to end was sent
+  -- the measurement ended: its sampler was recalled, or an order to end was sent
   pub record EndsNewest (a b : LinkState S) : Type 0 where
     pub older : b.older ≡ a.older
-    pub put : b.put ≡ a.put
-    pub way :
-        ((h : HeldState S) × (b.taken_back ≡ a.taken_back ++ h ∷ [])
-        × EndsUnordered a.newer b.newer)
-        ⊎ ((b.taken_back ≡ a.taken_back) × SendsToNewest a.newer b.newer order.End)
+    pub way : EndsUnordered a.newer b.newer ⊎ SendsToNewest a.newer b.newer order.End
 
-  -- a sampler that was just handed out
-  abbrev pub just_out : SamplerState S → AwayState S
-  just_out s = record { sampler = s; orders = []; free = MAX_CONTROL_RING + 1; ended = false }
+  -- a sampler that was just handed out, with the task's end of its orders
+  abbrev pub just_out : SamplerState S → TakeState → AwayState S
+  just_out s went = record {
+    sampler = s;
+    went = went;
+    orders = [];
+    free = MAX_CONTROL_RING + 1;
+    ended = false;
+    out = true;
+    here = None;
+  }
 
   -- a sampler was handed out
   pub record HandsOut (a b : LinkState S) (s : SamplerState S) : Type 0 where
-    pub handed : HeldState S
-    pub sampler : handed.sampler ≡ s
-    pub no_order : handed.orders.received ≡ []
-    pub put : b.put ≡ a.put ++ handed ∷ []
-    pub taken_back : b.taken_back ≡ a.taken_back
-    pub newer : b.newer ≡ Some (just_out s)
+    pub went : TakeState
+    pub no_order : went.received ≡ []
+    pub newer : b.newer ≡ Some (just_out s went)
     pub older : b.older ≡ one_before a.older a.newer
 
   -- why no sampler can be handed out: the measurement has not ended, or else two are out

@@ -1,52 +1,64 @@
+use crate::handed::Handed;
 use crate::needs::places_for;
-use crate::rule::SlaveWay;
+use crate::rule::Left;
 use channel_ring::SendEnd;
 use control_ring::{ControlSend, Order};
 use list_set::ListSet;
 use sampler::SamplerEnd;
 use std::marker::Model;
+use std::snapshot::Snapshot;
 use xcp_base::ListId;
 
-/// What the slave keeps of a sampler that is out: its end of the orders, the set of the DAQ lists
-/// that run by those that were sent, and its end of the way back.
+/// What the slave keeps of a sampler that was handed out: its end of the orders, the set of the DAQ
+/// lists that run by those that were sent, and what came back.
 #[derive(Drop)]
 pub struct Away<S: SendEnd> {
     pub(crate) orders: ControlSend,
-    pub(crate) coming: SlaveWay<S>,
+    pub(crate) went: Snapshot<Handed<S>>,
     pub(crate) running: ListSet,
     pub(crate) ended: bool,
+    pub(crate) out: bool,
+    pub(crate) here: Option<Left<S>>,
 }
 
 impl<S: SendEnd> Model for Away<S> {
-    ghost use Rattle.std.specs.Prelude.{◌≡◌, ℕ, ◌+◌, ◌<◌, ◌≤◌, false};
+    ghost use Rattle.std.specs.Prelude.{◌≡◌, ℕ, ◌+◌, ◌<◌, ◌≤◌, false, [], IfSome, option_map};
     ghost use Rattle.xcp_base.specs.declared.limits.TheConstants.{MAX_LISTS};
     ghost use Rattle.xcp_base.specs.Lists.{has_list};
     ghost use Rattle.sampler.specs.State.{runs_in};
     ghost use Rattle.list_set.specs.Counts.{how_many};
     ghost use Rattle.tasks.specs.Links.{AwayState, runs_by};
+    ghost use Rattle.tasks.specs.Ways.{LeavesBy, left_of};
 
     ghost Value = { AwayState S };
 
     ghost view = { λ a. record {
-      sampler = a.coming.0;
+      sampler = a.went.value.sampler;
+      went = a.went.value.orders;
       orders = a.orders.sent;
       free = a.orders.free;
       ended = a.ended;
+      out = a.out;
+      here = option_map (left_of S.End.RingEnd) a.here;
     } };
 
     ghost invariant = { λ a.
-        (a.orders.ring ≡ a.coming.1.ring)
+        (a.orders.ring ≡ a.went.value.orders.ring)
         × ((l : ℕ) → l < MAX_LISTS → has_list a.running l
-        ≡ runs_by a.orders.sent (runs_in a.coming.0 l) l)
-        × (a.ended ≡ false → 1 + how_many MAX_LISTS (has_list a.running) ≤ a.orders.free) };
+        ≡ runs_by a.orders.sent (runs_in a.went.value.sampler l) l)
+        × (a.ended ≡ false → 1 + how_many MAX_LISTS (has_list a.running) ≤ a.orders.free)
+        × (a.went.value.orders.received ≡ [])
+        × IfSome a.here (LeavesBy S.SendEnd S.End.RingEnd
+        a.went.value.sampler a.went.value.orders) };
 }
 
 impl<S: SendEnd> Away<S> {
-    ghost use Rattle.std.specs.Prelude.{◌≡◌, ℕ, ◌<◌, ◌&&◌, Bool, true, false, not, IfSome};
+    ghost use Rattle.std.specs.Prelude.{◌≡◌, ℕ, ◌<◌, ◌&&◌, Bool, true, false, not, IfSome, Some};
     ghost use Rattle.xcp_base.specs.declared.limits.TheConstants.{MAX_LISTS};
     ghost use Rattle.xcp_base.specs.Lists.{has_list};
     ghost use Rattle.tasks.specs.Links.{CameBack, HasPlacesFor, LooksAtOrders, SendsOrder};
     ghost use Rattle.tasks.specs.Links.{runs_of, without};
+    ghost use Rattle.tasks.specs.Ways.{LeavesBy, left_of};
     ghost use Rattle.control_ring.specs.declared.order.Order.TheVariants.{Start, Stop, End};
 
     /// Whether it takes orders.
@@ -73,6 +85,7 @@ impl<S: SendEnd> Away<S> {
         ensures yes { result ≡ true → HasPlacesFor self.new (has_list lists) }
         ensures no { result ≡ false → ¬ HasPlacesFor self.new (has_list lists) }
         ensures looked { LooksAtOrders self.old self.new }
+        ensures rest_stays { self.new ≡ record self.old { free = self.new.free } }
     {
         if self.ended {
             return false;
@@ -118,15 +131,38 @@ impl<S: SendEnd> Away<S> {
         self.ended = true;
     }
 
+    /// Whether it is out.
+    pub fn is_out(&self) -> bool
+        ensures { result ≡ self.now.out }
+    {
+        self.out
+    }
+
+    /// What is left of the sampler came back.
+    pub fn land(&mut self, left: Left<S>)
+        requires { LeavesBy S.SendEnd S.End.RingEnd self.old.sampler self.old.went left }
+        ensures { self.new ≡ record self.old {
+          out = false;
+          here = Some (left_of S.End.RingEnd left);
+        } }
+    {
+        self.out = false;
+        self.here = Some(left);
+    }
+
     /// What is left of the sampler, if it came back, and how many orders were left to be carried
     /// out.
     pub fn take(&mut self) -> Option<(SamplerEnd<S::End>, usize)>
         ensures back { IfSome result (λ back.
             CameBack S.SendEnd S.End.RingEnd self.old back.0 back.1) }
         ensures looked { LooksAtOrders self.old self.new }
+        ensures out_stays { self.new.out ≡ self.old.out }
     {
-        let (end, mut orders) = self.coming.take()?;
+        let (end, mut orders) = self.here.take()?;
         let left = orders.beside(&mut self.orders);
+        let Ok(end) = end else {
+            return None;
+        };
         Some((end, left))
     }
 }

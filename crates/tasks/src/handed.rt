@@ -1,42 +1,35 @@
-use crate::rule::TaskWay;
+use crate::lost;
+use crate::rule::Left;
 use channel_ring::SendEnd;
 use control_ring::ControlTake;
 use sampler::{Polled, Sampler, Taken, TriggerFault};
 use std::marker::Model;
 
-/// A sampler that is handed out: with the task's end of its orders, and its way back.
+/// A sampler that is handed out, with the task's end of its orders.
 #[derive(Drop)]
 pub struct Handed<S: SendEnd> {
     pub(crate) sampler: Sampler<S>,
     pub(crate) orders: ControlTake,
-    pub(crate) way: TaskWay<S>,
 }
 
 impl<S: SendEnd> Model for Handed<S> {
     ghost use Rattle.tasks.specs.Tasks.{HeldState};
-    ghost use Rattle.tasks.specs.Ways.{HasCome};
 
     ghost Value = { HeldState S };
 
     ghost view = { λ h. record { sampler = h.sampler; orders = h.orders } };
-
-    ghost invariant = { λ h. HasCome S.SendEnd S.End.RingEnd
-        h.way.0 h.way.1.ring h.sampler h.orders };
 }
 
 impl<S: SendEnd> Handed<S> {
-    ghost use Rattle.std.specs.Prelude.{◌≡◌};
+    ghost use Rattle.std.specs.Prelude.{◌≡◌, IfOk};
     ghost use Rattle.tasks.specs.Tasks.{ObeysNext, TriggersSampler};
+    ghost use Rattle.tasks.specs.Ways.{IsLeftOf};
 
     /// The sampler, which is handed out no more.
     pub fn into_sampler(self) -> Sampler<S>
         ensures { result ≡ self.sampler }
     {
-        let Handed {
-            sampler,
-            orders: _,
-            way: _,
-        } = self;
+        let Handed { sampler, orders: _ } = self;
         sampler
     }
 
@@ -69,15 +62,12 @@ impl<S: SendEnd> Handed<S> {
         self.sampler.trigger(image, stamp)
     }
 
-    /// Finishes the sampler, and gives back what is left.
-    pub fn finish(self) {
-        let Handed {
-            sampler,
-            orders,
-            way,
-        } = self;
-        if let Some(end) = sampler.finish() {
-            let _given = way.give((end, orders));
-        }
+    /// Finishes the sampler: what is left of it.
+    pub fn finish(self) -> Left<S>
+        ensures left { IfOk result.0 (IsLeftOf S.SendEnd S.End.RingEnd self.sampler) }
+        ensures orders { result.1 ≡ self.orders }
+    {
+        let Handed { sampler, orders } = self;
+        (lost::finish(sampler), orders)
     }
 }

@@ -1,15 +1,16 @@
 use crate::away::Away;
 use crate::fault::HandFault;
 use crate::handed::Handed;
-use crate::rule::AfterDeeds;
+use crate::rule::{Left, SlaveLine};
 use crate::task::Task;
 use channel_ring::SendEnd;
 use control_ring::ControlRing;
-use hand_over::{Place, hand_over, keep_newest, new_place};
+use hand_over::{keep_newest, new_line};
 use list_set::ListSet;
 use sampler::{Sampler, SamplerEnd};
 use std::alloc::{AllocError, Global};
 use std::marker::Model;
+use std::snapshot::Snapshot;
 use xcp_base::ListId;
 use xcp_base::limits::MAX_CONTROL_RING;
 
@@ -19,39 +20,42 @@ use xcp_base::limits::MAX_CONTROL_RING;
 /// the task.
 #[derive(Drop)]
 pub struct TaskLink<S: SendEnd> {
-    place: Place<Handed<S>>,
+    line: SlaveLine<S>,
     older: Option<Away<S>>,
     newer: Option<Away<S>>,
 }
 
 impl<S: SendEnd> Model for TaskLink<S> {
+    ghost use Rattle.std.specs.Prelude.{◌≡◌, ◌++◌};
+    ghost use Rattle.tasks.specs.Inner.{out_of};
     ghost use Rattle.tasks.specs.Links.{LinkState};
 
     ghost Value = { LinkState S };
 
-    ghost view = { λ l. record {
-      put = l.place.put;
-      taken_back = l.place.taken;
-      older = l.older;
-      newer = l.newer;
-    } };
+    ghost view = { λ l. record { older = l.older; newer = l.newer } };
+
+    ghost invariant = { λ l. l.line.out ≡ out_of l.older ++ out_of l.newer };
 }
 
-ghost use Rattle.std.specs.Prelude.{◌≡◌, ℕ, ◌<◌, ◌&&◌, Bool, [], None, Some, true, false};
+ghost use Rattle.std.specs.Prelude.{◌≡◌, ℕ, ◌<◌, ◌&&◌, ◌++◌, Bool, List, [], None, Some, true};
+ghost use Rattle.std.specs.Prelude.{false};
 ghost use Rattle.std.specs.Prelude.{IfErr, IfOk, IfSome, IsNone, IsSome, OnErr, OnOk};
 ghost use Rattle.std.specs.Option.{is_some};
 ghost use Rattle.xcp_base.specs.declared.limits.TheConstants.{MAX_LISTS};
 ghost use Rattle.xcp_base.specs.Lists.{has_list};
+ghost use Rattle.tasks.specs.Inner.{RecallsNewest, is_out, landed, out_of};
 ghost use Rattle.tasks.specs.Links.{AnswersHandOut, AwayState, CameBack, CanStart};
-ghost use Rattle.tasks.specs.Links.{EndsNewest, EndsUnordered, HandsOut, LooksAtNewest};
+ghost use Rattle.tasks.specs.Links.{EndsNewest, HandsOut, LooksAtNewest};
 ghost use Rattle.tasks.specs.Links.{SendsToNewest, hand_refusal, is_running, just_out};
 ghost use Rattle.tasks.specs.Links.{takes_orders, without};
+ghost use Rattle.tasks.specs.Tasks.{HeldState};
+ghost use Rattle.tasks.specs.Ways.{LeavesBy, left_of};
 ghost use Rattle.control_ring.specs.declared.order.Order.TheVariants.{Start, Stop, End};
 
 /// A sampler to be handed out, and what the slave keeps of it; or it comes back, if there is no
 /// memory.
 fn ready<S: SendEnd>(alloc: Global, sampler: Sampler<S>) -> Result<(Handed<S>, Away<S>), Sampler<S>>
-    ensures away { IfOk result (λ made. made.1 ≡ just_out sampler) }
+    ensures away { IfOk result (λ made. made.1 ≡ just_out sampler made.0.orders) }
     ensures handed { IfOk result (λ made. made.0.sampler ≡ sampler) }
     ensures no_order { IfOk result (λ made. made.0.orders.received ≡ []) }
     ensures back { IfErr result (λ back. back ≡ sampler) }
@@ -60,23 +64,17 @@ fn ready<S: SendEnd>(alloc: Global, sampler: Sampler<S>) -> Result<(Handed<S>, A
         return Err(sampler);
     };
     let running = ListSet::from_bits(sampler.running());
-    let ((sampler, orders), way, coming) = match hand_over::<_, _, AfterDeeds>(
-        alloc,
-        (sampler, take),
-    ) {
-        Ok(gone) => gone,
-        Err((sampler, _)) => return Err(sampler),
-    };
     let handed = Handed {
         sampler,
-        orders,
-        way,
+        orders: take,
     };
     let away = Away {
         orders: send,
-        coming,
+        went: Snapshot::of(&handed),
         running,
         ended: false,
+        out: true,
+        here: None,
     };
     Ok((handed, away))
 }
@@ -113,6 +111,7 @@ fn newest_can_start<S: SendEnd>(newer: &mut Option<Away<S>>, lists: ListSet) -> 
     ensures yes { result ≡ true → CanStart newer.new (has_list lists) }
     ensures no { result ≡ false → ¬ CanStart newer.new (has_list lists) }
     ensures looked { LooksAtNewest newer.old newer.new }
+    ensures out_stays { out_of newer.new ≡ out_of newer.old }
 {
     match newer {
         Some(away) => away.can_start(lists),
@@ -154,19 +153,59 @@ fn end_of<S: SendEnd>(newer: &mut Option<Away<S>>)
 
 /// Ends the newest without an order.
 fn end_unordered<S: SendEnd>(newer: &mut Option<Away<S>>)
-    requires takes_orders { takes_orders newer.old ≡ true }
-    ensures { EndsUnordered newer.old newer.new }
+    ensures none { newer.old ≡ None → newer.new ≡ None }
+    ensures some { (a : AwayState S) → newer.old ≡ Some a
+        → newer.new ≡ Some (record a { ended = true }) }
 {
     if let Some(away) = newer {
         away.end_unordered();
     }
 }
 
-/// What came back of a sampler that is out, which stays where it is.
+/// Whether it is out.
+fn is_out<S: SendEnd>(away: &Option<Away<S>>) -> bool
+    ensures { result ≡ is_out away.now }
+{
+    match away {
+        Some(away) => away.is_out(),
+        None => false,
+    }
+}
+
+/// What is left of a sampler that was handed out is here.
+fn land<S: SendEnd>(away: &mut Option<Away<S>>, left: Left<S>)
+    requires left { (a : AwayState S) → away.old ≡ Some a
+        → LeavesBy S.SendEnd S.End.RingEnd a.sampler a.went left }
+    ensures none { away.old ≡ None → away.new ≡ None }
+    ensures lands { (a : AwayState S) → away.old ≡ Some a
+        → away.new ≡ Some (landed a (left_of S.End.RingEnd left)) }
+{
+    if let Some(away) = away {
+        away.land(left);
+    }
+}
+
+/// If the oldest that is out came back, it is here.
+fn bring<S: SendEnd>(line: &mut SlaveLine<S>, away: &mut Option<Away<S>>)
+    requires oldest { (more : List (HeldState S)) × (line.old.out ≡ out_of away.old ++ more) }
+    ensures out { (more : List (HeldState S)) → line.old.out ≡ out_of away.old ++ more
+        → line.new.out ≡ out_of away.new ++ more }
+    ensures looked { LooksAtNewest away.old away.new }
+{
+    if !is_out(away) {
+        return;
+    }
+    if let Some(left) = line.take() {
+        land(away, left);
+    }
+}
+
+/// What came back of a sampler that was handed out, which stays where it is.
 fn found_of<S: SendEnd>(away: &mut Option<Away<S>>) -> Option<(SamplerEnd<S::End>, usize)>
     ensures back { IfSome result (λ back. (a : AwayState S) × (away.old ≡ Some a)
         × CameBack S.SendEnd S.End.RingEnd a back.0 back.1) }
     ensures looked { LooksAtNewest away.old away.new }
+    ensures out_stays { is_out away.new ≡ is_out away.old }
 {
     match away {
         Some(away) => away.take(),
@@ -174,12 +213,14 @@ fn found_of<S: SendEnd>(away: &mut Option<Away<S>>) -> Option<(SamplerEnd<S::End
     }
 }
 
-/// What came back of a sampler that is out, of which nothing is kept then.
+/// What came back of a sampler that was handed out, of which nothing is kept then.
 fn back_of<S: SendEnd>(away: &mut Option<Away<S>>) -> Option<(SamplerEnd<S::End>, usize)>
+    requires { is_out away.old ≡ false }
     ensures back { IfSome result (λ back. (a : AwayState S) × (away.old ≡ Some a)
         × CameBack S.SendEnd S.End.RingEnd a back.0 back.1) }
     ensures some { IsSome result → away.new ≡ None }
     ensures none { IsNone result → LooksAtNewest away.old away.new }
+    ensures out { is_out away.new ≡ false }
 {
     let back = found_of(away)?;
     *away = None;
@@ -190,16 +231,20 @@ impl<S: SendEnd> TaskLink<S> {
     /// A task, and the slave's side of it.
     pub fn new(alloc: Global) -> Result<(TaskLink<S>, Task<S>), AllocError>
         ensures link { IfOk result (λ made.
-            made.0 ≡ record { put = []; taken_back = []; older = None; newer = None }) }
-        ensures task { IfOk result (λ made. made.1 ≡ record { came = []; held = None }) }
+            made.0 ≡ record { older = None; newer = None }) }
+        ensures task { IfOk result (λ made.
+            made.1 ≡ record { came = []; gave = []; held = None }) }
     {
-        let (place, coming) = new_place(alloc)?;
+        let (line, theirs) = new_line(alloc)?;
         let link = TaskLink {
-            place,
+            line,
             older: None,
             newer: None,
         };
-        let task = Task { coming, held: None };
+        let task = Task {
+            line: theirs,
+            held: None,
+        };
         Ok((link, task))
     }
 
@@ -233,14 +278,15 @@ impl<S: SendEnd> TaskLink<S> {
 
     /// Puts a sampler into the place, and keeps what the slave keeps of it.
     fn put(&mut self, handed: Handed<S>, away: Away<S>) -> Result<(), (HandFault, Sampler<S>)>
-        requires one { away ≡ just_out handed.sampler }
+        requires one { away ≡ just_out handed.sampler handed.orders }
         requires no_order { handed.orders.received ≡ [] }
+        requires room { (is_some self.old.older && is_some self.old.newer) ≡ false }
         ensures ok { OnOk result (HandsOut self.old self.new handed.sampler) }
         ensures busy { IfErr result (λ e. e.0 ≡ HandFault.Busy) }
         ensures back { IfErr result (λ e. e.1 ≡ handed.sampler) }
         ensures err { OnErr result (self.new ≡ self.old) }
     {
-        if let Err(handed) = self.place.put(handed) {
+        if let Err(handed) = self.line.lend(handed) {
             return Err((HandFault::Busy, handed.into_sampler()));
         }
         keep_newest(&mut self.older, &mut self.newer, away);
@@ -295,9 +341,25 @@ impl<S: SendEnd> TaskLink<S> {
         stop_of(&mut self.newer, l);
     }
 
+    /// Recalls the sampler that was handed out last, if the task has not fetched it, and finishes it
+    /// here; whether it did.
+    fn recall(&mut self) -> bool
+        ensures yes { result ≡ true → RecallsNewest self.old self.new }
+        ensures no { result ≡ false → self.new ≡ self.old }
+    {
+        if !is_out(&self.newer) {
+            return false;
+        }
+        let Some(handed) = self.line.recall() else {
+            return false;
+        };
+        land(&mut self.newer, handed.finish());
+        true
+    }
+
     /// Ends the measurement of the sampler that was handed out last, which takes no orders from
-    /// then on. If the task has not fetched it, it is taken back and finished at once; else an
-    /// order to end is sent, which always finds a place. If it takes no orders, nothing changes.
+    /// then on. If the task has not fetched it, it is recalled and finished at once; else an order
+    /// to end is sent, which always finds a place. If it takes no orders, nothing changes.
     pub fn end(&mut self)
         ensures none { takes_orders self.old.newer ≡ false → self.new ≡ self.old }
         ensures ends { takes_orders self.old.newer ≡ true → EndsNewest self.old self.new }
@@ -305,12 +367,10 @@ impl<S: SendEnd> TaskLink<S> {
         if !newest_takes_orders(&self.newer) {
             return;
         }
-        match self.place.take() {
-            Some(handed) => {
-                handed.finish();
-                end_unordered(&mut self.newer);
-            }
-            None => end_of(&mut self.newer),
+        if self.recall() {
+            end_unordered(&mut self.newer);
+        } else {
+            end_of(&mut self.newer);
         }
     }
 
@@ -322,11 +382,15 @@ impl<S: SendEnd> TaskLink<S> {
         ensures none { IsNone result → LooksAtNewest self.old.older self.new.older }
         ensures rest_stays { self.new ≡ record self.old { older = self.new.older } }
     {
+        bring(&mut self.line, &mut self.older);
+        if is_out(&self.older) {
+            return None;
+        }
         back_of(&mut self.older)
     }
 
     /// What came back of the sampler that was handed out last, with the number of orders that were
-    /// not carried out.
+    /// not carried out. It comes behind the older one.
     pub fn take_newer(&mut self) -> Option<(SamplerEnd<S::End>, usize)>
         ensures back { IfSome result (λ back. (a : AwayState S) × (self.old.newer ≡ Some a)
             × CameBack S.SendEnd S.End.RingEnd a back.0 back.1) }
@@ -334,6 +398,26 @@ impl<S: SendEnd> TaskLink<S> {
         ensures none { IsNone result → LooksAtNewest self.old.newer self.new.newer }
         ensures rest_stays { self.new ≡ record self.old { newer = self.new.newer } }
     {
+        if !self.newest_is_here() {
+            return None;
+        }
         back_of(&mut self.newer)
+    }
+
+    /// Whether what is left of the sampler that was handed out last is here, as far as it came. If
+    /// its measurement has ended and the task has not fetched it, it is recalled.
+    fn newest_is_here(&mut self) -> bool
+        ensures yes { result ≡ true → is_out self.new.newer ≡ false }
+        ensures looked { LooksAtNewest self.old.newer self.new.newer }
+        ensures rest_stays { self.new ≡ record self.old { newer = self.new.newer } }
+    {
+        if !newest_takes_orders(&self.newer) && self.recall() {
+            return true;
+        }
+        if is_out(&self.older) {
+            return !is_out(&self.newer);
+        }
+        bring(&mut self.line, &mut self.newer);
+        !is_out(&self.newer)
     }
 }

@@ -1,30 +1,41 @@
 use crate::handed::Handed;
+use crate::rule::TaskLine;
 use crate::task_end::TaskEnd;
 use channel_ring::SendEnd;
 use control_ring::Order;
-use hand_over::Place;
 use sampler::{Polled, Taken, TriggerFault};
 use std::marker::Model;
 
 /// The sampling task of one event channel. It takes and frees no memory.
 #[derive(Drop)]
 pub struct Task<S: SendEnd> {
-    pub(crate) coming: Place<Handed<S>>,
+    pub(crate) line: TaskLine<S>,
     pub(crate) held: Option<Handed<S>>,
 }
 
 impl<S: SendEnd> Model for Task<S> {
+    ghost use Rattle.std.specs.Prelude.{map};
+    ghost use Rattle.tasks.specs.Inner.{HoldsLast};
     ghost use Rattle.tasks.specs.Tasks.{TaskState};
+    ghost use Rattle.tasks.specs.Ways.{left_of};
 
     ghost Value = { TaskState S };
 
-    ghost view = { λ t. record { came = t.coming.taken; held = t.held } };
+    ghost view = { λ t. record {
+      came = t.line.fetched;
+      gave = map (left_of S.End.RingEnd) t.line.gave;
+      held = t.held;
+    } };
+
+    ghost invariant = { λ t.
+        HoldsLast S.SendEnd S.End.RingEnd t.line.fetched t.line.gave t.held };
 }
 
 ghost use Rattle.std.specs.Prelude.{◌≡◌, [], ◌∷◌, IfSome, IsNone, None, Some, true, false};
 ghost use Rattle.sampler.specs.Control.{answered};
-ghost use Rattle.tasks.specs.Tasks.{HeldState, Looks, ObeysHeld, Rests, RestsHeld, Steps};
-ghost use Rattle.tasks.specs.Tasks.{StepsFrom, TakesTurn, TriggersHeld};
+ghost use Rattle.tasks.specs.Inner.{ObeysAs};
+ghost use Rattle.tasks.specs.Tasks.{FinishesAs, GivesBackHeld, Looks, ObeysHeld, Rests, Steps};
+ghost use Rattle.tasks.specs.Tasks.{TakesTurn, TriggersHeld};
 
 /// The most that a look does.
 const MOST_STEPS: usize = 256;
@@ -46,16 +57,6 @@ fn obey_held<S: SendEnd>(held: &mut Option<Handed<S>>) -> Polled
     }
 }
 
-/// Gives back what is left of what is held.
-#[inline(never)]
-fn give_back<S: SendEnd>(held: &mut Option<Handed<S>>)
-    ensures { held.new ≡ None }
-{
-    if let Some(held) = held.take() {
-        held.finish();
-    }
-}
-
 /// The order that a look took off, if it did.
 fn order_in(polled: Polled) -> Option<Order>
     ensures some { IfSome result (λ o. answered polled ≡ o ∷ []) }
@@ -66,23 +67,6 @@ fn order_in(polled: Polled) -> Option<Order>
         Polled::Waiting(_) => None,
         Polled::Done(order) => Some(order),
         Polled::Refused(order) => Some(order),
-    }
-}
-
-/// Carries out the next order of what is held, if there is one, and returns whether it did.
-fn next_of<S: SendEnd>(held: &mut Option<Handed<S>>) -> bool
-    ensures some { result ≡ true → (h : HeldState S) × (held.old ≡ Some h)
-        × StepsFrom S.SendEnd S.End.RingEnd h held.new }
-    ensures none { result ≡ false → RestsHeld S.SendEnd S.End.RingEnd held.old held.new }
-{
-    match order_in(obey_held(held)) {
-        None => false,
-        Some(Order::End) => {
-            give_back(held);
-            true
-        }
-        Some(Order::Start(_)) => true,
-        Some(Order::Stop(_)) => true,
     }
 }
 
@@ -109,33 +93,50 @@ impl<S: SendEnd> Task<S> {
     #[inline(never)]
     fn receive(&mut self) -> bool
         requires none { self.old.held ≡ None }
-        ensures some { result ≡ true
-            → Steps S.SendEnd S.End.RingEnd self.old.held self.new.held self.old.came
-            self.new.came }
-        ensures none { result ≡ false
-            → Rests S.SendEnd S.End.RingEnd self.old.held self.new.held self.old.came
-            self.new.came }
+        ensures some { result ≡ true → Steps S.SendEnd S.End.RingEnd self.old self.new }
+        ensures none { result ≡ false → Rests S.SendEnd S.End.RingEnd self.old self.new }
     {
-        let Some(handed) = self.coming.take() else {
+        let Some(handed) = self.line.fetch() else {
             return false;
         };
         self.held = Some(handed);
         true
     }
 
+    /// Gives back what is left of what is held, if anything is.
+    #[inline(never)]
+    fn give_back(&mut self)
+        ensures { GivesBackHeld S.SendEnd S.End.RingEnd self.old self.new }
+    {
+        if let Some(held) = self.held.take() {
+            self.line.give(held.finish());
+        }
+    }
+
+    /// Carries out the next order of what is held, if there is one.
+    fn obey(&mut self) -> Option<Order>
+        ensures { ObeysAs S.SendEnd S.End.RingEnd self.old self.new result }
+    {
+        order_in(obey_held(&mut self.held))
+    }
+
     /// Does the next that the slave ordered, if anything is there.
     fn step(&mut self) -> bool
-        ensures some { result ≡ true
-            → Steps S.SendEnd S.End.RingEnd self.old.held self.new.held self.old.came
-            self.new.came }
-        ensures none { result ≡ false
-            → Rests S.SendEnd S.End.RingEnd self.old.held self.new.held self.old.came
-            self.new.came }
+        ensures some { result ≡ true → Steps S.SendEnd S.End.RingEnd self.old self.new }
+        ensures none { result ≡ false → Rests S.SendEnd S.End.RingEnd self.old self.new }
     {
         if self.held.is_none() {
             return self.receive();
         }
-        next_of(&mut self.held)
+        match self.obey() {
+            None => false,
+            Some(Order::End) => {
+                self.give_back();
+                true
+            }
+            Some(Order::Start(_)) => true,
+            Some(Order::Stop(_)) => true,
+        }
     }
 
     /// Does all that the slave ordered, in its order.
@@ -165,10 +166,10 @@ impl<S: SendEnd> Task<S> {
     /// Finishes the task, and gives back what is left of what it holds. The answer is for the
     /// slave's thread.
     pub fn finish(mut self) -> TaskEnd<S>
-        ensures came { result.taken ≡ self.came }
+        ensures { FinishesAs S.SendEnd S.End.RingEnd self result }
     {
-        give_back(&mut self.held);
-        let Task { coming, held: _ } = self;
-        TaskEnd { coming }
+        self.give_back();
+        let Task { line, held: _ } = self;
+        TaskEnd { line }
     }
 }

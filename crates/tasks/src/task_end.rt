@@ -1,28 +1,23 @@
-use crate::handed::Handed;
+use crate::rule::TaskLine;
 use channel_ring::SendEnd;
-use hand_over::Place;
 use std::marker::Model;
 
-/// What is left of a task that was finished: its end of the place. The slave's thread frees it.
+/// What is left of a task that was finished: its end of its line with the slave. The slave's thread
+/// frees it.
 #[derive(Drop)]
 pub struct TaskEnd<S: SendEnd> {
-    pub(crate) coming: Place<Handed<S>>,
+    pub(crate) line: TaskLine<S>,
 }
 
 impl<S: SendEnd> Model for TaskEnd<S> {
-    ghost use Rattle.hand_over.specs.Places.{PlaceState};
-    ghost use Rattle.tasks.specs.Tasks.{HeldState};
+    ghost use Rattle.std.specs.Prelude.{map};
+    ghost use Rattle.tasks.specs.Tasks.{TaskEndState};
+    ghost use Rattle.tasks.specs.Ways.{left_of};
 
-    ghost Value = { PlaceState (HeldState S) };
+    ghost Value = { TaskEndState S };
 
-    ghost view = { λ t. t.coming };
-}
-
-impl<S: SendEnd> TaskEnd<S> {
-    /// Gives back what was handed out and was not fetched any more.
-    pub fn give_back(mut self) {
-        if let Some(handed) = self.coming.take() {
-            handed.finish();
-        }
-    }
+    ghost view = { λ t. record {
+      came = t.line.fetched;
+      gave = map (left_of S.End.RingEnd) t.line.gave;
+    } };
 }

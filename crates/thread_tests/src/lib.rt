@@ -2,11 +2,15 @@
 #![tactic(auto)]
 
 #[cfg(test)]
+mod answers;
+#[cfg(test)]
 mod calls;
 #[cfg(test)]
 mod faults;
 #[cfg(test)]
 mod in_order;
+#[cfg(test)]
+mod one_by_one;
 #[cfg(test)]
 mod same;
 #[cfg(test)]

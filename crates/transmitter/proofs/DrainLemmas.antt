@@ -11,7 +11,7 @@ use Rattle.frame_writer.specs.Writing.{WriterState}
 use Rattle.transmitter.specs.Looks.{KnowsAll, KnowsNone, KnowsSome, Looked}
 use Rattle.transmitter.specs.Merge.{AreRising, of_ring, taken_from}
 use Rattle.transmitter.specs.Pumps.{Leads, PumpFails, PumpAnswers, Pumps, TakesMore}
-use Rattle.transmitter.specs.Rounds.{Drains, TakesInRounds, round, rounds, without_first}
+use Rattle.transmitter.specs.Rounds.{Drains, TakesInRounds, next_behind, round, rounds, without_first}
 use Rattle.transmitter.specs.Written.{HasTaken, TransmitterState}
 use Rattle.transmitter.specs.declared.faults.PumpFault.{PumpFault}
 use Rattle.transmitter.specs.declared.faults.PumpFault.TheVariants.{Closed, Failed, Spent}
@@ -30,6 +30,7 @@ pub record Emptying (sent : List (List Item)) (a b : TransmitterState) : Type 0 
   pub known : b.known ≡ after_rounds turns left
   pub rest : KnowsAll sent b
   pub hand : b.hand ≡ None
+  pub next : b.next ≡ next_behind (rounds turns left) a.next
 
 -- all that was sent was looked at: nothing else changed, and what was received and is known is what was sent
 pub record LookedAtAll (sent : List (List Item)) (p d : TransmitterState) : Type 0 where
@@ -115,9 +116,14 @@ takes_round b p d qs o rising at pumps =
     let front = front_begins 0 b.known qs (fronts b d qs rising at (λ e j h s k. pumps.known e k)) in
     sym (append-nil qs) ∙ (ap (λ zs. qs ++ zs) (sym (front.2 (λ j k. rw (at_zero j) (pumps.known j k)))) ∙ front.1)
 
+-- where something was taken, pumps that fill a buffer begin at the first ring
+next_some : (qs : List (ℕ × Item)) (n : ℕ) → 0 < length qs → 0 ≡ next_behind qs n
+next_some [] n h = absurd (omega (arith, h))
+next_some (q ∷ qs) n h = refl
+
 -- one round more
-pub one_round : (sent : List (List Item)) (a b p d : TransmitterState) (qs : List (ℕ × Item)) (o : Pumped) → Emptying sent a b → Leads b qs p → AreRising 0 qs → Pumps b p qs o → LookedAtAll sent p d → length d.known ≡ length b.known → Emptying sent a d
-one_round sent a b p d qs o i l rising pumps look as_many =
+pub one_round : (sent : List (List Item)) (a b p d : TransmitterState) (qs : List (ℕ × Item)) (o : Pumped) → Emptying sent a b → Leads b qs p → AreRising 0 qs → Pumps b p qs o → LookedAtAll sent p d → length d.known ≡ length b.known → 0 < length qs → Emptying sent a d
+one_round sent a b p d qs o i l rising pumps look as_many some =
     let at = known_taken sent b p d qs i.rest l look in
     let whole = takes_round b p d qs o rising at pumps in
     let same : rounds i.turns i.left ++ qs ≡ rounds (suc i.turns) i.left = ap (λ ps. rounds i.turns i.left ++ ps) (whole ∙ ap (round 0) i.known) ∙ sym (rounds-suc i.turns i.left) in
@@ -130,6 +136,7 @@ one_round sent a b p d qs o i l rising pumps look as_many =
       known = all_dropped d.known b.known as_many (λ c. dropped (taken_from c qs) (of_ring d.known c) (of_ring b.known c) (at c) (one_each 0 c qs rising) (λ k. pumps.known c k)) ∙ (ap without_first i.known ∙ sym (after_rounds-suc i.turns i.left));
       rest = look.rest;
       hand = ap (λ (t : TransmitterState). t.hand) look.same ∙ pumps.hand;
+      next = ap (λ (t : TransmitterState). t.next) look.same ∙ (pumps.next ∙ next_some _ a.next (subst (λ ps. 0 < length ps) same (omega (arith, length-append (rounds i.turns i.left) qs, some))));
     }
 
 -- the first look
@@ -145,12 +152,13 @@ first_look sent a d is_open none look =
       known = refl;
       rest = look.rest;
       hand = ap (λ (t : TransmitterState). t.hand) look.same ∙ none;
+      next = ap (λ (t : TransmitterState). t.next) look.same;
     }
 
 -- nothing is left
 pub all_taken : (sent : List (List Item)) (a b : TransmitterState) → Emptying sent a b → KnowsNone b → Drains sent a b (Ok tt)
 all_taken sent a b i none =
-    (record { was_open = i.was_open; left = i.left; leaves = i.leaves; taken = rounds i.turns i.left; turns = i.turns; in_rounds = ([], append-nil (rounds i.turns i.left)); leads = i.leads }, i.hand, λ c. sym (append-nil (of_ring b.received c)) ∙ (ap (λ xs. of_ring b.received c ++ xs) (sym (none c)) ∙ i.rest c))
+    (record { was_open = i.was_open; left = i.left; leaves = i.leaves; taken = rounds i.turns i.left; turns = i.turns; in_rounds = ([], append-nil (rounds i.turns i.left)); leads = i.leads }, i.hand, λ c. sym (append-nil (of_ring b.received c)) ∙ (ap (λ xs. of_ring b.received c ++ xs) (sym (none c)) ∙ i.rest c), i.next)
 
 rounds-more : (sent : List (List Item)) (a b : TransmitterState) → TakesInRounds sent a b → TakesMore a b
 rounds-more sent a b r = λ start ps h. (r.taken, r.leads.stands start ps (with_known start a r.left ps h))
@@ -236,6 +244,7 @@ spent sent a b p d i l same look many =
       },
       ap (λ (t : TransmitterState). t.hand) look.same ∙ (ap (λ (t : TransmitterState). t.hand) same ∙ i.hand),
       omega (arith, taken, many),
+      ap (λ (t : TransmitterState). t.next) look.same ∙ (ap (λ (t : TransmitterState). t.next) same ∙ i.next),
     )
 
 -- a pump that was refused
@@ -244,8 +253,12 @@ stopped_by sent a b p d qs Failed i is_open l rising answers look = broken sent 
 stopped_by sent a b p d qs Closed i is_open l rising answers look = absurd (false≢true (sym is_open ∙ answers.0))
 stopped_by sent a b p d qs Spent i is_open l rising answers look = spent sent a b p d i (subst (λ ps. Leads b ps p) answers.3 l) answers.2 look answers.1
 
--- each pump that finds something takes something
-pub takes_some : (b p : TransmitterState) (qs : List (ℕ × Item)) (o : Pumped) → Leads b qs p → Pumps b p qs o → KnowsSome b → b.taken < p.taken
-takes_some b p qs o l pumps some =
+-- a pump that finds something takes something
+pub takes_one : (b p : TransmitterState) (qs : List (ℕ × Item)) (o : Pumped) → Pumps b p qs o → KnowsSome b → 0 < length qs
+takes_one b p qs o pumps some =
     let here = pumps.known some.0 some.1 in
-    omega (arith, l.taken, at_most some.0 qs, here)
+    omega (arith, at_most some.0 qs, here)
+
+-- so each such pump takes something
+pub takes_some : (b p : TransmitterState) (qs : List (ℕ × Item)) (o : Pumped) → Leads b qs p → Pumps b p qs o → KnowsSome b → b.taken < p.taken
+takes_some b p qs o l pumps some = omega (arith, l.taken, takes_one b p qs o pumps some)

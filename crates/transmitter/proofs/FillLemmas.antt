@@ -11,7 +11,7 @@ use Rattle.xcp_base.specs.declared.limits.TheConstants.{MAX_TAKEN}
 use Rattle.transmitter.specs.Written.{TransmitterState}
 use Rattle.transmitter.specs.declared.pumped_all.PumpedAll.{PumpedAll}
 use Rattle.transmitter.proofs.PumpLemmas.{nothing, refused, tells-nothing}
-use Rattle.transmitter.proofs.WrittenLemmas.{leads-append}
+use Rattle.transmitter.proofs.WrittenLemmas.{leads-append, leads-next}
 
 -- nothing was laid out
 pub lays_nothing : (a : OutState) (buffer : List ℕ) (at : ℕ) → at ≤ length buffer → LaysOn a a buffer buffer at at
@@ -94,8 +94,12 @@ filled_more n from now stop a b d p q f s whole = record {
   tells = subst (Tells q) (sym (all_taken-push f.pumps s.items)) (s.tells (all_taken f.pumps) f.tells);
 }
 
+-- turns don't depend on the ring at which pumps that fill a buffer go on behind them
+turns-next : (low high : ℕ) (a b : TransmitterState) (qs : List (ℕ × Item)) (n : ℕ) → TakesTurns low high a b qs → TakesTurns low high a (record b { next = n }) qs
+turns-next low high a b qs n t = record { rising = t.rising; below = t.below; leads = leads-next a b qs n t.leads; known = t.known }
+
 -- the last stopped before a sample that doesn't fit
-pub fills_no_room : (from now stop room end : ℕ) (a b d : TransmitterState) (p q : PumpedAll) → CanPump a → Filled (length a.rings) from a b now p → HasTurns now stop b d p q → stop < length a.rings → FindsNoRoom stop d room end → Fills from stop room end a d q
+pub fills_no_room : (from now stop room end : ℕ) (a b d : TransmitterState) (p q : PumpedAll) → CanPump a → Filled (length a.rings) from a b now p → HasTurns now stop b d p q → stop < length a.rings → FindsNoRoom stop d room end → Fills from stop room end a (record d { next = stop }) q
 fills_no_room from now stop room end a b d p q could f s short finds = record {
   could = could;
   hand = s.hand;
@@ -104,9 +108,9 @@ fills_no_room from now stop room end a b d p q could f s short finds = record {
   between = b;
   before = f.are;
   stop = stop;
-  turns = subst (λ k. TakesTurns k stop b d s.items) f.at s.turns;
-  why = inl (refl, short, finds);
-  leads = leads-append a b d (all_taken f.pumps) s.items f.leads s.turns.leads;
+  turns = turns-next _ stop b d s.items stop (subst (λ k. TakesTurns k stop b d s.items) f.at s.turns);
+  why = inl (refl, short, record { sample = finds.sample; first = finds.first; too_long = finds.too_long });
+  leads = leads-next a d _ stop (leads-append a b d (all_taken f.pumps) s.items f.leads s.turns.leads);
   tells = s.tells (all_taken f.pumps) f.tells;
 }
 
@@ -115,7 +119,7 @@ none_more [] p q same more = refl
 none_more (x ∷ qs) p q same more = absurd (omega (arith, same, more))
 
 -- the last was a whole one that found nothing
-pub fills_all : (from now stop room end : ℕ) (a b d : TransmitterState) (p q : PumpedAll) → CanPump a → Filled (length a.rings) from a b now p → HasTurns now stop b d p q → stop ≡ length a.rings → (now ≡ 0) × (q.taken ≡ p.taken) → Fills from 0 room end a d q
+pub fills_all : (from now stop room end : ℕ) (a b d : TransmitterState) (p q : PumpedAll) → CanPump a → Filled (length a.rings) from a b now p → HasTurns now stop b d p q → stop ≡ length a.rings → (now ≡ 0) × (q.taken ≡ p.taken) → Fills from 0 room end a (record d { next = 0 }) q
 fills_all from now stop room end a b d p q could f s whole none = record {
   could = could;
   hand = s.hand;
@@ -124,14 +128,14 @@ fills_all from now stop room end a b d p q could f s whole none = record {
   between = b;
   before = f.are;
   stop = stop;
-  turns = subst (λ k. TakesTurns k stop b d s.items) f.at s.turns;
+  turns = turns-next _ stop b d s.items 0 (subst (λ k. TakesTurns k stop b d s.items) f.at s.turns);
   why = inr (inl (whole, refl, sym f.at ∙ none.0, none_more s.items p.taken q.taken none.1 s.count));
-  leads = leads-append a b d (all_taken f.pumps) s.items f.leads s.turns.leads;
+  leads = leads-next a d _ 0 (leads-append a b d (all_taken f.pumps) s.items f.leads s.turns.leads);
   tells = s.tells (all_taken f.pumps) f.tells;
 }
 
 -- there was no leave for a further one
-pub fills_spent : (from now room end : ℕ) (a b : TransmitterState) (p : PumpedAll) → CanPump a → Filled (length a.rings) from a b now p → MAX_TAKEN ≤ b.taken → Fills from 0 room end a b p
+pub fills_spent : (from now room end : ℕ) (a b : TransmitterState) (p : PumpedAll) → CanPump a → Filled (length a.rings) from a b now p → MAX_TAKEN ≤ b.taken → Fills from 0 room end a (record b { next = 0 }) p
 fills_spent from now room end a b p could f spent = record {
   could = could;
   hand = f.hand;
@@ -140,8 +144,8 @@ fills_spent from now room end a b p could f spent = record {
   between = b;
   before = f.are;
   stop = 0;
-  turns = record { rising = tt; below = tt; leads = refused b; known = λ e h. absurd (omega (arith, h)) };
+  turns = record { rising = tt; below = tt; leads = leads-next b b [] 0 (refused b); known = λ e h. absurd (omega (arith, h)) };
   why = inr (inr (refl, refl, refl, spent));
-  leads = subst (λ ps. Leads a ps b) (sym (append-nil (all_taken f.pumps))) f.leads;
+  leads = leads-next a b _ 0 (subst (λ ps. Leads a ps b) (sym (append-nil (all_taken f.pumps))) f.leads);
   tells = subst (Tells p) (sym (append-nil (all_taken f.pumps))) f.tells;
 }

@@ -22,7 +22,7 @@ use Rattle.transmitter.specs.declared.pumped.Pumped.{Pumped}
 use Rattle.transmitter.specs.declared.pumped_all.PumpedAll.{PumpedAll}
 use Rattle.transmitter.specs.declared.faults.PumpFault.TheVariants.{Failed}
 use Rattle.transmitter.proofs.TakenLemmas.{items_taken-push, one_each, some_first, packets_of-append, samples-append, taken_from-append, takes-none}
-use Rattle.transmitter.proofs.WrittenLemmas.{leads-append, leads-none}
+use Rattle.transmitter.proofs.WrittenLemmas.{leads-append, leads-next, leads-none}
 
 -- what is told before the first turn
 abbrev pub nothing : PumpedAll
@@ -191,14 +191,14 @@ stops_last a b qs set leads rising stops l has =
     (f.0, f.1, of_ring a.received f.0, f.4, leads.takes.gains f.0 ∙ ap (λ xs. of_ring a.received f.0 ++ xs) (here ∙ alone (taken_from f.0 f.2) (taken_from f.0 f.3) (Marker f.1) one))
 
 -- turns at all rings are a pump
-pub one_pump : (n : ℕ) (a b : TransmitterState) (q : PumpedAll) (one : Pumped) → CanPump a → HasTurns 0 n a b nothing q → length a.known ≤ n → one.taken ≡ q.taken → one.frames ≡ q.frames → one.stopped ≡ q.stopped → IsPump a b (Ok one)
+pub one_pump : (n : ℕ) (a b : TransmitterState) (q : PumpedAll) (one : Pumped) → CanPump a → HasTurns 0 n a b nothing q → length a.known ≤ n → one.taken ≡ q.taken → one.frames ≡ q.frames → one.stopped ≡ q.stopped → IsPump a (record b { next = 0 }) (Ok one)
 one_pump n a b q one could s all taken frames stopped =
     let tells = s.tells [] (tells-nothing nothing refl refl refl) in
     let stops : IsSetOfStops one.stopped (items_taken s.items) = λ l. ap (λ set. has_list set l) stopped ∙ tells.stopped l in
     record {
       taken = s.items;
       rising = s.turns.rising;
-      leads = s.turns.leads;
+      leads = leads-next a b s.items 0 s.turns.leads;
       answers = record {
         could = could;
         hand = s.hand;
@@ -207,6 +207,7 @@ one_pump n a b q one could s all taken frames stopped =
         stopped = stops;
         last = stops_last a b s.items one.stopped s.turns.leads s.turns.rising stops;
         known = λ e some. s.turns.known e (omega (arith, some_within a.known e some, all)) (omega arith) some;
+        next = refl;
       };
     }
 

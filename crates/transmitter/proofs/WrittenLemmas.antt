@@ -112,3 +112,24 @@ leads-append a b d qs rs f g = record {
   taken = omega (arith, f.taken, g.taken, length-append qs rs);
   stands = λ start ps t. rw (← append_assoc ps qs rs) (g.stands start (ps ++ qs) (f.stands start ps t));
 }
+
+-- what it leads to doesn't depend on the ring at which pumps that fill a buffer go on
+pub leads-next : (a b : TransmitterState) (qs : List (ℕ × Item)) (n : ℕ) → Leads a qs b → Leads a qs (record b { next = n })
+leads-next a b qs n l = record {
+  rings = l.rings;
+  takes = l.takes;
+  taken = l.taken;
+  stands = λ start ps t.
+      let s = l.stands start ps t in
+      record {
+        was_open = s.was_open;
+        merge = s.merge;
+        taken = s.taken;
+        last = s.last;
+        whole = s.whole;
+        samples = s.samples;
+        legal = s.legal;
+        writes = s.writes;
+        written = s.written;
+      };
+}

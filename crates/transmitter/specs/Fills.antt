@@ -47,6 +47,7 @@ all_taken (qs ∷ pumps) = qs ++ all_taken pumps
 -- of ring c the next item is a sample whose frames, laid out from `end` on, don't fit into a buffer
 -- of so many bytes
 pub record FindsNoRoom (c : ℕ) (t : TransmitterState) (room end : ℕ) : Type 0 where
+  -- fixed by `first`
   pub sample : SampleParts
   pub first : IsPrefix (Sample sample ∷ []) (of_ring t.known c)
   pub too_long : room < end + length (text t.writer.counter sample.packets)
@@ -71,12 +72,15 @@ pub record Fills (from next room end : ℕ) (a b : TransmitterState) (p : Pumped
     : Type 0 where
   pub could : CanPump a
   pub hand : b.hand ≡ None
-  -- what the pumps before the last took, and what the last took
+  -- what the pumps before the last took, and what the last took: fixed by `leads` and by the order
+  -- of the frames; where all that is left is known, each pump takes one item of each ring that has
+  -- one
   pub pumps : List (List (ℕ × Item))
   pub last : List (ℕ × Item)
+  -- fixed by `before`, but for what was known then
   pub between : TransmitterState
   pub before : ArePumps (length a.rings) from a pumps between
-  -- the ring before which the last stopped
+  -- the ring before which the last stopped: fixed by `why`
   pub stop : ℕ
   pub turns : TakesTurns (ring_behind from pumps) stop between b last
   pub why :

@@ -56,7 +56,8 @@ TakesKnownBelow c known qs =
 abbrev pub CanPump : TransmitterState → Type 0
 CanPump a = (a.writer.closed ≡ false) × (a.taken < MAX_TAKEN)
 
--- a pump that took these items and wrote the samples among them
+-- a pump that took these items and wrote the samples among them; one that fills a buffer then
+-- begins at ring 0
 pub record Pumps (a b : TransmitterState) (qs : List (ℕ × Item)) (p : Pumped) : Type 0 where
   pub could : CanPump a
   pub hand : b.hand ≡ None
@@ -65,10 +66,13 @@ pub record Pumps (a b : TransmitterState) (qs : List (ℕ × Item)) (p : Pumped)
   pub stopped : IsSetOfStops p.stopped (items_taken qs)
   pub last : StopsAreLast p.stopped b
   pub known : (e : ℕ) → 0 < length (of_ring a.known e) → 0 < length (taken_from e qs)
+  pub next : b.next ≡ 0
 
--- a pump at which the writer failed, within the sample that was taken last: it is in hand
+-- a pump at which the writer failed, within the sample that was taken last: it is in hand. Of the
+-- next ring nothing is said, since no pump takes anything any more
 pub record PumpFails (a b : TransmitterState) (qs : List (ℕ × Item)) : Type 0 where
   pub could : CanPump a
+  -- fixed by `hand` and `last`
   pub sample : SampleParts
   pub ring : ℕ
   pub before : List (ℕ × Item)
@@ -87,6 +91,7 @@ PumpAnswers a b qs (Err Spent) =
 
 -- a pump: at most one item of each ring, in rising number of the ring
 pub record IsPump (a b : TransmitterState) (answer : Result Pumped PumpFault) : Type 0 where
+  -- fixed by `leads`, which says what was received, and `rising`
   pub taken : List (ℕ × Item)
   pub rising : AreRising 0 taken
   pub leads : Leads a taken b

@@ -18,7 +18,7 @@ use Rattle.transmitter.specs.declared.transmitter.Transmitter.{Transmitter}
 
 -- a transmitter: what its frame writer shows; of each ring its name, what was received from it and
 -- what is known to be there; the sample in hand; of each DAQ list, how many samples were written
--- whole; and how many items were taken
+-- whole; how many items were taken; and the ring at which pumps that fill a buffer go on
 pub record TransmitterState : Type 0 where
   pub writer : WriterState
   pub rings : List RingName
@@ -27,6 +27,7 @@ pub record TransmitterState : Type 0 where
   pub hand : Option SampleParts
   pub written : List ℕ
   pub taken : ℕ
+  pub next : ℕ
 
 abbrev pub transmission :
     {O T E : Type 0} → OutGhosts O → TakeGhosts T E → Transmitter O T → TransmitterState
@@ -38,6 +39,7 @@ transmission O T t = record {
   hand = t.hand;
   written = t.written;
   taken = t.taken;
+  next = t.next;
 }
 
 -- the frame writer that a transmitter has
@@ -82,7 +84,7 @@ pub record HasTaken (start : WriterState) (t : TransmitterState) (ps : List (ℕ
   pub merge : IsMerge t.received ps
   pub taken : t.taken ≡ length ps
   pub last : IsLast t.hand ps
-  -- the samples that were written whole
+  -- the samples that were written whole: fixed by `samples`
   pub whole : List SampleParts
   pub samples : whole ++ in_hand t.hand ≡ samples (items_taken ps)
   pub legal : ArePackets (packets_of whole)

@@ -1,6 +1,7 @@
 mod CellLemmas
 mod ColumnLemmas
 mod CsvLemmas
+mod ElementLemmas
 mod FieldLemmas
 mod LineLemmas
 mod SourceLemmas

@@ -1,4 +1,5 @@
 pub mod Columns
+pub mod Elements
 pub mod Fields
 pub mod Lists
 pub mod Sources

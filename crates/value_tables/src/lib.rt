@@ -4,6 +4,7 @@
 
 mod column;
 mod columns;
+mod elements;
 mod fields;
 mod list_columns;
 mod row_writer;
@@ -16,6 +17,7 @@ mod value_tallies;
 
 pub use column::Column;
 pub use columns::{columns_of, is_recorded, unknown_name};
+pub use elements::with_elements;
 pub use tally_text::print_tallies;
 pub use value_curves::ValueCurves;
 pub use value_rows::ValueRows;

@@ -7,6 +7,7 @@ use crate::list_columns::{ListColumns, list_at, lists_of};
 use crate::value::number_at;
 use curve_picture::{CurveAxis, CurvePicture};
 use daq_reader::{ListShape, SampleLog, SampleView, Samples};
+use measurement::{Conversion, TextTable};
 use sample_tables::Places;
 use std::alloc::{AllocError, Global};
 use std::io::{self, Write};
@@ -16,6 +17,7 @@ use std::marker::Model;
 #[derive(Drop)]
 pub struct ValueCurves<'a> {
     columns: Vec<Column<'a>>,
+    tables: Vec<Option<&'a TextTable>>,
     lists: Vec<ListColumns>,
     places: Places,
     picture: CurvePicture,
@@ -43,12 +45,15 @@ impl<'a> ValueCurves<'a> {
         ensures { IfOk result (λ curves. curves ≡ []) }
     {
         let mut picture = CurvePicture::new(alloc);
+        let mut tables = Vec::with_capacity(alloc, columns.len())?;
         for column in columns.iter() {
             picture.add_row(column.name, column.unit)?;
+            tables.push(table_of(column))?;
         }
         let lists = lists_of(alloc, shapes, &columns)?;
         Ok(ValueCurves {
             columns,
+            tables,
             lists,
             places,
             picture,
@@ -61,7 +66,7 @@ impl<'a> ValueCurves<'a> {
         ensures { OnOk result ((text : List ℕ) × IsClosed text
             × Appends (W.contents out.old) (W.contents out.new) text) }
     {
-        self.picture.print(out, axis)?;
+        self.picture.print(out, &self.tables, axis)?;
         out.flush()
     }
 }
@@ -79,6 +84,14 @@ impl<'a> Samples for ValueCurves<'a> {
         }
         // for the proof: clauses speak of the samples that were handed over
         self.log.note(place, sample);
+    }
+}
+
+/// The texts of a column's values, if it has such.
+fn table_of<'a>(column: &Column<'a>) -> Option<&'a TextTable> {
+    match column.conversion {
+        Some(Conversion::Texts(table)) => Some(table),
+        _ => None,
     }
 }
 

@@ -2,14 +2,17 @@
 #![tactic(auto)]
 
 use daq_sim::program;
-use program_input::arguments;
+use program_input::{ArgumentsFault, arguments};
 use std::process::ExitCode;
 
 fn main(rt: HostRuntime) -> ExitCode {
     let words = match arguments(&rt) {
         Ok(words) => words,
         Err(fault) => {
-            let _ = eprintln!(rt; "xcpdaq: {fault}");
+            let _ = match fault {
+                ArgumentsFault::Memory => eprintln!(rt; "xcpdaq: want of memory"),
+                ArgumentsFault::NotText => eprintln!(rt; "xcpdaq: {fault}"),
+            };
             return ExitCode::from(fault.status());
         }
     };

@@ -2,6 +2,7 @@
 use crate::session_fault::SessionFault;
 use clap::error::ErrorKind;
 use clap::{Arg, ArgAction, Command, Error};
+use run_story::Why;
 use std::alloc::{AllocError, Global};
 
 /// What the command line asks for.
@@ -9,21 +10,40 @@ use std::alloc::{AllocError, Global};
 pub enum CommandLine<'a> {
     /// The help, which is the error's text.
     Help(Error),
-    /// The session of a file; of standard input if there is none.
-    Session(Option<&'a str>),
+    /// A session.
+    Session(Options<'a>),
+}
+
+/// Where a session is read from, and how it is told.
+#[derive(Clone, Copy)]
+pub struct Options<'a> {
+    /// The file of the session; standard input if there is none.
+    pub session: Option<&'a str>,
+    /// Whether its lines and what is sent are printed in words.
+    pub explain: bool,
 }
 
 /// Reads the arguments, without the program's name.
-pub fn read_command_line(alloc: Global, words: &[String]) -> Result<CommandLine<'_>, SessionFault> {
+pub fn read_command_line<'a>(
+    alloc: Global,
+    words: &'a [String],
+    why: &mut Why,
+) -> Result<CommandLine<'a>, SessionFault> {
     let Ok(command) = command(alloc) else {
         return Err(SessionFault::Memory);
     };
     match command.try_get_matches_from(words) {
-        Ok(matches) => Ok(CommandLine::Session(matches.get_str("session"))),
+        Ok(matches) => Ok(CommandLine::Session(Options {
+            session: matches.get_str("session"),
+            explain: matches.get_flag("explain"),
+        })),
         Err(error) => match error.kind() {
             ErrorKind::DisplayHelp => Ok(CommandLine::Help(error)),
             ErrorKind::OutOfMemory => Err(SessionFault::Memory),
-            _ => Err(SessionFault::CommandLine),
+            _ => {
+                why.tell(error);
+                Err(SessionFault::CommandLine)
+            }
         },
     }
 }
@@ -34,8 +54,12 @@ fn command<'a>(alloc: Global) -> Result<Command<'a>, AllocError> {
         .value_name("FILE")
         .action(ArgAction::Set)
         .help("The session file [default: standard input]");
-    Command::new(alloc, "xcpslave")
+    let explain = Arg::new(alloc, "explain")
+        .long("explain")
+        .action(ArgAction::SetTrue)
+        .help("Print each line and each frame in words, and the reason behind a fault");
+    let command = Command::new(alloc, "xcpslave")
         .about("Plays a session of an XCP slave, and prints what the slave sent and the account")
-        .no_binary_name(true)
-        .arg(session)
+        .no_binary_name(true);
+    command.arg(explain)?.arg(session)
 }

@@ -2,9 +2,13 @@
 #![tactic(auto)]
 
 mod command_line;
+mod expected;
+mod request_text;
 mod session_fault;
 mod session_text;
+mod session_words;
 mod whole_program;
+mod why_no_session;
 
 use crate::whole_program::program;
 use program_input::arguments;

@@ -22,7 +22,7 @@ pub enum SessionFault {
     #[error("xcpslave: bad profile: {0}")]
     Profile(ProfileFault),
     /// Memory ran out.
-    #[error("xcpslave: want of memory")]
+    #[error("xcpslave: out of memory")]
     Memory,
     /// What is left of a task did not come back.
     #[error("xcpslave: what is left of a task did not come back")]

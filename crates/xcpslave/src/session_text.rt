@@ -1,4 +1,5 @@
 //! What came of a session, in words.
+use crate::session_words::write_frames;
 use daq_engine::ListReport;
 use slave_play::Played;
 use std::alloc::{AllocError, Global};
@@ -10,11 +11,25 @@ use xcp_base::limits::MAX_LISTS;
 pub fn text_of(alloc: Global, played: &Played) -> Result<String, AllocError> {
     let mut text = String::new(alloc);
     write_datagrams(alloc, &mut text, played)?;
-    writeln!(text)?;
-    write_parts(&mut text, played)?;
-    write_sums(&mut text, played)?;
-    writeln!(text, "refused {}", played.refused)?;
+    write_account(&mut text, played)?;
     Ok(text)
+}
+
+/// Behind the words of the lines of a session a line in words for each frame, an empty line, and
+/// the account. Lack of memory is the only fault.
+pub fn told_of(words: String, played: &Played) -> Result<String, AllocError> {
+    let mut text = words;
+    write_frames(&mut text, played)?;
+    write_account(&mut text, played)?;
+    Ok(text)
+}
+
+/// Writes an empty line, and the account.
+fn write_account(text: &mut String, played: &Played) -> Result<(), AllocError> {
+    writeln!(text)?;
+    write_parts(text, played)?;
+    write_sums(text, played)?;
+    writeln!(text, "refused {}", played.refused)
 }
 
 /// The lines of the datagrams.

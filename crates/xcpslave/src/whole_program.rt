@@ -1,11 +1,14 @@
 //! The program: from its arguments and streams to its status.
 ghost use Rattle.std.specs.Prelude.{◌≤◌, IfOk};
 
-use crate::command_line::{CommandLine, read_command_line};
+use crate::command_line::{CommandLine, Options, read_command_line};
 use crate::session_fault::SessionFault;
-use crate::session_text::text_of;
+use crate::session_text::{text_of, told_of};
+use crate::session_words::words_of;
+use crate::why_no_session::why_no_session;
 use program_input::{TextFault, text_from};
-use slave_file::SessionFile;
+use run_story::Why;
+use slave_file::{FileFault, SessionFile};
 use slave_play::play;
 use std::alloc::Global;
 use std::fs;
@@ -26,10 +29,12 @@ pub fn program<R: Files, I: Read + Drop, W: Write + Drop, E: Write + Drop>(
 {
     let mut out = out;
     let mut err = err;
-    match answer(rt, alloc, words, input, &mut out) {
+    let mut why = Why::new(alloc, words);
+    match answer(rt, alloc, words, input, &mut out, &mut why) {
         Ok(status) => status,
         Err(fault) => {
             let _ = writeln!(err, "{fault}");
+            let _ = err.write_all(why.text().as_bytes());
             fault.status()
         }
     }
@@ -42,35 +47,51 @@ fn answer<R: Files, I: Read + Drop, W: Write>(
     words: &[String],
     input: I,
     out: &mut W,
+    why: &mut Why,
 ) -> Result<u8, SessionFault>
     ensures { IfOk result (λ status. status ≤ 1) }
 {
-    match read_command_line(alloc, words)? {
+    match read_command_line(alloc, words, why)? {
         CommandLine::Help(text) => {
             let printing = write!(out, "{text}").and_then(|()| out.flush());
             Ok(status_of_printing(printing))
         }
-        CommandLine::Session(path) => {
-            let file = session_of(rt, alloc, path, input)?;
-            print_session(alloc, file, out)
+        CommandLine::Session(options) => {
+            let file = session_of(rt, alloc, options, input, why)?;
+            print_session(alloc, file, options.explain, out)
         }
     }
 }
 
-/// Plays a session, and prints what came of it.
+/// Plays a session, and prints what came of it, in words if it is to be explained.
 fn print_session<W: Write>(
     alloc: Global,
     file: SessionFile,
+    explain: bool,
     out: &mut W,
 ) -> Result<u8, SessionFault>
     ensures { IfOk result (λ status. status ≤ 1) }
 {
-    let played = play(alloc, file).map_err(SessionFault::of_play)?;
-    let Ok(text) = text_of(alloc, &played) else {
-        return Err(SessionFault::Memory);
+    let text = if explain {
+        told(alloc, file)?
+    } else {
+        sent(alloc, file)?
     };
     let printing = out.write_all(text.as_bytes()).and_then(|()| out.flush());
     Ok(status_of_printing(printing))
+}
+
+/// What a session sends, and its account.
+fn sent(alloc: Global, file: SessionFile) -> Result<String, SessionFault> {
+    let played = play(alloc, file).map_err(SessionFault::of_play)?;
+    text_of(alloc, &played).map_err(|_| SessionFault::Memory)
+}
+
+/// A session in words, and its account.
+fn told(alloc: Global, file: SessionFile) -> Result<String, SessionFault> {
+    let words = words_of(alloc, &file.script).map_err(|_| SessionFault::Memory)?;
+    let played = play(alloc, file).map_err(SessionFault::of_play)?;
+    told_of(words, &played).map_err(|_| SessionFault::Memory)
 }
 
 /// The status: 1 if the output can't be printed, else 0.
@@ -84,21 +105,57 @@ fn status_of_printing(printing: io::Result<()>) -> u8
 fn session_of<R: Files, I: Read + Drop>(
     rt: &R,
     alloc: Global,
-    path: Option<&str>,
+    options: Options<'_>,
     input: I,
+    why: &mut Why,
 ) -> Result<SessionFile, SessionFault> {
     let mut input = input;
-    let Some(path) = path else {
-        return session_from(alloc, &mut input);
+    let Some(path) = options.session else {
+        return session_from(alloc, "standard input", &mut input, why);
     };
     match fs::open(rt, path) {
-        Ok(mut file) => session_from(alloc, &mut file),
-        Err(error) => Err(SessionFault::of_text(TextFault::Unreadable.or_memory(&error))),
+        Ok(mut file) => session_from(alloc, path, &mut file, why),
+        Err(error) => {
+            let fault = SessionFault::of_text(TextFault::Unreadable.or_memory(&error));
+            why.tell_file(path, error);
+            Err(fault)
+        }
     }
 }
 
-/// Reads a session, from a text that is read to its end.
-fn session_from<I: Read>(alloc: Global, input: &mut I) -> Result<SessionFile, SessionFault> {
-    let text = text_from(alloc, input).map_err(SessionFault::of_text)?;
-    SessionFile::read(alloc, &text).map_err(SessionFault::of_file)
+/// Reads a session, from a text that has this name and is read to its end. After a fault `why` has
+/// the reason.
+fn session_from<I: Read>(
+    alloc: Global,
+    name: &str,
+    input: &mut I,
+    why: &mut Why,
+) -> Result<SessionFile, SessionFault> {
+    let text = match text_from(alloc, input) {
+        Ok(text) => text,
+        Err(fault) => {
+            why.tell_file(
+                name,
+                "it can't be read, isn't UTF-8, or has over 67108864 bytes",
+            );
+            return Err(SessionFault::of_text(fault));
+        }
+    };
+    match SessionFile::read(alloc, &text) {
+        Ok(file) => Ok(file),
+        Err(fault) => {
+            tell(alloc, name, &text, fault, why);
+            Err(SessionFault::of_file(fault))
+        }
+    }
+}
+
+/// Tells why a text is no session, if that is wanted.
+fn tell(alloc: Global, name: &str, text: &str, fault: FileFault, why: &mut Why) {
+    if !why.is_wanted() {
+        return;
+    }
+    if let Ok(reason) = why_no_session(alloc, name, text, fault) {
+        why.tell(reason.as_str());
+    }
 }

@@ -7,6 +7,7 @@ use Rattle.daq_reader.specs.Reading.{Reading}
 
 -- the packet is one of ODT k: its identification field, and as many bytes as the ODT has
 pub record Fits (plan : ListPlan) (k : ℕ) (q : List ℕ) : Type 0 where
+  -- fixed by `is`
   pub overload : Bool
   pub rest : List ℕ
   pub is : q ≡ field plan k overload ++ rest

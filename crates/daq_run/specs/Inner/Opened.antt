@@ -17,11 +17,13 @@ pub record IsRunOpened {S E : Type 0} (send : SendGhosts S E) (ring : EndGhosts 
     (before : OutState) (e : EngineState S)
     : Type 0 where
   pub limits : HasLimits run
+  -- fixed by `set_up`
   pub store : StoreState
   pub writer : WriterState
   pub set_up : IsSetUp run before store writer
   pub keeps : IsStore store
   pub running : some_list_runs store ≡ true
+  -- fixed by `opened`, for the channels that there are
   pub openings : ℕ → Opening
   pub opened : AreOpened send ring store run.caps e.samplers openings
   pub stands : Stands send ring e (first_standing writer openings)

@@ -26,8 +26,10 @@ is_of c Pump = false
 pub record EndHasAnswered (s : Setting) (e : JoinedEnd) (opening : Opening) (asked : List Event)
     (refused : ℕ)
     : Type 0 where
+  -- fixed by `opened`, `answered` and `stands`
   pub past : Past
   pub opened : past.opening ≡ opening
+  -- fixed by `answered`, but for which stops found no room
   pub told : List Answered
   pub answered : AreAnswered s asked told past
   pub counted : refused ≡ count_by was_refused told

@@ -146,6 +146,7 @@ pub record HandlesLists
     {S E : Type 0} (send : SendGhosts S E) (ring : EndGhosts E) (m : MomentParts)
     (plans : List ListPlan) (first last : Stage S)
     : Type 0 where
+  -- fixed by `of_plans`, `kept`, `dues` and `accepted`
   pub rows : List Row
   pub of_plans : map (λ (row : Row). row.plan) rows ≡ plans
   pub kept : map (λ (row : Row). row.track) rows ≡ take (length plans) first.tracks

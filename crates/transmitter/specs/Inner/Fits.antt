@@ -17,6 +17,7 @@ use Rattle.transmitter.specs.declared.turn.Turn.TheVariants as turn
 -- some text was written or none, and stands in the buffer from `at` to `end`; behind it nothing
 -- changed
 pub record LaysOn (a b : OutState) (old new : List ℕ) (at end : ℕ) : Type 0 where
+  -- fixed by `wrote`
   pub text : List ℕ
   pub wrote : b.contents ≡ a.contents ++ text
   pub front : take end new ≡ take at old ++ text
@@ -56,6 +57,7 @@ pub record AreFew (n : ℕ) (p q : PumpedAll) (at end : ℕ) : Type 0 where
 -- a pump's turns at the rings from `low` on, below `high`, and what was told before and after them
 pub record HasTurns (low high : ℕ) (a b : TransmitterState) (p q : PumpedAll) : Type 0 where
   pub hand : b.hand ≡ None
+  -- fixed by `turns`: what was received, in rising number of the ring
   pub items : List (ℕ × Item)
   pub turns : TakesTurns low high a b items
   pub tells : (before : List (ℕ × Item)) → Tells p before → Tells q (before ++ items)

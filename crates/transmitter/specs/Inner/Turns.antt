@@ -32,6 +32,7 @@ TurnMeans c a b Broke = (s : SampleParts) × (b.hand ≡ Some s) × Leads a ((c,
 
 -- some text was written, and stands in the buffer from `at` to `end`; behind it nothing changed
 pub record Lays (a b : OutState) (old new : List ℕ) (at end : ℕ) : Type 0 where
+  -- fixed by `wrote`
   pub text : List ℕ
   pub wrote : b.contents ≡ a.contents ++ text
   pub front : take end new ≡ take at old ++ text
@@ -50,6 +51,7 @@ TakesFirst c received new_received known new_known =
 -- the first item known of ring c, a sample, was taken and is held
 pub record HoldsFirst (c : ℕ) (received new_received known new_known : List (List Item))
     (held : Option SampleParts) : Type 0 where
+  -- fixed by `hand`
   pub sample : SampleParts
   pub hand : held ≡ Some sample
   pub first : IsPrefix (Sample sample ∷ []) (of_ring known c)

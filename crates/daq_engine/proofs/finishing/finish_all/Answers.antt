@@ -1,7 +1,9 @@
-use Rattle.std.proofs.Common.{◌≡◌, [], ◌∷◌, refl, sym, subst, ◌∙◌, arith, length-append}
+use Rattle.std.proofs.Common.{◌≡◌, [], ◌∷◌, length, refl, sym, subst, ◌∙◌, arith, length-append}
+use Rattle.std.specs.Prelude.{IsNone}
 use Rattle.std.proofs.lemmas.Iterator.Adapters.{YieldsList-from_vec}
 use Rattle.std.proofs.lemmas.Iterator.Consumers.{YieldsList-end, YieldsList-turn}
 use Rattle.std.proofs.lemmas.List.{map-id, nil_from_length}
+use Rattle.std.proofs.lemmas.Option.{slice_get_read}
 use Rattle.transmitter.proofs.RingLemmas.{sent_joined}
 use Rattle.daq_engine.specs.Samplers.{AreFinished}
 use Rattle.daq_engine.proofs.FinishLemmas.{ends-more, none_finished, shown_more}
@@ -66,7 +68,17 @@ all_yielded g c =
     c.loop-sampler.yielded c.loop-sampler.sampler-iterator c.loop-sampler.yielded_by c.next.result c.next.new.self c.in-None.is c.next.ensures.steps in
     sym (map-id c.loop-sampler.yielded) ∙ seen.0
 
-pub returns : goal.returns
-returns g c = record {
-  finishes = subst (λ ss. AreFinished g.S.SendEnd g.S.End.RingEnd ss c.loop-sampler.ends.items) (all_yielded g (goal.at.returns g c).In-None) c.loop-sampler.invariant.finished;
-}
+pub returns-clause-finishes : goal.returns-clause-finishes
+returns-clause-finishes g c =
+    subst (λ ss. AreFinished g.S.SendEnd g.S.End.RingEnd ss c.loop-sampler.ends.items) (all_yielded g (goal.at.returns-clause-finishes g c).In-None) c.loop-sampler.invariant.finished
+
+-- the end that was lost is that of a sampler
+pub returns-in_err-end-clause-none : goal.returns-in_err-end-clause-none
+returns-in_err-end-clause-none g c = λ none.
+    let samplers = c.args.samplers in
+    let given = c.into_iter-sampler-iterator.ensures.into_iter_gives in
+    let s = c.in-Some.sampler in
+    let turn =
+    YieldsList-turn (YieldsList-from_vec {s = c.into_iter-sampler-iterator.result} samplers.items given.0 (given.1 ∙ samplers.ok.0))
+    c.loop-sampler.yielded c.loop-sampler.sampler-iterator c.loop-sampler.yielded_by c.next.result c.next.new.self s c.in-Some.is c.next.ensures.steps in
+    (length c.loop-sampler.yielded, s, slice_get_read samplers.items (length samplers.items) (length c.loop-sampler.yielded) s refl turn.0 turn.1, c.finish.ensures.none (subst IsNone (sym c.in_err-end.was) refl))

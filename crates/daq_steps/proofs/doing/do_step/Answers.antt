@@ -1,11 +1,14 @@
 use Rattle.std.proofs.Common.{◌++◌, ◌∷◌, [], ◌+◌, length, refl, sym, ap, subst}
-use Rattle.std.specs.Prelude.{None, Some}
+use Rattle.std.specs.Prelude.{Err, None, Some}
 use Rattle.sampler.specs.History.{Start, Stop, Trigger}
 use Rattle.run_file.specs.Lent.{step_data}
 use Rattle.run_file.specs.declared.step.Step.{Step}
+use Rattle.daq_engine.specs.Asking.{AsksStart, AsksStop, AsksTrigger}
 use Rattle.daq_engine.specs.Engines.{engine_state}
+use Rattle.daq_steps.specs.Cames.{IsCame}
 use Rattle.daq_steps.specs.Runs.{AnswersStepAt, HasDone, IsStepOf}
 use Rattle.daq_steps.specs.Steps.{run_step}
+use Rattle.daq_steps.specs.declared.came.Came.TheVariants.{Pumped, Refused, Stuck, Switched, Taken}
 use Rattle.daq_steps.specs.declared.cause.Cause.TheVariants.{Start as OfStart, Stop as OfStop, Trigger as OfTrigger}
 use Rattle.daq_steps.proofs.AskLemmas.{start_done, start_refused, stop_done, stop_refused, trigger_refused, trigger_taken}
 use Rattle.daq_steps.proofs.StepLemmas.{ask_counted, pump_more}
@@ -25,6 +28,7 @@ returns-in-Ok g c =
     record {
       does = ask_counted send ring a b c.in-Trigger.channel asks.others_stay (Trigger c.in-Trigger.image.now c.in-Trigger.stamp) None (run_step (step_data c.args.step)) 0 told within is refl;
       answers = subst (λ s. AnswersStepAt send ring a b s None) (sym is) (told, asks.others_stay);
+      came = subst (λ s. IsCame send ring a b s (Taken c.in-Ok.taken)) (sym is) asks;
       samplers_stay = asks.others_stay.samplers.those;
     }
 
@@ -41,6 +45,7 @@ returns-in-Err-Refused g c =
     record {
       does = ask_counted send ring a b c.in-Trigger.channel asks.others_stay (Trigger c.in-Trigger.image.now c.in-Trigger.stamp) (Some (OfTrigger c.in-Err-Refused.fault)) (run_step (step_data c.args.step)) 1 told within is refl;
       answers = subst (λ s. AnswersStepAt send ring a b s (Some (OfTrigger c.in-Err-Refused.fault))) (sym is) (told, asks.others_stay);
+      came = subst (λ s. IsCame send ring a b s (Refused (OfTrigger c.in-Err-Refused.fault))) (sym is) (subst (λ f. AsksTrigger send ring a b c.in-Trigger.channel c.in-Trigger.image.now c.in-Trigger.stamp (Err f)) c.in-Err-Refused.field-0-is asks);
       samplers_stay = asks.others_stay.samplers.those;
     }
 
@@ -58,6 +63,7 @@ returns-in-Ok-start g c =
     record {
       does = ask_counted send ring a b c.in-Start.channel asks.others_stay (Start c.in-Start.list) None (run_step (step_data c.args.step)) 0 told within is refl;
       answers = subst (λ s. AnswersStepAt send ring a b s None) (sym is) (told, asks.others_stay);
+      came = subst (λ s. IsCame send ring a b s (Switched)) (sym is) asks;
       samplers_stay = asks.others_stay.samplers.those;
     }
 
@@ -74,6 +80,7 @@ returns-in-Err-Refused-start g c =
     record {
       does = ask_counted send ring a b c.in-Start.channel asks.others_stay (Start c.in-Start.list) (Some (OfStart c.in-Err-Refused-start.fault)) (run_step (step_data c.args.step)) 1 told within is refl;
       answers = subst (λ s. AnswersStepAt send ring a b s (Some (OfStart c.in-Err-Refused-start.fault))) (sym is) (told, asks.others_stay);
+      came = subst (λ s. IsCame send ring a b s (Refused (OfStart c.in-Err-Refused-start.fault))) (sym is) (subst (λ f. AsksStart send ring a b c.in-Start.channel c.in-Start.list (Err f)) c.in-Err-Refused-start.field-0-is asks);
       samplers_stay = asks.others_stay.samplers.those;
     }
 
@@ -91,6 +98,7 @@ returns-in-Ok-stop g c =
     record {
       does = ask_counted send ring a b c.in-Stop.channel asks.others_stay (Stop c.in-Stop.list) None (run_step (step_data c.args.step)) 0 told within is refl;
       answers = subst (λ s. AnswersStepAt send ring a b s None) (sym is) (told, asks.others_stay);
+      came = subst (λ s. IsCame send ring a b s (Switched)) (sym is) asks;
       samplers_stay = asks.others_stay.samplers.those;
     }
 
@@ -107,6 +115,7 @@ returns-in-Err-Refused-stop g c =
     record {
       does = ask_counted send ring a b c.in-Stop.channel asks.others_stay (Stop c.in-Stop.list) (Some (OfStop c.in-Err-Refused-stop.fault)) (run_step (step_data c.args.step)) 1 told within is refl;
       answers = subst (λ s. AnswersStepAt send ring a b s (Some (OfStop c.in-Err-Refused-stop.fault))) (sym is) (told, asks.others_stay);
+      came = subst (λ s. IsCame send ring a b s (Refused (OfStop c.in-Err-Refused-stop.fault))) (sym is) (subst (λ f. AsksStop send ring a b c.in-Stop.channel c.in-Stop.list (Err f)) c.in-Err-Refused-stop.field-0-is asks);
       samplers_stay = asks.others_stay.samplers.those;
     }
 
@@ -137,3 +146,12 @@ returns-in-Ok-pump-clause-answers g c =
 pub returns-in-Err-clause-answers : goal.returns-in-Err-clause-answers
 returns-in-Err-clause-answers g c =
     subst (λ s. AnswersStepAt g.T.Send.SendEnd g.T.End.RingEnd (engine_state g.O.Out g.T.TakeEnd c.args.engine.now) (engine_state g.O.Out g.T.TakeEnd c.pump.new.self) (run_step (step_data s)) None) (sym c.in-Pump.is) refl
+
+-- the pump's answer
+pub returns-in-Ok-pump-clause-came : goal.returns-in-Ok-pump-clause-came
+returns-in-Ok-pump-clause-came g c =
+    subst (λ s. IsCame g.T.Send.SendEnd g.T.End.RingEnd (engine_state g.O.Out g.T.TakeEnd c.args.engine.now) (engine_state g.O.Out g.T.TakeEnd c.pump.new.self) (run_step (step_data s)) (Pumped c.in-Ok-pump.pumped)) (sym c.in-Pump.is) c.in-Ok-pump.ensures.pumps
+
+pub returns-in-Err-clause-came : goal.returns-in-Err-clause-came
+returns-in-Err-clause-came g c =
+    subst (λ s. IsCame g.T.Send.SendEnd g.T.End.RingEnd (engine_state g.O.Out g.T.TakeEnd c.args.engine.now) (engine_state g.O.Out g.T.TakeEnd c.pump.new.self) (run_step (step_data s)) (Stuck c.in-Err.fault)) (sym c.in-Pump.is) c.in-Err.ensures.pumps

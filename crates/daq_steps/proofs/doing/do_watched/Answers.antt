@@ -6,10 +6,11 @@ use Rattle.daq_engine.specs.Engines.{engine_state}
 use Rattle.daq_engine.proofs.BesideLemmas.{as_many_stay, stay_on}
 use Rattle.daq_steps.specs.Runs.{HasDone}
 use Rattle.daq_steps.specs.Steps.{run_step}
+use Rattle.daq_steps.specs.Cames.{TellsCames}
 use Rattle.daq_steps.specs.Watched.{TellsSteps, refusals}
 use Rattle.daq_steps.proofs.LoopLemmas.{few_items, none_within, step_of_channel, steps-more}
 use Rattle.daq_steps.proofs.StepLemmas.{nothing_done, stay_still}
-use Rattle.daq_steps.proofs.WatchLemmas.{tells_more, tells_none}
+use Rattle.daq_steps.proofs.WatchLemmas.{tells_came, tells_more, tells_no_came, tells_none}
 use Rattle.daq_steps.proofs.doing.do_watched.Goals as goal
 
 -- nothing was done yet
@@ -20,6 +21,7 @@ loop-i-init g c =
       few = omega arith;
       those = stay_still g.T.Send.SendEnd g.T.End.RingEnd a.samplers;
       tells = tells_none g.W.Watch.notes c.args.watch.now;
+      cames = tells_no_came g.T.Send.SendEnd g.T.End.RingEnd g.W.Watch.notes a c.args.watch.now;
       does = λ start openings stands. nothing_done g.T.Send.SendEnd g.T.End.RingEnd a start openings stands;
     }
 
@@ -50,11 +52,16 @@ loop-i-preserved g c =
     let within : k ≤ length run.steps = omega (arith, c.loop-i-test.true, c.steps-i-end.ensures.value) in
     let few = few_items run c.step.ensures.limits _ k many within in
     let b = engine_state g.O.Out g.T.TakeEnd c.do_step-came.new.engine in
+    let a = engine_state g.O.Out g.T.TakeEnd c.args.engine.now in
+    let m = engine_state g.O.Out g.T.TakeEnd c.loop-i.engine in
     let counted = sym c.count-refused.ensures.value in
     record {
       few = omega (arith, i.few, c.count-refused.ensures.few);
       tells = subst (λ n. TellsSteps g.W.Watch.notes c.args.watch.now c.note.new.self (k + 1) (c.loop-i.refused + n)) counted
           (tells_more g.W.Watch.notes c.args.watch.now c.loop-i.watch c.note.new.self k c.loop-i.refused came i.tells c.note.ensures);
+      cames = subst (λ n. TellsCames send ring g.W.Watch.notes a b c.args.watch.now c.note.new.self (map run_step (take (k + 1) run.steps)) (c.loop-i.refused + n)) counted
+          (subst (λ steps. TellsCames send ring g.W.Watch.notes a b c.args.watch.now c.note.new.self steps (c.loop-i.refused + refusals came)) (sym (steps-more run.steps k step at))
+          (tells_came send ring g.W.Watch.notes a m b c.args.watch.now c.loop-i.watch c.note.new.self _ c.loop-i.refused (run_step step) came i.cames e.came c.note.ensures));
       those = stay_on send _ _ _ i.those e.samplers_stay;
       does = λ start openings stands.
           subst (λ n. HasDone send ring b start openings (map run_step (take (k + 1) run.steps)) (c.loop-i.refused + n)) counted

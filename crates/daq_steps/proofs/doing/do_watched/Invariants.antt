@@ -5,6 +5,7 @@ use Rattle.daq_engine.specs.Engines.{Stands, engine_state, first_standing}
 use Rattle.daq_engine.specs.Samplers.{StayThose}
 use Rattle.daq_steps.specs.Runs.{HasDone}
 use Rattle.daq_steps.specs.Steps.{run_step}
+use Rattle.daq_steps.specs.Cames.{TellsCames}
 use Rattle.daq_steps.specs.Watched.{TellsSteps}
 use Rattle.daq_steps.proofs.doing.do_watched.Given as goal
 
@@ -18,6 +19,7 @@ invariant-loop-i g l =
     record {
       few : l.refused ≤ l.i;
       tells : TellsSteps g.W.Watch.notes l.initial.watch l.watch l.i l.refused;
+      cames : TellsCames send ring g.W.Watch.notes a b l.initial.watch l.watch (map run_step (take l.i l.run.steps)) l.refused;
       those : StayThose send a.samplers b.samplers;
       does : (start : WriterState) (openings : ℕ → Opening) → Stands send ring a (first_standing start openings)
           → HasDone send ring b start openings (map run_step (take l.i l.run.steps)) l.refused;

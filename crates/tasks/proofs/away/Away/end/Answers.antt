@@ -8,6 +8,8 @@ use Rattle.tasks.proofs.away.Away.end.Goals as goal
 pub invariant_of-self : goal.invariant_of-self
 invariant_of-self g c = (
   c.send_reserved.ensures.ring_stays ∙ c.self.invariant.0,
-  running-sent _ _ _ _ End (λ l. runs_in c.self.inside.coming.0 l) c.send_reserved.ensures.sends c.self.invariant.1 (λ k h. refl),
+  running-sent _ _ _ _ End (λ l. runs_in c.self.inside.went.value.sampler l) c.send_reserved.ensures.sends c.self.invariant.1 (λ k h. refl),
   λ is. absurd (true≢false is),
+  c.self.invariant.3,
+  c.self.invariant.4,
 )

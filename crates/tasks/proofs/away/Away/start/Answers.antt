@@ -12,8 +12,10 @@ invariant_of-self g c =
     let below = rw c.byte.ensures.value at c.byte.ensures.below in
     let sends = rw c.byte.ensures.value at c.send_reserved.ensures.sends in (
       c.send_reserved.ensures.ring_stays ∙ c.self.invariant.0,
-      running-sent _ _ _ _ (Start c.args.l) (λ l. runs_in c.self.inside.coming.0 l) sends c.self.invariant.1 (λ k h. c.with_list-self-inside.ensures k),
+      running-sent _ _ _ _ (Start c.args.l) (λ l. runs_in c.self.inside.went.value.sampler l) sends c.self.invariant.1 (λ k h. c.with_list-self-inside.ensures k),
       λ is. places-kept _ c.self.inside.running c.with_list-self-inside.result c.args.l _ below c.requires.checked.0 c.requires.checked.1 fits c.send_reserved.ensures.spent c.self.invariant.1 c.with_list-self-inside.ensures,
+      c.self.invariant.3,
+      c.self.invariant.4,
     )
 
 pub returns-clause-others : goal.returns-clause-others
@@ -21,6 +23,9 @@ returns-clause-others g c lists there fits =
     let below = rw c.byte.ensures.value at c.byte.ensures.below in
     others-checked _ _ c.args.l below lists there (subst (λ (a : AwayState _). HasPlacesFor a lists) (sym c.self.view_is) fits) (record {
       sampler = refl;
+      went = refl;
+      out = refl;
+      here = refl;
       orders = rw c.byte.ensures.value at c.send_reserved.ensures.sends;
       spent = c.send_reserved.ensures.spent;
       ended = ap (λ (a : AwayState _). a.ended) c.self.view_is ∙ c.requires.checked.2.takes_orders;

@@ -14,6 +14,8 @@ invariant_of-self g c =
     let sends = rw c.byte.ensures.value at c.send_reserved.ensures.sends in
     let runs = c.self.invariant.1 c.args.l below ∙ ap (λ (a : AwayState _). runs_of a c.args.l) c.self.view_is ∙ c.requires.runs in (
       c.send_reserved.ensures.ring_stays ∙ c.self.invariant.0,
-      running-sent _ _ _ _ (Stop c.args.l) (λ l. runs_in c.self.inside.coming.0 l) sends c.self.invariant.1 c.without_list-self-inside.ensures,
+      running-sent _ _ _ _ (Stop c.args.l) (λ l. runs_in c.self.inside.went.value.sampler l) sends c.self.invariant.1 c.without_list-self-inside.ensures,
       λ is. stop-leaves (has_list c.self.inside.running) (has_list c.without_list-self-inside.result) c.args.l _ _ below runs c.send_reserved.ensures.spent c.without_list-self-inside.ensures (c.self.invariant.2 is),
+      c.self.invariant.3,
+      c.self.invariant.4,
     )

@@ -1,15 +1,7 @@
 use Rattle.std.proofs.Common.{subst}
 use Rattle.tasks.specs.Tasks.{HeldState, ObeysNext}
-use Rattle.tasks.proofs.WayLemmas.{come-next, polled-obeys}
+use Rattle.tasks.proofs.WayLemmas.{polled-obeys}
 use Rattle.tasks.proofs.handed.Handed.obey_first.Goals as goal
-
--- a look at the ring of orders is a step of the sampler that went
-pub invariant_of-self : goal.invariant_of-self
-invariant_of-self g c =
-    come-next g.S.SendEnd g.S.End.RingEnd _ _ _ _ _ _ _
-    (polled-obeys g.S.SendEnd g.S.End.RingEnd _ _ _ _ _ c.poll_control.ensures.polled c.poll_control.ensures.orders
-    c.poll_control.ensures.set_up_stays c.poll_control.ensures.control_ring_stays)
-    c.self.invariant
 
 pub returns : goal.returns
 returns g c =

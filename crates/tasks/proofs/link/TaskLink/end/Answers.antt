@@ -1,7 +1,6 @@
-use Rattle.std.proofs.Common.{refl}
-use Rattle.tasks.proofs.HandLemmas.{taken-back}
+use Rattle.tasks.proofs.LineLemmas.{out-sent}
 use Rattle.tasks.proofs.link.TaskLink.end.Goals as goal
 
-pub returns-in-Some-clause-ends : goal.returns-in-Some-clause-ends
-returns-in-Some-clause-ends g c takes =
-    taken-back _ _ _ c.in-Some.handed c.self.view_is refl c.take.ensures.put_stays c.in-Some.ensures.some c.end_unordered.ensures
+pub invariant_of-self-else-recall : goal.invariant_of-self-else-recall
+invariant_of-self-else-recall g c =
+    out-sent _ _ c.self-2.inside.newer c.end_of.new.newer _ c.end_of.ensures c.self-2.invariant

@@ -1,9 +1,12 @@
-use Rattle.std.proofs.Common.{subst}
-use Rattle.tasks.specs.Tasks.{Steps, TaskState}
-use Rattle.tasks.proofs.TurnLemmas.{held-steps}
+use Rattle.std.proofs.Common.{Some, subst}
+use Rattle.tasks.specs.Inner.{ObeysAs}
+use Rattle.tasks.proofs.TurnLemmas.{ended-steps}
 use Rattle.tasks.proofs.task.Task.step.Goals as goal
 
-pub returns-clause-some : goal.returns-clause-some
-returns-clause-some g c is =
-    subst (λ (t : TaskState _). Steps g.S.SendEnd g.S.End.RingEnd t.held c.next_of.new.held t.came c.self.inside.coming.taken) c.self.view_is
-    (held-steps g.S.SendEnd g.S.End.RingEnd _ _ _ (c.next_of.ensures.some is))
+-- behind an order to end what is left was given back
+pub returns-in-Some-End-clause-some : goal.returns-in-Some-End-clause-some
+returns-in-Some-End-clause-some g c is =
+    ended-steps g.S.SendEnd g.S.End.RingEnd _ _ _
+    (subst (λ o. ObeysAs g.S.SendEnd g.S.End.RingEnd c.args.self.now c.obey.new.self (Some o))
+    c.in-Some-End.field-0-is c.in-Some-End.ensures)
+    c.give_back.ensures

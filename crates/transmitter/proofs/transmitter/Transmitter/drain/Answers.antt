@@ -7,7 +7,7 @@ use Rattle.transmitter.specs.Merge.{of_ring}
 use Rattle.transmitter.specs.Pumps.{PumpAnswers, Pumps}
 use Rattle.transmitter.specs.Rounds.{Drains}
 use Rattle.transmitter.specs.Written.{HasTaken, TransmitterState, transmission}
-use Rattle.transmitter.proofs.DrainLemmas.{all_taken, drain-more, first_look, looked-rings, one_round, pumped-rings, stopped_by, takes_some}
+use Rattle.transmitter.proofs.DrainLemmas.{all_taken, drain-more, first_look, looked-rings, one_round, pumped-rings, stopped_by, takes_one, takes_some}
 use Rattle.transmitter.proofs.RingLemmas.{ends_stay-more, same_count}
 use Rattle.transmitter.proofs.transmitter.Transmitter.drain.Goals as goal
 
@@ -48,7 +48,7 @@ loop-left-preserved g c =
     let pumps : Pumps b m p.taken c.in_ok-answer.field-0 = subst (PumpAnswers b m p.taken) c.in_ok-answer.was p.answers in
     let as_many : length d.known ≡ length b.known = same_count t.ring t.known c.after-left-in-loop-left.new.self.ends.items c.loop-left.self.ends.items rings in
     record {
-      emptying = one_round sent a b m d p.taken c.in_ok-answer.field-0 i.emptying p.leads p.rising pumps (record { same = e.looked; rest = λ k. e.left k ∙ ap (λ es. of_ring (sent_by es) k) i.ends.ends }) as_many;
+      emptying = one_round sent a b m d p.taken c.in_ok-answer.field-0 i.emptying p.leads p.rising pumps (record { same = e.looked; rest = λ k. e.left k ∙ ap (λ es. of_ring (sent_by es) k) i.ends.ends }) as_many (takes_one b m p.taken c.in_ok-answer.field-0 pumps (i.some c.loop-left-test.true));
       rings = rings ∙ i.rings;
       ends = ends_stay-more i.ends e.ends_stay;
       some = e.some;
@@ -94,6 +94,12 @@ returns-then-closed-clause-more g c = λ start ps h. ([], subst (HasTaken start 
 pub returns-in_err-answer-clause-more : goal.returns-in_err-answer-clause-more
 returns-in_err-answer-clause-more g c =
     drain-more (sent_by (map (joined g.T.End.RingEnd) c.args.ends.now)) _ (transmission g.O.Out g.T.TakeEnd c.after-left-in-loop-left.new.self) c.from_residual.result (returns-in_err-answer-clause-drains g c)
+
+-- nothing is left
+pub returns-clause-drains : goal.returns-clause-drains
+returns-clause-drains g c =
+    let sent = sent_by (map (joined g.T.End.RingEnd) c.args.ends.now) in
+    all_taken sent (transmission g.O.Out g.T.TakeEnd c.args.self.now) (transmission g.O.Out g.T.TakeEnd c.loop-left.self) c.loop-left.invariant.emptying (c.loop-left.invariant.none c.loop-left-test.false)
 
 pub returns-clause-more : goal.returns-clause-more
 returns-clause-more g c =

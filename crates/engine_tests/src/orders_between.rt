@@ -1,0 +1,251 @@
+//! Orders through a control ring, from another thread than the sampler's.
+ghost use Rattle.std.specs.Prelude.{◌≡◌, [], ◌∷◌, IfOk, IfSome};
+ghost use Rattle.transmitter.specs.Written.{transmission};
+
+use crate::same::same;
+use crate::stores::one_list;
+use byte_ring::ByteRing;
+use channel_ring::{RingEnd, SampleRing, SendEnd, TakeEnd};
+use control_ring::{ControlEnded, ControlRing, ControlSend, ControlTake, Order};
+use daq_engine::{Report, Ring, close, open_over};
+use frame_writer::{FrameWriter, Out, VecOut};
+use sampler::{Polled, Sampler, SamplerEnd};
+use std::alloc::Global;
+use std::process::Abort;
+use std::test::Fail;
+use std::thread::{self, Threads};
+use transmitter::Transmitter;
+
+/// How often the master tries to send an order.
+const TRIES: usize = 50;
+
+/// What comes back of a sampler's thread: what is left of the sampler, its end of the control ring,
+/// and the orders that it answered.
+type Sampled<E> = (Option<SamplerEnd<E>>, ControlTake, Vec<Order>);
+
+/// What comes back of a master's: what is left of its end of the control ring, the transmitter, and
+/// the orders that it sent.
+type Ordered<T> = (
+    Option<ControlEnded>,
+    Transmitter<VecOut<Global>, T>,
+    Vec<Order>,
+);
+
+/// The order that a look at the control ring took off.
+fn answered(polled: Polled) -> Option<Order> {
+    match polled {
+        Polled::Done(order) => Some(order),
+        Polled::Refused(order) => Some(order),
+        Polled::Nothing => None,
+        Polled::Waiting(_) => None,
+    }
+}
+
+/// A thousand triggers with a look at the control ring behind each; then the sampler is finished.
+/// Appends the orders that were answered.
+fn sample_all<S: SendEnd>(
+    sampler: Sampler<S>,
+    ctl: ControlTake,
+    orders: Vec<Order>,
+) -> Sampled<S::End>
+    ensures end { IfSome result.0 (λ end. S.End.ring end.end ≡ S.ring sampler.end) }
+    ensures control { result.1.ring ≡ ctl.ring }
+{
+    let mut sampler = sampler;
+    let mut ctl = ctl;
+    let mut orders = orders;
+    for number in 0..1000u16 {
+        let _ = sampler.trigger(&number.to_le_bytes(), 0);
+        if let Some(order) = answered(sampler.poll_control(&mut ctl)) {
+            let _ = orders.push(order);
+        }
+    }
+    (sampler.finish(), ctl, orders)
+}
+
+/// The order that is sent behind so many: a stop and a start of list 0 in turn.
+fn next_order(sent: usize) -> Order {
+    if sent % 2 == 0 {
+        Order::Stop(0)
+    } else {
+        Order::Start(0)
+    }
+}
+
+/// Tries to send the next order, and pumps behind each try. Appends the orders that were sent.
+fn order_all<T: TakeEnd>(
+    send: ControlSend,
+    transmitter: Transmitter<VecOut<Global>, T>,
+    orders: Vec<Order>,
+) -> Ordered<T>
+    ensures control { IfSome result.0 (λ end. end.ring ≡ send.ring) }
+    ensures rings { (transmission ⟦<VecOut<Global> as Out>⟧ T.TakeEnd result.1).rings
+        ≡ (transmission ⟦<VecOut<Global> as Out>⟧ T.TakeEnd transmitter).rings }
+{
+    let mut send = send;
+    let mut transmitter = transmitter;
+    let mut orders = orders;
+    for _ in 0..TRIES {
+        let order = next_order(orders.len());
+        if send.send(order).is_ok() {
+            let _ = orders.push(order);
+        }
+        let _ = transmitter.pump();
+    }
+    (send.finish(), transmitter, orders)
+}
+
+/// Runs a sampler in a thread of its own, and a master's orders beside it.
+fn sample_beside<R: Threads, S: SendEnd + Send, T: TakeEnd + Send>(
+    rt: &R,
+    sampling: (Sampler<S>, ControlTake, Vec<Order>),
+    ordering: (ControlSend, Transmitter<VecOut<Global>, T>, Vec<Order>),
+) -> (Sampled<S::End>, Ordered<T>)
+where
+    S::End: Send,
+    ensures end { IfSome result.0.0 (λ end. S.End.ring end.end ≡ S.ring sampling.0.end) }
+    ensures take { result.0.1.ring ≡ sampling.1.ring }
+    ensures ended { IfSome result.1.0 (λ end. end.ring ≡ ordering.0.ring) }
+    ensures rings { (transmission ⟦<VecOut<Global> as Out>⟧ T.TakeEnd result.1.1).rings
+        ≡ (transmission ⟦<VecOut<Global> as Out>⟧ T.TakeEnd ordering.1).rings }
+{
+    let (sampler, take, answered) = sampling;
+    let (send, transmitter, sent) = ordering;
+    thread::join(
+        rt,
+        || sample_all(sampler, take, answered),
+        || order_all(send, transmitter, sent),
+    )
+}
+
+/// Drains the ring of one sampler, and closes its engine.
+fn close_one<T: TakeEnd>(
+    alloc: Global,
+    transmitter: Transmitter<VecOut<Global>, T>,
+    end: SamplerEnd<T::End>,
+) -> Result<Report, Fail>
+    requires rings { (transmission ⟦<VecOut<Global> as Out>⟧ T.TakeEnd transmitter).rings
+        ≡ T.End.ring end.end ∷ [] }
+{
+    let mut transmitter = transmitter;
+    let mut ends = Vec::new(alloc);
+    ends.push(end)?;
+    transmitter.drain(ends.as_mut_slice())?;
+    match close(alloc, transmitter, ends) {
+        Ok((report, _out)) => Ok(report),
+        Err((fault, _, _)) => Err(Fail::from(fault)),
+    }
+}
+
+/// The orders that were answered, and behind them those that are left.
+fn with_left(ctl: ControlTake, end: ControlEnded, answered: Vec<Order>) -> Vec<Order>
+    requires one_ring { end.ring ≡ ctl.ring }
+{
+    let mut ctl = ctl;
+    let mut end = end;
+    let mut orders = answered;
+    let left = ctl.after(&mut end);
+    for _ in 0..left {
+        if let Some(order) = ctl.take() {
+            let _ = orders.push(order);
+        }
+    }
+    orders
+}
+
+/// Drains and closes, and compares the orders that were answered and left with those that were
+/// sent, and the account with itself. The first order is sent before the sampler's first look, so
+/// some are answered, however the threads run.
+fn settle<T: TakeEnd>(
+    rt: &impl Abort,
+    alloc: Global,
+    sampled: (SamplerEnd<T::End>, ControlTake, Vec<Order>),
+    ordered: (ControlEnded, Transmitter<VecOut<Global>, T>, Vec<Order>),
+    row: &str,
+) -> Result<(), Fail>
+    requires one_ring { ordered.0.ring ≡ sampled.1.ring }
+    requires rings { (transmission ⟦<VecOut<Global> as Out>⟧ T.TakeEnd ordered.1).rings
+        ≡ T.End.ring sampled.0.end ∷ [] }
+{
+    let (end, take, answered) = sampled;
+    let (ended, transmitter, sent) = ordered;
+    same(
+        rt,
+        answered.is_empty(),
+        false,
+        row,
+        "whether none is answered",
+    );
+    let report = close_one(alloc, transmitter, end)?;
+    let line = report.lists.first().copied().ok_or("no line")?;
+    let all = line.written.saturating_add(line.dropped);
+    same(rt, (all, line.left), (line.due, 0), row, "the account");
+    let orders = with_left(take, ended, answered);
+    same(rt, orders.as_slice(), sent.as_slice(), row, "the orders");
+    Ok(())
+}
+
+/// Runs a sampler in a thread of its own, and a master's orders beside it, through a control ring
+/// of four places, in which a stop waits before the threads start.
+fn orders_come_through<R, S, T>(
+    rt: &R,
+    alloc: Global,
+    sampler: Sampler<S>,
+    transmitter: Transmitter<VecOut<Global>, T>,
+    row: &str,
+) -> Result<(), Fail>
+where
+    R: Threads + Abort,
+    S: SendEnd + Send,
+    T: TakeEnd<End = S::End> + Send,
+    S::End: Send,
+    requires rings { (transmission ⟦<VecOut<Global> as Out>⟧ T.TakeEnd transmitter).rings
+        ≡ S.ring sampler.end ∷ [] }
+{
+    let (mut send, take) = ControlRing::new(alloc, 4)?;
+    let answered = Vec::with_capacity(alloc, TRIES)?;
+    let mut sent = Vec::with_capacity(alloc, TRIES)?;
+    let stop = Order::Stop(0);
+    same(rt, send.send(stop), Ok(()), row, "the first order");
+    sent.push(stop)?;
+    let sampling = (sampler, take, answered);
+    let ordering = (send, transmitter, sent);
+    let (sampled, ordered) = sample_beside(rt, sampling, ordering);
+    let (end, take, answered) = sampled;
+    let (ended, transmitter, sent) = ordered;
+    let end = end.ok_or("a sampler that isn't finished")?;
+    let ended = ended.ok_or("an end that isn't finished")?;
+    let ordered = (ended, transmitter, sent);
+    settle(rt, alloc, (end, take, answered), ordered, row)
+}
+
+/// The sampler of a store of one event channel, and the transmitter of its ring, which has `cap`
+/// units.
+fn one_of<K: Ring>(
+    alloc: Global,
+    cap: usize,
+) -> Result<(Sampler<K::Send>, Transmitter<VecOut<Global>, K::Take>), Fail>
+    ensures rings { IfOk result (λ r.
+        (transmission ⟦<VecOut<Global> as Out>⟧ K.Take.TakeEnd r.1).rings
+        ≡ K.Send.ring r.0.end ∷ []) }
+{
+    let store = one_list(alloc)?;
+    let writer = FrameWriter::new(VecOut::new(alloc));
+    let opened = open_over::<K, VecOut<Global>>(alloc, &store, &[cap], writer);
+    let Ok((mut samplers, transmitter)) = opened else {
+        return Err(Fail::from("not opened"));
+    };
+    if samplers.len() != 1 {
+        return Err(Fail::from("other than one sampler"));
+    }
+    let sampler = samplers.pop().ok_or("no sampler")?;
+    Ok((sampler, transmitter))
+}
+
+#[test]
+fn the_orders_of_a_master_come_through(rt: HostRuntime) -> Result<(), Fail> {
+    let (sampler, transmitter) = one_of::<SampleRing>(rt.alloc(), 4)?;
+    orders_come_through(&rt, rt.alloc(), sampler, transmitter, "4 places")?;
+    let (sampler, transmitter) = one_of::<ByteRing>(rt.alloc(), 532)?;
+    orders_come_through(&rt, rt.alloc(), sampler, transmitter, "532 bytes")
+}

@@ -1,0 +1,178 @@
+//! Ends that aren't those of an engine come back, and those that are close it.
+ghost use Rattle.std.specs.Prelude.{◌≡◌, IfOk, map, true};
+ghost use Rattle.transmitter.specs.Looks.{AreOfRings};
+ghost use Rattle.transmitter.specs.Written.{transmission};
+ghost use Rattle.daq_engine.specs.Configuration.{upto};
+
+use crate::same::same;
+use crate::stores::two_lists;
+use byte_ring::ByteRing;
+use channel_ring::{Beside, RingEnd, SampleRing, SendEnd, TakeEnd};
+use daq_engine::{CloseFault, Engine, ListReport, Ring, close, engine_over, finish_all};
+use frame_writer::{FrameWriter, Out, VecOut};
+use sampler::SamplerEnd;
+use std::alloc::Global;
+use std::process::Abort;
+use std::test::Fail;
+use transmitter::Transmitter;
+
+/// A transmitter that writes into memory.
+type Writing<T> = Transmitter<VecOut<Global>, T>;
+
+/// The event channels of ends, or `NONE` where there are fewer than three.
+type Channels = [u8; 3];
+
+const NONE: u8 = 0xFF;
+
+/// The frames of the first trigger of each event channel.
+const TWO_FRAMES: [u8; 14] = [3, 0, 0, 0, 0, 7, 8, 3, 0, 1, 0, 1, 9, 10];
+
+/// An engine of two event channels, each of which was triggered and pumped; then the first was
+/// triggered once more.
+fn triggered<K: Ring>(alloc: Global, cap: usize) -> Result<Engine<VecOut<Global>, K::Take>, Fail> {
+    let store = two_lists(alloc)?;
+    let writer = FrameWriter::new(VecOut::new(alloc));
+    let opened = engine_over::<K, VecOut<Global>>(alloc, &store, &[cap, cap], writer);
+    let Ok(mut engine) = opened else {
+        return Err(Fail::from("an engine that isn't opened"));
+    };
+    engine.trigger(0, &[7, 8], 0)?;
+    engine.trigger(1, &[9, 10], 0)?;
+    engine.pump()?;
+    engine.trigger(0, &[11, 12], 1)?;
+    Ok(engine)
+}
+
+/// What is left of the samplers of an engine, and the transmitter of their rings.
+fn finished<T: Beside>(
+    alloc: Global,
+    engine: Engine<VecOut<Global>, T>,
+) -> Result<(Vec<SamplerEnd<T::End>>, Writing<T>), Fail>
+where
+    T::Send: SendEnd<End = T::End>,
+    ensures rings { IfOk result (λ r. AreOfRings T.End.RingEnd
+        (transmission ⟦<VecOut<Global> as Out>⟧ T.TakeEnd r.1) r.0.items) }
+{
+    let (samplers, transmitter) = engine.into_parts();
+    let room = Vec::with_capacity(alloc, samplers.len())?;
+    match finish_all(samplers, room) {
+        Some(ends) => Ok((ends, transmitter)),
+        None => Err(Fail::from("a sampler that isn't finished")),
+    }
+}
+
+/// The event channels of at most three ends.
+fn channels_of<E>(ends: &[SamplerEnd<E>]) -> Channels {
+    let mut channels = [NONE; 3];
+    for (place, end) in ends.iter().enumerate() {
+        if place < 3 {
+            channels[place] = end.channel();
+        }
+    }
+    channels
+}
+
+/// Whether ends may be one of each of so many rings: they are as many, and the first is of event
+/// channel 0.
+fn may_fit<E>(ends: &[SamplerEnd<E>], rings: usize) -> bool
+    ensures { map (λ e. e.channel) ends.now ≡ upto 0 rings → result ≡ true }
+{
+    if ends.len() != rings {
+        return false;
+    }
+    if ends.is_empty() {
+        return true;
+    }
+    ends[0].channel() == 0
+}
+
+/// Hands ends to `close` that don't fit: compares the fault and the ends that come back.
+fn refused<T: TakeEnd>(
+    rt: &impl Abort,
+    alloc: Global,
+    transmitter: Writing<T>,
+    ends: Vec<SamplerEnd<T::End>>,
+    row: &str,
+) -> Result<(Writing<T>, Vec<SamplerEnd<T::End>>), Fail>
+    ensures back { IfOk result (λ r. (r.0 ≡ transmitter) × (r.1 ≡ ends)) }
+{
+    let before = channels_of(ends.as_slice());
+    if may_fit(ends.as_slice(), transmitter.rings()) {
+        return Err(Fail::from("ends that may fit"));
+    }
+    match close(alloc, transmitter, ends) {
+        Ok(_) => Err(Fail::from("closed")),
+        Err((fault, transmitter, ends)) => {
+            let shown = (fault, channels_of(ends.as_slice()));
+            same(
+                rt,
+                shown,
+                (CloseFault::WrongEnds, before),
+                row,
+                "fault, ends",
+            );
+            Ok((transmitter, ends))
+        }
+    }
+}
+
+/// Closes an engine with its own ends: compares its account and its bytes.
+fn closes<T: TakeEnd>(
+    rt: &impl Abort,
+    alloc: Global,
+    transmitter: Writing<T>,
+    ends: Vec<SamplerEnd<T::End>>,
+    row: &str,
+) -> Result<(), Fail>
+    requires rings { AreOfRings T.End.RingEnd
+        (transmission ⟦<VecOut<Global> as Out>⟧ T.TakeEnd transmitter) ends.items }
+{
+    let (report, out) = match close(alloc, transmitter, ends) {
+        Ok(closed) => closed,
+        Err((fault, _, _)) => return Err(Fail::from(fault)),
+    };
+    let line = |list, due, left| ListReport {
+        list,
+        due,
+        written: 1,
+        dropped: 0,
+        left,
+    };
+    let lines = report.lists.as_slice();
+    same(rt, lines, &[line(0, 2, 1), line(1, 1, 0)], row, "account");
+    same(rt, report.failed, false, row, "whether the writer failed");
+    same(rt, out.bytes(), &TWO_FRAMES, row, "bytes");
+    Ok(())
+}
+
+/// Hands an engine's `close` no end, one, three, two in falling order and two of one event channel,
+/// all of other engines; then its own.
+fn closes_with_its_own<K: Ring>(
+    rt: &impl Abort,
+    alloc: Global,
+    cap: usize,
+    row: &str,
+) -> Result<(), Fail> {
+    let (own, transmitter) = finished(alloc, triggered::<K>(alloc, cap)?)?;
+    let (mut ends, _) = finished(alloc, triggered::<K>(alloc, cap)?)?;
+    let (mut more, _) = finished(alloc, triggered::<K>(alloc, cap)?)?;
+    let (transmitter, _) = refused(rt, alloc, transmitter, Vec::new(alloc), row)?;
+    let second = ends.pop().ok_or("no end")?;
+    let (transmitter, mut ends) = refused(rt, alloc, transmitter, ends, row)?;
+    ends.push(second)?;
+    ends.push(more.pop().ok_or("no end")?)?;
+    let (transmitter, mut ends) = refused(rt, alloc, transmitter, ends, row)?;
+    let other = ends.pop().ok_or("no end")?;
+    ends.as_mut_slice().reverse();
+    let (transmitter, mut ends) = refused(rt, alloc, transmitter, ends, row)?;
+    let _ = ends.pop();
+    ends.push(other)?;
+    let (transmitter, _) = refused(rt, alloc, transmitter, ends, row)?;
+    closes(rt, alloc, transmitter, own, row)
+}
+
+#[test]
+fn ends_of_another_engine_come_back(rt: HostRuntime) -> Result<(), Fail> {
+    closes_with_its_own::<SampleRing>(&rt, rt.alloc(), 8, "a ring of samples")?;
+    closes_with_its_own::<ByteRing>(&rt, rt.alloc(), 532, "a ring of bytes")
+}

@@ -1,0 +1,51 @@
+//! What a gate is told of pumps: the whole answer of each, once.
+use crate::one_by_one::OneByOne;
+use crate::same::same;
+use crate::text::{TWO_LISTS, TWO_PLACES, TWO_RINGS_OF_BYTES, run_of};
+use daq_run::run_threads;
+use frame_writer::VecOut;
+use std::test::Fail;
+use transmitter::Pumped;
+
+/// Steps of one event channel. The last isn't looked at, since its thread may have ended before a
+/// pump finds what it sent.
+const STEPS: &str =
+    "steps = ['trigger 0 0 a0', 'stop 0 0', 'start 0 0', 'trigger 0 0 a1', 'trigger 0 0 a2']\n";
+
+/// A sample of one packet, the marker of list 0, nothing, and a sample.
+const WANTED: [Pumped; 4] = [
+    Pumped {
+        taken: 1,
+        frames: 1,
+        stopped: 0,
+    },
+    Pumped {
+        taken: 1,
+        frames: 0,
+        stopped: 1,
+    },
+    Pumped {
+        taken: 0,
+        frames: 0,
+        stopped: 0,
+    },
+    Pumped {
+        taken: 1,
+        frames: 1,
+        stopped: 0,
+    },
+];
+
+#[test]
+fn each_pump_is_told_once_with_its_whole_answer(rt: HostRuntime) -> Result<(), Fail> {
+    for rings in [TWO_PLACES, TWO_RINGS_OF_BYTES] {
+        let run = run_of(rt.alloc(), &[rings, TWO_LISTS, STEPS])?;
+        let gate = OneByOne::of(&WANTED);
+        let out = VecOut::new(rt.alloc());
+        if let Err((fault, _)) = run_threads(&rt, rt.alloc(), &run, out, &gate) {
+            return Err(Fail::from(fault));
+        }
+        same(&rt, gate.told(), (4, 0), rings, "told, otherwise");
+    }
+    Ok(())
+}
