@@ -21,6 +21,30 @@ pub positive : (n : ℕ) → ¬ (n ≡ 0) → 0 < n
 positive zero not = absurd (not refl)
 positive (suc n) not = omega arith
 
+module _ {T : Type 0} where
+  tail_of : List T → List T
+  tail_of [] = []
+  tail_of (x ∷ xs) = xs
+
+  drop-prefix : (n : ℕ) (xs ys : List T) → IsPrefix xs ys → IsPrefix (drop n xs) (drop n ys)
+  unfolding tail_of
+  drop-prefix zero xs ys pre = pre
+  drop-prefix (suc n) [] ys pre = (drop (suc n) ys, refl)
+  drop-prefix (suc n) (x ∷ xs) [] pre = absurd (omega (arith, ap length pre.1))
+  drop-prefix (suc n) (x ∷ xs) (y ∷ ys) pre = drop-prefix n xs ys (pre.0, ap tail_of pre.1)
+
+  -- what was fetched, behind what came back, is the first of what is out
+  pub first-out : (v w u : Known T) (had out : List T) (n m : ℕ) → IsPrefix v.fetched v.lent
+      → v.fetched ≡ w.fetched → v.lent ≡ u.lent → had ≡ w.fetched → out ≡ drop n u.lent
+      → m ≡ n → IsPrefix (drop m had) out
+  first-out v w u had out n m pre f l b o same =
+      let less = drop-prefix n v.fetched v.lent pre in (
+        less.0,
+        ap (λ xs. xs ++ less.0)
+            (ap (λ k. drop k had) same ∙ ap (λ xs. drop n xs) (b ∙ sym f))
+            ∙ less.1 ∙ ap (λ xs. drop n xs) l ∙ sym o,
+      )
+
 module _ {T L : Type 0} where
   pub lefts-append : (xs ys : List (Parcel T L)) → lefts (xs ++ ys) ≡ lefts xs ++ lefts ys
   lefts-append [] ys = refl

@@ -41,7 +41,8 @@ impl<T, L, R: Rule<T, L>> Model for Lender<T, L, R> {
 }
 
 impl<T: Drop, L: Drop, R: Rule<T, L>> Lender<T, L, R> {
-    ghost use Rattle.std.specs.Prelude.{◌≡◌, ◌<◌, [], ◌∷◌, ◌++◌, length};
+    ghost use Rattle.std.specs.Prelude.{◌≡◌, ◌<◌, [], ◌∷◌, ◌++◌, drop, length};
+    ghost use mathlib.Core.List.{IsPrefix};
     ghost use Rattle.std.specs.Prelude.{IfErr, IfSome, IsNone, IsSome, OnErr, OnOk};
     ghost use Rattle.hand_over.specs.Lines.{ComesBack};
 
@@ -84,13 +85,21 @@ impl<T: Drop, L: Drop, R: Rule<T, L>> Lender<T, L, R> {
     }
 
     /// Looks at all that was given back through the other end, which is beside. From then on each of
-    /// it is known to come.
+    /// it is known to come. What was fetched, and of which nothing came back, is the first of what is
+    /// out.
     pub fn beside(&mut self, borrower: &mut Borrower<T, L, R>)
         requires one_line { borrower.old.ring ≡ self.old.ring }
         ensures all { self.new.came ++ self.new.coming ≡ borrower.old.gave }
+        ensures fetched { IsPrefix (drop (length self.old.came) borrower.old.fetched) self.old.out }
         ensures rest_stays { self.new ≡ record self.old { coming = self.new.coming } }
         ensures borrower_stays { borrower.new ≡ borrower.old }
     {
         let _ = self.coming.slots_beside(&mut borrower.giving);
+        // for the proof: what the other end fetched is the first of what was lent
+        let before = self.place.another::<Shown>(&mut self.pass);
+        let shown = self.place.another::<Shown>(&mut borrower.pass);
+        self.place.absorb::<Shown>(&mut self.pass, shown);
+        self.place.learn_as::<Shown>(&mut self.pass);
+        self.place.absorb::<Shown>(&mut self.pass, before);
     }
 }

@@ -8,7 +8,7 @@ ghost use Rattle.slave_calls.specs.Tasks.{FinishesHeld, TriggersHeldTask};
 use byte_ring::ByteRing;
 use channel_ring::SampleRing;
 use handle_calls::{Handle, HeldRing, TakenOut};
-use slave_calls::{finish_task_by, trigger_task_by};
+use slave_calls::{finish_task_by, status_of_finish, trigger_task_by};
 use std::alloc::Global;
 
 /// Does all that the slave ordered, and then takes a trigger of the task's event channel, with the
@@ -37,7 +37,8 @@ pub extern "C" fn ng_task_trigger(
 #[unsafe(no_mangle)]
 pub extern "C" fn ng_task_finish(alloc: Global, task: &mut Handle) -> u32
     ensures { (status : StatusOf) × (result ≡ number_of status)
-        × FinishesHeld task.old.held task.new.held status }
+        × FinishesHeld ⟦<SampleRing as HeldRing>⟧.rings ⟦<ByteRing as HeldRing>⟧.rings
+        task.old.held task.new.held status }
 {
-    finish_task_by(alloc, task).number()
+    status_of_finish(finish_task_by(alloc, task)).number()
 }

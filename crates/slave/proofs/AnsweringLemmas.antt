@@ -23,8 +23,8 @@ use Rattle.slave.specs.Inner.{Answers, LaysReply, Settles}
 use Rattle.session_account.specs.Accounts.{AccountStandsAfter}
 use Rattle.slave.specs.Log.{Heard, HungUp, entries_of, is_out, late_of, past_of, reply_laid, sent_units, waits}
 use Rattle.slave.specs.Openings.{past_at}
-use Rattle.slave.specs.Standing.{SlaveState}
-use Rattle.slave.proofs.SettlingLemmas.{settled, settled-many, settled-opens, settled-out}
+use Rattle.slave.specs.Standing.{logged, SlaveState}
+use Rattle.slave.proofs.SettlingLemmas.{settled, settled-lines, settled-many, settled-opens, settled-out}
 use Rattle.slave.proofs.StandingLemmas.{starts-no-list}
 
 -- an allocation starts no list
@@ -84,6 +84,7 @@ module _ {S T F : Type 0} (take : TakeGhosts T F) where
         exchange = x;
         packet_is = refl;
         clock_is = refl;
+        lines = settled-lines take a.channels b.channels before now settles;
         goes = λ log lists few tie well has.
             let past = past_of d log in
             let (said, behind) = exchanges.answers past has.session in
@@ -102,7 +103,7 @@ module _ {S T F : Type 0} (take : TakeGhosts T F) where
                     (reply-laid a.outbox b.outbox reply (sent_units d log) (waits d log) lays has.outbox);
                 channels = λ c ch at. (both c ch at).0;
                 out = settled-out take a.channels b.channels before now (λ c m. is_out m c log) settles has.out;
-                opens = settled-opens take a.channels b.channels before now d (λ m. past_at d m log) settles has.opens;
+                as_logged = settled-opens take a.channels b.channels before now d (logged d log) settles has.as_logged;
                 many = settled-many take a.channels b.channels before now settles ∙ has.many;
                 plan = plan ∙ has.plan;
                 account = subst (λ z. AccountStandsAfter z (entries_of d log) (late_of d log)) (sym account) has.account;
@@ -117,7 +118,7 @@ module _ {S T F : Type 0} (take : TakeGhosts T F) where
       → ((past : Past) → SessionStandsAfter a.session past → (l : ℕ) → l < MAX_LISTS → has_list before l ≡ runs past l)
       → Settles take a.channels b.channels before 0 → b.outbox ≡ a.outbox → b.plan ≡ a.plan → b.account ≡ a.account → b.number ≡ a.number
       → PartsGoBy take a b (HungUp ∷ [])
-  hung-up a b before fresh profile was settles outbox plan account number = λ log few stands.
+  hung-up a b before fresh profile was settles outbox plan account number = (settled-lines take a.channels b.channels before 0 settles, λ log few stands.
       let d = a.session.profile in
       let past = past_of d log in
       let has = starts-no-list take d a log 0 (λ l below. empty_has_none l) stands.has in
@@ -134,14 +135,14 @@ module _ {S T F : Type 0} (take : TakeGhosts T F) where
           outbox = subst (λ o. OutboxStandsAfter o (sent_units d log) (waits d log)) (sym outbox) has.outbox;
           channels = λ c ch at. (both c ch at).0;
           out = settled-out take a.channels b.channels before 0 (λ c m. is_out m c log) settles stands.has.out;
-          opens = settled-opens take a.channels b.channels before 0 d (λ m. past_at d m log) settles stands.has.opens;
+          as_logged = settled-opens take a.channels b.channels before 0 d (logged d log) settles stands.has.as_logged;
           many = settled-many take a.channels b.channels before 0 settles ∙ stands.has.many;
           plan = plan ∙ has.plan;
           account = subst (λ z. AccountStandsAfter z (entries_of d log) (late_of d log)) (sym account) has.account;
           number = number ∙ has.number;
         };
         ended = λ quiet c ch at. (both c ch at).1 quiet;
-      }
+      })
 
   -- the same, step by step
   pub answered-by : (v w t b : SlaveState S T) (s : SessionState) (packet : List ℕ) (clock before now : ℕ) (reply : Option (List ℕ)) → w ≡ v

@@ -218,7 +218,7 @@ module _ {S T F : Type 0} (take : TakeGhosts T F) where
   ended-takes : (a b : Option (AwayState S)) → EndsUnordered a b → takes_orders b ≡ false
   ended-takes None b ends = elim ends [ ]
   ended-takes (Some x) None ends = elim ends [ ]
-  ended-takes (Some x) (Some y) ends = ap (λ (z : AwayState S). not z.ended) ends.rest
+  ended-takes (Some x) (Some y) ends = ap (λ (z : AwayState S). not z.ended) ends
 
   end-sent-takes : (a b : Option (AwayState S)) → SendsToNewest a b order.End → takes_orders b ≡ false
   end-sent-takes None b sends = elim sends [ ]

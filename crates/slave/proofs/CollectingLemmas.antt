@@ -64,7 +64,7 @@ idle-behind d past number b code opening acts are is =
 
 module _ {S T F : Type 0} (take : TakeGhosts T F) where
   pub collects-nothing : (a : SlaveState S T) → Collects take 0 a a
-  collects-nothing a = record { session = refl; outbox = refl; as_many = refl; number = refl; counted = refl; next = refl; acts = []; are = refl; few = omega arith; goes = λ log few stands. stands }
+  collects-nothing a = record { session = refl; outbox = refl; as_many = refl; number = refl; counted = refl; next = refl; acts = []; are = refl; few = omega arith; goes = (refl, λ log few stands. stands) }
 
   -- what came back at one event channel, if something did
   collects-some : {E : Type 0} (ring : EndGhosts E) (a b : SlaveState S T) (c : ℕ) (answer : Option (FinishedState E T)) → GivesBackBy take (PartsGoBy take) ring a b c answer → b.acts ≡ a.acts → b.next ≡ a.next → IfSome answer (IsFinished ring take) → Collects take 1 a b
@@ -93,13 +93,13 @@ module _ {S T F : Type 0} (take : TakeGhosts T F) where
     acts = two.acts ++ one.acts;
     are = list_all-append is_return two.acts one.acts ∙ ap (λ z. z && list_all is_return one.acts) two.are ∙ one.are;
     few = omega (arith, length-append two.acts one.acts, one.few, two.few);
-    goes = λ log few stands.
+    goes = (two.goes.0 ∙ one.goes.0, λ log few stands.
         let split = length-append two.acts one.acts in
         let profile = ap (λ (s : SessionState). s.profile) one.session in
-        let between = one.goes log (omega (arith, few, split)) stands in
+        let between = one.goes.1 log (omega (arith, few, split)) stands in
         subst (λ xs. PartsStandAfter take a.session.profile b xs) (sym (assoc two.acts one.acts log))
         (subst (λ p. PartsStandAfter take p b (two.acts ++ (one.acts ++ log))) profile
-        (two.goes (one.acts ++ log) (omega (arith, few, split, length-append one.acts log)) (subst (λ p. PartsStandAfter take p m (one.acts ++ log)) (sym profile) between)));
+        (two.goes.1 (one.acts ++ log) (omega (arith, few, split, length-append one.acts log)) (subst (λ p. PartsStandAfter take p m (one.acts ++ log)) (sym profile) between))));
   }
 
   -- no more than so many are no more than more
@@ -133,7 +133,7 @@ module _ {S T F : Type 0} (take : TakeGhosts T F) where
       let split = length-append opening acts in
       let same : m.session.profile ≡ a.session.profile = ap (λ (s : SessionState). s.profile) collects.session in
       record {
-        stands = subst (λ p. PartsStandAfter take p m (acts ++ log)) (sym same) (collects.goes log (omega (arith, few, split)) stands);
+        stands = subst (λ p. PartsStandAfter take p m (acts ++ log)) (sym same) (collects.goes.1 log (omega (arith, few, split)) stands);
         few = omega (arith, few, split, length-append acts log);
         lead = λ P p. subst (λ xs. P a.session.profile xs) (sym (assoc opening acts log)) (subst (λ q. P q (opening ++ (acts ++ log))) same p);
       }
@@ -144,6 +144,7 @@ module _ {S T F : Type 0} (take : TakeGhosts T F) where
     opening = p.opening ++ collects.acts;
     may_open = may-open-behind p.opening collects.acts p.may_open collects.are collects.few;
     for_some = inr some;
+    lines = p.lines ∙ collects.goes.0;
     in_one = λ log few stands.
         let way = between a m p.opening log collects few stands in
         way.lead (λ q xs. IsOfOne q xs lists) (p.in_one (collects.acts ++ log) way.few way.stands);
@@ -176,12 +177,12 @@ module _ {S T F : Type 0} (take : TakeGhosts T F) where
     sequence = λ log few stands.
         let way = between a m v.opening log collects few stands in
         way.lead (λ q xs. (code ≡ Sequence) ↔ HasOther q xs lists) (v.sequence (collects.acts ++ log) way.few way.stands);
-    goes = λ log few stands.
+    goes = (v.goes.0 ∙ collects.goes.0, λ log few stands.
         let acts = collects.acts in
         let split = length-append v.opening acts in
         let same : m.session.profile ≡ a.session.profile = ap (λ (s : SessionState). s.profile) collects.session in
         subst (λ xs. PartsStandAfter take a.session.profile b xs) (sym (assoc v.opening acts log))
         (subst (λ q. PartsStandAfter take q b (v.opening ++ (acts ++ log))) same
-        (v.goes (acts ++ log) (omega (arith, few, split, length-append acts log))
-        (subst (λ p. PartsStandAfter take p m (acts ++ log)) (sym same) (collects.goes log (omega (arith, few, split)) stands))));
+        (v.goes.1 (acts ++ log) (omega (arith, few, split, length-append acts log))
+        (subst (λ p. PartsStandAfter take p m (acts ++ log)) (sym same) (collects.goes.1 log (omega (arith, few, split)) stands)))));
   }

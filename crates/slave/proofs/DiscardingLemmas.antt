@@ -27,18 +27,20 @@ use Rattle.session_account.specs.Accounts.{AccountStandsAfter, AreTotals, Entry,
 use Rattle.session_account.specs.declared.totals.Totals.{Totals}
 use Rattle.slave_channel.specs.Channels.{ChannelState, GoesOnThere, ShareState}
 use Rattle.slave_channels.specs.Calls.{KeepsNoneOf}
-use Rattle.slave.specs.Hearing.{GoesBy}
+use Rattle.slave.specs.Hearing.{GoesBy, KeepsLines}
+use Rattle.slave_channels.specs.Calls.{rings_of}
+use Rattle.slave.proofs.KeepingLemmas.{lines-but}
 use Rattle.slave.specs.Inner.{LeavesFirst, LeavesOne, PartsGoBy, TellsAccount, TellsPart, left_deeds, left_late}
 use Rattle.slave.specs.Log.{Act, CameBack, Discarded, Heard, HungUp, Opened, Refused, Sent, Took, deeds_of, discarding, entries_of, is_late, is_of_ring, is_out, late_of, losing, opened, origins, past_of, reply_laid, sample_laid, sent_units, unsent_by, unsent_one, waits}
 use Rattle.slave.specs.Openings.{past_at}
-use Rattle.slave.specs.Standing.{ChannelHas, HasEnded, IsLog, IsOut, SlaveStandsAfter, SlaveState, StandsBy, number_of}
+use Rattle.slave.specs.Standing.{logged, ChannelHas, HasEnded, IsLog, IsOut, SlaveStandsAfter, SlaveState, StandsBy, number_of}
 use Rattle.slave.proofs.ChannelLemmas.{channel-same}
 use Rattle.slave.proofs.DeedLemmas.{deeds-and-waits-few, unsent-length}
 use Rattle.slave.proofs.OutLemmas.{opened-kept, out-kept, some-at}
 use Rattle.slave.proofs.SendingLemmas.{take-whole}
 use Rattle.slave.proofs.TakingLemmas.{ChangesAt, IsPart, channels-changed, newer-part, older-part, opened-changed, out-changed}
 use Rattle.session.specs.Past.{Past}
-use Rattle.tasks.specs.Links.{takes_orders}
+use Rattle.tasks.specs.Links.{LinkState, takes_orders}
 
 some_inj : {X : Type 0} (x y : X) → Some x ≡ Some y → x ≡ y
 some_inj x y e = cc
@@ -202,7 +204,7 @@ module _ {S T F : Type 0} (take : TakeGhosts T F) where
             (λ p kept stands. subst (StandsAfter take p.intake) (sym (deeds-more d log n c p.number x at)) (parts c ch p was kept stands))
             (λ l. ap (λ ds. runs_there ds l) (deeds-more d log n c _ x at) ∙ one-runs _ c x (left_deeds d log n c _) l) (has.channels c ch was);
         out = λ c ch there. has.out c ch (ap (λ zs. slice_get zs c) (sym channels) ∙ there);
-        opens = λ c ch there. has.opens c ch (ap (λ zs. slice_get zs c) (sym channels) ∙ there);
+        as_logged = λ c ch there. has.as_logged c ch (ap (λ zs. slice_get zs c) (sym channels) ∙ there);
         many = ap length channels ∙ has.many;
         plan = ap (λ (s : SlaveState S T). s.plan) rest ∙ has.plan;
         number = ap (λ (s : SlaveState S T). s.number) rest ∙ has.number;
@@ -357,7 +359,7 @@ module _ {S T F : Type 0} (take : TakeGhosts T F) where
         outbox = subst (λ z. OutboxStandsAfter z (sent_units d log) (waits d log)) (sym (ap (λ (s : SlaveState S T). s.outbox) tells.rest)) has.outbox;
         channels = channels-changed take count f g a b c x y changes (λ k q other. same k q (λ e z. other (sym z))) here has.channels;
         out = out-changed take (λ k q. is_out q k log) (λ k q. is_out q k log) a b c x y changes (λ k q other. refl) (out-kept (λ q. is_out q c log) x y told.part.keeps (has.out c x was)) has.out;
-        opens = opened-changed take d (λ q. past_at d q log) a b c x y changes (opened-kept d (λ q. past_at d q log) c x y told.part.keeps (has.opens c x was)) has.opens;
+        as_logged = opened-changed take d (logged d log) (logged d log) a b c x y changes (λ k ch other is. is) (opened-kept d (logged d log) c x y told.part.keeps (has.as_logged c x was)) has.as_logged;
         many = changes.as_many ∙ has.many;
         plan = changes.plan ∙ has.plan;
         number = changes.number ∙ has.number;
@@ -410,9 +412,24 @@ module _ {S T F : Type 0} (take : TakeGhosts T F) where
         ]
       ]
 
+  -- and each event channel is on its line
+  one-lines : (x : Origin) (a b : SlaveState S T) → LeavesOne take x a b → KeepsLines a b
+  one-lines origin.Reply a b same = ap (λ (s : SlaveState S T). rings_of s.channels) same
+  one-lines (origin.Sample m c l) a b leaves =
+      elim leaves [
+        | inl tells ↦
+            lines-but c a.channels b.channels tells.channels.as_many tells.channels.others
+            (λ u v at now. ap (λ (z : LinkState S). z.ring) (tells.channels.here u v at now).link)
+        | inr w ↦ elim w [
+          | inl tells ↦ ap (λ (s : SlaveState S T). rings_of s.channels) tells.rest
+          | inr v ↦ ap (λ (s : SlaveState S T). rings_of s.channels) v.1
+        ]
+      ]
+
   -- nothing yet
   pub leaves-none : (a : SlaveState S T) → LeavesFirst take 0 a a
   leaves-none a = record {
+    lines = refl;
     outbox = refl;
     session = refl;
     counted = refl;
@@ -427,7 +444,7 @@ module _ {S T F : Type 0} (take : TakeGhosts T F) where
           outbox = has.outbox;
           channels = has.channels;
           out = has.out;
-          opens = has.opens;
+          as_logged = has.as_logged;
           many = has.many;
           plan = has.plan;
           number = has.number;
@@ -441,6 +458,7 @@ module _ {S T F : Type 0} (take : TakeGhosts T F) where
   leaves-more n a s b x u at is leaves one =
       let (session, outbox, acts, next) = one-stays x s b one in
       record {
+        lines = one-lines x s b one ∙ leaves.lines;
         outbox = outbox ∙ leaves.outbox;
         session = session ∙ leaves.session;
         counted = acts ∙ leaves.counted;
@@ -482,7 +500,7 @@ module _ {S T F : Type 0} (take : TakeGhosts T F) where
   -- all of what waited was thrown away
   pub throws-away : (a s b : SlaveState S T) → LeavesFirst take (length a.outbox.units) a s → b ≡ record s { outbox = b.outbox }
       → ((sent wait : List Laid) → OutboxStandsAfter s.outbox sent wait → OutboxStandsAfter b.outbox sent []) → PartsGoBy take a b (Discarded ∷ [])
-  throws-away a s b leaves rest discards = λ log few stands.
+  throws-away a s b leaves rest discards = (ap (λ (z : SlaveState S T). rings_of z.channels) rest ∙ leaves.lines, λ log few stands.
       let d = a.session.profile in
       let os = origins (waits d log) in
       let has = leaves.leaves log few stands in
@@ -501,7 +519,7 @@ module _ {S T F : Type 0} (take : TakeGhosts T F) where
               channel-same take (opened log) (left_deeds d log (length a.outbox.units) c) (λ m. deeds_of d m c (Discarded ∷ log)) (λ m. ap (λ ys. unsent_by m c ys ++ deeds_of d m c log) all) ch
               (has.channels c ch (ap (λ zs. slice_get zs c) (sym channels) ∙ at));
           out = λ c ch at. has.out c ch (ap (λ zs. slice_get zs c) (sym channels) ∙ at);
-          opens = λ c ch at. has.opens c ch (ap (λ zs. slice_get zs c) (sym channels) ∙ at);
+          as_logged = λ c ch at. has.as_logged c ch (ap (λ zs. slice_get zs c) (sym channels) ∙ at);
           many = ap length channels ∙ has.many;
           plan = ap (λ (z : SlaveState S T). z.plan) rest ∙ has.plan;
           number = ap (λ (z : SlaveState S T). z.number) rest ∙ has.number;
@@ -509,15 +527,15 @@ module _ {S T F : Type 0} (take : TakeGhosts T F) where
               (same-unsent s.account (entries_of d log) (left_late d log (length a.outbox.units)) (late_of d (Discarded ∷ log)) (λ l below. ap (λ ys. late_of d log l + count_by (is_late log l) ys) all) has.account);
         };
         ended = λ none c ch at. leaves.ended log few stands none c ch (ap (λ zs. slice_get zs c) (sym channels) ∙ at);
-      }
+      })
 
   -- the master was lost, and then what waited was thrown away
   pub hung-up-and-thrown : (a m b : SlaveState S T) → GoesBy take a m (losing a.session.connected) → m.outbox ≡ a.outbox → m.session.profile ≡ a.session.profile → GoesBy take m b (discarding (has_waiting m.outbox))
       → GoesBy take a b (discarding (has_waiting a.outbox) ++ losing a.session.connected)
-  hung-up-and-thrown a m b loses outbox profile throws = λ log stands.
+  hung-up-and-thrown a m b loses outbox profile throws = (throws.0 ∙ loses.0, λ log stands.
       let d = a.session.profile in
       let lost = losing a.session.connected in
-      let between = subst (λ p. SlaveStandsAfter take p m (lost ++ log)) (sym profile) (loses log stands) in
-      let behind = subst (λ p. SlaveStandsAfter take p b (discarding (has_waiting m.outbox) ++ (lost ++ log))) profile (throws (lost ++ log) between) in
+      let between = subst (λ p. SlaveStandsAfter take p m (lost ++ log)) (sym profile) (loses.1 log stands) in
+      let behind = subst (λ p. SlaveStandsAfter take p b (discarding (has_waiting m.outbox) ++ (lost ++ log))) profile (throws.1 (lost ++ log) between) in
       subst (λ xs. SlaveStandsAfter take d b xs) (sym (append_assoc (discarding (has_waiting a.outbox)) lost log))
-      (subst (λ o. SlaveStandsAfter take d b (discarding (has_waiting o) ++ (lost ++ log))) outbox behind)
+      (subst (λ o. SlaveStandsAfter take d b (discarding (has_waiting o) ++ (lost ++ log))) outbox behind))

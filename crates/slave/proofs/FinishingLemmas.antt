@@ -12,6 +12,7 @@ use Rattle.channel_ring.specs.declared.ends.RingEnd.{Ghosts as EndGhosts}
 use Rattle.channel_ring.specs.declared.ends.TakeEnd.{Ghosts as TakeGhosts}
 use Rattle.channel_intake.specs.Deeds.{Deed}
 use Rattle.channel_intake.specs.Intakes.{StandsAfter}
+use Rattle.tasks.specs.Links.{is_out as is_away_out}
 use Rattle.tasks.specs.Links.{AwayState, LinkState, LooksAtNewest, is_running, runs_of, takes_orders}
 use Rattle.slave_channel.specs.Channels.{ChannelState, FinishedState, IsBackOf, IsPastOf, OpenedState, ShareState}
 use Rattle.slave_channels.specs.Calls.{GivesBackNewer, GivesBackOlder}
@@ -24,12 +25,14 @@ use Rattle.slave.specs.Log.{Act, CameBack, deeds_of, entries_of, has_part, is_ba
 use Rattle.daq_engine.specs.Openings.{IsOpeningOf}
 use Rattle.session.specs.declared.profile.Profile.{Profile}
 use Rattle.slave.specs.Openings.{IsOpenedAfter, IsOpeningAfter, past_at}
-use Rattle.slave.specs.Standing.{AreOpenedAfter, ChannelHas, ComesBack, IsLog, IsOut, PartsStandAfter, SlaveState, number_of, NoneRuns}
+use Rattle.slave.specs.Returns.{AreReturns, ends_in, returns_at}
+use Rattle.slave.proofs.ReturnLemmas.{none-ends, returned, returns-here, returns-other}
+use Rattle.slave.specs.Standing.{logged, IsAsLogged, ChannelHas, ComesBack, IsLog, IsOut, PartsStandAfter, SlaveState, number_of, NoneRuns}
 use Rattle.slave.proofs.DeedLemmas.{out-back}
 use Rattle.slave.proofs.OutLemmas.{some-at, opened_of}
 use Rattle.slave.proofs.WeightLemmas.{counted, recounted}
 use Rattle.slave.specs.declared.limits.TheConstants.{MOST_ACTS, PER_ACT, PER_PACKET}
-use Rattle.slave.proofs.TakingLemmas.{ChangesAt, channels-changed, ended-changed, out-changed, took-none, opened-changed}
+use Rattle.slave.proofs.TakingLemmas.{ChangesAt, channels-changed, ended-changed, lines-at, out-changed, took-none, opened-changed}
 use Rattle.slave.proofs.OpenedLemmas.{none-ran, opening-by}
 use Rattle.xcp_base.specs.declared.limits.TheConstants.{MAX_TAKEN}
 use Rattle.slave.proofs.StandingLemmas.{few-opened}
@@ -149,14 +152,22 @@ module _ {S T F : Type 0} (take : TakeGhosts T F) where
             ];
       }
 
+  -- at the other event channels nothing came back
+  elsewhere-logged : (d : Profile) (m c k : ℕ) (past : SamplerPast) (log : List Act) (ch : ChannelState S T) → (k ≡ c → ⊥) → IsAsLogged d (logged d log) k ch → IsAsLogged d (logged d (CameBack m c past ∷ log)) k ch
+  elsewhere-logged d m c k past log ch other is = record {
+    newer = is.newer;
+    older = is.older;
+    came = subst (λ pasts. AreReturns pasts (ends_in ch.link.came)) (sym (returns-other m c k past log other)) is.came;
+  }
+
   -- what is left of the sampler of a part came back
-  came-back : (a b : SlaveState S T) (c m : ℕ) (x y : ChannelState S T) (past : SamplerPast) → ChangesAt take a b c x y → b.outbox ≡ a.outbox
+  came-back : (a b : SlaveState S T) (c m : ℕ) (x y : ChannelState S T) (past : SamplerPast) → ChangesAt take a b c x y → y.link.ring ≡ x.link.ring → b.outbox ≡ a.outbox
       → ((log : List Act) → PartsStandAfter take a.session.profile a log → AccountStandsAfter b.account (record { past = past; deeds = deeds_of a.session.profile m c log } ∷ entries_of a.session.profile log) (late_of a.session.profile log)
       × ComesBack a.session.profile log m c past
       × ChannelHas take (opened log) (λ q. deeds_of a.session.profile q c log) y × IsOut (λ q. is_out q c (CameBack m c past ∷ log)) y
-      × AreOpenedAfter a.session.profile (λ q. past_at a.session.profile q log) c y)
+      × IsAsLogged a.session.profile (logged a.session.profile (CameBack m c past ∷ log)) c y)
       → PartsGoBy take a b (CameBack m c past ∷ [])
-  came-back a b c m x y past changes outbox known = λ log few stands.
+  came-back a b c m x y past changes line outbox known = (lines-at take a b c x y changes line, λ log few stands.
       let d = a.session.profile in
       let has = stands.has in
       let (account, comes, here, out, opens) = known log stands in
@@ -171,14 +182,14 @@ module _ {S T F : Type 0} (take : TakeGhosts T F) where
           channels = channels-changed take (opened log) (λ k q. deeds_of d q k log) (λ k q. deeds_of d q k log) a b c x y changes (λ k q other. refl) here has.channels;
           out = out-changed take (λ k q. is_out q k log) (λ k q. is_out q k (CameBack m c past ∷ log)) a b c x y changes
               (λ k q other. ap (λ e. has_part q k log && not e) (elsewhere m q c k (is_back q k log) (λ e. other (sym e)))) out has.out;
-          opens = opened-changed take d (λ q. past_at d q log) a b c x y changes opens has.opens;
+          as_logged = opened-changed take d (logged d log) (logged d (CameBack m c past ∷ log)) a b c x y changes (λ k ch other is. elsewhere-logged d m c k past log ch other is) opens has.as_logged;
           many = changes.as_many ∙ has.many;
           plan = changes.plan ∙ has.plan;
           account = account;
           number = changes.number ∙ has.number;
         };
         ended = ended-changed take a b c x y (past_of d log) changes stands.ended;
-      }
+      })
 
 module _ {E T F : Type 0} {ring : EndGhosts E} (take : TakeGhosts T F) where
   -- the opening of what came back, by the log
@@ -197,24 +208,24 @@ module _ {S E T F : Type 0} (send : SendGhosts S E) (ring : EndGhosts E) (take :
   note-some a b answer f notes at = subst (λ z. Notes ring take a b z) at notes
 
   -- what came back is of a part that was kept
-  back-part : (o : Option (AwayState S)) (p : Option (ShareState T)) (f : FinishedState E T) → IsBackOf send ring take o p f → (s : ShareState T) × (p ≡ Some s) × (f.number ≡ s.number)
-  back-part None p f back = elim back [ ]
-  back-part (Some a) None f back = elim back [ ]
-  back-part (Some a) (Some s) f back = (s, refl, back.number)
+  back-part : (u v : LinkState S) (o : Option (AwayState S)) (p : Option (ShareState T)) (f : FinishedState E T) → IsBackOf send ring take u v o p f → (s : ShareState T) × (p ≡ Some s) × (f.number ≡ s.number)
+  back-part u v None p f back = elim back [ ]
+  back-part u v (Some a) None f back = elim back [ ]
+  back-part u v (Some a) (Some s) f back = (s, refl, back.number)
 
   -- the intake of what came back goes on from that of its part
-  back-stands : (o : Option (AwayState S)) (p : Option (ShareState T)) (f : FinishedState E T) → IsBackOf send ring take o p f → (deeds : ℕ → List Deed)
+  back-stands : (u v : LinkState S) (o : Option (AwayState S)) (p : Option (ShareState T)) (f : FinishedState E T) → IsBackOf send ring take u v o p f → (deeds : ℕ → List Deed)
       → ((s : ShareState T) → p ≡ Some s → StandsAfter take s.intake (deeds s.number)) → StandsAfter take f.intake (deeds f.number)
-  back-stands None p f back deeds part = elim back [ ]
-  back-stands (Some a) None f back deeds part = elim back [ ]
-  back-stands (Some a) (Some s) f back deeds part = subst (λ k. StandsAfter take f.intake (deeds k)) (sym back.number) (back.follows.stands (deeds s.number) (part s refl))
+  back-stands u v None p f back deeds part = elim back [ ]
+  back-stands u v (Some a) None f back deeds part = elim back [ ]
+  back-stands u v (Some a) (Some s) f back deeds part = subst (λ k. StandsAfter take f.intake (deeds k)) (sym back.number) (back.follows.stands (deeds s.number) (part s refl))
 
   -- what came back was opened as its part
-  back-opened : (o : Option (AwayState S)) (p : Option (ShareState T)) (f : FinishedState E T) → IsBackOf send ring take o p f → (P : ℕ → OpenedState → Type 0)
+  back-opened : (u v : LinkState S) (o : Option (AwayState S)) (p : Option (ShareState T)) (f : FinishedState E T) → IsBackOf send ring take u v o p f → (P : ℕ → OpenedState → Type 0)
       → ((s : ShareState T) → p ≡ Some s → P s.number s.opened) → P f.number f.opened
-  back-opened None p f back P part = elim back [ ]
-  back-opened (Some a) None f back P part = elim back [ ]
-  back-opened (Some a) (Some s) f back P part = subst (λ k. P k f.opened) (sym back.number) (subst (P s.number) (sym back.opened) (part s refl))
+  back-opened u v None p f back P part = elim back [ ]
+  back-opened u v (Some a) None f back P part = elim back [ ]
+  back-opened u v (Some a) (Some s) f back P part = subst (λ k. P k f.opened) (sym back.number) (subst (P s.number) (sym back.opened) (part s refl))
 
   older-gone : (x y : ChannelState S T) (answer : Option (FinishedState E T)) → GivesBackOlder send ring take answer x y → (p : ShareState T) → y.older ≡ Some p → x.older ≡ Some p
   older-gone x y None gives p is = sym (gives.none refl).0 ∙ is
@@ -231,7 +242,7 @@ module _ {S E T F : Type 0} (send : SendGhosts S E) (ring : EndGhosts E) (take :
   looks-off (Some x) (Some y) looks off = ap (λ (z : AwayState S). takes_orders (Some z)) looks.rest ∙ off
 
   newer-off : (x y : ChannelState S T) (answer : Option (FinishedState E T)) → GivesBackNewer send ring take answer x y → takes_orders x.link.newer ≡ false → takes_orders y.link.newer ≡ false
-  newer-off x y None gives off = looks-off x.link.newer y.link.newer (gives.none refl).1 off
+  newer-off x y None gives off = looks-off x.link.newer y.link.newer (gives.none refl).1.looked off
   newer-off x y (Some f) gives off = ap takes_orders (gives.some refl).0
 
   pub gives-older : (v w : SlaveState S T) (xs : List (ChannelState S T)) (account : List Totals) (c : ℕ) (answer : Option (FinishedState E T)) → w ≡ v → Notes ring take w.account account answer → c < length w.channels
@@ -242,13 +253,13 @@ module _ {S E T F : Type 0} (send : SendGhosts S E) (ring : EndGhosts E) (take :
       let one = only.here x y was is in
       let d = w.session.profile in
       let b : SlaveState S T = record w { channels = xs; account = account } in
-      let link : y.link.newer ≡ x.link.newer = ap (λ (l : LinkState S). l.newer) one.rest.0 in
+      let link : y.link.newer ≡ x.link.newer = ap (λ (l : LinkState S). l.newer) one.link in
       let changes : ChangesAt take w b c x y = record { was = was; is = is; others = only.others; as_many = only.as_many; quiet = λ off. ap takes_orders link ∙ off; session = refl; plan = refl; number = refl } in
-      let back = λ (f : FinishedState E T) (at : answer ≡ Some f). if-some (IsBackOf send ring take x.link.older x.older) answer f one.back at in
+      let back = λ (f : FinishedState E T) (at : answer ≡ Some f). if-some (IsBackOf send ring take x.link y.link x.link.older x.older) answer f one.back at in
       let intake = λ (f : FinishedState E T) (at : answer ≡ Some f) (log : List Act) (stands : PartsStandAfter take d w log).
-      back-stands x.link.older x.older f (back f at) (λ m. deeds_of d m c log) (λ s there. ((stands.has.channels c x was).older s there).0.stands) in
+      back-stands x.link y.link x.link.older x.older f (back f at) (λ m. deeds_of d m c log) (λ s there. ((stands.has.channels c x was).older s there).0.stands) in
       let opens = λ (f : FinishedState E T) (at : answer ≡ Some f) (log : List Act) (stands : PartsStandAfter take d w log).
-      back-opened x.link.older x.older f (back f at) (λ m o. IsOpenedAfter d (past_at d m log) c o) (stands.has.opens c x was).older in
+      back-opened x.link y.link x.link.older x.older f (back f at) (λ m o. IsOpenedAfter d (past_at d m log) c o) (stands.has.as_logged c x was).older in
       subst (λ (z : SlaveState S T). GivesBackBy take (PartsGoBy take) ring z b c answer) same
       (record {
         session = refl;
@@ -257,16 +268,18 @@ module _ {S E T F : Type 0} (send : SendGhosts S E) (ring : EndGhosts E) (take :
         number = refl;
         none = λ nothing.
             took-none take w b c x y (Unit {0}) changes (record {
-              newer = ap (λ (o : Option (ShareState T)). number_of o) one.rest.1;
+              newer = ap (λ (o : Option (ShareState T)). number_of o) one.newer;
               older = ap (λ (o : Option (ShareState T)). number_of o) (one.none nothing).0;
-              newer_opened = ap (λ (o : Option (ShareState T)). opened_of o) one.rest.1;
+              newer_opened = ap (λ (o : Option (ShareState T)). opened_of o) one.newer;
               older_opened = ap (λ (o : Option (ShareState T)). opened_of o) (one.none nothing).0;
+              came = none-ends x.link y.link false x.link.older y.link.older (one.none nothing).1;
+              ring = ap (λ (l : LinkState S). l.ring) one.link;
             }) refl (note-none w.account account answer notes nothing) (λ log z. tt)
-            (λ n f u has. channel-without-older take n f x y (older-gone x y answer one) one.rest.1 link has);
+            (λ n f u has. channel-without-older take n f x y (older-gone x y answer one) one.newer link has);
         some = told _ answer
             (λ f at past is_past.
-            let (s, there, number) = back-part x.link.older x.older f (back f at) in
-            came-back take w b c f.number x y past changes refl
+            let (s, there, number) = back-part x.link y.link x.link.older x.older f (back f at) in
+            came-back take w b c f.number x y past changes (ap (λ (l : LinkState S). l.ring) one.link) refl
             (λ log stands.
             let has = stands.has.channels c x was in
             let part = has.older s there in
@@ -283,10 +296,10 @@ module _ {S E T F : Type 0} (send : SendGhosts S E) (ring : EndGhosts E) (take :
                 front = is_past.front (deeds_of d f.number c log) (intake f at log stands);
                 marks = is_past.marks (deeds_of d f.number c log) (intake f at log stands);
               },
-              channel-without-older take (opened log) (λ m. deeds_of d m c log) x y (older-gone x y answer one) one.rest.1 link has,
+              channel-without-older take (opened log) (λ m. deeds_of d m c log) x y (older-gone x y answer one) one.newer link has,
               subst (λ k. IsOut (λ q. has_part q c log && not ((nat_eq k q && nat_eq c c) || is_back q c log)) y) (sym number)
-                  (out-without-older take (opened log) (λ m. deeds_of d m c log) x y s c (λ q. has_part q c log) (λ q. is_back q c log) there (one.some (is-some answer f at)).1 one.rest.1 has out),
-              record { newer = λ p is. (stands.has.opens c x was).newer p (sym one.rest.1 ∙ is); older = λ p is. (stands.has.opens c x was).older p (older-gone x y answer one p is) },
+                  (out-without-older take (opened log) (λ m. deeds_of d m c log) x y s c (λ q. has_part q c log) (λ q. is_back q c log) there (one.some (is-some answer f at)).1 one.newer has out),
+              record { newer = λ p is. (stands.has.as_logged c x was).newer p (sym one.newer ∙ is); older = λ p is. (stands.has.as_logged c x was).older p (older-gone x y answer one p is); came = subst (λ pasts. AreReturns pasts (ends_in y.link.came)) (sym (returns-here f.number c past log)) (returned send ring take x.link y.link x.link.older x.older f past (returns_at c log) (back f at) is_past (stands.has.as_logged c x was).came) },
             )));
         finished = told (IsFinishedOf take w c) answer (λ f at log stands. intake f at log stands);
         opened = told (IsOpenedThere take w c) answer (λ f at log stands. opens f at log stands);
@@ -323,11 +336,11 @@ module _ {S E T F : Type 0} (send : SendGhosts S E) (ring : EndGhosts E) (take :
       let d = w.session.profile in
       let b : SlaveState S T = record w { channels = xs; account = account } in
       let changes : ChangesAt take w b c x y = record { was = was; is = is; others = only.others; as_many = only.as_many; quiet = λ off. newer-off x y answer one off; session = refl; plan = refl; number = refl } in
-      let back = λ (f : FinishedState E T) (at : answer ≡ Some f). if-some (IsBackOf send ring take x.link.newer x.newer) answer f one.back at in
+      let back = λ (f : FinishedState E T) (at : answer ≡ Some f). if-some (IsBackOf send ring take x.link y.link x.link.newer x.newer) answer f one.back at in
       let intake = λ (f : FinishedState E T) (at : answer ≡ Some f) (log : List Act) (stands : PartsStandAfter take d w log).
-      back-stands x.link.newer x.newer f (back f at) (λ m. deeds_of d m c log) (λ s there. ((stands.has.channels c x was).newer s there).stands) in
+      back-stands x.link y.link x.link.newer x.newer f (back f at) (λ m. deeds_of d m c log) (λ s there. ((stands.has.channels c x was).newer s there).stands) in
       let opens = λ (f : FinishedState E T) (at : answer ≡ Some f) (log : List Act) (stands : PartsStandAfter take d w log).
-      back-opened x.link.newer x.newer f (back f at) (λ m o. IsOpenedAfter d (past_at d m log) c o) (stands.has.opens c x was).newer in
+      back-opened x.link y.link x.link.newer x.newer f (back f at) (λ m o. IsOpenedAfter d (past_at d m log) c o) (stands.has.as_logged c x was).newer in
       let now = over-now w c x over was in
       let ended = λ (log : List Act) (stands : PartsStandAfter take d w log). (now log stands).0 in
       subst (λ (z : SlaveState S T). GivesBackBy take (PartsGoBy take) ring z b c answer) same
@@ -339,15 +352,17 @@ module _ {S E T F : Type 0} (send : SendGhosts S E) (ring : EndGhosts E) (take :
         none = λ nothing.
             took-none take w b c x y (takes_orders x.link.newer ≡ false) changes (record {
               newer = ap (λ (o : Option (ShareState T)). number_of o) (one.none nothing).0;
-              older = ap (λ (o : Option (ShareState T)). number_of o) one.rest.1;
+              older = ap (λ (o : Option (ShareState T)). number_of o) one.older;
               newer_opened = ap (λ (o : Option (ShareState T)). opened_of o) (one.none nothing).0;
-              older_opened = ap (λ (o : Option (ShareState T)). opened_of o) one.rest.1;
+              older_opened = ap (λ (o : Option (ShareState T)). opened_of o) one.older;
+              came = none-ends x.link y.link (is_away_out x.link.older) x.link.newer y.link.newer (one.none nothing).1;
+              ring = ap (λ (l : LinkState S). l.ring) one.link;
             }) refl (note-none w.account account answer notes nothing) ended
-            (λ n f off has. channel-without-newer take n f x y off (newer-off x y answer one off) (newer-gone x y answer one) one.rest.1 has);
+            (λ n f off has. channel-without-newer take n f x y off (newer-off x y answer one off) (newer-gone x y answer one) one.older has);
         some = told _ answer
             (λ f at past is_past.
-            let (s, there, number) = back-part x.link.newer x.newer f (back f at) in
-            came-back take w b c f.number x y past changes refl
+            let (s, there, number) = back-part x.link y.link x.link.newer x.newer f (back f at) in
+            came-back take w b c f.number x y past changes (ap (λ (l : LinkState S). l.ring) one.link) refl
             (λ log stands.
             let has = stands.has.channels c x was in
             let part = has.newer s there in
@@ -365,10 +380,10 @@ module _ {S E T F : Type 0} (send : SendGhosts S E) (ring : EndGhosts E) (take :
                 front = is_past.front (deeds_of d f.number c log) (intake f at log stands);
                 marks = is_past.marks (deeds_of d f.number c log) (intake f at log stands);
               },
-              channel-without-newer take (opened log) (λ m. deeds_of d m c log) x y off (newer-off x y answer one off) (newer-gone x y answer one) one.rest.1 has,
+              channel-without-newer take (opened log) (λ m. deeds_of d m c log) x y off (newer-off x y answer one off) (newer-gone x y answer one) one.older has,
               subst (λ k. IsOut (λ q. has_part q c log && not ((nat_eq k q && nat_eq c c) || is_back q c log)) y) (sym number)
-                  (out-without-newer take (opened log) (λ m. deeds_of d m c log) x y s c (λ q. has_part q c log) (λ q. is_back q c log) there (one.some (is-some answer f at)).1 one.rest.1 has out),
-              record { newer = λ p is. (stands.has.opens c x was).newer p (newer-gone x y answer one p is); older = λ p is. (stands.has.opens c x was).older p (sym one.rest.1 ∙ is) },
+                  (out-without-newer take (opened log) (λ m. deeds_of d m c log) x y s c (λ q. has_part q c log) (λ q. is_back q c log) there (one.some (is-some answer f at)).1 one.older has out),
+              record { newer = λ p is. (stands.has.as_logged c x was).newer p (newer-gone x y answer one p is); older = λ p is. (stands.has.as_logged c x was).older p (sym one.older ∙ is); came = subst (λ pasts. AreReturns pasts (ends_in y.link.came)) (sym (returns-here f.number c past log)) (returned send ring take x.link y.link x.link.newer x.newer f past (returns_at c log) (back f at) is_past (stands.has.as_logged c x was).came) },
             )));
         finished = told (IsFinishedOf take w c) answer (λ f at log stands. intake f at log stands);
         opened = told (IsOpenedThere take w c) answer (λ f at log stands. opens f at log stands);
@@ -406,4 +421,4 @@ module _ {S E T F : Type 0} (ring : EndGhosts E) (take : TakeGhosts T F) where
 
   -- nothing was looked at
   pub gives-nothing : (a : SlaveState S T) (c : ℕ) → GivesBack take ring a a c None
-  gives-nothing a c = record { session = refl; outbox = refl; as_many = refl; number = refl; none = λ is log stands. stands; some = tt; finished = tt; opened = tt }
+  gives-nothing a c = record { session = refl; outbox = refl; as_many = refl; number = refl; none = λ is. (refl, λ log stands. stands); some = tt; finished = tt; opened = tt }

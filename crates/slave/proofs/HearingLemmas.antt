@@ -11,6 +11,7 @@ use Rattle.session.specs.Standing.{SessionStandsAfter, SessionState}
 use Rattle.session.specs.Exchanges.{Exchange}
 use Rattle.session.specs.Starts.{is_on, starts}
 use Rattle.slave_channel.specs.Channels.{ChannelState}
+use Rattle.slave_channels.specs.Calls.{rings_of}
 use Rattle.slave.specs.Hearing.{FindsNoPlaces, GoesBy, Hears, most_before, HasNoRoom, IsIdleRefusal}
 use Rattle.session.specs.declared.profile.Profile.{Profile}
 use Rattle.slave.specs.Inner.{Answers, PartsGoBy, counting, AreAsOpened, HasOther, HasParts, IsOfOne, LaysReply, Prepares, SlaveStarted, StartsInVain, WantsPlaces}
@@ -108,7 +109,7 @@ module _ {S T F : Type 0} (take : TakeGhosts T F) where
             ];
         places = λ log stands run code is other. absurd (not-refused answers.exchange packet code is);
         when_idle = λ log stands none code is. absurd (not-refused answers.exchange packet code is);
-        goes = goes-counted a b (Heard answers.exchange) prepares.opening fits counts prepares.may_open.few (λ log few stands.
+        goes = goes-counted a b (Heard answers.exchange) prepares.opening fits counts prepares.may_open.few (answers.lines ∙ prepares.lines, λ log few stands.
             let before = prepares.opening ++ log in
             let has = prepares.goes log (omega (arith, few)) stands in
             subst (λ p. PartsStandAfter take p b (Heard answers.exchange ∷ before)) profile
@@ -144,9 +145,9 @@ module _ {S T F : Type 0} (take : TakeGhosts T F) where
         when_idle = λ log stands none named is.
             idle-refused a.session.profile (past_of d log) a.number k (counting b PER_PACKET) named vain.opening channels
             (subst (λ z. IsIdleRefusal d (past_of d log) a.number k z vain.opening) (code-of packet code named is) (vain.when_idle (past_of d log) stands.parts.has.session none));
-        goes = goes-counted a b (Refused packet code) vain.opening fits (ap (λ (s : SlaveState S T). s.acts) rest ∙ counts) vain.may_open.few (λ log few stands.
+        goes = goes-counted a b (Refused packet code) vain.opening fits (ap (λ (s : SlaveState S T). s.acts) rest ∙ counts) vain.may_open.few (ap rings_of channels ∙ vain.goes.0, λ log few stands.
             let before = vain.opening ++ log in
-            let was = vain.goes log (omega (arith, few)) stands in
+            let was = vain.goes.1 log (omega (arith, few)) stands in
             let has = was.has in
             let tie : (l : ℕ) → l < MAX_LISTS → has_list lists l ≡ starts d (past_of d before) packet l =
             λ l below. are (past_of d before) (subst (λ s. SessionStandsAfter s (past_of d before)) same has.session) l below in
@@ -167,7 +168,7 @@ module _ {S T F : Type 0} (take : TakeGhosts T F) where
                 outbox = reply-laid k.outbox b.outbox reply (sent_units d before) (waits d before) lays has.outbox;
                 channels = λ c ch at. has.channels c ch (ap (λ xs. slice_get xs c) (sym channels) ∙ at);
                 out = λ c ch at. has.out c ch (ap (λ xs. slice_get xs c) (sym channels) ∙ at);
-                opens = λ c ch at. has.opens c ch (ap (λ xs. slice_get xs c) (sym channels) ∙ at);
+                as_logged = λ c ch at. has.as_logged c ch (ap (λ xs. slice_get xs c) (sym channels) ∙ at);
                 many = ap length channels ∙ has.many;
                 plan = ap (λ (s : SlaveState S T). s.plan) rest ∙ has.plan;
                 account = subst (λ x. AccountStandsAfter x (entries_of d before) (late_of d before)) (sym (ap (λ (s : SlaveState S T). s.account) rest)) has.account;

@@ -1,4 +1,5 @@
 pub mod RunLemmas
+pub mod KeepingLemmas
 pub mod OutLemmas
 pub mod StartLemmas
 pub mod CollectingLemmas
@@ -30,6 +31,9 @@ pub mod HearingLemmas
 pub mod SettleLemmas
 pub mod TakingLemmas
 pub mod SendingLemmas
+pub mod ReturnLemmas
+pub mod QuietLemmas
+pub mod GatheringLemmas
 pub mod NewLemmas
 pub mod FinishingLemmas
 pub mod WeightLemmas

@@ -1,8 +1,9 @@
 -- A slave that was just opened.
-use Rattle.std.proofs.Common.{◌≡◌, ℕ, zero, suc, List, [], length, replicate, slice_get, refl, sym, ap, ◌∙◌, subst, arith, false}
+use Rattle.std.proofs.Common.{◌≡◌, ℕ, List, [], ◌∷◌, length, map, slice_get, refl, sym, ap, ◌∙◌, subst, arith, false}
 use Rattle.std.specs.Prelude.{Some, None}
 use Rattle.std.proofs.lemmas.Bool.{false≢true}
-use Rattle.std.proofs.lemmas.List.{length-replicate}
+use Rattle.std.proofs.lemmas.List.{length-map}
+use Rattle.channel_ring.specs.Ends.{RingName}
 use Rattle.channel_ring.specs.declared.ends.TakeEnd.{Ghosts as TakeGhosts}
 use Rattle.daq_store.specs.Configuration.{Configuration}
 use Rattle.session.specs.Past.{new_past}
@@ -11,27 +12,33 @@ use Rattle.session.specs.declared.profile.Profile.{Profile}
 use Rattle.frame_outbox.specs.Outboxes.{OutboxState}
 use Rattle.frame_outbox.specs.Outboxes.{StandsAfter as OutboxStandsAfter}
 use Rattle.tasks.specs.Links.{takes_orders}
-use Rattle.slave_channel.specs.Channels.{ChannelState}
-use Rattle.slave_channels.specs.Calls.{no_measurement}
+use Rattle.slave_channel.specs.Channels.{ChannelState, no_measurement}
+use Rattle.slave_channels.specs.Calls.{AreNew, rings_of}
+use Rattle.slave_channels.proofs.NewLemmas.{at-map}
+use Rattle.tasks.specs.Tasks.{TaskState, just_begun}
 use Rattle.slave.specs.Log.{deeds_of}
 use Rattle.session_account.specs.Accounts.{AccountStandsAfter}
 use Rattle.session_account.specs.declared.totals.Totals.{Totals}
-use Rattle.slave.specs.Standing.{ChannelHas, IsOut, PartsStandAfter, SlaveStandsAfter, AreOpenedAfter}
+use Rattle.slave.specs.Standing.{logged, ChannelHas, IsOut, PartsStandAfter, SlaveStandsAfter, IsAsLogged}
 
 none_some : {X : Type 0} (x : X) → None ≡ Some x → ⊥
 none_some x e = cc
 
-some_same : {X : Type 0} (x y : X) → Some x ≡ Some y → y ≡ x
-some_same x y e = cc
+-- as many event channels, and the tasks on their lines
+pub channels-many : {S T : Type 0} (n : ℕ) (channels : List (ChannelState S T)) (tasks : List (TaskState S)) → AreNew n channels tasks → length channels ≡ n
+channels-many n channels tasks new = ap length new.channels_are ∙ length-map new.rings no_measurement ∙ new.many
 
-each-is : {X : Type 0} (n : ℕ) (x y : X) (c : ℕ) → slice_get (replicate n x) c ≡ Some y → y ≡ x
-each-is zero x y c at = absurd (none_some y at)
-each-is (suc n) x y zero at = some_same x y at
-each-is (suc n) x y (suc c) at = each-is n x y c at
+rings-back : (S T : Type 0) (rings : List RingName) → rings_of {S = S} {T = T} (map no_measurement rings) ≡ rings
+rings-back S T [] = refl
+rings-back S T (r ∷ rings) = ap (λ rs. r ∷ rs) (rings-back S T rings)
+
+pub tasks-are : {S T : Type 0} (n : ℕ) (channels : List (ChannelState S T)) (tasks : List (TaskState S)) → AreNew n channels tasks → tasks ≡ map just_begun (rings_of channels)
+tasks-are n channels tasks new =
+    new.tasks_are ∙ ap (map just_begun) (sym (rings-back _ _ new.rings) ∙ ap rings_of (sym new.channels_are))
 
 module _ {S T F : Type 0} (take : TakeGhosts T F) where
-  nothing-there : (d : Profile) (c : ℕ) → ChannelHas take {S = S} 0 (λ m. deeds_of d m c []) no_measurement
-  nothing-there d c = record {
+  nothing-there : (d : Profile) (c : ℕ) (ring : RingName) → ChannelHas take {S = S} 0 (λ m. deeds_of d m c []) (no_measurement ring)
+  nothing-there d c ring = record {
     newer = λ p is. absurd (none_some p is);
     older = λ p is. absurd (none_some p is);
     order = λ p q is at. absurd (none_some p is);
@@ -39,18 +46,19 @@ module _ {S T F : Type 0} (take : TakeGhosts T F) where
     running = λ l below. refl;
   }
 
-  nothing-out : IsOut {S = S} {T = T} (λ m. false) no_measurement
-  nothing-out = record { newer = λ m at. absurd (none_some m at); older = λ m at. absurd (none_some m at); kept = λ m there. absurd (false≢true there) }
+  nothing-out : (ring : RingName) → IsOut {S = S} {T = T} (λ m. false) (no_measurement ring)
+  nothing-out ring = record { newer = λ m at. absurd (none_some m at); older = λ m at. absurd (none_some m at); kept = λ m there. absurd (false≢true there) }
 
-  nothing-opened : (d : Profile) (c : ℕ) → AreOpenedAfter {S = S} {T = T} d (λ m. new_past) c no_measurement
-  nothing-opened d c = record { newer = λ p at. absurd (none_some p at); older = λ p at. absurd (none_some p at) }
+  nothing-opened : (d : Profile) (c : ℕ) (ring : RingName) → IsAsLogged {S = S} {T = T} d (logged d []) c (no_measurement ring)
+  nothing-opened d c ring = record { newer = λ p at. absurd (none_some p at); older = λ p at. absurd (none_some p at); came = refl }
 
   -- it stands after nothing
-  pub new-stands : (d : Profile) (s : SessionState) (o : OutboxState) (channels : List (ChannelState S T)) (plan : List Configuration) (account : List Totals) (n : ℕ) → AccountStandsAfter account [] (λ l. 0) → plan ≡ [] → s.profile ≡ d → SessionStandsAfter s new_past → OutboxStandsAfter o [] []
-      → channels ≡ replicate n no_measurement → n ≡ length d.events.items
+  pub new-stands : (d : Profile) (s : SessionState) (o : OutboxState) (channels : List (ChannelState S T)) (tasks : List (TaskState S)) (plan : List Configuration) (account : List Totals) (n : ℕ) → AccountStandsAfter account [] (λ l. 0) → plan ≡ [] → s.profile ≡ d → SessionStandsAfter s new_past → OutboxStandsAfter o [] []
+      → AreNew n channels tasks → n ≡ length d.events.items
       → SlaveStandsAfter take d (record { session = s; outbox = o; channels = channels; plan = plan; number = 0; account = account; acts = 0; next = 0 }) []
-  new-stands d s o channels plan account n fresh none profile session outbox all many =
-      let is : (c : ℕ) (ch : ChannelState S T) → slice_get channels c ≡ Some ch → ch ≡ no_measurement = λ c ch at. each-is n no_measurement ch c (ap (λ xs. slice_get xs c) (sym all) ∙ at) in
+  new-stands d s o channels tasks plan account n fresh none profile session outbox new many =
+      let each : (P : ChannelState S T → Type 0) → ((ring : RingName) → P (no_measurement ring)) → (c : ℕ) (ch : ChannelState S T) → slice_get channels c ≡ Some ch → P ch =
+      λ P all c ch at. at-map no_measurement P new.rings c ch all (ap (λ xs. slice_get xs c) (sym new.channels_are) ∙ at) in
       let parts : PartsStandAfter take d (record { session = s; outbox = o; channels = channels; plan = plan; number = 0; account = account; acts = 0; next = 0 }) [] =
       record {
         has = record {
@@ -59,14 +67,14 @@ module _ {S T F : Type 0} (take : TakeGhosts T F) where
           profile = profile;
           session = session;
           outbox = outbox;
-          channels = λ c ch at. subst (λ x. ChannelHas take 0 (λ m. deeds_of d m c []) x) (sym (is c ch at)) (nothing-there d c);
-          out = λ c ch at. subst (λ x. IsOut (λ m. false) x) (sym (is c ch at)) nothing-out;
-          opens = λ c ch at. subst (λ x. AreOpenedAfter d (λ m. new_past) c x) (sym (is c ch at)) (nothing-opened d c);
-          many = ap length all ∙ length-replicate n no_measurement ∙ many;
+          channels = λ c ch at. each (ChannelHas take 0 (λ m. deeds_of d m c [])) (nothing-there d c) c ch at;
+          out = λ c ch at. each (IsOut (λ m. false)) nothing-out c ch at;
+          as_logged = λ c ch at. each (IsAsLogged d (logged d []) c) (nothing-opened d c) c ch at;
+          many = channels-many n channels tasks new ∙ many;
           plan = none;
           account = fresh;
           number = refl;
         };
-        ended = λ none c ch at. ap (λ (x : ChannelState S T). takes_orders x.link.newer) (is c ch at);
+        ended = λ none c ch at. each (λ x. takes_orders x.link.newer ≡ false) (λ ring. refl) c ch at;
       } in
       record { parts = parts; counted = omega arith }

@@ -15,14 +15,14 @@ use Rattle.sampler.specs.Past.{first_past}
 use Rattle.sampler.specs.State.{SamplerState, runs_in}
 use Rattle.sampler.proofs.Readers.{sampler-runs}
 use Rattle.daq_engine.specs.Opened.{IsOpenedAt}
-use Rattle.tasks.specs.Links.{is_running, takes_orders}
+use Rattle.tasks.specs.Links.{LinkState, is_running, takes_orders}
 use Rattle.hand_over.specs.Newest.{one_before}
 use Rattle.slave_channel.specs.Channels.{ChannelState, Opens, ShareState}
 use Rattle.slave_channels.specs.Calls.{Ends, OpensIfAny}
-use Rattle.session.specs.Past.{Past}
 use Rattle.session.specs.declared.profile.Profile.{Profile}
 use Rattle.slave.specs.Openings.{IsOpenedAfter}
-use Rattle.slave.specs.Standing.{AreOpenedAfter, ChannelHas}
+use Rattle.slave.specs.Returns.{AreReturns, ends_in}
+use Rattle.slave.specs.Standing.{IsAsLogged, ChannelHas, Logged}
 use Rattle.slave.proofs.OutLemmas.{keeps-ends, opened-kept}
 use Rattle.slave.proofs.ChannelLemmas.{channel-ends, channel-more, takes-ended}
 
@@ -86,50 +86,52 @@ module _ {S E T F : Type 0} (send : SendGhosts S E) (ring : EndGhosts E) (take :
         back n = omega arith
 
   -- the parts that were kept, of measurements before it, were opened as they were
-  pub opened-before : (d : Profile) (past now : ℕ → Past) (n c : ℕ) (f : ℕ → List Deed) (a : ChannelState S T) → ((m : ℕ) → m < n → now m ≡ past m) → ChannelHas take n f a
-      → AreOpenedAfter d past c a → AreOpenedAfter d now c a
-  opened-before d past now n c f a same has is = record {
+  pub opened-before : (d : Profile) (past now : Logged) (n c : ℕ) (f : ℕ → List Deed) (a : ChannelState S T) → ((m : ℕ) → m < n → now.opened_at m ≡ past.opened_at m) → now.returns c ≡ past.returns c → ChannelHas take n f a
+      → IsAsLogged d past c a → IsAsLogged d now c a
+  opened-before d past now n c f a same back has is = record {
     newer = λ p at. subst (λ z. IsOpenedAfter d z c p.opened) (sym (same p.number (has.newer p at).there)) (is.newer p at);
     older = λ p at. subst (λ z. IsOpenedAfter d z c p.opened) (sym (same p.number (has.older p at).0.there)) (is.older p at);
+    came = subst (λ pasts. AreReturns pasts (ends_in a.link.came)) (sym back) is.came;
   }
 
   -- and the new one as the store stands
-  pub opened-now : (d : Profile) (past now : ℕ → Past) (n : ℕ) (f : ℕ → List Deed) (a b : ChannelState S T) (s : StoreState) (c cap : ℕ) → Opens send ring take a b s c cap n
-      → ((m : ℕ) → m < n → now m ≡ past m) → IsOpenedAfter d (now n) c (record { store = s; channel = c; capacity = cap }) → ChannelHas take n f a
-      → AreOpenedAfter d past c a → AreOpenedAfter d now c b
-  opened-now d past now n f a b s c cap opens same new has is =
-      let before = opened-before d past now n c f a same has is in
+  pub opened-now : (d : Profile) (past now : Logged) (n : ℕ) (f : ℕ → List Deed) (a b : ChannelState S T) (s : StoreState) (c cap : ℕ) → Opens send ring take a b s c cap n
+      → ((m : ℕ) → m < n → now.opened_at m ≡ past.opened_at m) → now.returns c ≡ past.returns c → IsOpenedAfter d (now.opened_at n) c (record { store = s; channel = c; capacity = cap }) → ChannelHas take n f a
+      → IsAsLogged d past c a → IsAsLogged d now c b
+  opened-now d past now n f a b s c cap opens same back new has is =
+      let before = opened-before d past now n c f a same back has is in
       record {
         newer = λ p at.
-            subst (λ (z : ShareState T). IsOpenedAfter d (now z.number) c z.opened) (some_same opens.share p (sym opens.newer ∙ at))
-            (subst (λ k. IsOpenedAfter d (now k) c opens.share.opened) (sym opens.number_is) (subst (IsOpenedAfter d (now n) c) (sym opens.opened_is) new));
+            subst (λ (z : ShareState T). IsOpenedAfter d (now.opened_at z.number) c z.opened) (some_same opens.share p (sym opens.newer ∙ at))
+            (subst (λ k. IsOpenedAfter d (now.opened_at k) c opens.share.opened) (sym opens.number_is) (subst (IsOpenedAfter d (now.opened_at n) c) (sym opens.opened_is) new));
         older = λ p at.
             elim (part-before a.older a.newer p (sym opens.older ∙ at)) [
               | inl was ↦ before.older p was
               | inr was ↦ before.newer p was
             ];
+        came = subst (AreReturns (now.returns c)) (sym (ap (λ (l : LinkState S). ends_in l.came) opens.handed.rest)) before.came;
       } where
         some_same : {X : Type 0} (x y : X) → Some x ≡ Some y → x ≡ y
         some_same x y e = cc
 
   -- the same, if there are lists of it; and where it ends at once
-  pub opened-if : (d : Profile) (past now : ℕ → Past) (n : ℕ) (f : ℕ → List Deed) (a b : ChannelState S T) (s : StoreState) (c cap set : ℕ) → OpensIfAny send ring take s n c cap set a b
-      → ((m : ℕ) → m < n → now m ≡ past m) → IsOpenedAfter d (now n) c (record { store = s; channel = c; capacity = cap }) → ChannelHas take n f a
-      → AreOpenedAfter d past c a → AreOpenedAfter d now c b
-  opened-if d past now n f a b s c cap set opens same new has is =
+  pub opened-if : (d : Profile) (past now : Logged) (n : ℕ) (f : ℕ → List Deed) (a b : ChannelState S T) (s : StoreState) (c cap set : ℕ) → OpensIfAny send ring take s n c cap set a b
+      → ((m : ℕ) → m < n → now.opened_at m ≡ past.opened_at m) → now.returns c ≡ past.returns c → IsOpenedAfter d (now.opened_at n) c (record { store = s; channel = c; capacity = cap }) → ChannelHas take n f a
+      → IsAsLogged d past c a → IsAsLogged d now c b
+  opened-if d past now n f a b s c cap set opens same back new has is =
       elim (eqb_tells set 0) [
-        | inl w ↦ subst (AreOpenedAfter d now c) (sym (opens.0 w.1)) (opened-before d past now n c f a same has is)
-        | inr w ↦ opened-now d past now n f a b s c cap (opens.1 w.1) same new has is
+        | inl w ↦ subst (IsAsLogged d now c) (sym (opens.0 w.1)) (opened-before d past now n c f a same back has is)
+        | inr w ↦ opened-now d past now n f a b s c cap (opens.1 w.1) same back new has is
       ]
 
-  pub opened-in-vain : (d : Profile) (past now : ℕ → Past) (n : ℕ) (f : ℕ → List Deed) (a b : ChannelState S T) (s : StoreState) (c cap set : ℕ)
+  pub opened-in-vain : (d : Profile) (past now : Logged) (n : ℕ) (f : ℕ → List Deed) (a b : ChannelState S T) (s : StoreState) (c cap set : ℕ)
       → ((b ≡ a) ⊎ ((set ≢ 0) × ((m : ChannelState S T) × Opens send ring take a m s c cap n × Ends m b)))
-      → ((m : ℕ) → m < n → now m ≡ past m) → IsOpenedAfter d (now n) c (record { store = s; channel = c; capacity = cap }) → ChannelHas take n f a
-      → AreOpenedAfter d past c a → AreOpenedAfter d now c b
-  opened-in-vain d past now n f a b s c cap set was same new has is =
+      → ((m : ℕ) → m < n → now.opened_at m ≡ past.opened_at m) → now.returns c ≡ past.returns c → IsOpenedAfter d (now.opened_at n) c (record { store = s; channel = c; capacity = cap }) → ChannelHas take n f a
+      → IsAsLogged d past c a → IsAsLogged d now c b
+  opened-in-vain d past now n f a b s c cap set was same back new has is =
       elim was [
-        | inl e ↦ subst (AreOpenedAfter d now c) (sym e) (opened-before d past now n c f a same has is)
-        | inr w ↦ opened-kept d now c w.1.0 b (keeps-ends w.1.0 b w.1.2) (opened-now d past now n f a w.1.0 s c cap w.1.1 same new has is)
+        | inl e ↦ subst (IsAsLogged d now c) (sym e) (opened-before d past now n c f a same back has is)
+        | inr w ↦ opened-kept d now c w.1.0 b (keeps-ends w.1.0 b w.1.2) (opened-now d past now n f a w.1.0 s c cap w.1.1 same back new has is)
       ]
 
   -- the same, if there are lists of it

@@ -14,10 +14,11 @@ use Rattle.slave_channel.specs.Channels.{ChannelState, OpenedState, Opens, Share
 use Rattle.slave_channel.specs.Ordering.{GoesOnBy, OrdersAll}
 use Rattle.slave_channels.specs.Calls.{Ends, Looks, OpensIfAny}
 use Rattle.slave_channels.specs.Each.{IsEach}
-use Rattle.session.specs.Past.{Past}
 use Rattle.session.specs.declared.profile.Profile.{Profile}
 use Rattle.slave.specs.Openings.{IsOpenedAfter}
-use Rattle.slave.specs.Standing.{AreOpenedAfter, IsOut, number_of}
+use Rattle.slave.specs.Returns.{AreReturns, ends_in}
+use Rattle.slave.specs.Standing.{IsAsLogged, IsOut, Logged, number_of}
+use Rattle.tasks.specs.Links.{LinkState, takes_orders}
 
 -- what an element was
 pub was-there : {X : Type 0} (old now : List X) (c : ℕ) (b : X) → length now ≡ length old → slice_get now c ≡ Some b → slice_get old c ≡ Some (get_or old c b)
@@ -43,6 +44,8 @@ pub record KeepsParts {S T : Type 0} (a b : ChannelState S T) : Type 0 where
   pub older : number_of b.older ≡ number_of a.older
   pub newer_opened : opened_of b.newer ≡ opened_of a.newer
   pub older_opened : opened_of b.older ≡ opened_of a.older
+  pub came : ends_in b.link.came ≡ ends_in a.link.came
+  pub ring : b.link.ring ≡ a.link.ring
 
 number-before : {T : Type 0} (older newer : Option (ShareState T)) (m : ℕ) → number_of (one_before older newer) ≡ Some m → (number_of older ≡ Some m) ⊎ (number_of newer ≡ Some m)
 number-before older None m is = inl is
@@ -84,6 +87,8 @@ module _ {S T : Type 0} where
     older = ap (λ (x : ChannelState S T). number_of x.older) same;
     newer_opened = ap (λ (x : ChannelState S T). opened_of x.newer) same;
     older_opened = ap (λ (x : ChannelState S T). opened_of x.older) same;
+    came = ap (λ (x : ChannelState S T). ends_in x.link.came) same;
+    ring = ap (λ (x : ChannelState S T). x.link.ring) same;
   }
 
   pub keeps-looks : (a b : ChannelState S T) → Looks a b → KeepsParts a b
@@ -92,7 +97,18 @@ module _ {S T : Type 0} where
     older = ap (λ (x : ChannelState S T). number_of x.older) looks.rest;
     newer_opened = ap (λ (x : ChannelState S T). opened_of x.newer) looks.rest;
     older_opened = ap (λ (x : ChannelState S T). opened_of x.older) looks.rest;
+    came = ap (λ (x : ChannelState S T). ends_in x.link.came) looks.rest;
+    ring = ap (λ (x : ChannelState S T). x.link.ring) looks.rest;
   }
+
+  -- an end changes nothing of the link but for the newest
+  ends-link : (a b : ChannelState S T) → Ends a b → b.link ≡ record a.link { newer = b.link.newer }
+  ends-link a b ends = by (takes_orders a.link.newer) refl where
+    by : (on : Bool) → takes_orders a.link.newer ≡ on → b.link ≡ record a.link { newer = b.link.newer }
+    by true is = (ends.ends is).rest
+    by false is =
+        ap (λ (x : ChannelState S T). x.link) (ends.none is)
+        ∙ ap (λ o. record a.link { newer = o }) (sym (ap (λ (x : ChannelState S T). x.link.newer) (ends.none is)))
 
   pub keeps-ends : (a b : ChannelState S T) → Ends a b → KeepsParts a b
   keeps-ends a b ends = record {
@@ -100,20 +116,23 @@ module _ {S T : Type 0} where
     older = ap (λ (x : ChannelState S T). number_of x.older) ends.parts;
     newer_opened = ap (λ (x : ChannelState S T). opened_of x.newer) ends.parts;
     older_opened = ap (λ (x : ChannelState S T). opened_of x.older) ends.parts;
+    came = ap (λ (l : LinkState S). ends_in l.came) (ends-link a b ends);
+    ring = ap (λ (l : LinkState S). l.ring) (ends-link a b ends);
   }
 
   -- what the parts were opened with is as it was
-  pub opened-kept : (d : Profile) (pasts : ℕ → Past) (c : ℕ) (a b : ChannelState S T) → KeepsParts a b → AreOpenedAfter d pasts c a → AreOpenedAfter d pasts c b
+  pub opened-kept : (d : Profile) (pasts : Logged) (c : ℕ) (a b : ChannelState S T) → KeepsParts a b → IsAsLogged d pasts c a → IsAsLogged d pasts c b
   opened-kept d pasts c a b keeps is = record {
-    newer = part-opened (λ n o. IsOpenedAfter d (pasts n) c o) a.newer b.newer keeps.newer keeps.newer_opened is.newer;
-    older = part-opened (λ n o. IsOpenedAfter d (pasts n) c o) a.older b.older keeps.older keeps.older_opened is.older;
+    newer = part-opened (λ n o. IsOpenedAfter d (pasts.opened_at n) c o) a.newer b.newer keeps.newer keeps.newer_opened is.newer;
+    older = part-opened (λ n o. IsOpenedAfter d (pasts.opened_at n) c o) a.older b.older keeps.older keeps.older_opened is.older;
+    came = subst (AreReturns (pasts.returns c)) (sym keeps.came) is.came;
   }
 
   -- so at all event channels
-  pub opened-each : (R : ℕ → ChannelState S T → ChannelState S T → Type 0) (xs ys : List (ChannelState S T)) (d : Profile) (pasts : ℕ → Past) → IsEach R xs ys
+  pub opened-each : (R : ℕ → ChannelState S T → ChannelState S T → Type 0) (xs ys : List (ChannelState S T)) (d : Profile) (pasts : Logged) → IsEach R xs ys
       → ((c : ℕ) (a b : ChannelState S T) → R c a b → KeepsParts a b)
-      → ((c : ℕ) (ch : ChannelState S T) → slice_get xs c ≡ Some ch → AreOpenedAfter d pasts c ch)
-      → (c : ℕ) (ch : ChannelState S T) → slice_get ys c ≡ Some ch → AreOpenedAfter d pasts c ch
+      → ((c : ℕ) (ch : ChannelState S T) → slice_get xs c ≡ Some ch → IsAsLogged d pasts c ch)
+      → (c : ℕ) (ch : ChannelState S T) → slice_get ys c ≡ Some ch → IsAsLogged d pasts c ch
   opened-each R xs ys d pasts each keeps is c ch at =
       let old = get_or xs c ch in
       let was = was-there xs ys c ch each.as_many at in
@@ -149,6 +168,8 @@ module _ {S T F : Type 0} (take : TakeGhosts T F) where
     older = ap (λ (o : Option (ShareState T)). number_of o) orders.older;
     newer_opened = goes-opened take a.newer b.newer ds orders.newer;
     older_opened = ap (λ (o : Option (ShareState T)). opened_of o) orders.older;
+    came = ap (λ (l : LinkState S). ends_in l.came) orders.link;
+    ring = ap (λ (l : LinkState S). l.ring) orders.link;
   }
 
 -- a choice at each place of a list

@@ -16,6 +16,7 @@ use Rattle.session.specs.declared.profile.Profile.{Profile}
 use Rattle.slave_channel.specs.Channels.{ChannelState, keeps_two}
 use Rattle.slave_channels.specs.Calls.{CanStartAll, HasSome, Looks, OpensAt, OpenedAndEnded, StartsAt}
 use Rattle.slave_channels.specs.Each.{IsEach}
+use Rattle.slave_channels.specs.Calls.{rings_of}
 use Rattle.slave.specs.Hearing.{MayOpen, most_before, HasNoRoom, IsIdleRefusal}
 use Rattle.slave.specs.Openings.{capacities_of}
 use Rattle.slave.specs.Plans.{IsSame, plan_of}
@@ -25,7 +26,7 @@ use Rattle.xcp_base.specs.declared.err_code.ErrCode.TheVariants.{CmdBusy, Memory
 use Rattle.slave.specs.Inner.{AreSets, Busy, HasParts, HasRoom, Idle, IsBusy, IsPlaceRefusal, LooksAtAll, OpensAll, OpensInVain, OpensNone, Prepares, SlaveStarted, StartsInVain, StartsLists, WantsRoom, AreJustOut}
 use Rattle.slave.specs.Log.{Act, Opened, opened, past_of}
 use Rattle.slave.specs.Standing.{SlaveHas, PartsStandAfter, SlaveState, number_of}
-use Rattle.slave.proofs.StandingLemmas.{looks-at-all, looks-ended, opens-all, opens-in-vain, parts-all, parts-vain, starts-all, starts-no-list, starts-parts, Parts, are-parts, has-some, there-is}
+use Rattle.slave.proofs.StandingLemmas.{lines-looked, lines-new, lines-started, looks-at-all, looks-ended, opens-all, opens-in-vain, parts-all, parts-vain, starts-all, starts-no-list, starts-parts, Parts, are-parts, has-some, there-is}
 use Rattle.slave.proofs.OutLemmas.{was-there, new-number}
 use Rattle.slave.proofs.DeedLemmas.{opened-more}
 use Rattle.session.specs.Past.{Past}
@@ -162,6 +163,7 @@ module _ {S T F : Type 0} (take : TakeGhosts T F) where
     opening = [];
     may_open = nothing-opened most_before;
     for_some = inl refl;
+    lines = lines-started take a b lists s;
     in_one = λ log few stands some none. absurd (busy (past_of a.session.profile log) stands.has.session none);
     as_opened = λ log few stands l below one there. as-opened a.session.profile a.session a.plan log l profile stands.has.session stands.has.plan (same l below one);
     has_parts = λ log few stands. parts-behind a.session.profile a b log lists s stands.has;
@@ -173,6 +175,7 @@ module _ {S T F : Type 0} (take : TakeGhosts T F) where
     opening = [];
     may_open = nothing-opened most_before;
     for_some = inl refl;
+    lines = refl;
     in_one = λ log few stands some quiet. absurd (false≢true (sym (none some.0 some.1) ∙ some.2));
     as_opened = λ log few stands l below one there. absurd (false≢true (sym (none l below) ∙ one));
     has_parts = λ log few stands c l within below one on. absurd (false≢true (sym (none l below) ∙ one));
@@ -193,10 +196,10 @@ module _ {S T F : Type 0} (take : TakeGhosts T F) where
       λ e. absurd (place-code code (inl is.0) e),
       λ other. absurd (other.other (as-opened a.session.profile a.session a.plan log other.list profile stands.has.session stands.has.plan (same other.list other.below other.one))),
     );
-    goes = λ log few stands. record {
+    goes = (lines-looked take a b looks, λ log few stands. record {
       has = looks-at-all take a.session.profile a b log looks stands.has;
       ended = looks-ended take (past_of a.session.profile log) a b looks stands.ended;
-    };
+    });
   }
 
   -- or since one of them does not stand as it did
@@ -219,7 +222,7 @@ module _ {S T F : Type 0} (take : TakeGhosts T F) where
       },
       λ has. refl,
     );
-    goes = λ log few stands. stands;
+    goes = (refl, λ log few stands. stands);
   }
 
   -- where there is room for one more part, no two are kept at an event channel of which a list is ready
@@ -269,7 +272,7 @@ module _ {S T F : Type 0} (take : TakeGhosts T F) where
       ended = λ some two. absurd (some refl);
     };
     sequence = λ log few stands. (λ e. absurd (place-code code (inr is) e), λ other. absurd (other.some (idle (past_of a.session.profile log) stands.has.session)));
-    goes = λ log few stands. subst (λ s. PartsStandAfter take a.session.profile s log) (sym same) stands;
+    goes = (ap (λ (s : SlaveState S T). rings_of s.channels) same, λ log few stands. subst (λ s. PartsStandAfter take a.session.profile s log) (sym same) stands);
   } where
     not-both : CmdBusy ≡ MemoryOverflow → ⊥
     not-both e = cc
@@ -287,7 +290,7 @@ module _ {S T F : Type 0} (take : TakeGhosts T F) where
       ended = λ some two. absurd (some refl);
     };
     sequence = λ log few stands. (λ e. absurd (place-code CmdBusy (inl refl) e), λ other. absurd (other.some (idle (past_of a.session.profile log) stands.has.session)));
-    goes = λ log few stands. stands;
+    goes = (refl, λ log few stands. stands);
   }
 
 module _ {S E T F : Type 0} (send : SendGhosts S E) (ring : EndGhosts E) (take : TakeGhosts T F) where
@@ -346,6 +349,7 @@ module _ {S E T F : Type 0} (send : SendGhosts S E) (ring : EndGhosts E) (take :
     opening = Opened (parts-all send ring take a m opens).at ∷ [];
     may_open = one-opened (parts-all send ring take a m opens).at;
     for_some = inr some;
+    lines = lines-started take m b lists s ∙ lines-new send ring take a m opens.channels.as_many (parts-all send ring take a m opens);
     in_one = λ log few stands any none. are-parts send ring take a.session.profile a m log opens stands.has;
     as_opened = λ log few stands l below one there. just-opened a.session.profile (parts-all send ring take a m opens).at log l there;
     has_parts = λ log few stands.
@@ -394,5 +398,8 @@ module _ {S E T F : Type 0} (send : SendGhosts S E) (ring : EndGhosts E) (take :
               idle-opened a b past (parts-vain send ring take a b vain).at code
               (own-part a b past room stands vain.channels.as_many (parts-vain send ring take a b vain));
           sequence = λ log few stands. (λ e. absurd (place-code code is e), λ other. absurd (other.some (idle (past_of a.session.profile log) stands.has.session)));
-          goes = λ log few stands. opens-in-vain send ring take a.session.profile a b log (omega (arith, few)) (idle (past_of a.session.profile log) stands.has.session) stands vain;
+          goes = (
+            lines-new send ring take a b vain.channels.as_many (parts-vain send ring take a b vain),
+            λ log few stands. opens-in-vain send ring take a.session.profile a b log (omega (arith, few)) (idle (past_of a.session.profile log) stands.has.session) stands vain,
+          );
         }

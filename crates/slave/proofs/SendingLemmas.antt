@@ -6,6 +6,7 @@ use Rattle.channel_ring.specs.declared.ends.TakeEnd.{Ghosts as TakeGhosts}
 use Rattle.session.specs.Standing.{SessionStandsAfter, SessionState}
 use Rattle.frame_outbox.specs.Outboxes.{Laid, OutboxState, unit_of}
 use Rattle.frame_outbox.specs.Outboxes.{StandsAfter as OutboxStandsAfter}
+use Rattle.slave_channels.specs.Calls.{rings_of}
 use Rattle.slave.specs.Hearing.{GoesBy}
 use Rattle.slave.specs.Inner.{PartsGoBy}
 use Rattle.slave.specs.Log.{Act, Sent, entries_of, late_of, past_of, sending, sent_units, waits}
@@ -52,7 +53,7 @@ module _ {S T F : Type 0} (take : TakeGhosts T F) where
   sent-stands : (a b : SlaveState S T) (shown n : ℕ) → n ≡ min shown (length a.outbox.units) → b ≡ record a { outbox = b.outbox }
       → ((sent waits : List Laid) → OutboxStandsAfter a.outbox sent waits → OutboxStandsAfter b.outbox (sent ++ first shown waits) (drop shown waits))
       → PartsGoBy take a b (Sent n ∷ [])
-  sent-stands a b shown n many rest moves = λ log few stands.
+  sent-stands a b shown n many rest moves = (ap (λ (s : SlaveState S T). rings_of s.channels) rest, λ log few stands.
       let d = a.session.profile in
       let has = stands.has in
       let wait = waits d log in
@@ -71,14 +72,14 @@ module _ {S T F : Type 0} (take : TakeGhosts T F) where
               (subst (λ ys. OutboxStandsAfter b.outbox (sent_units d log ++ first shown wait) ys) (drop-min shown n wait n_is) moved);
           channels = λ c ch at. has.channels c ch (ap (λ zs. slice_get zs c) (sym channels) ∙ at);
           out = λ c ch at. has.out c ch (ap (λ zs. slice_get zs c) (sym channels) ∙ at);
-          opens = λ c ch at. has.opens c ch (ap (λ zs. slice_get zs c) (sym channels) ∙ at);
+          as_logged = λ c ch at. has.as_logged c ch (ap (λ zs. slice_get zs c) (sym channels) ∙ at);
           many = ap length channels ∙ has.many;
           plan = ap (λ (s : SlaveState S T). s.plan) rest ∙ has.plan;
           account = subst (λ x. AccountStandsAfter x (entries_of d log) (late_of d log)) (sym (ap (λ (s : SlaveState S T). s.account) rest)) has.account;
           number = ap (λ (s : SlaveState S T). s.number) rest ∙ has.number;
         };
         ended = λ none c ch at. stands.ended none c ch (ap (λ zs. slice_get zs c) (sym channels) ∙ at);
-      }
+      })
 
   -- where the outbox alone changed, and it stands after the same
   outbox-alone : (a b : SlaveState S T) (log : List Act) → b ≡ record a { outbox = b.outbox }
@@ -98,7 +99,7 @@ module _ {S T F : Type 0} (take : TakeGhosts T F) where
           outbox = outbox;
           channels = λ c ch at. has.channels c ch (ap (λ zs. slice_get zs c) (sym channels) ∙ at);
           out = λ c ch at. has.out c ch (ap (λ zs. slice_get zs c) (sym channels) ∙ at);
-          opens = λ c ch at. has.opens c ch (ap (λ zs. slice_get zs c) (sym channels) ∙ at);
+          as_logged = λ c ch at. has.as_logged c ch (ap (λ zs. slice_get zs c) (sym channels) ∙ at);
           many = ap length channels ∙ has.many;
           plan = ap (λ (s : SlaveState S T). s.plan) rest ∙ has.plan;
           account = subst (λ x. AccountStandsAfter x (entries_of d log) (late_of d log)) (sym (ap (λ (s : SlaveState S T). s.account) rest)) has.account;
@@ -109,18 +110,18 @@ module _ {S T F : Type 0} (take : TakeGhosts T F) where
 
   -- what is shown changes nothing of this
   shown-stands : (a b : SlaveState S T) → b ≡ record a { outbox = b.outbox } → b.outbox ≡ record a.outbox { shown = b.outbox.shown } → PartsGoBy take a b []
-  shown-stands a b rest same = λ log few stands.
+  shown-stands a b rest same = (ap (λ (s : SlaveState S T). rings_of s.channels) rest, λ log few stands.
       let d = a.session.profile in
       let box = stands.has.outbox in
       outbox-alone a b log rest
       (subst (λ o. OutboxStandsAfter o (sent_units d log) (waits d log)) (sym same)
-      (record { gone = box.gone; counter = box.counter; waiting = box.waiting; units = box.units })) stands
+      (record { gone = box.gone; counter = box.counter; waiting = box.waiting; units = box.units })) stands)
 
   -- nothing was sent
   sent-nothing : (a b : SlaveState S T) (shown n : ℕ) → n ≡ min shown (length a.outbox.units) → b ≡ record a { outbox = b.outbox }
       → ((sent waits : List Laid) → OutboxStandsAfter a.outbox sent waits → OutboxStandsAfter b.outbox (sent ++ first shown waits) (drop shown waits))
       → n ≡ 0 → PartsGoBy take a b []
-  sent-nothing a b shown n many rest moves none = λ log few stands.
+  sent-nothing a b shown n many rest moves none = (ap (λ (s : SlaveState S T). rings_of s.channels) rest, λ log few stands.
       let d = a.session.profile in
       let box = stands.has.outbox in
       let wait = waits d log in
@@ -129,7 +130,7 @@ module _ {S T F : Type 0} (take : TakeGhosts T F) where
       let n_is : 0 ≡ min shown (length wait) = sym none ∙ many ∙ ap (min shown) units in
       outbox-alone a b log rest
       (subst (λ ys. OutboxStandsAfter b.outbox ys wait) (ap (λ ys. sent ++ ys) (take-min shown 0 wait n_is) ∙ append-nil sent)
-      (subst (λ ys. OutboxStandsAfter b.outbox (sent ++ first shown wait) ys) (drop-min shown 0 wait n_is) (moves sent wait box))) stands
+      (subst (λ ys. OutboxStandsAfter b.outbox (sent ++ first shown wait) ys) (drop-min shown 0 wait n_is) (moves sent wait box))) stands)
 
   -- so many of what waited, if these are any
   sends : (a b : SlaveState S T) (shown n : ℕ) → n ≡ min shown (length a.outbox.units) → b ≡ record a { outbox = b.outbox } → a.acts < MOST_ACTS + PER_PACKET
@@ -140,6 +141,11 @@ module _ {S T F : Type 0} (take : TakeGhosts T F) where
 
   pub shows : (a b : SlaveState S T) → b ≡ record a { outbox = b.outbox } → b.outbox ≡ record a.outbox { shown = b.outbox.shown } → a.acts < MOST_ACTS + PER_PACKET → GoesBy take a b []
   shows a b rest same fits = counted take a b [] fits (omega arith) (omega (arith, ap (λ (s : SlaveState S T). s.acts) rest)) (shown-stands a b rest same)
+
+  pub shown-of : (v w : SlaveState S T) (o : OutboxState) → w ≡ v → v.acts < MOST_ACTS + PER_PACKET → o ≡ record w.outbox { shown = o.shown } → GoesBy take v (record w { outbox = o }) []
+  shown-of v w o same fits rest =
+      subst (λ (u : SlaveState S T). GoesBy take u (record w { outbox = o }) []) same
+      (shows w (record w { outbox = o }) refl rest (subst (λ (u : SlaveState S T). u.acts < MOST_ACTS + PER_PACKET) (sym same) fits))
 
   pub sent-of : (v w : SlaveState S T) (o : OutboxState) (n : ℕ) → w ≡ v → v.acts < MOST_ACTS + PER_PACKET → n ≡ min v.outbox.shown (length v.outbox.units)
       → ((sent waits : List Laid) → OutboxStandsAfter w.outbox sent waits → OutboxStandsAfter o (sent ++ first w.outbox.shown waits) (drop w.outbox.shown waits))

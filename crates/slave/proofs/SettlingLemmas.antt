@@ -18,11 +18,13 @@ use Rattle.slave_channel.proofs.OrderingLemmas.{stops_noted-same}
 use Rattle.slave_channels.specs.Calls.{Ends, StopsAll}
 use Rattle.slave.specs.Inner.{Settles, started}
 use Rattle.slave.specs.Log.{Act, deeds_of, is_newest, opened, ordered_by, past_of, starts_on, stops_at, with_starts}
-use Rattle.slave.specs.Standing.{AreOpenedAfter, ChannelHas, IsLog, IsOut, NoneRuns}
+use Rattle.slave.specs.Standing.{IsAsLogged, ChannelHas, IsLog, IsOut, Logged, NoneRuns}
 use Rattle.slave.proofs.ChannelLemmas.{channel-ends, channel-ordered, channel-same, newest_with, takes-ended}
 use Rattle.slave.proofs.DeedLemmas.{deeds-few, starts-few, stops-few}
 use Rattle.slave.proofs.LogLemmas.{ties}
 use Rattle.slave.proofs.OrderLemmas.{starts-same, stops-none, stops-set}
+use Rattle.slave_channels.specs.Calls.{rings_of}
+use Rattle.slave.proofs.KeepingLemmas.{lines-each}
 use Rattle.slave.proofs.OutLemmas.{keeps-ends, keeps-orders, opened-each, out-each, was-there}
 
 -- an act by which lists are ordered
@@ -163,10 +165,19 @@ module _ {S T F : Type 0} (take : TakeGhosts T F) where
         | inr off ↦ ap length (settles.goes_on off) ∙ settles.stops.as_many
       ]
 
+  -- each on its line
+  pub settled-lines : (xs ys : List (ChannelState S T)) (before now : ℕ) → Settles take xs ys before now → rings_of ys ≡ rings_of xs
+  settled-lines xs ys before now settles =
+      let stopped = lines-each (λ k. StopsAll take settles.lists) xs settles.stopped settles.stops (λ k x y orders. (keeps-orders take x y _ _ orders).ring) in
+      elim (is-bool settles.ends) [
+        | inl on ↦ lines-each (λ k. Ends) settles.stopped ys (settles.ends_all on) (λ k x y ends. (keeps-ends x y ends).ring) ∙ stopped
+        | inr off ↦ ap rings_of (settles.goes_on off) ∙ stopped
+      ]
+
   -- and was opened as it was
-  pub settled-opens : (xs ys : List (ChannelState S T)) (before now : ℕ) (d : Profile) (pasts : ℕ → Past) → Settles take xs ys before now
-      → ((c : ℕ) (ch : ChannelState S T) → slice_get xs c ≡ Some ch → AreOpenedAfter d pasts c ch)
-      → (c : ℕ) (ch : ChannelState S T) → slice_get ys c ≡ Some ch → AreOpenedAfter d pasts c ch
+  pub settled-opens : (xs ys : List (ChannelState S T)) (before now : ℕ) (d : Profile) (pasts : Logged) → Settles take xs ys before now
+      → ((c : ℕ) (ch : ChannelState S T) → slice_get xs c ≡ Some ch → IsAsLogged d pasts c ch)
+      → (c : ℕ) (ch : ChannelState S T) → slice_get ys c ≡ Some ch → IsAsLogged d pasts c ch
   settled-opens xs ys before now d pasts settles is c ch at =
       let stopped = opened-each (λ k. StopsAll take settles.lists) xs settles.stopped d pasts settles.stops (λ k x y orders. keeps-orders take x y _ _ orders) is in
       elim (is-bool settles.ends) [

@@ -4,7 +4,7 @@ use Rattle.std.specs.Prelude.{Option, Some, None}
 use Rattle.std.proofs.lemmas.Bool.{false≢true}
 use Rattle.std.proofs.lemmas.Bool.Decides.{eqb_tells, leb_tells}
 use Rattle.std.proofs.lemmas.List.Sums.{count_by-le-length}
-use Rattle.std.proofs.lemmas.Option.{slice_get-get_or, slice_get_within}
+use Rattle.std.proofs.lemmas.Option.{slice_get-get_or, slice_get_within, same_Some}
 use Rattle.xcp_base.specs.Lists.{has_list}
 use Rattle.xcp_base.specs.declared.limits.TheConstants.{MAX_LISTS, MAX_TAKEN}
 use Rattle.channel_ring.specs.declared.ends.SendEnd.{Ghosts as SendGhosts}
@@ -21,16 +21,18 @@ use Rattle.session.specs.declared.profile.Profile.{Profile}
 use Rattle.channel_intake.specs.Deeds.{Deed}
 use Rattle.channel_intake.specs.Deeds.{runs as runs_there}
 use Rattle.frame_outbox.specs.Outboxes.{StandsAfter as OutboxStandsAfter}
-use Rattle.tasks.specs.Links.{AwayState, CanStart, takes_orders}
+use Rattle.tasks.specs.Links.{AwayState, CanStart, LinkState, takes_orders}
 use Rattle.session_account.specs.Accounts.{AccountStandsAfter}
 use Rattle.slave_channel.specs.Channels.{ChannelState, Opens, ShareState}
 use Rattle.slave_channel.specs.Ordering.{starts_noted, starts_sent}
 use Rattle.slave_channels.specs.Calls.{CanStartAll, Ends, HasSome, Looks, OpensIfAny, StartsAt}
 use Rattle.slave_channels.specs.Each.{IsEach}
-use Rattle.slave.specs.Inner.{AreSets, HasParts, LooksAtAll, OpensAll, OpensBeside, OpensInVain, SlaveStarted, started}
+use Rattle.slave.specs.Hearing.{KeepsLines}
+use Rattle.slave.proofs.KeepingLemmas.{lines-each, lines-same}
+use Rattle.slave.specs.Inner.{AreSets, HasParts, LooksAtAll, OpensAll, OpensBeside, OpensInVain, SlaveStarted, StartsLists, started}
 use Rattle.slave.specs.Log.{Act, Opened, deeds_of, entries_of, has_part, is_opening, is_out, late_of, opened, past_of, sent_units, waits}
 use Rattle.slave.specs.Openings.{IsOpenedAfter, capacities_of, past_at}
-use Rattle.slave.specs.Standing.{AreOpenedAfter, ChannelHas, HasEnded, IsOut, NoneRuns, SlaveHas, PartsStandAfter, SlaveState, number_of, AreParts, HasReady}
+use Rattle.slave.specs.Standing.{IsAsLogged, logged, ChannelHas, HasEnded, IsOut, NoneRuns, SlaveHas, PartsStandAfter, SlaveState, number_of, AreParts, HasReady}
 use Rattle.slave.proofs.ChannelLemmas.{channel-looks, channel-ordered, channel-same, goes-none, takes-looked}
 use Rattle.slave.proofs.DeedLemmas.{deeds-few, deeds-none, opened-more, out-newest, out-no-part, out-other, out-part, part-none, starts-few}
 use Rattle.slave.proofs.PlanLemmas.{plan-by}
@@ -70,9 +72,9 @@ module _ {S E T F : Type 0} (send : SendGhosts S E) (ring : EndGhosts E) (take :
   opened-rest : (d : Profile) (a b : SlaveState S T) (log : List Act) (at : ℕ → Bool) → 32 * (1 + length log) ≤ MAX_TAKEN → NoneRuns (past_of d log) → SlaveHas take d a log → OpensBeside a b → length b.channels ≡ length a.channels
       → ((c : ℕ) (ch : ChannelState S T) → slice_get b.channels c ≡ Some ch → ChannelHas take (opened log + 1) (λ m. deeds_of d m c log) ch)
       → ((c : ℕ) (ch : ChannelState S T) → slice_get b.channels c ≡ Some ch → IsOut (λ m. is_out m c (Opened at ∷ log)) ch)
-      → ((c : ℕ) (ch : ChannelState S T) → slice_get b.channels c ≡ Some ch → AreOpenedAfter d (λ m. past_at d m (Opened at ∷ log)) c ch)
+      → ((c : ℕ) (ch : ChannelState S T) → slice_get b.channels c ≡ Some ch → IsAsLogged d (logged d (Opened at ∷ log)) c ch)
       → SlaveHas take d b (Opened at ∷ log)
-  opened-rest d a b log at few none has rest as_many channels out opens = record {
+  opened-rest d a b log at few none has rest as_many channels out as_logged = record {
     few = omega (arith, few);
     is_log = (none, has.is_log);
     profile = ap (λ (s : SessionState). s.profile) rest.session ∙ has.profile;
@@ -80,7 +82,7 @@ module _ {S E T F : Type 0} (send : SendGhosts S E) (ring : EndGhosts E) (take :
     outbox = subst (λ o. OutboxStandsAfter o (sent_units d log) (waits d log)) (sym rest.outbox) has.outbox;
     channels = λ c ch there. subst (λ n. ChannelHas take n (λ m. deeds_of d m c log) ch) (omega (arith, opened-more at log)) (channels c ch there);
     out = out;
-    opens = opens;
+    as_logged = as_logged;
     many = as_many ∙ has.many;
     plan = rest.plan ∙ plan-by d a.session (past_of d log) (rest.lists ∙ ap lists_of has.profile) has.session;
     account = subst (λ x. AccountStandsAfter x (entries_of d log) (late_of d log)) (sym rest.account) has.account;
@@ -102,6 +104,19 @@ module _ {S E T F : Type 0} (send : SendGhosts S E) (ring : EndGhosts E) (take :
       let set_c = get_or opens.sets c 0 in
       new-or-same send ring take a.session.store a.number c cap_c set_c old ch
       (opens.channels.each c old ch was at cap_c set_c (there-is opens.caps (length a.channels) c opens.as_many_caps below) (there-is opens.sets (length a.channels) c opens.as_many_sets below)))
+
+  -- each event channel is on its line
+  pub lines-new : (a b : SlaveState S T) → length b.channels ≡ length a.channels → Parts a b → KeepsLines a b
+  lines-new a b many parts =
+      lines-same a.channels b.channels many
+      (λ c x y at now.
+      let old = get_or a.channels c y in
+      let was = was-there a.channels b.channels c y many now in
+      let back : old.link.ring ≡ x.link.ring = ap (λ (ch : ChannelState S T). ch.link.ring) (same_Some old x (sym was ∙ at)) in
+      elim (parts.each c y now) [
+        | inl w ↦ w.1.keeps.ring ∙ ap (λ (l : LinkState S). l.ring) w.1.opens.handed.rest ∙ back
+        | inr w ↦ ap (λ (ch : ChannelState S T). ch.link.ring) w.1 ∙ back
+      ])
 
   -- there is one at each event channel of which a list is ready
   parts-there : (d : Profile) (a b : SlaveState S T) (log : List Act) (opens : OpensAll send ring take a b) → SlaveHas take d a log
@@ -229,9 +244,9 @@ module _ {S E T F : Type 0} (send : SendGhosts S E) (ring : EndGhosts E) (take :
       let cap = there-is opens.caps (length a.channels) c opens.as_many_caps below in
       let one = opens.channels.each c old ch was at (get_or opens.caps c 0) (get_or opens.sets c 0) cap (there-is opens.sets (length a.channels) c opens.as_many_sets below) in
       let here = subst (λ n. OpensIfAny send ring take a.session.store n c (get_or opens.caps c 0) (get_or opens.sets c 0) old ch) stands.has.number one in
-      opened-if send ring take d (λ m. past_at d m log) (λ m. past_at d m (Opened (parts-all a b opens).at ∷ log)) (opened log) (λ m. deeds_of d m c log) old ch a.session.store c (get_or opens.caps c 0) (get_or opens.sets c 0) here
-      (λ m less. past-other d m (parts-all a b opens).at log (λ e. omega (arith, e, less))) (new-opened d a log (parts-all a b opens).at opens.caps c (get_or opens.caps c 0) stands.has opens.rest.lists opens.caps_are cap)
-      (stands.has.channels c old was) (stands.has.opens c old was))
+      opened-if send ring take d (logged d log) (logged d (Opened (parts-all a b opens).at ∷ log)) (opened log) (λ m. deeds_of d m c log) old ch a.session.store c (get_or opens.caps c 0) (get_or opens.sets c 0) here
+      (λ m less. past-other d m (parts-all a b opens).at log (λ e. omega (arith, e, less))) refl (new-opened d a log (parts-all a b opens).at opens.caps c (get_or opens.caps c 0) stands.has opens.rest.lists opens.caps_are cap)
+      (stands.has.channels c old was) (stands.has.as_logged c old was))
 
   -- a measurement is opened in vain: it ends at once
   pub opens-in-vain : (d : Profile) (a b : SlaveState S T) (log : List Act) → 32 * (1 + length log) ≤ MAX_TAKEN → NoneRuns (past_of d log) → PartsStandAfter take d a log → (opens : OpensInVain send ring take a b)
@@ -263,9 +278,9 @@ module _ {S E T F : Type 0} (send : SendGhosts S E) (ring : EndGhosts E) (take :
             let cap = there-is opens.caps (length a.channels) c opens.as_many_caps below in
             let one = opens.channels.each c old ch was at cap_c set_c cap (there-is opens.sets (length a.channels) c opens.as_many_sets below) in
             let here = subst (λ n. (ch ≡ old) ⊎ ((set_c ≢ 0) × ((m : ChannelState S T) × Opens send ring take old m a.session.store c cap_c n × Ends m ch))) stands.has.number one in
-            opened-in-vain send ring take d (λ m. past_at d m log) (λ m. past_at d m (Opened (parts-vain a b opens).at ∷ log)) (opened log) (λ m. deeds_of d m c log) old ch a.session.store c cap_c set_c here
-            (λ m less. past-other d m (parts-vain a b opens).at log (λ e. omega (arith, e, less))) (new-opened d a log (parts-vain a b opens).at opens.caps c cap_c stands.has opens.rest.lists opens.caps_are cap)
-            (stands.has.channels c old was) (stands.has.opens c old was));
+            opened-in-vain send ring take d (logged d log) (logged d (Opened (parts-vain a b opens).at ∷ log)) (opened log) (λ m. deeds_of d m c log) old ch a.session.store c cap_c set_c here
+            (λ m less. past-other d m (parts-vain a b opens).at log (λ e. omega (arith, e, less))) refl (new-opened d a log (parts-vain a b opens).at opens.caps c cap_c stands.has opens.rest.lists opens.caps_are cap)
+            (stands.has.channels c old was) (stands.has.as_logged c old was));
         ended = λ quiet c ch at. (both c ch at).1;
       }
 
@@ -286,12 +301,24 @@ module _ {S T F : Type 0} (take : TakeGhosts T F) where
             let was = was-there a.channels b.channels c ch looks.channels.as_many at in
             channel-looks take (opened log) (λ m. deeds_of d m c log) old ch (looks.channels.each c old ch was at) (has.channels c old was);
         out = out-each (λ c. Looks) a.channels b.channels (λ c m. is_out m c log) looks.channels (λ c x y l. keeps-looks x y l) has.out;
-        opens = opened-each (λ c. Looks) a.channels b.channels d (λ m. past_at d m log) looks.channels (λ c x y l. keeps-looks x y l) has.opens;
+        as_logged = opened-each (λ c. Looks) a.channels b.channels d (logged d log) looks.channels (λ c x y l. keeps-looks x y l) has.as_logged;
         many = looks.channels.as_many ∙ has.many;
         plan = ap (λ (s : SlaveState S T). s.plan) looks.rest ∙ has.plan;
         account = subst (λ x. AccountStandsAfter x (entries_of d log) (late_of d log)) (sym (ap (λ (s : SlaveState S T). s.account) looks.rest)) has.account;
         number = ap (λ (s : SlaveState S T). s.number) looks.rest ∙ has.number;
       }
+
+  pub lines-looked : (a b : SlaveState S T) → LooksAtAll a b → KeepsLines a b
+  lines-looked a b looks = lines-each (λ c. Looks) a.channels b.channels looks.channels (λ c x y l. (keeps-looks x y l).ring)
+
+  pub lines-started : (a b : SlaveState S T) (lists : ℕ) → StartsLists take a b lists → KeepsLines a b
+  lines-started a b lists s =
+      lines-same s.looked.channels b.channels s.starts.as_many
+      (λ c x y at now.
+      let set = get_or s.sets c 0 in
+      let there = there-is s.sets (length s.looked.channels) c s.as_many (slice_get_within s.looked.channels c x at) in
+      (keeps-orders take x y _ _ (s.starts.each c x y at now set there)).ring)
+      ∙ lines-looked a s.looked s.looks
 
   pub looks-ended : (past : Past) (a b : SlaveState S T) → LooksAtAll a b → HasEnded a past → HasEnded b past
   looks-ended past a b looks ended = λ none c ch at.
@@ -342,12 +369,12 @@ module _ {S T F : Type 0} (take : TakeGhosts T F) where
             let set = get_or sets c 0 in
             let there = there-is sets (length a.channels) c as_many (slice_get_within a.channels c old was) in
             out-kept (λ m. is_out m c log) old ch (keeps-orders take old ch _ _ (starts.each c old ch was at set there)) (has.out c old was);
-        opens = λ c ch at.
+        as_logged = λ c ch at.
             let old = get_or a.channels c ch in
             let was = was-there a.channels b.channels c ch starts.as_many at in
             let set = get_or sets c 0 in
             let there = there-is sets (length a.channels) c as_many (slice_get_within a.channels c old was) in
-            opened-kept d (λ m. past_at d m log) c old ch (keeps-orders take old ch _ _ (starts.each c old ch was at set there)) (has.opens c old was);
+            opened-kept d (logged d log) c old ch (keeps-orders take old ch _ _ (starts.each c old ch was at set there)) (has.as_logged c old was);
         many = starts.as_many ∙ has.many;
         plan = ap (λ (s : SlaveState S T). s.plan) rest ∙ has.plan;
         account = subst (λ x. AccountStandsAfter x (entries_of d log) (late_of d log)) (sym (ap (λ (s : SlaveState S T). s.account) rest)) has.account;
@@ -400,7 +427,7 @@ module _ {S T F : Type 0} (take : TakeGhosts T F) where
         (λ m. sym (ap (λ xs. if nat_eq (m + 1) (opened log) then xs ++ deeds_of d m c log else deeds_of d m c log) (starts-none MAX_LISTS _ (λ l below. ap (λ b. b && is_on d (past_of d log) c l) (none l below)))
         ∙ either (nat_eq (m + 1) (opened log)) (deeds_of d m c log))) ch (has.channels c ch at);
     out = has.out;
-    opens = has.opens;
+    as_logged = has.as_logged;
     many = has.many;
     plan = has.plan;
     account = has.account;

@@ -24,10 +24,12 @@ use Rattle.slave_channel.specs.Channels.{ChannelState, ShareState, TakesOf}
 use Rattle.slave_channels.specs.Calls.{TakesFromNewer, TakesFromOlder}
 use Rattle.session_account.specs.Accounts.{AccountStandsAfter}
 use Rattle.slave_channels.specs.Each.{IsOnlyAt}
-use Rattle.slave.specs.Hearing.{GoesBy, is_spent}
+use Rattle.slave.specs.Hearing.{GoesBy, KeepsLines, is_spent}
 use Rattle.slave.specs.Inner.{PartsGoBy, acts_of, counting}
 use Rattle.slave.specs.Log.{Act, Took, deeds_of, entries_of, is_out, laid_by, late_of, opened, past_of, sample_laid, sent_units, waits}
-use Rattle.slave.specs.Standing.{ChannelHas, HasEnded, IsOut, PartsStandAfter, SlaveStandsAfter, SlaveState, number_of, AreOpenedAfter, HasPacketsIfPasses}
+use Rattle.slave.specs.Returns.{ends_in}
+use Rattle.slave.specs.Standing.{Logged, logged, ChannelHas, HasEnded, IsOut, PartsStandAfter, SlaveStandsAfter, SlaveState, number_of, IsAsLogged, HasPacketsIfPasses}
+use Rattle.slave.proofs.KeepingLemmas.{lines-but}
 use Rattle.slave.proofs.OutLemmas.{KeepsParts, keeps-same, out-kept, out-same, some-at, opened-kept, opened_of}
 use Rattle.session.specs.declared.profile.Profile.{Profile}
 use Rattle.slave.specs.Openings.{past_at}
@@ -188,6 +190,8 @@ module _ {S T F : Type 0} (take : TakeGhosts T F) where
       older = ap (λ (z : ChannelState S T). number_of z.older) rest;
       newer_opened = ap (λ (o : Option (ShareState T)). opened_of o) is ∙ ap Some opened ∙ sym (ap (λ (o : Option (ShareState T)). opened_of o) was);
       older_opened = ap (λ (z : ChannelState S T). opened_of z.older) rest;
+      came = ap (λ (z : ChannelState S T). ends_in z.link.came) rest;
+      ring = ap (λ (z : ChannelState S T). z.link.ring) rest;
     };
     out = λ out is. is.newer s.number (ap (λ (o : Option (ShareState T)). number_of o) was);
   }
@@ -201,6 +205,8 @@ module _ {S T F : Type 0} (take : TakeGhosts T F) where
       older = ap (λ (o : Option (ShareState T)). number_of o) is ∙ ap Some same ∙ sym (ap (λ (o : Option (ShareState T)). number_of o) was);
       newer_opened = ap (λ (z : ChannelState S T). opened_of z.newer) rest;
       older_opened = ap (λ (o : Option (ShareState T)). opened_of o) is ∙ ap Some opened ∙ sym (ap (λ (o : Option (ShareState T)). opened_of o) was);
+      came = ap (λ (z : ChannelState S T). ends_in z.link.came) rest;
+      ring = ap (λ (z : ChannelState S T). z.link.ring) rest;
     };
     out = λ out is. is.older s.number (ap (λ (o : Option (ShareState T)). number_of o) was);
   }
@@ -221,21 +227,30 @@ module _ {S T F : Type 0} (take : TakeGhosts T F) where
       ]
 
   -- and what it was opened with
-  pub opened-changed : (d : Profile) (pasts : ℕ → Past) (a b : SlaveState S T) (c : ℕ) (x y : ChannelState S T) → ChangesAt a b c x y → AreOpenedAfter d pasts c y
-      → ((k : ℕ) (ch : ChannelState S T) → slice_get a.channels k ≡ Some ch → AreOpenedAfter d pasts k ch)
-      → (k : ℕ) (ch : ChannelState S T) → slice_get b.channels k ≡ Some ch → AreOpenedAfter d pasts k ch
-  opened-changed d pasts a b c x y changes here has k ch at =
+  pub opened-changed : (d : Profile) (pasts now : Logged) (a b : SlaveState S T) (c : ℕ) (x y : ChannelState S T) → ChangesAt a b c x y
+      → ((k : ℕ) (ch : ChannelState S T) → k ≢ c → IsAsLogged d pasts k ch → IsAsLogged d now k ch) → IsAsLogged d now c y
+      → ((k : ℕ) (ch : ChannelState S T) → slice_get a.channels k ≡ Some ch → IsAsLogged d pasts k ch)
+      → (k : ℕ) (ch : ChannelState S T) → slice_get b.channels k ≡ Some ch → IsAsLogged d now k ch
+  opened-changed d pasts now a b c x y changes others here has k ch at =
       elim (eqb_tells k c) [
         | inl w ↦
             let is-y : y ≡ ch = some_inj y ch (sym changes.is ∙ ap (slice_get b.channels) (sym w.1) ∙ at) in
-            subst (λ (z : ChannelState S T). AreOpenedAfter d pasts k z) is-y (subst (λ j. AreOpenedAfter d pasts j y) (sym w.1) here)
-        | inr w ↦ has k ch (sym (changes.others k w.1) ∙ at)
+            subst (λ (z : ChannelState S T). IsAsLogged d now k z) is-y (subst (λ j. IsAsLogged d now j y) (sym w.1) here)
+        | inr w ↦ others k ch w.1 (has k ch (sym (changes.others k w.1) ∙ at))
       ]
+
+  -- and it is on its line still
+  pub lines-at : (a b : SlaveState S T) (c : ℕ) (x y : ChannelState S T) → ChangesAt a b c x y → y.link.ring ≡ x.link.ring → KeepsLines a b
+  lines-at a b c x y changes same =
+      lines-but c a.channels b.channels changes.as_many changes.others
+      (λ u v at now.
+      ap (λ (ch : ChannelState S T). ch.link.ring) (some_inj v y (sym now ∙ changes.is)) ∙ same
+      ∙ ap (λ (ch : ChannelState S T). ch.link.ring) (some_inj x u (sym changes.was ∙ at)))
 
   -- an item of a part was taken
   pub took-item : (a b : SlaveState S T) (c : ℕ) (x y : ChannelState S T) (m : ℕ) (i j : IntakeState T) (item : Item) → ChangesAt a b c x y → b.account ≡ a.account → IsPart x y m i j
       → Takes take i j item → ((deeds : List Deed) → StandsAfter take i deeds → HasPacketsIfPasses deeds item) → LaysBehind a b (Took m c item) c i → PartsGoBy take a b (Took m c item ∷ [])
-  took-item a b c x y m i j item changes account part takes packets lays = λ log few stands.
+  took-item a b c x y m i j item changes account part takes packets lays = (lines-at a b c x y changes part.keeps.ring, λ log few stands.
       let d = a.session.profile in
       let n = opened log in
       let ds = deeds_of d m c log in
@@ -266,21 +281,21 @@ module _ {S T F : Type 0} (take : TakeGhosts T F) where
           channels = channels-changed n (λ k q. deeds_of d q k log) (λ k q. deeds_of d q k (Took m c item ∷ log)) a b c x y changes
               (λ k q other. took-else m q c k (TookItem item) (deeds_of d q k log) (λ e z. other (sym z))) here has.channels;
           out = out-changed (λ k q. is_out q k log) (λ k q. is_out q k log) a b c x y changes (λ k q other. refl) (out-kept (λ q. is_out q c log) x y part.keeps (has.out c x changes.was)) has.out;
-          opens = opened-changed d (λ q. past_at d q log) a b c x y changes (opened-kept d (λ q. past_at d q log) c x y part.keeps (has.opens c x changes.was)) has.opens;
+          as_logged = opened-changed d (logged d log) (logged d log) a b c x y changes (λ k ch other is. is) (opened-kept d (logged d log) c x y part.keeps (has.as_logged c x changes.was)) has.as_logged;
           many = changes.as_many ∙ has.many;
           plan = changes.plan ∙ has.plan;
           account = subst (λ z. AccountStandsAfter z (entries_of d log) (late_of d log)) (sym account) has.account;
           number = changes.number ∙ has.number;
         };
         ended = ended-changed a b c x y (past_of d log) changes stands.ended;
-      } where
+      }) where
         number_of : {k : ℕ} {z : Item} → Took m c item ≡ Took k c z → m ≡ k
         number_of e = cc
 
   -- nothing was taken
   pub took-none : (a b : SlaveState S T) (c : ℕ) (x y : ChannelState S T) (P : Type 0) → ChangesAt a b c x y → KeepsParts x y → b.outbox ≡ a.outbox → b.account ≡ a.account
       → ((log : List Act) → PartsStandAfter take a.session.profile a log → P) → ((n : ℕ) (f : ℕ → List Deed) → P → ChannelHas take n f x → ChannelHas take n f y) → PartsGoBy take a b []
-  took-none a b c x y P changes keeps outbox account known same = λ log few stands.
+  took-none a b c x y P changes keeps outbox account known same = (lines-at a b c x y changes keeps.ring, λ log few stands.
       let d = a.session.profile in
       let has = stands.has in
       record {
@@ -293,14 +308,14 @@ module _ {S T F : Type 0} (take : TakeGhosts T F) where
           channels = channels-changed (opened log) (λ k m. deeds_of d m k log) (λ k m. deeds_of d m k log) a b c x y changes (λ k m other. refl)
               (same (opened log) (λ m. deeds_of d m c log) (known log stands) (has.channels c x changes.was)) has.channels;
           out = out-changed (λ k q. is_out q k log) (λ k q. is_out q k log) a b c x y changes (λ k q other. refl) (out-kept (λ q. is_out q c log) x y keeps (has.out c x changes.was)) has.out;
-          opens = opened-changed d (λ q. past_at d q log) a b c x y changes (opened-kept d (λ q. past_at d q log) c x y keeps (has.opens c x changes.was)) has.opens;
+          as_logged = opened-changed d (logged d log) (logged d log) a b c x y changes (λ k ch other is. is) (opened-kept d (logged d log) c x y keeps (has.as_logged c x changes.was)) has.as_logged;
           many = changes.as_many ∙ has.many;
           plan = changes.plan ∙ has.plan;
           account = subst (λ z. AccountStandsAfter z (entries_of d log) (late_of d log)) (sym account) has.account;
           number = changes.number ∙ has.number;
         };
         ended = ended-changed a b c x y (past_of d log) changes stands.ended;
-      }
+      })
 
   -- what waits stays as it is where nothing is laid out, and gains a sample where one passes
   lays-none : (a b : SlaveState S T) (act : Act) (c : ℕ) (i : IntakeState T) → b.outbox ≡ a.outbox
@@ -475,7 +490,7 @@ module _ {S T F : Type 0} (take : TakeGhosts T F) where
       (subst (λ k. TakesItems take 1 w (counting b k)) (sym is_n) (taken-older take w b c x y step changes refl (record { fits = fits; same = refl; fresh = ap is_spent same ∙ fresh; shown = shown }) only.as_many one.rest x.older y.older refl refl one.takes))
 
   pub takes-nothing : (a : SlaveState S T) → TakesItems take 0 a a
-  takes-nothing a = record { acts = []; are = refl; few = omega arith; counted = omega arith; session = refl; as_many = refl; shown = refl; spent = λ is. refl; goes = λ log stands. stands }
+  takes-nothing a = record { acts = []; are = refl; few = omega arith; counted = omega arith; session = refl; as_many = refl; shown = refl; spent = λ is. refl; goes = (refl, λ log stands. stands) }
 
   -- items were taken, and then others
   pub takes-more : (n k : ℕ) (a m b : SlaveState S T) → TakesItems take n a m → TakesItems take k m b → TakesItems take (n + k) a b
@@ -490,11 +505,11 @@ module _ {S T F : Type 0} (take : TakeGhosts T F) where
     spent = λ is.
         let first : m ≡ record a { next = m.next } = one.spent is in
         two.spent (ap is_spent first ∙ is) ∙ ap (λ (s : SlaveState S T). record s { next = b.next }) first;
-    goes = λ log stands.
+    goes = (two.goes.0 ∙ one.goes.0, λ log stands.
         let profile = ap (λ (s : SessionState). s.profile) one.session in
         subst (λ xs. SlaveStandsAfter take a.session.profile b xs) (sym (assoc two.acts one.acts log))
         (subst (λ p. SlaveStandsAfter take p b (two.acts ++ (one.acts ++ log))) profile
-        (two.goes (one.acts ++ log) (subst (λ p. SlaveStandsAfter take p m (one.acts ++ log)) (sym profile) (one.goes log stands))));
+        (two.goes.1 (one.acts ++ log) (subst (λ p. SlaveStandsAfter take p m (one.acts ++ log)) (sym profile) (one.goes.1 log stands)))));
   }
 
   -- no more than so many are no more than more

@@ -1,15 +1,31 @@
 -- What a slave leaves where it is closed.
-use Rattle.std.specs.Prelude.{◌≡◌, ◌*◌, ◌≤◌, ◌↔◌, Bool, true, List, ◌++◌, length}
+use Rattle.std.specs.Prelude.{◌≡◌, ℕ, ◌*◌, ◌≤◌, ◌↔◌, Bool, true, List, ◌++◌, length, map}
+use Rattle.std.specs.Prelude.{slice_get, Some}
 use Rattle.std.specs.List.{list_all}
 use Rattle.xcp_base.specs.declared.limits.TheConstants.{MAX_CHANNELS}
 use Rattle.channel_ring.specs.declared.ends.TakeEnd.{Ghosts as TakeGhosts}
 use Rattle.frame_outbox.specs.Outboxes.{has_waiting}
 use Rattle.session.specs.declared.profile.Profile.{Profile}
+use Rattle.slave_channel.specs.Channels.{ChannelState}
+use Rattle.slave_channels.specs.Calls.{rings_of}
+use Rattle.tasks.specs.Tasks.{TaskEndState}
 use Rattle.session_account.specs.Accounts.{AccountStandsAfter}
 use Rattle.session_account.specs.declared.totals.Totals.{Totals}
 use Rattle.slave.specs.Log.{Act, AllBack, discarding, entries_of, is_return, late_of, losing}
+use Rattle.slave.specs.Returns.{AreReturns, ends_in, returns_at}
 use Rattle.slave.specs.Session.{SessionLaw}
 use Rattle.slave.specs.Standing.{IsLog, SlaveStandsAfter, SlaveState}
+
+-- what came back of each event channel is what its task gave back, each once and in order, beside
+-- samplers that the task never fetched
+abbrev pub AreOfTasks : {S : Type 0} → List (TaskEndState S) → List Act → Type 0
+AreOfTasks ends log =
+    (c : ℕ) (end : TaskEndState _) → slice_get ends c ≡ Some end
+    → AreReturns (returns_at c log) (ends_in end.gave)
+
+-- these are the ends of the tasks of event channels, in their order: each is of its line
+abbrev pub AreEndsOf : {S T : Type 0} → List (ChannelState S T) → List (TaskEndState S) → Type 0
+AreEndsOf channels ends = map (λ (end : TaskEndState _). end.ring) ends ≡ rings_of channels
 
 -- an account is that of a whole log, of which the law of a session holds: of all parts that came
 -- back, without what was thrown away behind that; and it is whole where all parts came back
@@ -23,12 +39,16 @@ pub record IsClosedWith (d : Profile) (account : List Totals) (whole : Bool) (lo
 module _ {S T F : Type 0} (take : TakeGhosts T F) where
   -- the lists stopped, as where the master is lost, if one was connected; what waited was thrown
   -- away; and parts came back, two at most of an event channel. The account is that of this and all
-  -- that was before
-  pub record Closes (a : SlaveState S T) (account : List Totals) (whole : Bool) : Type 0 where
+  -- that was before: of all that the tasks gave back
+  pub record Closes (a : SlaveState S T) (ends : List (TaskEndState S)) (account : List Totals)
+      (whole : Bool)
+      : Type 0 where
     pub last : List Act
     pub are : list_all is_return last ≡ true
     pub few : length last ≤ 2 * MAX_CHANNELS
     pub closed :
         (log : List Act) → SlaveStandsAfter take a.session.profile a log
         → IsClosedWith a.session.profile account whole
+        (last ++ (discarding (has_waiting a.outbox) ++ (losing a.session.connected ++ log)))
+        × AreOfTasks ends
         (last ++ (discarding (has_waiting a.outbox) ++ (losing a.session.connected ++ log)))

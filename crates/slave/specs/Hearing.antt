@@ -14,6 +14,7 @@ use Rattle.session.specs.declared.profile.Profile.{Profile}
 use Rattle.frame_outbox.specs.Outboxes.{has_room}
 use Rattle.tasks.specs.Links.{CanStart}
 use Rattle.slave_channel.specs.Channels.{ChannelState, keeps_two, number_of}
+use Rattle.slave_channels.specs.Calls.{rings_of}
 use Rattle.slave.specs.Log.{Act, CameBack, Discarded, Heard, HungUp, Opened, Refused, Sent, Took}
 use Rattle.slave.specs.Log.{opened, past_of}
 use Rattle.slave.specs.Standing.{IsStart, NoneRuns, SlaveStandsAfter, SlaveState}
@@ -88,6 +89,10 @@ module _ {S T : Type 0} where
     pub ended :
         opened opening ≢ 0 → (two : HasNoRoom d past s) → number_of two.state.newer ≡ Some number
 
+-- each event channel of the one is on its line with its task in the other
+abbrev pub KeepsLines : {S T : Type 0} → SlaveState S T → SlaveState S T → Type 0
+KeepsLines a b = rings_of b.channels ≡ rings_of a.channels
+
 -- it counted so much that it hears and takes nothing any more
 abbrev pub is_spent : {S T : Type 0} → SlaveState S T → Bool
 is_spent s = nat_le MOST_ACTS s.acts
@@ -97,11 +102,13 @@ abbrev pub may_hear : {S T : Type 0} → SlaveState S T → Bool
 may_hear s = not (is_spent s) && has_room s.outbox
 
 module _ {S T F : Type 0} (take : TakeGhosts T F) where
-  -- whatever the one stands after, the other stands after that and these acts
+  -- whatever the one stands after, the other stands after that and these acts; and each event channel
+  -- is on its line with its task still
   abbrev pub GoesBy : SlaveState S T → SlaveState S T → List Act → Type 0
   GoesBy a b acts =
-      (log : List Act) → SlaveStandsAfter take a.session.profile a log
-      → SlaveStandsAfter take a.session.profile b (acts ++ log)
+      KeepsLines a b
+      × ((log : List Act) → SlaveStandsAfter take a.session.profile a log
+      → SlaveStandsAfter take a.session.profile b (acts ++ log))
 
   -- a packet was heard; before that a measurement may have been opened, if it is a start; and while
   -- lists run, a start that isn't refused with ERR_SEQUENCE is refused with ERR_CMD_BUSY, where its

@@ -20,7 +20,11 @@ use Rattle.session.specs.Starts.{is_on, shows_on, starts}
 use Rattle.session.specs.declared.profile.Profile.{Profile}
 use Rattle.sampler.specs.State.{SamplerState}
 use Rattle.control_ring.specs.Orders.{TakeState}
-use Rattle.tasks.specs.Links.{just_out}
+use Rattle.list_set.specs.Counts.{one_if}
+use Rattle.tasks.specs.Links.{LinkState, is_out, just_out}
+use Rattle.tasks.specs.Tasks.{TaskEndState}
+use mathlib.Core.List.{IsPrefix}
+use Rattle.std.specs.Option.{is_some}
 use Rattle.channel_intake.specs.Deeds.{Deed, Unsent}
 use Rattle.channel_intake.specs.declared.step.Step.{Step}
 use Rattle.channel_intake.specs.declared.step.Step.TheVariants.{Full, Marked, Nothing, Skipped}
@@ -38,7 +42,7 @@ use Rattle.slave_channels.specs.Calls.{CanStartAll, Ends, HasFull, HasNoPlaces, 
 use Rattle.slave_channels.specs.Calls.{HaveRoom, KeepsNoneOf, Looks, OpenedAndEnded, OpensAt}
 use Rattle.slave_channels.specs.Calls.{StartsAt, StopsAll}
 use Rattle.slave_channels.specs.Each.{IsEach, IsOnlyAt}
-use Rattle.slave.specs.Hearing.{IsStartRefusal, MayOpen, IsIdleRefusal, is_spent}
+use Rattle.slave.specs.Hearing.{IsStartRefusal, KeepsLines, MayOpen, IsIdleRefusal, is_spent}
 use Rattle.slave.specs.Taking.{HasRunning, IsEmptyAt, IsHeldUp, LetsGoAt, LooksAt, LooksTimes}
 use Rattle.slave.specs.Taking.{known_of, newest_at, older_at}
 use Rattle.slave.specs.declared.round.Round.{Round}
@@ -211,12 +215,13 @@ module _ {S T : Type 0} where
 
 module _ {S T F : Type 0} (take : TakeGhosts T F) where
   -- whatever the parts of the one stand after, short of 2^57 acts, those of the other stand after
-  -- that and these acts
+  -- that and these acts; and each event channel is on its line with its task still
   abbrev pub PartsGoBy : SlaveState S T → SlaveState S T → List Act → Type 0
   PartsGoBy a b acts =
-      (log : List Act) → 32 * (length acts + length log) ≤ MAX_TAKEN
+      KeepsLines a b
+      × ((log : List Act) → 32 * (length acts + length log) ≤ MAX_TAKEN
       → PartsStandAfter take a.session.profile a log
-      → PartsStandAfter take a.session.profile b (acts ++ log)
+      → PartsStandAfter take a.session.profile b (acts ++ log))
 
   -- the lists were started
   abbrev pub SlaveStarted : Profile → SlaveState S T → List Act → ℕ → Type 0
@@ -265,6 +270,7 @@ module _ {S T F : Type 0} (take : TakeGhosts T F) where
     pub opening : List Act
     pub may_open : MayOpen most opening
     pub for_some : (opening ≡ []) ⊎ HasSome lists
+    pub lines : KeepsLines a b
     pub in_one :
         (log : List Act) → 32 * (1 + length opening + length log) ≤ MAX_TAKEN
         → PartsStandAfter take a.session.profile a log
@@ -306,6 +312,7 @@ module _ {S T F : Type 0} (take : TakeGhosts T F) where
     pub exchange : Exchange
     pub packet_is : exchange.packet ≡ packet
     pub clock_is : exchange.clock ≡ clock
+    pub lines : KeepsLines a b
     pub goes :
         (log : List Act) (lists : ℕ) → 32 * (1 + length log) ≤ MAX_TAKEN
         → ((l : ℕ) → l < MAX_LISTS
@@ -437,6 +444,7 @@ module _ {S T F : Type 0} (take : TakeGhosts T F) where
 
   -- the first n of what waits were left
   pub record LeavesFirst (n : ℕ) (a b : SlaveState S T) : Type 0 where
+    pub lines : KeepsLines a b
     pub outbox : b.outbox ≡ a.outbox
     pub session : b.session ≡ a.session
     pub counted : b.acts ≡ a.acts
@@ -450,3 +458,56 @@ module _ {S T F : Type 0} (take : TakeGhosts T F) where
         (log : List Act) → 32 * (1 + length log) ≤ MAX_TAKEN
         → PartsStandAfter take a.session.profile a log
         → HasEnded b (past_of a.session.profile log)
+
+-- how many of a link's two samplers are kept
+abbrev pub kept_of : {S : Type 0} → LinkState S → ℕ
+kept_of l = one_if (is_some l.older) + one_if (is_some l.newer)
+
+module _ {S : Type 0} where
+  -- all that came or is known to come over the one came or is known to come over the other
+  abbrev pub Grows : LinkState S → LinkState S → Type 0
+  Grows l m = IsPrefix (l.came ++ l.coming) (m.came ++ m.coming)
+
+  -- nothing is known to come, or nothing is out
+  abbrev pub Rests : LinkState S → Type 0
+  Rests m = (m.coming ≡ []) ⊎ ((is_out m.older ≡ false) × (is_out m.newer ≡ false))
+
+module _ {S T : Type 0} where
+  -- what came back at event channel c was taken back, if something did: then one sampler less is
+  -- kept; else some list runs, or nothing is to come
+  pub record TakesOne (c : ℕ) (some : Bool) (a b : SlaveState S T) : Type 0 where
+    pub others : (k : ℕ) → k ≢ c → slice_get b.channels k ≡ slice_get a.channels k
+    pub grows :
+        (x y : ChannelState S T) → slice_get a.channels c ≡ Some x
+        → slice_get b.channels c ≡ Some y → Grows x.link y.link
+    pub yes :
+        some ≡ true → (x y : ChannelState S T) → slice_get a.channels c ≡ Some x
+        → slice_get b.channels c ≡ Some y → kept_of y.link + 1 ≡ kept_of x.link
+    pub no :
+        some ≡ false → (y : ChannelState S T) → slice_get b.channels c ≡ Some y
+        → Busy a.session ⊎ Rests y.link
+
+  -- all that came back there was taken back
+  pub record TakesAll (c : ℕ) (a b : SlaveState S T) : Type 0 where
+    pub others : (k : ℕ) → k ≢ c → slice_get b.channels k ≡ slice_get a.channels k
+    pub grows :
+        (x y : ChannelState S T) → slice_get a.channels c ≡ Some x
+        → slice_get b.channels c ≡ Some y → Grows x.link y.link
+    pub rests :
+        (y : ChannelState S T) → slice_get b.channels c ≡ Some y → Busy a.session ⊎ Rests y.link
+
+  -- all that the task of event channel c gave back came, if no list runs
+  pub record Gathers (c : ℕ) (end : TaskEndState S) (a b : SlaveState S T) : Type 0 where
+    pub others : (k : ℕ) → k ≢ c → slice_get b.channels k ≡ slice_get a.channels k
+    pub all :
+        (y : ChannelState S T) → slice_get b.channels c ≡ Some y
+        → Busy a.session ⊎ (y.link.came ≡ end.gave)
+
+  -- so at the first n event channels; the others are as they were
+  pub record GathersFirst (n : ℕ) (ends : List (TaskEndState S)) (a b : SlaveState S T)
+      : Type 0 where
+    pub others : (k : ℕ) → n ≤ k → slice_get b.channels k ≡ slice_get a.channels k
+    pub all :
+        (c : ℕ) (end : TaskEndState S) (y : ChannelState S T) → c < n
+        → slice_get ends c ≡ Some end → slice_get b.channels c ≡ Some y
+        → Busy a.session ⊎ (y.link.came ≡ end.gave)

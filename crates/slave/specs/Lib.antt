@@ -1,6 +1,7 @@
 pub mod Log
 pub mod Plans
 pub mod Openings
+pub mod Returns
 pub mod Refusals
 pub mod Standing
 pub mod Hearing

@@ -38,6 +38,7 @@ use Rattle.session_account.specs.Accounts.{AccountStandsAfter}
 use Rattle.session_account.specs.declared.totals.Totals.{Totals}
 use Rattle.slave.specs.Plans.{IsAsOpened, plan_at}
 use Rattle.slave.specs.Openings.{IsOpenedAfter, IsOpeningAfter, past_at}
+use Rattle.slave.specs.Returns.{AreReturns, ends_in, returns_at}
 
 -- the session with the master, the frames that were laid out, the event channels, how the DAQ lists
 -- were set up where the newest measurement was opened, how many measurements were opened, the
@@ -152,6 +153,15 @@ IsLog d (Sent n ∷ log) = (n ≤ length (waits d log)) × IsLog d log
 IsLog d (HungUp ∷ log) = IsLog d log
 IsLog d (Discarded ∷ log) = IsLog d log
 
+-- of a log: the session's past where each measurement was opened, and the pasts that came back of each
+-- event channel, the newest first
+pub record Logged : Type 0 where
+  pub opened_at : ℕ → Past
+  pub returns : ℕ → List SamplerPast
+
+abbrev pub logged : Profile → List Act → Logged
+logged d log = record { opened_at = λ m. past_at d m log; returns = λ c. returns_at c log }
+
 module _ {S T : Type 0} where
   -- what is kept of an event channel are its parts of the measurements that are out
   pub record IsOut (out : ℕ → Bool) (ch : ChannelState S T) : Type 0 where
@@ -160,14 +170,17 @@ module _ {S T : Type 0} where
     pub kept :
         (m : ℕ) → out m ≡ true → (number_of ch.newer ≡ Some m) ⊎ (number_of ch.older ≡ Some m)
 
-  -- the parts that are kept of event channel c were opened so, where these were the session's pasts
-  -- at the openings of the measurements
-  pub record AreOpenedAfter (d : Profile) (pasts : ℕ → Past) (c : ℕ) (ch : ChannelState S T)
+  -- the parts that are kept of event channel c were opened as the log says, and what came back there
+  -- is what came over the line with the task
+  pub record IsAsLogged (d : Profile) (l : Logged) (c : ℕ) (ch : ChannelState S T)
       : Type 0 where
     pub newer :
-        (p : ShareState T) → ch.newer ≡ Some p → IsOpenedAfter d (pasts p.number) c p.opened
+        (p : ShareState T) → ch.newer ≡ Some p
+        → IsOpenedAfter d (l.opened_at p.number) c p.opened
     pub older :
-        (p : ShareState T) → ch.older ≡ Some p → IsOpenedAfter d (pasts p.number) c p.opened
+        (p : ShareState T) → ch.older ≡ Some p
+        → IsOpenedAfter d (l.opened_at p.number) c p.opened
+    pub came : AreReturns (l.returns c) (ends_in ch.link.came)
 
   -- where no list runs, each measurement has ended
   abbrev pub HasEnded : SlaveState S T → Past → Type 0
@@ -213,9 +226,9 @@ module _ {T F : Type 0} (take : TakeGhosts T F) where
     pub out :
         (c : ℕ) (ch : ChannelState S T) → slice_get s.channels c ≡ Some ch
         → IsOut (λ m. is_out m c log) ch
-    pub opens :
+    pub as_logged :
         (c : ℕ) (ch : ChannelState S T) → slice_get s.channels c ≡ Some ch
-        → AreOpenedAfter d (λ m. past_at d m log) c ch
+        → IsAsLogged d (logged d log) c ch
     pub many : length s.channels ≡ length d.events.items
     pub plan : s.plan ≡ plan_at d log
     pub number : s.number ≡ opened log

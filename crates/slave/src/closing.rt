@@ -1,6 +1,10 @@
 //! A slave is closed.
-ghost use Rattle.std.specs.Prelude.{◌≡◌};
-ghost use Rattle.slave.specs.Closing.{Closes};
+ghost use Rattle.std.specs.Prelude.{◌≡◌, ◌*◌, ◌<◌, length};
+ghost use Rattle.xcp_base.specs.declared.limits.TheConstants.{MAX_CHANNELS};
+ghost use Rattle.slave.specs.Closing.{AreEndsOf, Closes};
+ghost use Rattle.slave.specs.Inner.{Collects, Gathers, GathersFirst};
+ghost use Rattle.slave_channels.specs.Calls.{IsBeside, IsRingAt};
+ghost use Rattle.slave_channels.specs.Each.{IsOnlyAt};
 
 use crate::slave::Slave;
 use daq_engine::Ring;
@@ -30,19 +34,55 @@ impl<R: Ring> Slave<R> {
     /// Closes the slave, and returns the account of the session. All DAQ lists stop, and what waits
     /// is thrown away and left, as by `hang_up`; then what came back of the tasks is taken back.
     ///
-    /// The tasks are to be finished before, and what is left of each handed in, which is freed here:
-    /// of a task that wasn't, the measurement that it holds is not in the account, which then isn't
-    /// whole. What a task did not fetch is recalled.
-    pub fn close(mut self, ends: Vec<TaskEnd<R::Send>>) -> Closed
-        ensures closes { Closes R.Take.TakeEnd self result.account result.is_whole }
+    /// The tasks are finished before, and what is left of each is handed in, in the order of the
+    /// event channels: all that they gave back is in the account. What a task did not fetch is
+    /// recalled; if it can't be, the account isn't whole.
+    pub fn close(mut self, mut ends: Vec<TaskEnd<R::Send>>) -> Closed
+        requires tasks { AreEndsOf self.channels ends.items }
+        ensures closes { Closes R.Take.TakeEnd self ends.items result.account result.is_whole }
     {
-        drop(ends);
         self.hang_up();
-        self.collect();
+        self.gather_all(&mut ends);
         let is_whole = !self.channels.has_parts();
         Closed {
             account: self.account,
             is_whole,
         }
+    }
+
+    /// Takes back, at all event channels, what their tasks gave back, which were finished.
+    fn gather_all(&mut self, ends: &mut Vec<TaskEnd<R::Send>>)
+        requires tasks { AreEndsOf self.old.channels ends.old.items }
+        ensures collects { Collects R.Take.TakeEnd (2 * MAX_CHANNELS) self.old self.new }
+        ensures gathers { GathersFirst (length self.old.channels) ends.old.items
+            self.old self.new }
+    {
+        for c in 0..self.channels.len() {
+            self.gather(c, &mut ends[c]);
+        }
+    }
+
+    /// Takes back what the task of event channel `c` gave back, which was finished.
+    fn gather(&mut self, c: usize, end: &mut TaskEnd<R::Send>)
+        requires channel { c < length self.old.channels }
+        requires one_line { IsRingAt c self.old.channels end.old.ring }
+        ensures collects { Collects R.Take.TakeEnd 2 self.old self.new }
+        ensures gathers { Gathers c end.old self.old self.new }
+        ensures end_stays { end.new ≡ end.old }
+    {
+        self.look_beside(c, end);
+        self.collect_at(c);
+        self.look_beside(c, end);
+    }
+
+    /// Looks at all that the task of event channel `c` gave back, which was finished.
+    fn look_beside(&mut self, c: usize, end: &mut TaskEnd<R::Send>)
+        requires channel { c < length self.old.channels }
+        requires one_line { IsRingAt c self.old.channels end.old.ring }
+        ensures collects { Collects R.Take.TakeEnd 0 self.old self.new }
+        ensures beside { IsOnlyAt (IsBeside end.old) c self.old.channels self.new.channels }
+        ensures end_stays { end.new ≡ end.old }
+    {
+        self.channels.beside(c, end);
     }
 }

@@ -1,9 +1,13 @@
 //! What came back of measurements is handed out.
-ghost use Rattle.std.specs.Prelude.{◌≡◌, ◌+◌, ◌*◌, ◌<◌, IsNone, OnSome, length, true};
+ghost use Rattle.std.specs.Prelude.{◌≡◌, ◌+◌, ◌*◌, ◌<◌, IsNone, OnSome, length, true, false};
 ghost use Rattle.xcp_base.specs.declared.limits.TheConstants.{MAX_CHANNELS};
 ghost use Rattle.slave.specs.Finishing.{GivesBack, GivesBackBy};
 ghost use Rattle.slave.specs.declared.limits.TheConstants.{PER_ACT};
-ghost use Rattle.slave.specs.Inner.{Collects, Idle, Notes, PartsGoBy, IsOver};
+ghost use Rattle.slave.specs.Inner.{Busy, Collects, Idle, IsOver, Notes, PartsGoBy, TakesAll};
+ghost use Rattle.slave.specs.Inner.{TakesOne};
+ghost use Rattle.slave_channels.specs.Calls.{GivesBackNewer, GivesBackOlder};
+ghost use Rattle.slave_channels.specs.Each.{IsOnlyAt};
+ghost use Rattle.std.specs.Option.{is_some};
 
 use crate::limits::PER_ACT;
 use crate::slave::Slave;
@@ -45,6 +49,7 @@ impl<R: Ring> Slave<R> {
     fn back_at(&mut self, c: usize) -> Option<Finished<R>>
         ensures back { GivesBackBy R.Take.TakeEnd (PartsGoBy R.Take.TakeEnd)
             R.Send.End.RingEnd self.old self.new c result }
+        ensures one { TakesOne c (is_some result) self.old self.new }
         ensures acts_stay { self.new.acts ≡ self.old.acts }
         ensures next_stays { self.new.next ≡ self.old.next }
     {
@@ -65,6 +70,7 @@ impl<R: Ring> Slave<R> {
     fn is_over(&self, c: usize) -> bool
         requires channel { c < length self.now.channels }
         ensures over { result ≡ true → IsOver self.now c }
+        ensures busy { result ≡ false → Busy self.now.session }
     {
         if self.is_idle() {
             return true;
@@ -85,21 +91,27 @@ impl<R: Ring> Slave<R> {
     }
 
     /// Takes back what came back at an event channel: of one measurement, or of two.
-    fn collect_at(&mut self, c: usize)
-        ensures { Collects R.Take.TakeEnd 2 self.old self.new }
+    pub(crate) fn collect_at(&mut self, c: usize)
+        ensures collects { Collects R.Take.TakeEnd 2 self.old self.new }
+        ensures all { TakesAll c self.old self.new }
     {
-        self.collect_one(c);
-        self.collect_one(c);
+        if self.collect_one(c) {
+            let _ = self.collect_one(c);
+        }
     }
 
-    /// Takes back what came back of one measurement at an event channel, and frees it.
-    fn collect_one(&mut self, c: usize)
-        ensures { Collects R.Take.TakeEnd 1 self.old self.new }
+    /// Takes back what came back of one measurement at an event channel, and frees it; and returns
+    /// whether something did.
+    fn collect_one(&mut self, c: usize) -> bool
+        ensures collects { Collects R.Take.TakeEnd 1 self.old self.new }
+        ensures one { TakesOne c result self.old self.new }
     {
-        if let Some(part) = self.back_at(c) {
-            // for the proof: gives `finished`, the past that its sampler came to
-            let _ = part.number();
-        }
+        let Some(part) = self.back_at(c) else {
+            return false;
+        };
+        // for the proof: gives `finished`, the past that its sampler came to
+        let _ = part.number();
+        true
     }
 
     /// What came back of the one before the last with a part there.
@@ -109,6 +121,9 @@ impl<R: Ring> Slave<R> {
             R.Send.End.RingEnd self.old self.new c result }
         ensures acts_stay { self.new.acts ≡ self.old.acts }
         ensures next_stays { self.new.next ≡ self.old.next }
+        ensures there { IsOnlyAt (GivesBackOlder
+            R.Send.SendEnd R.Send.End.RingEnd R.Take.TakeEnd result)
+            c self.old.channels self.new.channels }
     {
         let part = self.channels.take_older(c);
         note(&mut self.account, &part);
@@ -123,6 +138,9 @@ impl<R: Ring> Slave<R> {
             R.Send.End.RingEnd self.old self.new c result }
         ensures acts_stay { self.new.acts ≡ self.old.acts }
         ensures next_stays { self.new.next ≡ self.old.next }
+        ensures there { IsOnlyAt (GivesBackNewer
+            R.Send.SendEnd R.Send.End.RingEnd R.Take.TakeEnd result)
+            c self.old.channels self.new.channels }
     {
         let part = self.channels.take_newer(c);
         note(&mut self.account, &part);

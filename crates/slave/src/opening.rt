@@ -1,9 +1,10 @@
-ghost use Rattle.std.specs.Prelude.{◌≡◌, [], IfErr, IfOk, OnOk, length, replicate};
+ghost use Rattle.std.specs.Prelude.{◌≡◌, [], IfErr, IfOk, OnOk, length, map};
 ghost use Rattle.std.specs.List.{list_all};
 ghost use Rattle.slave.specs.Openings.{capacities_in};
 ghost use Rattle.slave.specs.Refusals.{CanOpen, IsOpenRefusal};
 ghost use Rattle.slave.specs.Standing.{SlaveStandsAfter};
-ghost use Rattle.slave_channels.specs.Calls.{no_sampler};
+ghost use Rattle.slave_channels.specs.Calls.{rings_of};
+ghost use Rattle.tasks.specs.Tasks.{just_begun};
 
 use crate::plan::Plan;
 use crate::slave::Slave;
@@ -49,8 +50,8 @@ fn may_have<R: Ring>(caps: &[usize]) -> bool
 }
 
 impl<R: Ring> Slave<R> {
-    /// A slave with this profile, and the tasks of its event channels, in their order. No master is
-    /// connected, there is no DAQ list, and nothing waits.
+    /// A slave with this profile, and the tasks of its event channels, in their order, each on a
+    /// line with this slave. No master is connected, there is no DAQ list, and nothing waits.
     ///
     /// Refused with `Profile` if the profile is out of a limit, with the first of them; else with
     /// `Capacity` if a ring of this kind may not have one of the capacities; or, before or after
@@ -70,7 +71,7 @@ impl<R: Ring> Slave<R> {
         ensures channels { IfOk result
             (λ made. length made.0.channels ≡ length profile.events.items) }
         ensures tasks { IfOk result
-            (λ made. made.1.items ≡ replicate (length profile.events.items) no_sampler) }
+            (λ made. made.1.items ≡ map just_begun (rings_of made.0.channels)) }
     {
         if let Some(fault) = profile.fault() {
             return Err(OpenFault::Profile(fault));

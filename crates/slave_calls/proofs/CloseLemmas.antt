@@ -12,6 +12,7 @@ use Rattle.handle_calls.specs.declared.content.Content.TheVariants as held
 use Rattle.handle_calls.specs.declared.status.Status.{Status}
 use Rattle.slave_calls.specs.Ends.{AccountRoom, ClosesHeld, HasLines, IsLineIn, MayClose, MayCloseHeld, StaysHeld, StaysOpen, TellsAccount}
 use Rattle.slave_calls.specs.OnHandles.{ByteSlave, ItemSlave}
+use Rattle.task_lending.specs.Lends.{NoneAway}
 use Rattle.slave_calls.proofs.OnLemmas.{one-kind, same-byte-slave, same-slave}
 
 pub some-not-none : {A : Type 0} {x : A} → Some x ≡ None → ⊥
@@ -61,14 +62,37 @@ module _ {content : Content} (room : ℕ) where
       subst (λ (c : Content). MayCloseHeld c (held.ByteSlave t) room) (sym is) (t, refl, so)
   may-close-bytes t is (Err status) so = tt
 
+-- no task of it is away
+pub none-away-items : (old : Content) {now : Content} {slave : ItemSlave} (room : ℕ) → MayCloseHeld old now room → now ≡ held.Slave slave → NoneAway slave
+none-away-items (held.Slave s) room (t, to, (collects, none, more)) same = subst (λ (e : ItemSlave). NoneAway e) (same-slave (sym to ∙ same)) none
+none-away-items (held.ByteSlave s) room (t, to, may) same = elim (one-kind (sym same ∙ to)) [ ]
+none-away-items (held.Store s) room may same = elim may [ ]
+none-away-items (held.Sampler s) room may same = elim may [ ]
+none-away-items (held.Engine s) room may same = elim may [ ]
+none-away-items (held.ByteSampler s) room may same = elim may [ ]
+none-away-items (held.ByteEngine s) room may same = elim may [ ]
+none-away-items (held.Task s) room may same = elim may [ ]
+none-away-items (held.ByteTask s) room may same = elim may [ ]
+
+pub none-away-bytes : (old : Content) {now : Content} {slave : ByteSlave} (room : ℕ) → MayCloseHeld old now room → now ≡ held.ByteSlave slave → NoneAway slave
+none-away-bytes (held.ByteSlave s) room (t, to, (collects, none, more)) same = subst (λ (e : ByteSlave). NoneAway e) (same-byte-slave (sym to ∙ same)) none
+none-away-bytes (held.Slave s) room (t, to, may) same = elim (one-kind (sym to ∙ same)) [ ]
+none-away-bytes (held.Store s) room may same = elim may [ ]
+none-away-bytes (held.Sampler s) room may same = elim may [ ]
+none-away-bytes (held.Engine s) room may same = elim may [ ]
+none-away-bytes (held.ByteSampler s) room may same = elim may [ ]
+none-away-bytes (held.ByteEngine s) room may same = elim may [ ]
+none-away-bytes (held.Task s) room may same = elim may [ ]
+none-away-bytes (held.ByteTask s) room may same = elim may [ ]
+
 module _ (items : Items) (bytes : Bytes) where
   -- the slave that is closed is the one that may be
   pub closes-items : {old : Option Content} (content : Content) {now : Content} {slave : ItemSlave} {before after : AccountRoom}
       → old ≡ Some content → MayCloseHeld content now (length before.lines) → now ≡ held.Slave slave
-      → TellsAccount items.give slave before after → ClosesHeld items bytes old before after
+      → TellsAccount items.send items.ring items.give slave before after → ClosesHeld items bytes old before after
   closes-items {old} (held.Slave s) {now} {slave} {before} {after} is (t, to, (collects, none, room)) same told =
       subst (λ (o : Option Content). ClosesHeld items bytes o before after) (sym is)
-      (t, collects, none, subst (λ e. TellsAccount items.give e before after) (same-slave (sym same ∙ to)) told)
+      (t, collects, none, subst (λ e. TellsAccount items.send items.ring items.give e before after) (same-slave (sym same ∙ to)) told)
   closes-items (held.ByteSlave s) is (t, to, may) same told = elim (one-kind (sym same ∙ to)) [ ]
   closes-items (held.Store s) is may same told = elim may [ ]
   closes-items (held.Sampler s) is may same told = elim may [ ]
@@ -80,10 +104,10 @@ module _ (items : Items) (bytes : Bytes) where
 
   pub closes-bytes : {old : Option Content} (content : Content) {now : Content} {slave : ByteSlave} {before after : AccountRoom}
       → old ≡ Some content → MayCloseHeld content now (length before.lines) → now ≡ held.ByteSlave slave
-      → TellsAccount bytes.give slave before after → ClosesHeld items bytes old before after
+      → TellsAccount bytes.send bytes.ring bytes.give slave before after → ClosesHeld items bytes old before after
   closes-bytes {old} (held.ByteSlave s) {now} {slave} {before} {after} is (t, to, (collects, none, room)) same told =
       subst (λ (o : Option Content). ClosesHeld items bytes o before after) (sym is)
-      (t, collects, none, subst (λ e. TellsAccount bytes.give e before after) (same-byte-slave (sym same ∙ to)) told)
+      (t, collects, none, subst (λ e. TellsAccount bytes.send bytes.ring bytes.give e before after) (same-byte-slave (sym same ∙ to)) told)
   closes-bytes (held.Slave s) is (t, to, may) same told = elim (one-kind (sym to ∙ same)) [ ]
   closes-bytes (held.Store s) is may same told = elim may [ ]
   closes-bytes (held.Sampler s) is may same told = elim may [ ]

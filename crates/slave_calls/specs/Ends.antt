@@ -2,6 +2,8 @@
 use Rattle.std.specs.Prelude.{◌≡◌, ◌⊎◌, ℕ, ◌<◌, ◌≤◌, Bool, List, length, slice_get}
 use Rattle.std.specs.Prelude.{Option, Some, None}
 use Rattle.xcp_base.specs.declared.limits.TheConstants.{MAX_LISTS}
+use Rattle.channel_ring.specs.declared.ends.SendEnd.{Ghosts as SendGhosts}
+use Rattle.channel_ring.specs.declared.ends.RingEnd.{Ghosts as EndGhosts}
 use Rattle.channel_ring.specs.declared.ends.TakeEnd.{Ghosts as TakeGhosts}
 use Rattle.daq_engine.specs.declared.report.ListReport.{ListReport}
 use Rattle.handle_calls.specs.States.{Bytes, Items}
@@ -11,8 +13,7 @@ use Rattle.handle_calls.specs.declared.status.Status.{Status}
 use Rattle.handle_calls.specs.declared.status.Status.TheVariants as status
 use Rattle.session_account.specs.Accounts.{AccountStandsAfter, Entry, IsTotalLine}
 use Rattle.session_account.specs.declared.totals.Totals.{Totals}
-use Rattle.slave.specs.Closing.{Closes}
-use Rattle.task_lending.specs.Lends.{Collects, NoneAway, SomeAway}
+use Rattle.task_lending.specs.Lends.{Closes, Collects, NoneAway, SomeAway}
 use Rattle.task_lending.specs.States.{LendingSlaveState}
 use Rattle.slave_calls.specs.OnHandles.{ByteSlave, ItemSlave}
 
@@ -46,17 +47,20 @@ module _ {S T : Type 0} where
   StaysOpen s t room status.Unfinished = (MAX_LISTS ≤ room) × Collects s t × SomeAway t
   StaysOpen s t room _ = ⊥
 
-module _ {S T F : Type 0} (take : TakeGhosts T F) where
-  -- the account of the session is told: a line for each list that there may be
-  pub record TellsAccount (s : LendingSlaveState S T) (before after : AccountRoom) : Type 0 where
-    pub account : List Totals
-    pub closes : Closes take s.slave account after.whole
-    pub lines : HasLines account MAX_LISTS before.lines after.lines
+module _ {S E T F : Type 0} (send : SendGhosts S E) (ring : EndGhosts E) (take : TakeGhosts T F)
+  where
+    -- the account of the session is told: a line for each list that there may be
+    pub record TellsAccount (s : LendingSlaveState S T) (before after : AccountRoom)
+        : Type 0 where
+      -- fixed by `closes`
+      pub account : List Totals
+      pub closes : Closes send ring take s account after.whole
+      pub lines : HasLines account MAX_LISTS before.lines after.lines
 
-  -- a slave is given up with its account
-  abbrev pub ClosesSlave : LendingSlaveState S T → AccountRoom → AccountRoom → Type 0
-  ClosesSlave s before after =
-      (t : LendingSlaveState S T) × Collects s t × NoneAway t × TellsAccount t before after
+    -- a slave is given up with its account
+    abbrev pub ClosesSlave : LendingSlaveState S T → AccountRoom → AccountRoom → Type 0
+    ClosesSlave s before after =
+        (t : LendingSlaveState S T) × Collects s t × NoneAway t × TellsAccount t before after
 
 -- why what is held stays, if it is to be closed with so much room for lines
 abbrev pub StaysHeld : Option Content → Option Content → ℕ → Status → Type 0
@@ -77,8 +81,8 @@ MayCloseHeld old new room = ⊥
 module _ (items : Items) (bytes : Bytes) where
   -- the slave that is held is given up
   abbrev pub ClosesHeld : Option Content → AccountRoom → AccountRoom → Type 0
-  ClosesHeld (Some (held.Slave s)) before after = ClosesSlave items.give s before after
-  ClosesHeld (Some (held.ByteSlave s)) before after = ClosesSlave bytes.give s before after
+  ClosesHeld (Some (held.Slave s)) before after = ClosesSlave items.send items.ring items.give s before after
+  ClosesHeld (Some (held.ByteSlave s)) before after = ClosesSlave bytes.send bytes.ring bytes.give s before after
   ClosesHeld old before after = ⊥
 
   -- what ng_slave_close does to a handle

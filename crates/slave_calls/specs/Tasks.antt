@@ -1,5 +1,6 @@
 -- What the calls of tasks answer and what they leave, by their status.
-use Rattle.std.specs.Prelude.{◌≡◌, ℕ, ◌≤◌, List, length, slice_get, Option, Some, None, Ok, Err}
+use Rattle.std.specs.Prelude.{◌≡◌, ℕ, ◌≤◌, List, length, slice_get, Option, Some, None, Result}
+use Rattle.std.specs.Prelude.{Ok, Err}
 use Rattle.channel_ring.specs.declared.ends.SendEnd.{Ghosts as SendGhosts}
 use Rattle.channel_ring.specs.declared.ends.RingEnd.{Ghosts as EndGhosts}
 use Rattle.handle_calls.specs.Samplers.{taken_out}
@@ -16,7 +17,9 @@ use Rattle.task_lending.specs.Slots.{SlotState, with_task}
 use Rattle.task_lending.specs.States.{LendingSlaveState}
 use Rattle.task_lending.specs.declared.lend_fault.LendFault.{LendFault}
 use Rattle.task_lending.specs.declared.lend_fault.LendFault.TheVariants as refusal
-use Rattle.tasks.specs.Tasks.{TakesTurn, TaskEndState, TaskState}
+use Rattle.tasks.specs.Tasks.{FinishesAs, TakesTurn, TaskState}
+use Rattle.slave_calls.specs.declared.given_back.GivenBack.{GivenBack}
+use Rattle.slave_calls.specs.declared.given_back.GivenBack.TheVariants as given
 use Rattle.slave_calls.specs.OnHandles.{OnSlave, OnTask}
 
 -- what a fault is to C
@@ -67,25 +70,36 @@ module _ {S E : Type 0} (send : SendGhosts S E) (ring : EndGhosts E) where
       × (after ≡ before)
   TriggersTask s t image stamp before after _ = ⊥
 
--- a task is finished. Of what is left of it this says that it is there; that it goes back is said
--- by `LentTask::finish` alone
-abbrev pub FinishesTask : {S : Type 0} → TaskState S → Status → Type 0
-FinishesTask s result =
-    (result ≡ status.Ok) × ((end : TaskEndState _) × (end.came ≡ s.came))
-
 -- a task is held
 abbrev pub IsTask : Content → Type 0
 IsTask (held.Task s) = Unit {0}
 IsTask (held.ByteTask s) = Unit {0}
 IsTask _ = ⊥
 
--- what ng_task_finish does to a handle: it is empty then
-abbrev pub FinishesHeld : Option Content → Option Content → Status → Type 0
-FinishesHeld (Some (held.Task s)) new result = (new ≡ None) × FinishesTask s result
-FinishesHeld (Some (held.ByteTask s)) new result = (new ≡ None) × FinishesTask s result
-FinishesHeld old new result = (result ≡ status.Empty) × (new ≡ old)
+-- what a finish is to C
+abbrev pub status_of_finish : Result GivenBack Status → Status
+status_of_finish (Ok given) = status.Ok
+status_of_finish (Err status) = status
 
 module _ (items : Items) (bytes : Bytes) where
+  -- the task of a handle was finished, and what is left of it was given back; the handle is empty
+  -- then
+  abbrev pub FinishesHeldBy
+      : Option Content → Option Content → Result GivenBack Status → Type 0
+  FinishesHeldBy (Some (held.Task s)) new (Ok (given.Items g)) =
+      (new ≡ None) × FinishesAs items.send items.ring s g.left
+  FinishesHeldBy (Some (held.ByteTask s)) new (Ok (given.Bytes g)) =
+      (new ≡ None) × FinishesAs bytes.send bytes.ring s g.left
+  FinishesHeldBy (Some (held.Task s)) new result = ⊥
+  FinishesHeldBy (Some (held.ByteTask s)) new result = ⊥
+  FinishesHeldBy old new result = (result ≡ Err status.Empty) × (new ≡ old)
+
+  -- what ng_task_finish does to a handle
+  abbrev pub FinishesHeld : Option Content → Option Content → Status → Type 0
+  FinishesHeld old new result =
+      (finish : Result GivenBack Status) × (result ≡ status_of_finish finish)
+      × FinishesHeldBy old new finish
+
   -- what ng_task_trigger does to a handle
   abbrev pub TriggersHeldTask
       : Option Content → Option Content → List ℕ → ℕ → TakenOut → TakenOut → Status → Type 0

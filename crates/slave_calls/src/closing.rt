@@ -4,9 +4,10 @@ ghost use Rattle.std.specs.Prelude.{◌≤◌, IfErr, OnOk, Some, length};
 ghost use Rattle.xcp_base.specs.declared.limits.TheConstants.{MAX_LISTS as MOST_LISTS};
 ghost use Rattle.slave_calls.specs.Ends.{ClosesSlaveOf, HasLines, MayClose, MayCloseHeld};
 ghost use Rattle.slave_calls.specs.Ends.{StaysHeld, StaysOpen, TellsAccount};
+ghost use Rattle.task_lending.specs.Lends.{NoneAway};
 
 use byte_ring::ByteRing;
-use channel_ring::{SampleRing, TakeEnd};
+use channel_ring::{SampleRing, SendEnd, TakeEnd};
 use daq_engine::{ListReport, Ring};
 use handle_calls::{Content, Handle, HeldRing, Status};
 use session_account::Account;
@@ -28,13 +29,14 @@ fn tell(account: &Account, lines: &mut [ListReport])
 }
 
 /// Closes a slave, and tells its account.
-fn close<R: Ring>(alloc: Global, slave: LendingSlave<R>, lines: &mut [ListReport], whole: &mut bool)
+fn close<R: Ring>(slave: LendingSlave<R>, lines: &mut [ListReport], whole: &mut bool)
+    requires none_away { NoneAway slave }
     requires room { MOST_LISTS ≤ length lines.old }
-    ensures { TellsAccount R.Take.TakeEnd slave
+    ensures { TellsAccount R.Send.SendEnd R.Send.End.RingEnd R.Take.TakeEnd slave
         (record { lines = lines.old; whole = whole.old })
         (record { lines = lines.new; whole = whole.new }) }
 {
-    let Closed { account, is_whole } = slave.close(alloc);
+    let Closed { account, is_whole } = slave.close();
     tell(&account, lines);
     *whole = is_whole;
 }
@@ -85,8 +87,8 @@ pub fn close_slave_by(
         return status;
     }
     match Box::into_inner(held) {
-        Content::Slave(slave) => close(alloc, slave, lines, whole),
-        Content::ByteSlave(slave) => close(alloc, slave, lines, whole),
+        Content::Slave(slave) => close(slave, lines, whole),
+        Content::ByteSlave(slave) => close(slave, lines, whole),
         _ => unreachable!(),
     }
     Status::Ok

@@ -4,6 +4,7 @@
 
 mod byte_calls;
 mod closing;
+mod given_back;
 mod lending;
 mod opening;
 mod profile_in;
@@ -17,4 +18,5 @@ pub use lending::give_task;
 pub use opening::open_slave;
 pub use profile_in::{EventIn, ProfileIn};
 pub use sending_calls::{peek_by, sent_by};
-pub use task_calls::{finish_task_by, trigger_task_by};
+pub use given_back::GivenBack;
+pub use task_calls::{finish_task_by, status_of_finish, trigger_task_by};

@@ -1,9 +1,10 @@
 //! The calls by the task of a handle.
 
-ghost use Rattle.std.specs.Prelude.{◌↔◌, IsTrue, Some};
-ghost use Rattle.slave_calls.specs.Tasks.{FinishesHeld, FinishesTask, IsTask, TriggersHeldTask};
-ghost use Rattle.slave_calls.specs.Tasks.{TriggersTask};
+ghost use Rattle.std.specs.Prelude.{◌≡◌, ◌↔◌, IsTrue, Some};
+ghost use Rattle.slave_calls.specs.Tasks.{FinishesHeldBy, IsTask, TriggersHeldTask, TriggersTask};
+ghost use Rattle.slave_calls.specs.Tasks.{status_of_finish};
 
+use crate::given_back::GivenBack;
 use byte_ring::ByteRing;
 use channel_ring::{SampleRing, SendEnd};
 use handle_calls::{Content, Handle, HeldRing, Status, TakenOut};
@@ -69,29 +70,33 @@ fn holds_task(content: &Content) -> bool
     matches!(content, Content::Task(_) | Content::ByteTask(_))
 }
 
-/// Finishes a task, and gives what is left of it back.
-fn finish<S: SendEnd>(task: LentTask<S>) -> Status
-    ensures { FinishesTask task result }
-{
-    // there is such a value only if what is left went back; no clause of this call says so
-    let _given = task.finish();
-    Status::Ok
-}
-
-/// Finishes the task of a handle.
-pub fn finish_task_by(alloc: Global, handle: &mut Handle) -> Status
-    ensures { FinishesHeld handle.old.held handle.new.held result }
+/// Finishes the task of a handle, and gives what is left of it back to its slave: the way on which it
+/// was given; or `Empty`, if there is no task.
+pub fn finish_task_by(alloc: Global, handle: &mut Handle) -> Result<GivenBack, Status>
+    ensures { FinishesHeldBy ⟦<SampleRing as HeldRing>⟧.rings ⟦<ByteRing as HeldRing>⟧.rings
+        handle.old.held handle.new.held result }
 {
     let Some(held) = handle.take(alloc) else {
-        return Status::Empty;
+        return Err(Status::Empty);
     };
     if !holds_task(held.as_ref()) {
         handle.put(alloc, held);
-        return Status::Empty;
+        return Err(Status::Empty);
     }
     match Box::into_inner(held) {
-        Content::Task(task) => finish(task),
-        Content::ByteTask(task) => finish(task),
+        Content::Task(task) => Ok(GivenBack::Items(task.finish())),
+        Content::ByteTask(task) => Ok(GivenBack::Bytes(task.finish())),
         _ => unreachable!(),
+    }
+}
+
+/// What a finish is to C: what was given back is there for its slave, and this end of the way is
+/// freed.
+pub fn status_of_finish(finish: Result<GivenBack, Status>) -> Status
+    ensures { result ≡ status_of_finish finish }
+{
+    match finish {
+        Ok(_given) => Status::Ok,
+        Err(status) => status,
     }
 }

@@ -22,7 +22,7 @@ use Rattle.channel_intake.specs.Accounts.{HasPlans}
 use Rattle.channel_intake.specs.Deeds.{Deed as IntakeDeed, taken}
 use Rattle.channel_intake.specs.Intakes.{IntakeState, StandsAfter}
 use Rattle.tasks.specs.Deeds.{Deed, Obeyed, Took, past_after, past_after_deed, unless_refused}
-use Rattle.tasks.specs.Links.{AwayState, CameBack}
+use Rattle.tasks.specs.Links.{AwayState, CameBack, CameNext, IsBackBy, IsFinishedHere}
 use Rattle.control_ring.specs.declared.order.Order.TheVariants as order
 use Rattle.daq_store.specs.Standing.{StoreState}
 use Rattle.daq_engine.specs.Opened.{IsOpenedAt}
@@ -30,7 +30,7 @@ use Rattle.sampler.specs.History.{Opening}
 use Rattle.tasks.specs.Links.{AnswersHandOut, HandsOut, LinkState, SendsToNewest, first_refusal, hand_refusal, takes_orders}
 use Rattle.control_ring.specs.declared.order.Order.{Order}
 use Rattle.hand_over.specs.Newest.{one_before}
-use Rattle.slave_channel.specs.Channels.{ChannelState, FinishedState, Fits, IsBack, IsBackOf, IsFinished, IsOpeningBy, IsShareOf, OpenedState, Opens, ShareState}
+use Rattle.slave_channel.specs.Channels.{ChannelState, FinishedState, Fits, IsBack, IsBackOf, IsFinished, IsOpeningBy, IsShareOf, IsUnused, OpenedState, Opens, ShareState}
 use Rattle.slave_channel.specs.Inner.{ComesOf, EndStays, FinishesAs}
 
 -- no deed changes what a channel was opened with
@@ -124,14 +124,24 @@ finished ring take before end f is same all capacity (past, stands, plans, opens
       },
     )
 
--- the part came back
-pub is-back : {S E T F : Type 0} (send : SendGhosts S E) (ring : EndGhosts E) (take : TakeGhosts T F) (a : AwayState S) (o : Option (AwayState S)) (part : Option (ShareState T)) (end : SamplerEndState E) (left : ℕ)
-    (f : FinishedState E T) → o ≡ Some a → CameBack send ring a end left → FinishesAs ring take part end f → IsBackOf send ring take o part f
-is-back send ring take a None part end left f is came done = absurd (none-some a is)
-is-back send ring take a (Some x) None end left f is came done = elim done [ ]
-is-back send ring take a (Some x) (Some s) end left f is came done =
-    subst (λ (y : AwayState _). IsBack send ring take y s f) (inner a x is)
-    (record { number = done.0; opened = done.3; follows = done.1; end = end; left = left; same = done.2; came = came }) where
+-- what is back is of the part: it came next over the line, or the task never fetched it
+way-of : {S E T F : Type 0} (send : SendGhosts S E) (ring : EndGhosts E) (take : TakeGhosts T F) (x y : LinkState S) (a : AwayState S) (s : ShareState T) (end : SamplerEndState E)
+    → IsShareOf send ring take a.sampler s → CameNext send ring x y a end ⊎ IsFinishedHere send ring x y a end → CameNext send ring x y a end ⊎ IsUnused send ring take x y end
+way-of send ring take x y a s end mine (inl n) = inl n
+way-of send ring take x y a s end mine (inr f) = inr (record {
+  nothing = f.nothing;
+  opening = mine.opening;
+  stands = f.of.stands (first_past mine.opening) mine.stands;
+})
+
+pub is-back : {S E T F : Type 0} (send : SendGhosts S E) (ring : EndGhosts E) (take : TakeGhosts T F) (x y : LinkState S) (a : AwayState S) (o : Option (AwayState S)) (part : Option (ShareState T)) (end : SamplerEndState E) (left : ℕ)
+    (f : FinishedState E T) → o ≡ Some a → Fits send ring take o part → IsBackBy send ring x y a end left → FinishesAs ring take part end f → IsBackOf send ring take x y o part f
+is-back send ring take x y a None part end left f is fits came done = absurd (none-some a is)
+is-back send ring take x y a (Some w) None end left f is fits came done = elim done [ ]
+is-back send ring take x y a (Some w) (Some s) end left f is fits came done =
+    let mine : IsShareOf send ring take a.sampler s = subst (λ (z : AwayState _). IsShareOf send ring take z.sampler s) (sym (inner a w is)) fits in
+    subst (λ (z : AwayState _). IsBack send ring take x y z s f) (inner a w is)
+    (record { number = done.0; opened = done.3; follows = done.1; end = end; left = left; same = done.2; came = came.came; way = way-of send ring take x y a s end mine came.way }) where
       inner : {X : Type 0} (y x : X) → Some x ≡ Some y → y ≡ x
       inner y x e = cc
 

@@ -8,6 +8,7 @@ use Rattle.copy_plan.specs.Config.{IsPlan}
 use Rattle.channel_ring.specs.declared.ends.SendEnd.{Ghosts as SendGhosts}
 use Rattle.channel_ring.specs.declared.ends.RingEnd.{Ghosts as EndGhosts}
 use Rattle.channel_ring.specs.declared.ends.TakeEnd.{Ghosts as TakeGhosts}
+use Rattle.channel_ring.specs.Ends.{RingName}
 use Rattle.sampler.specs.History.{Opening}
 use Rattle.sampler.specs.Past.{Past, first_past}
 use Rattle.sampler.specs.Standing.{EndStandsAfter, StandsAfter as SamplerStandsAfter}
@@ -28,7 +29,8 @@ use Rattle.channel_intake.specs.declared.step.Step.TheVariants.{Nothing}
 use Rattle.frame_outbox.specs.Outboxes.{OutboxState}
 use Rattle.frame_outbox.specs.Taking.{TakesItem}
 use Rattle.hand_over.specs.Newest.{one_before}
-use Rattle.tasks.specs.Links.{AwayState, CameBack, HandsOut, LinkState, SendsToNewest}
+use Rattle.tasks.specs.Links.{AwayState, CameBack, CameNext, HandsOut, LinkState, NothingCame}
+use Rattle.tasks.specs.Links.{SendsToNewest, just_linked}
 use Rattle.control_ring.specs.declared.order.Order.{Order}
 
 -- what an event channel's part of a measurement was opened with: the store as it was then, the
@@ -60,6 +62,10 @@ pub record ChannelState (S T : Type 0) : Type 0 where
   pub link : LinkState S
   pub older : Option (ShareState T)
   pub newer : Option (ShareState T)
+
+-- an event channel with no measurement, on a line with this name
+abbrev pub no_measurement : {S T : Type 0} → RingName → ChannelState S T
+no_measurement ring = record { link = just_linked ring; older = None; newer = None }
 
 -- a part is kept, of one measurement or the other
 abbrev pub keeps_part : {S T : Type 0} → ChannelState S T → Bool
@@ -126,20 +132,34 @@ module _ {S E T F : Type 0} (send : SendGhosts S E) (ring : EndGhosts E)
   Fits (Some a) (Some s) = IsShareOf a.sampler s
   Fits _ _ = ⊥
 
-  -- what is left of the sampler of this part came back
-  pub record IsBack (a : AwayState S) (s : ShareState T) (f : FinishedState E T) : Type 0 where
+  -- what is left of a sampler that the task never fetched: it stands after nothing
+  pub record IsUnused (x y : LinkState S) (e : SamplerEndState E) : Type 0 where
+    pub nothing : NothingCame x y
+    -- fixed by `stands`
+    pub opening : Opening
+    pub stands : EndStandsAfter (joined ring e) (first_past opening)
+
+  -- what is left of the sampler of this part is back, while the link went from x to y: it came next
+  -- over the line with the task, or the task never fetched it
+  pub record IsBack (x y : LinkState S) (a : AwayState S) (s : ShareState T)
+      (f : FinishedState E T)
+      : Type 0 where
     pub number : f.number ≡ s.number
     pub opened : f.opened ≡ s.opened
     pub follows : Follows take s.intake f.intake
+    -- fixed by `same`
     pub end : SamplerEndState E
+    -- any: how many orders were not carried out
     pub left : ℕ
     pub same : joined ring f.end ≡ joined ring end
     pub came : CameBack send ring a end left
+    pub way : CameNext send ring x y a end ⊎ IsUnused x y end
 
   abbrev pub IsBackOf :
-      Option (AwayState S) → Option (ShareState T) → FinishedState E T → Type 0
-  IsBackOf (Some a) (Some s) f = IsBack a s f
-  IsBackOf _ _ f = ⊥
+      LinkState S → LinkState S → Option (AwayState S) → Option (ShareState T)
+      → FinishedState E T → Type 0
+  IsBackOf x y (Some a) (Some s) f = IsBack x y a s f
+  IsBackOf x y _ _ f = ⊥
 
 -- a part of a measurement was opened over a store: its sampler went out, opened as the store has
 -- the event channel; nothing was ordered of its lists, and nothing was taken; and no part before it

@@ -11,7 +11,7 @@ use list_set::ListSet;
 use sampler::SamplerEnd;
 use std::alloc::{AllocError, Global};
 use std::marker::Model;
-use tasks::{HandFault, Task, TaskLink};
+use tasks::{HandFault, Task, TaskEnd, TaskLink};
 use xcp_base::limits::MAX_LISTS;
 use xcp_base::{ChannelId, ListId};
 
@@ -38,7 +38,7 @@ impl<R: Ring> Model for Channel<R> {
         × Fits R.Send.SendEnd R.Send.End.RingEnd R.Take.TakeEnd c.link.newer c.newer };
 }
 
-ghost use Rattle.std.specs.Prelude.{◌≡◌, ℕ, ◌<◌, Bool, [], None, Some, true, false};
+ghost use Rattle.std.specs.Prelude.{◌≡◌, ℕ, ◌<◌, ◌++◌, Bool, [], None, Some, true, false};
 ghost use Rattle.std.specs.Prelude.{IfOk, IfSome, IsNone, IsSome, OnErr, OnOk};
 ghost use Rattle.xcp_base.specs.declared.limits.TheConstants.{MAX_LISTS};
 ghost use Rattle.xcp_base.specs.Lists.{has_list};
@@ -93,19 +93,16 @@ fn finish<R: Ring>(
 
 impl<R: Ring> Channel<R> {
     ghost use Rattle.slave_channel.specs.Channels.{Opens, Orders, IsBackOf, keeps_part, keeps_two};
-    ghost use Rattle.slave_channel.specs.Channels.{number_of};
-    ghost use Rattle.tasks.specs.Links.{CanStart, EndsNewest, LooksAtNewest, is_running};
-    ghost use Rattle.tasks.specs.Links.{takes_orders, without};
+    ghost use Rattle.slave_channel.specs.Channels.{no_measurement, number_of};
+    ghost use Rattle.tasks.specs.Links.{CanStart, EndsNewest, LooksAtNewest, NoneIsBack, is_out};
+    ghost use Rattle.tasks.specs.Links.{is_running, takes_orders, without};
+    ghost use Rattle.tasks.specs.Tasks.{just_begun};
     ghost use Rattle.control_ring.specs.declared.order.Order.TheVariants.{Start, Stop};
 
     /// The slave's side of an event channel, and its task. No measurement is there.
     pub fn new(alloc: Global) -> Result<(Channel<R>, Task<R::Send>), AllocError>
-        ensures channel { IfOk result (λ made. made.0 ≡ record {
-          link = record { older = None; newer = None };
-          older = None;
-          newer = None;
-        }) }
-        ensures task { IfOk result (λ made. made.1 ≡ record { came = []; gave = []; held = None }) }
+        ensures channel { IfOk result (λ made. made.0 ≡ no_measurement made.1.ring) }
+        ensures task { IfOk result (λ made. made.1 ≡ just_begun made.0.link.ring) }
     {
         let (link, task) = TaskLink::new(alloc)?;
         let channel = Channel {
@@ -236,15 +233,35 @@ impl<R: Ring> Channel<R> {
         self.link.end();
     }
 
+    /// Looks at all that the task gave back so far, which was finished. From then on each of it is
+    /// known to come.
+    pub fn beside(&mut self, end: &mut TaskEnd<R::Send>)
+        requires one_line { end.old.ring ≡ self.old.link.ring }
+        ensures all { self.new.link.came ++ self.new.link.coming ≡ end.old.gave }
+        ensures no_more { is_out self.old.link.older ≡ false → is_out self.old.link.newer ≡ false
+            → self.new.link.coming ≡ [] }
+        ensures rest_stays { self.new
+            ≡ record self.old {
+              link = record self.old.link { coming = self.new.link.coming };
+            } }
+        ensures end_stays { end.new ≡ end.old }
+    {
+        self.link.beside(end);
+    }
+
     /// What came back of the measurement before the last.
     pub fn take_older(&mut self) -> Option<Finished<R>>
         ensures back { IfSome result (IsBackOf R.Send.SendEnd R.Send.End.RingEnd R.Take.TakeEnd
-            self.old.link.older self.old.older) }
+            self.old.link self.new.link self.old.link.older self.old.older) }
         ensures some { IsSome result → (self.new.link.older ≡ None) × (self.new.older ≡ None) }
         ensures none { IsNone result → (self.new.older ≡ self.old.older)
-            × LooksAtNewest self.old.link.older self.new.link.older }
-        ensures rest_stays { (self.new.link ≡ record self.old.link { older = self.new.link.older })
-            × (self.new.newer ≡ self.old.newer) }
+            × NoneIsBack self.old.link self.new.link false
+            self.old.link.older self.new.link.older }
+        ensures link { self.new.link
+            ≡ record self.old.link {
+              came = self.new.link.came; coming = self.new.link.coming; older = self.new.link.older;
+            } }
+        ensures newer_stays { self.new.newer ≡ self.old.newer }
     {
         let (end, _) = self.link.take_older()?;
         finish(&mut self.older, end)
@@ -253,12 +270,16 @@ impl<R: Ring> Channel<R> {
     /// What came back of the last measurement.
     pub fn take_newer(&mut self) -> Option<Finished<R>>
         ensures back { IfSome result (IsBackOf R.Send.SendEnd R.Send.End.RingEnd R.Take.TakeEnd
-            self.old.link.newer self.old.newer) }
+            self.old.link self.new.link self.old.link.newer self.old.newer) }
         ensures some { IsSome result → (self.new.link.newer ≡ None) × (self.new.newer ≡ None) }
         ensures none { IsNone result → (self.new.newer ≡ self.old.newer)
-            × LooksAtNewest self.old.link.newer self.new.link.newer }
-        ensures rest_stays { (self.new.link ≡ record self.old.link { newer = self.new.link.newer })
-            × (self.new.older ≡ self.old.older) }
+            × NoneIsBack self.old.link self.new.link (is_out self.old.link.older)
+            self.old.link.newer self.new.link.newer }
+        ensures link { self.new.link
+            ≡ record self.old.link {
+              came = self.new.link.came; coming = self.new.link.coming; newer = self.new.link.newer;
+            } }
+        ensures older_stays { self.new.older ≡ self.old.older }
     {
         let (end, _) = self.link.take_newer()?;
         finish(&mut self.newer, end)

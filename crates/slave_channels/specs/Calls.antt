@@ -1,19 +1,21 @@
 -- What the calls of one measurement do at each of its event channels.
-use Rattle.std.specs.Prelude.{◌≡◌, ◌≢◌, ℕ, ◌<◌, ◌⊎◌, ◌&&◌, true, false, List, []}
-use Rattle.std.specs.Prelude.{Option, None, Some}
+use Rattle.std.specs.Prelude.{◌≡◌, ◌≢◌, ℕ, ◌<◌, ◌⊎◌, ◌&&◌, ◌++◌, true, false, List, []}
+use Rattle.std.specs.Prelude.{Option, None, Some, length, map}
 use Rattle.std.specs.Prelude.{IfSome, IsNone, IsSome, slice_get}
 use Rattle.xcp_base.specs.Lists.{has_list}
 use Rattle.xcp_base.specs.declared.limits.TheConstants.{MAX_LISTS}
+use Rattle.channel_ring.specs.Ends.{RingName}
 use Rattle.channel_ring.specs.declared.ends.SendEnd.{Ghosts as SendGhosts}
 use Rattle.channel_ring.specs.declared.ends.RingEnd.{Ghosts as EndGhosts}
 use Rattle.channel_ring.specs.declared.ends.TakeEnd.{Ghosts as TakeGhosts}
 use Rattle.channel_intake.specs.declared.step.Step.{Step}
 use Rattle.daq_store.specs.Standing.{StoreState}
 use Rattle.frame_outbox.specs.Outboxes.{OutboxState}
-use Rattle.tasks.specs.Links.{CanStart, EndsNewest, LooksAtNewest, is_running, takes_orders}
-use Rattle.tasks.specs.Tasks.{TaskState}
+use Rattle.tasks.specs.Links.{CanStart, EndsNewest, LooksAtNewest, NoneIsBack, is_out, is_running}
+use Rattle.tasks.specs.Links.{takes_orders}
+use Rattle.tasks.specs.Tasks.{TaskEndState, TaskState, just_begun}
 use Rattle.slave_channel.specs.Channels.{ChannelState, FinishedState, IsBackOf, Opens, TakesOf}
-use Rattle.slave_channel.specs.Channels.{keeps_part, keeps_two, number_of}
+use Rattle.slave_channel.specs.Channels.{keeps_part, keeps_two, no_measurement, number_of}
 use Rattle.slave_channel.specs.Ordering.{OrdersAll, starts_noted, starts_sent}
 use Rattle.slave_channel.specs.Ordering.{stops_noted, stops_sent}
 
@@ -21,17 +23,24 @@ use Rattle.slave_channel.specs.Ordering.{stops_noted, stops_sent}
 abbrev pub HasSome : ℕ → Type 0
 HasSome lists = (l : ℕ) × (l < MAX_LISTS) × (has_list lists l ≡ true)
 
--- an event channel with no measurement
-abbrev pub no_measurement : {S T : Type 0} → ChannelState S T
-no_measurement = record {
-  link = record { older = None; newer = None };
-  older = None;
-  newer = None;
-}
+-- the names of the lines of event channels with their tasks
+abbrev pub rings_of : {S T : Type 0} → List (ChannelState S T) → List RingName
+rings_of channels = map (λ (ch : ChannelState _ _). ch.link.ring) channels
 
--- a task to which no sampler came
-abbrev pub no_sampler : {S : Type 0} → TaskState S
-no_sampler = record { came = []; gave = []; held = None }
+-- the line of event channel c with its task has this name
+abbrev pub IsRingAt : {S T : Type 0} → ℕ → List (ChannelState S T) → RingName → Type 0
+IsRingAt c channels ring =
+    (ch : ChannelState _ _) → slice_get channels c ≡ Some ch → ch.link.ring ≡ ring
+
+-- so many event channels and their tasks are new, each on a line with its own
+pub record AreNew {S T : Type 0} (count : ℕ) (channels : List (ChannelState S T))
+    (tasks : List (TaskState S))
+    : Type 0 where
+  -- fixed by `channels_are`
+  pub rings : List RingName
+  pub many : length rings ≡ count
+  pub channels_are : channels ≡ map no_measurement rings
+  pub tasks_are : tasks ≡ map just_begun rings
 
 module _ {S T : Type 0} where
   -- the measurement that is there ended, if one is
@@ -156,19 +165,32 @@ module _ {S E T F : Type 0} (send : SendGhosts S E) (ring : EndGhosts E)
   -- what came back of the measurement before the last; the rest is as it was
   pub record GivesBackOlder (answer : Option (FinishedState E T)) (a b : ChannelState S T)
       : Type 0 where
-    pub back : IfSome answer (IsBackOf send ring take a.link.older a.older)
+    pub back : IfSome answer (IsBackOf send ring take a.link b.link a.link.older a.older)
     pub some : IsSome answer → (b.link.older ≡ None) × (b.older ≡ None)
     pub none :
-        IsNone answer → (b.older ≡ a.older) × LooksAtNewest a.link.older b.link.older
-    pub rest :
-        (b.link ≡ record a.link { older = b.link.older }) × (b.newer ≡ a.newer)
+        IsNone answer
+        → (b.older ≡ a.older) × NoneIsBack a.link b.link false a.link.older b.link.older
+    pub link :
+        b.link
+        ≡ record a.link { came = b.link.came; coming = b.link.coming; older = b.link.older }
+    pub newer : b.newer ≡ a.newer
 
   -- the same of the last
   pub record GivesBackNewer (answer : Option (FinishedState E T)) (a b : ChannelState S T)
       : Type 0 where
-    pub back : IfSome answer (IsBackOf send ring take a.link.newer a.newer)
+    pub back : IfSome answer (IsBackOf send ring take a.link b.link a.link.newer a.newer)
     pub some : IsSome answer → (b.link.newer ≡ None) × (b.newer ≡ None)
     pub none :
-        IsNone answer → (b.newer ≡ a.newer) × LooksAtNewest a.link.newer b.link.newer
-    pub rest :
-        (b.link ≡ record a.link { newer = b.link.newer }) × (b.older ≡ a.older)
+        IsNone answer
+        → (b.newer ≡ a.newer) × NoneIsBack a.link b.link (is_out a.link.older) a.link.newer b.link.newer
+    pub link :
+        b.link
+        ≡ record a.link { came = b.link.came; coming = b.link.coming; newer = b.link.newer }
+    pub older : b.older ≡ a.older
+
+-- all that the task of an event channel gave back was looked at: each of it is known to come
+pub record IsBeside {S T : Type 0} (end : TaskEndState S) (a b : ChannelState S T) : Type 0 where
+  pub all : b.link.came ++ b.link.coming ≡ end.gave
+  pub no_more :
+      is_out a.link.older ≡ false → is_out a.link.newer ≡ false → b.link.coming ≡ []
+  pub rest : b ≡ record a { link = record a.link { coming = b.link.coming } }

@@ -1,12 +1,13 @@
 //! What came back of the measurements at one event channel.
 ghost use Rattle.std.specs.Prelude.{◌≡◌, ◌<◌, length, true, false};
 ghost use Rattle.slave_channels.specs.Calls.{GivesBackNewer, GivesBackOlder, IsNewestAt};
-ghost use Rattle.slave_channels.specs.Calls.{KeepsNone, KeepsOne};
+ghost use Rattle.slave_channels.specs.Calls.{IsBeside, IsRingAt, KeepsNone, KeepsOne};
 ghost use Rattle.slave_channels.specs.Each.{IsOnlyAt};
 
 use crate::channels::Channels;
 use daq_engine::Ring;
 use slave_channel::Finished;
+use tasks::TaskEnd;
 
 impl<R: Ring> Channels<R> {
     /// Whether a part of a measurement is kept at an event channel: what is left of its sampler was
@@ -29,6 +30,17 @@ impl<R: Ring> Channels<R> {
         ensures number { IsNewestAt c self.now result }
     {
         self.all[c].newest()
+    }
+
+    /// Looks at all that the task of event channel `c` gave back so far, which was finished. From
+    /// then on each of it is known to come.
+    pub fn beside(&mut self, c: usize, end: &mut TaskEnd<R::Send>)
+        requires channel { c < length self.old }
+        requires one_line { IsRingAt c self.old end.old.ring }
+        ensures beside { IsOnlyAt (IsBeside end.old) c self.old self.new }
+        ensures end_stays { end.new ≡ end.old }
+    {
+        self.all[c].beside(end);
     }
 
     /// What came back of the measurement before the last at event channel `c`.

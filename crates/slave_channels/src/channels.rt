@@ -22,16 +22,16 @@ impl<R: Ring> Model for Channels<R> {
     ghost invariant = { λ c. length c.all.items ≤ MAX_CHANNELS };
 }
 
-ghost use Rattle.std.specs.Prelude.{◌≡◌, ◌≤◌, IfOk, length, replicate};
+ghost use Rattle.std.specs.Prelude.{◌≡◌, ◌≤◌, IfOk, length};
 ghost use Rattle.xcp_base.specs.declared.limits.TheConstants.{MAX_CHANNELS};
-ghost use Rattle.slave_channels.specs.Calls.{no_measurement, no_sampler};
+ghost use Rattle.slave_channels.specs.Calls.{AreNew};
 
 impl<R: Ring> Channels<R> {
-    /// The slave's side of so many event channels, and their tasks. No measurement is there.
+    /// The slave's side of so many event channels, and their tasks, each on a line with its own. No
+    /// measurement is there.
     pub fn new(alloc: Global, count: usize) -> Result<(Channels<R>, Vec<Task<R::Send>>), AllocError>
         requires few { count ≤ MAX_CHANNELS }
-        ensures channels { IfOk result (λ made. made.0 ≡ replicate count no_measurement) }
-        ensures tasks { IfOk result (λ made. made.1.items ≡ replicate count no_sampler) }
+        ensures { IfOk result (λ made. AreNew count made.0 made.1.items) }
     {
         let mut all = Vec::with_capacity(alloc, count)?;
         let mut tasks = Vec::with_capacity(alloc, count)?;

@@ -48,12 +48,13 @@ module _ {S T F : Type 0} (take : TakeGhosts T F) where
   log-goes a b acts goes d log stands =
       let profile : a.session.profile ≡ d = stands.parts.has.profile in
       subst (λ p. SlaveStandsAfter take p b (acts ++ log)) profile
-      (goes log (subst (λ p. SlaveStandsAfter take p a log) (sym profile) stands))
+      (goes.1 log (subst (λ p. SlaveStandsAfter take p a log) (sym profile) stands))
 
   -- acts that send nothing
   pub silent : (most : ℕ) (a b : SlaveState S T) (acts : List Act) (sent : List ℕ) (packets : List (List ℕ)) → length acts ≤ most → GoesBy take a b acts
       → heard_by acts ≡ packets → list_all is_silent acts ≡ true → Advances take most (sending a sent) (sending b sent) packets
   silent most a b acts sent packets below goes heard none = record {
+    lines = goes.0;
     acts = acts;
     few = below;
     heard = heard;
@@ -64,7 +65,7 @@ module _ {S T F : Type 0} (take : TakeGhosts T F) where
   }
 
   pub nothing : (a : SlaveState S T) (sent : List ℕ) → Advances take 0 (sending a sent) (sending a sent) []
-  nothing a sent = record { acts = []; few = omega arith; heard = refl; goes = λ d log before. before }
+  nothing a sent = record { lines = refl; acts = []; few = omega arith; heard = refl; goes = λ d log before. before }
 
   pub hears : (a b : SlaveState S T) (sent packet : List ℕ) (clock : ℕ) → Hears take a b packet clock → Advances take (1 + most_before) (sending a sent) (sending b sent) (packet ∷ [])
   hears a b sent packet clock h =
@@ -108,6 +109,7 @@ module _ {S T F : Type 0} (take : TakeGhosts T F) where
   puts-some : (a b : SlaveState S T) (sent more : List ℕ) (n : ℕ) → n ≡ length a.outbox.units → more ≡ sent ++ a.outbox.waits → GoesBy take a b (sent_acts n)
       → Advances take 1 (sending a sent) (sending b more) []
   puts-some a b sent more zero are is goes = record {
+    lines = goes.0;
     acts = [];
     few = omega arith;
     heard = refl;
@@ -117,6 +119,7 @@ module _ {S T F : Type 0} (take : TakeGhosts T F) where
     };
   }
   puts-some a b sent more (suc n) are is goes = record {
+    lines = goes.0;
     acts = Sent (suc n) ∷ [];
     few = omega arith;
     heard = refl;
@@ -146,12 +149,13 @@ module _ {S T F : Type 0} (take : TakeGhosts T F) where
     acts = two.acts ++ one.acts;
     few = omega (arith, length-append two.acts one.acts, one.few, two.few);
     heard = heard-append two.acts one.acts ∙ ap (λ zs. zs ++ heard_by two.acts) one.heard ∙ ap (λ zs. ps ++ zs) two.heard;
+    lines = two.lines ∙ one.lines;
     goes = λ d log before. subst (StandsSo take d b) (sym (assoc two.acts one.acts log)) (two.goes d (one.acts ++ log) (one.goes d log before));
   }
 
   -- no more acts than so many are no more than more
   pub advances-within : (n k : ℕ) (a b : Sending S T) (ps : List (List ℕ)) → n ≤ k → Advances take n a b ps → Advances take k a b ps
-  advances-within n k a b ps below one = record { acts = one.acts; few = omega (arith, below, one.few); heard = one.heard; goes = one.goes }
+  advances-within n k a b ps below one = record { lines = one.lines; acts = one.acts; few = omega (arith, below, one.few); heard = one.heard; goes = one.goes }
 
   -- lines of no packet, of which none or one is refused
   pub does-other : (a b : Sending S T) (before after : ℕ) (line : LineData) → masters (line ∷ []) ≡ [] → before ≤ after → after ≤ before + 1
@@ -208,7 +212,7 @@ module _ {S T F : Type 0} (take : TakeGhosts T F) where
     thinned = (refl, refl);
     counted = omega arith;
     most = omega arith;
-    advances = record { acts = []; few = omega arith; heard = refl; goes = λ d log before. before };
+    advances = record { lines = refl; acts = []; few = omega arith; heard = refl; goes = λ d log before. before };
   }
 
   -- from a slave that was just opened to its end

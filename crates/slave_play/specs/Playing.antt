@@ -1,7 +1,11 @@
 -- What a slave does when the lines of a script are played.
-use Rattle.std.specs.Prelude.{◌≡◌, ℕ, ◌+◌, ◌*◌, ◌≤◌, List, [], ◌∷◌, ◌++◌, length}
+use Rattle.std.specs.Prelude.{◌≡◌, ℕ, ◌+◌, ◌*◌, ◌≤◌, List, [], ◌∷◌, ◌++◌, length, map}
+use Rattle.channel_ring.specs.Ends.{RingName}
 use Rattle.channel_ring.specs.declared.ends.TakeEnd.{Ghosts as TakeGhosts}
 use Rattle.session.specs.declared.profile.Profile.{Profile}
+use Rattle.slave_channels.specs.Calls.{rings_of}
+use Rattle.slave.specs.Hearing.{KeepsLines}
+use Rattle.tasks.specs.Tasks.{TaskState}
 use Rattle.slave.specs.Log.{Act, CameBack, Discarded, Heard, HungUp, Opened, Refused, Sent, Took}
 use Rattle.slave.specs.Session.{SessionLaw, sent_text}
 use Rattle.slave.specs.Standing.{IsLog, SlaveStandsAfter, SlaveState}
@@ -35,6 +39,14 @@ heard_by (Discarded ∷ log) = heard_by log
 abbrev pub most_a_line : ℕ
 most_a_line = most_taken + 64
 
+-- the names of the lines of tasks with their slave
+abbrev pub lines_of : {S : Type 0} → List (TaskState S) → List RingName
+lines_of tasks = map (λ (task : TaskState _). task.ring) tasks
+
+-- the tasks are those of the slave, in the order of its event channels
+abbrev pub AreTasksOf : {S T : Type 0} → SlaveState S T → List (TaskState S) → Type 0
+AreTasksOf slave tasks = lines_of tasks ≡ rings_of slave.channels
+
 -- a slave, and the bytes that it sent so far
 pub record Sending (S T : Type 0) : Type 0 where
   pub slave : SlaveState S T
@@ -50,8 +62,10 @@ module _ {S T F : Type 0} (take : TakeGhosts T F) where
     pub stands : SlaveStandsAfter take d a.slave log
     pub text_is : a.sent ≡ sent_text d log
 
-  -- these packets were heard, in order, and no others; and no more was done than so many acts
+  -- these packets were heard, in order, and no others; and no more was done than so many acts. Each
+  -- event channel is on its line with its task still
   pub record Advances (most : ℕ) (a b : Sending S T) (packets : List (List ℕ)) : Type 0 where
+    pub lines : KeepsLines a.slave b.slave
     pub acts : List Act
     pub few : length acts ≤ most
     pub heard : heard_by acts ≡ packets

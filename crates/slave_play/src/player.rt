@@ -1,9 +1,11 @@
 //! A slave, its tasks and its transport, which play lines.
-ghost use Rattle.std.specs.Prelude.{◌≡◌, ◌+◌, ◌<◌, ◌≤◌, ◌∷◌, [], IfOk, OnOk};
+ghost use Rattle.std.specs.Prelude.{◌≡◌, ◌+◌, ◌<◌, ◌≤◌, ◌∷◌, [], IfOk, OnOk, map};
 ghost use Rattle.slave.specs.Standing.{SlaveState};
 ghost use Rattle.slave_file.specs.Inner.{line_data};
 ghost use Rattle.slave_file.specs.Lines.{master};
-ghost use Rattle.slave_play.specs.Playing.{Advances, Does, most_a_line, sending};
+ghost use Rattle.slave_play.specs.Playing.{Advances, AreTasksOf, Does, lines_of, most_a_line};
+ghost use Rattle.slave_play.specs.Playing.{sending};
+ghost use Rattle.tasks.specs.Tasks.{TaskEndState};
 
 use crate::parts::Parts;
 use crate::play_fault::PlayFault;
@@ -15,7 +17,7 @@ use frame_writer::VecOut;
 use slave::Slave;
 use slave_file::Line;
 use std::alloc::{AllocError, Global};
-use tasks::Task;
+use tasks::{Task, TaskEnd};
 
 /// A slave with its tasks, and what came of the lines so far.
 #[derive(Drop)]
@@ -38,7 +40,9 @@ fn is_taken<S: SendEnd>(
     channel: u8,
     image: &[u8],
     stamp: u32,
-) -> bool {
+) -> bool
+    ensures lines { lines_of tasks.new ≡ lines_of tasks.old }
+{
     let c = channel as usize;
     if c >= tasks.len() || image.len() != image_len {
         return false;
@@ -46,11 +50,19 @@ fn is_taken<S: SendEnd>(
     tasks[c].trigger(image, stamp).is_ok()
 }
 
-/// Finishes tasks, which give back what is left of what they hold.
-fn finish_all<S: SendEnd>(tasks: Vec<Task<S>>) {
+/// Finishes tasks, which give back what is left of what they hold: what is left of each.
+fn finish_all<S: SendEnd>(
+    alloc: Global,
+    tasks: Vec<Task<S>>,
+) -> Result<Vec<TaskEnd<S>>, AllocError>
+    ensures lines { IfOk result (λ ends.
+        map (λ (end : TaskEndState S). end.ring) ends.items ≡ lines_of tasks.items) }
+{
+    let mut ends = Vec::with_capacity(alloc, tasks.len())?;
     for task in tasks {
-        let _end = task.finish();
+        ends.push(task.finish())?;
     }
+    Ok(ends)
 }
 
 impl<R: Ring> Player<R> {
@@ -61,6 +73,7 @@ impl<R: Ring> Player<R> {
             (sending self.old.slave self.old.out.contents)
             (sending self.new.slave self.new.out.contents)
             self.old.refused self.new.refused (line_data line.now ∷ [])) }
+        ensures tasks { lines_of self.new.tasks.items ≡ lines_of self.old.tasks.items }
     {
         match line {
             Line::Master(packet) => self.master(alloc, packet),
@@ -92,6 +105,7 @@ impl<R: Ring> Player<R> {
             (sending self.old.slave self.old.out.contents)
             (sending self.new.slave self.new.out.contents)
             self.old.refused self.new.refused (master packet.now ∷ [])) }
+        ensures tasks_stay { self.new.tasks ≡ self.old.tasks }
     {
         collect(&mut self.slave, &mut self.parts)?;
         if self.slave.hear(alloc, packet, self.clock) {
@@ -106,6 +120,7 @@ impl<R: Ring> Player<R> {
         requires few { self.old.refused < 0xFFFFFFFFFFFFFFFF }
         ensures slave_stays { self.new.slave ≡ self.old.slave }
         ensures out_stays { self.new.out ≡ self.old.out }
+        ensures tasks { lines_of self.new.tasks.items ≡ lines_of self.old.tasks.items }
         ensures counted { self.old.refused ≤ self.new.refused }
         ensures most { self.new.refused ≤ self.old.refused + 1 }
     {
@@ -122,6 +137,7 @@ impl<R: Ring> Player<R> {
             (sending self.old.slave self.old.out.contents)
             (sending self.new.slave self.new.out.contents) []) }
         ensures refused_stays { self.new.refused ≡ self.old.refused }
+        ensures tasks_stay { self.new.tasks ≡ self.old.tasks }
     {
         let before = self.out.bytes().len();
         send(&mut self.slave, &mut self.out)?;
@@ -138,6 +154,7 @@ impl<R: Ring> Player<R> {
             (sending self.old.slave self.old.out.contents)
             (sending self.new.slave self.new.out.contents) [] }
         ensures refused_stays { self.new.refused ≡ self.old.refused }
+        ensures tasks_stay { self.new.tasks ≡ self.old.tasks }
     {
         lose(&mut self.slave);
     }
@@ -148,6 +165,7 @@ impl<R: Ring> Player<R> {
             (sending self.old.slave self.old.out.contents)
             (sending self.new.slave self.new.out.contents) [] }
         ensures refused_stays { self.new.refused ≡ self.old.refused }
+        ensures tasks_stay { self.new.tasks ≡ self.old.tasks }
     {
         self.slave.hang_up();
     }
@@ -157,6 +175,7 @@ impl<R: Ring> Player<R> {
     ///
     /// Refused with `PartLost` if something did not come back.
     pub(crate) fn finish(mut self, alloc: Global) -> Result<Played, PlayFault>
+        requires tasks { AreTasksOf self.slave self.tasks.items }
         ensures sent { IfOk result (λ played. played.sent ≡ self.out) }
         ensures refused { IfOk result (λ played. played.refused ≡ self.refused) }
         ensures ends { IfOk result (λ played. (s : SlaveState R.Send R.Take)
@@ -174,9 +193,9 @@ impl<R: Ring> Player<R> {
             mut parts,
             refused,
         } = self;
-        finish_all(tasks);
+        let left = finish_all(alloc, tasks)?;
         collect(&mut slave, &mut parts)?;
-        let closed = slave.close(Vec::new(alloc));
+        let closed = slave.close(left);
         if !closed.is_whole {
             return Err(PlayFault::PartLost);
         }

@@ -2,7 +2,7 @@
 ghost use Rattle.std.specs.Prelude.{◌≡◌, [], IfOk, OnOk, map};
 ghost use Rattle.slave.specs.Standing.{SlaveStandsAfter};
 ghost use Rattle.slave_file.specs.Inner.{line_data};
-ghost use Rattle.slave_play.specs.Playing.{Does, HasPlayed, IsPlay, sending};
+ghost use Rattle.slave_play.specs.Playing.{AreTasksOf, Does, HasPlayed, IsPlay, lines_of, sending};
 
 use crate::parts::Parts;
 use crate::play_fault::PlayFault;
@@ -55,6 +55,7 @@ fn open<R: Ring>(alloc: Global, profile: Profile) -> Result<Player<R>, PlayFault
         SlaveStandsAfter R.Take.TakeEnd profile player.slave []) }
     ensures none_sent { IfOk result (λ player. player.out.contents ≡ []) }
     ensures none_refused { IfOk result (λ player. player.refused ≡ 0) }
+    ensures tasks { IfOk result (λ player. AreTasksOf player.slave player.tasks.items) }
 {
     let image_len = profile.image_len;
     match Slave::<R>::open(alloc, profile) {
@@ -92,6 +93,7 @@ fn play_all<R: Ring>(
         (sending player.old.slave player.old.out.contents)
         (sending player.new.slave player.new.out.contents)
         player.old.refused player.new.refused (map line_data script.now)) }
+    ensures tasks { lines_of player.new.tasks.items ≡ lines_of player.old.tasks.items }
 {
     for line in script {
         player.line(alloc, line)?;

@@ -75,13 +75,13 @@ on-err (Err e) P p = p
 
 module _ {S T F : Type 0} (take : TakeGhosts T F) where
   goes-more : (a m b : SlaveState S T) (xs ys : List Act) → m.session.profile ≡ a.session.profile → GoesBy take a m xs → GoesBy take m b ys → GoesBy take a b (ys ++ xs)
-  goes-more a m b xs ys profile one two = λ log stands.
+  goes-more a m b xs ys profile one two = (two.0 ∙ one.0, λ log stands.
       subst (λ zs. SlaveStandsAfter take a.session.profile b zs) (sym (append_assoc ys xs log))
       (subst (λ p. SlaveStandsAfter take p b (ys ++ (xs ++ log))) profile
-      (two (xs ++ log) (subst (λ p. SlaveStandsAfter take p m (xs ++ log)) (sym profile) (one log stands))))
+      (two.1 (xs ++ log) (subst (λ p. SlaveStandsAfter take p m (xs ++ log)) (sym profile) (one.1 log stands)))))
 
   hears-none : (a : SlaveState S T) (clock : ℕ) → HearsAll take a a clock []
-  hears-none a clock = record { acts = []; are = refl; goes = λ log stands. stands; counted = omega arith; next = refl; shown = refl; profile = refl }
+  hears-none a clock = record { acts = []; are = refl; goes = (refl, λ log stands. stands); counted = omega arith; next = refl; shown = refl; profile = refl }
 
   hears-one : (a b : SlaveState S T) (clock : ℕ) (packet : List ℕ) → Hears take a b packet clock → b.acts ≡ a.acts + 64 → b.next ≡ a.next → b.outbox.shown ≡ a.outbox.shown → b.session.profile ≡ a.session.profile → HearsAll take a b clock (packet ∷ [])
   hears-one a b clock packet hears counts next shown profile = record {

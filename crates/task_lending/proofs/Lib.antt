@@ -1,3 +1,4 @@
+pub mod ByteLemmas
 pub mod OpenLemmas
 pub mod SendLemmas
 pub mod SendingLemmas

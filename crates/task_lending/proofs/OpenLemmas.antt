@@ -1,13 +1,15 @@
 -- The tasks of a slave that was just opened are in their slots.
-use Rattle.std.proofs.Common.{◌≡◌, ◌∙◌, ℕ, zero, suc, List, [], ◌∷◌, ◌++◌, length, map, replicate, Some, refl, sym, ap, subst, arith}
-use Rattle.std.specs.Prelude.{slice_get, false}
-use Rattle.std.proofs.lemmas.List.{length-map, length-replicate, map-append}
+use Rattle.std.proofs.Common.{◌≡◌, ◌∙◌, List, [], ◌∷◌, ◌++◌, length, map, refl, sym, ap, arith}
+use Rattle.std.specs.Prelude.{false}
+use Rattle.std.proofs.lemmas.List.{length-map, map-append}
+use Rattle.channel_ring.specs.Ends.{RingName}
+use Rattle.slave_channel.specs.Channels.{ChannelState}
 use Rattle.channel_ring.specs.declared.ends.TakeEnd.{Ghosts as TakeGhosts}
 use Rattle.frame_reader.specs.Reading.{ReaderStandsAfter, ReaderState}
 use Rattle.session.specs.declared.profile.Profile.{Profile}
 use Rattle.slave.specs.Standing.{SlaveStandsAfter, SlaveState}
-use Rattle.slave_channels.specs.Calls.{no_sampler}
-use Rattle.tasks.specs.Tasks.{TaskState}
+use Rattle.slave_channels.specs.Calls.{rings_of}
+use Rattle.tasks.specs.Tasks.{TaskState, just_begun}
 use Rattle.task_lending.specs.Lends.{IsOpenedWith}
 use Rattle.task_lending.specs.Slots.{SlotState, with_task}
 use Rattle.task_lending.proofs.TaskLemmas.{with_slots}
@@ -21,23 +23,33 @@ pub one-slot-more : {S : Type 0} (xs ys : List (SlotState S)) (ts : List (TaskSt
 one-slot-more {S} xs ys ts t is same =
     is ∙ (ap (λ (zs : List (SlotState S)). zs ++ with_task t ∷ []) same ∙ sym (map-append with_task ts (t ∷ [])))
 
-all-same : {A B : Type 0} (f : A → B) (x : A) (n c : ℕ) (at : B) → slice_get (map f (replicate n x)) c ≡ Some at → at ≡ f x
-all-same f x zero c at is = absurd cc
-all-same f x (suc n) zero at is = cc
-all-same f x (suc n) (suc c) at is = all-same f x n c at is
+map-twice : {S : Type 0} (rings : List RingName) → map with_task (map just_begun rings) ≡ map (λ ring. with_task {S = S} (just_begun ring)) rings
+map-twice [] = refl
+map-twice (r ∷ rings) = ap (λ xs. with_task (just_begun r) ∷ xs) (map-twice rings)
+
+begun-lines : (S : Type 0) (rings : List RingName) → map (λ (s : SlotState S). s.ring) (map with_task (map just_begun rings)) ≡ rings
+begun-lines S [] = refl
+begun-lines S (r ∷ rings) = ap (λ rs. r ∷ rs) (begun-lines S rings)
+
+-- the slots are on the lines of the event channels
+pub opened-lines : {S T : Type 0} (slave : SlaveState S T) (tasks : List (TaskState S)) (slots : List (SlotState S)) → tasks ≡ map just_begun (rings_of slave.channels)
+    → slots ≡ map with_task tasks → map (λ (s : SlotState S). s.ring) slots ≡ rings_of slave.channels
+opened-lines {S} slave tasks slots fresh here =
+    let line = λ (s : SlotState S). s.ring in
+    ap (map line) (here ∙ ap (λ (ts : List (TaskState S)). map with_task ts) fresh) ∙ begun-lines S (rings_of slave.channels)
 
 module _ {S T F : Type 0} (take : TakeGhosts T F) where
   pub opened-with : (d : Profile) (slave : SlaveState S T) (stream : ReaderState) (tasks : List (TaskState S)) (slots : List (SlotState S))
-      → slave.session.profile ≡ d → SlaveStandsAfter take d slave [] → tasks ≡ replicate (length d.events.items) no_sampler
+      → slave.session.profile ≡ d → SlaveStandsAfter take d slave [] → length slave.channels ≡ length d.events.items → tasks ≡ map just_begun (rings_of slave.channels)
       → ReaderStandsAfter stream [] [] → stream.closed ≡ false → slots ≡ map with_task tasks → IsOpenedWith take d (with_slots slave stream slots)
-  opened-with d slave stream tasks slots profile stands fresh none open_still here =
-      let all : slots ≡ map with_task (replicate (length d.events.items) no_sampler)
-      = here ∙ ap (λ (ts : List (TaskState S)). map with_task ts) fresh in
+  opened-with d slave stream tasks slots profile stands many fresh none open_still here =
+      let all : slots ≡ map (λ ring. with_task (just_begun ring)) (rings_of slave.channels)
+      = here ∙ ap (λ (ts : List (TaskState S)). map with_task ts) fresh ∙ map-twice (rings_of slave.channels) in
       record {
         profile = profile;
         stands = stands;
         fresh = none;
         is_open = open_still;
-        many = ap length all ∙ (length-map (replicate (length d.events.items) no_sampler) with_task ∙ length-replicate (length d.events.items) no_sampler);
-        all_here = λ c at is. all-same with_task no_sampler (length d.events.items) c at (subst (λ (ts : List (SlotState S)). slice_get ts c ≡ Some at) all is);
+        many = ap length all ∙ length-map (rings_of slave.channels) (λ ring. with_task (just_begun ring)) ∙ length-map slave.channels (λ (ch : ChannelState S T). ch.link.ring) ∙ many;
+        all_here = all;
       }

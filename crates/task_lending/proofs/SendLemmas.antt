@@ -102,4 +102,4 @@ module _ (R S T E : RattleType) (kind : RingGhosts R.Denot S.Denot T.Denot E.Den
   slave_send = search (sendable, crosses, session_send, outbox_send, plan_send, account_send, channels_send) depth 60 fits 20000
 
   pub lending_slave_send : IsSend (LendingSlave.the_row R S T E kind send ring give)
-  lending_slave_send = search (sendable, crosses, slave_send, stream_send, slot_send) depth 60 fits 20000
+  lending_slave_send = search (sendable, crosses, slave_send, stream_send, slot_send, end_goes) depth 60 fits 20000

@@ -2,12 +2,12 @@
 use Rattle.std.proofs.lemmas.Bool.Decides.{eqb_tells}
 use Rattle.std.proofs.lemmas.Option.{same_Some, slice_get_within}
 use Rattle.std.proofs.Common.{◌≡◌, ◌≤◌, inr, ℕ, zero, suc, ◌+◌, ◌<◌, true, false, List, [], ◌∷◌, length, set, get_or, Some, refl, sym, ap, subst, ◌∙◌, inl, arith}
-use Rattle.std.specs.Prelude.{slice_get, Result, Ok, Err, IfOk, IfErr, OnOk}
+use Rattle.std.specs.Prelude.{slice_get, Result, Ok, Err, IfOk, IfErr, OnErr, OnOk}
 use Rattle.std.proofs.lemmas.List.{length-set, set-set}
 use Rattle.slave.specs.Standing.{SlaveState}
 use Rattle.frame_reader.specs.Reading.{ReaderState}
 use Rattle.slave_channels.specs.Inner.{IsFront}
-use Rattle.slave_channels.proofs.EachLemmas.{front-next, front-none, front-rest, get-set_same, get-set_other, read_at}
+use Rattle.slave_channels.proofs.EachLemmas.{front-next, front-none, front-rest, get-set_same, get-set_other, read_at, set_back}
 use Rattle.tasks.specs.Tasks.{TaskState}
 use Rattle.task_lending.specs.Lends.{Collects, LendsTask, NoneAway, RefusesAt, RefusesTask, SomeAway}
 use Rattle.task_lending.specs.Slots.{MayComeBack, SlotState, away, is_away, with_task}
@@ -28,18 +28,18 @@ module _ {S T : Type 0} where
   module _ (slave : SlaveState S T) (stream : ReaderState) (xs : List (SlotState S)) (now : LendingSlaveState S T)
       (is : with_slots slave stream xs ≡ now) (c : ℕ) where
     -- the task that is there is handed out
-    lends : (x y : SlotState S) (task : TaskState S) → c < length xs → x ≡ get_or xs c x → x ≡ with_task task → y ≡ away
+    lends : (x y : SlotState S) (task : TaskState S) → c < length xs → x ≡ get_or xs c x → x ≡ with_task task → y ≡ away x.ring
         → LendsTask now (with_slots slave stream (set xs c y)) c task
     lends x y task there read here gone =
         subst (λ (a : LendingSlaveState S T). LendsTask a (with_slots slave stream (set xs c y)) c task) is (record {
           here = read_at xs c x read there ∙ ap (λ (s : SlotState S). Some s) here;
-          away = ap (λ (s : SlotState S). set xs c s) gone;
+          away = ap (λ (s : SlotState S). set xs c s) gone ∙ ap (λ (s : SlotState S). set xs c (away s.ring)) here;
           slave = refl;
           stream = refl;
         })
 
     pub lends-if : (x y : SlotState S) (result : Result (TaskState S) LendFault) → c < length xs → x ≡ get_or xs c x
-        → IfOk result (λ task. x ≡ with_task task) → OnOk result (y ≡ away)
+        → IfOk result (λ task. x ≡ with_task task) → OnOk result (y ≡ away x.ring)
         → IfOk result (LendsTask now (with_slots slave stream (set xs c y)) c)
     lends-if x y (Ok task) there read here gone = lends x y task there read here gone
     lends-if x y (Err e) there read here gone = tt
@@ -64,17 +64,31 @@ module _ {S T : Type 0} where
         = ap (λ (s : SlotState S). set xs c s) same
         ∙ (ap (λ (a : LendingSlaveState S T). set a.tasks c (with_task task)) is
         ∙ (ap (λ (ts : List (SlotState S)). set ts c (with_task task)) lent.away
-        ∙ (set-set before.tasks c away (with_task task)
+        ∙ (set-set before.tasks c (away task.ring) (with_task task)
         ∙ set-there before.tasks c (with_task task) lent.here))) in
         ap (λ (ts : List (SlotState S)). record { slave = slave; stream = stream; tasks = ts }) tasks
         ∙ (ap (λ (s : SlaveState S T). record { slave = s; stream = stream; tasks = before.tasks }) (ap (λ (a : LendingSlaveState S T). a.slave) is ∙ lent.slave)
         ∙ ap (λ (r : ReaderState). record { slave = before.slave; stream = r; tasks = before.tasks }) (ap (λ (a : LendingSlaveState S T). a.stream) is ∙ lent.stream))
 
+    -- and it is of that slot's line
+    pub lent-line : (before : LendingSlaveState S T) (task : TaskState S) (x : SlotState S) → LendsTask before now c task → x ≡ get_or xs c x → c < length xs → x.ring ≡ task.ring
+    lent-line before task x lent read there =
+        let same : xs ≡ set before.tasks c (away task.ring) = ap (λ (a : LendingSlaveState S T). a.tasks) is ∙ lent.away in
+        let inside = slice_get_within before.tasks c (with_task task) lent.here in
+        ap (λ (s : SlotState S). s.ring)
+        (same_Some x (away task.ring) (sym (read_at xs c x read there) ∙ ap (λ (ys : List (SlotState S)). slice_get ys c) same ∙ get-set_same before.tasks c (away task.ring) inside))
+
+    -- where none was handed out, nothing changed
+    pub stays-if : {A E : Type 0} (x y : SlotState S) (result : Result A E) → x ≡ get_or xs c x → OnErr result (y ≡ x)
+        → OnErr result (with_slots slave stream (set xs c y) ≡ now)
+    stays-if x y (Ok task) read same = tt
+    stays-if x y (Err e) read same = ap (λ (ys : List (SlotState S)). with_slots slave stream ys) (set_back xs c x y read same) ∙ is
+
     -- a task was handed out only where there is one
     pub lent-there : (before : LendingSlaveState S T) (task : TaskState S) → LendsTask before now c task → c < length xs
     lent-there before task lent =
-        let same : xs ≡ set before.tasks c away = ap (λ (a : LendingSlaveState S T). a.tasks) is ∙ lent.away in
-        let size : length xs ≡ length before.tasks = ap (λ (ts : List (SlotState S)). length ts) same ∙ length-set before.tasks c away in
+        let same : xs ≡ set before.tasks c (away task.ring) = ap (λ (a : LendingSlaveState S T). a.tasks) is ∙ lent.away in
+        let size : length xs ≡ length before.tasks = ap (λ (ts : List (SlotState S)). length ts) same ∙ length-set before.tasks c (away task.ring) in
         omega (arith, size, slice_get_within before.tasks c (with_task task) lent.here)
 
 -- tasks come back one by one

@@ -1,14 +1,18 @@
 -- How tasks are handed out, and come back.
-use Rattle.std.specs.Prelude.{◌≡◌, ℕ, ◌≤◌, [], length, set, slice_get, false, true, Some, None}
+use Rattle.std.specs.Prelude.{◌≡◌, ℕ, ◌≤◌, Bool, List, [], length, map, set, slice_get, false, true, Some, None}
 use Rattle.channel_ring.specs.declared.ends.TakeEnd.{Ghosts as TakeGhosts}
 use Rattle.frame_reader.specs.Reading.{ReaderStandsAfter}
 use Rattle.sampler.specs.declared.taken.Taken.{Taken}
 use Rattle.session.specs.declared.profile.Profile.{Profile}
+use Rattle.session_account.specs.declared.totals.Totals.{Totals}
+use Rattle.channel_ring.specs.declared.ends.SendEnd.{Ghosts as SendGhosts}
+use Rattle.channel_ring.specs.declared.ends.RingEnd.{Ghosts as EndGhosts}
+use Rattle.slave.specs.Closing.{Closes as ClosesWith}
 use Rattle.slave.specs.Standing.{SlaveStandsAfter}
-use Rattle.slave_channels.specs.Calls.{no_sampler}
+use Rattle.slave_channels.specs.Calls.{rings_of}
 use Rattle.slave_channels.specs.Each.{IsEach}
-use Rattle.tasks.specs.Tasks.{TaskState}
-use Rattle.task_lending.specs.Slots.{MayComeBack, SlotState, away, is_away, with_task}
+use Rattle.tasks.specs.Tasks.{TaskEndState, TaskState, just_begun}
+use Rattle.task_lending.specs.Slots.{AreEndsOf, MayComeBack, SlotState, away, is_away, with_task}
 use Rattle.task_lending.specs.States.{LendingSlaveState}
 use Rattle.task_lending.specs.declared.lend_fault.LendFault.{LendFault}
 use Rattle.task_lending.specs.declared.lend_fault.LendFault.TheVariants as fault
@@ -28,11 +32,16 @@ module _ {S : Type 0} where
   RefusesAt s fault.Lent = s.here ≡ None
   RefusesAt s fault.Memory = (task : TaskState S) × (s ≡ with_task task)
 
+-- none of these tasks is away
+abbrev pub NoneAwayOf : {S : Type 0} → List (SlotState S) → Type 0
+NoneAwayOf slots =
+    (c : ℕ) (at : SlotState _) → slice_get slots c ≡ Some at → is_away at ≡ false
+
 module _ {S T : Type 0} where
   -- the task of event channel c was handed out
   pub record LendsTask (a b : LendingSlaveState S T) (c : ℕ) (task : TaskState S) : Type 0 where
     pub here : slice_get a.tasks c ≡ Some (with_task task)
-    pub away : b.tasks ≡ set a.tasks c away
+    pub away : b.tasks ≡ set a.tasks c (away task.ring)
     pub slave : b.slave ≡ a.slave
     pub stream : b.stream ≡ a.stream
 
@@ -50,7 +59,7 @@ module _ {S T : Type 0} where
 
   -- no task is away; and some task is
   abbrev pub NoneAway : LendingSlaveState S T → Type 0
-  NoneAway s = (c : ℕ) (at : SlotState S) → slice_get s.tasks c ≡ Some at → is_away at ≡ false
+  NoneAway s = NoneAwayOf s.tasks
 
   abbrev pub SomeAway : LendingSlaveState S T → Type 0
   SomeAway s =
@@ -58,7 +67,7 @@ module _ {S T : Type 0} where
 
 module _ {S T F : Type 0} (take : TakeGhosts T F) where
   -- a slave was opened with this profile: no act stands in its log, no byte came, and all its tasks
-  -- are here
+  -- are here, each on its event channel's line
   pub record IsOpenedWith (d : Profile) (s : LendingSlaveState S T) : Type 0 where
     pub profile : s.slave.session.profile ≡ d
     pub stands : SlaveStandsAfter take d s.slave []
@@ -66,4 +75,15 @@ module _ {S T F : Type 0} (take : TakeGhosts T F) where
     pub is_open : s.stream.closed ≡ false
     pub many : length s.tasks ≡ length d.events.items
     pub all_here :
-        (c : ℕ) (at : SlotState S) → slice_get s.tasks c ≡ Some at → at ≡ with_task no_sampler
+        s.tasks
+        ≡ map (λ ring. with_task (just_begun ring)) (rings_of s.slave.channels)
+
+module _ {S E T F : Type 0} (send : SendGhosts S E) (ring : EndGhosts E) (take : TakeGhosts T F)
+  where
+    -- the slave was closed with what is left of its tasks
+    pub record Closes (a : LendingSlaveState S T) (account : List Totals) (whole : Bool)
+        : Type 0 where
+      -- fixed by `are`
+      pub ends : List (TaskEndState S)
+      pub are : AreEndsOf send ring a.tasks ends
+      pub closes : ClosesWith take a.slave ends account whole

@@ -1,32 +1,57 @@
 -- The task of an event channel, as its slave has it.
-use Rattle.std.specs.Prelude.{◌≡◌, ◌⊎◌, Bool, false, true, not, ◌&&◌}
+use Rattle.std.specs.Prelude.{◌≡◌, ◌⊎◌, Bool, false, true, not, ◌&&◌, List, [], ◌∷◌}
 use Rattle.std.specs.Prelude.{Option, Some, None}
 use Rattle.std.specs.Option.{is_some}
-use Rattle.tasks.specs.Tasks.{TaskState}
+use Rattle.channel_ring.specs.Ends.{RingName}
+use Rattle.channel_ring.specs.declared.ends.SendEnd.{Ghosts as SendGhosts}
+use Rattle.channel_ring.specs.declared.ends.RingEnd.{Ghosts as EndGhosts}
+use Rattle.tasks.specs.Tasks.{FinishesAs, TaskEndState, TaskState}
 
--- the task, if it wasn't handed out; and whether what is left of it came back
+-- the name of the task's line with the slave; the task, if it wasn't handed out; and what is left of
+-- it, if that came back
 pub record SlotState (S : Type 0) : Type 0 where
+  pub ring : RingName
   pub here : Option (TaskState S)
-  pub back : Bool
+  pub back : Option (TaskEndState S)
 
 module _ {S : Type 0} where
-  -- this task wasn't handed out; it is away; and it came back
+  -- this task wasn't handed out; one is away; and this is left of one that came back
   abbrev pub with_task : TaskState S → SlotState S
-  with_task task = record { here = Some task; back = false }
+  with_task task = record { ring = task.ring; here = Some task; back = None }
 
-  abbrev pub away : SlotState S
-  away = record { here = None; back = false }
+  abbrev pub away : RingName → SlotState S
+  away ring = record { ring = ring; here = None; back = None }
 
-  abbrev pub came_back : SlotState S
-  came_back = record { here = None; back = true }
+  abbrev pub came_back : TaskEndState S → SlotState S
+  came_back end = record { ring = end.ring; here = None; back = Some end }
 
   -- whether a task is away
   abbrev pub is_away : SlotState S → Bool
-  is_away s = not (is_some s.here) && not s.back
+  is_away s = not (is_some s.here) && not (is_some s.back)
 
-  -- a task that is away may have come back
+  -- what is left of a task that is away, of the same line, may have come back
   abbrev pub MayComeBack : SlotState S → SlotState S → Type 0
-  MayComeBack a b = (b ≡ a) ⊎ ((a ≡ away) × (b ≡ came_back))
+  MayComeBack a b =
+      (b ≡ a)
+      ⊎ ((a ≡ away a.ring)
+      × ((end : TaskEndState S) × (end.ring ≡ a.ring) × (b ≡ came_back end)))
+
+module _ {S E : Type 0} (send : SendGhosts S E) (ring : EndGhosts E) where
+  -- this is left of a task that was finished where it is, or it came back
+  abbrev pub IsEndBy :
+      Option (TaskState S) → Option (TaskEndState S) → TaskEndState S → Type 0
+  IsEndBy (Some task) back end = FinishesAs send ring task end
+  IsEndBy None back end = back ≡ Some end
+
+  pub record IsEndOf (s : SlotState S) (end : TaskEndState S) : Type 0 where
+    pub line : end.ring ≡ s.ring
+    pub of : IsEndBy s.here s.back end
+
+  -- so of each task
+  abbrev pub AreEndsOf : List (SlotState S) → List (TaskEndState S) → Type 0
+  AreEndsOf [] [] = Unit {0}
+  AreEndsOf (s ∷ slots) (end ∷ ends) = IsEndOf s end × AreEndsOf slots ends
+  AreEndsOf _ _ = ⊥
 
 -- of what a slot may hold, the task, its way back and what is left of it, there is one
 abbrev pub IsOneOf : Bool → Bool → Bool → Type 0

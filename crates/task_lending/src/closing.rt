@@ -1,33 +1,44 @@
 //! The slave is closed.
-ghost use Rattle.slave.specs.Closing.{Closes};
+ghost use Rattle.std.specs.Prelude.{◌≡◌, ◌≤◌, [], length, vec_capacity};
+ghost use Rattle.task_lending.specs.Lends.{Closes, NoneAway, NoneAwayOf};
+ghost use Rattle.task_lending.specs.Slots.{AreEndsOf};
 
 use crate::lending_slave::LendingSlave;
 use crate::slot::Slot;
 use channel_ring::SendEnd;
 use daq_engine::Ring;
 use slave::Closed;
-use std::alloc::Global;
+use tasks::TaskEnd;
 
-/// Finishes all tasks that weren't handed out.
-fn finish<S: SendEnd>(slots: Vec<Slot<S>>) {
+/// What is left of all tasks, none of which is away: those that weren't handed out are finished. It
+/// takes no memory, since `room` has a place for each.
+fn ends_of<S: SendEnd>(slots: Vec<Slot<S>>, room: Vec<TaskEnd<S>>) -> Vec<TaskEnd<S>>
+    requires none_away { NoneAwayOf slots.items }
+    requires empty { room.items ≡ [] }
+    requires room { length slots.items ≤ vec_capacity room }
+    ensures { AreEndsOf S.SendEnd S.End.RingEnd slots.items result.items }
+{
+    let mut ends = room;
     for slot in slots {
-        slot.finish();
+        ends.push_reserved(slot.into_end());
     }
+    ends
 }
 
 impl<R: Ring> LendingSlave<R> {
-    /// Closes the slave, as `Slave::close`, with the tasks that weren't handed out and with what is
-    /// left of those that came back. A measurement that a task has that is away is not in the
-    /// account.
-    pub fn close(self, alloc: Global) -> Closed
-        ensures { Closes R.Take.TakeEnd self.slave result.account result.is_whole }
+    /// Closes the slave, as `Slave::close`, with what is left of its tasks: none of them is away, and
+    /// those that weren't handed out are finished. It takes no memory.
+    pub fn close(self) -> Closed
+        requires none_away { NoneAway self }
+        ensures { Closes R.Send.SendEnd R.Send.End.RingEnd R.Take.TakeEnd
+            self result.account result.is_whole }
     {
         let LendingSlave {
             slave,
             stream: _,
             slots,
+            room,
         } = self;
-        finish(slots);
-        slave.close(Vec::new(alloc))
+        slave.close(ends_of(slots, room))
     }
 }

@@ -11,7 +11,7 @@ use slave::{OpenFault, Slave};
 use slave_stream::MasterStream;
 use std::alloc::{AllocError, Global};
 use std::marker::Model;
-use tasks::Task;
+use tasks::{Task, TaskEnd};
 
 /// A slave, the stream of its master, and the tasks of its event channels: those that weren't
 /// handed out, the ways back of those that were, and what came back.
@@ -20,9 +20,13 @@ pub struct LendingSlave<R: Ring> {
     pub(crate) slave: Slave<R>,
     pub(crate) stream: MasterStream,
     pub(crate) slots: Vec<Slot<R::Send>>,
+    // places for what is left of the tasks, so that a close takes no memory
+    pub(crate) room: Vec<TaskEnd<R::Send>>,
 }
 
 impl<R: Ring> Model for LendingSlave<R> {
+    ghost use Rattle.std.specs.Prelude.{◌≡◌, ◌≤◌, [], length, map, vec_capacity};
+    ghost use Rattle.slave_channels.specs.Calls.{rings_of};
     ghost use Rattle.task_lending.specs.States.{LendingSlaveState};
 
     ghost Value = { LendingSlaveState R.Send R.Take };
@@ -32,6 +36,10 @@ impl<R: Ring> Model for LendingSlave<R> {
       stream = l.stream;
       tasks = l.slots.items;
     } };
+
+    ghost invariant = { λ l. (map (λ slot. slot.ring) l.slots.items ≡ rings_of l.slave.channels)
+        × (l.room.items ≡ [])
+        × (length l.slots.items ≤ vec_capacity l.room) };
 }
 
 /// A slot for each task, in their order.
@@ -54,6 +62,9 @@ impl<R: Ring> LendingSlave<R> {
         ensures refusal { IfErr result (IsOpenRefusal R.is_cap profile) }
     {
         let (slave, tasks) = Slave::open(alloc, profile)?;
+        let Ok(room) = Vec::with_capacity(alloc, tasks.len()) else {
+            return Err(OpenFault::Memory);
+        };
         let Ok(slots) = slots_of(alloc, tasks) else {
             return Err(OpenFault::Memory);
         };
@@ -61,6 +72,7 @@ impl<R: Ring> LendingSlave<R> {
             slave,
             stream: MasterStream::new(),
             slots,
+            room,
         })
     }
 }

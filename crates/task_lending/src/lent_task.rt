@@ -1,8 +1,13 @@
+use crate::same_line::SameLine;
 use channel_ring::SendEnd;
-use hand_over::{AnyLeft, Given, WayBack};
+use hand_over::{Given, WayBack};
 use sampler::{Taken, TriggerFault};
 use std::marker::Model;
 use tasks::{Task, TaskEnd};
+
+/// The way back on which what is left of a task was given. There is none but of `LentTask::finish`:
+/// so a call that has one has given it.
+pub type GivenTask<S> = Given<Task<S>, TaskEnd<S>, SameLine>;
 
 /// A task that was handed out, and its way back to its slave.
 ///
@@ -10,15 +15,18 @@ use tasks::{Task, TaskEnd};
 #[derive(Drop)]
 pub struct LentTask<S: SendEnd> {
     pub(crate) task: Task<S>,
-    pub(crate) way: WayBack<Task<S>, TaskEnd<S>, AnyLeft>,
+    pub(crate) way: WayBack<Task<S>, TaskEnd<S>, SameLine>,
 }
 
 impl<S: SendEnd> Model for LentTask<S> {
+    ghost use Rattle.std.specs.Prelude.{◌≡◌};
     ghost use Rattle.tasks.specs.Tasks.{TaskState};
 
     ghost Value = { TaskState S };
 
     ghost view = { λ l. l.task };
+
+    ghost invariant = { λ l. l.task.ring ≡ l.way.ring };
 }
 
 impl<S: SendEnd> LentTask<S> {
@@ -34,7 +42,7 @@ impl<S: SendEnd> LentTask<S> {
     }
 
     /// Finishes the task, and gives what is left of it back to its slave.
-    pub fn finish(self) -> Given<Task<S>, TaskEnd<S>, AnyLeft>
+    pub fn finish(self) -> GivenTask<S>
         ensures { FinishesAs S.SendEnd S.End.RingEnd self result.left }
     {
         let LentTask { task, way } = self;

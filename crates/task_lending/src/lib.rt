@@ -8,9 +8,11 @@ mod lend_fault;
 mod lending;
 mod lending_slave;
 mod lent_task;
+mod same_line;
 mod sending;
 mod slot;
 
 pub use lend_fault::LendFault;
 pub use lending_slave::LendingSlave;
-pub use lent_task::LentTask;
+pub use lent_task::{GivenTask, LentTask};
+pub use same_line::SameLine;

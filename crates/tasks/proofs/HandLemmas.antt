@@ -37,11 +37,12 @@ answers-busy None (Err e) none busy = λ is. true≢false (sym (ap is_busy busy)
 -- a sampler went out, and is the newest
 pub put-in : {S : Type 0} (v a b : LinkState S) (h : HeldState S) (n : AwayState S) → v ≡ a
     → h.orders.received ≡ [] → b.newer ≡ Some n → n ≡ just_out h.sampler h.orders
-    → b.older ≡ one_before v.older v.newer → HandsOut a b h.sampler
-put-in v a b h n same none newer is older =
+    → b.older ≡ one_before v.older v.newer → b ≡ record v { older = b.older; newer = b.newer } → HandsOut a b h.sampler
+put-in v a b h n same none newer is older rest =
     subst (λ (x : LinkState _). HandsOut x b h.sampler) same (record {
       went = h.orders;
       no_order = none;
       newer = newer ∙ ap (λ (x : AwayState _). Some x) is;
       older = older;
+      rest = rest;
     })

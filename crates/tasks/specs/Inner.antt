@@ -1,14 +1,16 @@
 -- What no public clause cites: what a task and the slave's side of it know of their line.
-use Rattle.std.specs.Prelude.{◌≡◌, Bool, false, if◌then◌else◌, List, [], ◌∷◌, ◌++◌}
-use Rattle.std.specs.Prelude.{length, Option, Some, None, Result}
+use Rattle.std.specs.Prelude.{◌≡◌, ℕ, ◌⊎◌, true, false, if◌then◌else◌, List, [], ◌∷◌, ◌++◌}
+use Rattle.std.specs.Prelude.{length, Option, Some, None, Result, Ok, IfOk}
+use mathlib.Core.List.{IsPrefix}
 use Rattle.channel_ring.specs.declared.ends.SendEnd.{Ghosts as SendGhosts}
 use Rattle.channel_ring.specs.declared.ends.RingEnd.{Ghosts as EndGhosts}
 use Rattle.sampler.specs.State.{SamplerEndState}
 use Rattle.control_ring.specs.Orders.{TakeState}
 use Rattle.control_ring.specs.declared.order.Order.{Order}
-use Rattle.tasks.specs.Links.{AwayState, IsFinishedHere, LinkState}
+use Rattle.hand_over.specs.Lines.{LenderState}
+use Rattle.tasks.specs.Links.{AwayState, CameBack, ComesNext, LinkState, NothingCame}
 use Rattle.tasks.specs.Tasks.{HeldState, Obeys, RestsHeld, TaskState}
-use Rattle.tasks.specs.Ways.{HasCome, LeftState}
+use Rattle.tasks.specs.Ways.{HasCome, IsLeftOf, LeavesBy, left_of}
 use Rattle.tasks.specs.declared.lost.Lost.{Lost}
 
 module _ {S E : Type 0} (send : SendGhosts S E) (ring : EndGhosts E) where
@@ -47,20 +49,54 @@ abbrev pub out_of : {S : Type 0} → Option (AwayState S) → List (HeldState S)
 out_of None = []
 out_of (Some a) = if a.out then record { sampler = a.sampler; orders = a.went } ∷ [] else []
 
--- whether it is out
-abbrev pub is_out : {S : Type 0} → Option (AwayState S) → Bool
-is_out None = false
-is_out (Some a) = a.out
+-- what is kept of a sampler is as it was, but for where it is
+abbrev pub Leaves : {S : Type 0} → Option (AwayState S) → Option (AwayState S) → Type 0
+Leaves None None = Unit {0}
+Leaves (Some a) (Some b) = b ≡ record a { out = b.out; here = b.here }
+Leaves _ _ = ⊥
 
--- the same once what is left of the sampler is here
-abbrev pub landed : {S : Type 0} → AwayState S → LeftState → AwayState S
-landed a left = record a { out = false; here = Some left }
-
--- the newest was recalled, and finished here
+-- the newest was recalled, and is here
 pub record RecallsNewest {S : Type 0} (a b : LinkState S) : Type 0 where
-  pub older : b.older ≡ a.older
   pub before : AwayState S
-  pub left : LeftState
   pub was : a.newer ≡ Some before
-  pub now : b.newer ≡ Some (landed before left)
-  pub finished : IsFinishedHere before left
+  pub rest : b ≡ record a { newer = Some (record before { out = false; here = true }) }
+
+module _ {S E : Type 0} (send : SendGhosts S E) (ring : EndGhosts E) where
+  -- this is left of a sampler that was recalled, and finished as it went
+  pub record IsFinishedOf (a : AwayState S) (left : Result (SamplerEndState E) Lost × TakeState)
+      : Type 0 where
+    pub here : a.here ≡ true
+    pub not_out : a.out ≡ false
+    pub orders : left.1 ≡ a.went
+    pub end : IfOk left.0 (IsLeftOf send ring a.sampler)
+
+  -- this is left of a sampler that was out, and came over the line next
+  pub record IsNextOver
+      (x y : LenderState (HeldState S) (Result (SamplerEndState E) Lost × TakeState))
+      (a : AwayState S) (left : Result (SamplerEndState E) Lost × TakeState)
+      : Type 0 where
+    pub out : a.out ≡ true
+    pub by_rule : LeavesBy send ring a.sampler a.went left
+    pub came : y.came ≡ x.came ++ left ∷ []
+    pub known : IsPrefix x.coming (left ∷ y.coming)
+
+  -- it came so or so
+  abbrev pub ComesOf :
+      LenderState (HeldState S) (Result (SamplerEndState E) Lost × TakeState)
+      → LenderState (HeldState S) (Result (SamplerEndState E) Lost × TakeState)
+      → AwayState S → Result (SamplerEndState E) Lost × TakeState → Type 0
+  ComesOf x y a left = (IsFinishedOf a left × (y ≡ x)) ⊎ IsNextOver x y a left
+
+  -- the same, as the link shows it
+  pub record Comes (x y : LinkState S) (a : AwayState S)
+      (left : Result (SamplerEndState E) Lost × TakeState)
+      : Type 0 where
+    pub by_rule : LeavesBy send ring a.sampler a.went left
+    pub way : ComesNext x y a (left_of ring left) ⊎ (IsFinishedOf a left × NothingCame x y)
+
+  -- the end of a sampler that was taken out of what is left of it, and how many orders are left
+  pub record IsTakenOf (a : AwayState S) (left : Result (SamplerEndState E) Lost × TakeState)
+      (back : SamplerEndState E × ℕ)
+      : Type 0 where
+    pub end : left.0 ≡ Ok back.0
+    pub came : CameBack send ring a back.0 back.1

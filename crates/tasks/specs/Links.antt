@@ -1,19 +1,20 @@
 -- The slave's side of a task.
 use Rattle.std.specs.Prelude.{◌≡◌, ◌≢◌, ℕ, ◌+◌, ◌≤◌, ◌⊎◌, Bool, true, false, ◌&&◌, ◌||◌, not}
-use Rattle.std.specs.Prelude.{nat_eq, List, [], ◌∷◌, ◌++◌, length, map}
-use Rattle.std.specs.Prelude.{Option, Some, None, IfSome, Result, Ok, Err}
+use Rattle.std.specs.Prelude.{nat_eq, List, [], ◌∷◌, ◌++◌, length}
+use Rattle.std.specs.Prelude.{Option, Some, None, Result, Ok, Err}
+use mathlib.Core.List.{IsPrefix}
 use Rattle.control_ring.specs.Orders.{TakeState}
 use Rattle.std.specs.Option.{is_some}
 use Rattle.channel_ring.specs.declared.ends.SendEnd.{Ghosts as SendGhosts}
 use Rattle.channel_ring.specs.declared.ends.RingEnd.{Ghosts as EndGhosts}
+use Rattle.channel_ring.specs.Ends.{RingName}
 use Rattle.sampler.specs.Past.{Past}
 use Rattle.sampler.specs.Standing.{EndStandsAfter, StandsAfter}
 use Rattle.sampler.specs.State.{SamplerEndState, SamplerState, joined, runs_in}
 use Rattle.hand_over.specs.Newest.{one_before}
 use Rattle.tasks.specs.Deeds.{Deed, is_end, orders_in, past_after}
 use Rattle.tasks.specs.Needs.{places_for}
-use Rattle.tasks.specs.Ways.{LeftState}
-use Rattle.sampler.specs.declared.track.Track.{Track}
+use Rattle.tasks.specs.Ways.{IsLeftOf, LeftState, seen_of}
 use Rattle.tasks.specs.declared.fault.HandFault.{HandFault}
 use Rattle.tasks.specs.declared.fault.HandFault.TheVariants.{Busy, NotEnded}
 use Rattle.control_ring.specs.declared.order.Order.{Order}
@@ -22,7 +23,7 @@ use Rattle.xcp_base.specs.declared.limits.TheConstants.{MAX_CONTROL_RING}
 
 -- a sampler that was handed out, and the task's end of its orders, as they were then; the orders
 -- that were sent behind it; how many places for orders are known to be free; whether its
--- measurement has ended; whether it is out; and what came back of it, if that is here
+-- measurement has ended; whether it is out; and whether it was recalled, and is here as it went
 pub record AwayState (S : Type 0) : Type 0 where
   pub sampler : SamplerState S
   pub went : TakeState
@@ -30,11 +31,15 @@ pub record AwayState (S : Type 0) : Type 0 where
   pub free : ℕ
   pub ended : Bool
   pub out : Bool
-  pub here : Option LeftState
+  pub here : Bool
 
--- the two samplers that were handed out last, of which something may be out: the one before the
--- last, and the last
+-- the name of the line with the task; what came back over it, the oldest first, and what is known to
+-- come next; and the two samplers that were handed out last, of which something may be kept: the one
+-- before the last, and the last
 pub record LinkState (S : Type 0) : Type 0 where
+  pub ring : RingName
+  pub came : List LeftState
+  pub coming : List LeftState
   pub older : Option (AwayState S)
   pub newer : Option (AwayState S)
 
@@ -111,18 +116,14 @@ module _ {S : Type 0} where
   LooksAtNewest (Some a) (Some b) = LooksAtOrders a b
   LooksAtNewest _ _ = ⊥
 
-  -- this is left of a sampler that was recalled and finished: what it had counted
-  pub record IsFinishedHere (a : AwayState S) (left : LeftState) : Type 0 where
-    pub orders : left.orders ≡ a.went
-    pub counts :
-        IfSome left.end (λ e. (e.plans ≡ a.sampler.plans)
-        × (e.counts ≡ map (λ (track : Track). track.counts) a.sampler.tracks))
+  -- whether it is out
+  abbrev pub is_out : Option (AwayState S) → Bool
+  is_out None = false
+  is_out (Some a) = a.out
 
-  -- the measurement ended with no order: its sampler was recalled, and finished here
-  pub record EndsHere (a b : AwayState S) : Type 0 where
-    pub left : LeftState
-    pub rest : b ≡ record a { ended = true; out = false; here = Some left }
-    pub finished : IsFinishedHere a left
+  -- the measurement ended with no order: its sampler was recalled, and is here
+  abbrev pub EndsHere : AwayState S → AwayState S → Type 0
+  EndsHere a b = b ≡ record a { ended = true; out = false; here = true }
 
   abbrev pub EndsUnordered : Option (AwayState S) → Option (AwayState S) → Type 0
   EndsUnordered (Some a) (Some b) = EndsHere a b
@@ -130,7 +131,7 @@ module _ {S : Type 0} where
 
   -- the measurement ended: its sampler was recalled, or an order to end was sent
   pub record EndsNewest (a b : LinkState S) : Type 0 where
-    pub older : b.older ≡ a.older
+    pub rest : b ≡ record a { newer = b.newer }
     pub way : EndsUnordered a.newer b.newer ⊎ SendsToNewest a.newer b.newer order.End
 
   -- a sampler that was just handed out, with the task's end of its orders
@@ -142,8 +143,13 @@ module _ {S : Type 0} where
     free = MAX_CONTROL_RING + 1;
     ended = false;
     out = true;
-    here = None;
+    here = false;
   }
+
+  -- a line on which nothing was handed out
+  abbrev pub just_linked : RingName → LinkState S
+  just_linked ring =
+      record { ring = ring; came = []; coming = []; older = None; newer = None }
 
   -- a sampler was handed out
   pub record HandsOut (a b : LinkState S) (s : SamplerState S) : Type 0 where
@@ -151,6 +157,7 @@ module _ {S : Type 0} where
     pub no_order : went.received ≡ []
     pub newer : b.newer ≡ Some (just_out s went)
     pub older : b.older ≡ one_before a.older a.newer
+    pub rest : b ≡ record a { older = b.older; newer = b.newer }
 
   -- why no sampler can be handed out: the measurement has not ended, or else two are out
   abbrev pub hand_refusal : LinkState S → Option HandFault
@@ -182,3 +189,58 @@ pub record CameBack {S E : Type 0} (send : SendGhosts S E) (ring : EndGhosts E) 
   pub stands :
       (past : Past) → StandsAfter send ring a.sampler past
       → EndStandsAfter (joined ring e) (past_after past deeds)
+
+module _ {S : Type 0} where
+  -- of a sampler that was out this is left, which came next over the line
+  pub record ComesNext (x y : LinkState S) (a : AwayState S) (left : LeftState) : Type 0 where
+    pub out : a.out ≡ true
+    pub came : y.came ≡ x.came ++ left ∷ []
+    pub known : IsPrefix x.coming (left ∷ y.coming)
+
+  -- nothing came over the line
+  pub record NothingCame (x y : LinkState S) : Type 0 where
+    pub came : y.came ≡ x.came
+    pub coming : y.coming ≡ x.coming
+
+  -- nothing came, and nothing is known to come of what is kept, unless it has to wait
+  pub record StaysOut (x y : LinkState S) (waits : Bool) (b : Option (AwayState S))
+      : Type 0 where
+    pub nothing : NothingCame x y
+    pub no_more : waits ≡ false → is_out b ≡ true → x.coming ≡ []
+
+  -- what came is that it was lost
+  pub record IsLost (x y : LinkState S) (b : Option (AwayState S)) : Type 0 where
+    pub not_out : is_out b ≡ false
+    -- fixed by `came`
+    pub left : LeftState
+    pub lost : left.end ≡ None
+    pub came : y.came ≡ x.came ++ left ∷ []
+    pub known : IsPrefix x.coming (left ∷ y.coming)
+
+  -- of what was kept as `a` and is kept as `b` nothing is back; where it has to wait for another one,
+  -- nothing came
+  pub record NoneIsBack (x y : LinkState S) (waits : Bool) (a b : Option (AwayState S))
+      : Type 0 where
+    pub looked : LooksAtNewest a b
+    pub way : StaysOut x y waits b ⊎ ((waits ≡ false) × IsLost x y b)
+
+module _ {S E : Type 0} (send : SendGhosts S E) (ring : EndGhosts E) where
+  -- this came next over the line
+  pub record CameNext (x y : LinkState S) (a : AwayState S) (e : SamplerEndState E)
+      : Type 0 where
+    -- fixed by `next`
+    pub left : LeftState
+    pub is : left.end ≡ Some (seen_of ring e)
+    pub next : ComesNext x y a left
+
+  -- this is left of a sampler that was recalled, and finished here as it went
+  pub record IsFinishedHere (x y : LinkState S) (a : AwayState S) (e : SamplerEndState E)
+      : Type 0 where
+    pub nothing : NothingCame x y
+    pub of : IsLeftOf send ring a.sampler e
+
+  -- this is back of a sampler that was handed out, with so many orders that were not carried out
+  pub record IsBackBy (x y : LinkState S) (a : AwayState S) (e : SamplerEndState E) (left : ℕ)
+      : Type 0 where
+    pub came : CameBack send ring a e left
+    pub way : CameNext x y a e ⊎ IsFinishedHere x y a e

@@ -10,7 +10,7 @@ use std::snapshot::Snapshot;
 use xcp_base::ListId;
 
 /// What the slave keeps of a sampler that was handed out: its end of the orders, the set of the DAQ
-/// lists that run by those that were sent, and what came back.
+/// lists that run by those that were sent, and the sampler itself, if it was recalled.
 #[derive(Drop)]
 pub struct Away<S: SendEnd> {
     pub(crate) orders: ControlSend,
@@ -18,17 +18,17 @@ pub struct Away<S: SendEnd> {
     pub(crate) running: ListSet,
     pub(crate) ended: bool,
     pub(crate) out: bool,
-    pub(crate) here: Option<Left<S>>,
+    pub(crate) here: Option<Handed<S>>,
 }
 
 impl<S: SendEnd> Model for Away<S> {
-    ghost use Rattle.std.specs.Prelude.{◌≡◌, ℕ, ◌+◌, ◌<◌, ◌≤◌, false, [], IfSome, option_map};
+    ghost use Rattle.std.specs.Prelude.{◌≡◌, ℕ, ◌+◌, ◌<◌, ◌≤◌, false, [], IfSome};
+    ghost use Rattle.std.specs.Option.{is_some};
     ghost use Rattle.xcp_base.specs.declared.limits.TheConstants.{MAX_LISTS};
     ghost use Rattle.xcp_base.specs.Lists.{has_list};
     ghost use Rattle.sampler.specs.State.{runs_in};
     ghost use Rattle.list_set.specs.Counts.{how_many};
     ghost use Rattle.tasks.specs.Links.{AwayState, runs_by};
-    ghost use Rattle.tasks.specs.Ways.{LeavesBy, left_of};
 
     ghost Value = { AwayState S };
 
@@ -39,7 +39,7 @@ impl<S: SendEnd> Model for Away<S> {
       free = a.orders.free;
       ended = a.ended;
       out = a.out;
-      here = option_map (left_of S.End.RingEnd) a.here;
+      here = is_some a.here;
     } };
 
     ghost invariant = { λ a.
@@ -48,17 +48,19 @@ impl<S: SendEnd> Model for Away<S> {
         ≡ runs_by a.orders.sent (runs_in a.went.value.sampler l) l)
         × (a.ended ≡ false → 1 + how_many MAX_LISTS (has_list a.running) ≤ a.orders.free)
         × (a.went.value.orders.received ≡ [])
-        × IfSome a.here (LeavesBy S.SendEnd S.End.RingEnd
-        a.went.value.sampler a.went.value.orders) };
+        × IfSome a.here (λ handed. (handed ≡ a.went.value) × (a.out ≡ false)) };
 }
 
 impl<S: SendEnd> Away<S> {
-    ghost use Rattle.std.specs.Prelude.{◌≡◌, ℕ, ◌<◌, ◌&&◌, Bool, true, false, not, IfSome, Some};
+    ghost use Rattle.std.specs.Prelude.{◌≡◌, ℕ, ◌<◌, ◌&&◌, Bool, true, false, not};
+    ghost use Rattle.std.specs.Prelude.{Err, IfSome, IsNone};
+    ghost use Rattle.tasks.specs.declared.lost.Lost.{Lost};
     ghost use Rattle.xcp_base.specs.declared.limits.TheConstants.{MAX_LISTS};
     ghost use Rattle.xcp_base.specs.Lists.{has_list};
-    ghost use Rattle.tasks.specs.Links.{CameBack, HasPlacesFor, LooksAtOrders, SendsOrder};
+    ghost use Rattle.tasks.specs.Inner.{IsFinishedOf, IsTakenOf};
+    ghost use Rattle.tasks.specs.Links.{HasPlacesFor, LooksAtOrders, SendsOrder};
     ghost use Rattle.tasks.specs.Links.{runs_of, without};
-    ghost use Rattle.tasks.specs.Ways.{LeavesBy, left_of};
+    ghost use Rattle.tasks.specs.Ways.{LeavesBy};
     ghost use Rattle.control_ring.specs.declared.order.Order.TheVariants.{Start, Stop, End};
 
     /// Whether it takes orders.
@@ -138,31 +140,46 @@ impl<S: SendEnd> Away<S> {
         self.out
     }
 
-    /// What is left of the sampler came back.
-    pub fn land(&mut self, left: Left<S>)
-        requires { LeavesBy S.SendEnd S.End.RingEnd self.old.sampler self.old.went left }
-        ensures { self.new ≡ record self.old {
-          out = false;
-          here = Some (left_of S.End.RingEnd left);
-        } }
+    /// The sampler was recalled, and is here.
+    pub fn recall(&mut self, handed: Handed<S>)
+        requires { handed ≡ record { sampler = self.old.sampler; orders = self.old.went } }
+        ensures { self.new ≡ record self.old { out = false; here = true } }
     {
         self.out = false;
-        self.here = Some(left);
+        self.here = Some(handed);
     }
 
-    /// What is left of the sampler, if it came back, and how many orders were left to be carried
-    /// out.
-    pub fn take(&mut self) -> Option<(SamplerEnd<S::End>, usize)>
-        ensures back { IfSome result (λ back.
-            CameBack S.SendEnd S.End.RingEnd self.old back.0 back.1) }
-        ensures looked { LooksAtOrders self.old self.new }
-        ensures out_stays { self.new.out ≡ self.old.out }
+    /// The sampler came back over the line.
+    pub fn arrive(&mut self)
+        ensures { self.new ≡ record self.old { out = false } }
     {
-        let (end, mut orders) = self.here.take()?;
-        let left = orders.beside(&mut self.orders);
+        self.out = false;
+    }
+
+    /// Finishes the sampler, if it was recalled: what is left of it.
+    pub fn finish(&mut self) -> Option<Left<S>>
+        ensures some { IfSome result (IsFinishedOf S.SendEnd S.End.RingEnd self.old) }
+        ensures none { IsNone result → self.old.here ≡ false }
+        ensures gone { self.new ≡ record self.old { here = false } }
+    {
+        let handed = self.here.take()?;
+        Some(handed.finish())
+    }
+
+    /// The end of the sampler in what is left of it, unless it was lost, and how many orders were
+    /// left to be carried out.
+    pub fn take(&mut self, left: Left<S>) -> Option<(SamplerEnd<S::End>, usize)>
+        requires { LeavesBy S.SendEnd S.End.RingEnd self.old.sampler self.old.went left }
+        ensures back { IfSome result (IsTakenOf S.SendEnd S.End.RingEnd self.old left) }
+        ensures lost { IsNone result → (lost : Lost) × (left.0 ≡ Err lost) }
+        ensures looked { LooksAtOrders self.old self.new }
+        ensures stays { self.new ≡ record self.old { free = self.new.free } }
+    {
+        let (end, mut orders) = left;
+        let rest = orders.beside(&mut self.orders);
         let Ok(end) = end else {
             return None;
         };
-        Some((end, left))
+        Some((end, rest))
     }
 }

@@ -3,6 +3,7 @@ use crate::fault::HandFault;
 use crate::handed::Handed;
 use crate::rule::{Left, SlaveLine};
 use crate::task::Task;
+use crate::task_end::TaskEnd;
 use channel_ring::SendEnd;
 use control_ring::ControlRing;
 use hand_over::{keep_newest, new_line};
@@ -26,30 +27,39 @@ pub struct TaskLink<S: SendEnd> {
 }
 
 impl<S: SendEnd> Model for TaskLink<S> {
-    ghost use Rattle.std.specs.Prelude.{◌≡◌, ◌++◌};
+    ghost use Rattle.std.specs.Prelude.{◌≡◌, ◌++◌, map};
     ghost use Rattle.tasks.specs.Inner.{out_of};
     ghost use Rattle.tasks.specs.Links.{LinkState};
+    ghost use Rattle.tasks.specs.Ways.{left_of};
 
     ghost Value = { LinkState S };
 
-    ghost view = { λ l. record { older = l.older; newer = l.newer } };
+    ghost view = { λ l. record {
+      ring = l.line.ring;
+      came = map (left_of S.End.RingEnd) l.line.came;
+      coming = map (left_of S.End.RingEnd) l.line.coming;
+      older = l.older;
+      newer = l.newer;
+    } };
 
     ghost invariant = { λ l. l.line.out ≡ out_of l.older ++ out_of l.newer };
 }
 
-ghost use Rattle.std.specs.Prelude.{◌≡◌, ℕ, ◌<◌, ◌&&◌, ◌++◌, Bool, List, [], None, Some, true};
-ghost use Rattle.std.specs.Prelude.{false};
+ghost use Rattle.std.specs.Prelude.{◌≡◌, ◌⊎◌, ℕ, ◌<◌, ◌&&◌, ◌++◌, Bool, List, [], None, Some, true};
+ghost use Rattle.std.specs.Prelude.{false, Err};
 ghost use Rattle.std.specs.Prelude.{IfErr, IfOk, IfSome, IsNone, IsSome, OnErr, OnOk};
 ghost use Rattle.std.specs.Option.{is_some};
 ghost use Rattle.xcp_base.specs.declared.limits.TheConstants.{MAX_LISTS};
 ghost use Rattle.xcp_base.specs.Lists.{has_list};
-ghost use Rattle.tasks.specs.Inner.{RecallsNewest, is_out, landed, out_of};
-ghost use Rattle.tasks.specs.Links.{AnswersHandOut, AwayState, CameBack, CanStart};
-ghost use Rattle.tasks.specs.Links.{EndsNewest, HandsOut, LooksAtNewest};
-ghost use Rattle.tasks.specs.Links.{SendsToNewest, hand_refusal, is_running, just_out};
+ghost use Rattle.tasks.specs.Inner.{Comes, ComesOf, IsFinishedOf, IsNextOver, IsTakenOf};
+ghost use Rattle.tasks.specs.Inner.{Leaves, RecallsNewest, out_of};
+ghost use Rattle.tasks.specs.Links.{AnswersHandOut, AwayState, CanStart, EndsNewest, HandsOut};
+ghost use Rattle.tasks.specs.Links.{IsBackBy, LooksAtNewest, NoneIsBack, SendsToNewest};
+ghost use Rattle.tasks.specs.Links.{hand_refusal, is_out, is_running, just_linked, just_out};
 ghost use Rattle.tasks.specs.Links.{takes_orders, without};
-ghost use Rattle.tasks.specs.Tasks.{HeldState};
-ghost use Rattle.tasks.specs.Ways.{LeavesBy, left_of};
+ghost use Rattle.tasks.specs.Tasks.{HeldState, just_begun};
+ghost use Rattle.tasks.specs.Ways.{LeavesBy};
+ghost use Rattle.tasks.specs.declared.lost.Lost.{Lost};
 ghost use Rattle.control_ring.specs.declared.order.Order.TheVariants.{Start, Stop, End};
 
 /// A sampler to be handed out, and what the slave keeps of it; or it comes back, if there is no
@@ -172,57 +182,113 @@ fn is_out<S: SendEnd>(away: &Option<Away<S>>) -> bool
     }
 }
 
-/// What is left of a sampler that was handed out is here.
-fn land<S: SendEnd>(away: &mut Option<Away<S>>, left: Left<S>)
-    requires left { (a : AwayState S) → away.old ≡ Some a
-        → LeavesBy S.SendEnd S.End.RingEnd a.sampler a.went left }
-    ensures none { away.old ≡ None → away.new ≡ None }
-    ensures lands { (a : AwayState S) → away.old ≡ Some a
-        → away.new ≡ Some (landed a (left_of S.End.RingEnd left)) }
+/// The newest was recalled.
+fn recall_to<S: SendEnd>(newer: &mut Option<Away<S>>, handed: Handed<S>)
+    requires { (a : AwayState S) → newer.old ≡ Some a
+        → handed ≡ record { sampler = a.sampler; orders = a.went } }
+    ensures none { newer.old ≡ None → newer.new ≡ None }
+    ensures recalled { (a : AwayState S) → newer.old ≡ Some a
+        → newer.new ≡ Some (record a { out = false; here = true }) }
 {
-    if let Some(away) = away {
-        away.land(left);
+    if let Some(away) = newer {
+        away.recall(handed);
     }
 }
 
-/// If the oldest that is out came back, it is here.
-fn bring<S: SendEnd>(line: &mut SlaveLine<S>, away: &mut Option<Away<S>>)
-    requires oldest { (more : List (HeldState S)) × (line.old.out ≡ out_of away.old ++ more) }
-    ensures out { (more : List (HeldState S)) → line.old.out ≡ out_of away.old ++ more
-        → line.new.out ≡ out_of away.new ++ more }
-    ensures looked { LooksAtNewest away.old away.new }
-{
-    if !is_out(away) {
-        return;
-    }
-    if let Some(left) = line.take() {
-        land(away, left);
-    }
-}
-
-/// What came back of a sampler that was handed out, which stays where it is.
-fn found_of<S: SendEnd>(away: &mut Option<Away<S>>) -> Option<(SamplerEnd<S::End>, usize)>
-    ensures back { IfSome result (λ back. (a : AwayState S) × (away.old ≡ Some a)
-        × CameBack S.SendEnd S.End.RingEnd a back.0 back.1) }
-    ensures looked { LooksAtNewest away.old away.new }
-    ensures out_stays { is_out away.new ≡ is_out away.old }
+/// What is left of a sampler that was handed out, if it was recalled.
+fn finished_of<S: SendEnd>(away: &mut Option<Away<S>>) -> Option<Left<S>>
+    ensures some { IfSome result (λ left. (a : AwayState S) × (away.old ≡ Some a)
+        × IsFinishedOf S.SendEnd S.End.RingEnd a left) }
+    ensures none { IsNone result → away.new ≡ away.old }
+    ensures leaves { Leaves away.old away.new }
+    ensures out_stays { out_of away.new ≡ out_of away.old }
 {
     match away {
-        Some(away) => away.take(),
+        Some(away) => away.finish(),
         None => None,
     }
 }
 
-/// What came back of a sampler that was handed out, of which nothing is kept then.
-fn back_of<S: SendEnd>(away: &mut Option<Away<S>>) -> Option<(SamplerEnd<S::End>, usize)>
-    requires { is_out away.old ≡ false }
+/// What is left of the oldest that is out, if it came back.
+fn arrived_of<S: SendEnd>(line: &mut SlaveLine<S>, away: &mut Option<Away<S>>) -> Option<Left<S>>
+    requires oldest { (more : List (HeldState S)) × (line.old.out ≡ out_of away.old ++ more) }
+    ensures some { IfSome result (λ left. (a : AwayState S) × (away.old ≡ Some a)
+        × IsNextOver S.SendEnd S.End.RingEnd line.old line.new a left) }
+    ensures none { IsNone result → (line.new ≡ line.old) × (away.new ≡ away.old) }
+    ensures no_more { IsNone result → is_out away.old ≡ true → line.old.coming ≡ [] }
+    ensures out { (more : List (HeldState S)) → line.old.out ≡ out_of away.old ++ more
+        → line.new.out ≡ out_of away.new ++ more }
+    ensures leaves { Leaves away.old away.new }
+    ensures not_out { IsSome result → is_out away.new ≡ false }
+    ensures ring_stays { line.new.ring ≡ line.old.ring }
+{
+    let Some(away) = away else {
+        return None;
+    };
+    if !away.is_out() {
+        return None;
+    }
+    let left = line.take()?;
+    away.arrive();
+    Some(left)
+}
+
+/// What is left of a sampler that was handed out: it was recalled; or it is the oldest that is out,
+/// and came back.
+fn bring<S: SendEnd>(line: &mut SlaveLine<S>, away: &mut Option<Away<S>>) -> Option<Left<S>>
+    requires oldest { (more : List (HeldState S)) × (line.old.out ≡ out_of away.old ++ more) }
+    ensures some { IfSome result (λ left. (a : AwayState S) × (away.old ≡ Some a)
+        × ComesOf S.SendEnd S.End.RingEnd line.old line.new a left) }
+    ensures none { IsNone result → (line.new ≡ line.old) × (away.new ≡ away.old) }
+    ensures no_more { IsNone result → is_out away.old ≡ true → line.old.coming ≡ [] }
+    ensures out { (more : List (HeldState S)) → line.old.out ≡ out_of away.old ++ more
+        → line.new.out ≡ out_of away.new ++ more }
+    ensures leaves { Leaves away.old away.new }
+    ensures not_out { IsSome result → is_out away.new ≡ false }
+    ensures ring_stays { line.new.ring ≡ line.old.ring }
+{
+    if let Some(left) = finished_of(away) {
+        return Some(left);
+    }
+    arrived_of(line, away)
+}
+
+/// The end of a sampler that was handed out in what came back of it, unless it was lost.
+fn taken_of<S: SendEnd>(
+    away: &mut Option<Away<S>>,
+    left: Left<S>,
+) -> Option<(SamplerEnd<S::End>, usize)>
+    requires left { (a : AwayState S) → away.old ≡ Some a
+        → LeavesBy S.SendEnd S.End.RingEnd a.sampler a.went left }
     ensures back { IfSome result (λ back. (a : AwayState S) × (away.old ≡ Some a)
-        × CameBack S.SendEnd S.End.RingEnd a back.0 back.1) }
+        × IsTakenOf S.SendEnd S.End.RingEnd a left back) }
+    ensures lost { IsNone result → IsSome away.old → (lost : Lost) × (left.0 ≡ Err lost) }
+    ensures looked { LooksAtNewest away.old away.new }
+    ensures out_stays { is_out away.new ≡ is_out away.old }
+{
+    match away {
+        Some(away) => away.take(left),
+        None => None,
+    }
+}
+
+/// What came back of a sampler that was handed out, of which nothing is kept then; unless it was
+/// lost.
+fn back_of<S: SendEnd>(
+    away: &mut Option<Away<S>>,
+    left: Left<S>,
+) -> Option<(SamplerEnd<S::End>, usize)>
+    requires left { (a : AwayState S) → away.old ≡ Some a
+        → LeavesBy S.SendEnd S.End.RingEnd a.sampler a.went left }
+    requires not_out { is_out away.old ≡ false }
+    ensures back { IfSome result (λ back. (a : AwayState S) × (away.old ≡ Some a)
+        × IsTakenOf S.SendEnd S.End.RingEnd a left back) }
+    ensures lost { IsNone result → IsSome away.old → (lost : Lost) × (left.0 ≡ Err lost) }
     ensures some { IsSome result → away.new ≡ None }
     ensures none { IsNone result → LooksAtNewest away.old away.new }
     ensures out { is_out away.new ≡ false }
 {
-    let back = found_of(away)?;
+    let back = taken_of(away, left)?;
     *away = None;
     Some(back)
 }
@@ -230,10 +296,8 @@ fn back_of<S: SendEnd>(away: &mut Option<Away<S>>) -> Option<(SamplerEnd<S::End>
 impl<S: SendEnd> TaskLink<S> {
     /// A task, and the slave's side of it.
     pub fn new(alloc: Global) -> Result<(TaskLink<S>, Task<S>), AllocError>
-        ensures link { IfOk result (λ made.
-            made.0 ≡ record { older = None; newer = None }) }
-        ensures task { IfOk result (λ made.
-            made.1 ≡ record { came = []; gave = []; held = None }) }
+        ensures link { IfOk result (λ made. made.0 ≡ just_linked made.1.ring) }
+        ensures task { IfOk result (λ made. made.1 ≡ just_begun made.0.ring) }
     {
         let (line, theirs) = new_line(alloc)?;
         let link = TaskLink {
@@ -341,8 +405,7 @@ impl<S: SendEnd> TaskLink<S> {
         stop_of(&mut self.newer, l);
     }
 
-    /// Recalls the sampler that was handed out last, if the task has not fetched it, and finishes it
-    /// here; whether it did.
+    /// Recalls the sampler that was handed out last, if the task has not fetched it; whether it did.
     fn recall(&mut self) -> bool
         ensures yes { result ≡ true → RecallsNewest self.old self.new }
         ensures no { result ≡ false → self.new ≡ self.old }
@@ -353,13 +416,13 @@ impl<S: SendEnd> TaskLink<S> {
         let Some(handed) = self.line.recall() else {
             return false;
         };
-        land(&mut self.newer, handed.finish());
+        recall_to(&mut self.newer, handed);
         true
     }
 
     /// Ends the measurement of the sampler that was handed out last, which takes no orders from
-    /// then on. If the task has not fetched it, it is recalled and finished at once; else an order
-    /// to end is sent, which always finds a place. If it takes no orders, nothing changes.
+    /// then on. If the task has not fetched it, it is recalled; else an order to end is sent, which
+    /// always finds a place. If it takes no orders, nothing changes.
     pub fn end(&mut self)
         ensures none { takes_orders self.old.newer ≡ false → self.new ≡ self.old }
         ensures ends { takes_orders self.old.newer ≡ true → EndsNewest self.old self.new }
@@ -374,50 +437,99 @@ impl<S: SendEnd> TaskLink<S> {
         }
     }
 
+    /// Looks at all that the task gave back so far, which was finished. From then on each of it is
+    /// known to come.
+    pub fn beside(&mut self, end: &mut TaskEnd<S>)
+        requires one_line { end.old.ring ≡ self.old.ring }
+        ensures all { self.new.came ++ self.new.coming ≡ end.old.gave }
+        ensures no_more { is_out self.old.older ≡ false → is_out self.old.newer ≡ false
+            → self.new.coming ≡ [] }
+        ensures rest_stays { self.new ≡ record self.old { coming = self.new.coming } }
+        ensures end_stays { end.new ≡ end.old }
+    {
+        self.line.beside(&mut end.line);
+    }
+
     /// What came back of the older sampler, with the number of orders that were not carried out.
     pub fn take_older(&mut self) -> Option<(SamplerEnd<S::End>, usize)>
         ensures back { IfSome result (λ back. (a : AwayState S) × (self.old.older ≡ Some a)
-            × CameBack S.SendEnd S.End.RingEnd a back.0 back.1) }
+            × IsBackBy S.SendEnd S.End.RingEnd self.old self.new a back.0 back.1) }
         ensures some { IsSome result → self.new.older ≡ None }
-        ensures none { IsNone result → LooksAtNewest self.old.older self.new.older }
-        ensures rest_stays { self.new ≡ record self.old { older = self.new.older } }
+        ensures none { IsNone result
+            → NoneIsBack self.old self.new false self.old.older self.new.older }
+        ensures rest_stays { self.new
+            ≡ record self.old {
+              came = self.new.came; coming = self.new.coming; older = self.new.older;
+            } }
     {
-        bring(&mut self.line, &mut self.older);
-        if is_out(&self.older) {
-            return None;
-        }
-        back_of(&mut self.older)
+        let left = self.bring_older()?;
+        back_of(&mut self.older, left)
     }
 
     /// What came back of the sampler that was handed out last, with the number of orders that were
-    /// not carried out. It comes behind the older one.
+    /// not carried out. It comes behind the older one. If its measurement has ended and the task has
+    /// not fetched it, it is recalled.
     pub fn take_newer(&mut self) -> Option<(SamplerEnd<S::End>, usize)>
         ensures back { IfSome result (λ back. (a : AwayState S) × (self.old.newer ≡ Some a)
-            × CameBack S.SendEnd S.End.RingEnd a back.0 back.1) }
+            × IsBackBy S.SendEnd S.End.RingEnd self.old self.new a back.0 back.1) }
         ensures some { IsSome result → self.new.newer ≡ None }
-        ensures none { IsNone result → LooksAtNewest self.old.newer self.new.newer }
-        ensures rest_stays { self.new ≡ record self.old { newer = self.new.newer } }
+        ensures none { IsNone result
+            → NoneIsBack self.old self.new (is_out self.old.older) self.old.newer self.new.newer }
+        ensures rest_stays { self.new
+            ≡ record self.old {
+              came = self.new.came; coming = self.new.coming; newer = self.new.newer;
+            } }
     {
-        if !self.newest_is_here() {
-            return None;
-        }
-        back_of(&mut self.newer)
+        self.recall_ended();
+        let left = self.bring_newer()?;
+        back_of(&mut self.newer, left)
     }
 
-    /// Whether what is left of the sampler that was handed out last is here, as far as it came. If
-    /// its measurement has ended and the task has not fetched it, it is recalled.
-    fn newest_is_here(&mut self) -> bool
-        ensures yes { result ≡ true → is_out self.new.newer ≡ false }
-        ensures looked { LooksAtNewest self.old.newer self.new.newer }
-        ensures rest_stays { self.new ≡ record self.old { newer = self.new.newer } }
+    /// Recalls the sampler that was handed out last, if its measurement has ended and the task has
+    /// not fetched it.
+    fn recall_ended(&mut self)
+        ensures { (self.new ≡ self.old) ⊎ RecallsNewest self.old self.new }
     {
-        if !newest_takes_orders(&self.newer) && self.recall() {
-            return true;
+        if newest_takes_orders(&self.newer) {
+            return;
         }
+        let _ = self.recall();
+    }
+
+    /// What is left of the older sampler, if it is here or came.
+    fn bring_older(&mut self) -> Option<Left<S>>
+        ensures some { IfSome result (λ left. (a : AwayState S) × (self.old.older ≡ Some a)
+            × Comes S.SendEnd S.End.RingEnd self.old self.new a left) }
+        ensures none { IsNone result → self.new ≡ self.old }
+        ensures no_more { IsNone result → is_out self.old.older ≡ true → self.old.coming ≡ [] }
+        ensures leaves { Leaves self.old.older self.new.older }
+        ensures not_out { IsSome result → is_out self.new.older ≡ false }
+        ensures rest_stays { self.new
+            ≡ record self.old {
+              came = self.new.came; coming = self.new.coming; older = self.new.older;
+            } }
+    {
+        bring(&mut self.line, &mut self.older)
+    }
+
+    /// What is left of the sampler that was handed out last, as far as it came.
+    fn bring_newer(&mut self) -> Option<Left<S>>
+        ensures some { IfSome result (λ left. (a : AwayState S) × (self.old.newer ≡ Some a)
+            × Comes S.SendEnd S.End.RingEnd self.old self.new a left) }
+        ensures none { IsNone result → self.new ≡ self.old }
+        ensures no_more { IsNone result → is_out self.old.older ≡ false
+            → is_out self.old.newer ≡ true → self.old.coming ≡ [] }
+        ensures waits { is_out self.old.older ≡ true → self.old.came ≡ self.new.came }
+        ensures leaves { Leaves self.old.newer self.new.newer }
+        ensures not_out { IsSome result → is_out self.new.newer ≡ false }
+        ensures rest_stays { self.new
+            ≡ record self.old {
+              came = self.new.came; coming = self.new.coming; newer = self.new.newer;
+            } }
+    {
         if is_out(&self.older) {
-            return !is_out(&self.newer);
+            return finished_of(&mut self.newer);
         }
-        bring(&mut self.line, &mut self.newer);
-        !is_out(&self.newer)
+        bring(&mut self.line, &mut self.newer)
     }
 }

@@ -22,6 +22,7 @@ impl<S: SendEnd> Model for Task<S> {
     ghost Value = { TaskState S };
 
     ghost view = { λ t. record {
+      ring = t.line.ring;
       came = t.line.fetched;
       gave = map (left_of S.End.RingEnd) t.line.gave;
       held = t.held;
@@ -95,6 +96,7 @@ impl<S: SendEnd> Task<S> {
         requires none { self.old.held ≡ None }
         ensures some { result ≡ true → Steps S.SendEnd S.End.RingEnd self.old self.new }
         ensures none { result ≡ false → Rests S.SendEnd S.End.RingEnd self.old self.new }
+        ensures ring_stays { self.new.ring ≡ self.old.ring }
     {
         let Some(handed) = self.line.fetch() else {
             return false;
@@ -115,7 +117,8 @@ impl<S: SendEnd> Task<S> {
 
     /// Carries out the next order of what is held, if there is one.
     fn obey(&mut self) -> Option<Order>
-        ensures { ObeysAs S.SendEnd S.End.RingEnd self.old self.new result }
+        ensures obeys { ObeysAs S.SendEnd S.End.RingEnd self.old self.new result }
+        ensures ring_stays { self.new.ring ≡ self.old.ring }
     {
         order_in(obey_held(&mut self.held))
     }
@@ -124,6 +127,7 @@ impl<S: SendEnd> Task<S> {
     fn step(&mut self) -> bool
         ensures some { result ≡ true → Steps S.SendEnd S.End.RingEnd self.old self.new }
         ensures none { result ≡ false → Rests S.SendEnd S.End.RingEnd self.old self.new }
+        ensures ring_stays { self.new.ring ≡ self.old.ring }
     {
         if self.held.is_none() {
             return self.receive();
@@ -141,7 +145,8 @@ impl<S: SendEnd> Task<S> {
 
     /// Does all that the slave ordered, in its order.
     fn look(&mut self)
-        ensures { Looks S.SendEnd S.End.RingEnd MOST_STEPS self.old self.new }
+        ensures looks { Looks S.SendEnd S.End.RingEnd MOST_STEPS self.old self.new }
+        ensures ring_stays { self.new.ring ≡ self.old.ring }
     {
         let mut done = 0;
         while done < MOST_STEPS {

@@ -10,14 +10,17 @@ pub struct TaskEnd<S: SendEnd> {
 }
 
 impl<S: SendEnd> Model for TaskEnd<S> {
-    ghost use Rattle.std.specs.Prelude.{map};
+    ghost use Rattle.std.specs.Prelude.{◌≡◌, length, map};
     ghost use Rattle.tasks.specs.Tasks.{TaskEndState};
     ghost use Rattle.tasks.specs.Ways.{left_of};
 
     ghost Value = { TaskEndState S };
 
     ghost view = { λ t. record {
+      ring = t.line.ring;
       came = t.line.fetched;
       gave = map (left_of S.End.RingEnd) t.line.gave;
     } };
+
+    ghost invariant = { λ t. length t.line.fetched ≡ length t.line.gave };
 }

@@ -24,4 +24,5 @@ loop-line-preserved g c =
       let most = one.most in
           let low = c.loop-line.invariant.1 in
           omega (arith, most, low),
+      c.line.ensures.tasks ∙ c.loop-line.invariant.2,
     )

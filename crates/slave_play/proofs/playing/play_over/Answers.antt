@@ -1,9 +1,15 @@
-use Rattle.std.proofs.Common.{map, sym, subst}
+use Rattle.std.proofs.Common.{map, sym, ◌∙◌, subst}
 use Rattle.slave_file.specs.Inner.{line_data}
 use Rattle.slave_play.specs.declared.played.Played.{Played}
 use Rattle.slave_play.specs.Playing.{Does, HasPlayed, sending}
 use Rattle.slave_play.proofs.PlayLemmas.{if-ok-both, played}
 use Rattle.slave_play.proofs.playing.play_over.Goals as goal
+
+-- the tasks are on the lines that they were opened on, and so are the event channels
+pub finish-requires : goal.finish-requires
+finish-requires g c = record {
+  tasks = c.play_all.ensures.tasks ∙ c.in_ok-player.ensures.tasks ∙ sym c.in-Ok.ensures.does.advances.lines;
+}
 
 -- from the slave that was opened to its end
 pub returns : goal.returns

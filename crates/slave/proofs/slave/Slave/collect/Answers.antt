@@ -9,7 +9,7 @@ loop-c-init g c = collects-nothing g.R.Take.TakeEnd c.args.self.now
 pub loop-c-preserved : goal.loop-c-preserved
 loop-c-preserved g c =
     collects-within g.R.Take.TakeEnd (2 * c.loop-c.c + 2) (2 * (c.loop-c.c + 1)) c.args.self.now c.collect_at.new.self (omega arith)
-    (collects-more g.R.Take.TakeEnd (2 * c.loop-c.c) 2 c.args.self.now c.loop-c.self c.collect_at.new.self c.loop-c.invariant c.collect_at.ensures)
+    (collects-more g.R.Take.TakeEnd (2 * c.loop-c.c) 2 c.args.self.now c.loop-c.self c.collect_at.new.self c.loop-c.invariant c.collect_at.ensures.collects)
 
 -- there are no more event channels than a slave may have
 pub returns : goal.returns

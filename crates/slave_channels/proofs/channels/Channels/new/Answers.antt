@@ -1,7 +1,17 @@
-use Rattle.std.proofs.Common.{arith, ◌≡◌, replicate, subst}
-use Rattle.slave_channels.specs.Calls.{no_measurement, no_sampler}
-use Rattle.slave_channels.proofs.EachLemmas.{one-more}
+use Rattle.std.proofs.Common.{◌≡◌, arith, [], refl, rules, subst}
+use Rattle.slave_channels.specs.Calls.{AreNew}
+use Rattle.slave_channels.proofs.NewLemmas.{one-new}
 use Rattle.slave_channels.proofs.channels.Channels.new.Goals as goal
+
+-- none yet
+pub loop-c-init : goal.loop-c-init
+loop-c-init g c = record {
+  made = record { rings = []; many = refl; channels_are = search rules; tasks_are = search rules };
+  channels_len = search rules;
+  tasks_len = search rules;
+  channels_room = search rules;
+  tasks_room = search rules;
+}
 
 -- one more of the same
 pub loop-c-preserved : goal.loop-c-preserved
@@ -10,8 +20,7 @@ loop-c-preserved g c =
     let xs = c.push_reserved.ensures in
     let ys = c.push_reserved-in-loop-c.ensures in
     record {
-      channels = one-more c.loop-c.c c.loop-c.all.items c.push_reserved.new.self.items _ _ v.channels c.in_ok-channel.ensures.channel xs.items;
-      tasks = one-more c.loop-c.c c.loop-c.tasks.items c.push_reserved-in-loop-c.new.self.items _ _ v.tasks c.in_ok-channel.ensures.task ys.items;
+      made = one-new c.loop-c.c _ _ _ _ _ _ v.made c.in_ok-channel.ensures.channel c.in_ok-channel.ensures.task xs.items ys.items;
       channels_len = omega (arith, xs.len, v.channels_len);
       tasks_len = omega (arith, ys.len, v.tasks_len);
       channels_room = omega (arith, xs.capacity, v.channels_room);
@@ -19,12 +28,7 @@ loop-c-preserved g c =
     }
 
 -- that is all of them
-pub returns-clause-channels : goal.returns-clause-channels
-returns-clause-channels g c =
+pub returns : goal.returns
+returns g c =
     let all : c.loop-c.c ≡ c.args.count = omega (arith, c.loop-c-test.false) in
-    subst (λ n. c.loop-c.all.items ≡ replicate n no_measurement) all c.loop-c.invariant.channels
-
-pub returns-clause-tasks : goal.returns-clause-tasks
-returns-clause-tasks g c =
-    let all : c.loop-c.c ≡ c.args.count = omega (arith, c.loop-c-test.false) in
-    subst (λ n. c.loop-c.tasks.items ≡ replicate n no_sampler) all c.loop-c.invariant.tasks
+    subst (λ n. AreNew n c.loop-c.all.items c.loop-c.tasks.items) all c.loop-c.invariant.made

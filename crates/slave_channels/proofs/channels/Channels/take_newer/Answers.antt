@@ -15,5 +15,5 @@ returns g c =
     record {
       back =
           only-set _ c.args.c _ _ c.index_mut.result.now c.take_newer.new.self c.self.view_is c.index_mut.ensures.value c.requires.channel
-          (record { back = e.back; some = e.some; none = e.none; rest = e.rest_stays });
+          (record { back = e.back; some = e.some; none = e.none; link = e.link; older = e.older_stays });
     }

@@ -1,8 +1,15 @@
-use Rattle.std.proofs.Common.{◌+◌, ◌*◌, [], ◌∷◌, refl, arith}
+use Rattle.std.proofs.Common.{◌+◌, ◌*◌, [], ◌∷◌, refl, sym, ◌∙◌, arith}
 use Rattle.xcp_base.specs.declared.limits.TheConstants.{MAX_CHANNELS}
 use Rattle.slave_play.specs.Playing.{most_a_line, sending}
 use Rattle.slave_play.proofs.PlayLemmas.{advances-more, advances-within, hangs}
 use Rattle.slave_play.proofs.player.Player.finish.Goals as goal
+
+-- what is left of the tasks is on the lines of the event channels, which stay
+pub close-closed-requires : goal.close-closed-requires
+close-closed-requires g c = record {
+  tasks = c.in_ok-left.ensures.lines ∙ c.requires.tasks ∙ sym c.hang_up.ensures.hangs_up.0
+      ∙ sym (c.in_ok-collect.ensures.collects c.args.self.out.contents).lines;
+}
 
 -- the slave hangs up, and what came back is collected
 pub returns-clause-ends : goal.returns-clause-ends

@@ -1,7 +1,7 @@
-use Rattle.std.proofs.Common.{[], ◌∷◌, sym, ap, subst, arith}
+use Rattle.std.proofs.Common.{Vec, [], ◌∷◌, sym, ap, subst, arith}
 use Rattle.frame_writer.specs.MemoryOuts.{VecOutState}
 use Rattle.slave_file.specs.Inner.{line_data}
-use Rattle.slave_play.specs.Playing.{Advances, masters, most_a_line, sending}
+use Rattle.slave_play.specs.Playing.{Advances, lines_of, masters, most_a_line, sending}
 use Rattle.slave_play.proofs.PlayLemmas.{advances-within, does-other, nothing, on_ok}
 use Rattle.slave_play.proofs.player.Player.line.Goals as goal
 
@@ -17,6 +17,7 @@ returns-in-Trigger g c =
           (subst (λ s. Advances take most_a_line (sending was.slave was.out.contents) (sending s now.out.contents) []) (sym c.trigger.ensures.slave_stays)
           (subst (λ (o : VecOutState). Advances take most_a_line (sending was.slave was.out.contents) (sending was.slave o.contents) []) (sym c.trigger.ensures.out_stays)
           (advances-within take 0 most_a_line (sending was.slave was.out.contents) (sending was.slave was.out.contents) [] (omega arith) (nothing take was.slave was.out.contents))));
+      tasks = c.trigger.ensures.tasks;
     }
 
 pub returns-in-Send : goal.returns-in-Send
@@ -30,6 +31,7 @@ returns-in-Send g c =
           (does-other take (sending was.slave was.out.contents) (sending now.slave now.out.contents) was.refused now.refused (line_data c.args.line.now)
           (ap (λ l. masters (line_data l ∷ [])) c.in-Send.is) (omega (arith, stays)) (omega (arith, stays)))
           c.send.ensures.sends;
+      tasks = ap (λ (ts : Vec _ _). lines_of ts.items) c.send.ensures.tasks_stay;
     }
 
 pub returns-in-Lose : goal.returns-in-Lose
@@ -40,6 +42,7 @@ returns-in-Lose g c =
     record {
       does = does-other g.R.Take.TakeEnd (sending was.slave was.out.contents) (sending now.slave now.out.contents) was.refused now.refused (line_data c.args.line.now)
           (ap (λ l. masters (line_data l ∷ [])) c.in-Lose.is) (omega (arith, stays)) (omega (arith, stays)) c.lose.ensures.loses;
+      tasks = ap (λ (ts : Vec _ _). lines_of ts.items) c.lose.ensures.tasks_stay;
     }
 
 pub returns-in-HangUp : goal.returns-in-HangUp
@@ -50,4 +53,5 @@ returns-in-HangUp g c =
     record {
       does = does-other g.R.Take.TakeEnd (sending was.slave was.out.contents) (sending now.slave now.out.contents) was.refused now.refused (line_data c.args.line.now)
           (ap (λ l. masters (line_data l ∷ [])) c.in-HangUp.is) (omega (arith, stays)) (omega (arith, stays)) c.hang_up.ensures.hangs_up;
+      tasks = ap (λ (ts : Vec _ _). lines_of ts.items) c.hang_up.ensures.tasks_stay;
     }

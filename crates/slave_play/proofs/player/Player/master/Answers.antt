@@ -1,4 +1,4 @@
-use Rattle.std.proofs.Common.{◌+◌, ◌*◌, [], ◌∷◌, sym, subst, arith}
+use Rattle.std.proofs.Common.{◌+◌, ◌*◌, [], ◌∷◌, refl, sym, subst, arith}
 use Rattle.xcp_base.specs.declared.limits.TheConstants.{MAX_CHANNELS}
 use Rattle.slave.specs.Hearing.{most_before}
 use Rattle.slave_play.specs.Playing.{Advances, most_a_line, sending}
@@ -18,6 +18,7 @@ returns-then-hear g c =
           (advances-more take (4 * MAX_CHANNELS) (1 + most_before) (sending was.slave sent) (sending c.collect.new.slave sent) (sending c.hear.new.self sent) [] (packet ∷ [])
           (c.in_ok-collect.ensures.collects sent)
           (hears take c.collect.new.slave c.hear.new.self sent packet was.clock (c.hear.ensures.heard c.if-hear.true))));
+      tasks_stay = refl;
     }
 
 -- or refused
@@ -31,4 +32,5 @@ returns g c =
           (subst (λ s. Advances take most_a_line (sending was.slave sent) (sending s sent) []) (sym (c.hear.ensures.stays c.if-hear.false))
           (advances-within take (4 * MAX_CHANNELS) most_a_line (sending was.slave sent) (sending c.collect.new.slave sent) [] (omega arith)
           (c.in_ok-collect.ensures.collects sent)));
+      tasks_stay = refl;
     }

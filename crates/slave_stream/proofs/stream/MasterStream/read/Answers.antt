@@ -1,6 +1,6 @@
-use Rattle.std.proofs.Common.{[], take as first, sym, subst}
+use Rattle.std.proofs.Common.{[], take as first, refl, sym, subst, inl, inr, arith}
 use Rattle.slave_stream.specs.Receiving.{BreaksOff, Receives}
-use Rattle.slave_stream.proofs.ReceivingLemmas.{breaks-from, ends-from, far-from, has-room-not, on-err, receives-from, within-from}
+use Rattle.slave_stream.proofs.ReceivingLemmas.{breaks-from, ends-from, far-from, has-room-not, on-err, receives-from, receives-none, within-from}
 use Rattle.slave_stream.proofs.stream.MasterStream.read.Goals as goal
 
 -- the bytes from here on come to the begin of a bad frame, and the slave is as it was
@@ -10,6 +10,17 @@ returns-in_err-at-clause-bad g c =
     let same = subst (λ m. Receives g.R.Take.TakeEnd c.args.self.now c.loop.self c.args.slave.now m c.args.clock (first c.loop.at c.args.bytes.now)) (sym c.in_err-at.ensures.err) before in
     on-err c.from_residual.result (BreaksOff g.R.Take.TakeEnd c.args.self.now c.step.new.self c.args.slave.now c.step.new.slave c.args.clock c.args.bytes.now)
     (breaks-from g.R.Take.TakeEnd c.args.self.now c.loop.self c.step.new.self c.args.slave.now c.step.new.slave c.args.clock c.loop.at c.args.bytes.now c.loop.invariant.within same c.in_err-at.ensures.bad)
+
+-- none were taken yet
+pub loop-init : goal.loop-init
+loop-init g c = record {
+  within = omega arith;
+  far = omega arith;
+  receives = receives-none g.R.Take.TakeEnd c.args.self.now c.args.slave.now c.args.clock;
+  ends = inr (inl refl);
+  still_open = c.requires.is_open;
+  no_room = λ full. (refl, refl, refl);
+}
 
 -- some bytes more were taken
 pub loop-preserved : goal.loop-preserved

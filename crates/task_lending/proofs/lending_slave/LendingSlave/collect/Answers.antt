@@ -1,4 +1,6 @@
-use Rattle.std.proofs.Common.{◌+◌, ◌<◌, ◌≤◌, length, ap, arith, refl}
+use Rattle.std.proofs.Common.{◌+◌, ◌<◌, ◌≤◌, ◌∙◌, length, ap, arith, refl}
+use Rattle.std.proofs.lemmas.List.{length-set}
+use Rattle.task_lending.proofs.SlotLemmas.{lines-set}
 use Rattle.task_lending.specs.States.{LendingSlaveState}
 use Rattle.task_lending.proofs.TaskLemmas.{collects, front-here, front-more, none-away, none-below, none-more, some-away}
 use Rattle.task_lending.proofs.lending_slave.LendingSlave.collect.Goals as goal
@@ -11,6 +13,9 @@ loop-c-init g c = record {
   none = none-below _;
   slave = ap (λ (s : LendingSlaveState _ _). s.slave) c.self.view_is;
   stream = ap (λ (s : LendingSlaveState _ _). s.stream) c.self.view_is;
+  lines = c.self.invariant.0;
+  empty = c.self.invariant.1;
+  room = c.self.invariant.2;
 }
 
 -- one more came back, or wasn't away
@@ -24,7 +29,23 @@ loop-c-preserved g c =
       none = none-more items c.loop-c.c c.collect.new.self there c.loop-c.invariant.none (c.collect.ensures.yes c.if-not-collect.false);
       slave = c.loop-c.invariant.slave;
       stream = c.loop-c.invariant.stream;
+      lines = lines-set items c.loop-c.c c.index_mut.result.now c.collect.new.self c.index_mut.ensures.value there c.collect.ensures.ring_stays ∙ c.loop-c.invariant.lines;
+      empty = c.loop-c.invariant.empty;
+      room = omega (arith, c.loop-c.invariant.room, length-set items c.loop-c.c c.collect.new.self);
     }
+
+-- the slots are of their lines
+pub invariant_of-self-then-not-collect : goal.invariant_of-self-then-not-collect
+invariant_of-self-then-not-collect g c =
+    let items = c.loop-c.self-inside.slots.items in
+    let there : c.loop-c.c < length items = omega (arith, c.loop-c-test.true, c.loop-c.auto.c-end, c.len-c-end.ensures, c.self.inside.slots.ok.0, c.loop-c.self-inside.slots.ok.0, c.loop-c.invariant.as_many) in (
+      lines-set items c.loop-c.c c.index_mut.result.now c.collect.new.self c.index_mut.ensures.value there c.collect.ensures.ring_stays ∙ c.loop-c.invariant.lines,
+      c.loop-c.invariant.empty,
+      omega (arith, c.loop-c.invariant.room, length-set items c.loop-c.c c.collect.new.self),
+    )
+
+pub invariant_of-self : goal.invariant_of-self
+invariant_of-self g c = (c.loop-c.invariant.lines, c.loop-c.invariant.empty, c.loop-c.invariant.room)
 
 -- one is away
 pub returns-then-not-collect-clause-collects : goal.returns-then-not-collect-clause-collects

@@ -1,4 +1,6 @@
-use Rattle.std.proofs.Common.{◌≡◌, vec_len}
+use Rattle.std.proofs.Common.{◌≡◌, ◌≤◌, [], length, map, vec_capacity, vec_len}
+use Rattle.slave_channels.specs.Calls.{rings_of}
+use Rattle.task_lending.specs.Slots.{SlotState}
 use Rattle.task_lending.proofs.TaskLemmas.{Front, NoneBelow}
 use Rattle.task_lending.proofs.lending_slave.LendingSlave.collect.Given as goal
 
@@ -10,4 +12,7 @@ invariant-loop-c g l = record {
   none : NoneBelow l.c l.self-inside.slots.items;
   slave : l.self-inside.slave ≡ l.fn.self.slave;
   stream : l.self-inside.stream ≡ l.fn.self.stream;
+  lines : map (λ (s : SlotState _). s.ring) l.self-inside.slots.items ≡ rings_of l.self-inside.slave.channels;
+  empty : l.self-inside.room.items ≡ [];
+  room : length l.self-inside.slots.items ≤ vec_capacity l.self-inside.room;
 }

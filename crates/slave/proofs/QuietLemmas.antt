@@ -1,0 +1,76 @@
+-- While no master is connected, no list runs.
+use Rattle.std.proofs.Common.{◌≡◌, ℕ, ◌<◌, ◌&&◌, ◌==◌, Bool, true, false, true≢false, if◌then◌else◌, List, [], ◌∷◌, refl, sym, ◌∙◌, subst, ap}
+use Rattle.std.specs.Prelude.{Result, Ok, Err}
+use Rattle.xcp_base.specs.declared.err_code.ErrCode.{ErrCode}
+use Rattle.session.specs.Exchanges.{Exchange, is_greeting, past_after, past_after_greeting, past_after_packet, past_after_read, past_behind}
+use Rattle.session.specs.Past.{Past, new_past}
+use Rattle.session.specs.Requests.{request}
+use Rattle.session.specs.declared.profile.Profile.{Profile}
+use Rattle.session.specs.declared.request.Request.{Request}
+use Rattle.session.specs.declared.request.Request.TheVariants.{Connect, Disconnect, GetCommModeInfo, GetDaqClock, GetDaqEventInfo, GetDaqListInfo, GetDaqListMode, GetDaqProcessorInfo, GetDaqResolutionInfo, GetId, GetStatus, Lists, Synch, Upload, WriteDaqMultiple}
+use Rattle.slave.specs.Log.{Act, CameBack, Discarded, Heard, HungUp, Opened, Refused, Sent, Took, past_of}
+use Rattle.slave.specs.Standing.{NoneRuns}
+
+and-false : (b : Bool) → (b && false) ≡ false
+and-false true = refl
+and-false false = refl
+
+pub none-new : NoneRuns new_past
+none-new l below = and-false _
+
+-- no list runs where no master is connected
+abbrev IsQuiet : Past → Type 0
+IsQuiet past = past.connected ≡ false → NoneRuns past
+
+quiet-on : (past : Past) → past.connected ≡ true → IsQuiet past
+quiet-on past on off = absurd (true≢false (sym on ∙ off))
+
+quiet-asked : (d : Profile) (past : Past) (packet : List ℕ) (asked : Request) → past.connected ≡ true → IsQuiet (past_after d past packet asked)
+quiet-asked d past packet Disconnect on = λ off. none-new
+quiet-asked d past packet (Upload n) on = λ off. absurd (true≢false (sym on ∙ off))
+quiet-asked d past packet (GetDaqEventInfo c) on = λ off. absurd (true≢false (sym on ∙ off))
+quiet-asked d past packet (WriteDaqMultiple n) on = λ off. absurd (true≢false (sym on ∙ off))
+quiet-asked d past packet (Lists call) on = λ off. absurd (true≢false (sym on ∙ off))
+quiet-asked d past packet (Connect mode) on = quiet-on past on
+quiet-asked d past packet GetStatus on = quiet-on past on
+quiet-asked d past packet Synch on = quiet-on past on
+quiet-asked d past packet GetCommModeInfo on = quiet-on past on
+quiet-asked d past packet (GetId kind) on = quiet-on past on
+quiet-asked d past packet (GetDaqListMode l) on = quiet-on past on
+quiet-asked d past packet GetDaqClock on = quiet-on past on
+quiet-asked d past packet GetDaqProcessorInfo on = quiet-on past on
+quiet-asked d past packet GetDaqResolutionInfo on = quiet-on past on
+quiet-asked d past packet (GetDaqListInfo l) on = quiet-on past on
+
+quiet-read : (d : Profile) (past : Past) (packet : List ℕ) (read : Result Request ErrCode) → past.connected ≡ true → IsQuiet (past_after_read d past packet read)
+quiet-read d past packet (Ok asked) on = quiet-asked d past packet asked on
+quiet-read d past packet (Err code) on = quiet-on past on
+
+quiet-greeting : (past : Past) (read : Result Request ErrCode) → IsQuiet past → IsQuiet (past_after_greeting past read)
+quiet-greeting past read was = by (is_greeting read) where
+  by : (b : Bool) → IsQuiet (if b then record past { connected = true } else past)
+  by true = λ off. absurd (true≢false off)
+  by false = was
+
+quiet-packet : (d : Profile) (past : Past) (packet : List ℕ) → IsQuiet past → IsQuiet (past_after_packet d past packet)
+quiet-packet d past packet was = by past.connected refl where
+  by : (b : Bool) → past.connected ≡ b → IsQuiet (if b then past_after_read d past packet (request d.base packet) else past_after_greeting past (request d.base packet))
+  by true on = quiet-read d past packet (request d.base packet) on
+  by false off = quiet-greeting past (request d.base packet) was
+
+quiet-behind : (d : Profile) (past : Past) (x : Exchange) → IsQuiet past → IsQuiet (past_behind d past x)
+quiet-behind d past x was = by x.out_of_memory where
+  by : (b : Bool) → IsQuiet (if b then past else past_after_packet d past x.packet)
+  by true = was
+  by false = quiet-packet d past x.packet was
+
+pub quiet : (d : Profile) (log : List Act) → (past_of d log).connected ≡ false → NoneRuns (past_of d log)
+quiet d [] = λ off. none-new
+quiet d (Heard x ∷ log) = quiet-behind d (past_of d log) x (quiet d log)
+quiet d (Refused packet code ∷ log) = quiet d log
+quiet d (Opened at ∷ log) = quiet d log
+quiet d (Took m c x ∷ log) = quiet d log
+quiet d (CameBack m c past ∷ log) = quiet d log
+quiet d (Sent n ∷ log) = quiet d log
+quiet d (HungUp ∷ log) = λ off. none-new
+quiet d (Discarded ∷ log) = quiet d log

@@ -1,0 +1,15 @@
+use Rattle.std.proofs.Common.{◌∙◌, ap, refl, sym}
+use Rattle.tasks.specs.Links.{LinkState}
+use Rattle.tasks.proofs.LineLemmas.{comes-of}
+use Rattle.tasks.proofs.TurnLemmas.{some-with}
+use Rattle.tasks.proofs.link.TaskLink.bring_older.Goals as goal
+
+pub returns-clause-some : goal.returns-clause-some
+returns-clause-some g c =
+    let v = c.self.view_is in
+    some-with (λ left n. (
+      n.0,
+      sym (ap (λ (k : LinkState _). k.older) v) ∙ n.1,
+      comes-of g.S.SendEnd g.S.End.RingEnd c.args.self.now _ n.0 c.self.inside.line c.bring.new.line left n.2
+          (sym (ap (λ (k : LinkState _). k.came) v)) (sym (ap (λ (k : LinkState _). k.coming) v)) refl refl,
+    )) c.bring.result c.bring.ensures.some
