@@ -461,7 +461,8 @@ static void run_all(ng_ring ring, size_t small, size_t large, const char *of) {
         run(ring, small);
         run(ring, large);
     }
-    printf("%u runs over rings of %s, with the accounts that the tasks counted: ok\n", 2 * RUNS, of);
+    printf("%u runs over rings of %s, with the accounts that the tasks counted: ok\n", 2 * RUNS,
+           of);
 }
 
 int main(void) {
