@@ -7,35 +7,15 @@
  * first that were accepted, and each is marked exactly if one was dropped just before it. Prints a
  * line for each kind of rings; ends with status 1 at the first thing that isn't as wanted. */
 #define _POSIX_C_SOURCE 200809L
+#define LISTS 4
+#include "master.h"
 #include "memory.h"
-#include "nerthogal.h"
 #include <pthread.h>
 #include <sched.h>
-#include <stdio.h>
-#include <stdlib.h>
-#include <string.h>
 
 #define CHANNELS 2
-#define LISTS 4
 #define RUNS 125 /* over each of four rings */
-#define PAGE 1400
-#define ALL 0xFFFFu
 #define MOST 131072 /* more samples than a run has of a list */
-
-static unsigned runs;
-
-static void want(bool holds, const char *what) {
-    if (holds) return;
-    printf("run %u: FAILED: %s\n", runs, what);
-    exit(1);
-}
-
-static unsigned roll(unsigned sides) { return (unsigned)rand() / 7u % sides; }
-
-/* The DAQ lists. Each of their packets has the number that stands in the image. */
-static const struct {
-    unsigned channel, odts, prescaler;
-} shapes[LISTS] = {{0, 1, 1}, {1, 1, 1}, {0, 2, 2}, {1, 2, 3}};
 
 /* Samples of a list, in their order: the number of the trigger; of one that was sent, behind how
  * many starts of its list it stands, and whether it is marked; and of one that was accepted,
@@ -74,7 +54,7 @@ static struct sampling samplings[CHANNELS];
 static bool over;         /* no trigger is taken any more */
 static bool still;        /* none is taken for now */
 static unsigned standing; /* so many tasks stand still */
-static bool run_now;      /* the tasks' threads are there */
+static bool has_threads;      /* the tasks' threads are there */
 
 /* Counts what trigger k did with a list. */
 static bool count(struct sampling *sampling, unsigned l, ng_taken taken, uint32_t k) {
@@ -136,7 +116,7 @@ static void start_threads(void) {
     __atomic_store_n(&over, false, __ATOMIC_SEQ_CST);
     for (unsigned c = 0; c < CHANNELS; c++)
         want(pthread_create(&samplings[c].thread, NULL, sample, &samplings[c]) == 0, "thread");
-    run_now = true;
+    has_threads = true;
 }
 
 static void stop_threads(void) {
@@ -145,7 +125,7 @@ static void stop_threads(void) {
         want(pthread_join(samplings[c].thread, NULL) == 0, "join");
         want(!samplings[c].fault, "triggers, which take and free no memory");
     }
-    run_now = false;
+    has_threads = false;
 }
 
 /* Waits until each task took so many triggers more. */
@@ -157,136 +137,23 @@ static void let_run(unsigned triggers) {
     }
 }
 
-/* ---- what the slave sends, as its master reads it */
+/* ---- the master */
 
-/* What the master sent that wasn't answered yet. */
-struct command {
-    enum { OTHER, START, STOP } kind;
-    unsigned lists;
-};
-static struct command asked[64];
-static unsigned waiting;
-
-static uint16_t counter;
-static bool refused;            /* the last start, with ERR_CMD_BUSY */
-static unsigned running;        /* the lists, by the replies */
-static uint32_t starts[LISTS];  /* how often each was started */
-static bool has_rest;           /* of a sample of two packets: the second's PID and number */
-static unsigned rest_pid;
-static uint32_t rest_number;
-
-static void look_at_reply(const uint8_t *packet) {
-    struct command command = asked[0];
-    want(waiting > 0 && !has_rest, "a reply for each command, behind whole samples");
-    waiting--;
-    memmove(asked, asked + 1, waiting * sizeof *asked);
-    if (command.kind == START) {
-        refused = packet[0] == 0xFE && packet[1] == 0x10;
-        if (refused) return;
-        for (unsigned l = 0; l < LISTS; l++) starts[l] += (command.lists & ~running) >> l & 1u;
-        running |= command.lists;
-    }
-    want(packet[0] == 0xFF, "a positive reply");
-    if (command.kind == STOP) running &= ~command.lists;
-}
-
-static void look_at_sample(const uint8_t *packet, unsigned len) {
-    unsigned odt = packet[0] & 0x7Fu, l = 0;
-    want(len == 5, "a packet of a list");
-    uint32_t number = packet[1] | (uint32_t)packet[2] << 8 | (uint32_t)packet[3] << 16 |
-                      (uint32_t)packet[4] << 24;
-    if (has_rest) {
-        want(packet[0] == rest_pid && number == rest_number, "a sample is whole");
-        has_rest = false;
-        return;
-    }
-    while (l < LISTS && odt >= shapes[l].odts) odt -= shapes[l++].odts;
-    want(l < LISTS && odt == 0, "the first packet of a list");
-    want(running >> l & 1u, "it stands behind its list's start, and before its stop");
+static void take(unsigned l, uint32_t number, bool marked) {
     size_t before = sent[l].count;
     want(before == 0 || number > sent[l].of[before - 1].number, "a list's samples come in order");
-    want(note(&sent[l], number, starts[l], packet[0] >= 0x80), "there is room for the notes");
-    has_rest = shapes[l].odts == 2;
-    rest_pid = (packet[0] & 0x7Fu) + 1;
-    rest_number = number;
+    want(note(&sent[l], number, starts[l], marked), "there is room for the notes");
 }
-
-static uint8_t page[PAGE];
-
-/* Shows what waits. */
-static size_t look(ng_slave *slave) {
-    size_t len = 0;
-    want(ng_slave_peek(slave, page, PAGE, &len) == NG_OK, "peek");
-    return len;
-}
-
-/* Sends what waits. Answers whether anything did. */
-static bool send(ng_slave *slave) {
-    size_t len = look(slave);
-    want(ng_slave_sent(slave) == NG_OK, "sent");
-    for (size_t at = 0; at < len; at += 4u + page[at]) {
-        const uint8_t *frame = page + at;
-        want(frame[0] > 0 && frame[1] == 0 && at + 4 + frame[0] <= len, "whole frames");
-        want((frame[2] | frame[3] << 8) == counter, "CTR rises by one");
-        counter++;
-        if (frame[4] >= 0xFE) look_at_reply(frame + 4);
-        else look_at_sample(frame + 4, frame[0]);
-    }
-    want(!has_rest, "whole samples");
-    return len > 0;
-}
-
-/* Sends until all replies came, which the page and what waits behind it hold. */
-static void settle(ng_slave *slave) {
-    for (unsigned k = 0; k < 8 && waiting > 0; k++) send(slave);
-    want(waiting == 0, "a reply for each command");
-}
-
-/* ---- what the master sends */
-
-/* The slave hears a packet. If there is no room for one more reply, what waits is sent first. */
-static void ask(ng_slave *slave, const uint8_t *packet, uint8_t len, int kind, unsigned lists) {
-    uint8_t frame[12] = {len, 0, 0, 0};
-    size_t taken = 0;
-    memcpy(frame + 4, packet, len);
-    for (unsigned k = 0; k < 8 && taken == 0; k++) {
-        want(ng_slave_receive(slave, frame, 4u + len, 0, &taken) == NG_OK, "receive");
-        if (taken == 0) send(slave);
-    }
-    want(taken == 4u + len, "a command finds room");
-    asked[waiting].kind = kind;
-    asked[waiting++].lists = lists;
-}
-
-#define ASK(slave, kind, lists, ...)                                                             \
-    do {                                                                                         \
-        const uint8_t packet[] = {__VA_ARGS__};                                                  \
-        ask(slave, packet, sizeof packet, kind, lists);                                          \
-    } while (0)
 
 /* FREE_DAQ, and the lists anew. */
 static void set_up(ng_slave *slave) {
     ASK(slave, STOP, ALL, 0xD6);
-    ASK(slave, OTHER, 0, 0xD5, 0, LISTS, 0);
-    for (uint8_t l = 0; l < LISTS; l++)
-        ASK(slave, OTHER, 0, 0xD4, 0, l, 0, (uint8_t)shapes[l].odts);
-    for (uint8_t l = 0; l < LISTS; l++)
-        for (uint8_t odt = 0; odt < shapes[l].odts; odt++)
-            ASK(slave, OTHER, 0, 0xD3, 0, l, 0, odt, 1);
-    for (uint8_t l = 0; l < LISTS; l++) {
-        for (uint8_t odt = 0; odt < shapes[l].odts; odt++) {
-            ASK(slave, OTHER, 0, 0xE2, 0, l, 0, odt, 0);
-            ASK(slave, OTHER, 0, 0xE1, 0xFF, 4, 0, 0, 0, 0, 0);
-        }
-        ASK(slave, OTHER, 0, 0xE0, 0, l, 0, (uint8_t)shapes[l].channel, 0,
-            (uint8_t)shapes[l].prescaler, 0);
-    }
-    settle(slave);
+    set_up_lists(slave);
 }
 
 static void connect(ng_slave *slave) {
     ASK(slave, OTHER, 0, 0xFF, 0);
-    set_up(slave);
+    set_up_lists(slave);
 }
 
 /* Starts some list, or all; once more as long as that is refused as busy, which it isn't while the
@@ -300,18 +167,11 @@ static void start(ng_slave *slave) {
         else ASK(slave, START, 1u << l, 0xDE, 1, l, 0);
         settle(slave);
         if (!refused) return;
-        want(run_now && !still, "no start is refused while the tasks stand still");
+        want(has_threads && !still, "no start is refused while the tasks stand still");
         sched_yield();
     }
     want(false, "a start is accepted in the end");
 }
-
-static void stop_one(ng_slave *slave, uint8_t l) {
-    ASK(slave, STOP, 1u << l, 0xDE, 0, l, 0);
-}
-
-/* How often something waited for a master that was lost. */
-static unsigned long thrown;
 
 /* The end of a measurement: lists are stopped, are given up, or the master goes. */
 static void end(ng_slave *slave) {
@@ -322,9 +182,7 @@ static void end(ng_slave *slave) {
         connect(slave);
         break;
     case 2:
-        thrown += look(slave) > 0;
-        want(ng_slave_hang_up(slave) == NG_OK, "hang up");
-        waiting = running = 0;
+        lose(slave);
         connect(slave);
         break;
     case 3:
@@ -374,12 +232,9 @@ static void measure(ng_slave *slave) {
 /* ---- the whole */
 
 static void open_slave(ng_ring ring, size_t cap, ng_slave *slave) {
-    ng_profile profile = {.image_len = 4, .id = NG_ABSOLUTE, .ticks = 1, .unit = 3,
-                          .stamp_size = 4, .name = ""};
-    ng_event events[CHANNELS] = {{.name = "e0"}, {.name = "e1"}};
-    profile.ring = ring;
-    for (unsigned c = 0; c < CHANNELS; c++) events[c].capacity = cap;
-    want(ng_slave_open(&profile, events, CHANNELS, slave) == NG_OK, "open");
+    static const struct shape all[LISTS] = {{0, 1, 1}, {1, 1, 1}, {0, 2, 2}, {1, 2, 3}};
+    memcpy(shapes, all, sizeof shapes);
+    open_with(ring, cap, cap, slave);
     memset(samplings, 0, sizeof samplings);
     for (unsigned c = 0; c < CHANNELS; c++) {
         ng_task none = NG_TASK_INIT;
@@ -387,8 +242,6 @@ static void open_slave(ng_ring ring, size_t cap, ng_slave *slave) {
         samplings[c].channel = c;
         want(ng_slave_task(slave, (uint16_t)c, &samplings[c].task) == NG_OK, "task");
     }
-    counter = 0;
-    waiting = running = 0;
     for (unsigned l = 0; l < LISTS; l++) accepted[l].count = sent[l].count = starts[l] = 0;
 }
 
@@ -436,7 +289,7 @@ static void close_slave(ng_slave *slave) {
 static void run(ng_ring ring, size_t cap) {
     ng_slave slave = NG_SLAVE_INIT;
     unsigned long held = memory_held;
-    srand(++runs);
+    srand(++seed);
     open_slave(ring, cap, &slave);
     connect(&slave);
     if (roll(2) == 0) measure_alone(&slave);
