@@ -449,10 +449,10 @@ ng_status ng_sampler_free(ng_sampler *sampler);
  * The proofs speak of a log of what a slave did since it was opened: each call says by which acts
  * it goes on, and by how many at most; and one law holds of every log, docs/SESSION_LAW.md. A slave
  * counts what it does, and once it counted 2^57 hears and takes nothing any more (NG_SPENT): a
- * packet counts as 64, a sample as 3. Only tested, by session_test.c, tasks_test.c and
- * measurements_test.c of examples/c, and by .ci/live: that what waits in a ring is taken, that what
- * tasks gave back is found, and that its triggers are those of its tasks. docs/PROVED.md says what
- * is proved of the parts of a slave. */
+ * packet counts as 64, a sample as 3. Only tested, by session_test.c, tasks_test.c, accounts_test.c
+ * and measurements_test.c of examples/c, and by .ci/live: that what waits in a ring is taken, that
+ * what tasks gave back is found, and that its triggers are those of its tasks. docs/PROVED.md says
+ * what is proved of the parts of a slave. */
 
 /* Opens a slave with a profile, and with so many event channels: events[c] is event channel c. No
  * master is connected, there is no DAQ list, and nothing waits. Its CTR begins at 0.

@@ -8,30 +8,14 @@
  * due and dropped, and what was read as written. The triggers take and free no memory. Prints a
  * line for each seed; ends with status 1 at the first thing that isn't as wanted. */
 #define _POSIX_C_SOURCE 200809L
+#define LISTS 6
+#include "master.h"
 #include "memory.h"
-#include "nerthogal.h"
 #include <pthread.h>
 #include <sched.h>
-#include <stdio.h>
-#include <stdlib.h>
-#include <string.h>
 
 #define CHANNELS 2
-#define LISTS 6
 #define MEASUREMENTS 1000
-#define PAGE 1400
-#define ALL 0xFFFFu
-
-/* In so many looks all that waits is shown: it is less than two pages. */
-#define LOOKS 8
-
-static void want(bool holds, const char *what) {
-    if (holds) return;
-    printf("FAILED: %s\n", what);
-    exit(1);
-}
-
-static unsigned roll(unsigned sides) { return (unsigned)rand() / 7u % sides; }
 
 /* ---- the tasks */
 
@@ -64,108 +48,16 @@ static void *sample(void *argument) {
     return NULL;
 }
 
-/* ---- what the slave sends, as its master reads it */
+/* ---- the master */
 
-/* A DAQ list: each of its packets has the number that stands in the image. */
-struct shape {
-    unsigned channel, odts, prescaler;
-};
-static struct shape shapes[LISTS];
-
-/* What the master sent that wasn't answered yet: lists that it starts or stops, or the clock. */
-struct command {
-    enum { OTHER, START, STOP, GET_CLOCK } kind;
-    uint32_t value;
-};
-static struct command asked[64];
-static unsigned waiting;
-
-static uint16_t counter;
-static bool refused;          /* the last start, with ERR_CMD_BUSY */
-static unsigned running;      /* the lists, by the replies */
 static uint32_t newest[LISTS]; /* the number of the newest sample */
 static uint64_t read_of[LISTS];
-static bool has_rest; /* of a sample of two packets: the PID and the number of the second */
-static unsigned rest_pid;
-static uint32_t rest_number;
 
-static uint32_t number_in(const uint8_t *bytes) {
-    return bytes[0] | (uint32_t)bytes[1] << 8 | (uint32_t)bytes[2] << 16 | (uint32_t)bytes[3] << 24;
-}
-
-static void look_at_reply(const uint8_t *packet, unsigned len) {
-    struct command command = asked[0];
-    want(waiting > 0, "a reply for each command");
-    want(!has_rest, "a sample is whole");
-    waiting--;
-    memmove(asked, asked + 1, waiting * sizeof *asked);
-    if (command.kind == START) {
-        refused = packet[0] == 0xFE && packet[1] == 0x10;
-        if (refused) return;
-        running |= command.value;
-    }
-    want(packet[0] == 0xFF, "a positive reply");
-    if (command.kind == STOP) running &= ~command.value;
-    if (command.kind == GET_CLOCK)
-        want(len == 8 && number_in(packet + 4) == command.value, "the clock");
-}
-
-static void look_at_sample(const uint8_t *packet, unsigned len) {
-    unsigned odt = packet[0] & 0x7Fu, l = 0;
-    want(len == 5, "a packet of a list");
-    uint32_t number = number_in(packet + 1);
-    if (has_rest) {
-        want(packet[0] == rest_pid && number == rest_number, "a sample is whole");
-        has_rest = false;
-        return;
-    }
-    while (l < LISTS && odt >= shapes[l].odts) odt -= shapes[l++].odts;
-    want(l < LISTS && odt == 0, "the first packet of a list");
-    want(running >> l & 1u, "it stands behind its list's start, and before its stop");
+static void take(unsigned l, uint32_t number, bool marked) {
+    (void)marked;
     want(number > newest[l], "a list's samples come in order");
     newest[l] = number;
     read_of[l]++;
-    has_rest = shapes[l].odts == 2;
-    rest_pid = (packet[0] & 0x7Fu) + 1;
-    rest_number = number;
-}
-
-static uint8_t page[PAGE];
-
-/* How much of the page was shown before, and not sent. */
-static size_t shown;
-
-/* Shows what waits, which begins with what was shown before. */
-static size_t look(ng_slave *slave) {
-    static uint8_t before[PAGE];
-    size_t len = 0;
-    memcpy(before, page, shown);
-    want(ng_slave_peek(slave, page, PAGE, &len) == NG_OK, "peek");
-    want(len >= shown && memcmp(before, page, shown) == 0, "what was not sent is shown again");
-    shown = len;
-    return len;
-}
-
-/* Sends what waits. Answers whether anything did. */
-static bool send(ng_slave *slave) {
-    size_t len = look(slave);
-    want(ng_slave_sent(slave) == NG_OK, "sent");
-    shown = 0;
-    for (size_t at = 0; at < len; at += 4u + page[at]) {
-        const uint8_t *frame = page + at;
-        want(frame[1] == 0 && at + 4 + frame[0] <= len, "whole frames");
-        want((frame[2] | frame[3] << 8) == counter, "CTR rises by one");
-        counter++;
-        if (frame[4] >= 0xFE) look_at_reply(frame + 4, frame[0]);
-        else look_at_sample(frame + 4, frame[0]);
-    }
-    return len > 0;
-}
-
-/* Sends until all replies came. */
-static void settle(ng_slave *slave) {
-    for (unsigned k = 0; k < LOOKS && waiting > 0; k++) send(slave);
-    want(waiting == 0, "a reply for each command");
 }
 
 /* Sends all that waits, while no list runs. */
@@ -174,31 +66,6 @@ static void drain(ng_slave *slave) {
         if (!send(slave)) return;
     want(false, "nothing more waits");
 }
-
-/* ---- what the master sends */
-
-static uint32_t clock_now;
-
-/* The slave hears a packet of up to 8 bytes. If there is no room for one more reply, what waits is
- * sent first. */
-static void ask(ng_slave *slave, const uint8_t *packet, uint8_t len, int kind, uint32_t value) {
-    uint8_t frame[12] = {len, 0, 0, 0};
-    size_t taken = 0;
-    memcpy(frame + 4, packet, len);
-    for (unsigned k = 0; k < LOOKS && taken == 0; k++) {
-        want(ng_slave_receive(slave, frame, 4u + len, clock_now, &taken) == NG_OK, "receive");
-        if (taken == 0) send(slave);
-    }
-    want(taken == 4u + len, "a command finds room");
-    asked[waiting].kind = kind;
-    asked[waiting++].value = value;
-}
-
-#define ASK(slave, kind, value, ...)                                                             \
-    do {                                                                                         \
-        uint8_t packet[] = {__VA_ARGS__};                                                        \
-        ask(slave, packet, sizeof packet, kind, value);                                          \
-    } while (0)
 
 /* FREE_DAQ, and lists of other shapes, once what was sent of those before was read. */
 static void set_up(ng_slave *slave) {
@@ -209,21 +76,7 @@ static void set_up(ng_slave *slave) {
         shapes[l] = shape;
         newest[l] = 0;
     }
-    ASK(slave, OTHER, 0, 0xD5, 0, LISTS, 0);
-    for (unsigned l = 0; l < LISTS; l++)
-        ASK(slave, OTHER, 0, 0xD4, 0, (uint8_t)l, 0, (uint8_t)shapes[l].odts);
-    for (unsigned l = 0; l < LISTS; l++)
-        for (unsigned odt = 0; odt < shapes[l].odts; odt++)
-            ASK(slave, OTHER, 0, 0xD3, 0, (uint8_t)l, 0, (uint8_t)odt, 1);
-    for (unsigned l = 0; l < LISTS; l++) {
-        for (unsigned odt = 0; odt < shapes[l].odts; odt++) {
-            ASK(slave, OTHER, 0, 0xE2, 0, (uint8_t)l, 0, (uint8_t)odt, 0);
-            ASK(slave, OTHER, 0, 0xE1, 0xFF, 4, 0, 0, 0, 0, 0);
-        }
-        ASK(slave, OTHER, 0, 0xE0, 0, (uint8_t)l, 0, (uint8_t)shapes[l].channel, 0,
-            (uint8_t)shapes[l].prescaler, 0);
-    }
-    settle(slave);
+    set_up_lists(slave);
 }
 
 static void connect(ng_slave *slave) {
@@ -258,10 +111,6 @@ static void start(ng_slave *slave) {
     want(false, "a start is accepted in the end");
 }
 
-static void stop_one(ng_slave *slave, unsigned l) {
-    ASK(slave, STOP, 1u << l, 0xDE, 0, (uint8_t)l, 0);
-}
-
 static void stop_some(ng_slave *slave) {
     unsigned lists = select_some(slave);
     ASK(slave, STOP, lists, 0xDD, 2);
@@ -277,26 +126,13 @@ static void turn(ng_slave *slave) {
         break;
     case 2:
     case 3: start(slave); break;
-    case 4: stop_one(slave, roll(LISTS)); break;
+    case 4: stop_one(slave, (uint8_t)roll(LISTS)); break;
     case 5: stop_some(slave); break;
     case 6:
         for (unsigned k = 0; k < 20; k++) sched_yield();
         break;
     default: send(slave);
     }
-}
-
-/* How often something waited for a master that was lost. */
-static unsigned long thrown;
-
-/* The master is lost. What waits for it never comes, shown or not, so its commands aren't answered,
- * and the CTR that comes next is the one behind that of the last frame that was read. */
-static void lose(ng_slave *slave) {
-    if (look(slave) > 0) thrown++;
-    want(ng_slave_hang_up(slave) == NG_OK, "hang up");
-    waiting = running = 0;
-    shown = 0;
-    want(look(slave) == 0, "what waited is thrown away");
 }
 
 /* The end of a measurement: lists are stopped, are given up, or the master is lost. */
@@ -314,7 +150,7 @@ static void finish_measurement(ng_slave *slave) {
     case 3:
     case 4:
     case 5:
-        for (unsigned l = 0; l < LISTS; l++)
+        for (uint8_t l = 0; l < LISTS; l++)
             if (running >> l & 1u) stop_one(slave, l);
         break;
     default: ASK(slave, STOP, ALL, 0xDD, 0);
@@ -330,23 +166,15 @@ static void measure(ng_slave *slave) {
 
 /* ---- the whole */
 
-/* Two event channels. In a ring of few places stops wait for room. */
+/* In a ring of few places stops wait for room. */
 static void open_slave(ng_ring ring, ng_slave *slave, struct sampling *samplings) {
-    ng_profile profile = {.image_len = 4, .id = NG_ABSOLUTE, .ticks = 1, .unit = 3,
-                          .stamp_size = 4, .name = ""};
-    ng_event events[CHANNELS] = {{.capacity = 16}, {.capacity = 2}};
-    profile.ring = ring;
-    if (ring == NG_RING_BYTES) events[0].capacity = events[1].capacity = NG_MIN_BYTE_RING;
-    want(ng_slave_open(&profile, events, CHANNELS, slave) == NG_OK, "open");
+    if (ring == NG_RING_ITEMS) open_with(ring, 16, 2, slave);
+    else open_with(ring, NG_MIN_BYTE_RING, NG_MIN_BYTE_RING, slave);
     for (unsigned c = 0; c < CHANNELS; c++) {
         struct sampling none = {NG_TASK_INIT, {0}, {0}, false};
         samplings[c] = none;
         want(ng_slave_task(slave, (uint16_t)c, &samplings[c].task) == NG_OK, "task");
     }
-    counter = 0;
-    waiting = running = 0;
-    shown = 0;
-    has_rest = false;
     for (unsigned l = 0; l < LISTS; l++) read_of[l] = 0;
 }
 
@@ -365,12 +193,12 @@ static void close_slave(ng_slave *slave, const struct sampling *samplings) {
     }
 }
 
-static void play(ng_ring ring, unsigned seed) {
+static void play(ng_ring ring, unsigned by) {
     ng_slave slave = NG_SLAVE_INIT;
     struct sampling samplings[CHANNELS];
     pthread_t threads[CHANNELS];
     unsigned long held = memory_held;
-    srand(seed);
+    srand(seed = by);
     open_slave(ring, &slave, samplings);
     __atomic_store_n(&over, false, __ATOMIC_SEQ_CST);
     for (unsigned c = 0; c < CHANNELS; c++)
@@ -392,7 +220,7 @@ static void play(ng_ring ring, unsigned seed) {
 }
 
 int main(void) {
-    for (unsigned seed = 1; seed <= 3; seed++) play(NG_RING_ITEMS, seed);
-    for (unsigned seed = 1; seed <= 3; seed++) play(NG_RING_BYTES, seed);
+    for (unsigned k = 1; k <= 3; k++) play(NG_RING_ITEMS, k);
+    for (unsigned k = 1; k <= 3; k++) play(NG_RING_BYTES, k);
     return 0;
 }

@@ -1,5 +1,5 @@
-/* Goes through each call of a slave and of its tasks, and each status that can be met. Prints a line
- * for each part; ends with status 1 at the first answer that isn't the one wanted. Frames are
+/* Goes through each call of a slave and of its tasks, and each status that can be met. Prints a
+ * line for each part; ends with status 1 at the first answer that isn't the one wanted. Frames are
  * written out by hand: LEN and CTR, least significant byte first, and then the packet. */
 #include "memory.h"
 #include "nerthogal.h"
@@ -512,14 +512,22 @@ static void trigger_all(ng_task *tasks, const struct load *load) {
     want(bytes == memory_bytes, "triggers take no memory, and give none back");
 }
 
+/* Wants so many bytes to be within these, and tells how many they are where they aren't. */
+static void within(unsigned long least, unsigned long bytes, unsigned long most, const char *what) {
+    bool holds = least <= bytes && bytes <= most;
+    if (!holds) printf("%lu bytes, and not %lu to %lu: ", bytes, least, most);
+    want(holds, what);
+}
+
 /* What nerthogal.h says of the bytes that a slave takes at most, and when it gives them back. */
 static void heap_of(const struct load *load) {
     bool of_bytes = ring == NG_RING_BYTES;
     unsigned l = load->lists, o = l * load->odts, e = o * load->entries, n = load->channels;
     unsigned long capacity = of_bytes ? 64 * load->capacity : load->capacity;
     if (of_bytes && capacity < NG_MIN_BYTE_RING) capacity = NG_MIN_BYTE_RING;
-    unsigned long of_slave = 28000 + (of_bytes ? 16000 : 12000) * n, of_lists = 40 * l + 24 * o + 12 * e;
-    unsigned long most = 4000 * n + 160 * l + 100 * o + 56 * e + n * (of_bytes ? 1 : 560) * capacity;
+    unsigned long of_slave = 28000 + (of_bytes ? 16000 : 12000) * n;
+    unsigned long of_lists = 40 * l + 24 * o + 12 * e, of_ring = (of_bytes ? 1 : 560) * capacity;
+    unsigned long most = 4000 * n + 160 * l + 100 * o + 56 * e + n * of_ring;
     ng_profile profile = profile_of();
     ng_event events[8] = {event_of("e")};
     ng_slave slave = NG_SLAVE_INIT;
@@ -534,38 +542,39 @@ static void heap_of(const struct load *load) {
     want(ng_slave_open(&profile, events, n, &slave) == NG_OK, "open");
     for (unsigned c = 0; c < n; c++) tasks[c] = task_of(&slave, (uint16_t)c);
     unsigned long opened = memory_bytes;
-    want(opened - before <= of_slave, "of a slave");
+    within(0, opened - before, of_slave, "of a slave");
     set_up(&slave, load);
-    want(memory_bytes == opened + of_lists, "of its DAQ lists");
+    within(of_lists, memory_bytes - opened, of_lists, "of its DAQ lists");
     start_all(&slave, load);
     unsigned long measures = memory_bytes;
-    want(measures - opened - of_lists <= most, "of a measurement");
-    if (n == 2 && !of_bytes)
-        want(measures - before > 230000 && measures - before < 254000, "some 242 kB");
+    within(0, measures - opened - of_lists, most, "of a measurement");
+    if (n == 2 && !of_bytes) within(230000, measures - before, 254000, "some 242 kB");
     trigger_all(tasks, load);
     ask(&slave, "fe");
-    for (unsigned k = 0; k < 4; k++) { /* each stop of a list finds room, also in a ring of one place */
+    /* each stop of a list finds room, also in a ring of one place */
+    for (unsigned k = 0; k < 4; k++) {
         size_t len;
         trigger_all(tasks, load);
         want(ng_slave_peek(&slave, buffer, sizeof buffer, &len) == NG_OK, "peek");
         want(ng_slave_sent(&slave) == NG_OK, "sent");
     }
-    want(memory_bytes == measures - of_lists, "it is kept behind DISCONNECT");
+    unsigned long kept = measures - of_lists;
+    within(kept, memory_bytes, kept, "it is kept behind DISCONNECT");
     set_up(&slave, load);
     start_all(&slave, load);
-    want(memory_bytes == measures, "the next one takes its place");
+    within(measures, memory_bytes, measures, "the next one takes its place");
     trigger_all(tasks, load);
     ask(&slave, "dd00");
     start_all(&slave, load);
-    want(memory_bytes > measures && memory_bytes - measures <= most, "beside one that tasks have");
     unsigned long both = memory_bytes;
+    within(measures + 1, both, measures + most, "beside one that tasks have");
     ask(&slave, "dd00");
     start_all(&slave, load);
-    want(memory_bytes == both, "there are no more than two");
+    within(both, memory_bytes, both, "there are no more than two");
     for (unsigned c = 0; c < n; c++) want(ng_task_finish(&tasks[c]) == NG_OK, "finish");
     bool whole = false;
     want(ng_slave_close(&slave, lines, NG_MAX_LISTS, &whole) == NG_OK && whole, "close");
-    want(memory_bytes == before, "all is given back");
+    within(before, memory_bytes, before, "all is given back");
 }
 
 static void heap(void) {
