@@ -17,10 +17,10 @@ use Rattle.recording.specs.declared.program_fault.ProgramFault.{ProgramFault}
 use Rattle.recording.specs.declared.program_fault.ProgramFault.TheVariants.{BreaksOff, Text, Unreadable}
 use Rattle.recording.specs.declared.reason.Reason.{Reason}
 use Rattle.recording.specs.declared.reason.Reason.TheVariants.{Read, WithinSample}
-use Rattle.recording.specs.Faults.{torn, want_of_memory}
-use Rattle.recording.specs.Pieces.{HasPassed, IsReason, Passes, unread_of, unread_with}
+use Rattle.recording.specs.Faults.{torn}
+use Rattle.recording.specs.Pieces.{HasPassed, IsReason, Passes, unread_of}
 use Rattle.recording.specs.Shown.{IsRead}
-use Rattle.recording.specs.Stops.{HasBrokenOff, IsFaultOfSamples, IsFront, IsOfReading, IsOfStream, IsOfTear, IsWhole}
+use Rattle.recording.specs.Stops.{IsFaultOfSamples, IsFront, IsOfReading, IsOfStream, IsOfTear, IsWhole}
 
 -- where it breaks off, it was read up to there, of the lists that were begun with
 pub why_not : {T : Type 0} (lists first now : List Reading) (none samples : List (ℕ × Recorded)) (input rest : Option (List ℕ)) (piece last : Piece) (result : Result T ProgramFault)

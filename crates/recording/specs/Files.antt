@@ -88,16 +88,20 @@ pub record ShowsNamed (options : Options) (recorded : RunRecording) (before afte
   pub rest : Option (List ℕ)
   pub shows : ShowsFile options recorded input rest before after
 
--- and its replies are those of a run, whose set-up leaves the store
+-- the replies and the store of a recording are those that the set-up of a run leaves
+pub record IsOfRun (run : RunData) (recorded : RunRecording) : Type 0 where
+  pub is : recorded.run.now ≡ run
+  pub replies : recorded.replies.now ≡ text 0 (replies_of run)
+  pub store : IsStoreAfter run recorded.store.now run.setup
+
+-- the file that the options name was read as that of a run, and all is shown of it
 pub record ShowsRun (options : Options) (run : RunData) (description : Option Description)
     (before after : Option (List ℕ))
     : Type 0 where
   -- fixed by the other fields, but for stores that stand after the same calls
   pub recorded : RunRecording
-  pub of : recorded.run.now ≡ run
+  pub of : IsOfRun run recorded
   pub named : recorded.name.now ≡ options.frames.now
-  pub replies : recorded.replies.now ≡ text 0 (replies_of run)
-  pub store : IsStoreAfter run recorded.store.now run.setup
   pub described : option_copied recorded.description ≡ description
   pub shows : ShowsNamed options recorded before after
 
