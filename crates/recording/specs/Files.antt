@@ -54,13 +54,15 @@ ShowsBehind options (Some description) lists input rest first last before after 
 ShowsBehind options None lists input rest first last before after =
     ShowsSamples options.explain options lists input rest first last before after
 
--- a file was read to its end, and behind its replies this is so
+-- the replies of a file were passed, and what it has behind them was read from one piece to another,
+-- of which this is so
 pub record IsReadBehind (recorded : RunRecording) (input rest : Option (List ℕ))
     (IsSo : Option (List ℕ) → Piece → Piece → Type 0)
     : Type 0 where
   -- fixed by `passed`, but for how much of it stands in the piece
   pub behind : Option (List ℕ)
   pub first : Piece
+  -- what is still at hand
   pub last : Piece
   pub passed : ArePassed recorded input behind first
   pub is : IsSo behind first last
@@ -148,7 +150,8 @@ pub record IsFileWith (recorded : RunRecording) (samples : List (ℕ × Recorded
       IsRecordingOf (plans_of (ready_lists recorded.store.now)) samples []
       (record { rest = behind ++ lost; counter = length recorded.run.now.setup % 65536 })
 
--- the fault isn't the recording's: it can't be read, memory ran out, or a name isn't there
+-- the fault isn't the recording's: it can't be read, memory ran out, or no measurement that is
+-- chosen is there
 abbrev pub IsNotOfRecording : ProgramFault → Type 0
 IsNotOfRecording NoValue = Unit {0}
 IsNotOfRecording fault = IsOfStream fault

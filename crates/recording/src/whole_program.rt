@@ -224,8 +224,8 @@ fn text_of<R: Files, E: Write + Drop>(
     }
 }
 
-/// Reads the file of a recording, and prints its samples. The status is 0 exactly if all of them
-/// are printed.
+/// Reads the file of a recording, and prints its samples. The status is 0 if the writer is given
+/// back, as it is where all of them are printed, and else 1.
 fn show_file<R: Files, I: Read, W: Write + Drop, E: Write + Drop>(
     rt: &R,
     alloc: Global,
@@ -254,7 +254,7 @@ fn show_file<R: Files, I: Read, W: Write + Drop, E: Write + Drop>(
     Ok(status_of_printing(shown.is_some()))
 }
 
-/// The same; it gives the writer back exactly if all samples are printed.
+/// The same. It gives the writer back exactly if all samples are printed.
 fn shown_of<R: Files, I: Read, W: Write + Drop, E: Write + Drop>(
     rt: &R,
     alloc: Global,
