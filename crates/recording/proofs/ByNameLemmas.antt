@@ -1,5 +1,5 @@
 -- What is shown by name of a recording that was read to its end.
-use Rattle.std.proofs.Common.{◌≡◌, ℕ, List, [], ◌∷◌, length, Option, arith, refl, subst}
+use Rattle.std.proofs.Common.{◌≡◌, ◌⊎◌, inl, inr, ℕ, List, [], ◌∷◌, length, Option, arith, refl, subst, sym}
 use Rattle.std.specs.List.{AllZip}
 use Rattle.std.specs.Option.{option_copied}
 use Rattle.copy_plan.specs.Config.{ListPlan}
@@ -7,10 +7,14 @@ use Rattle.daq_reader.specs.Lists.{plans_of}
 use Rattle.daq_reader.specs.Reading.{Reading}
 use Rattle.value_tables.specs.Columns.{AreColumns, HasChosen}
 use Rattle.value_tables.specs.declared.column.Column.{Column}
-use Rattle.recording.specs.ByName.{IsByName, ShowsByName}
+use Rattle.recording.specs.ByName.{IsByName, IsFaultOfValues, ShowsByName}
+use Rattle.recording.specs.Faults.{want_of_memory}
 use Rattle.recording.specs.Shown.{ShowsBy}
+use Rattle.recording.specs.Stops.{IsFaultOfSamples}
 use Rattle.recording.specs.declared.mode.Mode.{Mode}
 use Rattle.recording.specs.declared.piece.Piece.{Piece}
+use Rattle.recording.specs.declared.program_fault.ProgramFault.{ProgramFault}
+use Rattle.recording.specs.declared.program_fault.ProgramFault.TheVariants.{NoValue}
 use Rattle.recording.specs.declared.values.Values.{Values}
 
 -- these columns, for the lists whose shapes they were chosen for, in the way that was asked for
@@ -50,3 +54,26 @@ pub none_of : {A B : Type 0} (R : A → B → Type 0) (xs : List A) (ys : List B
 none_of R [] ys all none = refl
 none_of R (x ∷ xs) [] all none = absurd all
 none_of R (x ∷ xs) (y ∷ ys) all none = absurd (omega (arith, none))
+
+-- without columns, no measurement that is chosen is there
+pub no_columns : (values : Values) (plans : List ListPlan) (lists : List Reading)
+    (input rest : Option (List ℕ)) (first last : Piece) (fault : ProgramFault)
+    → plans ≡ plans_of lists → (fault ≡ NoValue) ⊎ (fault ≡ want_of_memory)
+    → (fault ≡ NoValue → ¬ HasChosen values.description.now plans (option_copied values.only))
+    → IsFaultOfValues values lists input rest first last fault
+no_columns values plans lists input rest first last fault of one lacks =
+    let d = values.description.now in
+    let only = option_copied values.only in
+    let IsSo = λ (f : ProgramFault). IsFaultOfValues values lists input rest first last f in
+    elim one [
+      | inl none ↦ subst IsSo (sym none) (subst (λ (ps : List ListPlan). ¬ HasChosen d ps only) of (lacks none))
+      | inr memory ↦ subst IsSo (sym memory) tt
+    ]
+
+-- a fault of samples is one of values
+pub as_values : (values : Values) (lists : List Reading) (input rest : Option (List ℕ))
+    (first last : Piece) (fault : ProgramFault)
+    → IsFaultOfSamples lists input rest first last fault
+    → IsFaultOfValues values lists input rest first last fault
+as_values values lists input rest first last NoValue h = absurd h
+as_values values lists input rest first last fault h = h

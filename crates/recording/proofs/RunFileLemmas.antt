@@ -1,7 +1,9 @@
 -- What a run wrote to a file, behind its replies.
-use Rattle.std.proofs.Common.{◌≡◌, ℕ, ◌%◌, false, List, [], ◌∷◌, ◌++◌, length, map, refl, sym, ap, ◌∙◌, subst, append-nil}
+use Rattle.std.proofs.Common.{◌≡◌, ℕ, suc, ◌%◌, false, List, [], ◌∷◌, ◌++◌, length, map, refl, sym, ap, ◌∙◌, subst, append-nil}
 use Rattle.std.specs.Prelude.{Some, filter, slice_get}
-use Rattle.daq_store.specs.Calls.{numbers_below}
+use Rattle.daq_store.specs.Calls.{Profile, numbers_below}
+use Rattle.daq_store.specs.declared.command.Command.{Command}
+use Rattle.daq_store.specs.Replies.{calls_after_packet, replies}
 use Rattle.daq_store.specs.Standing.{StoreState}
 use Rattle.frame_writer.specs.Frame.{text}
 use Rattle.frame_writer.specs.Shown.{OutState}
@@ -12,13 +14,15 @@ use Rattle.daq_engine.specs.declared.report.Report.{Report}
 use Rattle.daq_reader.specs.Frames.{Unread}
 use Rattle.daq_reader.specs.Lists.{plans_of}
 use Rattle.daq_reader.specs.Ready.{first_reading, plan_in, ready_lists, shows_ready}
+use Rattle.daq_reader.specs.Recorded.{Recorded}
 use Rattle.daq_reader.specs.Recording.{IsRecordingOf}
-use Rattle.daq_run.specs.SetUps.{replies_of}
+use Rattle.daq_run.specs.SetUps.{profile_of, replies_of}
 use Rattle.read_back.specs.Plans.{plans_in}
 use Rattle.read_back.specs.Runs.{IsRunReadBack}
-use Rattle.recording.specs.Pieces.{IsLeftUnread, unread_with}
+use Rattle.recording.specs.declared.explaining.RunRecording.{RunRecording}
+use Rattle.recording.specs.Files.{IsFileWith, IsOfRun}
+use Rattle.recording.specs.Pieces.{unread_with}
 use Rattle.recording.specs.RunFiles.{IsFileOf}
-use Rattle.recording.specs.declared.piece.Piece.{Piece}
 
 plans_of-first : (s : StoreState) (ls : List ℕ) → plans_of (map (first_reading s) ls) ≡ map (plan_in s) ls
 plans_of-first s [] = refl
@@ -48,3 +52,26 @@ is_file run before after report past last store back none fresh =
       first = λ i c k plan at. back.read.first i c k plan (subst (λ ps. slice_get ps i ≡ Some plan) same at);
       all = λ drains i c k plan at. back.all_given drains none i c k plan (subst (λ ps. slice_get ps i ≡ Some plan) same at);
     }
+
+-- each packet has one reply
+length-replies : (profile : Profile) (calls : List Command) (packets : List (List ℕ)) → length (replies profile calls packets) ≡ length packets
+length-replies profile calls [] = refl
+length-replies profile calls (packet ∷ more) = ap suc (length-replies profile (calls_after_packet profile calls packet) more)
+
+pub is_whole_file : (run : RunData) (before after : OutState) (report : Report) (past : ℕ → Past) (last : TransmitterState) (recorded : RunRecording)
+    → IsRunReadBack run before after report past last recorded.store.now → IsOfRun run recorded → report.failed ≡ false → before.contents ≡ []
+    → (samples : List (ℕ × Recorded)) × IsFileWith recorded samples [] (Some after.contents)
+unfolding is_file
+is_whole_file run before after report past last recorded back of none fresh =
+    let file = is_file run before after report past last recorded.store.now back none fresh in
+    let plans = plans_of (ready_lists recorded.store.now) in
+    let many : length (replies_of run) ≡ length recorded.run.now.setup = length-replies (profile_of run) [] run.setup ∙ ap (λ (r : RunData). length r.setup) (sym of.is) in
+    let Is = λ (bs : List ℕ) (n : ℕ). IsRecordingOf plans back.samples [] (record { rest = bs; counter = n % 65536 }) in
+    let read : Is back.whole (length (replies_of run)) = subst (λ ps. IsRecordingOf ps back.samples [] (record { rest = back.whole; counter = length (replies_of run) % 65536 })) (sym (plans-ready recorded.store.now)) back.read.recording in (
+      back.samples,
+      record {
+        behind = back.whole;
+        begins = ap Some (file.begins ∙ ap (λ bs. bs ++ back.whole) (sym of.replies));
+        recording = subst (λ bs. Is bs (length recorded.run.now.setup)) (sym (append-nil back.whole)) (subst (λ n. Is back.whole n) many read);
+      },
+    )

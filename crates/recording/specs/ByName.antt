@@ -1,17 +1,22 @@
 -- What is printed by name of a recording that was read to its end.
-use Rattle.std.specs.Prelude.{ℕ, List, Option}
-use Rattle.std.specs.Option.{option_copied}
+use Rattle.std.specs.Prelude.{◌≡◌, ℕ, List, Option}
+use Rattle.std.specs.Option.{option_copied, option_or}
 use Rattle.std.specs.Io.KnownBytes.{Appends}
 use Rattle.sample_picture.specs.Shown.{IsClosed}
+use Rattle.a2l.specs.declared.description.Description.{Description}
 use Rattle.copy_plan.specs.Config.{ListPlan}
 use Rattle.daq_reader.specs.Lists.{plans_of}
 use Rattle.daq_reader.specs.Reading.{Reading}
 use Rattle.daq_reader.specs.Recorded.{Recorded}
 use Rattle.measurement.specs.declared.tick.Tick.{Tick}
 use Rattle.recording.specs.Shown.{ShowsBy}
+use Rattle.recording.specs.Stops.{IsFaultOfSamples}
+use Rattle.recording.specs.declared.command_line.Options.{Options}
 use Rattle.recording.specs.declared.mode.Mode.{Mode}
 use Rattle.recording.specs.declared.mode.Mode.TheVariants.{Csv, Summary, Svg}
 use Rattle.recording.specs.declared.piece.Piece.{Piece}
+use Rattle.recording.specs.declared.program_fault.ProgramFault.{ProgramFault}
+use Rattle.recording.specs.declared.program_fault.ProgramFault.TheVariants.{NoValue}
 use Rattle.recording.specs.declared.values.Values.{Values}
 use Rattle.value_tables.specs.Columns.{AreColumns, HasChosen}
 use Rattle.value_tables.specs.TallyText.{IsTable}
@@ -44,3 +49,21 @@ pub record ShowsByName (values : Values) (lists : List Reading) (input rest : Op
   pub chosen : HasChosen values.description.now (plans_of lists) (option_copied values.only)
   pub shows :
       ShowsBy (IsByName values.mode values.tick columns before after) lists input rest first last
+
+-- these values of a description are asked for: how long a tick is the options say, and where they
+-- don't, the file
+pub record AreAsked (options : Options) (description : Description) (values : Values) : Type 0 where
+  pub of : values.description.now ≡ description
+  pub only : values.only ≡ options.only
+  pub tick : values.tick ≡ option_or options.tick description.tick
+  pub mode : values.mode ≡ options.mode
+
+-- a recording isn't shown by name for this: no measurement that is chosen stands in the lists; or
+-- its samples aren't all read
+abbrev pub IsFaultOfValues :
+    Values → List Reading → Option (List ℕ) → Option (List ℕ) → Piece → Piece → ProgramFault
+    → Type 0
+IsFaultOfValues values lists input rest first last NoValue =
+    ¬ HasChosen values.description.now (plans_of lists) (option_copied values.only)
+IsFaultOfValues values lists input rest first last fault =
+    IsFaultOfSamples lists input rest first last fault

@@ -1,7 +1,9 @@
 pub mod ByName
 pub mod Faults
+pub mod Files
 pub mod Messages
 pub mod NoTexts
 pub mod Pieces
 pub mod RunFiles
 pub mod Shown
+pub mod Stops

@@ -17,7 +17,9 @@ use Rattle.daq_run.specs.Runs.{ComesTo}
 use Rattle.daq_run.specs.SetUps.{IsStoreAfter, replies_of}
 use Rattle.daq_run.specs.Threads.{ThreadsComeTo}
 use Rattle.read_back.specs.Accepted.{recorded_of}
+use Rattle.recording.specs.Files.{IsFileWith, IsOfRun}
 use Rattle.recording.specs.Pieces.{IsLeftUnread, unread_with}
+use Rattle.recording.specs.declared.explaining.RunRecording.{RunRecording}
 use Rattle.recording.specs.declared.piece.Piece.{Piece}
 
 -- a file of a run, whose channels came to these pasts: it has the frames of the replies, and behind
@@ -62,3 +64,21 @@ RunFilesInThreadsAreRead =
     → (r : ThreadsComeTo run before refused report after) → IsStoreAfter run store run.setup
     → report.failed ≡ false → before.contents ≡ []
     → IsFileOf run r.has_run.past store after.contents
+
+-- to whoever has the replies and the store of the run, such a file has a whole recording
+abbrev pub RunFilesAreWhole : Type 0
+RunFilesAreWhole =
+    (run : RunData) (before after : OutState) (refused : ℕ) (report : Report)
+    (recorded : RunRecording)
+    → ComesTo run before refused report after → IsOfRun run recorded
+    → report.failed ≡ false → before.contents ≡ []
+    → (samples : List (ℕ × Recorded)) × IsFileWith recorded samples [] (Some after.contents)
+
+-- and so has one of a run in threads
+abbrev pub RunFilesInThreadsAreWhole : Type 0
+RunFilesInThreadsAreWhole =
+    (run : RunData) (before after : OutState) (refused : ℕ) (report : Report)
+    (recorded : RunRecording)
+    → ThreadsComeTo run before refused report after → IsOfRun run recorded
+    → report.failed ≡ false → before.contents ≡ []
+    → (samples : List (ℕ × Recorded)) × IsFileWith recorded samples [] (Some after.contents)

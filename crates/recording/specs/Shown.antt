@@ -43,3 +43,8 @@ abbrev pub ShowsAll :
     → Option (List ℕ) → Option (List ℕ) → Type 0
 ShowsAll mode lists input rest first last before after =
     ShowsBy (λ plans samples. IsShown mode plans samples before after) lists input rest first last
+
+-- a recording was read to its end, from one piece to another
+abbrev pub IsRead :
+    List Reading → Option (List ℕ) → Option (List ℕ) → Piece → Piece → Type 0
+IsRead lists input rest first last = ShowsBy (λ plans samples. Unit {0}) lists input rest first last

@@ -1,4 +1,9 @@
 //! Reads the samples of a recording, and prints them in words; or tells why it isn't read.
+ghost use Rattle.std.specs.Prelude.{IfErr, OnOk};
+ghost use Rattle.daq_reader.specs.Ready.{ready_lists};
+ghost use Rattle.recording.specs.Shown.{IsRead};
+ghost use Rattle.recording.specs.Stops.{IsFaultOfSamples};
+
 use crate::messages::Messages;
 use crate::piece::Piece;
 use crate::program_fault::ProgramFault;
@@ -43,7 +48,12 @@ pub fn explain_samples<I: Read, W: Write + Drop, E: Write + Drop>(
     piece: &mut Piece,
     out: W,
     messages: &mut Messages<E>,
-) -> Result<Option<W>, ProgramFault> {
+) -> Result<Option<W>, ProgramFault>
+    ensures read { OnOk result (IsRead (ready_lists recorded.now.store.now)
+        (I.remaining input.old) (I.remaining input.new) piece.old piece.new) }
+    ensures fault { IfErr result (IsFaultOfSamples (ready_lists recorded.now.store.now)
+        (I.remaining input.old) (I.remaining input.new) piece.old piece.new) }
+{
     let story = set_up_story(alloc, recorded.run, recorded.replies)?;
     let shapes = shapes_of(alloc, recorded.store)?;
     let mut reader = reader_of(alloc, recorded.store)?;
@@ -52,29 +62,30 @@ pub fn explain_samples<I: Read, W: Write + Drop, E: Write + Drop>(
     let mut lines = SampleLines::new(alloc, &story, summary, counter, out);
     let outcome = read_frames(input, piece, &mut reader, &mut lines, messages);
     messages.end_progress();
-    if let Err(fault) = outcome {
-        tell_fault(
-            alloc,
-            recorded.name,
-            &reader,
-            piece,
-            fault,
-            &mut messages.why,
-        );
-    }
+    tell_fault(
+        alloc,
+        recorded.name,
+        &reader,
+        piece,
+        outcome,
+        &mut messages.why,
+    );
     let (printing, out) = lines.finish(&shapes);
     concluded(outcome, printing, out)
 }
 
-/// Tells why a recording is read no further.
+/// Tells why a recording is read no further, if there is a fault.
 fn tell_fault(
     alloc: Global,
     name: &str,
     reader: &Reader,
     piece: &Piece,
-    fault: ProgramFault,
+    outcome: Result<(), ProgramFault>,
     why: &mut Why,
 ) {
+    let Err(fault) = outcome else {
+        return;
+    };
     let ProgramFault::BreaksOff(at) = fault else {
         tell_unread(name, fault, why);
         return;

@@ -1,5 +1,5 @@
 //! Reads a recording, piece by piece.
-ghost use Rattle.std.specs.Prelude.{◌≡◌, ◌≢◌, ◌↔◌, ◌+◌, ◌%◌, ◌^◌, ◌<◌, ◌≤◌, ◌++◌, ℕ, List, []};
+ghost use Rattle.std.specs.Prelude.{◌≡◌, ◌≢◌, ◌↔◌, ◌⊎◌, ◌+◌, ◌%◌, ◌^◌, ◌<◌, ◌≤◌, ◌++◌, ℕ, List, []};
 ghost use Rattle.std.specs.Prelude.{Err, IfErr, IfOk, IfSome, IsOk, OnOk, Option, Some, false};
 ghost use Rattle.std.specs.Prelude.{length, true};
 ghost use Rattle.std.specs.Io.{StartsWith};
@@ -9,13 +9,15 @@ ghost use Rattle.daq_reader.specs.Lists.{NoneWaits, Stands, plans_of};
 ghost use Rattle.daq_reader.specs.Reads.{HasRead, IsFaultOf};
 ghost use Rattle.daq_reader.specs.Recorded.{Recorded};
 ghost use Rattle.daq_reader.specs.Recording.{AreGivenBack, IsRecordingOf};
-ghost use Rattle.recording.specs.Faults.{breaks_off, torn};
+ghost use Rattle.recording.specs.Faults.{breaks_off, torn, want_of_memory};
 ghost use Rattle.recording.specs.Pieces.{IsReason, Passes, StandSomewhere, unread_of};
 ghost use Rattle.recording.specs.Pieces.{IsLeftUnread, unread_with};
+ghost use Rattle.recording.specs.Stops.{IsOfReading};
 ghost use Rattle.recording.specs.declared.piece.TheConstants.{MAX_FRAME};
 ghost use Rattle.recording.specs.declared.program_fault.ProgramFault.TheVariants.{BreaksOff};
 ghost use Rattle.recording.specs.declared.program_fault.ProgramFault.TheVariants.{InReplies};
 ghost use Rattle.recording.specs.declared.program_fault.ProgramFault.TheVariants.{OtherRun};
+ghost use Rattle.recording.specs.declared.program_fault.ProgramFault.TheVariants.{Unreadable};
 ghost use Rattle.recording.specs.declared.reason.Reason.TheVariants.{WithinSample};
 
 use crate::break_off::BreakOff;
@@ -45,6 +47,8 @@ pub fn pass_replies<I: Read>(
         (λ bytes. ¬ StartsWith bytes replies.now) }
     ensures within { result ≡ Err InReplies → IfSome (I.remaining input.old)
         (λ bytes. StartsWith replies.now bytes × (length bytes < length replies.now)) }
+    ensures fault { IfErr result (λ f. (f ≡ OtherRun) ⊎ (f ≡ InReplies) ⊎ (f ≡ Unreadable)
+        ⊎ (f ≡ want_of_memory)) }
 
     ensures passed { (behind : List ℕ) → I.remaining input.old ≡ Some (replies.now ++ behind)
         → (result ≢ Err OtherRun) × (result ≢ Err InReplies)
@@ -67,6 +71,7 @@ pub fn pass_replies<I: Read>(
 fn fault_of_front(bytes: &[u8], replies: &[u8]) -> ProgramFault
     ensures within { (result ≡ InReplies) ↔ StartsWith replies.now bytes.now }
     ensures other { (result ≡ OtherRun) ↔ ¬ StartsWith replies.now bytes.now }
+    ensures one { (result ≡ OtherRun) ⊎ (result ≡ InReplies) }
 {
     if begins_with(replies, bytes) {
         return ProgramFault::InReplies;
@@ -104,6 +109,7 @@ pub fn read_frames<I: Read, S: Samples, E: Write + Drop>(
     ensures place { (at : BreakOff) → result ≡ Err (BreaksOff at) → at.place ≡ piece.new.place }
     ensures why { (at : BreakOff) → result ≡ Err (BreaksOff at)
         → IsReason reader.new (unread_of piece.new) (I.remaining input.new) at.why }
+    ensures fault { IfErr result IsOfReading }
 
     ensures given { (before : List (List ℕ)) (written : List (ℕ × Recorded)) (left : List ℕ)
         → Stands reader.old before (S.handed samples.old) → I.remaining input.old ≡ Some left
@@ -139,6 +145,7 @@ fn ended(piece: &Piece, reader: &Reader) -> Result<(), ProgramFault>
     ensures why { (at : BreakOff) (rest : Option (List ℕ)) → IsAtEnd rest
         → ((n : ℕ) → ¬ HasFrame (unread_of piece.now) n)
         → result ≡ Err (BreaksOff at) → IsReason reader.now (unread_of piece.now) rest at.why }
+    ensures fault { IfErr result IsOfReading }
 {
     if !piece.bytes.is_empty() {
         return Err(broken(piece, Reason::Read(ReadFault::Frame(FrameFault::Torn))));

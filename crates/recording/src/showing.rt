@@ -1,9 +1,12 @@
 //! Reads the samples of a recording, and prints them.
-ghost use Rattle.std.specs.Prelude.{◌≡◌, ◌≢◌, Err, IfErr, IfOk, IfSome, IsOk, None, Ok, Some};
+ghost use Rattle.std.specs.Prelude.{◌≡◌, ◌≢◌, ◌⊎◌, ℕ, List, Err, IfErr, IfOk, IfSome, IsOk, None};
+ghost use Rattle.std.specs.Prelude.{Ok, OnOk, Some};
 ghost use Rattle.std.specs.IoError.{error_kind};
 ghost use Rattle.daq_reader.specs.Ready.{ready_lists};
+ghost use Rattle.daq_reader.specs.Recorded.{Recorded};
 ghost use Rattle.recording.specs.Faults.{want_of_memory};
-ghost use Rattle.recording.specs.Shown.{ShowsAll};
+ghost use Rattle.recording.specs.Shown.{IsRead, ShowsAll};
+ghost use Rattle.recording.specs.Stops.{IsFaultOfSamples, IsFront, IsOfStream, IsOfTear, IsWhole};
 
 use crate::drawing::Drawing;
 use crate::messages::Messages;
@@ -28,9 +31,41 @@ pub fn show_samples<I: Read, W: Write + Drop, E: Write + Drop>(
     out: W,
     messages: &mut Messages<E>,
 ) -> Result<Option<W>, ProgramFault>
-    ensures { IfOk result (λ shown. IfSome shown (λ after. ShowsAll mode (ready_lists store.now)
-        (I.remaining input.old) (I.remaining input.new) piece.old piece.new
+    ensures shown { IfOk result (λ shown. IfSome shown (λ after. ShowsAll mode
+        (ready_lists store.now) (I.remaining input.old) (I.remaining input.new) piece.old piece.new
         (W.contents out) (W.contents after))) }
+    ensures read { OnOk result (IsRead (ready_lists store.now) (I.remaining input.old)
+        (I.remaining input.new) piece.old piece.new) }
+    ensures fault { IfErr result (IsFaultOfSamples (ready_lists store.now)
+        (I.remaining input.old) (I.remaining input.new) piece.old piece.new) }
+
+    ensures whole { (samples : List (ℕ × Recorded))
+        → IsWhole (ready_lists store.now) samples (I.remaining input.old) piece.old
+        → IfErr result IsOfStream }
+    ensures torn { (samples : List (ℕ × Recorded))
+        → IsFront (ready_lists store.now) samples (I.remaining input.old) piece.old
+        → IfErr result (IsOfTear (I.remaining input.new)) }
+{
+    show_in(alloc, store, mode, input, piece, out, messages)
+}
+
+/// The same, in one of the ways to show samples.
+fn show_in<I: Read, W: Write + Drop, E: Write + Drop>(
+    alloc: Global,
+    store: &Store,
+    mode: Mode,
+    input: &mut I,
+    piece: &mut Piece,
+    out: W,
+    messages: &mut Messages<E>,
+) -> Result<Option<W>, ProgramFault>
+    ensures shown { IfOk result (λ shown. IfSome shown (λ after. ShowsAll mode
+        (ready_lists store.now) (I.remaining input.old) (I.remaining input.new) piece.old piece.new
+        (W.contents out) (W.contents after))) }
+    ensures read { OnOk result (IsRead (ready_lists store.now) (I.remaining input.old)
+        (I.remaining input.new) piece.old piece.new) }
+    ensures fault { IfErr result (IsFaultOfSamples (ready_lists store.now)
+        (I.remaining input.old) (I.remaining input.new) piece.old piece.new) }
 {
     match mode {
         Mode::Summary => show_table(alloc, store, input, piece, out, messages),
@@ -48,9 +83,13 @@ fn show_table<I: Read, W: Write + Drop, E: Write + Drop>(
     out: W,
     messages: &mut Messages<E>,
 ) -> Result<Option<W>, ProgramFault>
-    ensures { IfOk result (λ shown. IfSome shown (λ after. ShowsAll Mode.Summary
+    ensures shown { IfOk result (λ shown. IfSome shown (λ after. ShowsAll Mode.Summary
         (ready_lists store.now) (I.remaining input.old) (I.remaining input.new) piece.old piece.new
         (W.contents out) (W.contents after))) }
+    ensures read { OnOk result (IsRead (ready_lists store.now) (I.remaining input.old)
+        (I.remaining input.new) piece.old piece.new) }
+    ensures fault { IfErr result (IsFaultOfSamples (ready_lists store.now)
+        (I.remaining input.old) (I.remaining input.new) piece.old piece.new) }
 {
     let mut out = out;
     let shapes = shapes_of(alloc, store)?;
@@ -71,9 +110,13 @@ fn show_rows<I: Read, W: Write + Drop, E: Write + Drop>(
     out: W,
     messages: &mut Messages<E>,
 ) -> Result<Option<W>, ProgramFault>
-    ensures { IfOk result (λ shown. IfSome shown (λ after. ShowsAll Mode.Csv (ready_lists store.now)
-        (I.remaining input.old) (I.remaining input.new) piece.old piece.new
+    ensures shown { IfOk result (λ shown. IfSome shown (λ after. ShowsAll Mode.Csv
+        (ready_lists store.now) (I.remaining input.old) (I.remaining input.new) piece.old piece.new
         (W.contents out) (W.contents after))) }
+    ensures read { OnOk result (IsRead (ready_lists store.now) (I.remaining input.old)
+        (I.remaining input.new) piece.old piece.new) }
+    ensures fault { IfErr result (IsFaultOfSamples (ready_lists store.now)
+        (I.remaining input.old) (I.remaining input.new) piece.old piece.new) }
 {
     let mut reader = reader_of(alloc, store)?;
     let mut rows = SampleRows::new(alloc, shapes_of(alloc, store)?, out)?;
@@ -100,9 +143,13 @@ fn show_picture<I: Read, W: Write + Drop, E: Write + Drop>(
     out: W,
     messages: &mut Messages<E>,
 ) -> Result<Option<W>, ProgramFault>
-    ensures { IfOk result (λ shown. IfSome shown (λ after. ShowsAll Mode.Svg (ready_lists store.now)
-        (I.remaining input.old) (I.remaining input.new) piece.old piece.new
+    ensures shown { IfOk result (λ shown. IfSome shown (λ after. ShowsAll Mode.Svg
+        (ready_lists store.now) (I.remaining input.old) (I.remaining input.new) piece.old piece.new
         (W.contents out) (W.contents after))) }
+    ensures read { OnOk result (IsRead (ready_lists store.now) (I.remaining input.old)
+        (I.remaining input.new) piece.old piece.new) }
+    ensures fault { IfErr result (IsFaultOfSamples (ready_lists store.now)
+        (I.remaining input.old) (I.remaining input.new) piece.old piece.new) }
 {
     let mut out = out;
     let mut reader = reader_of(alloc, store)?;
@@ -122,6 +169,8 @@ pub fn concluded<W: Drop>(
     out: W,
 ) -> Result<Option<W>, ProgramFault>
     ensures fault { IfErr outcome (λ fault. result ≡ Err fault) }
+    ensures err { IfErr result (λ fault. (outcome ≡ Err fault) ⊎ (fault ≡ want_of_memory)) }
+    ensures read { OnOk result (IsOk outcome) }
     ensures printed { IsOk outcome → IsOk printing → result ≡ Ok (Some out) }
     ensures shown { IfOk result (λ shown. IfSome shown (λ after. IsOk outcome × IsOk printing
         × (after ≡ out))) }

@@ -1,15 +1,17 @@
 //! Reads the samples of a recording, and prints the values of what an A2L file describes.
-ghost use Rattle.std.specs.Prelude.{◌≡◌, ◌⊎◌, Err, IfErr, IfOk, IfSome, IsErrOf};
+ghost use Rattle.std.specs.Prelude.{◌≡◌, ◌⊎◌, Err, IfErr, IfOk, IfSome, IsErrOf, OnOk};
 ghost use Rattle.std.specs.Option.{option_copied};
 ghost use Rattle.daq_reader.specs.Lists.{plans_of};
 ghost use Rattle.daq_reader.specs.Ready.{ready_lists};
-ghost use Rattle.recording.specs.ByName.{IsByName, ShowsByName};
+ghost use Rattle.recording.specs.ByName.{AreAsked, IsByName, IsFaultOfValues, ShowsByName};
 ghost use Rattle.recording.specs.Faults.{want_of_memory};
-ghost use Rattle.recording.specs.Shown.{ShowsBy};
+ghost use Rattle.recording.specs.Shown.{IsRead, ShowsBy};
+ghost use Rattle.recording.specs.Stops.{IsFaultOfSamples};
 ghost use Rattle.recording.specs.declared.mode.Mode.TheVariants as mode;
 ghost use Rattle.recording.specs.declared.program_fault.ProgramFault.TheVariants.{NoValue};
 ghost use Rattle.value_tables.specs.Columns.{AreColumns, HasChosen};
 
+use crate::command_line::Options;
 use crate::messages::Messages;
 use crate::mode::Mode;
 use crate::not_shown::tell_not_shown;
@@ -50,6 +52,19 @@ struct Shown<'a> {
     tick: Option<Tick>,
 }
 
+/// Which values of a description the options ask for, and how: how long a tick is they say before
+/// the A2L file.
+pub fn values_of<'a>(options: Options<'a>, description: &'a Description) -> Values<'a>
+    ensures { AreAsked options.entry description.now result }
+{
+    Values {
+        description,
+        only: options.only,
+        tick: options.tick.or(description.tick),
+        mode: options.mode,
+    }
+}
+
 /// Reads a recording behind its replies, and prints the values of its samples. It gives the writer
 /// back exactly if all of them are printed.
 pub fn show_values<I: Read, W: Write + Drop, E: Write + Drop>(
@@ -64,6 +79,10 @@ pub fn show_values<I: Read, W: Write + Drop, E: Write + Drop>(
     ensures shown { IfOk result (λ shown. IfSome shown (λ after. ShowsByName values.entry
         (ready_lists store.now) (I.remaining input.old) (I.remaining input.new) piece.old piece.new
         (W.contents out) (W.contents after))) }
+    ensures read { OnOk result (IsRead (ready_lists store.now) (I.remaining input.old)
+        (I.remaining input.new) piece.old piece.new) }
+    ensures fault { IfErr result (IsFaultOfValues values.entry (ready_lists store.now)
+        (I.remaining input.old) (I.remaining input.new) piece.old piece.new) }
     ensures no_value { ¬ HasChosen values.entry.description.now (plans_of (ready_lists store.now))
         (option_copied values.entry.only)
         → (result ≡ Err NoValue) ⊎ (result ≡ Err want_of_memory) }
@@ -119,9 +138,14 @@ fn show_tallies<I: Read, W: Write + Drop, E: Write + Drop>(
     out: W,
     messages: &mut Messages<E>,
 ) -> Result<Option<W>, ProgramFault>
-    ensures { IfOk result (λ w. IfSome w (λ after. ShowsBy (IsByName mode.Summary shown.entry.tick
-        shown.entry.columns.items (W.contents out) (W.contents after)) (ready_lists store.now)
-        (I.remaining input.old) (I.remaining input.new) piece.old piece.new)) }
+    ensures shown { IfOk result (λ w. IfSome w (λ after. ShowsBy (IsByName mode.Summary
+        shown.entry.tick shown.entry.columns.items (W.contents out) (W.contents after))
+        (ready_lists store.now) (I.remaining input.old) (I.remaining input.new)
+        piece.old piece.new)) }
+    ensures read { OnOk result (IsRead (ready_lists store.now) (I.remaining input.old)
+        (I.remaining input.new) piece.old piece.new) }
+    ensures fault { IfErr result (IsFaultOfSamples (ready_lists store.now)
+        (I.remaining input.old) (I.remaining input.new) piece.old piece.new) }
 {
     let mut out = out;
     let shapes = shapes_of(alloc, store)?;
@@ -143,9 +167,14 @@ fn show_rows<I: Read, W: Write + Drop, E: Write + Drop>(
     out: W,
     messages: &mut Messages<E>,
 ) -> Result<Option<W>, ProgramFault>
-    ensures { IfOk result (λ w. IfSome w (λ after. ShowsBy (IsByName mode.Csv shown.entry.tick
-        shown.entry.columns.items (W.contents out) (W.contents after)) (ready_lists store.now)
-        (I.remaining input.old) (I.remaining input.new) piece.old piece.new)) }
+    ensures shown { IfOk result (λ w. IfSome w (λ after. ShowsBy (IsByName mode.Csv
+        shown.entry.tick shown.entry.columns.items (W.contents out) (W.contents after))
+        (ready_lists store.now) (I.remaining input.old) (I.remaining input.new)
+        piece.old piece.new)) }
+    ensures read { OnOk result (IsRead (ready_lists store.now) (I.remaining input.old)
+        (I.remaining input.new) piece.old piece.new) }
+    ensures fault { IfErr result (IsFaultOfSamples (ready_lists store.now)
+        (I.remaining input.old) (I.remaining input.new) piece.old piece.new) }
 {
     let shapes = shapes_of(alloc, store)?;
     let mut reader = reader_of(alloc, store)?;
@@ -177,9 +206,14 @@ fn show_curves<I: Read, W: Write + Drop, E: Write + Drop>(
     out: W,
     messages: &mut Messages<E>,
 ) -> Result<Option<W>, ProgramFault>
-    ensures { IfOk result (λ w. IfSome w (λ after. ShowsBy (IsByName mode.Svg shown.entry.tick
-        shown.entry.columns.items (W.contents out) (W.contents after)) (ready_lists store.now)
-        (I.remaining input.old) (I.remaining input.new) piece.old piece.new)) }
+    ensures shown { IfOk result (λ w. IfSome w (λ after. ShowsBy (IsByName mode.Svg
+        shown.entry.tick shown.entry.columns.items (W.contents out) (W.contents after))
+        (ready_lists store.now) (I.remaining input.old) (I.remaining input.new)
+        piece.old piece.new)) }
+    ensures read { OnOk result (IsRead (ready_lists store.now) (I.remaining input.old)
+        (I.remaining input.new) piece.old piece.new) }
+    ensures fault { IfErr result (IsFaultOfSamples (ready_lists store.now)
+        (I.remaining input.old) (I.remaining input.new) piece.old piece.new) }
 {
     let mut out = out;
     let shapes = shapes_of(alloc, store)?;

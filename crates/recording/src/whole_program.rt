@@ -1,14 +1,23 @@
 //! The program: from its arguments and streams to its status.
-ghost use Rattle.std.specs.Prelude.{◌≡◌, ◌≤◌, ◌↔◌, IfOk, true};
+ghost use Rattle.std.specs.Prelude.{◌≡◌, ◌≤◌, ◌↔◌, ℕ, List, [], IfErr, IfOk, IfSome, Ok, OnOk};
+ghost use Rattle.std.specs.Prelude.{true};
+ghost use Rattle.std.specs.Option.{option_copied};
+ghost use Rattle.daq_reader.specs.Ready.{ready_lists};
+ghost use Rattle.daq_reader.specs.Recorded.{Recorded};
+ghost use Rattle.recording.specs.Files.{IsFaultBehind, IsFaultOfFile, IsFileWith};
+ghost use Rattle.recording.specs.Files.{IsNotOfRecording, IsOfTearOr, IsReadFile};
+ghost use Rattle.recording.specs.Files.{ShowsBehind, ShowsFile, ShowsNamed, ShowsRun, ShowsSomeRun};
+ghost use Rattle.recording.specs.Shown.{IsRead};
 
 use crate::command_line::{CommandLine, Options, read_command_line};
 use crate::explaining::{RunRecording, explain_samples, tell_replies};
 use crate::messages::Messages;
 use crate::no_text::no_text;
+use crate::piece::Piece;
 use crate::program_fault::ProgramFault;
 use crate::recording::pass_replies;
 use crate::showing::show_samples;
-use crate::values::{Values, show_values};
+use crate::values::{show_values, values_of};
 use a2l::{A2lFault, Description};
 use clap::Error;
 use daq_reader::shapes_of;
@@ -81,7 +90,9 @@ fn show<R: Files, W: Write + Drop, E: Write + Drop>(
     out: W,
     messages: &mut Messages<E>,
 ) -> Result<u8, ProgramFault>
-    ensures { IfOk result (λ status. status ≤ 1) }
+    ensures range { IfOk result (λ status. status ≤ 1) }
+    ensures all { result ≡ Ok 0 → (after : W) × ShowsSomeRun options.entry
+        (W.contents out) (W.contents after) }
 {
     let run = run_of(rt, alloc, options.run, &mut messages.why)?;
     let description = description_of(rt, alloc, options.a2l, messages)?;
@@ -107,7 +118,9 @@ fn show_run<R: Files, W: Write + Drop, E: Write + Drop>(
     out: W,
     messages: &mut Messages<E>,
 ) -> Result<u8, ProgramFault>
-    ensures { IfOk result (λ status. status ≤ 1) }
+    ensures range { IfOk result (λ status. status ≤ 1) }
+    ensures all { result ≡ Ok 0 → (after : W) × ShowsRun options.entry run.now
+        (option_copied description.entry) (W.contents out) (W.contents after) }
 {
     let Ok((store, writer)) = set_up(alloc, run, VecOut::new(alloc)) else {
         return Err(ProgramFault::MEMORY);
@@ -151,7 +164,9 @@ fn show_recorded<R: Files, W: Write + Drop, E: Write + Drop>(
     out: W,
     messages: &mut Messages<E>,
 ) -> Result<u8, ProgramFault>
-    ensures { IfOk result (λ status. status ≤ 1) }
+    ensures range { IfOk result (λ status. status ≤ 1) }
+    ensures all { result ≡ Ok 0 → (after : W) × ShowsNamed options.entry recorded.now
+        (W.contents out) (W.contents after) }
 {
     match fs::open(rt, recorded.name) {
         Ok(mut file) => show_file(rt, alloc, options, recorded, &mut file, out, messages),
@@ -209,7 +224,8 @@ fn text_of<R: Files, E: Write + Drop>(
     }
 }
 
-/// Reads the file of a recording, and prints its samples.
+/// Reads the file of a recording, and prints its samples. The status is 0 if the writer is given
+/// back, as it is where all of them are printed, and else 1.
 fn show_file<R: Files, I: Read, W: Write + Drop, E: Write + Drop>(
     rt: &R,
     alloc: Global,
@@ -219,7 +235,42 @@ fn show_file<R: Files, I: Read, W: Write + Drop, E: Write + Drop>(
     out: W,
     messages: &mut Messages<E>,
 ) -> Result<u8, ProgramFault>
-    ensures { IfOk result (λ status. status ≤ 1) }
+    ensures range { IfOk result (λ status. status ≤ 1) }
+    ensures all { result ≡ Ok 0 → (after : W) × ShowsFile options.entry recorded.now
+        (I.remaining file.old) (I.remaining file.new) (W.contents out) (W.contents after) }
+    ensures read { OnOk result
+        (IsReadFile recorded.now (I.remaining file.old) (I.remaining file.new)) }
+    ensures fault { IfErr result (IsFaultOfFile options.entry recorded.now
+        (I.remaining file.old) (I.remaining file.new)) }
+
+    ensures whole { (samples : List (ℕ × Recorded))
+        → IsFileWith recorded.now samples [] (I.remaining file.old)
+        → IfErr result IsNotOfRecording }
+    ensures torn { (samples : List (ℕ × Recorded)) (lost : List ℕ)
+        → IsFileWith recorded.now samples lost (I.remaining file.old)
+        → IfErr result (IsOfTearOr (I.remaining file.new)) }
+{
+    let shown = shown_of(rt, alloc, options, recorded, file, out, messages)?;
+    Ok(status_of_printing(shown.is_some()))
+}
+
+/// The same. It gives the writer back exactly if all samples are printed.
+fn shown_of<R: Files, I: Read, W: Write + Drop, E: Write + Drop>(
+    rt: &R,
+    alloc: Global,
+    options: Options<'_>,
+    recorded: &RunRecording<'_>,
+    file: &mut I,
+    out: W,
+    messages: &mut Messages<E>,
+) -> Result<Option<W>, ProgramFault>
+    ensures shown { IfOk result (λ shown. IfSome shown (λ after. ShowsFile options.entry
+        recorded.now (I.remaining file.old) (I.remaining file.new)
+        (W.contents out) (W.contents after))) }
+    ensures read { OnOk result
+        (IsReadFile recorded.now (I.remaining file.old) (I.remaining file.new)) }
+    ensures fault { IfErr result (IsFaultOfFile options.entry recorded.now
+        (I.remaining file.old) (I.remaining file.new)) }
 {
     let frames = recorded.run.setup().len();
     let mut piece = match pass_replies(alloc, file, recorded.replies, frames) {
@@ -229,23 +280,39 @@ fn show_file<R: Files, I: Read, W: Write + Drop, E: Write + Drop>(
             return Err(fault);
         }
     };
+    show_behind(alloc, options, recorded, file, &mut piece, out, messages)
+}
+
+/// Reads a recording behind its replies, and prints its samples as the options ask for. It gives
+/// the writer back exactly if all of them are printed.
+fn show_behind<I: Read, W: Write + Drop, E: Write + Drop>(
+    alloc: Global,
+    options: Options<'_>,
+    recorded: &RunRecording<'_>,
+    input: &mut I,
+    piece: &mut Piece,
+    out: W,
+    messages: &mut Messages<E>,
+) -> Result<Option<W>, ProgramFault>
+    ensures shown { IfOk result (λ shown. IfSome shown (λ after. ShowsBehind options.entry
+        (option_copied recorded.now.description) (ready_lists recorded.now.store.now)
+        (I.remaining input.old) (I.remaining input.new) piece.old piece.new
+        (W.contents out) (W.contents after))) }
+    ensures read { OnOk result (IsRead (ready_lists recorded.now.store.now)
+        (I.remaining input.old) (I.remaining input.new) piece.old piece.new) }
+    ensures fault { IfErr result (IsFaultBehind options.entry
+        (option_copied recorded.now.description) (ready_lists recorded.now.store.now)
+        (I.remaining input.old) (I.remaining input.new) piece.old piece.new) }
+{
     let store = recorded.store;
-    let shown = match recorded.description {
-        Some(description) => {
-            let values = Values {
-                description,
-                only: options.only,
-                tick: options.tick.or(description.tick),
-                mode: options.mode,
-            };
-            show_values(alloc, store, values, file, &mut piece, out, messages)?
-        }
-        None if options.explain => {
-            explain_samples(alloc, recorded, file, &mut piece, out, messages)?
-        }
-        None => show_samples(alloc, store, options.mode, file, &mut piece, out, messages)?,
-    };
-    Ok(status_of_printing(shown.is_some()))
+    if let Some(description) = recorded.description {
+        let values = values_of(options, description);
+        return show_values(alloc, store, values, input, piece, out, messages);
+    }
+    if options.explain {
+        return explain_samples(alloc, recorded, input, piece, out, messages);
+    }
+    show_samples(alloc, store, options.mode, input, piece, out, messages)
 }
 
 /// The run of a file. Behind a fault `why` has the reason.

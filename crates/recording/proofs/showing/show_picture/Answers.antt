@@ -4,6 +4,7 @@ use Rattle.daq_reader.specs.Ready.{ready_lists}
 use Rattle.recording.specs.Shown.{IsShown}
 use Rattle.recording.specs.declared.mode.Mode.TheVariants.{Svg}
 use Rattle.recording.proofs.ShownLemmas.{all_shown, of_ok, of_writer, stand_first}
+use Rattle.recording.proofs.StopLemmas.{all_read, its_end, its_fault, why_not}
 use Rattle.recording.proofs.showing.show_picture.Goals as goal
 
 -- no sample was handed over yet
@@ -11,8 +12,8 @@ pub read_frames-outcome-requires : goal.read_frames-outcome-requires
 read_frames-outcome-requires g c = record { stands = stand_first _ _ c.in_ok-reader.ensures.stands c.in_ok-drawing.ensures }
 
 -- where both succeed, the picture has its end
-pub returns : goal.returns
-returns g c =
+pub returns-clause-shown : goal.returns-clause-shown
+returns-clause-shown g c =
     let read = c.read_frames-outcome in
     let before = g.W.Write.contents c.args.out in
     let samples = read.new.samples in
@@ -23,3 +24,18 @@ returns g c =
     (of_ok read.result _ h.0 read.ensures.end) (of_ok read.result _ h.0 read.ensures.all) (of_ok read.result _ h.0 read.ensures.whole)
     (subst (λ x. IsShown Svg (plans_of (ready_lists c.args.store.now)) samples before (g.W.Write.contents x)) (sym h.2) shown))
     c.concluded.ensures.shown
+
+-- where one is given back or not, all was read
+pub returns-clause-read : goal.returns-clause-read
+returns-clause-read g c =
+    let read = c.read_frames-outcome in
+    its_end read.result _ _ (all_read _ _ _ _ _ _ _ _ _ read.result c.in_ok-reader.ensures.value c.in_ok-drawing.ensures read.ensures.read
+    read.ensures.lists read.ensures.end read.ensures.all read.ensures.whole) c.concluded.ensures.read
+
+-- and where there is a fault, it isn't for this
+pub returns-clause-fault : goal.returns-clause-fault
+returns-clause-fault g c =
+    let read = c.read_frames-outcome in
+    its_fault read.result _ _ _ tt (why_not _ _ _ _ _ _ _ _ _ read.result c.in_ok-reader.ensures.value c.in_ok-drawing.ensures
+    c.in_ok-reader.ensures.stands read.ensures.lists read.ensures.fault read.ensures.broken read.ensures.place read.ensures.why)
+    c.concluded.ensures.err

@@ -5,6 +5,7 @@ use Rattle.daq_reader.specs.Ready.{ready_lists}
 use Rattle.sample_tables.specs.Tables.{table_text}
 use Rattle.recording.specs.declared.mode.Mode.TheVariants.{Summary}
 use Rattle.recording.proofs.ShownLemmas.{all_shown, of_ok, of_writer, stand_first}
+use Rattle.recording.proofs.StopLemmas.{all_read, its_end, its_fault, why_not}
 use Rattle.recording.proofs.showing.show_table.Goals as goal
 
 -- no sample was handed over yet
@@ -18,8 +19,8 @@ print_summary-printing-requires g c =
     omega (arith, lists, c.in_ok-summary.ensures.lists)
 
 -- where both succeed, the table is that of the samples that were read
-pub returns : goal.returns
-returns g c =
+pub returns-clause-shown : goal.returns-clause-shown
+returns-clause-shown g c =
     let reader = c.in_ok-reader in
     let read = c.read_frames-outcome in
     let samples = read.new.samples.samples in
@@ -33,3 +34,18 @@ returns g c =
     (of_ok read.result _ h.0 read.ensures.end) (of_ok read.result _ h.0 read.ensures.all) (of_ok read.result _ h.0 read.ensures.whole)
     (subst (λ x. Appends before (g.W.Write.contents x) (table_text (plans_of (ready_lists c.args.store.now)) samples)) (sym h.2) shown))
     c.concluded.ensures.shown
+
+-- where one is given back or not, all was read
+pub returns-clause-read : goal.returns-clause-read
+returns-clause-read g c =
+    let read = c.read_frames-outcome in
+    its_end read.result _ _ (all_read _ _ _ _ _ _ _ _ _ read.result c.in_ok-reader.ensures.value c.in_ok-summary.ensures.samples read.ensures.read
+    read.ensures.lists read.ensures.end read.ensures.all read.ensures.whole) c.concluded.ensures.read
+
+-- and where there is a fault, it isn't for this
+pub returns-clause-fault : goal.returns-clause-fault
+returns-clause-fault g c =
+    let read = c.read_frames-outcome in
+    its_fault read.result _ _ _ tt (why_not _ _ _ _ _ _ _ _ _ read.result c.in_ok-reader.ensures.value c.in_ok-summary.ensures.samples
+    c.in_ok-reader.ensures.stands read.ensures.lists read.ensures.fault read.ensures.broken read.ensures.place read.ensures.why)
+    c.concluded.ensures.err

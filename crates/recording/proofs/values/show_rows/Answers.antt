@@ -1,4 +1,4 @@
-use Rattle.std.proofs.Common.{◌≡◌, ◌∙◌, List, ap, subst, sym}
+use Rattle.std.proofs.Common.{◌≡◌, ◌∙◌, Err, List, ap, subst, sym}
 use Rattle.std.specs.Io.KnownBytes.{Appends}
 use Rattle.copy_plan.specs.Config.{ListPlan}
 use Rattle.daq_reader.specs.Lists.{plans_of}
@@ -7,12 +7,13 @@ use Rattle.value_tables.specs.declared.column.Column.{Column}
 use Rattle.recording.specs.ByName.{IsByName, IsTextOf}
 use Rattle.recording.specs.declared.mode.Mode.TheVariants as mode
 use Rattle.recording.proofs.ShownLemmas.{all_by, of_ok, of_writer}
+use Rattle.recording.proofs.StopLemmas.{all_read, from_err, its_end, its_fault, why_not}
 use Rattle.std.proofs.KnownBytes.{Appends-kept}
 use Rattle.recording.proofs.values.show_rows.Goals as goal
 
 -- if both succeed, the CSV is that of the samples that were read
-pub returns-in-Ok : goal.returns-in-Ok
-returns-in-Ok g c =
+pub returns-in-Ok-clause-shown : goal.returns-in-Ok-clause-shown
+returns-in-Ok-clause-shown g c =
     let read = c.read_frames-outcome in
     let rows = read.new.samples in
     let before = g.W.Write.contents c.args.out in
@@ -39,3 +40,33 @@ returns-in-Ok g c =
     (of_ok read.result _ h.0 read.ensures.end) (of_ok read.result _ h.0 read.ensures.all) (of_ok read.result _ h.0 read.ensures.whole)
     (subst (λ x. Is (g.W.Write.contents x) plans rows.samples) (sym h.2) shown))
     c.concluded.ensures.shown
+
+-- where one is given back or not, all was read
+pub returns-in-Ok-clause-read : goal.returns-in-Ok-clause-read
+returns-in-Ok-clause-read g c =
+    let read = c.read_frames-outcome in
+    its_end read.result _ _ (all_read _ _ _ _ _ _ _ _ _ read.result c.in_ok-reader.ensures.value (ap (λ r. r.samples) c.in_ok-rows.ensures) read.ensures.read
+    read.ensures.lists read.ensures.end read.ensures.all read.ensures.whole) c.concluded.ensures.read
+
+-- and where there is a fault, it isn't for this
+pub returns-in-Ok-clause-fault : goal.returns-in-Ok-clause-fault
+returns-in-Ok-clause-fault g c =
+    let read = c.read_frames-outcome in
+    its_fault read.result _ _ _ tt (why_not _ _ _ _ _ _ _ _ _ read.result c.in_ok-reader.ensures.value (ap (λ r. r.samples) c.in_ok-rows.ensures)
+    c.in_ok-reader.ensures.stands read.ensures.lists read.ensures.fault read.ensures.broken read.ensures.place read.ensures.why)
+    c.concluded.ensures.err
+
+pub returns-in_err-outcome-in-Err-clause-fault : goal.returns-in_err-outcome-in-Err-clause-fault
+returns-in_err-outcome-in-Err-clause-fault g c =
+    let read = c.in_err-outcome-in-Err in
+    from_err c.from_residual-in_err-outcome-in-Err.result read.field-0.0 _ c.from_residual-in_err-outcome-in-Err.ensures.1
+    (why_not {T = Unit {0}} _ _ _ _ _ _ _ _ _ (Err read.field-0.0) c.in_ok-reader.ensures.value (ap (λ r. r.samples) c.in_ok-rows.ensures)
+    c.in_ok-reader.ensures.stands read.ensures.lists read.ensures.fault read.ensures.broken read.ensures.place read.ensures.why)
+
+pub returns : goal.returns
+returns g c = record {
+  shown = tt;
+  read = (all_by (λ plans samples. Unit {0}) _ _ _ _ c.read_frames-outcome.new.samples.samples _ _ _ _ c.in_ok-reader.ensures.value (ap (λ r. r.samples) c.in_ok-rows.ensures)
+      c.in_ok-outcome-in-Err.ensures.read c.in_ok-outcome-in-Err.ensures.lists c.in_ok-outcome-in-Err.ensures.end c.in_ok-outcome-in-Err.ensures.all c.in_ok-outcome-in-Err.ensures.whole tt);
+  fault = tt;
+}

@@ -7,11 +7,12 @@ use Rattle.value_tables.specs.declared.column.Column.{Column}
 use Rattle.recording.specs.ByName.{IsByName, IsTextOf}
 use Rattle.recording.specs.declared.mode.Mode.TheVariants as mode
 use Rattle.recording.proofs.ShownLemmas.{all_by, of_ok, of_writer}
+use Rattle.recording.proofs.StopLemmas.{all_read, its_end, its_fault, why_not}
 use Rattle.recording.proofs.values.show_tallies.Goals as goal
 
 -- if both succeed, the table is that of the samples that were read
-pub returns : goal.returns
-returns g c =
+pub returns-clause-shown : goal.returns-clause-shown
+returns-clause-shown g c =
     let read = c.read_frames-outcome in
     let tallies = read.new.samples in
     let before = g.W.Write.contents c.args.out in
@@ -30,3 +31,18 @@ returns g c =
     (of_ok read.result _ h.0 read.ensures.end) (of_ok read.result _ h.0 read.ensures.all) (of_ok read.result _ h.0 read.ensures.whole)
     (subst (λ x. Is (g.W.Write.contents x) plans tallies.samples) (sym h.2) shown))
     c.concluded.ensures.shown
+
+-- where one is given back or not, all was read
+pub returns-clause-read : goal.returns-clause-read
+returns-clause-read g c =
+    let read = c.read_frames-outcome in
+    its_end read.result _ _ (all_read _ _ _ _ _ _ _ _ _ read.result c.in_ok-reader.ensures.value (ap (λ r. r.samples) c.in_ok-tallies.ensures) read.ensures.read
+    read.ensures.lists read.ensures.end read.ensures.all read.ensures.whole) c.concluded.ensures.read
+
+-- and where there is a fault, it isn't for this
+pub returns-clause-fault : goal.returns-clause-fault
+returns-clause-fault g c =
+    let read = c.read_frames-outcome in
+    its_fault read.result _ _ _ tt (why_not _ _ _ _ _ _ _ _ _ read.result c.in_ok-reader.ensures.value (ap (λ r. r.samples) c.in_ok-tallies.ensures)
+    c.in_ok-reader.ensures.stands read.ensures.lists read.ensures.fault read.ensures.broken read.ensures.place read.ensures.why)
+    c.concluded.ensures.err
