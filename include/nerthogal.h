@@ -449,10 +449,11 @@ ng_status ng_sampler_free(ng_sampler *sampler);
  * The proofs speak of a log of what a slave did since it was opened: each call says by which acts
  * it goes on, and by how many at most; and one law holds of every log, docs/SESSION_LAW.md. A slave
  * counts what it does, and once it counted 2^57 hears and takes nothing any more (NG_SPENT): a
- * packet counts as 64, a sample as 3. Only tested, by session_test.c, tasks_test.c, accounts_test.c
- * and measurements_test.c of examples/c, and by .ci/live: that what waits in a ring is taken, that
- * what tasks gave back is found, and that its triggers are those of its tasks. docs/PROVED.md says
- * what is proved of the parts of a slave. */
+ * packet counts as 64, a sample as 3. Once it is closed, its account is of all that its tasks gave
+ * back, each once. Only tested, by session_test.c, tasks_test.c, accounts_test.c and
+ * measurements_test.c of examples/c, and by .ci/live: that what waits in a ring is taken, and that
+ * what tasks gave back is found before. docs/PROVED.md says what is proved of the parts of a
+ * slave. */
 
 /* Opens a slave with a profile, and with so many event channels: events[c] is event channel c. No
  * master is connected, there is no DAQ list, and nothing waits. Its CTR begins at 0.
@@ -480,10 +481,9 @@ ng_status ng_slave_open(const ng_profile *profile, const ng_event *events, size_
  *   NG_MEMORY      malloc failed; the task may still be handed out
  *   NG_OK          *task holds the task
  *
- * They are checked in this order. Except on NG_OK, nothing changes. Proved: all of this, except
- * that malloc failed, and that the tasks are those of this slave, in the order of the event
- * channels, which the tests show. Calls malloc three times, but not on the first four statuses; and
- * free on NG_MEMORY. */
+ * They are checked in this order. Except on NG_OK, nothing changes. Proved: all of this, and that
+ * the tasks are those of this slave, in the order of the event channels; but not that malloc
+ * failed. Calls malloc three times, but not on the first four statuses; and free on NG_MEMORY. */
 ng_status ng_slave_task(ng_slave *slave, uint16_t channel, ng_task *task);
 
 /* Takes bytes of a master's stream, as TCP has it, in whatever pieces they come. Each packet that
@@ -557,15 +557,15 @@ ng_status ng_slave_sent(ng_slave *slave);
  *   NG_OK           *taken says what it did
  *
  * They are checked in this order. Except on NG_OK, *taken is unchanged, and no trigger is taken.
- * Proved: all of this, but not that it finds what the slave ordered, nor that what is left of a
- * measurement goes back. The tests show that, and that it calls neither malloc nor realloc nor
- * free. */
+ * Proved: all of this, and that what is left of a measurement goes back, once and in order; but not
+ * that it finds what the slave ordered. The tests show that, and that it calls neither malloc nor
+ * realloc nor free. */
 ng_status ng_task_trigger(ng_task *task, const uint8_t *image, size_t image_len, uint32_t stamp,
                           ng_taken *taken);
 
 /* Finishes a task. What is left of it goes back to its slave, which is still open. *task is then
- * empty. NG_EMPTY if *task is empty. Proved: all of this, but not that what is left goes back,
- * which is only tested. Calls free. */
+ * empty. NG_EMPTY if *task is empty. Proved: all of this, that what is left goes back by the
+ * function that this call asks; that the slave finds it is only tested. Calls free. */
 ng_status ng_task_finish(ng_task *task);
 
 /* Closes a slave, and returns the account of its session: lines[l] is the line of DAQ list l, over
@@ -582,9 +582,9 @@ ng_status ng_task_finish(ng_task *task);
  *
  * They are checked in this order. Except on NG_OK, the slave keeps all that it has, and lines and
  * *whole are unchanged. On NG_OK, the elements of lines after the account are unchanged. Proved:
- * all of this, and each number of the account and *whole, from what was sent and from what came
- * back of the tasks. Only tested: that all came back, that its triggers are those of the tasks, and
- * that NG_UNFINISHED is returned only if a task isn't finished. Calls free. */
+ * all of this, and each number of the account and *whole, from what was sent and from all that the
+ * tasks gave back. Only tested: that *whole is true once all tasks are finished, and that
+ * NG_UNFINISHED is returned only if a task isn't finished. Calls free. */
 ng_status ng_slave_close(ng_slave *slave, ng_line *lines, size_t lines_cap, bool *whole);
 
 #ifdef __cplusplus

@@ -84,9 +84,9 @@ impl<T: Drop, L: Drop, R: Rule<T, L>> Lender<T, L, R> {
         Some(left)
     }
 
-    /// Looks at all that was given back through the other end, which is beside. From then on each of
-    /// it is known to come. What was fetched, and of which nothing came back, is the first of what is
-    /// out.
+    /// Looks at all that was given back through the other end, which is beside. From then on each
+    /// of it is known to come. What was fetched, and of which nothing came back, is the first of
+    /// what is out.
     pub fn beside(&mut self, borrower: &mut Borrower<T, L, R>)
         requires one_line { borrower.old.ring ≡ self.old.ring }
         ensures all { self.new.came ++ self.new.coming ≡ borrower.old.gave }

@@ -54,8 +54,8 @@ ShowsBehind options (Some description) lists input rest first last before after 
 ShowsBehind options None lists input rest first last before after =
     ShowsSamples options.explain options lists input rest first last before after
 
--- the replies of a file were passed, and what it has behind them was read from one piece to another,
--- of which this is so
+-- the replies of a file were passed, and what it has behind them was read from one piece to
+-- another, of which this is so
 pub record IsReadBehind (recorded : RunRecording) (input rest : Option (List ℕ))
     (IsSo : Option (List ℕ) → Piece → Piece → Type 0)
     : Type 0 where

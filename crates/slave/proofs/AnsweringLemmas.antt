@@ -22,7 +22,6 @@ use Rattle.slave.specs.Inner.{PartsGoBy}
 use Rattle.slave.specs.Inner.{Answers, LaysReply, Settles}
 use Rattle.session_account.specs.Accounts.{AccountStandsAfter}
 use Rattle.slave.specs.Log.{Heard, HungUp, entries_of, is_out, late_of, past_of, reply_laid, sent_units, waits}
-use Rattle.slave.specs.Openings.{past_at}
 use Rattle.slave.specs.Standing.{logged, SlaveState}
 use Rattle.slave.proofs.SettlingLemmas.{settled, settled-lines, settled-many, settled-opens, settled-out}
 use Rattle.slave.proofs.StandingLemmas.{starts-no-list}
@@ -118,31 +117,34 @@ module _ {S T F : Type 0} (take : TakeGhosts T F) where
       → ((past : Past) → SessionStandsAfter a.session past → (l : ℕ) → l < MAX_LISTS → has_list before l ≡ runs past l)
       → Settles take a.channels b.channels before 0 → b.outbox ≡ a.outbox → b.plan ≡ a.plan → b.account ≡ a.account → b.number ≡ a.number
       → PartsGoBy take a b (HungUp ∷ [])
-  hung-up a b before fresh profile was settles outbox plan account number = (settled-lines take a.channels b.channels before 0 settles, λ log few stands.
-      let d = a.session.profile in
-      let past = past_of d log in
-      let has = starts-no-list take d a log 0 (λ l below. empty_has_none l) stands.has in
-      let none : (l : ℕ) → runs new_past l ≡ false = λ l. and_false _ in
-      let both = settled take d HungUp log 0 before 0 a.channels b.channels (omega (arith, few)) (record { deeds = λ m c. refl; none_opened = refl }) has.is_log
-      (λ c l below. ap (λ b. (not (runs past l) && b) && is_on d past c l) (none l) ∙ ap (λ b. b && is_on d past c l) (and_false (not (runs past l))) ∙ sym (ap (λ b. b && is_on d past c l) (empty_has_none l)))
-      (was past has.session) (λ l below. empty_has_none l ∙ sym (none l)) settles has.channels in
-      record {
-        has = record {
-          few = omega (arith, few);
-          is_log = has.is_log;
-          profile = profile;
-          session = fresh;
-          outbox = subst (λ o. OutboxStandsAfter o (sent_units d log) (waits d log)) (sym outbox) has.outbox;
-          channels = λ c ch at. (both c ch at).0;
-          out = settled-out take a.channels b.channels before 0 (λ c m. is_out m c log) settles stands.has.out;
-          as_logged = settled-opens take a.channels b.channels before 0 d (logged d log) settles stands.has.as_logged;
-          many = settled-many take a.channels b.channels before 0 settles ∙ stands.has.many;
-          plan = plan ∙ has.plan;
-          account = subst (λ z. AccountStandsAfter z (entries_of d log) (late_of d log)) (sym account) has.account;
-          number = number ∙ has.number;
-        };
-        ended = λ quiet c ch at. (both c ch at).1 quiet;
-      })
+  hung-up a b before fresh profile was settles outbox plan account number = (
+    settled-lines take a.channels b.channels before 0 settles,
+    λ log few stands.
+        let d = a.session.profile in
+        let past = past_of d log in
+        let has = starts-no-list take d a log 0 (λ l below. empty_has_none l) stands.has in
+        let none : (l : ℕ) → runs new_past l ≡ false = λ l. and_false _ in
+        let both = settled take d HungUp log 0 before 0 a.channels b.channels (omega (arith, few)) (record { deeds = λ m c. refl; none_opened = refl }) has.is_log
+        (λ c l below. ap (λ b. (not (runs past l) && b) && is_on d past c l) (none l) ∙ ap (λ b. b && is_on d past c l) (and_false (not (runs past l))) ∙ sym (ap (λ b. b && is_on d past c l) (empty_has_none l)))
+        (was past has.session) (λ l below. empty_has_none l ∙ sym (none l)) settles has.channels in
+        record {
+          has = record {
+            few = omega (arith, few);
+            is_log = has.is_log;
+            profile = profile;
+            session = fresh;
+            outbox = subst (λ o. OutboxStandsAfter o (sent_units d log) (waits d log)) (sym outbox) has.outbox;
+            channels = λ c ch at. (both c ch at).0;
+            out = settled-out take a.channels b.channels before 0 (λ c m. is_out m c log) settles stands.has.out;
+            as_logged = settled-opens take a.channels b.channels before 0 d (logged d log) settles stands.has.as_logged;
+            many = settled-many take a.channels b.channels before 0 settles ∙ stands.has.many;
+            plan = plan ∙ has.plan;
+            account = subst (λ z. AccountStandsAfter z (entries_of d log) (late_of d log)) (sym account) has.account;
+            number = number ∙ has.number;
+          };
+          ended = λ quiet c ch at. (both c ch at).1 quiet;
+        },
+  )
 
   -- the same, step by step
   pub answered-by : (v w t b : SlaveState S T) (s : SessionState) (packet : List ℕ) (clock before now : ℕ) (reply : Option (List ℕ)) → w ≡ v

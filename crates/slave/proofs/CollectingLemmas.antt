@@ -93,13 +93,16 @@ module _ {S T F : Type 0} (take : TakeGhosts T F) where
     acts = two.acts ++ one.acts;
     are = list_all-append is_return two.acts one.acts ∙ ap (λ z. z && list_all is_return one.acts) two.are ∙ one.are;
     few = omega (arith, length-append two.acts one.acts, one.few, two.few);
-    goes = (two.goes.0 ∙ one.goes.0, λ log few stands.
-        let split = length-append two.acts one.acts in
-        let profile = ap (λ (s : SessionState). s.profile) one.session in
-        let between = one.goes.1 log (omega (arith, few, split)) stands in
-        subst (λ xs. PartsStandAfter take a.session.profile b xs) (sym (assoc two.acts one.acts log))
-        (subst (λ p. PartsStandAfter take p b (two.acts ++ (one.acts ++ log))) profile
-        (two.goes.1 (one.acts ++ log) (omega (arith, few, split, length-append one.acts log)) (subst (λ p. PartsStandAfter take p m (one.acts ++ log)) (sym profile) between))));
+    goes = (
+      two.goes.0 ∙ one.goes.0,
+      λ log few stands.
+          let split = length-append two.acts one.acts in
+          let profile = ap (λ (s : SessionState). s.profile) one.session in
+          let between = one.goes.1 log (omega (arith, few, split)) stands in
+          subst (λ xs. PartsStandAfter take a.session.profile b xs) (sym (assoc two.acts one.acts log))
+          (subst (λ p. PartsStandAfter take p b (two.acts ++ (one.acts ++ log))) profile
+          (two.goes.1 (one.acts ++ log) (omega (arith, few, split, length-append one.acts log)) (subst (λ p. PartsStandAfter take p m (one.acts ++ log)) (sym profile) between))),
+    );
   }
 
   -- no more than so many are no more than more
@@ -177,12 +180,15 @@ module _ {S T F : Type 0} (take : TakeGhosts T F) where
     sequence = λ log few stands.
         let way = between a m v.opening log collects few stands in
         way.lead (λ q xs. (code ≡ Sequence) ↔ HasOther q xs lists) (v.sequence (collects.acts ++ log) way.few way.stands);
-    goes = (v.goes.0 ∙ collects.goes.0, λ log few stands.
-        let acts = collects.acts in
-        let split = length-append v.opening acts in
-        let same : m.session.profile ≡ a.session.profile = ap (λ (s : SessionState). s.profile) collects.session in
-        subst (λ xs. PartsStandAfter take a.session.profile b xs) (sym (assoc v.opening acts log))
-        (subst (λ q. PartsStandAfter take q b (v.opening ++ (acts ++ log))) same
-        (v.goes.1 (acts ++ log) (omega (arith, few, split, length-append acts log))
-        (subst (λ p. PartsStandAfter take p m (acts ++ log)) (sym same) (collects.goes.1 log (omega (arith, few, split)) stands)))));
+    goes = (
+      v.goes.0 ∙ collects.goes.0,
+      λ log few stands.
+          let acts = collects.acts in
+          let split = length-append v.opening acts in
+          let same : m.session.profile ≡ a.session.profile = ap (λ (s : SessionState). s.profile) collects.session in
+          subst (λ xs. PartsStandAfter take a.session.profile b xs) (sym (assoc v.opening acts log))
+          (subst (λ q. PartsStandAfter take q b (v.opening ++ (acts ++ log))) same
+          (v.goes.1 (acts ++ log) (omega (arith, few, split, length-append acts log))
+          (subst (λ p. PartsStandAfter take p m (acts ++ log)) (sym same) (collects.goes.1 log (omega (arith, few, split)) stands)))),
+    );
   }

@@ -32,7 +32,6 @@ use Rattle.slave_channels.specs.Calls.{rings_of}
 use Rattle.slave.proofs.KeepingLemmas.{lines-but}
 use Rattle.slave.specs.Inner.{LeavesFirst, LeavesOne, PartsGoBy, TellsAccount, TellsPart, left_deeds, left_late}
 use Rattle.slave.specs.Log.{Act, CameBack, Discarded, Heard, HungUp, Opened, Refused, Sent, Took, deeds_of, discarding, entries_of, is_late, is_of_ring, is_out, late_of, losing, opened, origins, past_of, reply_laid, sample_laid, sent_units, unsent_by, unsent_one, waits}
-use Rattle.slave.specs.Openings.{past_at}
 use Rattle.slave.specs.Standing.{logged, ChannelHas, HasEnded, IsLog, IsOut, SlaveStandsAfter, SlaveState, StandsBy, number_of}
 use Rattle.slave.proofs.ChannelLemmas.{channel-same}
 use Rattle.slave.proofs.DeedLemmas.{deeds-and-waits-few, unsent-length}
@@ -500,42 +499,48 @@ module _ {S T F : Type 0} (take : TakeGhosts T F) where
   -- all of what waited was thrown away
   pub throws-away : (a s b : SlaveState S T) → LeavesFirst take (length a.outbox.units) a s → b ≡ record s { outbox = b.outbox }
       → ((sent wait : List Laid) → OutboxStandsAfter s.outbox sent wait → OutboxStandsAfter b.outbox sent []) → PartsGoBy take a b (Discarded ∷ [])
-  throws-away a s b leaves rest discards = (ap (λ (z : SlaveState S T). rings_of z.channels) rest ∙ leaves.lines, λ log few stands.
-      let d = a.session.profile in
-      let os = origins (waits d log) in
-      let has = leaves.leaves log few stands in
-      let many : length os ≤ length a.outbox.units = omega (arith, ap length stands.has.outbox.units, length-map (waits d log) unit_of, length-map (waits d log) (λ (x : Laid). x.origin)) in
-      let all : first (length a.outbox.units) os ≡ os = take-whole (length a.outbox.units) os many in
-      let channels = ap (λ (z : SlaveState S T). z.channels) rest in
-      let session = ap (λ (z : SlaveState S T). z.session) rest in
-      record {
-        has = record {
-          few = omega (arith, few);
-          is_log = has.is_log;
-          profile = ap (λ (z : SessionState). z.profile) session ∙ has.profile;
-          session = subst (λ z. SessionStandsAfter z (past_of d log)) (sym session) has.session;
-          outbox = discards (sent_units d log) (waits d log) has.outbox;
-          channels = λ c ch at.
-              channel-same take (opened log) (left_deeds d log (length a.outbox.units) c) (λ m. deeds_of d m c (Discarded ∷ log)) (λ m. ap (λ ys. unsent_by m c ys ++ deeds_of d m c log) all) ch
-              (has.channels c ch (ap (λ zs. slice_get zs c) (sym channels) ∙ at));
-          out = λ c ch at. has.out c ch (ap (λ zs. slice_get zs c) (sym channels) ∙ at);
-          as_logged = λ c ch at. has.as_logged c ch (ap (λ zs. slice_get zs c) (sym channels) ∙ at);
-          many = ap length channels ∙ has.many;
-          plan = ap (λ (z : SlaveState S T). z.plan) rest ∙ has.plan;
-          number = ap (λ (z : SlaveState S T). z.number) rest ∙ has.number;
-          account = subst (λ z. AccountStandsAfter z (entries_of d log) (late_of d (Discarded ∷ log))) (sym (ap (λ (z : SlaveState S T). z.account) rest))
-              (same-unsent s.account (entries_of d log) (left_late d log (length a.outbox.units)) (late_of d (Discarded ∷ log)) (λ l below. ap (λ ys. late_of d log l + count_by (is_late log l) ys) all) has.account);
-        };
-        ended = λ none c ch at. leaves.ended log few stands none c ch (ap (λ zs. slice_get zs c) (sym channels) ∙ at);
-      })
+  throws-away a s b leaves rest discards = (
+    ap (λ (z : SlaveState S T). rings_of z.channels) rest ∙ leaves.lines,
+    λ log few stands.
+        let d = a.session.profile in
+        let os = origins (waits d log) in
+        let has = leaves.leaves log few stands in
+        let many : length os ≤ length a.outbox.units = omega (arith, ap length stands.has.outbox.units, length-map (waits d log) unit_of, length-map (waits d log) (λ (x : Laid). x.origin)) in
+        let all : first (length a.outbox.units) os ≡ os = take-whole (length a.outbox.units) os many in
+        let channels = ap (λ (z : SlaveState S T). z.channels) rest in
+        let session = ap (λ (z : SlaveState S T). z.session) rest in
+        record {
+          has = record {
+            few = omega (arith, few);
+            is_log = has.is_log;
+            profile = ap (λ (z : SessionState). z.profile) session ∙ has.profile;
+            session = subst (λ z. SessionStandsAfter z (past_of d log)) (sym session) has.session;
+            outbox = discards (sent_units d log) (waits d log) has.outbox;
+            channels = λ c ch at.
+                channel-same take (opened log) (left_deeds d log (length a.outbox.units) c) (λ m. deeds_of d m c (Discarded ∷ log)) (λ m. ap (λ ys. unsent_by m c ys ++ deeds_of d m c log) all) ch
+                (has.channels c ch (ap (λ zs. slice_get zs c) (sym channels) ∙ at));
+            out = λ c ch at. has.out c ch (ap (λ zs. slice_get zs c) (sym channels) ∙ at);
+            as_logged = λ c ch at. has.as_logged c ch (ap (λ zs. slice_get zs c) (sym channels) ∙ at);
+            many = ap length channels ∙ has.many;
+            plan = ap (λ (z : SlaveState S T). z.plan) rest ∙ has.plan;
+            number = ap (λ (z : SlaveState S T). z.number) rest ∙ has.number;
+            account = subst (λ z. AccountStandsAfter z (entries_of d log) (late_of d (Discarded ∷ log))) (sym (ap (λ (z : SlaveState S T). z.account) rest))
+                (same-unsent s.account (entries_of d log) (left_late d log (length a.outbox.units)) (late_of d (Discarded ∷ log)) (λ l below. ap (λ ys. late_of d log l + count_by (is_late log l) ys) all) has.account);
+          };
+          ended = λ none c ch at. leaves.ended log few stands none c ch (ap (λ zs. slice_get zs c) (sym channels) ∙ at);
+        },
+  )
 
   -- the master was lost, and then what waited was thrown away
   pub hung-up-and-thrown : (a m b : SlaveState S T) → GoesBy take a m (losing a.session.connected) → m.outbox ≡ a.outbox → m.session.profile ≡ a.session.profile → GoesBy take m b (discarding (has_waiting m.outbox))
       → GoesBy take a b (discarding (has_waiting a.outbox) ++ losing a.session.connected)
-  hung-up-and-thrown a m b loses outbox profile throws = (throws.0 ∙ loses.0, λ log stands.
-      let d = a.session.profile in
-      let lost = losing a.session.connected in
-      let between = subst (λ p. SlaveStandsAfter take p m (lost ++ log)) (sym profile) (loses.1 log stands) in
-      let behind = subst (λ p. SlaveStandsAfter take p b (discarding (has_waiting m.outbox) ++ (lost ++ log))) profile (throws.1 (lost ++ log) between) in
-      subst (λ xs. SlaveStandsAfter take d b xs) (sym (append_assoc (discarding (has_waiting a.outbox)) lost log))
-      (subst (λ o. SlaveStandsAfter take d b (discarding (has_waiting o) ++ (lost ++ log))) outbox behind))
+  hung-up-and-thrown a m b loses outbox profile throws = (
+    throws.0 ∙ loses.0,
+    λ log stands.
+        let d = a.session.profile in
+        let lost = losing a.session.connected in
+        let between = subst (λ p. SlaveStandsAfter take p m (lost ++ log)) (sym profile) (loses.1 log stands) in
+        let behind = subst (λ p. SlaveStandsAfter take p b (discarding (has_waiting m.outbox) ++ (lost ++ log))) profile (throws.1 (lost ++ log) between) in
+        subst (λ xs. SlaveStandsAfter take d b xs) (sym (append_assoc (discarding (has_waiting a.outbox)) lost log))
+        (subst (λ o. SlaveStandsAfter take d b (discarding (has_waiting o) ++ (lost ++ log))) outbox behind),
+  )

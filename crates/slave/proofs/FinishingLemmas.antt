@@ -167,29 +167,32 @@ module _ {S T F : Type 0} (take : TakeGhosts T F) where
       × ChannelHas take (opened log) (λ q. deeds_of a.session.profile q c log) y × IsOut (λ q. is_out q c (CameBack m c past ∷ log)) y
       × IsAsLogged a.session.profile (logged a.session.profile (CameBack m c past ∷ log)) c y)
       → PartsGoBy take a b (CameBack m c past ∷ [])
-  came-back a b c m x y past changes line outbox known = (lines-at take a b c x y changes line, λ log few stands.
-      let d = a.session.profile in
-      let has = stands.has in
-      let (account, comes, here, out, opens) = known log stands in
-      record {
-        has = record {
-          few = omega (arith, few);
-          is_log = (comes, has.is_log);
-          profile = ap (λ (z : SessionState). z.profile) changes.session;
-          session = subst (λ z. SessionStandsAfter z (past_of d log)) (sym changes.session) has.session;
-          outbox =
-              subst (λ o. OutboxStandsAfter o (sent_units d log) (waits d log)) (sym outbox) has.outbox;
-          channels = channels-changed take (opened log) (λ k q. deeds_of d q k log) (λ k q. deeds_of d q k log) a b c x y changes (λ k q other. refl) here has.channels;
-          out = out-changed take (λ k q. is_out q k log) (λ k q. is_out q k (CameBack m c past ∷ log)) a b c x y changes
-              (λ k q other. ap (λ e. has_part q k log && not e) (elsewhere m q c k (is_back q k log) (λ e. other (sym e)))) out has.out;
-          as_logged = opened-changed take d (logged d log) (logged d (CameBack m c past ∷ log)) a b c x y changes (λ k ch other is. elsewhere-logged d m c k past log ch other is) opens has.as_logged;
-          many = changes.as_many ∙ has.many;
-          plan = changes.plan ∙ has.plan;
-          account = account;
-          number = changes.number ∙ has.number;
-        };
-        ended = ended-changed take a b c x y (past_of d log) changes stands.ended;
-      })
+  came-back a b c m x y past changes line outbox known = (
+    lines-at take a b c x y changes line,
+    λ log few stands.
+        let d = a.session.profile in
+        let has = stands.has in
+        let (account, comes, here, out, opens) = known log stands in
+        record {
+          has = record {
+            few = omega (arith, few);
+            is_log = (comes, has.is_log);
+            profile = ap (λ (z : SessionState). z.profile) changes.session;
+            session = subst (λ z. SessionStandsAfter z (past_of d log)) (sym changes.session) has.session;
+            outbox =
+                subst (λ o. OutboxStandsAfter o (sent_units d log) (waits d log)) (sym outbox) has.outbox;
+            channels = channels-changed take (opened log) (λ k q. deeds_of d q k log) (λ k q. deeds_of d q k log) a b c x y changes (λ k q other. refl) here has.channels;
+            out = out-changed take (λ k q. is_out q k log) (λ k q. is_out q k (CameBack m c past ∷ log)) a b c x y changes
+                (λ k q other. ap (λ e. has_part q k log && not e) (elsewhere m q c k (is_back q k log) (λ e. other (sym e)))) out has.out;
+            as_logged = opened-changed take d (logged d log) (logged d (CameBack m c past ∷ log)) a b c x y changes (λ k ch other is. elsewhere-logged d m c k past log ch other is) opens has.as_logged;
+            many = changes.as_many ∙ has.many;
+            plan = changes.plan ∙ has.plan;
+            account = account;
+            number = changes.number ∙ has.number;
+          };
+          ended = ended-changed take a b c x y (past_of d log) changes stands.ended;
+        },
+  )
 
 module _ {E T F : Type 0} {ring : EndGhosts E} (take : TakeGhosts T F) where
   -- the opening of what came back, by the log

@@ -1,5 +1,5 @@
 -- What the tasks gave back is taken back, all of it, where no list runs.
-use Rattle.std.proofs.Common.{◌≡◌, ◌≢◌, ◌⊎◌, ℕ, zero, suc, ◌+◌, ◌*◌, ◌<◌, ◌≤◌, Bool, true, false, true≢false, List, [], ◌∷◌, ◌++◌, length, map, get_or, refl, sym, ap, ◌∙◌, subst, inl, inr, append_assoc, append-nil, length-append, arith}
+use Rattle.std.proofs.Common.{◌≡◌, ◌≢◌, ◌⊎◌, ℕ, zero, suc, ◌+◌, ◌<◌, ◌≤◌, Bool, true, false, true≢false, List, [], ◌∷◌, ◌++◌, length, map, get_or, refl, sym, ap, ◌∙◌, subst, inl, inr, append_assoc, append-nil, length-append, arith}
 use Rattle.std.specs.Prelude.{slice_get, Option, Some, None}
 use Rattle.std.specs.Option.{is_some}
 use Rattle.std.proofs.lemmas.Bool.{false≢true}
@@ -10,7 +10,6 @@ use Rattle.channel_ring.specs.declared.ends.SendEnd.{Ghosts as SendGhosts}
 use Rattle.channel_ring.specs.declared.ends.RingEnd.{Ghosts as EndGhosts}
 use Rattle.channel_ring.specs.declared.ends.TakeEnd.{Ghosts as TakeGhosts}
 use Rattle.list_set.specs.Counts.{one_if}
-use Rattle.session.specs.Standing.{SessionState}
 use Rattle.tasks.specs.Links.{AwayState, LinkState, LooksAtNewest, NoneIsBack, NothingCame, is_out, is_running, takes_orders}
 use Rattle.tasks.specs.Tasks.{TaskEndState}
 use Rattle.tasks.specs.Ways.{LeftState}
@@ -23,7 +22,7 @@ use Rattle.slave.specs.Inner.{Busy, Collects, Gathers, GathersFirst, Grows, Rest
 use Rattle.slave.specs.Returns.{ends_in}
 use Rattle.channel_intake.specs.Deeds.{Deed}
 use Rattle.slave.specs.Standing.{ChannelHas, SlaveState, number_of}
-use Rattle.slave.proofs.OutLemmas.{KeepsParts, opened_of, some-at, was-there}
+use Rattle.slave.proofs.OutLemmas.{opened_of, some-at, was-there}
 use Rattle.slave.proofs.TakingLemmas.{ChangesAt, took-none}
 
 is-bool : (b : Bool) → (b ≡ true) ⊎ (b ≡ false)

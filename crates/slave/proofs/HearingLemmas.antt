@@ -109,18 +109,21 @@ module _ {S T F : Type 0} (take : TakeGhosts T F) where
             ];
         places = λ log stands run code is other. absurd (not-refused answers.exchange packet code is);
         when_idle = λ log stands none code is. absurd (not-refused answers.exchange packet code is);
-        goes = goes-counted a b (Heard answers.exchange) prepares.opening fits counts prepares.may_open.few (answers.lines ∙ prepares.lines, λ log few stands.
-            let before = prepares.opening ++ log in
-            let has = prepares.goes log (omega (arith, few)) stands in
-            subst (λ p. PartsStandAfter take p b (Heard answers.exchange ∷ before)) profile
-            (answers.goes before lists (omega (arith, few, length-append prepares.opening log))
-            (λ l below.
-            are (past_of d before) (subst (λ s. SessionStandsAfter s (past_of d before)) same has.session) l below
-            ∙ ap (λ p. starts p (past_of p before) packet l) (sym profile))
-            (subst (λ p. StartsWell p before packet) (sym profile)
-            (starts-well d before packet lists (λ l below. are (past_of d before) (subst (λ s. SessionStandsAfter s (past_of d before)) same has.session) l below)
-            (prepares.in_one log (omega (arith, few)) stands) (prepares.as_opened log (omega (arith, few)) stands) (prepares.has_parts log (omega (arith, few)) stands)))
-            (subst (λ p. SlaveStarted take p k before lists) (sym profile) has)));
+        goes = goes-counted a b (Heard answers.exchange) prepares.opening fits counts prepares.may_open.few (
+          answers.lines ∙ prepares.lines,
+          λ log few stands.
+              let before = prepares.opening ++ log in
+              let has = prepares.goes log (omega (arith, few)) stands in
+              subst (λ p. PartsStandAfter take p b (Heard answers.exchange ∷ before)) profile
+              (answers.goes before lists (omega (arith, few, length-append prepares.opening log))
+              (λ l below.
+              are (past_of d before) (subst (λ s. SessionStandsAfter s (past_of d before)) same has.session) l below
+              ∙ ap (λ p. starts p (past_of p before) packet l) (sym profile))
+              (subst (λ p. StartsWell p before packet) (sym profile)
+              (starts-well d before packet lists (λ l below. are (past_of d before) (subst (λ s. SessionStandsAfter s (past_of d before)) same has.session) l below)
+              (prepares.in_one log (omega (arith, few)) stands) (prepares.as_opened log (omega (arith, few)) stands) (prepares.has_parts log (omega (arith, few)) stands)))
+              (subst (λ p. SlaveStarted take p k before lists) (sym profile) has)),
+        );
       }
 
   -- a start was refused
@@ -145,35 +148,38 @@ module _ {S T F : Type 0} (take : TakeGhosts T F) where
         when_idle = λ log stands none named is.
             idle-refused a.session.profile (past_of d log) a.number k (counting b PER_PACKET) named vain.opening channels
             (subst (λ z. IsIdleRefusal d (past_of d log) a.number k z vain.opening) (code-of packet code named is) (vain.when_idle (past_of d log) stands.parts.has.session none));
-        goes = goes-counted a b (Refused packet code) vain.opening fits (ap (λ (s : SlaveState S T). s.acts) rest ∙ counts) vain.may_open.few (ap rings_of channels ∙ vain.goes.0, λ log few stands.
-            let before = vain.opening ++ log in
-            let was = vain.goes.1 log (omega (arith, few)) stands in
-            let has = was.has in
-            let tie : (l : ℕ) → l < MAX_LISTS → has_list lists l ≡ starts d (past_of d before) packet l =
-            λ l below. are (past_of d before) (subst (λ s. SessionStandsAfter s (past_of d before)) same has.session) l below in
-            let reply = Some (packet_of (Err code)) in
-            record {
-              has = record {
-                few = omega (arith, few, length-append vain.opening log);
-                is_log = (
-                  (vain.some.0, vain.some.1, sym (tie vain.some.0 vain.some.1) ∙ vain.some.2),
-                  (
-                    λ is. other-starts d before packet lists tie ((vain.sequence log (omega (arith, few)) stands).0 is),
-                    λ other. (vain.sequence log (omega (arith, few)) stands).1 (starts-other d before packet lists tie other),
-                  ),
-                  has.is_log,
-                );
-                profile = ap (λ (s : SessionState). s.profile) (session ∙ same);
-                session = subst (λ s. SessionStandsAfter s (past_of d before)) (sym session) has.session;
-                outbox = reply-laid k.outbox b.outbox reply (sent_units d before) (waits d before) lays has.outbox;
-                channels = λ c ch at. has.channels c ch (ap (λ xs. slice_get xs c) (sym channels) ∙ at);
-                out = λ c ch at. has.out c ch (ap (λ xs. slice_get xs c) (sym channels) ∙ at);
-                as_logged = λ c ch at. has.as_logged c ch (ap (λ xs. slice_get xs c) (sym channels) ∙ at);
-                many = ap length channels ∙ has.many;
-                plan = ap (λ (s : SlaveState S T). s.plan) rest ∙ has.plan;
-                account = subst (λ x. AccountStandsAfter x (entries_of d before) (late_of d before)) (sym (ap (λ (s : SlaveState S T). s.account) rest)) has.account;
-                number = ap (λ (s : SlaveState S T). s.number) rest ∙ has.number;
-              };
-              ended = λ none c ch at. was.ended none c ch (ap (λ xs. slice_get xs c) (sym channels) ∙ at);
-            });
+        goes = goes-counted a b (Refused packet code) vain.opening fits (ap (λ (s : SlaveState S T). s.acts) rest ∙ counts) vain.may_open.few (
+          ap rings_of channels ∙ vain.goes.0,
+          λ log few stands.
+              let before = vain.opening ++ log in
+              let was = vain.goes.1 log (omega (arith, few)) stands in
+              let has = was.has in
+              let tie : (l : ℕ) → l < MAX_LISTS → has_list lists l ≡ starts d (past_of d before) packet l =
+              λ l below. are (past_of d before) (subst (λ s. SessionStandsAfter s (past_of d before)) same has.session) l below in
+              let reply = Some (packet_of (Err code)) in
+              record {
+                has = record {
+                  few = omega (arith, few, length-append vain.opening log);
+                  is_log = (
+                    (vain.some.0, vain.some.1, sym (tie vain.some.0 vain.some.1) ∙ vain.some.2),
+                    (
+                      λ is. other-starts d before packet lists tie ((vain.sequence log (omega (arith, few)) stands).0 is),
+                      λ other. (vain.sequence log (omega (arith, few)) stands).1 (starts-other d before packet lists tie other),
+                    ),
+                    has.is_log,
+                  );
+                  profile = ap (λ (s : SessionState). s.profile) (session ∙ same);
+                  session = subst (λ s. SessionStandsAfter s (past_of d before)) (sym session) has.session;
+                  outbox = reply-laid k.outbox b.outbox reply (sent_units d before) (waits d before) lays has.outbox;
+                  channels = λ c ch at. has.channels c ch (ap (λ xs. slice_get xs c) (sym channels) ∙ at);
+                  out = λ c ch at. has.out c ch (ap (λ xs. slice_get xs c) (sym channels) ∙ at);
+                  as_logged = λ c ch at. has.as_logged c ch (ap (λ xs. slice_get xs c) (sym channels) ∙ at);
+                  many = ap length channels ∙ has.many;
+                  plan = ap (λ (s : SlaveState S T). s.plan) rest ∙ has.plan;
+                  account = subst (λ x. AccountStandsAfter x (entries_of d before) (late_of d before)) (sym (ap (λ (s : SlaveState S T). s.account) rest)) has.account;
+                  number = ap (λ (s : SlaveState S T). s.number) rest ∙ has.number;
+                };
+                ended = λ none c ch at. was.ended none c ch (ap (λ xs. slice_get xs c) (sym channels) ∙ at);
+              },
+        );
       }

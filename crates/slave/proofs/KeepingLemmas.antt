@@ -1,11 +1,10 @@
 -- Each event channel stays on its line with its task.
-use Rattle.std.proofs.Common.{◌≡◌, ◌≢◌, ℕ, zero, suc, List, [], ◌∷◌, length, refl, sym, ap, ◌∙◌, arith, inl, inr}
-use Rattle.std.specs.Prelude.{slice_get, Option, Some, None}
+use Rattle.std.proofs.Common.{◌≡◌, ◌≢◌, ℕ, suc, List, [], ◌∷◌, length, refl, sym, ap, ◌∙◌, arith, inl, inr}
+use Rattle.std.specs.Prelude.{slice_get, Option, Some}
 use Rattle.std.proofs.lemmas.Bool.Decides.{eqb_tells}
-use Rattle.channel_ring.specs.Ends.{RingName}
 use Rattle.slave_channel.specs.Channels.{ChannelState}
 use Rattle.slave_channels.specs.Calls.{rings_of}
-use Rattle.slave_channels.specs.Each.{IsEach, IsOnlyAt}
+use Rattle.slave_channels.specs.Each.{IsEach}
 
 some_same : {X : Type 0} (x y : X) → ◌≡◌ {A = Option X} (Some x) (Some y) → x ≡ y
 some_same x y e = cc

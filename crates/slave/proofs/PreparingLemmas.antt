@@ -196,10 +196,13 @@ module _ {S T F : Type 0} (take : TakeGhosts T F) where
       λ e. absurd (place-code code (inl is.0) e),
       λ other. absurd (other.other (as-opened a.session.profile a.session a.plan log other.list profile stands.has.session stands.has.plan (same other.list other.below other.one))),
     );
-    goes = (lines-looked take a b looks, λ log few stands. record {
-      has = looks-at-all take a.session.profile a b log looks stands.has;
-      ended = looks-ended take (past_of a.session.profile log) a b looks stands.ended;
-    });
+    goes = (
+      lines-looked take a b looks,
+      λ log few stands. record {
+        has = looks-at-all take a.session.profile a b log looks stands.has;
+        ended = looks-ended take (past_of a.session.profile log) a b looks stands.ended;
+      },
+    );
   }
 
   -- or since one of them does not stand as it did

@@ -53,33 +53,36 @@ module _ {S T F : Type 0} (take : TakeGhosts T F) where
   sent-stands : (a b : SlaveState S T) (shown n : ℕ) → n ≡ min shown (length a.outbox.units) → b ≡ record a { outbox = b.outbox }
       → ((sent waits : List Laid) → OutboxStandsAfter a.outbox sent waits → OutboxStandsAfter b.outbox (sent ++ first shown waits) (drop shown waits))
       → PartsGoBy take a b (Sent n ∷ [])
-  sent-stands a b shown n many rest moves = (ap (λ (s : SlaveState S T). rings_of s.channels) rest, λ log few stands.
-      let d = a.session.profile in
-      let has = stands.has in
-      let wait = waits d log in
-      let units : length a.outbox.units ≡ length wait = ap length has.outbox.units ∙ length-map wait unit_of in
-      let n_is : n ≡ min shown (length wait) = many ∙ ap (min shown) units in
-      let moved = moves (sent_units d log) wait has.outbox in
-      let session = ap (λ (s : SlaveState S T). s.session) rest in
-      let channels = ap (λ (s : SlaveState S T). s.channels) rest in
-      record {
-        has = record {
-          few = omega (arith, few);
-          is_log = (omega (arith, n_is), has.is_log);
-          profile = ap (λ (s : SessionState). s.profile) session;
-          session = subst (λ s. SessionStandsAfter s (past_of d log)) (sym session) has.session;
-          outbox = subst (λ ys. OutboxStandsAfter b.outbox (sent_units d log ++ ys) (drop n wait)) (take-min shown n wait n_is)
-              (subst (λ ys. OutboxStandsAfter b.outbox (sent_units d log ++ first shown wait) ys) (drop-min shown n wait n_is) moved);
-          channels = λ c ch at. has.channels c ch (ap (λ zs. slice_get zs c) (sym channels) ∙ at);
-          out = λ c ch at. has.out c ch (ap (λ zs. slice_get zs c) (sym channels) ∙ at);
-          as_logged = λ c ch at. has.as_logged c ch (ap (λ zs. slice_get zs c) (sym channels) ∙ at);
-          many = ap length channels ∙ has.many;
-          plan = ap (λ (s : SlaveState S T). s.plan) rest ∙ has.plan;
-          account = subst (λ x. AccountStandsAfter x (entries_of d log) (late_of d log)) (sym (ap (λ (s : SlaveState S T). s.account) rest)) has.account;
-          number = ap (λ (s : SlaveState S T). s.number) rest ∙ has.number;
-        };
-        ended = λ none c ch at. stands.ended none c ch (ap (λ zs. slice_get zs c) (sym channels) ∙ at);
-      })
+  sent-stands a b shown n many rest moves = (
+    ap (λ (s : SlaveState S T). rings_of s.channels) rest,
+    λ log few stands.
+        let d = a.session.profile in
+        let has = stands.has in
+        let wait = waits d log in
+        let units : length a.outbox.units ≡ length wait = ap length has.outbox.units ∙ length-map wait unit_of in
+        let n_is : n ≡ min shown (length wait) = many ∙ ap (min shown) units in
+        let moved = moves (sent_units d log) wait has.outbox in
+        let session = ap (λ (s : SlaveState S T). s.session) rest in
+        let channels = ap (λ (s : SlaveState S T). s.channels) rest in
+        record {
+          has = record {
+            few = omega (arith, few);
+            is_log = (omega (arith, n_is), has.is_log);
+            profile = ap (λ (s : SessionState). s.profile) session;
+            session = subst (λ s. SessionStandsAfter s (past_of d log)) (sym session) has.session;
+            outbox = subst (λ ys. OutboxStandsAfter b.outbox (sent_units d log ++ ys) (drop n wait)) (take-min shown n wait n_is)
+                (subst (λ ys. OutboxStandsAfter b.outbox (sent_units d log ++ first shown wait) ys) (drop-min shown n wait n_is) moved);
+            channels = λ c ch at. has.channels c ch (ap (λ zs. slice_get zs c) (sym channels) ∙ at);
+            out = λ c ch at. has.out c ch (ap (λ zs. slice_get zs c) (sym channels) ∙ at);
+            as_logged = λ c ch at. has.as_logged c ch (ap (λ zs. slice_get zs c) (sym channels) ∙ at);
+            many = ap length channels ∙ has.many;
+            plan = ap (λ (s : SlaveState S T). s.plan) rest ∙ has.plan;
+            account = subst (λ x. AccountStandsAfter x (entries_of d log) (late_of d log)) (sym (ap (λ (s : SlaveState S T). s.account) rest)) has.account;
+            number = ap (λ (s : SlaveState S T). s.number) rest ∙ has.number;
+          };
+          ended = λ none c ch at. stands.ended none c ch (ap (λ zs. slice_get zs c) (sym channels) ∙ at);
+        },
+  )
 
   -- where the outbox alone changed, and it stands after the same
   outbox-alone : (a b : SlaveState S T) (log : List Act) → b ≡ record a { outbox = b.outbox }
@@ -110,27 +113,33 @@ module _ {S T F : Type 0} (take : TakeGhosts T F) where
 
   -- what is shown changes nothing of this
   shown-stands : (a b : SlaveState S T) → b ≡ record a { outbox = b.outbox } → b.outbox ≡ record a.outbox { shown = b.outbox.shown } → PartsGoBy take a b []
-  shown-stands a b rest same = (ap (λ (s : SlaveState S T). rings_of s.channels) rest, λ log few stands.
-      let d = a.session.profile in
-      let box = stands.has.outbox in
-      outbox-alone a b log rest
-      (subst (λ o. OutboxStandsAfter o (sent_units d log) (waits d log)) (sym same)
-      (record { gone = box.gone; counter = box.counter; waiting = box.waiting; units = box.units })) stands)
+  shown-stands a b rest same = (
+    ap (λ (s : SlaveState S T). rings_of s.channels) rest,
+    λ log few stands.
+        let d = a.session.profile in
+        let box = stands.has.outbox in
+        outbox-alone a b log rest
+        (subst (λ o. OutboxStandsAfter o (sent_units d log) (waits d log)) (sym same)
+        (record { gone = box.gone; counter = box.counter; waiting = box.waiting; units = box.units })) stands,
+  )
 
   -- nothing was sent
   sent-nothing : (a b : SlaveState S T) (shown n : ℕ) → n ≡ min shown (length a.outbox.units) → b ≡ record a { outbox = b.outbox }
       → ((sent waits : List Laid) → OutboxStandsAfter a.outbox sent waits → OutboxStandsAfter b.outbox (sent ++ first shown waits) (drop shown waits))
       → n ≡ 0 → PartsGoBy take a b []
-  sent-nothing a b shown n many rest moves none = (ap (λ (s : SlaveState S T). rings_of s.channels) rest, λ log few stands.
-      let d = a.session.profile in
-      let box = stands.has.outbox in
-      let wait = waits d log in
-      let sent = sent_units d log in
-      let units : length a.outbox.units ≡ length wait = ap length box.units ∙ length-map wait unit_of in
-      let n_is : 0 ≡ min shown (length wait) = sym none ∙ many ∙ ap (min shown) units in
-      outbox-alone a b log rest
-      (subst (λ ys. OutboxStandsAfter b.outbox ys wait) (ap (λ ys. sent ++ ys) (take-min shown 0 wait n_is) ∙ append-nil sent)
-      (subst (λ ys. OutboxStandsAfter b.outbox (sent ++ first shown wait) ys) (drop-min shown 0 wait n_is) (moves sent wait box))) stands)
+  sent-nothing a b shown n many rest moves none = (
+    ap (λ (s : SlaveState S T). rings_of s.channels) rest,
+    λ log few stands.
+        let d = a.session.profile in
+        let box = stands.has.outbox in
+        let wait = waits d log in
+        let sent = sent_units d log in
+        let units : length a.outbox.units ≡ length wait = ap length box.units ∙ length-map wait unit_of in
+        let n_is : 0 ≡ min shown (length wait) = sym none ∙ many ∙ ap (min shown) units in
+        outbox-alone a b log rest
+        (subst (λ ys. OutboxStandsAfter b.outbox ys wait) (ap (λ ys. sent ++ ys) (take-min shown 0 wait n_is) ∙ append-nil sent)
+        (subst (λ ys. OutboxStandsAfter b.outbox (sent ++ first shown wait) ys) (drop-min shown 0 wait n_is) (moves sent wait box))) stands,
+  )
 
   -- so many of what waited, if these are any
   sends : (a b : SlaveState S T) (shown n : ℕ) → n ≡ min shown (length a.outbox.units) → b ≡ record a { outbox = b.outbox } → a.acts < MOST_ACTS + PER_PACKET

@@ -32,7 +32,6 @@ use Rattle.slave.specs.Standing.{Logged, logged, ChannelHas, HasEnded, IsOut, Pa
 use Rattle.slave.proofs.KeepingLemmas.{lines-but}
 use Rattle.slave.proofs.OutLemmas.{KeepsParts, keeps-same, out-kept, out-same, some-at, opened-kept, opened_of}
 use Rattle.session.specs.declared.profile.Profile.{Profile}
-use Rattle.slave.specs.Openings.{past_at}
 use Rattle.slave.specs.Taking.{TakesItems, is_take}
 use Rattle.slave.proofs.WaitsLemmas.{waits-took}
 use Rattle.slave.proofs.ChannelLemmas.{channel-same}
@@ -250,72 +249,78 @@ module _ {S T F : Type 0} (take : TakeGhosts T F) where
   -- an item of a part was taken
   pub took-item : (a b : SlaveState S T) (c : ℕ) (x y : ChannelState S T) (m : ℕ) (i j : IntakeState T) (item : Item) → ChangesAt a b c x y → b.account ≡ a.account → IsPart x y m i j
       → Takes take i j item → ((deeds : List Deed) → StandsAfter take i deeds → HasPacketsIfPasses deeds item) → LaysBehind a b (Took m c item) c i → PartsGoBy take a b (Took m c item ∷ [])
-  took-item a b c x y m i j item changes account part takes packets lays = (lines-at a b c x y changes part.keeps.ring, λ log few stands.
-      let d = a.session.profile in
-      let n = opened log in
-      let ds = deeds_of d m c log in
-      let has = stands.has in
-      let (there, before) = part.part n (λ k. deeds_of d k c log) (has.channels c x changes.was) in
-      let after = takes.goes_on ds (omega (arith, deeds-few d m c log, few)) before in
-      let here : ChannelHas take n (λ k. deeds_of d k c (Took m c item ∷ log)) y =
-      part.goes n (λ k. deeds_of d k c log) (λ k. deeds_of d k c (Took m c item ∷ log))
-      (subst (StandsAfter take j) (sym (took-here m c (TookItem item) ds)) after)
-      (λ k other. took-else m k c c (TookItem item) (deeds_of d k c log) (λ e z. other (sym e)))
-      (λ k l. took-runs (nat_eq m k && nat_eq c c) l (deeds_of d k c log) item) (has.channels c x changes.was) in
-      record {
-        has = record {
-          few = omega (arith, few);
-          is_log = (
-            there,
-            record {
-              within = subst (λ n. c < n) has.many (slice_get_within a.channels c x changes.was);
-              out = part.out (λ k. is_out k c log) (has.out c x changes.was);
-              packets = packets ds before;
-            },
-            has.is_log,
-          );
-          profile = ap (λ (z : SessionState). z.profile) changes.session;
-          session = subst (λ z. SessionStandsAfter z (past_of d log)) (sym changes.session) has.session;
-          outbox = subst (λ xs. OutboxStandsAfter b.outbox (sent_units d log) xs) (sym (waits-took d m c item log))
-              (lays log (λ k z e. subst (λ q. StandsAfter take i (deeds_of d q c log)) (number_of e) before) has.outbox);
-          channels = channels-changed n (λ k q. deeds_of d q k log) (λ k q. deeds_of d q k (Took m c item ∷ log)) a b c x y changes
-              (λ k q other. took-else m q c k (TookItem item) (deeds_of d q k log) (λ e z. other (sym z))) here has.channels;
-          out = out-changed (λ k q. is_out q k log) (λ k q. is_out q k log) a b c x y changes (λ k q other. refl) (out-kept (λ q. is_out q c log) x y part.keeps (has.out c x changes.was)) has.out;
-          as_logged = opened-changed d (logged d log) (logged d log) a b c x y changes (λ k ch other is. is) (opened-kept d (logged d log) c x y part.keeps (has.as_logged c x changes.was)) has.as_logged;
-          many = changes.as_many ∙ has.many;
-          plan = changes.plan ∙ has.plan;
-          account = subst (λ z. AccountStandsAfter z (entries_of d log) (late_of d log)) (sym account) has.account;
-          number = changes.number ∙ has.number;
-        };
-        ended = ended-changed a b c x y (past_of d log) changes stands.ended;
-      }) where
-        number_of : {k : ℕ} {z : Item} → Took m c item ≡ Took k c z → m ≡ k
-        number_of e = cc
+  took-item a b c x y m i j item changes account part takes packets lays = (
+    lines-at a b c x y changes part.keeps.ring,
+    λ log few stands.
+        let d = a.session.profile in
+        let n = opened log in
+        let ds = deeds_of d m c log in
+        let has = stands.has in
+        let (there, before) = part.part n (λ k. deeds_of d k c log) (has.channels c x changes.was) in
+        let after = takes.goes_on ds (omega (arith, deeds-few d m c log, few)) before in
+        let here : ChannelHas take n (λ k. deeds_of d k c (Took m c item ∷ log)) y =
+        part.goes n (λ k. deeds_of d k c log) (λ k. deeds_of d k c (Took m c item ∷ log))
+        (subst (StandsAfter take j) (sym (took-here m c (TookItem item) ds)) after)
+        (λ k other. took-else m k c c (TookItem item) (deeds_of d k c log) (λ e z. other (sym e)))
+        (λ k l. took-runs (nat_eq m k && nat_eq c c) l (deeds_of d k c log) item) (has.channels c x changes.was) in
+        record {
+          has = record {
+            few = omega (arith, few);
+            is_log = (
+              there,
+              record {
+                within = subst (λ n. c < n) has.many (slice_get_within a.channels c x changes.was);
+                out = part.out (λ k. is_out k c log) (has.out c x changes.was);
+                packets = packets ds before;
+              },
+              has.is_log,
+            );
+            profile = ap (λ (z : SessionState). z.profile) changes.session;
+            session = subst (λ z. SessionStandsAfter z (past_of d log)) (sym changes.session) has.session;
+            outbox = subst (λ xs. OutboxStandsAfter b.outbox (sent_units d log) xs) (sym (waits-took d m c item log))
+                (lays log (λ k z e. subst (λ q. StandsAfter take i (deeds_of d q c log)) (number_of e) before) has.outbox);
+            channels = channels-changed n (λ k q. deeds_of d q k log) (λ k q. deeds_of d q k (Took m c item ∷ log)) a b c x y changes
+                (λ k q other. took-else m q c k (TookItem item) (deeds_of d q k log) (λ e z. other (sym z))) here has.channels;
+            out = out-changed (λ k q. is_out q k log) (λ k q. is_out q k log) a b c x y changes (λ k q other. refl) (out-kept (λ q. is_out q c log) x y part.keeps (has.out c x changes.was)) has.out;
+            as_logged = opened-changed d (logged d log) (logged d log) a b c x y changes (λ k ch other is. is) (opened-kept d (logged d log) c x y part.keeps (has.as_logged c x changes.was)) has.as_logged;
+            many = changes.as_many ∙ has.many;
+            plan = changes.plan ∙ has.plan;
+            account = subst (λ z. AccountStandsAfter z (entries_of d log) (late_of d log)) (sym account) has.account;
+            number = changes.number ∙ has.number;
+          };
+          ended = ended-changed a b c x y (past_of d log) changes stands.ended;
+        },
+  ) where
+    number_of : {k : ℕ} {z : Item} → Took m c item ≡ Took k c z → m ≡ k
+    number_of e = cc
 
   -- nothing was taken
   pub took-none : (a b : SlaveState S T) (c : ℕ) (x y : ChannelState S T) (P : Type 0) → ChangesAt a b c x y → KeepsParts x y → b.outbox ≡ a.outbox → b.account ≡ a.account
       → ((log : List Act) → PartsStandAfter take a.session.profile a log → P) → ((n : ℕ) (f : ℕ → List Deed) → P → ChannelHas take n f x → ChannelHas take n f y) → PartsGoBy take a b []
-  took-none a b c x y P changes keeps outbox account known same = (lines-at a b c x y changes keeps.ring, λ log few stands.
-      let d = a.session.profile in
-      let has = stands.has in
-      record {
-        has = record {
-          few = has.few;
-          is_log = has.is_log;
-          profile = ap (λ (z : SessionState). z.profile) changes.session;
-          session = subst (λ z. SessionStandsAfter z (past_of d log)) (sym changes.session) has.session;
-          outbox = subst (λ o. OutboxStandsAfter o (sent_units d log) (waits d log)) (sym outbox) has.outbox;
-          channels = channels-changed (opened log) (λ k m. deeds_of d m k log) (λ k m. deeds_of d m k log) a b c x y changes (λ k m other. refl)
-              (same (opened log) (λ m. deeds_of d m c log) (known log stands) (has.channels c x changes.was)) has.channels;
-          out = out-changed (λ k q. is_out q k log) (λ k q. is_out q k log) a b c x y changes (λ k q other. refl) (out-kept (λ q. is_out q c log) x y keeps (has.out c x changes.was)) has.out;
-          as_logged = opened-changed d (logged d log) (logged d log) a b c x y changes (λ k ch other is. is) (opened-kept d (logged d log) c x y keeps (has.as_logged c x changes.was)) has.as_logged;
-          many = changes.as_many ∙ has.many;
-          plan = changes.plan ∙ has.plan;
-          account = subst (λ z. AccountStandsAfter z (entries_of d log) (late_of d log)) (sym account) has.account;
-          number = changes.number ∙ has.number;
-        };
-        ended = ended-changed a b c x y (past_of d log) changes stands.ended;
-      })
+  took-none a b c x y P changes keeps outbox account known same = (
+    lines-at a b c x y changes keeps.ring,
+    λ log few stands.
+        let d = a.session.profile in
+        let has = stands.has in
+        record {
+          has = record {
+            few = has.few;
+            is_log = has.is_log;
+            profile = ap (λ (z : SessionState). z.profile) changes.session;
+            session = subst (λ z. SessionStandsAfter z (past_of d log)) (sym changes.session) has.session;
+            outbox = subst (λ o. OutboxStandsAfter o (sent_units d log) (waits d log)) (sym outbox) has.outbox;
+            channels = channels-changed (opened log) (λ k m. deeds_of d m k log) (λ k m. deeds_of d m k log) a b c x y changes (λ k m other. refl)
+                (same (opened log) (λ m. deeds_of d m c log) (known log stands) (has.channels c x changes.was)) has.channels;
+            out = out-changed (λ k q. is_out q k log) (λ k q. is_out q k log) a b c x y changes (λ k q other. refl) (out-kept (λ q. is_out q c log) x y keeps (has.out c x changes.was)) has.out;
+            as_logged = opened-changed d (logged d log) (logged d log) a b c x y changes (λ k ch other is. is) (opened-kept d (logged d log) c x y keeps (has.as_logged c x changes.was)) has.as_logged;
+            many = changes.as_many ∙ has.many;
+            plan = changes.plan ∙ has.plan;
+            account = subst (λ z. AccountStandsAfter z (entries_of d log) (late_of d log)) (sym account) has.account;
+            number = changes.number ∙ has.number;
+          };
+          ended = ended-changed a b c x y (past_of d log) changes stands.ended;
+        },
+  )
 
   -- what waits stays as it is where nothing is laid out, and gains a sample where one passes
   lays-none : (a b : SlaveState S T) (act : Act) (c : ℕ) (i : IntakeState T) → b.outbox ≡ a.outbox
@@ -505,11 +510,14 @@ module _ {S T F : Type 0} (take : TakeGhosts T F) where
     spent = λ is.
         let first : m ≡ record a { next = m.next } = one.spent is in
         two.spent (ap is_spent first ∙ is) ∙ ap (λ (s : SlaveState S T). record s { next = b.next }) first;
-    goes = (two.goes.0 ∙ one.goes.0, λ log stands.
-        let profile = ap (λ (s : SessionState). s.profile) one.session in
-        subst (λ xs. SlaveStandsAfter take a.session.profile b xs) (sym (assoc two.acts one.acts log))
-        (subst (λ p. SlaveStandsAfter take p b (two.acts ++ (one.acts ++ log))) profile
-        (two.goes.1 (one.acts ++ log) (subst (λ p. SlaveStandsAfter take p m (one.acts ++ log)) (sym profile) (one.goes.1 log stands)))));
+    goes = (
+      two.goes.0 ∙ one.goes.0,
+      λ log stands.
+          let profile = ap (λ (s : SessionState). s.profile) one.session in
+          subst (λ xs. SlaveStandsAfter take a.session.profile b xs) (sym (assoc two.acts one.acts log))
+          (subst (λ p. SlaveStandsAfter take p b (two.acts ++ (one.acts ++ log))) profile
+          (two.goes.1 (one.acts ++ log) (subst (λ p. SlaveStandsAfter take p m (one.acts ++ log)) (sym profile) (one.goes.1 log stands)))),
+    );
   }
 
   -- no more than so many are no more than more

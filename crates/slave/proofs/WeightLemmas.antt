@@ -110,34 +110,46 @@ module _ {S T F : Type 0} (take : TakeGhosts T F) where
 
   -- nor where the next look begins
   pub goes-next : (a b : SlaveState S T) (acts : List Act) (k : ℕ) → GoesBy take a b acts → GoesBy take a (record b { next = k }) acts
-  goes-next a b acts k goes = (goes.0, λ log stands.
-      let now = goes.1 log stands in
-      record { parts = beside a.session.profile b b.acts k (acts ++ log) now.parts; counted = now.counted })
+  goes-next a b acts k goes = (
+    goes.0,
+    λ log stands.
+        let now = goes.1 log stands in
+        record { parts = beside a.session.profile b b.acts k (acts ++ log) now.parts; counted = now.counted },
+  )
 
   -- a slave goes on as its parts do, if it counts three for each act
   pub counted : (a b : SlaveState S T) (acts : List Act) → a.acts < MOST_ACTS + PER_PACKET → length acts ≤ 18 → a.acts + 3 * length acts ≤ b.acts → PartsGoBy take a b acts → GoesBy take a b acts
-  counted a b acts fits few more goes = (goes.0, λ log stands. record {
-    parts = goes.1 log (omega (arith, few, short a.session.profile a log fits stands)) stands.parts;
-    counted = omega (arith, more, stands.counted, weight-acts a.session.profile acts log);
-  })
+  counted a b acts fits few more goes = (
+    goes.0,
+    λ log stands. record {
+      parts = goes.1 log (omega (arith, few, short a.session.profile a log fits stands)) stands.parts;
+      counted = omega (arith, more, stands.counted, weight-acts a.session.profile acts log);
+    },
+  )
 
   -- and where it counts nothing: what waited was sent, or nothing was
   pub counted-sent : (a b : SlaveState S T) (n : ℕ) → a.acts < MOST_ACTS + PER_PACKET → b.acts ≡ a.acts → PartsGoBy take a b (Sent n ∷ []) → (n ≡ 0 → PartsGoBy take a b []) → GoesBy take a b (sending n)
   counted-sent a b zero fits same goes none = counted a b [] fits (omega arith) (omega (arith, same)) (none refl)
-  counted-sent a b (suc n) fits same goes none = (goes.0, λ log stands.
-      let d = a.session.profile in
-      let parts = goes.1 log (omega (arith, short d a log fits stands)) stands.parts in
-      record { parts = parts; counted = omega (arith, same, stands.counted, weight-sent d n log parts.has.is_log.0) })
+  counted-sent a b (suc n) fits same goes none = (
+    goes.0,
+    λ log stands.
+        let d = a.session.profile in
+        let parts = goes.1 log (omega (arith, short d a log fits stands)) stands.parts in
+        record { parts = parts; counted = omega (arith, same, stands.counted, weight-sent d n log parts.has.is_log.0) },
+  )
 
   -- or all that waited was thrown away
   counted-thrown : (a b : SlaveState S T) → a.acts < MOST_ACTS + PER_PACKET → b.acts ≡ a.acts → 0 < length a.outbox.units → PartsGoBy take a b (Discarded ∷ []) → GoesBy take a b (Discarded ∷ [])
-  counted-thrown a b fits same some goes = (goes.0, λ log stands.
-      let d = a.session.profile in
-      let many : length a.outbox.units ≡ length (waits d log) = ap length stands.parts.has.outbox.units ∙ length-map (waits d log) unit_of in
-      record {
-        parts = goes.1 log (omega (arith, short d a log fits stands)) stands.parts;
-        counted = omega (arith, same, stands.counted, weight-thrown d log (omega (arith, some, many)));
-      })
+  counted-thrown a b fits same some goes = (
+    goes.0,
+    λ log stands.
+        let d = a.session.profile in
+        let many : length a.outbox.units ≡ length (waits d log) = ap length stands.parts.has.outbox.units ∙ length-map (waits d log) unit_of in
+        record {
+          parts = goes.1 log (omega (arith, short d a log fits stands)) stands.parts;
+          counted = omega (arith, same, stands.counted, weight-thrown d log (omega (arith, some, many)));
+        },
+  )
 
   -- by whether something waited
   pub thrown : (a b : SlaveState S T) → a.acts < MOST_ACTS + PER_PACKET → b.acts ≡ a.acts → has_waiting a.outbox ≡ true → PartsGoBy take a b (Discarded ∷ []) → GoesBy take a b (discarding (has_waiting a.outbox))
@@ -152,12 +164,15 @@ module _ {S T F : Type 0} (take : TakeGhosts T F) where
 
   -- or a master that was connected hung up
   counted-hung : (a b : SlaveState S T) → a.acts < MOST_ACTS + PER_PACKET → b.acts ≡ a.acts → a.session.connected ≡ true → PartsGoBy take a b (HungUp ∷ []) → GoesBy take a b (HungUp ∷ [])
-  counted-hung a b fits same on goes = (goes.0, λ log stands.
-      let d = a.session.profile in
-      record {
-        parts = goes.1 log (omega (arith, short d a log fits stands)) stands.parts;
-        counted = omega (arith, same, stands.counted, weight-hung d log (sym stands.parts.has.session.connected ∙ on));
-      })
+  counted-hung a b fits same on goes = (
+    goes.0,
+    λ log stands.
+        let d = a.session.profile in
+        record {
+          parts = goes.1 log (omega (arith, short d a log fits stands)) stands.parts;
+          counted = omega (arith, same, stands.counted, weight-hung d log (sym stands.parts.has.session.connected ∙ on));
+        },
+  )
 
   -- by whether one was connected
   pub hung : (a b : SlaveState S T) → a.acts < MOST_ACTS + PER_PACKET → b.acts ≡ a.acts → a.session.connected ≡ true → PartsGoBy take a b (HungUp ∷ []) → GoesBy take a b (losing a.session.connected)

@@ -102,8 +102,8 @@ abbrev pub may_hear : {S T : Type 0} → SlaveState S T → Bool
 may_hear s = not (is_spent s) && has_room s.outbox
 
 module _ {S T F : Type 0} (take : TakeGhosts T F) where
-  -- whatever the one stands after, the other stands after that and these acts; and each event channel
-  -- is on its line with its task still
+  -- whatever the one stands after, the other stands after that and these acts; and each event
+  -- channel is on its line with its task still
   abbrev pub GoesBy : SlaveState S T → SlaveState S T → List Act → Type 0
   GoesBy a b acts =
       KeepsLines a b

@@ -10,8 +10,8 @@ use Rattle.sampler.specs.Tracks.{counts_of}
 use Rattle.tasks.specs.Ways.{LeftState, SeenEnd}
 use Rattle.slave.specs.Log.{Act, CameBack, Discarded, Heard, HungUp, Opened, Refused, Sent, Took}
 
--- this is left of a sampler that came to this past: what became of the samples of each list, and what
--- was sent
+-- this is left of a sampler that came to this past: what became of the samples of each list, and
+-- what was sent
 pub record IsEndOf (e : SeenEnd) (past : Past) : Type 0 where
   pub channel : e.channel ≡ past.opening.channel
   pub plans : e.plans ≡ past.opening.plans
@@ -34,8 +34,8 @@ abbrev pub ends_in : List LeftState → List SeenEnd
 ends_in [] = []
 ends_in (left ∷ lefts) = option_to_list left.end ++ ends_in lefts
 
--- these pasts came back, the newest first: each of them is that of the next of these ends, the oldest
--- first; or of a sampler that the task never fetched
+-- these pasts came back, the newest first: each of them is that of the next of these ends, the
+-- oldest first; or of a sampler that the task never fetched
 abbrev pub AreReturns : List Past → List SeenEnd → Type 0
 AreReturns [] ends = ends ≡ []
 AreReturns (past ∷ pasts) ends =

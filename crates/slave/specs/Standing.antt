@@ -153,8 +153,8 @@ IsLog d (Sent n ∷ log) = (n ≤ length (waits d log)) × IsLog d log
 IsLog d (HungUp ∷ log) = IsLog d log
 IsLog d (Discarded ∷ log) = IsLog d log
 
--- of a log: the session's past where each measurement was opened, and the pasts that came back of each
--- event channel, the newest first
+-- of a log: the session's past where each measurement was opened, and the pasts that came back of
+-- each event channel, the newest first
 pub record Logged : Type 0 where
   pub opened_at : ℕ → Past
   pub returns : ℕ → List SamplerPast
@@ -170,8 +170,8 @@ module _ {S T : Type 0} where
     pub kept :
         (m : ℕ) → out m ≡ true → (number_of ch.newer ≡ Some m) ⊎ (number_of ch.older ≡ Some m)
 
-  -- the parts that are kept of event channel c were opened as the log says, and what came back there
-  -- is what came over the line with the task
+  -- the parts that are kept of event channel c were opened as the log says, and what came back
+  -- there is what came over the line with the task
   pub record IsAsLogged (d : Profile) (l : Logged) (c : ℕ) (ch : ChannelState S T)
       : Type 0 where
     pub newer :

@@ -81,8 +81,10 @@ MayCloseHeld old new room = ⊥
 module _ (items : Items) (bytes : Bytes) where
   -- the slave that is held is given up
   abbrev pub ClosesHeld : Option Content → AccountRoom → AccountRoom → Type 0
-  ClosesHeld (Some (held.Slave s)) before after = ClosesSlave items.send items.ring items.give s before after
-  ClosesHeld (Some (held.ByteSlave s)) before after = ClosesSlave bytes.send bytes.ring bytes.give s before after
+  ClosesHeld (Some (held.Slave s)) before after =
+      ClosesSlave items.send items.ring items.give s before after
+  ClosesHeld (Some (held.ByteSlave s)) before after =
+      ClosesSlave bytes.send bytes.ring bytes.give s before after
   ClosesHeld old before after = ⊥
 
   -- what ng_slave_close does to a handle

@@ -14,9 +14,9 @@ mod task_calls;
 
 pub use byte_calls::{datagram_by, hang_up_by, receive_by};
 pub use closing::close_slave_by;
+pub use given_back::GivenBack;
 pub use lending::give_task;
 pub use opening::open_slave;
 pub use profile_in::{EventIn, ProfileIn};
 pub use sending_calls::{peek_by, sent_by};
-pub use given_back::GivenBack;
 pub use task_calls::{finish_task_by, status_of_finish, trigger_task_by};

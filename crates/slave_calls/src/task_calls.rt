@@ -70,8 +70,8 @@ fn holds_task(content: &Content) -> bool
     matches!(content, Content::Task(_) | Content::ByteTask(_))
 }
 
-/// Finishes the task of a handle, and gives what is left of it back to its slave: the way on which it
-/// was given; or `Empty`, if there is no task.
+/// Finishes the task of a handle, and gives what is left of it back to its slave: the way on which
+/// it was given; or `Empty`, if there is no task.
 pub fn finish_task_by(alloc: Global, handle: &mut Handle) -> Result<GivenBack, Status>
     ensures { FinishesHeldBy ⟦<SampleRing as HeldRing>⟧.rings ⟦<ByteRing as HeldRing>⟧.rings
         handle.old.held handle.new.held result }

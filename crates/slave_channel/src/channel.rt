@@ -259,7 +259,9 @@ impl<R: Ring> Channel<R> {
             self.old.link.older self.new.link.older }
         ensures link { self.new.link
             ≡ record self.old.link {
-              came = self.new.link.came; coming = self.new.link.coming; older = self.new.link.older;
+              came = self.new.link.came;
+              coming = self.new.link.coming;
+              older = self.new.link.older;
             } }
         ensures newer_stays { self.new.newer ≡ self.old.newer }
     {
@@ -277,7 +279,9 @@ impl<R: Ring> Channel<R> {
             self.old.link.newer self.new.link.newer }
         ensures link { self.new.link
             ≡ record self.old.link {
-              came = self.new.link.came; coming = self.new.link.coming; newer = self.new.link.newer;
+              came = self.new.link.came;
+              coming = self.new.link.coming;
+              newer = self.new.link.newer;
             } }
         ensures older_stays { self.new.older ≡ self.old.older }
     {

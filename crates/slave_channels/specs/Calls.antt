@@ -182,7 +182,8 @@ module _ {S E T F : Type 0} (send : SendGhosts S E) (ring : EndGhosts E)
     pub some : IsSome answer → (b.link.newer ≡ None) × (b.newer ≡ None)
     pub none :
         IsNone answer
-        → (b.newer ≡ a.newer) × NoneIsBack a.link b.link (is_out a.link.older) a.link.newer b.link.newer
+        → (b.newer ≡ a.newer)
+        × NoneIsBack a.link b.link (is_out a.link.older) a.link.newer b.link.newer
     pub link :
         b.link
         ≡ record a.link { came = b.link.came; coming = b.link.coming; newer = b.link.newer }

@@ -51,10 +51,7 @@ fn is_taken<S: SendEnd>(
 }
 
 /// Finishes tasks, which give back what is left of what they hold: what is left of each.
-fn finish_all<S: SendEnd>(
-    alloc: Global,
-    tasks: Vec<Task<S>>,
-) -> Result<Vec<TaskEnd<S>>, AllocError>
+fn finish_all<S: SendEnd>(alloc: Global, tasks: Vec<Task<S>>) -> Result<Vec<TaskEnd<S>>, AllocError>
     ensures lines { IfOk result (λ ends.
         map (λ (end : TaskEndState S). end.ring) ends.items ≡ lines_of tasks.items) }
 {

@@ -75,10 +75,13 @@ on-err (Err e) P p = p
 
 module _ {S T F : Type 0} (take : TakeGhosts T F) where
   goes-more : (a m b : SlaveState S T) (xs ys : List Act) → m.session.profile ≡ a.session.profile → GoesBy take a m xs → GoesBy take m b ys → GoesBy take a b (ys ++ xs)
-  goes-more a m b xs ys profile one two = (two.0 ∙ one.0, λ log stands.
-      subst (λ zs. SlaveStandsAfter take a.session.profile b zs) (sym (append_assoc ys xs log))
-      (subst (λ p. SlaveStandsAfter take p b (ys ++ (xs ++ log))) profile
-      (two.1 (xs ++ log) (subst (λ p. SlaveStandsAfter take p m (xs ++ log)) (sym profile) (one.1 log stands)))))
+  goes-more a m b xs ys profile one two = (
+    two.0 ∙ one.0,
+    λ log stands.
+        subst (λ zs. SlaveStandsAfter take a.session.profile b zs) (sym (append_assoc ys xs log))
+        (subst (λ p. SlaveStandsAfter take p b (ys ++ (xs ++ log))) profile
+        (two.1 (xs ++ log) (subst (λ p. SlaveStandsAfter take p m (xs ++ log)) (sym profile) (one.1 log stands)))),
+  )
 
   hears-none : (a : SlaveState S T) (clock : ℕ) → HearsAll take a a clock []
   hears-none a clock = record { acts = []; are = refl; goes = (refl, λ log stands. stands); counted = omega arith; next = refl; shown = refl; profile = refl }

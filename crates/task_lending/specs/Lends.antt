@@ -1,5 +1,6 @@
 -- How tasks are handed out, and come back.
-use Rattle.std.specs.Prelude.{◌≡◌, ℕ, ◌≤◌, Bool, List, [], length, map, set, slice_get, false, true, Some, None}
+use Rattle.std.specs.Prelude.{◌≡◌, ℕ, ◌≤◌, Bool, List, [], length, map, set, slice_get}
+use Rattle.std.specs.Prelude.{false, true, Some, None}
 use Rattle.channel_ring.specs.declared.ends.TakeEnd.{Ghosts as TakeGhosts}
 use Rattle.frame_reader.specs.Reading.{ReaderStandsAfter}
 use Rattle.sampler.specs.declared.taken.Taken.{Taken}

@@ -7,8 +7,8 @@ use Rattle.channel_ring.specs.declared.ends.SendEnd.{Ghosts as SendGhosts}
 use Rattle.channel_ring.specs.declared.ends.RingEnd.{Ghosts as EndGhosts}
 use Rattle.tasks.specs.Tasks.{FinishesAs, TaskEndState, TaskState}
 
--- the name of the task's line with the slave; the task, if it wasn't handed out; and what is left of
--- it, if that came back
+-- the name of the task's line with the slave; the task, if it wasn't handed out; and what is left
+-- of it, if that came back
 pub record SlotState (S : Type 0) : Type 0 where
   pub ring : RingName
   pub here : Option (TaskState S)

@@ -26,8 +26,8 @@ fn ends_of<S: SendEnd>(slots: Vec<Slot<S>>, room: Vec<TaskEnd<S>>) -> Vec<TaskEn
 }
 
 impl<R: Ring> LendingSlave<R> {
-    /// Closes the slave, as `Slave::close`, with what is left of its tasks: none of them is away, and
-    /// those that weren't handed out are finished. It takes no memory.
+    /// Closes the slave, as `Slave::close`, with what is left of its tasks: none of them is away,
+    /// and those that weren't handed out are finished. It takes no memory.
     pub fn close(self) -> Closed
         requires none_away { NoneAway self }
         ensures { Closes R.Send.SendEnd R.Send.End.RingEnd R.Take.TakeEnd

@@ -11,8 +11,8 @@ use Rattle.sampler.specs.State.{SamplerEndState, SamplerState}
 use Rattle.hand_over.specs.Newest.{one_before}
 use mathlib.Core.List.{IsPrefix}
 use Rattle.hand_over.specs.Lines.{LenderState}
-use Rattle.tasks.specs.Inner.{Comes, ComesOf, IsFinishedOf, IsNextOver, IsTakenOf, Leaves, RecallsNewest, out_of}
-use Rattle.tasks.specs.Links.{AwayState, CameBack, CameNext, ComesNext, EndsNewest, EndsUnordered, IsBackBy, LinkState, LooksAtNewest, LooksAtOrders, NoneIsBack, NothingCame, SendsToNewest, is_out, just_out}
+use Rattle.tasks.specs.Inner.{Comes, ComesOf, IsFinishedOf, IsTakenOf, Leaves, RecallsNewest, out_of}
+use Rattle.tasks.specs.Links.{AwayState, CameBack, ComesNext, EndsNewest, EndsUnordered, IsBackBy, LinkState, LooksAtNewest, LooksAtOrders, NoneIsBack, NothingCame, SendsToNewest, is_out, just_out}
 use Rattle.tasks.specs.Tasks.{HeldState}
 use Rattle.tasks.specs.Ways.{HasCome, IsLeftOf, LeavesBy, LeftState, left_of, seen_of}
 use Rattle.tasks.specs.declared.lost.Lost.{Lost}
@@ -306,10 +306,13 @@ module _ {S E : Type 0} (send : SendGhosts S E) (ring : EndGhosts E) where
       → Comes send ring x y a left
   comes-of x y a u v left (inl w) c k d l = record {
     by_rule = finished-rule a left w.0;
-    way = inr (w.0, record {
-      came = d ∙ ap (λ z. map (left_of ring) z.came) w.1 ∙ sym c;
-      coming = l ∙ ap (λ z. map (left_of ring) z.coming) w.1 ∙ sym k;
-    });
+    way = inr (
+      w.0,
+      record {
+        came = d ∙ ap (λ z. map (left_of ring) z.came) w.1 ∙ sym c;
+        coming = l ∙ ap (λ z. map (left_of ring) z.coming) w.1 ∙ sym k;
+      },
+    );
   }
   comes-of x y a u v left (inr n) c k d l = record {
     by_rule = n.by_rule;
@@ -378,9 +381,12 @@ module _ {S E : Type 0} (send : SendGhosts S E) (ring : EndGhosts E) where
         → IfSome result
         (λ back. (a : AwayState S) × (o ≡ Some a) × IsBackBy send ring x z a back.0 back.1)
     taken-by o p None leaves it taken = tt
-    taken-by o p (Some back) leaves (a, is, comes) (b, now, taken) =
-        (a, is, back-of a b back comes
-        (subst (λ w. Leaves w (Some b)) is (subst (λ w. Leaves o w) now leaves)) taken)
+    taken-by o p (Some back) leaves (a, is, comes) (b, now, taken) = (
+      a,
+      is,
+      back-of a b back comes
+          (subst (λ w. Leaves w (Some b)) is (subst (λ w. Leaves o w) now leaves)) taken,
+    )
 
     -- it was lost
     pub lost-by : (waits : Bool) (o p q : Option (AwayState S)) (lost : Lost)

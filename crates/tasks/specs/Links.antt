@@ -33,9 +33,9 @@ pub record AwayState (S : Type 0) : Type 0 where
   pub out : Bool
   pub here : Bool
 
--- the name of the line with the task; what came back over it, the oldest first, and what is known to
--- come next; and the two samplers that were handed out last, of which something may be kept: the one
--- before the last, and the last
+-- the name of the line with the task; what came back over it, the oldest first, and what is known
+-- to come next; and the two samplers that were handed out last, of which something may be kept: the
+-- one before the last, and the last
 pub record LinkState (S : Type 0) : Type 0 where
   pub ring : RingName
   pub came : List LeftState
@@ -217,8 +217,8 @@ module _ {S : Type 0} where
     pub came : y.came ≡ x.came ++ left ∷ []
     pub known : IsPrefix x.coming (left ∷ y.coming)
 
-  -- of what was kept as `a` and is kept as `b` nothing is back; where it has to wait for another one,
-  -- nothing came
+  -- of what was kept as `a` and is kept as `b` nothing is back; where it has to wait for another
+  -- one, nothing came
   pub record NoneIsBack (x y : LinkState S) (waits : Bool) (a b : Option (AwayState S))
       : Type 0 where
     pub looked : LooksAtNewest a b

@@ -405,7 +405,8 @@ impl<S: SendEnd> TaskLink<S> {
         stop_of(&mut self.newer, l);
     }
 
-    /// Recalls the sampler that was handed out last, if the task has not fetched it; whether it did.
+    /// Recalls the sampler that was handed out last, if the task has not fetched it; whether it
+    /// did.
     fn recall(&mut self) -> bool
         ensures yes { result ≡ true → RecallsNewest self.old self.new }
         ensures no { result ≡ false → self.new ≡ self.old }
@@ -459,7 +460,9 @@ impl<S: SendEnd> TaskLink<S> {
             → NoneIsBack self.old self.new false self.old.older self.new.older }
         ensures rest_stays { self.new
             ≡ record self.old {
-              came = self.new.came; coming = self.new.coming; older = self.new.older;
+              came = self.new.came;
+              coming = self.new.coming;
+              older = self.new.older;
             } }
     {
         let left = self.bring_older()?;
@@ -477,7 +480,9 @@ impl<S: SendEnd> TaskLink<S> {
             → NoneIsBack self.old self.new (is_out self.old.older) self.old.newer self.new.newer }
         ensures rest_stays { self.new
             ≡ record self.old {
-              came = self.new.came; coming = self.new.coming; newer = self.new.newer;
+              came = self.new.came;
+              coming = self.new.coming;
+              newer = self.new.newer;
             } }
     {
         self.recall_ended();
@@ -506,7 +511,9 @@ impl<S: SendEnd> TaskLink<S> {
         ensures not_out { IsSome result → is_out self.new.older ≡ false }
         ensures rest_stays { self.new
             ≡ record self.old {
-              came = self.new.came; coming = self.new.coming; older = self.new.older;
+              came = self.new.came;
+              coming = self.new.coming;
+              older = self.new.older;
             } }
     {
         bring(&mut self.line, &mut self.older)
@@ -524,7 +531,9 @@ impl<S: SendEnd> TaskLink<S> {
         ensures not_out { IsSome result → is_out self.new.newer ≡ false }
         ensures rest_stays { self.new
             ≡ record self.old {
-              came = self.new.came; coming = self.new.coming; newer = self.new.newer;
+              came = self.new.came;
+              coming = self.new.coming;
+              newer = self.new.newer;
             } }
     {
         if is_out(&self.older) {

@@ -1,5 +1,4 @@
-use Rattle.std.proofs.Common.{◌<◌, ◌+◌, not, ap, length, sym, subst, ◌∙◌}
-use Rattle.std.proofs.lemmas.List.{length-map}
+use Rattle.std.proofs.Common.{◌<◌, ◌+◌, not, sym, subst, ◌∙◌}
 use Rattle.slave_channels.specs.Calls.{KeepsNone, KeepsOne}
 use Rattle.slave.specs.Closing.{Closes}
 use Rattle.slave.specs.Standing.{SlaveState}

@@ -1,4 +1,4 @@
-use Rattle.std.proofs.Common.{true, subst, sym}
+use Rattle.std.proofs.Common.{subst}
 use Rattle.slave.specs.Inner.{TakesOne}
 use Rattle.slave.proofs.CollectingLemmas.{collects-more}
 use Rattle.slave.proofs.GatheringLemmas.{all-two}

@@ -1,4 +1,4 @@
-use Rattle.std.specs.Prelude.{None, Some}
+use Rattle.std.specs.Prelude.{Some}
 use Rattle.slave.proofs.CollectingLemmas.{collects-one}
 use Rattle.slave.proofs.slave.Slave.collect_one.Goals as goal
 

@@ -1,5 +1,5 @@
-use Rattle.std.proofs.Common.{◌≡◌, ◌*◌, ◌+◌, ◌<◌, List, refl, ap, length, sym, ◌∙◌, arith}
-use Rattle.std.specs.Prelude.{slice_get, Some}
+use Rattle.std.proofs.Common.{◌*◌, ◌+◌, ◌<◌, List, refl, ap, length, sym, ◌∙◌, arith}
+use Rattle.std.specs.Prelude.{slice_get}
 use Rattle.slave_channels.proofs.EachLemmas.{read_at, set_back}
 use Rattle.tasks.specs.Tasks.{TaskEndState}
 use Rattle.slave.specs.Standing.{SlaveState}

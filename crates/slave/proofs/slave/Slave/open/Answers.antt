@@ -1,4 +1,4 @@
-use Rattle.std.proofs.Common.{◌≡◌, length, ap, sym, ◌∙◌, arith}
+use Rattle.std.proofs.Common.{length, ap, sym, ◌∙◌, arith}
 use Rattle.slave.specs.Openings.{capacities_in, capacities_of}
 use Rattle.slave.proofs.NewLemmas.{channels-many, new-stands, tasks-are}
 use Rattle.slave.proofs.OpenedLemmas.{capacities-many}

@@ -1,6 +1,6 @@
-use Rattle.std.proofs.Common.{◌∙◌, [], ap, inl, refl, sym}
+use Rattle.std.proofs.Common.{◌∙◌, ap, inl, refl, sym}
 use Rattle.tasks.specs.Links.{LinkState}
-use Rattle.tasks.proofs.LineLemmas.{comes-of, out-behind, out-first}
+use Rattle.tasks.proofs.LineLemmas.{comes-of}
 use Rattle.tasks.proofs.TurnLemmas.{some-with}
 use Rattle.tasks.proofs.link.TaskLink.bring_newer.Goals as goal
 
