@@ -1,5 +1,5 @@
 use Rattle.std.proofs.Common.{◌∙◌, Some, ap, inl, refl, sym}
-use Rattle.slave_calls.proofs.CloseLemmas.{closes-bytes, closes-items, none-away-bytes, none-away-items}
+use Rattle.slave_calls.proofs.CloseLemmas.{closes-bytes, closes-items}
 use Rattle.slave_calls.proofs.OnLemmas.{bytes, items}
 use Rattle.slave_calls.proofs.closing.close_slave_by.Goals as goal
 

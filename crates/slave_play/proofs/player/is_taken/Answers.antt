@@ -1,4 +1,4 @@
-use Rattle.std.proofs.Common.{◌<◌, ◌∙◌, length, ap, sym, arith}
+use Rattle.std.proofs.Common.{◌∙◌, ap, sym, arith}
 use Rattle.tasks.specs.Tasks.{TaskState}
 use Rattle.slave_play.proofs.TaskLemmas.{lines-set}
 use Rattle.slave_play.proofs.player.is_taken.Goals as goal

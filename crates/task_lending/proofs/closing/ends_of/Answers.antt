@@ -1,4 +1,4 @@
-use Rattle.std.proofs.Common.{◌≡◌, ◌≤◌, ◌∷◌, [], ◌+◌, ◌++◌, length, length-append, sym, ap, ◌∙◌, append_assoc, append-nil, subst, arith}
+use Rattle.std.proofs.Common.{◌≡◌, ◌∷◌, [], ◌+◌, ◌++◌, length, length-append, sym, ap, ◌∙◌, append_assoc, append-nil, subst, arith}
 use Rattle.std.specs.Vec.Iter.{into_iter_items}
 use Rattle.task_lending.specs.Slots.{AreEndsOf}
 use Rattle.task_lending.proofs.OpenLemmas.{nothing-left}

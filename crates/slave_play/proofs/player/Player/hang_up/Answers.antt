@@ -1,4 +1,4 @@
-use Rattle.std.proofs.Common.{[], ◌∷◌, refl, arith}
+use Rattle.std.proofs.Common.{[], arith}
 use Rattle.slave_play.specs.Playing.{most_a_line, sending}
 use Rattle.slave_play.proofs.PlayLemmas.{advances-within, hangs}
 use Rattle.slave_play.proofs.player.Player.hang_up.Goals as goal

@@ -1,4 +1,4 @@
-use Rattle.std.proofs.Common.{[], take as first, refl, sym, subst, inl, inr, arith}
+use Rattle.std.proofs.Common.{take as first, refl, sym, subst, inl, inr, arith}
 use Rattle.slave_stream.specs.Receiving.{BreaksOff, Receives}
 use Rattle.slave_stream.proofs.ReceivingLemmas.{breaks-from, ends-from, far-from, has-room-not, on-err, receives-from, receives-none, within-from}
 use Rattle.slave_stream.proofs.stream.MasterStream.read.Goals as goal

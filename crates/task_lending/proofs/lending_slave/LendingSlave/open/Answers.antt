@@ -1,4 +1,4 @@
-use Rattle.std.proofs.Common.{◌≤◌, length, ap, arith}
+use Rattle.std.proofs.Common.{length, ap, arith}
 use Rattle.std.proofs.lemmas.List.{length-map}
 use Rattle.task_lending.specs.Slots.{with_task}
 use Rattle.task_lending.proofs.OpenLemmas.{opened-lines, opened-with}

@@ -1,8 +1,7 @@
-use Rattle.std.proofs.Common.{◌≡◌, ◌∙◌, inr, true, Option, ap, refl, sym, subst}
+use Rattle.std.proofs.Common.{◌≡◌, ◌∙◌, true, Option, ap, subst}
 use Rattle.std.specs.Prelude.{IfSome}
 use Rattle.std.specs.Option.{is_some}
 use Rattle.tasks.specs.Tasks.{TaskState}
-use Rattle.task_lending.specs.Slots.{SlotState}
 use Rattle.task_lending.proofs.SlotLemmas.{comes-back, coming-alone, is-alone, no-line}
 use Rattle.task_lending.proofs.slot.Slot.collect.Goals as goal
 
