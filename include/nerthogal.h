@@ -56,17 +56,17 @@
  * Memory
  *   - A slave with n event channels and their tasks, and with l DAQ lists that have o ODTs and e
  *     entries in all, has at most so many bytes of malloc's. Only tested, by session_test.c:
- *         the slave, from its opening on   28000 + 12000 n; with NG_RING_BYTES 28000 + 16000 n
+ *         the slave, from its opening on   28000 + 17000 n; with NG_RING_BYTES 28000 + 22000 n
  *         its lists, until they are freed  40 l + 24 o + 12 e
- *         a measurement                    4000 n + 160 l + 100 o + 56 e, and for each ring 560
+ *         a measurement                    2200 n + 160 l + 100 o + 56 e, and for each ring 560
  *                                          times its capacity, or with NG_RING_BYTES its capacity
  *   - A measurement that has ended, by DISCONNECT too, is freed where the next one begins, or by
  *     ng_slave_close. A task that took no trigger since, or whose stops found no room, keeps it
  *     longer; then it stands beside the next one. There are never more than two.
  *   - For example, two event channels of 64 samples and 15 lists of 8 ODTs of 15 entries take
- *     242 kB while they are measured, and 217 kB behind DISCONNECT. At the limits, 8 event channels
- *     of 1024 samples and 16 lists of 8 ODTs of 32 entries, it is 4.98 MB, and with two
- *     measurements 9.73 MB.
+ *     248 kB while they are measured, and 223 kB behind DISCONNECT. At the limits, 8 event channels
+ *     of 1024 samples and 16 lists of 8 ODTs of 32 entries, it is 5.00 MB, and with two
+ *     measurements 9.74 MB.
  *
  * No call aborts, and none reads or writes beyond the given lengths, whatever bytes and numbers it
  * is given. */

@@ -525,9 +525,9 @@ static void heap_of(const struct load *load) {
     unsigned l = load->lists, o = l * load->odts, e = o * load->entries, n = load->channels;
     unsigned long capacity = of_bytes ? 64 * load->capacity : load->capacity;
     if (of_bytes && capacity < NG_MIN_BYTE_RING) capacity = NG_MIN_BYTE_RING;
-    unsigned long of_slave = 28000 + (of_bytes ? 16000 : 12000) * n;
+    unsigned long of_slave = 28000 + (of_bytes ? 22000 : 17000) * n;
     unsigned long of_lists = 40 * l + 24 * o + 12 * e, of_ring = (of_bytes ? 1 : 560) * capacity;
-    unsigned long most = 4000 * n + 160 * l + 100 * o + 56 * e + n * of_ring;
+    unsigned long most = 2200 * n + 160 * l + 100 * o + 56 * e + n * of_ring;
     ng_profile profile = profile_of();
     ng_event events[8] = {event_of("e")};
     ng_slave slave = NG_SLAVE_INIT;
@@ -548,7 +548,7 @@ static void heap_of(const struct load *load) {
     start_all(&slave, load);
     unsigned long measures = memory_bytes;
     within(0, measures - opened - of_lists, most, "of a measurement");
-    if (n == 2 && !of_bytes) within(230000, measures - before, 254000, "some 242 kB");
+    if (n == 2 && !of_bytes) within(236000, measures - before, 260000, "some 248 kB");
     trigger_all(tasks, load);
     ask(&slave, "fe");
     /* each stop of a list finds room, also in a ring of one place */
