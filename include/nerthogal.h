@@ -397,9 +397,10 @@ ng_status ng_pump_all(ng_engine *engine, uint8_t *buffer, size_t buffer_cap, siz
  *   NG_NO_ENGINE  the engine was freed, and with it what was in the ring
  *   NG_OK         what is left of the sampler went back
  *
- * Proved: NG_EMPTY exactly if there is no sampler, and that *sampler is then empty. Only tested, by
- * engine_test.c and threads_test.c: what is left, that it goes back, and that NG_NO_ENGINE is
- * returned only if the engine was freed. Calls free. */
+ * Proved: NG_EMPTY exactly if there is no sampler, that *sampler is then empty, and that what is
+ * left goes back by the function that this call asks. Only tested, by engine_test.c and
+ * threads_test.c: that its engine finds it, and that NG_NO_ENGINE is returned only if the engine was
+ * freed. Calls free. */
 ng_status ng_finish(ng_sampler *sampler);
 
 /* Looks at all that the finished samplers of an engine sent, and pumps once, as ng_pump does, if

@@ -1,5 +1,6 @@
 -- What the calls of a sampler's handle answer and what they leave, by their status.
-use Rattle.std.specs.Prelude.{◌≡◌, ◌≢◌, ℕ, List, length, map, true, Option, Some, None}
+use Rattle.std.specs.Prelude.{◌≡◌, ◌≢◌, ℕ, List, length, map, true, Option, Some, None, Result}
+use Rattle.std.specs.Prelude.{Ok, Err}
 use Rattle.xcp_base.specs.declared.limits.TheConstants.{MAX_TRIGGERS}
 use Rattle.channel_ring.specs.declared.ends.SendEnd.{Ghosts as SendGhosts}
 use Rattle.channel_ring.specs.declared.ends.RingEnd.{Ghosts as EndGhosts}
@@ -19,6 +20,8 @@ use Rattle.handle_calls.specs.declared.content.Content.{Content}
 use Rattle.handle_calls.specs.declared.content.Content.TheVariants.{Sampler as OfItems}
 use Rattle.handle_calls.specs.declared.content.Content.TheVariants.{ByteSampler as OfBytes}
 use Rattle.handle_calls.specs.declared.counts_out.CountsOut.{CountsOut}
+use Rattle.handle_calls.specs.declared.given_back.GivenBack.{GivenBack}
+use Rattle.handle_calls.specs.declared.given_back.GivenBack.TheVariants as given
 use Rattle.handle_calls.specs.declared.taken_out.TakenOut.{TakenOut}
 use Rattle.handle_calls.specs.declared.status.Status.{Status}
 use Rattle.handle_calls.specs.declared.status.Status.TheVariants as status
@@ -88,13 +91,6 @@ module _ {S E : Type 0} (send : SendGhosts S E) (ring : EndGhosts E) where
     pub stands :
         (past : Past) → StandsAfter send ring s past → EndStandsAfter (joined ring e) past
 
-  -- a sampler is finished, or its engine is gone. Of what is left of it this says that it is there;
-  -- that it goes back is said by `Lent::finish` alone
-  abbrev pub FinishesSampler : SamplerState S → Status → Type 0
-  FinishesSampler s status.Ok = (e : SamplerEndState E) × IsLeftOf s e
-  FinishesSampler s status.NoEngine = Unit {0}
-  FinishesSampler s _ = ⊥
-
 -- what a call does to the handle of a sampler: a sampler of its kind stays in it, of which this
 -- holds. Where there is none it answers so, and leaves it, as what is said there
 abbrev pub OnSampler
@@ -105,6 +101,11 @@ OnSampler (Some (OfItems s)) new result stays items bytes =
 OnSampler (Some (OfBytes s)) new result stays items bytes =
     (t : ByteSampler) × (new ≡ Some (OfBytes t)) × bytes s t
 OnSampler old new result stays items bytes = (result ≡ status.Empty) × (new ≡ old) × stays
+
+-- what a finish is to C
+abbrev pub status_of_finish : Result GivenBack Status → Status
+status_of_finish (Ok given) = status.Ok
+status_of_finish (Err status) = status
 
 -- a sampler is held
 abbrev pub IsSampler : Content → Type 0
@@ -143,10 +144,24 @@ module _ (items : Items) (bytes : Bytes) where
       (λ s t. (t ≡ s) × CountsList items.send items.ring s l before after result)
       (λ s t. (t ≡ s) × CountsList bytes.send bytes.ring s l before after result)
 
-  -- what ng_finish does to a handle: it is empty then
+  -- the sampler of a handle was finished, and what is left of it was given back, or its engine is
+  -- gone; the handle is empty then
+  abbrev pub FinishesBy
+      : Option Content → Option Content → Result GivenBack Status → Type 0
+  FinishesBy (Some (OfItems s)) new (Ok (given.Items g)) =
+      (new ≡ None) × IsLeftOf items.send items.ring s g.left
+  FinishesBy (Some (OfBytes s)) new (Ok (given.Bytes g)) =
+      (new ≡ None) × IsLeftOf bytes.send bytes.ring s g.left
+  FinishesBy (Some (OfItems s)) new (Err refusal) =
+      (new ≡ None) × (refusal ≡ status.NoEngine)
+  FinishesBy (Some (OfBytes s)) new (Err refusal) =
+      (new ≡ None) × (refusal ≡ status.NoEngine)
+  FinishesBy (Some (OfItems s)) new result = ⊥
+  FinishesBy (Some (OfBytes s)) new result = ⊥
+  FinishesBy old new result = (result ≡ Err status.Empty) × (new ≡ old)
+
+  -- what ng_finish does to a handle
   abbrev pub Finishes : Option Content → Option Content → Status → Type 0
-  Finishes (Some (OfItems s)) new result =
-      (new ≡ None) × FinishesSampler items.send items.ring s result
-  Finishes (Some (OfBytes s)) new result =
-      (new ≡ None) × FinishesSampler bytes.send bytes.ring s result
-  Finishes old new result = (result ≡ status.Empty) × (new ≡ old)
+  Finishes old new result =
+      (finish : Result GivenBack Status) × (result ≡ status_of_finish finish)
+      × FinishesBy old new finish

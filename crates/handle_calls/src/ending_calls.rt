@@ -1,14 +1,14 @@
 //! The finish of a sampler, and a drain by the engine of a handle.
 
-ghost use Rattle.std.specs.Prelude.{◌↔◌, IsTrue, Some};
+ghost use Rattle.std.specs.Prelude.{◌≡◌, ◌↔◌, IsTrue, Some};
 ghost use Rattle.handle_calls.specs.Ends.{Drains};
-ghost use Rattle.handle_calls.specs.Samplers.{Finishes, IsSampler};
+ghost use Rattle.handle_calls.specs.Samplers.{FinishesBy, IsSampler, status_of_finish};
 
 use crate::content::Content;
 use crate::draining::drain;
+use crate::given_back::GivenBack;
 use crate::handle::Handle;
 use crate::held_ring::HeldRing;
-use crate::lent::finish;
 use crate::pumped_out::PumpedOut;
 use crate::status::Status;
 use byte_ring::ByteRing;
@@ -22,22 +22,34 @@ fn holds_sampler(content: &Content) -> bool
     matches!(content, Content::Sampler(_) | Content::ByteSampler(_))
 }
 
-/// Finishes the sampler of a handle.
-pub fn finish_by(alloc: Global, handle: &mut Handle) -> Status
-    ensures { Finishes ⟦<SampleRing as HeldRing>⟧.rings ⟦<ByteRing as HeldRing>⟧.rings
+/// Finishes the sampler of a handle, and gives what is left of it back to its engine: the way on
+/// which it was given; or `Empty`, if there is no sampler; or `NoEngine`, if the engine was freed.
+pub fn finish_by(alloc: Global, handle: &mut Handle) -> Result<GivenBack, Status>
+    ensures { FinishesBy ⟦<SampleRing as HeldRing>⟧.rings ⟦<ByteRing as HeldRing>⟧.rings
         handle.old.held handle.new.held result }
 {
     let Some(held) = handle.take(alloc) else {
-        return Status::Empty;
+        return Err(Status::Empty);
     };
     if !holds_sampler(held.as_ref()) {
         handle.put(alloc, held);
-        return Status::Empty;
+        return Err(Status::Empty);
     }
     match Box::into_inner(held) {
-        Content::Sampler(lent) => finish(lent),
-        Content::ByteSampler(lent) => finish(lent),
+        Content::Sampler(lent) => Ok(GivenBack::Items(lent.finish()?)),
+        Content::ByteSampler(lent) => Ok(GivenBack::Bytes(lent.finish()?)),
         _ => unreachable!(),
+    }
+}
+
+/// What a finish is to C: what was given back is there for its engine, and this end of the way is
+/// freed.
+pub fn status_of_finish(finish: Result<GivenBack, Status>) -> Status
+    ensures { result ≡ status_of_finish finish }
+{
+    match finish {
+        Ok(_given) => Status::Ok,
+        Err(status) => status,
     }
 }
 

@@ -1,7 +1,5 @@
-ghost use Rattle.handle_calls.specs.Samplers.{FinishesSampler};
-
 use crate::counts_out::CountsOut;
-use crate::rule::{GivenBack, SamplerWay};
+use crate::rule::{GivenSampler, SamplerWay};
 use crate::status::Status;
 use crate::taken_out::TakenOut;
 use daq_engine::Ring;
@@ -87,7 +85,7 @@ impl<R: Ring> Lent<R> {
 
     /// Finishes the sampler, and gives what is left of it back. Refused with `NoEngine` if the
     /// engine was freed: then nothing is left.
-    pub fn finish(self) -> Result<GivenBack<R::Send>, Status>
+    pub fn finish(self) -> Result<GivenSampler<R::Send>, Status>
         ensures ok { IfOk result (λ given.
             IsLeftOf R.Send.SendEnd R.Send.End.RingEnd self given.left) }
         ensures err { IfErr result (λ status. status ≡ Status.NoEngine) }
@@ -97,15 +95,5 @@ impl<R: Ring> Lent<R> {
             Some(end) => Ok(way.give(end)),
             None => Err(Status::NoEngine),
         }
-    }
-}
-
-/// Finishes a sampler that was handed out, and gives what is left of it back.
-pub fn finish<R: Ring>(lent: Lent<R>) -> Status
-    ensures { FinishesSampler R.Send.SendEnd R.Send.End.RingEnd lent result }
-{
-    match lent.finish() {
-        Ok(_given) => Status::Ok,
-        Err(status) => status,
     }
 }

@@ -11,8 +11,9 @@ pub type SamplerWay<S> = WayBack<Sampler<S>, Left<S>, LaterPast>;
 /// The end that its engine has.
 pub type EngineWay<S> = ComingBack<Sampler<S>, Left<S>, LaterPast>;
 
-/// A way on which what is left of a sampler was given back.
-pub type GivenBack<S> = Given<Sampler<S>, Left<S>, LaterPast>;
+/// A way on which what is left of a sampler was given back. There is none but of `Lent::finish`: so a
+/// call that has one has given it.
+pub type GivenSampler<S> = Given<Sampler<S>, Left<S>, LaterPast>;
 
 /// What is left of a sampler has its event channel and its ring, and stands after a past that goes
 /// on from what the sampler stood after.

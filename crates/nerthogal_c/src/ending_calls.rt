@@ -9,7 +9,9 @@ ghost use Rattle.handle_calls.specs.declared.status.Status.{Status as StatusOf};
 use byte_ring::ByteRing;
 use channel_ring::SampleRing;
 use daq_engine::ListReport;
-use handle_calls::{Handle, HeldRing, PumpedOut, ReportOut, close_by, drain_by, finish_by};
+use handle_calls::{
+    Handle, HeldRing, PumpedOut, ReportOut, close_by, drain_by, finish_by, status_of_finish,
+};
 use std::alloc::Global;
 
 /// Finishes a sampler, and gives what is left of it back to its engine. The handle is empty then.
@@ -22,7 +24,7 @@ pub extern "C" fn ng_finish(alloc: Global, sampler: &mut Handle) -> u32
         × Finishes ⟦<SampleRing as HeldRing>⟧.rings ⟦<ByteRing as HeldRing>⟧.rings
         sampler.old.held sampler.new.held status }
 {
-    finish_by(alloc, sampler).number()
+    status_of_finish(finish_by(alloc, sampler)).number()
 }
 
 /// Looks at all that was sent, and pumps if something is left.
