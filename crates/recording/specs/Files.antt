@@ -62,7 +62,7 @@ pub record IsReadBehind (recorded : RunRecording) (input rest : Option (List ℕ
   -- fixed by `passed`, but for how much of it stands in the piece
   pub behind : Option (List ℕ)
   pub first : Piece
-  -- what is still at hand
+  -- fixed by `is`: what is still at hand
   pub last : Piece
   pub passed : ArePassed recorded input behind first
   pub is : IsSo behind first last

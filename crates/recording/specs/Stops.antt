@@ -50,6 +50,7 @@ IsFaultOfSamples lists input rest first last _ = ⊥
 pub record IsWhole (lists : List Reading) (samples : List (ℕ × Recorded)) (rest : Option (List ℕ))
     (piece : Piece)
     : Type 0 where
+  -- fixed by `is`
   pub left : List ℕ
   pub is : rest ≡ Some left
   pub recording : IsRecordingOf (plans_of lists) samples [] (unread_with piece left)
@@ -58,6 +59,7 @@ pub record IsWhole (lists : List Reading) (samples : List (ℕ × Recorded)) (re
 pub record IsFront (lists : List Reading) (samples : List (ℕ × Recorded)) (rest : Option (List ℕ))
     (piece : Piece)
     : Type 0 where
+  -- fixed by `is`
   pub left : List ℕ
   -- any: of a recording that is torn, the rest is lost
   pub lost : List ℕ
