@@ -399,8 +399,8 @@ ng_status ng_pump_all(ng_engine *engine, uint8_t *buffer, size_t buffer_cap, siz
  *
  * Proved: NG_EMPTY exactly if there is no sampler, that *sampler is then empty, and that what is
  * left goes back by the function that this call asks. Only tested, by engine_test.c and
- * threads_test.c: that its engine finds it, and that NG_NO_ENGINE is returned only if the engine was
- * freed. Calls free. */
+ * threads_test.c: that its engine finds it, and that NG_NO_ENGINE is returned only if the engine
+ * was freed. Calls free. */
 ng_status ng_finish(ng_sampler *sampler);
 
 /* Looks at all that the finished samplers of an engine sent, and pumps once, as ng_pump does, if
@@ -584,7 +584,8 @@ ng_status ng_task_finish(ng_task *task);
  * They are checked in this order. Except on NG_OK, the slave keeps all that it has, and lines and
  * *whole are unchanged. On NG_OK, the elements of lines after the account are unchanged. Proved:
  * all of this, and each number of the account and *whole, from what was sent and from all that the
- * tasks gave back. Only tested: that *whole is true once all tasks are finished, and that
+ * tasks gave back, each known by its slave as one of its own. Only tested: that what comes back of
+ * a task is what its ng_task_finish gave, that *whole is true once all tasks are finished, and that
  * NG_UNFINISHED is returned only if a task isn't finished. Calls free. */
 ng_status ng_slave_close(ng_slave *slave, ng_line *lines, size_t lines_cap, bool *whole);
 
