@@ -1,11 +1,11 @@
-#!/bin/sh
+#!/usr/bin/env bash
 # Proves and builds a program of bench/ and prints the path of what was built: bench/build.sh NAME. The file bench/NAME/libraries
 # has the crates of this repository that it calls and those below them, lowest first, and behind the word -- those of the kit.
 #
 # It is built in the folder DAQ_BENCH, ~/.cache/daq_bench where that isn't set, beside copies of these crates: rt ci wants each
 # .rt and .antt file of the repository to be of a crate that it proves, so the sources in bench/NAME have .txt behind their names.
-set -e
-name=$1
+set -eu
+name=${1:?the name of a program of bench/}
 top=$(cd "$(dirname "$0")/.." && pwd)
 all=$(tr '\n' ' ' < "$top/bench/$name/libraries")
 libraries=${all%%-- *}

@@ -141,9 +141,10 @@ static void measure_set(const set *set, int out) {
     printf("%s: %.0f samples a second; processor time %.0f ns, without the sends %.0f ns\n", set->name,
            1e9 / sent.wall, sent.processor, kept.processor);
     ng_line lines[NG_MAX_LISTS];
+    ng_measurements each;
     bool whole;
     want(ng_task_finish(&task) == NG_OK, "finish");
-    want(ng_slave_close(&slave, lines, NG_MAX_LISTS, &whole) == NG_OK && whole, "close");
+    want(ng_slave_close(&slave, lines, NG_MAX_LISTS, &whole, &each) == NG_OK && whole, "close");
 }
 
 int main(void) {

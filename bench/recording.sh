@@ -1,14 +1,14 @@
-#!/bin/sh
+#!/usr/bin/env bash
 # Measures how fast xcpread sums recordings of 100 MB up, beside a plain copy of the same bytes, five times in turn: one of samples
 # of eight packets of 64 bytes, and one of samples of one packet of 3 bytes.
-set -e
+set -eu
 cd "$(dirname "$0")/.."
 room=$(mktemp -d)
 trap 'rm -rf "$room"' EXIT
 cc -std=c99 -O2 -Wall -Wextra -Werror -pedantic -o "$room/recording" bench/recording.c
 ./prove > /dev/null
 "$room/recording" make "$room"
-for turn in 1 2 3 4 5; do
+for _ in 1 2 3 4 5; do
     for run in long short; do
         "$room/recording" copy "$room/$run.frames"
         start=$(date +%s%N)

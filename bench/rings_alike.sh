@@ -1,18 +1,18 @@
-#!/bin/sh
+#!/usr/bin/env bash
 # Makes random run files over rings of bytes and carries each out by the built program xcpdaq and by the C example `run`: both
 # must print the same frames and the same account. The program looks at its rings beside each pump, the C example never does, so
 # which samples are dropped must not depend on who looks. bench/rings_alike.sh [COUNT [SEED]]: 300 run files from seed 1, where
 # nothing is said. The runs that differ are kept, and named. It wants python3.
-set -e
-cd "$(dirname "$0")/.."
+set -eu
+source "$(dirname "$0")/../tools/sources.sh"
+cd "$top"
 count=${1:-300}
 seed=${2:-1}
 room=$(mktemp -d)
 program=$PWD/crates/xcpdaq/out/xcpdaq
 (cd crates/xcpdaq && rt run -- ../../examples/first_run.toml) > "$room/log" 2>&1 || { tail -n 12 "$room/log" >&2; exit 3; }
-(cd crates/nerthogal_c && rt lib) > "$room/log" 2>&1 || { tail -n 12 "$room/log" >&2; exit 3; }
-cc -std=c99 -O2 -Wall -Wextra -Werror -pedantic -Iinclude -o "$room/run" examples/c/run.c crates/nerthogal_c/out/libnerthogal_c.a \
-    "$(dirname "$(rt doc)")/c/liblibc_c.a"
+tools/c_library --if-changed > "$room/log" 2>&1 || { tail -n 12 "$room/log" >&2; exit 3; }
+build_c "$room/run" -O2 -Wall -Wextra -Werror -pedantic examples/c/run.c
 
 # prints a run: one to three event channels, each with one or two DAQ lists of short or long records, whose rings often fill
 make_run() {

@@ -1,8 +1,8 @@
-#!/bin/sh
+#!/usr/bin/env bash
 # Proves and builds the program run_bench and measures a run file of 990,099 triggers of one list of two bytes, with a pump step
 # behind each hundred: what `toml` takes for its text, what `Run::read` takes, which calls it, and what `run_serial` takes, in
 # microseconds, each the least of five; and the peak of each process's memory over the length of the text.
-set -e
+set -eu
 cd "$(dirname "$0")"
 program=$(./build.sh run_bench)
 file=$(mktemp)
@@ -22,7 +22,7 @@ awk 'BEGIN {
 size=$(wc -c < "$file")
 echo "text $size bytes"
 for word in toml run; do
-    for turn in 1 2 3 4 5; do
+    for _ in 1 2 3 4 5; do
         /usr/bin/time -f 'peak %M' "$program" "$word" "$file" 2>&1
     done | sed "s/^peak/$word.peak/" >> "$log"
 done

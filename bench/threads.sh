@@ -1,8 +1,8 @@
-#!/bin/sh
+#!/usr/bin/env bash
 # Proves and builds the program run_bench and measures runs of 1, 2, 4 and 8 event channels, each with a list of two bytes and a
 # ring of 1024 places: `run_serial` and `run_threads` on the same steps, in which each channel is triggered once and then a pump
 # step comes, which a run in threads passes over. The least of five processes each, in nanoseconds a trigger, and their ratio.
-set -e
+set -eu
 cd "$(dirname "$0")"
 program=$(./build.sh run_bench)
 file=$(mktemp)
@@ -25,7 +25,7 @@ for channels in 1 2 4 8; do
       }
       print "]"
     }' > "$file"
-    for turn in 1 2 3 4 5; do
+    for _ in 1 2 3 4 5; do
         "$program" threads "$file"
     done > "$log"
     awk -v n="$channels" '

@@ -8,12 +8,13 @@
  * the end you finish the samplers, drain the rings, and close the engine, which returns its
  * account.
  *
- * Link with libnerthogal_c.a, and with liblibc_c.a of the Rattle toolchain, which connects it to
+ * Link with libnerthogal.a (-lnerthogal), which `make -C c install` installs. In the repository it
+ * is two archives: libnerthogal_c.a, and liblibc_c.a of the Rattle toolchain, which connects it to
  * the C library's malloc, realloc and free.
  *
  * The comment on each call says what is proved of it, and what is only tested. The tests are the
- * programs NAME_test.c of examples/c, which .ci/c runs. The proofs assume that the caller keeps the
- * rules below. The library can't check them.
+ * programs NAME_test.c of tests/c, which tests/c/run runs. The proofs assume that the caller keeps
+ * the rules below. The library can't check them.
  *
  * Bytes
  *   - A command packet and the packet that answers it are XCP packets, without a transport header.
@@ -56,7 +57,7 @@
  * Memory
  *   - A slave with n event channels and their tasks, and with l DAQ lists that have o ODTs and e
  *     entries in all, has at most so many bytes of malloc's. Only tested, by session_test.c:
- *         the slave, from its opening on   28000 + 17000 n; with NG_RING_BYTES 28000 + 22000 n
+ *         the slave, from its opening on   28000 + 18800 n; with NG_RING_BYTES 28000 + 23800 n
  *         its lists, until they are freed  40 l + 24 o + 12 e
  *         a measurement                    2200 n + 160 l + 100 o + 56 e, and for each ring 560
  *                                          times its capacity, or with NG_RING_BYTES its capacity
@@ -64,9 +65,9 @@
  *     ng_slave_close. A task that took no trigger since, or whose stops found no room, keeps it
  *     longer; then it stands beside the next one. There are never more than two.
  *   - For example, two event channels of 64 samples and 15 lists of 8 ODTs of 15 entries take
- *     248 kB while they are measured, and 223 kB behind DISCONNECT. At the limits, 8 event channels
- *     of 1024 samples and 16 lists of 8 ODTs of 32 entries, it is 5.00 MB, and with two
- *     measurements 9.74 MB.
+ *     254 kB while they are measured, and 229 kB behind DISCONNECT. At the limits, 8 event channels
+ *     of 1024 samples and 16 lists of 8 ODTs of 32 entries, it is 5.02 MB, and with two
+ *     measurements 9.76 MB.
  *
  * No call aborts, and none reads or writes beyond the given lengths, whatever bytes and numbers it
  * is given. */
@@ -76,6 +77,12 @@
 #include <stdbool.h>
 #include <stddef.h>
 #include <stdint.h>
+
+/* The version of this header and its library. */
+#define NG_VERSION_MAJOR 0
+#define NG_VERSION_MINOR 2
+#define NG_VERSION_PATCH 0
+#define NG_VERSION "0.2.0"
 
 #ifdef __cplusplus
 extern "C" {
@@ -87,6 +94,7 @@ extern "C" {
 #define NG_MIN_BYTE_RING 532u   /* bytes of an event channel's ring of bytes: from 532 .. */
 #define NG_MAX_BYTE_RING 65536u /* .. to 65536 */
 #define NG_MAX_LISTS 16u        /* DAQ lists, and so the lines of an account */
+#define NG_LAST 4u              /* measurements whose own accounts a slave keeps: the last four */
 #define NG_REPLY_BYTES 8u       /* room that the answer to a command needs */
 #define NG_PUMP_BYTES 4352u     /* room that a pump needs: 8 samples of 8 frames of 4 + 64 bytes */
 #define NG_PUMP_ALL_BYTES 544u  /* room that ng_pump_all needs: a sample of 8 frames */
@@ -223,6 +231,28 @@ typedef struct {
     uint8_t list;
     uint64_t due, written, dropped, left;
 } ng_line;
+
+/* What a slave is about: whether a master is connected, whether some DAQ list runs, and how many
+ * bytes of frames wait to be sent. */
+typedef struct {
+    bool connected, measuring;
+    size_t waiting;
+} ng_slave_state;
+
+/* The account of one measurement of a slave, or of several together. A measurement begins at the
+ * start of a DAQ list while none runs, and ends where none runs any more. */
+typedef struct {
+    uint64_t number;             /* measurements are counted from 0; of several, how many they are */
+    bool whole;                  /* whether the lines have all event channels' parts */
+    ng_line lines[NG_MAX_LISTS]; /* lines[l] is that of DAQ list l */
+} ng_measurement;
+
+/* The accounts of a slave's last measurements, each alone, and of all before them, together. */
+typedef struct {
+    size_t count;                 /* so many stand in last: all that there were, or NG_LAST */
+    ng_measurement last[NG_LAST]; /* in the order of their numbers */
+    ng_measurement older;
+} ng_measurements;
 
 /* The rest of an account: its number of lines, and whether a frame was not written whole. */
 typedef struct {
@@ -433,10 +463,12 @@ ng_status ng_drain(ng_engine *engine, uint8_t *buffer, size_t buffer_cap, size_t
  *
  * They are checked in this order. Except on NG_OK, the engine keeps all that it has, and lines and
  * *report are unchanged. On NG_OK, the elements of lines after the account are unchanged. Proved:
- * all of this, and each number of the account, from what was written and from what came back of the
- * samplers that the engine was opened with: due = written + dropped + left. Only tested, by
- * engine_test.c and threads_test.c: that what came back counts the triggers that ng_trigger took,
- * and that NG_UNFINISHED is returned only in those cases. Calls free. */
+ * all of this, and each number of the account, from what was written and from what came back: due =
+ * written + dropped + left. What is left of each sampler that the engine was opened with came back,
+ * by the name of its ring; the account is right for all triggers that can have led to it, and the
+ * function that this call asks answers it. Only tested, by engine_test.c and threads_test.c: that
+ * it is what ng_finish gave back, and so counts the triggers that ng_trigger took; and that
+ * NG_UNFINISHED is returned only in those cases. Calls free. */
 ng_status ng_close(ng_engine *engine, ng_line *lines, size_t lines_cap, ng_report *report);
 
 /* Free an engine, with the samplers that weren't handed out; and free a sampler. What is left in
@@ -448,11 +480,11 @@ ng_status ng_sampler_free(ng_sampler *sampler);
 /* ---- a slave that a master connects to
  *
  * The proofs speak of a log of what a slave did since it was opened: each call says by which acts
- * it goes on, and by how many at most; and one law holds of every log, docs/SESSION_LAW.md. A slave
+ * it goes on, and by how many at most; and one law holds of every log, docs/THEOREM.md. A slave
  * counts what it does, and once it counted 2^57 hears and takes nothing any more (NG_SPENT): a
  * packet counts as 64, a sample as 3. Once it is closed, its account is of all that its tasks gave
  * back, each once. Only tested, by session_test.c, tasks_test.c, accounts_test.c and
- * measurements_test.c of examples/c, and by .ci/live: that what waits in a ring is taken, and that
+ * measurements_test.c of tests/c, and by tests/live: that what waits in a ring is taken, and that
  * what tasks gave back is found before. docs/PROVED.md says what is proved of the parts of a
  * slave. */
 
@@ -545,6 +577,11 @@ ng_status ng_slave_peek(ng_slave *slave, uint8_t *buffer, size_t buffer_cap, siz
  * Proved: all of this. Calls neither malloc nor realloc. */
 ng_status ng_slave_sent(ng_slave *slave);
 
+/* Tells what a slave is about; it is as it was. What waits is what was laid out and not sent: replies,
+ * and the samples that ng_slave_peek took off the rings. NG_EMPTY if *slave is empty; then *state is
+ * unchanged. Proved: all of this. Calls neither malloc nor realloc nor free. */
+ng_status ng_slave_status(ng_slave *slave, ng_slave_state *state);
+
 /* Does what the slave ordered of this task, and then takes a trigger of its event channel, as
  * ng_trigger does. While there is no measurement nothing is due. Orders are done in the order of
  * the master's commands. A stop needs room in the ring, a place or 3 bytes: in a full one it waits,
@@ -572,22 +609,27 @@ ng_status ng_task_finish(ng_task *task);
 /* Closes a slave, and returns the account of its session: lines[l] is the line of DAQ list l, over
  * all measurements, modulo 2^64. All lists stop, and what waits is thrown away, as by
  * ng_slave_hang_up. Written are the samples that ng_slave_sent was told of; left are those that
- * were thrown away, were from before a stop, or weren't taken. *slave is then empty.
+ * were thrown away, were from before a stop, or weren't taken. *each has the same of the last
+ * measurements alone, up to the last one of which something came back, and of all before them
+ * together: the five add up to lines. A start that is refused for lack of memory may have begun
+ * a measurement, which then has zeros. *slave is then empty.
  *
  *   NG_EMPTY         *slave is empty
  *   NG_SMALL_BUFFER  lines_cap is below NG_MAX_LISTS
  *   NG_UNFINISHED    a task that was handed out isn't finished, in another thread perhaps; call
  *                    again later
- *   NG_OK            the lines stand in lines[0] to lines[NG_MAX_LISTS - 1], and *whole says
- *                    whether the account has all of each measurement
+ *   NG_OK            the lines stand in lines[0] to lines[NG_MAX_LISTS - 1], *whole says whether
+ *                    the account has all of each measurement, and *each has its own accounts
  *
- * They are checked in this order. Except on NG_OK, the slave keeps all that it has, and lines and
- * *whole are unchanged. On NG_OK, the elements of lines after the account are unchanged. Proved:
- * all of this, and each number of the account and *whole, from what was sent and from all that the
- * tasks gave back, each known by its slave as one of its own. Only tested: that what comes back of
- * a task is what its ng_task_finish gave, that *whole is true once all tasks are finished, and that
+ * They are checked in this order. Except on NG_OK, the slave keeps all that it has, and lines,
+ * *whole and *each are unchanged. On NG_OK, the elements of lines after the account are unchanged,
+ * and the elements of each->last from each->count on have any values. Proved: all of this, and each
+ * number of the account, of *each and *whole, from what was sent and from all that the tasks gave
+ * back, each known by its slave as one of its own. Only tested: that what comes back of a task is
+ * what its ng_task_finish gave, that *whole is true once all tasks are finished, and that
  * NG_UNFINISHED is returned only if a task isn't finished. Calls free. */
-ng_status ng_slave_close(ng_slave *slave, ng_line *lines, size_t lines_cap, bool *whole);
+ng_status ng_slave_close(ng_slave *slave, ng_line *lines, size_t lines_cap, bool *whole,
+                         ng_measurements *each);
 
 #ifdef __cplusplus
 }

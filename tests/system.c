@@ -1,4 +1,4 @@
-/* Stands between a program and the C library, and plays a system in which something fails. .ci/examples builds it and has it loaded
+/* Stands between a program and the C library, and plays a system in which something fails. tests/examples builds it and has it loaded
  * first. The environment says what happens; numbers that aren't there are 0:
  *
  *   READ_ZEROS, READ_MOST    standard input is so many zeros, of which a read gives so many at most (0: all that it asks for)

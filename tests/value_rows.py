@@ -1,6 +1,6 @@
 """Rows that show what xcpread reads of A2L files (ASAM MCD-2 MC), and what it makes of the bytes
 and the ticks of samples: each row is a call of the program, and what is wanted was worked out by
-hand. .ci/values counts them: check(tell, reader, recorder, room) calls tell(name, holds, said) for
+hand. tests/values counts them: check(tell, reader, recorder, room) calls tell(name, holds, said) for
 each row; room is a folder for its files.
 
 In texts of A2L files each character is a byte."""

@@ -28,7 +28,7 @@
 #include <time.h>
 #include <unistd.h>
 
-/* ---- what is measured; .ci/live compares this table with xcp_server.a2l */
+/* ---- what is measured; tests/live compares this table with xcp_server.a2l */
 
 enum { ULONG, UWORD, SWORD, UBYTE };
 static const unsigned char sizes[] = {4, 2, 2, 1};

@@ -414,8 +414,9 @@ static bool open_slave(struct server *s, struct task *tasks) {
 /* Closes the slave, and prints the lines of the DAQ lists that had something due. */
 static bool print_account(ng_slave *slave) {
     ng_line lines[NG_MAX_LISTS];
+    ng_measurements each;
     bool whole = false;
-    if (ng_slave_close(slave, lines, NG_MAX_LISTS, &whole) != NG_OK) return false;
+    if (ng_slave_close(slave, lines, NG_MAX_LISTS, &whole, &each) != NG_OK) return false;
     for (size_t l = 0; l < NG_MAX_LISTS; l++)
         if (lines[l].due > 0)
             printf("list %u due %llu written %llu dropped %llu left %llu\n", lines[l].list,

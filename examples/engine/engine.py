@@ -1,6 +1,6 @@
-"""Prints the run file examples/engine/engine.toml: 20 seconds of a small engine. Its memory image has 10 bytes: the speed (UWORD, a quarter of
-a revolution per minute a bit), the temperature of the coolant (UBYTE, 40 degrees below zero is 0), the state (UBYTE), a saw-tooth
-(UWORD, the most significant byte first) and the throttle (FLOAT32_IEEE, in percent)."""
+"""Prints the run file examples/engine/engine.toml: 20 seconds of a small engine. Its memory image has 10 bytes: the speed (UWORD, a
+quarter of a revolution per minute a bit), the temperature of the coolant (UBYTE, 40 degrees below zero is 0), the state (UBYTE), a
+saw-tooth (UWORD, the most significant byte first) and the throttle (FLOAT32_IEEE, in percent)."""
 
 import struct
 

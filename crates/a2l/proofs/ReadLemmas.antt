@@ -1,21 +1,21 @@
 -- What is read part by part is what the whole text describes.
 use Rattle.std.proofs.Common.{◌≡◌, ℕ, Bool, true, false, List, [], ◌∷◌, ◌++◌, Option, Some, None, Err, refl, sym, ap, subst, ◌∙◌}
-use Rattle.a2l_words.specs.Tokens.{Token}
-use Rattle.a2l_words.specs.Words.{AreWords, without_mark}
-use Rattle.a2l_words.proofs.LawLemmas.{one_list}
-use Rattle.a2l_blocks.specs.Trees.{Elements, printed}
-use Rattle.a2l_blocks.specs.Parts.{Section, parts}
-use Rattle.a2l_blocks.specs.Ahead.{in_front, sections_from}
-use Rattle.a2l_blocks.specs.Reading.{sections_of, HaveParts}
-use Rattle.a2l_blocks.specs.Steps.{State, Reaches, ReachesPart, Ends, NextIs, StopsAt, UnlessMemory, coming, cleared}
-use Rattle.a2l_blocks.specs.declared.part.Part.{Part}
-use Rattle.a2l_blocks.specs.declared.block_fault.BlockFault.{BlockFault}
-use Rattle.a2l_blocks.specs.declared.role.Role.TheVariants.{File}
-use Rattle.a2l_blocks.proofs.Completions.{reads_elements}
-use Rattle.a2l_blocks.proofs.TreeLaws.{reads_all}
-use Rattle.a2l_blocks.proofs.StepLemmas.{unless_weaker}
-use Rattle.a2l_entries.specs.declared.stop.Stop.{Stop}
-use Rattle.a2l_entries.specs.declared.stop.Stop.TheVariants as stop
+use Rattle.a2l_text.specs.Tokens.{Token}
+use Rattle.a2l_text.specs.Words.{AreWords, without_mark}
+use Rattle.a2l_text.proofs.LawLemmas.{one_list}
+use Rattle.a2l_text.specs.Trees.{Elements, printed}
+use Rattle.a2l_text.specs.Parts.{Section, parts}
+use Rattle.a2l_text.specs.Ahead.{in_front, sections_from}
+use Rattle.a2l_text.specs.Reading.{sections_of, HaveParts}
+use Rattle.a2l_text.specs.Steps.{State, Reaches, ReachesPart, Ends, NextIs, StopsAt, UnlessMemory, coming, cleared}
+use Rattle.a2l_text.specs.declared.part.Part.{Part}
+use Rattle.a2l_text.specs.declared.block_fault.BlockFault.{BlockFault}
+use Rattle.a2l_text.specs.declared.role.Role.TheVariants.{File}
+use Rattle.a2l_text.proofs.Completions.{reads_elements}
+use Rattle.a2l_text.proofs.TreeLaws.{reads_all}
+use Rattle.a2l_text.proofs.StepLemmas.{unless_weaker}
+use Rattle.a2l_entries.specs.declared.entry_fault.EntryFault.{EntryFault}
+use Rattle.a2l_entries.specs.declared.entry_fault.EntryFault.TheVariants as entry
 use Rattle.a2l_entries.specs.Gives.{◌>>=◌, Stops}
 use Rattle.a2l.specs.ModuleSaid.{Told, no_parts}
 use Rattle.a2l.specs.Described.{Described, nothing, after_part, described_from, description_of}
@@ -23,7 +23,7 @@ use Rattle.a2l.specs.declared.fault.A2lFault.{A2lFault}
 use Rattle.a2l.specs.declared.fault.A2lFault.TheVariants as fault
 use Rattle.a2l.specs.declared.reading.ReadFault.{ReadFault}
 use Rattle.a2l.specs.declared.reading.ReadFault.TheVariants as read
-use Rattle.a2l_blocks.specs.declared.block_fault.BlockFault.TheVariants as block
+use Rattle.a2l_text.specs.declared.block_fault.BlockFault.TheVariants as block
 use Rattle.a2l.specs.Whole.{to_come, Continues, IsAllOf, MakesNone, UnlessStopped, UnlessFault, UnlessOut, HasNoPart, Takes, is_memory, is_out, Describes, DescribesNothing, IsTextOf}
 
 pub begins : (s : State) (d : Told × Described) → Continues s d s d
@@ -57,15 +57,15 @@ part_taken old from s new d e p g c r is h = record {
 }
 
 -- it says nothing
-pub part_stops : (old : State) (from : Told × Described) (s new : State) (d : Told × Described) (p : Part) (g : List Token) (x : Stop) → Continues old from s d → ReachesPart p s.ahead (coming (cleared s)) new
+pub part_stops : (old : State) (from : Told × Described) (s new : State) (d : Told × Described) (p : Part) (g : List Token) (x : EntryFault) → Continues old from s d → ReachesPart p s.ahead (coming (cleared s)) new
     → g ≡ new.gathered → Stops x (after_part p g d) → UnlessStopped x ((words : List Token) → AreWords old.ahead words → to_come old from words ≡ None)
-part_stops old from s new d p g stop.Memory c r is h = tt
-part_stops old from s new d p g (stop.Awaited at what) c r is h = λ words a.
+part_stops old from s new d p g entry.Memory c r is h = tt
+part_stops old from s new d p g (entry.Awaited at what) c r is h = λ words a.
     let t = c.there words a in
     let u = r.there t.0 t.1 in
     t.2 ∙ ap (λ (o : Option (List Section)). o >>= described_from d) u.2
     ∙ no_more p new.gathered d (coming (cleared new) u.0) (ap (λ (x : List Token). after_part p x d) (sym is) ∙ h)
-part_stops old from s new d p g (stop.Refused at what) c r is h = λ words a.
+part_stops old from s new d p g (entry.Refused at what) c r is h = λ words a.
     let t = c.there words a in
     let u = r.there t.0 t.1 in
     t.2 ∙ ap (λ (o : Option (List Section)). o >>= described_from d) u.2
@@ -131,9 +131,9 @@ unless_at (read.Block block.TooDeep) P e h = h
 unless_at (read.Block block.Name) P e h = h
 unless_at (read.Block (block.End name)) P e h = h
 unless_at (read.Block block.Stray) P e h = h
-unless_at (read.Stop stop.Memory) P e h = absurd cc
-unless_at (read.Stop (stop.Awaited at what)) P e h = h
-unless_at (read.Stop (stop.Refused at what)) P e h = h
+unless_at (read.Entry entry.Memory) P e h = absurd cc
+unless_at (read.Entry (entry.Awaited at what)) P e h = h
+unless_at (read.Entry (entry.Refused at what)) P e h = h
 
 pub unless_out : (r : A2lFault) (f : ReadFault) (P : Type 0) → is_out r ≡ is_memory f → UnlessFault f P → UnlessOut r P
 unless_out fault.Memory f P e h = tt
@@ -141,20 +141,20 @@ unless_out (fault.At place reason) f P e h = unless_at f P (sym e) h
 
 pub fault_weaker : (f : ReadFault) (P Q : Type 0) → (P → Q) → UnlessFault f P → UnlessFault f Q
 fault_weaker (read.Block f) P Q h p = unless_weaker f P Q h p
-fault_weaker (read.Stop stop.Memory) P Q h p = tt
-fault_weaker (read.Stop (stop.Awaited at what)) P Q h p = h p
-fault_weaker (read.Stop (stop.Refused at what)) P Q h p = h p
+fault_weaker (read.Entry entry.Memory) P Q h p = tt
+fault_weaker (read.Entry (entry.Awaited at what)) P Q h p = h p
+fault_weaker (read.Entry (entry.Refused at what)) P Q h p = h p
 
 -- no part is next, where reading came so far
 pub no_part : (f : ReadFault) (old : State) (from : Told × Described) (s : State) (d : Told × Described) → Continues old from s d → HasNoPart f s → MakesNone f old from
 no_part (read.Block f) old from s d c h = blocks_stop f old from s d c h
-no_part (read.Stop x) old from s d c h = absurd h
+no_part (read.Entry x) old from s d c h = absurd h
 
 -- a part says nothing, where reading came so far
 pub part_says_none : (f : ReadFault) (old : State) (from : Told × Described) (s new : State) (d e : Told × Described) (p : Part) (g : List Token) → Continues old from s d → ReachesPart p s.ahead (coming (cleared s)) new
     → g ≡ new.gathered → Takes (Err f) (after_part p g d) e → MakesNone f old from
 part_says_none (read.Block f) old from s new d e p g c r is h = absurd h
-part_says_none (read.Stop x) old from s new d e p g c r is h = part_stops old from s new d p g x c r is h
+part_says_none (read.Entry x) old from s new d e p g c r is h = part_stops old from s new d p g x c r is h
 
 pub next_none : (q : Option Part) (old new : State) → ((p : Part) → q ≡ Some p → ⊥) → NextIs q old new → Ends old.ahead (coming old)
 next_none None old new n h = h

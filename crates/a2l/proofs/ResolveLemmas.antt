@@ -4,8 +4,8 @@ use Rattle.std.specs.Prelude.{slice_get}
 use Rattle.std.specs.Option.{option_map, option_and_then, option_to_list}
 use Rattle.std.proofs.lemmas.List.{append-nil}
 use Rattle.std.specs.Prelude.{string_bytes}
-use Rattle.measurement.specs.declared.byte_order.ByteOrder.{ByteOrder}
-use Rattle.a2l_entries.specs.declared.stop.Stop.{Stop}
+use Rattle.measured_values.specs.declared.byte_order.ByteOrder.{ByteOrder}
+use Rattle.a2l_entries.specs.declared.entry_fault.EntryFault.{EntryFault}
 use Rattle.a2l_entries.specs.declared.table_block.TableBlock.{TableBlock}
 use Rattle.a2l_entries.specs.declared.method_block.MethodBlock.{MethodBlock}
 use Rattle.a2l_entries.specs.MethodSaid.{Converted, method_seen}
@@ -34,7 +34,7 @@ module _ {X A B : Type 0} (seen : X → A) (f : A → Option B) where
       ∙ ap (λ (o : Option B). with_front front (o >>= λ z. all_of f (map seen (drop (i + 1) xs)) >>= λ ys. Some (z ∷ ys))) (sym e)
       ∙ ap (λ (l : List A). with_front front (all_of f l)) (sym (rest_at seen xs i x lt is)) ∙ so_far
 
-  pub all_stop : (e : Stop) (xs : List X) (i : ℕ) (x : X) (front : List B) (total : Option (List B)) → i < length xs → x ≡ get_or xs i x → Stops e (f (seen x))
+  pub all_stop : (e : EntryFault) (xs : List X) (i : ℕ) (x : X) (front : List B) (total : Option (List B)) → i < length xs → x ≡ get_or xs i x → Stops e (f (seen x))
       → with_front front (all_of f (map seen (drop i xs))) ≡ total → Stops e total
   all_stop e xs i x front total lt is s so_far = stops_along e (f (seen x)) total (λ (n : f (seen x) ≡ None).
       sym so_far ∙ ap (λ (l : List A). with_front front (all_of f l)) (rest_at seen xs i x lt is)
@@ -76,7 +76,7 @@ module _ {X A B : Type 0} (seen : X → A) (f : A → Option (Option B)) where
   not_kept front None e = refl
   not_kept front (Some y) e = absurd cc
 
-  pub kept_stop : (e : Stop) (xs : List X) (i : ℕ) (x : X) (front : List B) (total : Option (List B)) → i < length xs → x ≡ get_or xs i x → Stops e (kept_behind front (f (seen x)))
+  pub kept_stop : (e : EntryFault) (xs : List X) (i : ℕ) (x : X) (front : List B) (total : Option (List B)) → i < length xs → x ≡ get_or xs i x → Stops e (kept_behind front (f (seen x)))
       → with_front front (option_map present (all_of f (map seen (drop i xs)))) ≡ total → Stops e total
   kept_stop e xs i x front total lt is s so_far = stops_along e (kept_behind front (f (seen x))) total (λ (n : kept_behind front (f (seen x)) ≡ None).
       sym so_far ∙ ap (λ (l : List A). with_front front (option_map present (all_of f l))) (rest_at seen xs i x lt is)

@@ -2,14 +2,14 @@
 use Rattle.std.specs.Prelude.{◌≡◌, ℕ, List, [], ◌∷◌, ◌++◌, map, length, Option, Some, None}
 use Rattle.std.specs.Prelude.{string_bytes}
 use Rattle.std.specs.Option.{option_map, unwrap_or}
-use Rattle.measurement.specs.declared.byte_order.ByteOrder.TheVariants.{MsbLast}
-use Rattle.a2l_words.specs.Tokens.{Token}
-use Rattle.a2l_blocks.specs.Trees.{Elements, IsWithin, printed}
-use Rattle.a2l_blocks.specs.Parts.{Section, parts}
-use Rattle.a2l_blocks.specs.declared.part.Part.{Part}
-use Rattle.a2l_blocks.specs.declared.part.Part.TheVariants as part
-use Rattle.a2l_blocks.specs.declared.role.Role.TheVariants.{File}
-use Rattle.measurement.specs.declared.tick.Tick.{Tick}
+use Rattle.measured_values.specs.declared.byte_order.ByteOrder.TheVariants.{MsbLast}
+use Rattle.a2l_text.specs.Tokens.{Token}
+use Rattle.a2l_text.specs.Trees.{Elements, IsWithin, printed}
+use Rattle.a2l_text.specs.Parts.{Section, parts}
+use Rattle.a2l_text.specs.declared.part.Part.{Part}
+use Rattle.a2l_text.specs.declared.part.Part.TheVariants as part
+use Rattle.a2l_text.specs.declared.role.Role.TheVariants.{File}
+use Rattle.measured_values.specs.declared.tick.Tick.{Tick}
 use Rattle.a2l.specs.declared.description.Description.{Description}
 use Rattle.a2l_entries.specs.Gives.{◌>>=◌}
 use Rattle.a2l_entries.specs.MeasurementSaid.{instance_said, measurement_said}

@@ -4,7 +4,7 @@ use Rattle.std.specs.Prelude.{ℕ, ◌+◌, ◌*◌, ◌/◌, ◌%◌, ◌^◌, 
 use Rattle.std.specs.Prelude.{Option, Some, None, if◌then◌else◌}
 use Rattle.std.specs.Fmt.{decimal}
 use Rattle.std.specs.Option.{option_map, unwrap_or}
-use Rattle.measurement.specs.Encodings.{size_of}
+use Rattle.measured_values.specs.Encodings.{size_of}
 use Rattle.a2l_entries.specs.Dimensions.{element_count}
 use Rattle.a2l_entries.specs.declared.layout.Layout.{Layout}
 use Rattle.a2l_entries.specs.declared.layout.Layout.TheVariants.{Columns, Rows}

@@ -1,10 +1,10 @@
 -- What the blocks of a MODULE say, as they stand in it (ASAM MCD-2 MC, MODULE).
 use Rattle.std.specs.Prelude.{ℕ, List, [], ◌∷◌, ◌++◌, map, Option, Some, None}
 use Rattle.std.specs.Option.{option_or}
-use Rattle.a2l_words.specs.Tokens.{Token}
-use Rattle.a2l_blocks.specs.declared.part.Part.{Part}
-use Rattle.a2l_blocks.specs.declared.part.Part.TheVariants as part
-use Rattle.measurement.specs.declared.byte_order.ByteOrder.{ByteOrder}
+use Rattle.a2l_text.specs.Tokens.{Token}
+use Rattle.a2l_text.specs.declared.part.Part.{Part}
+use Rattle.a2l_text.specs.declared.part.Part.TheVariants as part
+use Rattle.measured_values.specs.declared.byte_order.ByteOrder.{ByteOrder}
 use Rattle.a2l.specs.declared.module_parts.ModuleParts.{ModuleParts}
 use Rattle.a2l_entries.specs.Gives.{◌>>=◌}
 use Rattle.a2l_entries.specs.Keywords.{default_said}

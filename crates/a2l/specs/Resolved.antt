@@ -3,11 +3,11 @@ use Rattle.std.specs.Prelude.{ℕ, ◌+◌, Bool, List, [], ◌∷◌, ◌++◌,
 use Rattle.std.specs.Prelude.{if◌then◌else◌, is_some, string_bytes}
 use Rattle.std.specs.Option.{option_map, option_and_then, option_to_list, unwrap_or}
 use Rattle.std.specs.Float.Ieee.{Float}
-use Rattle.measurement.specs.declared.byte_order.ByteOrder.{ByteOrder}
-use Rattle.measurement.specs.declared.byte_order.ByteOrder.TheVariants.{MsbLast}
-use Rattle.measurement.specs.declared.encoding.Encoding.{Encoding}
-use Rattle.measurement.specs.declared.conversion.Conversion.{Conversion}
-use Rattle.measurement.specs.declared.conversion.Conversion.TheVariants as conversion
+use Rattle.measured_values.specs.declared.byte_order.ByteOrder.{ByteOrder}
+use Rattle.measured_values.specs.declared.byte_order.ByteOrder.TheVariants.{MsbLast}
+use Rattle.measured_values.specs.declared.encoding.Encoding.{Encoding}
+use Rattle.measured_values.specs.declared.conversion.Conversion.{Conversion}
+use Rattle.measured_values.specs.declared.conversion.Conversion.TheVariants as conversion
 use Rattle.a2l.specs.declared.description.Measurement.{Measurement}
 use Rattle.a2l.specs.declared.description.Method.{Method}
 use Rattle.a2l_entries.specs.Gives.{◌>>=◌}

@@ -1,15 +1,15 @@
 -- What a text says of what can be measured.
 use Rattle.std.specs.Prelude.{◌≡◌, ℕ, Bool, true, false, List, Option, Some, None, Result, Ok, Err}
-use Rattle.a2l_words.specs.Tokens.{Token}
-use Rattle.a2l_words.specs.Words.{AreWords, without_mark}
-use Rattle.a2l_blocks.specs.Trees.{Elements, IsWithin, printed}
-use Rattle.a2l_blocks.specs.declared.block_fault.BlockFault.TheVariants as block
-use Rattle.a2l_blocks.specs.declared.role.Role.TheVariants.{File}
-use Rattle.a2l_blocks.specs.Steps.{State, UnlessMemory, StopsAt, coming, cleared}
+use Rattle.a2l_text.specs.Tokens.{Token}
+use Rattle.a2l_text.specs.Words.{AreWords, without_mark}
+use Rattle.a2l_text.specs.Trees.{Elements, IsWithin, printed}
+use Rattle.a2l_text.specs.declared.block_fault.BlockFault.TheVariants as block
+use Rattle.a2l_text.specs.declared.role.Role.TheVariants.{File}
+use Rattle.a2l_text.specs.Steps.{State, UnlessMemory, StopsAt, coming, cleared}
 use Rattle.a2l.specs.declared.fault.A2lFault.{A2lFault}
 use Rattle.a2l.specs.declared.fault.A2lFault.TheVariants as fault
-use Rattle.a2l_entries.specs.declared.stop.Stop.{Stop}
-use Rattle.a2l_entries.specs.declared.stop.Stop.TheVariants as stop
+use Rattle.a2l_entries.specs.declared.entry_fault.EntryFault.{EntryFault}
+use Rattle.a2l_entries.specs.declared.entry_fault.EntryFault.TheVariants as entry
 use Rattle.a2l.specs.declared.reading.ReadFault.{ReadFault}
 use Rattle.a2l.specs.declared.reading.ReadFault.TheVariants as read
 use Rattle.a2l_entries.specs.Gives.{◌>>=◌, Stops}
@@ -60,14 +60,14 @@ pub record IsAllOf (old : State) (from d : Told × Described) : Type 0 where
   pub are : AreWords old.ahead words
   pub says : to_come old from words ≡ Some d.1
 
-abbrev pub UnlessStopped : Stop → Type 0 → Type 0
-UnlessStopped stop.Memory P = Unit {0}
-UnlessStopped (stop.Awaited at what) P = P
-UnlessStopped (stop.Refused at what) P = P
+abbrev pub UnlessStopped : EntryFault → Type 0 → Type 0
+UnlessStopped entry.Memory P = Unit {0}
+UnlessStopped (entry.Awaited at what) P = P
+UnlessStopped (entry.Refused at what) P = P
 
 abbrev pub UnlessFault : ReadFault → Type 0 → Type 0
 UnlessFault (read.Block f) P = UnlessMemory f P
-UnlessFault (read.Stop s) P = UnlessStopped s P
+UnlessFault (read.Entry s) P = UnlessStopped s P
 
 -- the text has no words, or they make no description
 abbrev pub MakesNone : ReadFault → State → Told × Described → Type 0
@@ -77,14 +77,14 @@ MakesNone f old from =
 -- no part is next
 abbrev pub HasNoPart : ReadFault → State → Type 0
 HasNoPart (read.Block f) old = StopsAt f old.ahead (coming (cleared old))
-HasNoPart (read.Stop s) old = ⊥
+HasNoPart (read.Entry s) old = ⊥
 
 -- a part is taken, or says nothing
 abbrev pub Takes :
     Result (Unit {0}) ReadFault → Option (Told × Described) → Told × Described → Type 0
 Takes (Ok u) said new = said ≡ Some new
 Takes (Err (read.Block f)) said new = ⊥
-Takes (Err (read.Stop s)) said new = Stops s said
+Takes (Err (read.Entry s)) said new = Stops s said
 
 -- memory ran out
 abbrev pub is_memory : ReadFault → Bool
@@ -95,9 +95,9 @@ is_memory (read.Block block.TooDeep) = false
 is_memory (read.Block block.Name) = false
 is_memory (read.Block (block.End name)) = false
 is_memory (read.Block block.Stray) = false
-is_memory (read.Stop stop.Memory) = true
-is_memory (read.Stop (stop.Awaited at what)) = false
-is_memory (read.Stop (stop.Refused at what)) = false
+is_memory (read.Entry entry.Memory) = true
+is_memory (read.Entry (entry.Awaited at what)) = false
+is_memory (read.Entry (entry.Refused at what)) = false
 
 abbrev pub is_out : A2lFault → Bool
 is_out fault.Memory = true

@@ -1,9 +1,10 @@
+//! What is read off an A2L file, in plain data: measurements, methods, what is left out.
 ghost use Rattle.std.specs.Prelude.{◌≡◌, map};
 ghost use Rattle.a2l.specs.Units.{unit_at};
 ghost use Rattle.a2l.specs.Resolved.{described_method};
 
 use a2l_entries::Layout;
-use measurement::{Conversion, Encoding, Tick};
+use measured_values::{Conversion, Encoding, Tick};
 
 /// What an A2L file says of what can be measured.
 #[derive(Debug, Drop)]

@@ -1,3 +1,4 @@
+//! What has been read of an A2L file so far, MODULE by MODULE.
 ghost use Rattle.std.specs.Prelude.{◌≡◌, ◌++◌, OnOk, map, string_bytes};
 ghost use Rattle.a2l_entries.specs.Gives.{Gives};
 ghost use Rattle.a2l_entries.specs.Said.{tokens_of};
@@ -11,9 +12,9 @@ ghost use Rattle.a2l.specs.ModuleSaid.{module_seen, no_parts};
 use crate::description::Description;
 use crate::module_parts::ModuleParts;
 use crate::resolving::{add_measurements, add_methods, address_of};
-use a2l_blocks::Part;
-use a2l_entries::{Left, MeasurementBlock, Stop, instance_of, measurement_of, tick_of};
-use measurement::ByteOrder;
+use a2l_entries::{EntryFault, Left, MeasurementBlock, instance_of, measurement_of, tick_of};
+use a2l_text::Part;
+use measured_values::ByteOrder;
 use std::alloc::{AllocError, Global};
 use std::mem;
 
@@ -50,7 +51,7 @@ impl Draft {
     }
 
     /// Adds what a part says.
-    pub fn take(&mut self, alloc: Global, part: Part, words: Left<'_, '_>) -> Result<(), Stop>
+    pub fn take(&mut self, alloc: Global, part: Part, words: Left<'_, '_>) -> Result<(), EntryFault>
         ensures { Gives (λ _. draft_seen self.new) result
             (after_part part (tokens_of words.entry) (draft_seen self.old)) }
     {
@@ -68,7 +69,7 @@ impl Draft {
 
     /// Adds a measurement, and its name to those that are left out if it isn't kept.
     #[tactic(auto, unfolding(crate::specs::Described::with_measurement))]
-    fn take_measurement(&mut self, alloc: Global, words: Left<'_, '_>) -> Result<(), Stop>
+    fn take_measurement(&mut self, alloc: Global, words: Left<'_, '_>) -> Result<(), EntryFault>
         ensures { Gives (λ _. draft_seen self.new) result
             (with_measurement (tokens_of words.entry) (draft_seen self.old)) }
     {
@@ -99,7 +100,7 @@ fn note_instance(
     alloc: Global,
     description: &mut Description,
     words: Left<'_, '_>,
-) -> Result<(), Stop>
+) -> Result<(), EntryFault>
     ensures { Gives (λ _. description_seen description.new) result
         (with_instance (tokens_of words.entry) (description_seen description.old)) }
 {
@@ -115,7 +116,7 @@ fn add_module(
     description: &mut Description,
     module: &ModuleParts,
     room: &mut usize,
-) -> Result<(), Stop>
+) -> Result<(), EntryFault>
     ensures { Gives (λ _. description_seen description.new) result
         (with_module (module_seen module.now) (description_seen description.old)) }
 {
@@ -140,7 +141,7 @@ fn add_module(
 
 /// Keeps the first tick.
 #[tactic(auto, unfolding(crate::specs::Described::with_tick))]
-fn note_tick(description: &mut Description, words: Left<'_, '_>) -> Result<(), Stop>
+fn note_tick(description: &mut Description, words: Left<'_, '_>) -> Result<(), EntryFault>
     ensures { Gives (λ _. description_seen description.new) result
         (with_tick (tokens_of words.entry) (description_seen description.old)) }
 {

@@ -1,5 +1,6 @@
+//! Why an A2L file gives no description, with the line and the column of the fault.
 use a2l_entries::{Awaited, Refused};
-use a2l_words::Place;
+use a2l_text::Place;
 use thiserror::Error;
 
 /// Why a text gives no description.

@@ -1,14 +1,15 @@
+//! The blocks of a MODULE are gathered until it ends: only then all names are known.
 ghost use Rattle.std.specs.Prelude.{◌≡◌};
 ghost use Rattle.a2l_entries.specs.Gives.{Gives};
 ghost use Rattle.a2l_entries.specs.Said.{tokens_of};
 ghost use Rattle.a2l.specs.ModuleSaid.{module_seen, no_parts, with_part};
 
-use a2l_blocks::Part;
 use a2l_entries::{
-    Left, MeasurementBlock, MethodBlock, Stop, TableBlock, default_order, method_of, ranges_of,
-    table_of,
+    EntryFault, Left, MeasurementBlock, MethodBlock, TableBlock, default_order, method_of,
+    ranges_of, table_of,
 };
-use measurement::ByteOrder;
+use a2l_text::Part;
+use measured_values::ByteOrder;
 use std::alloc::Global;
 
 /// What the blocks of one MODULE say, as they stand in it (ASAM MCD-2 MC, MODULE).
@@ -37,7 +38,7 @@ impl ModuleParts {
     /// Adds what a part says that is no measurement. A part that says nothing of how values are
     /// shown is passed over.
     #[tactic(auto, unfolding(crate::specs::ModuleSaid::with_part))]
-    pub fn take(&mut self, alloc: Global, part: Part, words: Left<'_, '_>) -> Result<(), Stop>
+    pub fn take(&mut self, alloc: Global, part: Part, words: Left<'_, '_>) -> Result<(), EntryFault>
         ensures { Gives (λ _. module_seen self.new) result
             (with_part part (tokens_of words.entry) (module_seen self.old)) }
     {

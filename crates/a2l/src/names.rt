@@ -1,3 +1,4 @@
+//! The places of names in a list; of two names that are the same the first counts.
 ghost use Rattle.std.specs.Prelude.{◌≡◌, OnOk};
 ghost use Rattle.std.specs.BTreeMap.{get_by_text};
 ghost use Rattle.a2l.specs.Names.{NotesName};

@@ -1,8 +1,9 @@
+//! An A2L file is read block by block, and a fault gets its line and its column.
 ghost use Rattle.std.specs.Prelude.{◌≡◌, ◌≤◌, false, length, IfOk, IfErr, IsSome, ◌<◌};
-ghost use Rattle.a2l_blocks.specs.Steps.{NextIs, cleared};
-ghost use Rattle.a2l_blocks.specs.States.{state_of};
-ghost use Rattle.a2l_blocks.specs.Trees.{Elements};
-ghost use Rattle.a2l_words.specs.State.{rest_of};
+ghost use Rattle.a2l_text.specs.Steps.{NextIs, cleared};
+ghost use Rattle.a2l_text.specs.States.{state_of};
+ghost use Rattle.a2l_text.specs.Trees.{Elements};
+ghost use Rattle.a2l_text.specs.State.{rest_of};
 ghost use Rattle.a2l.specs.ModuleSaid.{no_parts};
 ghost use Rattle.a2l.specs.Drafts.{draft_seen};
 ghost use Rattle.a2l_entries.specs.Said.{tokens_of};
@@ -13,9 +14,8 @@ ghost use Rattle.a2l.specs.Whole.{IsAllOf, MakesNone, HasNoPart, Takes, is_memor
 use crate::description::Description;
 use crate::draft::Draft;
 use crate::fault::{A2lFault, Reason};
-use a2l_blocks::{BlockFault, Blocks, Part};
-use a2l_entries::{Awaited, Left, Refused, Stop};
-use a2l_words::{WordFault, place_of};
+use a2l_entries::{Awaited, EntryFault, Left, Refused};
+use a2l_text::{BlockFault, Blocks, Part, WordFault, place_of};
 use std::alloc::Global;
 
 /// How long a text may be, in bytes: 64 MiB.
@@ -26,13 +26,16 @@ impl Description {
     ///
     /// Names and texts are UTF-8, or else ISO 8859-1. Of two methods or tables of one name in a
     /// MODULE a reference means the first; of two options of one kind in a block the first counts.
-    /// A measurement without an address, with an address extension other than 0, or that is an
-    /// array, is checked like the others and left out.
+    /// A measurement is checked like the others, and only its name is kept, in `left_out`, if it
+    /// has no address, or an extension other than 0, or if it is an array of no or of more than
+    /// 65,536 elements, or in an order that isn't known.
     ///
     /// A table that several methods name is copied for each of them. Copies of more than 256 MiB in
     /// all count as a lack of memory.
     ///
-    /// A fault says where it lies. No clause says that it is the first one, or where it lies.
+    /// Refused if the text is longer than `MAX_TEXT`, if something in it is wrong, or without
+    /// memory. A fault has a line and a column; no clause says that they are right, or that it is
+    /// the first.
     pub fn read(alloc: Global, text: &[u8]) -> Result<Description, A2lFault>
         // The text is the printing of elements, and this is what they describe.
         ensures found { IfOk result (λ d. Describes text.now (description_seen d)) }
@@ -67,8 +70,8 @@ impl Description {
 pub enum ReadFault {
     /// There is no next part.
     Block(BlockFault),
-    /// A part says nothing.
-    Stop(Stop),
+    /// The words of a part can't be read.
+    Entry(EntryFault),
 }
 
 /// What all parts say.
@@ -110,17 +113,17 @@ fn take(draft: &mut Draft, alloc: Global, part: Part, words: Left<'_, '_>) -> Re
 {
     match draft.take(alloc, part, words) {
         Ok(()) => Ok(()),
-        Err(stop) => Err(ReadFault::Stop(stop)),
+        Err(fault) => Err(ReadFault::Entry(fault)),
     }
 }
 
-/// The fault of a text. `at` is where its newest word stands.
+/// The fault of a text, with its line and column; `at` is the offset of its newest word.
 fn fault_of(text: &[u8], at: usize, fault: ReadFault) -> A2lFault
     ensures { is_out result ≡ is_memory fault }
 {
     match fault {
         ReadFault::Block(fault) => block_fault(text, at, fault),
-        ReadFault::Stop(stop) => stop_fault(text, stop),
+        ReadFault::Entry(fault) => entry_fault(text, fault),
     }
 }
 
@@ -133,13 +136,13 @@ fn fault_at(text: &[u8], at: usize, reason: Reason) -> A2lFault
     }
 }
 
-fn stop_fault(text: &[u8], stop: Stop) -> A2lFault
-    ensures { is_out result ≡ is_memory (ReadFault.Stop stop) }
+fn entry_fault(text: &[u8], fault: EntryFault) -> A2lFault
+    ensures { is_out result ≡ is_memory (ReadFault.Entry fault) }
 {
-    match stop {
-        Stop::Memory => A2lFault::Memory,
-        Stop::Awaited(at, awaited) => fault_at(text, at, Reason::Awaited(awaited)),
-        Stop::Refused(at, refused) => fault_at(text, at, Reason::Refused(refused)),
+    match fault {
+        EntryFault::Memory => A2lFault::Memory,
+        EntryFault::Awaited(at, awaited) => fault_at(text, at, Reason::Awaited(awaited)),
+        EntryFault::Refused(at, refused) => fault_at(text, at, Reason::Refused(refused)),
     }
 }
 

@@ -1,3 +1,4 @@
+//! The blocks of a MODULE become measurements and methods: names are looked up, tables copied.
 ghost use Rattle.std.specs.Prelude.{◌≡◌, IfOk, map, option_map, string_bytes};
 ghost use Rattle.std.specs.BTreeMap.{get_by_text};
 ghost use Rattle.a2l_entries.specs.Gives.{Gives};
@@ -12,8 +13,10 @@ ghost use Rattle.a2l.specs.Resolved.{kept_behind};
 
 use crate::description::{Measurement, Method};
 use crate::names::{Places, note, place_of};
-use a2l_entries::{MeasurementBlock, MethodBlock, Reference, Refused, Rule, Stop, TableBlock};
-use measurement::{ByteOrder, Conversion, Encoding, TextRow, TextTable};
+use a2l_entries::{
+    EntryFault, MeasurementBlock, MethodBlock, Reference, Refused, Rule, TableBlock,
+};
+use measured_values::{ByteOrder, Conversion, Encoding, TextRow, TextTable};
 use std::alloc::{AllocError, Global};
 use std::collections::BTreeMap;
 
@@ -51,7 +54,7 @@ pub fn add_methods(
     methods: &[MethodBlock],
     tables: &[TableBlock],
     room: &mut usize,
-) -> Result<(), Stop>
+) -> Result<(), EntryFault>
     ensures { Gives (λ _. map described_method out.new.items) result
         (with_front (map described_method out.old.items) (methods_of (map table_seen tables.now)
         (map method_seen methods.now))) }
@@ -61,7 +64,7 @@ pub fn add_methods(
         let method = described_method(alloc, method, tables, &places)?;
         let bytes = bytes_of(&method.conversion);
         if bytes > *room {
-            return Err(Stop::Memory);
+            return Err(EntryFault::Memory);
         }
         *room -= bytes;
         out.push(method)?;
@@ -86,7 +89,7 @@ fn described_method(
     method: &MethodBlock,
     tables: &[TableBlock],
     places: &Places,
-) -> Result<Method, Stop>
+) -> Result<Method, EntryFault>
     requires { ArePlaces (map (λ t. string_bytes t.name) tables.now) places.now }
     ensures { Gives described_method result
         (method_of (map table_seen tables.now) (method_seen method.now)) }
@@ -107,7 +110,7 @@ fn conversion_of(
     rule: &Rule,
     tables: &[TableBlock],
     places: &Places,
-) -> Result<Conversion, Stop>
+) -> Result<Conversion, EntryFault>
     requires { ArePlaces (map (λ t. string_bytes t.name) tables.now) places.now }
     ensures { Gives conversion_seen result
         (rule_of (map table_seen tables.now) (rule_seen rule.now)) }
@@ -137,15 +140,15 @@ fn texts_of(
     reference: &Reference,
     tables: &[TableBlock],
     places: &Places,
-) -> Result<TextTable, Stop>
+) -> Result<TextTable, EntryFault>
     requires { ArePlaces (map (λ t. string_bytes t.name) tables.now) places.now }
     ensures { Gives texts_seen result
         (table_named (name_of reference.now) (map table_seen tables.now)) }
 {
     match place_of(places, reference.name.as_str()) {
-        None => Err(Stop::Refused(reference.at, Refused::NoTable)),
+        None => Err(EntryFault::Refused(reference.at, Refused::NoTable)),
         Some(place) => match tables.get(place) {
-            None => Err(Stop::Refused(reference.at, Refused::NoTable)),
+            None => Err(EntryFault::Refused(reference.at, Refused::NoTable)),
             Some(table) => Ok(copy_of(alloc, &table.table)?),
         },
     }
@@ -205,7 +208,7 @@ pub fn add_measurements(
     methods: &[MethodBlock],
     order: ByteOrder,
     before: usize,
-) -> Result<(), Stop>
+) -> Result<(), EntryFault>
     ensures { Gives (λ _. map described_measurement out.new.items) result
         (with_front (map described_measurement out.old.items)
         (values_of order before (map method_seen methods.now)
@@ -230,7 +233,7 @@ fn add_measurement(
     out: &mut Vec<Measurement>,
     measurement: &MeasurementBlock,
     setting: Setting<'_>,
-) -> Result<(), Stop>
+) -> Result<(), EntryFault>
     ensures { Gives (λ _. map described_measurement out.new.items) result
         (kept_behind (map described_measurement out.old.items)
         (value_of setting.entry.order setting.entry.before
@@ -248,7 +251,10 @@ fn add_measurement(
 }
 
 /// The place of a method in the description.
-fn method_place(method: &Option<Reference>, setting: Setting<'_>) -> Result<Option<usize>, Stop>
+fn method_place(
+    method: &Option<Reference>,
+    setting: Setting<'_>,
+) -> Result<Option<usize>, EntryFault>
     ensures { Gives (λ x. x) result
         (method_place setting.entry.before (get_by_text setting.entry.places.now)
         (option_map name_of method.now)) }
@@ -260,9 +266,9 @@ fn method_place(method: &Option<Reference>, setting: Setting<'_>) -> Result<Opti
         // So many methods can't be in memory that their number doesn't fit.
         Some(place) => match setting.before.checked_add(place) {
             Some(place) => Ok(Some(place)),
-            None => Err(Stop::Memory),
+            None => Err(EntryFault::Memory),
         },
-        None => Err(Stop::Refused(reference.at, Refused::NoMethod)),
+        None => Err(EntryFault::Refused(reference.at, Refused::NoMethod)),
     }
 }
 

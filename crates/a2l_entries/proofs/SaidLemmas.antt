@@ -11,9 +11,9 @@ use Rattle.std.specs.Float.Ieee.{Float, of_int}
 use Rattle.std.proofs.lemmas.Bool.{lt-ltb, le-ltb, ltb-true, ltb-false}
 use Rattle.std.proofs.lemmas.Str.{IsUtf8-from_is_utf8, is_utf8-from_IsUtf8}
 use Rattle.fast_float.specs.Parse.{parse_float}
-use Rattle.a2l_words.specs.Tokens.{Token}
-use Rattle.a2l_words.specs.Texts.{unescaped, IsDecoded}
-use Rattle.a2l_words.specs.Numbers.{is_hexadecimal, radix_of, digits_of, IsInteger, integer_value, if_finite, SaysNumber}
+use Rattle.a2l_text.specs.Tokens.{Token}
+use Rattle.a2l_text.specs.Texts.{unescaped, IsDecoded}
+use Rattle.a2l_text.specs.Numbers.{is_hexadecimal, radix_of, digits_of, IsInteger, integer_value, if_finite, SaysNumber}
 use Rattle.a2l_entries.specs.Said.{plain_said, integer_said, decoded, kept, all_digits, is_integer, integer_in, nearest, number_in, behind}
 
 -- ---- texts

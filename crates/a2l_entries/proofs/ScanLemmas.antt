@@ -1,20 +1,20 @@
 -- Words that are read one after another, as a loop does.
 use Rattle.std.proofs.Common.{◌≡◌, ℕ, zero, suc, ◌+◌, ◌-◌, ◌<◌, ◌≤◌, List, [], ◌∷◌, ◌++◌, length, map, Option, Some, None, refl, sym, ap, subst, ◌∙◌, append_assoc, arith}
 use Rattle.std.specs.Option.{option_map, MatchOption}
-use Rattle.a2l_blocks.specs.declared.located.Located.{Located}
+use Rattle.a2l_text.specs.declared.located.Located.{Located}
 use Rattle.std.proofs.lemmas.List.{append-nil, length-map}
-use Rattle.a2l_words.specs.Tokens.{Token}
-use Rattle.a2l_entries.specs.declared.stop.Stop.{Stop}
-use Rattle.a2l_entries.specs.declared.stop.Stop.TheVariants as stop
+use Rattle.a2l_text.specs.Tokens.{Token}
+use Rattle.a2l_entries.specs.declared.entry_fault.EntryFault.{EntryFault}
+use Rattle.a2l_entries.specs.declared.entry_fault.EntryFault.TheVariants as entry
 use Rattle.a2l_entries.specs.Gives.{◌>>=◌, Stops}
 use Rattle.a2l_entries.specs.Said.{behind, token_at}
 use Rattle.a2l_entries.specs.Scans.{scanned, many}
 
 -- what stops a part stops the whole
-pub stops_along : {A B : Type 0} (e : Stop) (x : Option A) (y : Option B) → (x ≡ None → y ≡ None) → Stops e x → Stops e y
-stops_along stop.Memory x y h s = tt
-stops_along (stop.Awaited at what) x y h s = h s
-stops_along (stop.Refused at what) x y h s = h s
+pub stops_along : {A B : Type 0} (e : EntryFault) (x : Option A) (y : Option B) → (x ≡ None → y ≡ None) → Stops e x → Stops e y
+stops_along entry.Memory x y h s = tt
+stops_along (entry.Awaited at what) x y h s = h s
+stops_along (entry.Refused at what) x y h s = h s
 
 -- ---- options
 
@@ -45,13 +45,13 @@ module _ {O : Type 0} (none : O) (or : O → O → O) (count : Token → ℕ) (o
       let whole : scanned none or count one 0 (w ∷ ws) ≡ (scanned none or count one 0 rest >>= λ x. Some (or first x)) = rw (e, passed (count w) ws, f) refl in
       sym (regroup m acc first (scanned none or count one 0 rest)) ∙ ap (option_map (or acc)) (sym whole) ∙ so_far
 
-  pub stops_one : (e : Stop) (acc : O) (w : Token) (ws : List Token) (total : Option O) → Stops e (one w ws)
+  pub stops_one : (e : EntryFault) (acc : O) (w : Token) (ws : List Token) (total : Option O) → Stops e (one w ws)
       → option_map (or acc) (scanned none or count one 0 (w ∷ ws)) ≡ total → Stops e total
   unfolding scanned
   stops_one e acc w ws total s so_far = stops_along e (one w ws) total (λ (n : one w ws ≡ None).
       let whole : scanned none or count one 0 (w ∷ ws) ≡ None = rw n refl in sym so_far ∙ ap (option_map (or acc)) whole) s
 
-  pub stops_behind : (e : Stop) (acc first : O) (w : Token) (ws : List Token) (total : Option O) → one w ws ≡ Some first → Stops e (behind (count w) ws)
+  pub stops_behind : (e : EntryFault) (acc first : O) (w : Token) (ws : List Token) (total : Option O) → one w ws ≡ Some first → Stops e (behind (count w) ws)
       → option_map (or acc) (scanned none or count one 0 (w ∷ ws)) ≡ total → Stops e total
   unfolding scanned
   stops_behind e acc first w ws total f s so_far = stops_along e (behind (count w) ws) total (λ (n : behind (count w) ws ≡ None).
@@ -96,12 +96,12 @@ module _ {O K : Type 0} (none : O) (or : O → O → O) (key : Token → K) (arg
       goes_on none or (λ w. args (key w)) (λ w behind. one (key w) behind) m acc first w bs rest total (ap (λ (x : K). one x bs) (sym ek) ∙ e)
       (ap (λ (x : ℕ). behind x bs) (sym (en ∙ ap args ek)) ∙ f) (so_far_at acc ws w bs total is so_far)
 
-  pub options_stop : (e : Stop) (acc : O) (ws : List Token) (w : Token) (bs : List Token) (k : K) (total : Option O) → ws ≡ w ∷ bs → k ≡ key w
+  pub options_stop : (e : EntryFault) (acc : O) (ws : List Token) (w : Token) (bs : List Token) (k : K) (total : Option O) → ws ≡ w ∷ bs → k ≡ key w
       → Stops e (one k bs) → option_map (or acc) (all_said ws) ≡ total → Stops e total
   options_stop e acc ws w bs k total is ek s so_far =
       stops_one none or (λ w. args (key w)) (λ w behind. one (key w) behind) e acc w bs total (subst (λ (x : K). Stops e (one x bs)) ek s) (so_far_at acc ws w bs total is so_far)
 
-  pub options_stop_behind : (e : Stop) (acc first : O) (ws : List Token) (w : Token) (bs : List Token) (k : K) (n : ℕ) (total : Option O) → ws ≡ w ∷ bs → k ≡ key w → n ≡ args k
+  pub options_stop_behind : (e : EntryFault) (acc first : O) (ws : List Token) (w : Token) (bs : List Token) (k : K) (n : ℕ) (total : Option O) → ws ≡ w ∷ bs → k ≡ key w → n ≡ args k
       → one k bs ≡ Some first → Stops e (behind n bs) → option_map (or acc) (all_said ws) ≡ total → Stops e total
   options_stop_behind e acc first ws w bs k n total is ek en f s so_far =
       stops_behind none or (λ w. args (key w)) (λ w behind. one (key w) behind) e acc first w bs total (ap (λ (x : K). one x bs) (sym ek) ∙ f)
@@ -130,7 +130,7 @@ module _ {R : Type 0} (row : List Token → Option (R × List Token)) where
       let one : with_rows front (many row (count - i) ws) ≡ with_rows (front ++ r ∷ []) (many row (count - (i + 1)) after) = rw (k, h) (regroup_rows front r (many row (count - (i + 1)) after)) in
       sym one ∙ so_far
 
-  pub row_stops : (e : Stop) (front : List R) (count i : ℕ) (ws : List Token) (total : Option (List R × List Token)) → i < count → Stops e (row ws)
+  pub row_stops : (e : EntryFault) (front : List R) (count i : ℕ) (ws : List Token) (total : Option (List R × List Token)) → i < count → Stops e (row ws)
       → with_rows front (many row (count - i) ws) ≡ total → Stops e total
   unfolding many
   row_stops e front count i ws total lt s so_far = stops_along e (row ws) total (λ (n : row ws ≡ None).

@@ -1,7 +1,7 @@
 -- The dimensions of an array (ASAM MCD-2 MC, MATRIX_DIM and ARRAY_SIZE).
 use Rattle.std.specs.Prelude.{ℕ, ◌*◌, ◌&&◌, ◌==◌, nat_le, nat_lt, List, [], ◌∷◌}
 use Rattle.std.specs.Prelude.{Option, Some, None, if◌then◌else◌}
-use Rattle.a2l_words.specs.Tokens.{Token}
+use Rattle.a2l_text.specs.Tokens.{Token}
 use Rattle.a2l_entries.specs.Gives.{◌>>=◌}
 use Rattle.a2l_entries.specs.Said.{integer_said}
 

@@ -1,11 +1,13 @@
 -- The keywords of blocks (ASAM MCD-2 MC), and how many words belong to each.
 use Rattle.std.specs.Prelude.{ℕ, Bool, false, List, [], ◌∷◌, codes, bytes_eq, Option, Some}
 use Rattle.std.specs.Prelude.{None, if◌then◌else◌}
-use Rattle.a2l_words.specs.Tokens.{Token, begin, end, include, plain, quoted}
-use Rattle.measurement.specs.declared.byte_order.ByteOrder.{ByteOrder}
-use Rattle.measurement.specs.declared.byte_order.ByteOrder.TheVariants.{MsbLast, MsbFirst}
-use Rattle.measurement.specs.declared.data_type.DataType.{DataType}
-use Rattle.measurement.specs.declared.data_type.DataType.TheVariants as data_type
+use Rattle.std.specs.Option.{unwrap_or}
+use Rattle.a2l_text.specs.Keywords.{meaning}
+use Rattle.a2l_text.specs.Tokens.{Token, begin, end, include, plain, quoted}
+use Rattle.measured_values.specs.declared.byte_order.ByteOrder.{ByteOrder}
+use Rattle.measured_values.specs.declared.byte_order.ByteOrder.TheVariants.{MsbLast, MsbFirst}
+use Rattle.measured_values.specs.declared.data_type.DataType.{DataType}
+use Rattle.measured_values.specs.declared.data_type.DataType.TheVariants as data_type
 use Rattle.a2l_entries.specs.declared.keywords.MeasurementKeyword.{MeasurementKeyword}
 use Rattle.a2l_entries.specs.declared.keywords.MeasurementKeyword.TheVariants as option
 use Rattle.a2l_entries.specs.declared.keywords.OperationKeyword.{OperationKeyword}
@@ -19,42 +21,35 @@ use Rattle.a2l_entries.specs.declared.layout.Layout.TheVariants.{Rows, Columns}
 use Rattle.a2l_entries.specs.Gives.{◌>>=◌}
 use Rattle.a2l_entries.specs.Said.{plain_said, first_of}
 
-abbrev pub other_keyword_of : List ℕ → MeasurementKeyword
-other_keyword_of word =
-    if bytes_eq word (codes "DISPLAY_IDENTIFIER") then option.One
-    else (if bytes_eq word (codes "ERROR_MASK") then option.One
-    else (if bytes_eq word (codes "FORMAT") then option.One
-    else (if bytes_eq word (codes "LAYOUT") then option.Layout
-    else (if bytes_eq word (codes "MODEL_LINK") then option.One
-    else (if bytes_eq word (codes "REF_MEMORY_SEGMENT") then option.One
-    else (if bytes_eq word (codes "MAX_REFRESH") then option.Two
-    else (if bytes_eq word (codes "SYMBOL_LINK") then option.Two
-    else option.Other)))))))
-
-abbrev pub operation_keyword_of : List ℕ → MeasurementKeyword
-operation_keyword_of word =
-    if bytes_eq word (codes "BIT_OPERATION") then option.Operation operation.Name
-    else (if bytes_eq word (codes "LEFT_SHIFT") then option.Operation operation.Left
-    else (if bytes_eq word (codes "RIGHT_SHIFT") then option.Operation operation.Right
-    else (if bytes_eq word (codes "SIGN_EXTEND") then option.Operation operation.Sign
-    else other_keyword_of word)))
-
-abbrev pub measurement_keyword_of : List ℕ → MeasurementKeyword
-measurement_keyword_of word =
-    if bytes_eq word (codes "ECU_ADDRESS") then option.Address
-    else (if bytes_eq word (codes "ECU_ADDRESS_EXTENSION") then option.Extension
-    else (if bytes_eq word (codes "BYTE_ORDER") then option.Order
-    else (if bytes_eq word (codes "BIT_MASK") then option.Mask
-    else (if bytes_eq word (codes "PHYS_UNIT") then option.Unit
-    else (if bytes_eq word (codes "ARRAY_SIZE") then option.Size
-    else (if bytes_eq word (codes "MATRIX_DIM") then option.Dimensions
-    else operation_keyword_of word))))))
+-- the options of a MEASUREMENT, and of the BIT_OPERATION in it
+abbrev pub measurement_keywords : List (List ℕ × MeasurementKeyword)
+measurement_keywords =
+    (codes "ECU_ADDRESS", option.Address)
+    ∷ (codes "ECU_ADDRESS_EXTENSION", option.Extension)
+    ∷ (codes "BYTE_ORDER", option.Order)
+    ∷ (codes "BIT_MASK", option.Mask)
+    ∷ (codes "PHYS_UNIT", option.Unit)
+    ∷ (codes "ARRAY_SIZE", option.Size)
+    ∷ (codes "MATRIX_DIM", option.Dimensions)
+    ∷ (codes "BIT_OPERATION", option.Operation operation.Name)
+    ∷ (codes "LEFT_SHIFT", option.Operation operation.Left)
+    ∷ (codes "RIGHT_SHIFT", option.Operation operation.Right)
+    ∷ (codes "SIGN_EXTEND", option.Operation operation.Sign)
+    ∷ (codes "LAYOUT", option.Layout)
+    ∷ (codes "DISPLAY_IDENTIFIER", option.One)
+    ∷ (codes "ERROR_MASK", option.One)
+    ∷ (codes "FORMAT", option.One)
+    ∷ (codes "MODEL_LINK", option.One)
+    ∷ (codes "REF_MEMORY_SEGMENT", option.One)
+    ∷ (codes "MAX_REFRESH", option.Two)
+    ∷ (codes "SYMBOL_LINK", option.Two)
+    ∷ []
 
 unfoldable pub measurement_keyword : Token → MeasurementKeyword
 measurement_keyword begin = option.Other
 measurement_keyword end = option.Other
 measurement_keyword include = option.Other
-measurement_keyword (plain bytes) = measurement_keyword_of bytes
+measurement_keyword (plain bytes) = unwrap_or (meaning measurement_keywords bytes) option.Other
 measurement_keyword (quoted bytes) = option.Other
 
 abbrev pub operation_arguments_of : OperationKeyword → ℕ
@@ -78,20 +73,20 @@ arguments_of option.One = 1
 arguments_of option.Two = 2
 arguments_of option.Other = 0
 
-abbrev pub method_keyword_of : List ℕ → MethodKeyword
-method_keyword_of word =
-    if bytes_eq word (codes "COEFFS") then method.Coefficients
-    else (if bytes_eq word (codes "COEFFS_LINEAR") then method.Linear
-    else (if bytes_eq word (codes "COMPU_TAB_REF") then method.Table
-    else (if bytes_eq word (codes "REF_UNIT") then method.One
-    else (if bytes_eq word (codes "STATUS_STRING_REF") then method.One
-    else method.Other))))
+abbrev pub method_keywords : List (List ℕ × MethodKeyword)
+method_keywords =
+    (codes "COEFFS", method.Coefficients)
+    ∷ (codes "COEFFS_LINEAR", method.Linear)
+    ∷ (codes "COMPU_TAB_REF", method.Table)
+    ∷ (codes "REF_UNIT", method.One)
+    ∷ (codes "STATUS_STRING_REF", method.One)
+    ∷ []
 
 unfoldable pub method_keyword : Token → MethodKeyword
 method_keyword begin = method.Other
 method_keyword end = method.Other
 method_keyword include = method.Other
-method_keyword (plain bytes) = method_keyword_of bytes
+method_keyword (plain bytes) = unwrap_or (meaning method_keywords bytes) method.Other
 method_keyword (quoted bytes) = method.Other
 
 abbrev pub method_arguments_of : MethodKeyword → ℕ
@@ -101,53 +96,49 @@ method_arguments_of method.Table = 1
 method_arguments_of method.One = 1
 method_arguments_of method.Other = 0
 
-abbrev pub kind_of : List ℕ → Option MethodKind
-kind_of word =
-    if bytes_eq word (codes "IDENTICAL") then Some kind.Identical
-    else (if bytes_eq word (codes "LINEAR") then Some kind.Linear
-    else (if bytes_eq word (codes "RAT_FUNC") then Some kind.Rational
-    else (if bytes_eq word (codes "TAB_VERB") then Some kind.Verbal
-    else (if bytes_eq word (codes "FORM") then Some kind.Other
-    else (if bytes_eq word (codes "TAB_INTP") then Some kind.Other
-    else (if bytes_eq word (codes "TAB_NOINTP") then Some kind.Other
-    else None))))))
+abbrev pub method_kinds : List (List ℕ × MethodKind)
+method_kinds =
+    (codes "IDENTICAL", kind.Identical)
+    ∷ (codes "LINEAR", kind.Linear)
+    ∷ (codes "RAT_FUNC", kind.Rational)
+    ∷ (codes "TAB_VERB", kind.Verbal)
+    ∷ (codes "FORM", kind.Other)
+    ∷ (codes "TAB_INTP", kind.Other)
+    ∷ (codes "TAB_NOINTP", kind.Other)
+    ∷ []
 
 unfoldable pub kind_said : Token → Option MethodKind
-kind_said w = plain_said w >>= kind_of
+kind_said w = plain_said w >>= meaning method_kinds
 
-abbrev pub data_type_of : List ℕ → Option DataType
-data_type_of word =
-    if bytes_eq word (codes "UBYTE") then Some data_type.UByte
-    else (if bytes_eq word (codes "SBYTE") then Some data_type.SByte
-    else (if bytes_eq word (codes "UWORD") then Some data_type.UWord
-    else (if bytes_eq word (codes "SWORD") then Some data_type.SWord
-    else (if bytes_eq word (codes "ULONG") then Some data_type.ULong
-    else (if bytes_eq word (codes "SLONG") then Some data_type.SLong
-    else (if bytes_eq word (codes "A_UINT64") then Some data_type.AUint64
-    else (if bytes_eq word (codes "A_INT64") then Some data_type.AInt64
-    else (if bytes_eq word (codes "FLOAT16_IEEE") then Some data_type.Float16
-    else (if bytes_eq word (codes "FLOAT32_IEEE") then Some data_type.Float32
-    else (if bytes_eq word (codes "FLOAT64_IEEE") then Some data_type.Float64
-    else None))))))))))
+abbrev pub data_types : List (List ℕ × DataType)
+data_types =
+    (codes "UBYTE", data_type.UByte)
+    ∷ (codes "SBYTE", data_type.SByte)
+    ∷ (codes "UWORD", data_type.UWord)
+    ∷ (codes "SWORD", data_type.SWord)
+    ∷ (codes "ULONG", data_type.ULong)
+    ∷ (codes "SLONG", data_type.SLong)
+    ∷ (codes "A_UINT64", data_type.AUint64)
+    ∷ (codes "A_INT64", data_type.AInt64)
+    ∷ (codes "FLOAT16_IEEE", data_type.Float16)
+    ∷ (codes "FLOAT32_IEEE", data_type.Float32)
+    ∷ (codes "FLOAT64_IEEE", data_type.Float64)
+    ∷ []
 
 unfoldable pub data_type_said : Token → Option DataType
-data_type_said w = plain_said w >>= data_type_of
+data_type_said w = plain_said w >>= meaning data_types
 
-abbrev pub order_of : List ℕ → Option ByteOrder
-order_of word =
-    if bytes_eq word (codes "MSB_LAST") then Some MsbLast
-    else (if bytes_eq word (codes "MSB_FIRST") then Some MsbFirst else None)
+abbrev pub byte_orders : List (List ℕ × ByteOrder)
+byte_orders = (codes "MSB_LAST", MsbLast) ∷ (codes "MSB_FIRST", MsbFirst) ∷ []
 
 unfoldable pub order_said : Token → Option ByteOrder
-order_said w = plain_said w >>= order_of
+order_said w = plain_said w >>= meaning byte_orders
 
-abbrev pub layout_of : List ℕ → Option Layout
-layout_of word =
-    if bytes_eq word (codes "ROW_DIR") then Some Rows
-    else (if bytes_eq word (codes "COLUMN_DIR") then Some Columns else None)
+abbrev pub layouts : List (List ℕ × Layout)
+layouts = (codes "ROW_DIR", Rows) ∷ (codes "COLUMN_DIR", Columns) ∷ []
 
 unfoldable pub layout_said : Token → Option Layout
-layout_said w = plain_said w >>= layout_of
+layout_said w = plain_said w >>= meaning layouts
 
 abbrev pub is_keyword : List ℕ → Token → Bool
 is_keyword keyword begin = false

@@ -4,10 +4,10 @@ use Rattle.std.specs.Prelude.{List, [], ◌∷◌, codes, Option, Some, None, if
 use Rattle.std.specs.Prelude.{◌&&◌, is_some, length, nat_le}
 use Rattle.std.specs.Global.{Vec}
 use Rattle.std.specs.Option.{option_map, option_or, unwrap_or}
-use Rattle.a2l_words.specs.Tokens.{Token}
-use Rattle.measurement.specs.declared.bit_operation.BitOperation.{BitOperation}
-use Rattle.measurement.specs.declared.byte_order.ByteOrder.{ByteOrder}
-use Rattle.measurement.specs.declared.data_type.DataType.{DataType}
+use Rattle.a2l_text.specs.Tokens.{Token}
+use Rattle.measured_values.specs.declared.bit_operation.BitOperation.{BitOperation}
+use Rattle.measured_values.specs.declared.byte_order.ByteOrder.{ByteOrder}
+use Rattle.measured_values.specs.declared.data_type.DataType.{DataType}
 use Rattle.a2l_entries.specs.declared.keywords.MeasurementKeyword.{MeasurementKeyword}
 use Rattle.a2l_entries.specs.declared.keywords.MeasurementKeyword.TheVariants as option
 use Rattle.a2l_entries.specs.declared.keywords.OperationKeyword.{OperationKeyword}

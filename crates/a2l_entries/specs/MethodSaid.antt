@@ -3,7 +3,7 @@ use Rattle.std.specs.Prelude.{ℕ, zero, suc, Bool, true, false, not, ◌||◌, 
 use Rattle.std.specs.Prelude.{Some, None, if◌then◌else◌, string_bytes}
 use Rattle.std.specs.Option.{option_map, option_or}
 use Rattle.std.specs.Float.Ieee.{Float, eq, of_bits, binary64}
-use Rattle.a2l_words.specs.Tokens.{Token}
+use Rattle.a2l_text.specs.Tokens.{Token}
 use Rattle.a2l_entries.specs.declared.keywords.MethodKeyword.{MethodKeyword}
 use Rattle.a2l_entries.specs.declared.keywords.MethodKeyword.TheVariants as option
 use Rattle.a2l_entries.specs.declared.keywords.MethodKind.{MethodKind}

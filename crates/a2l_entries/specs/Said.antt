@@ -8,11 +8,11 @@ use Rattle.std.specs.Str.{is_utf8}
 use Rattle.std.specs.Float.{binary64}
 use Rattle.std.specs.Float.Ieee.{Float, of_int}
 use Rattle.fast_float.specs.Parse.{parse_float}
-use Rattle.a2l_words.specs.Tokens.{Token, begin, end, include, plain, quoted}
-use Rattle.a2l_words.specs.TokenOf.{token_of}
-use Rattle.a2l_words.specs.Texts.{unescaped}
-use Rattle.a2l_words.specs.Numbers.{is_hexadecimal, radix_of, digits_of, integer_value, if_finite}
-use Rattle.a2l_blocks.specs.declared.located.Located.{Located}
+use Rattle.a2l_text.specs.Tokens.{Token, begin, end, include, plain, quoted}
+use Rattle.a2l_text.specs.TokenOf.{token_of}
+use Rattle.a2l_text.specs.Texts.{unescaped}
+use Rattle.a2l_text.specs.Numbers.{is_hexadecimal, radix_of, digits_of, integer_value, if_finite}
+use Rattle.a2l_text.specs.declared.located.Located.{Located}
 use Rattle.a2l_entries.specs.declared.left.Left.{Left}
 use Rattle.a2l_entries.specs.Gives.{◌>>=◌}
 

@@ -1,6 +1,6 @@
 -- Words that are read one after another.
 use Rattle.std.specs.Prelude.{ℕ, zero, suc, List, [], ◌∷◌, Option, Some, None}
-use Rattle.a2l_words.specs.Tokens.{Token}
+use Rattle.a2l_text.specs.Tokens.{Token}
 use Rattle.a2l_entries.specs.Gives.{◌>>=◌}
 
 -- What options say together, by what one says with the words behind it, and how many of them belong

@@ -3,9 +3,9 @@ use Rattle.std.specs.Prelude.{ℕ, zero, suc, Bool, List, [], ◌∷◌, map, co
 use Rattle.std.specs.Prelude.{if◌then◌else◌, string_bytes}
 use Rattle.std.specs.Option.{option_map}
 use Rattle.std.specs.Float.Ieee.{Float}
-use Rattle.a2l_words.specs.Tokens.{Token}
-use Rattle.measurement.specs.declared.text_table.TextRow.{TextRow}
-use Rattle.measurement.specs.declared.text_table.TextTable.{TextTable}
+use Rattle.a2l_text.specs.Tokens.{Token}
+use Rattle.measured_values.specs.declared.text_table.TextRow.{TextRow}
+use Rattle.measured_values.specs.declared.text_table.TextTable.{TextTable}
 use Rattle.a2l_entries.specs.declared.table_block.TableBlock.{TableBlock}
 use Rattle.a2l_entries.specs.Gives.{◌>>=◌}
 use Rattle.a2l_entries.specs.Said.{first_of, integer_said, name_first, text_first, behind_text}

@@ -1,89 +1,31 @@
-use std::error::Error;
-use std::fmt::{self, Display};
+//! What is awaited at a place of an A2L text, or refused there, in words.
+ghost use Rattle.std.specs.Prelude.{◌≡◌};
+ghost use Rattle.a2l_entries.specs.declared.entry_fault.EntryFault.TheVariants.{Memory};
 
-/// What was awaited at a place of a text.
-#[derive(Clone, Copy, Debug, PartialEq, Eq)]
-pub enum Awaited {
-    BlockName,
-    Name,
-    Text,
-    Number,
-    Integer,
-    Address,
-    Mask,
-    Shift,
-    DataType,
-    ByteOrder,
-    Layout,
-    MethodKind,
-    Verbal,
-    Coefficients,
-    Linear,
-    TableName,
-    Ticks,
-    TickUnit,
-    Argument,
+use crate::awaited::Awaited;
+use crate::refused::Refused;
+use std::alloc::{AllocError, AllocFailed};
+
+/// Why an entry isn't read, with the offset in the text.
+#[derive(Clone, Copy)]
+pub enum EntryFault {
+    Memory,
+    Awaited(usize, Awaited),
+    Refused(usize, Refused),
 }
 
-impl Display for Awaited {
-    fn fmt<W: fmt::Write>(&self, f: &mut fmt::Formatter<W>) -> fmt::Result {
-        f.write_str(match self {
-            Awaited::BlockName => "the name of a block",
-            Awaited::Name => "a name",
-            Awaited::Text => "a text in quotes",
-            Awaited::Number => "a number",
-            Awaited::Integer => "a whole number that is not negative",
-            Awaited::Address => "an address of 32 bits",
-            Awaited::Mask => "a bit mask other than 0",
-            Awaited::Shift => "a shift by 0 to 63 bits",
-            Awaited::DataType => "a data type, such as UBYTE",
-            Awaited::ByteOrder => "a byte order, MSB_LAST or MSB_FIRST",
-            Awaited::Layout => "a layout, ROW_DIR or COLUMN_DIR",
-            Awaited::MethodKind => "the kind of a method, such as RAT_FUNC",
-            Awaited::Verbal => "TAB_VERB",
-            Awaited::Coefficients => "COEFFS, which RAT_FUNC needs",
-            Awaited::Linear => "COEFFS_LINEAR, which LINEAR needs",
-            Awaited::TableName => "COMPU_TAB_REF, which TAB_VERB needs",
-            Awaited::Ticks => "a number of ticks from 1 to 65535",
-            Awaited::TickUnit => "the unit of a timestamp, such as UNIT_1US",
-            Awaited::Argument => "another word that belongs to the keyword before",
-        })
+impl From<AllocError> for EntryFault {
+    ghost from_gives = { λ _ e. e ≡ Memory };
+
+    fn from(_e: AllocError) -> EntryFault {
+        EntryFault::Memory
     }
 }
 
-impl Error for Awaited {}
+impl<T: Drop> From<AllocFailed<T>> for EntryFault {
+    ghost from_gives = { λ _ e. e ≡ Memory };
 
-/// What is refused at a place of a text.
-#[derive(Clone, Copy, Debug, PartialEq, Eq)]
-pub enum Refused {
-    TooLarge,
-    Include,
-    TooDeep,
-    TooLong,
-    OldByteOrder,
-    NoMethod,
-    NoTable,
-    StrayEnd,
-    OpenText,
-    OpenComment,
-}
-
-impl Display for Refused {
-    fn fmt<W: fmt::Write>(&self, f: &mut fmt::Formatter<W>) -> fmt::Result {
-        f.write_str(match self {
-            Refused::TooLarge => "the text is longer than 64 MiB",
-            Refused::Include => "/include is not supported",
-            Refused::TooDeep => "more than 64 blocks stand in one another",
-            Refused::TooLong => "longer than 1024 bytes",
-            Refused::OldByteOrder =>
-                "LITTLE_ENDIAN and BIG_ENDIAN have two meanings: write MSB_LAST or MSB_FIRST",
-            Refused::NoMethod => "no COMPU_METHOD has this name",
-            Refused::NoTable => "no COMPU_VTAB and no COMPU_VTAB_RANGE has this name",
-            Refused::StrayEnd => "no block is open that could end here",
-            Refused::OpenText => "the text has no closing quote",
-            Refused::OpenComment => "the comment has no end",
-        })
+    fn from(_e: AllocFailed<T>) -> EntryFault {
+        EntryFault::Memory
     }
 }
-
-impl Error for Refused {}

@@ -1,23 +1,20 @@
+//! The keywords in the blocks that are read, and how many words belong to each.
 ghost use Rattle.std.specs.Prelude.{◌≡◌, option_map};
 ghost use Rattle.a2l_entries.specs.Gives.{Gives};
 ghost use Rattle.a2l_entries.specs.Said.{token_at, tokens_of};
-ghost use Rattle.a2l_entries.specs.Keywords.{measurement_keyword, measurement_keyword_of};
-ghost use Rattle.a2l_entries.specs.Keywords.{operation_keyword_of, other_keyword_of};
-ghost use Rattle.a2l_entries.specs.Keywords.{arguments_of, operation_arguments_of};
-ghost use Rattle.a2l_entries.specs.Keywords.{method_keyword};
-ghost use Rattle.a2l_entries.specs.Keywords.{method_keyword_of, method_arguments_of, kind_said};
-ghost use Rattle.a2l_entries.specs.Keywords.{kind_of, data_type_said, data_type_of, order_said};
-ghost use Rattle.a2l_entries.specs.Keywords.{layout_said};
-ghost use Rattle.a2l_entries.specs.Keywords.{is_keyword, behind_keyword, default_said};
+ghost use Rattle.a2l_entries.specs.Keywords.{arguments_of, behind_keyword, data_type_said};
+ghost use Rattle.a2l_entries.specs.Keywords.{default_said, is_keyword, kind_said, layout_said};
+ghost use Rattle.a2l_entries.specs.Keywords.{measurement_keyword, method_arguments_of};
+ghost use Rattle.a2l_entries.specs.Keywords.{method_keyword, operation_arguments_of, order_said};
 
-use crate::entry_fault::{Awaited, Refused};
+use crate::awaited::Awaited;
+use crate::entry_fault::EntryFault;
 use crate::layout::Layout;
 use crate::left::Left;
-use crate::said::{is, plain_in};
-use crate::stop::Stop;
-use a2l_blocks::Located;
-use a2l_words::Word;
-use measurement::{ByteOrder, DataType};
+use crate::refused::Refused;
+use crate::said::plain_in;
+use a2l_text::{Located, Word, is, meaning};
+use measured_values::{ByteOrder, DataType};
 
 /// An option of a MEASUREMENT (ASAM MCD-2 MC, MEASUREMENT).
 #[derive(Clone, Copy)]
@@ -78,87 +75,47 @@ pub fn measurement_keyword(word: Located<'_>) -> MeasurementKeyword
     ensures { result ≡ measurement_keyword (token_at word.entry) }
 {
     match word.word {
-        Word::Plain(bytes) => measurement_keyword_of(bytes),
+        Word::Plain(bytes) => {
+            meaning(bytes, &MEASUREMENT_KEYWORDS).unwrap_or(MeasurementKeyword::Other)
+        }
         _ => MeasurementKeyword::Other,
     }
 }
 
-fn measurement_keyword_of(bytes: &[u8]) -> MeasurementKeyword
-    ensures { result ≡ measurement_keyword_of bytes.now }
-{
-    if is(bytes, "ECU_ADDRESS") {
-        return MeasurementKeyword::Address;
-    }
-    if is(bytes, "ECU_ADDRESS_EXTENSION") {
-        return MeasurementKeyword::Extension;
-    }
-    if is(bytes, "BYTE_ORDER") {
-        return MeasurementKeyword::Order;
-    }
-    if is(bytes, "BIT_MASK") {
-        return MeasurementKeyword::Mask;
-    }
-    if is(bytes, "PHYS_UNIT") {
-        return MeasurementKeyword::Unit;
-    }
-    if is(bytes, "ARRAY_SIZE") {
-        return MeasurementKeyword::Size;
-    }
-    if is(bytes, "MATRIX_DIM") {
-        return MeasurementKeyword::Dimensions;
-    }
-    operation_keyword_of(bytes)
-}
-
-/// The options of BIT_OPERATION.
-fn operation_keyword_of(bytes: &[u8]) -> MeasurementKeyword
-    ensures { result ≡ operation_keyword_of bytes.now }
-{
-    if is(bytes, "BIT_OPERATION") {
-        return MeasurementKeyword::Operation(OperationKeyword::Name);
-    }
-    if is(bytes, "LEFT_SHIFT") {
-        return MeasurementKeyword::Operation(OperationKeyword::Left);
-    }
-    if is(bytes, "RIGHT_SHIFT") {
-        return MeasurementKeyword::Operation(OperationKeyword::Right);
-    }
-    if is(bytes, "SIGN_EXTEND") {
-        return MeasurementKeyword::Operation(OperationKeyword::Sign);
-    }
-    other_keyword_of(bytes)
-}
-
-/// LAYOUT, and the options that say nothing of how a value is measured.
-fn other_keyword_of(bytes: &[u8]) -> MeasurementKeyword
-    ensures { result ≡ other_keyword_of bytes.now }
-{
-    if is(bytes, "DISPLAY_IDENTIFIER") {
-        return MeasurementKeyword::One;
-    }
-    if is(bytes, "ERROR_MASK") {
-        return MeasurementKeyword::One;
-    }
-    if is(bytes, "FORMAT") {
-        return MeasurementKeyword::One;
-    }
-    if is(bytes, "LAYOUT") {
-        return MeasurementKeyword::Layout;
-    }
-    if is(bytes, "MODEL_LINK") {
-        return MeasurementKeyword::One;
-    }
-    if is(bytes, "REF_MEMORY_SEGMENT") {
-        return MeasurementKeyword::One;
-    }
-    if is(bytes, "MAX_REFRESH") {
-        return MeasurementKeyword::Two;
-    }
-    if is(bytes, "SYMBOL_LINK") {
-        return MeasurementKeyword::Two;
-    }
-    MeasurementKeyword::Other
-}
+/// The options of a MEASUREMENT, and of the BIT_OPERATION in it.
+const MEASUREMENT_KEYWORDS: [(&str, MeasurementKeyword); 19] = [
+    ("ECU_ADDRESS", MeasurementKeyword::Address),
+    ("ECU_ADDRESS_EXTENSION", MeasurementKeyword::Extension),
+    ("BYTE_ORDER", MeasurementKeyword::Order),
+    ("BIT_MASK", MeasurementKeyword::Mask),
+    ("PHYS_UNIT", MeasurementKeyword::Unit),
+    ("ARRAY_SIZE", MeasurementKeyword::Size),
+    ("MATRIX_DIM", MeasurementKeyword::Dimensions),
+    (
+        "BIT_OPERATION",
+        MeasurementKeyword::Operation(OperationKeyword::Name),
+    ),
+    (
+        "LEFT_SHIFT",
+        MeasurementKeyword::Operation(OperationKeyword::Left),
+    ),
+    (
+        "RIGHT_SHIFT",
+        MeasurementKeyword::Operation(OperationKeyword::Right),
+    ),
+    (
+        "SIGN_EXTEND",
+        MeasurementKeyword::Operation(OperationKeyword::Sign),
+    ),
+    ("LAYOUT", MeasurementKeyword::Layout),
+    ("DISPLAY_IDENTIFIER", MeasurementKeyword::One),
+    ("ERROR_MASK", MeasurementKeyword::One),
+    ("FORMAT", MeasurementKeyword::One),
+    ("MODEL_LINK", MeasurementKeyword::One),
+    ("REF_MEMORY_SEGMENT", MeasurementKeyword::One),
+    ("MAX_REFRESH", MeasurementKeyword::Two),
+    ("SYMBOL_LINK", MeasurementKeyword::Two),
+];
 
 impl MeasurementKeyword {
     /// How many words belong to it. The numbers of MATRIX_DIM aren't counted: they are no
@@ -193,31 +150,19 @@ pub fn method_keyword(word: Located<'_>) -> MethodKeyword
     ensures { result ≡ method_keyword (token_at word.entry) }
 {
     match word.word {
-        Word::Plain(bytes) => method_keyword_of(bytes),
+        Word::Plain(bytes) => meaning(bytes, &METHOD_KEYWORDS).unwrap_or(MethodKeyword::Other),
         _ => MethodKeyword::Other,
     }
 }
 
-fn method_keyword_of(bytes: &[u8]) -> MethodKeyword
-    ensures { result ≡ method_keyword_of bytes.now }
-{
-    if is(bytes, "COEFFS") {
-        return MethodKeyword::Coefficients;
-    }
-    if is(bytes, "COEFFS_LINEAR") {
-        return MethodKeyword::Linear;
-    }
-    if is(bytes, "COMPU_TAB_REF") {
-        return MethodKeyword::Table;
-    }
-    if is(bytes, "REF_UNIT") {
-        return MethodKeyword::One;
-    }
-    if is(bytes, "STATUS_STRING_REF") {
-        return MethodKeyword::One;
-    }
-    MethodKeyword::Other
-}
+/// The options of a COMPU_METHOD.
+const METHOD_KEYWORDS: [(&str, MethodKeyword); 5] = [
+    ("COEFFS", MethodKeyword::Coefficients),
+    ("COEFFS_LINEAR", MethodKeyword::Linear),
+    ("COMPU_TAB_REF", MethodKeyword::Table),
+    ("REF_UNIT", MethodKeyword::One),
+    ("STATUS_STRING_REF", MethodKeyword::One),
+];
 
 impl MethodKeyword {
     /// How many words belong to it.
@@ -235,129 +180,89 @@ impl MethodKeyword {
 
 /// The kind of a method that a word names.
 #[tactic(auto, unfolding(crate::specs::Keywords::kind_said))]
-pub fn method_kind(word: Located<'_>) -> Result<MethodKind, Stop>
+pub fn method_kind(word: Located<'_>) -> Result<MethodKind, EntryFault>
     ensures { Gives (λ x. x) result (kind_said (token_at word.entry)) }
 {
     let bytes = plain_in(word, Awaited::MethodKind)?;
-    match method_kind_of(bytes) {
+    match meaning(bytes, &METHOD_KINDS) {
         Some(kind) => Ok(kind),
-        None => Err(Stop::Awaited(word.at, Awaited::MethodKind)),
+        None => Err(EntryFault::Awaited(word.at, Awaited::MethodKind)),
     }
 }
 
-fn method_kind_of(bytes: &[u8]) -> Option<MethodKind>
-    ensures { result ≡ kind_of bytes.now }
-{
-    if is(bytes, "IDENTICAL") {
-        return Some(MethodKind::Identical);
-    }
-    if is(bytes, "LINEAR") {
-        return Some(MethodKind::Linear);
-    }
-    if is(bytes, "RAT_FUNC") {
-        return Some(MethodKind::Rational);
-    }
-    if is(bytes, "TAB_VERB") {
-        return Some(MethodKind::Verbal);
-    }
-    if is(bytes, "FORM") {
-        return Some(MethodKind::Other);
-    }
-    if is(bytes, "TAB_INTP") {
-        return Some(MethodKind::Other);
-    }
-    if is(bytes, "TAB_NOINTP") {
-        return Some(MethodKind::Other);
-    }
-    None
-}
+/// The kinds of a method.
+const METHOD_KINDS: [(&str, MethodKind); 7] = [
+    ("IDENTICAL", MethodKind::Identical),
+    ("LINEAR", MethodKind::Linear),
+    ("RAT_FUNC", MethodKind::Rational),
+    ("TAB_VERB", MethodKind::Verbal),
+    ("FORM", MethodKind::Other),
+    ("TAB_INTP", MethodKind::Other),
+    ("TAB_NOINTP", MethodKind::Other),
+];
 
 /// The data type that a word names.
 #[tactic(auto, unfolding(crate::specs::Keywords::data_type_said))]
-pub fn data_type_in(word: Located<'_>) -> Result<DataType, Stop>
+pub fn data_type_in(word: Located<'_>) -> Result<DataType, EntryFault>
     ensures { Gives (λ x. x) result (data_type_said (token_at word.entry)) }
 {
     let bytes = plain_in(word, Awaited::DataType)?;
-    match data_type_of(bytes) {
+    match meaning(bytes, &DATA_TYPES) {
         Some(data_type) => Ok(data_type),
-        None => Err(Stop::Awaited(word.at, Awaited::DataType)),
+        None => Err(EntryFault::Awaited(word.at, Awaited::DataType)),
     }
 }
 
-fn data_type_of(bytes: &[u8]) -> Option<DataType>
-    ensures { result ≡ data_type_of bytes.now }
-{
-    if is(bytes, "UBYTE") {
-        return Some(DataType::UByte);
-    }
-    if is(bytes, "SBYTE") {
-        return Some(DataType::SByte);
-    }
-    if is(bytes, "UWORD") {
-        return Some(DataType::UWord);
-    }
-    if is(bytes, "SWORD") {
-        return Some(DataType::SWord);
-    }
-    if is(bytes, "ULONG") {
-        return Some(DataType::ULong);
-    }
-    if is(bytes, "SLONG") {
-        return Some(DataType::SLong);
-    }
-    if is(bytes, "A_UINT64") {
-        return Some(DataType::AUint64);
-    }
-    if is(bytes, "A_INT64") {
-        return Some(DataType::AInt64);
-    }
-    if is(bytes, "FLOAT16_IEEE") {
-        return Some(DataType::Float16);
-    }
-    if is(bytes, "FLOAT32_IEEE") {
-        return Some(DataType::Float32);
-    }
-    if is(bytes, "FLOAT64_IEEE") {
-        return Some(DataType::Float64);
-    }
-    None
-}
+/// The data types.
+const DATA_TYPES: [(&str, DataType); 11] = [
+    ("UBYTE", DataType::UByte),
+    ("SBYTE", DataType::SByte),
+    ("UWORD", DataType::UWord),
+    ("SWORD", DataType::SWord),
+    ("ULONG", DataType::ULong),
+    ("SLONG", DataType::SLong),
+    ("A_UINT64", DataType::AUint64),
+    ("A_INT64", DataType::AInt64),
+    ("FLOAT16_IEEE", DataType::Float16),
+    ("FLOAT32_IEEE", DataType::Float32),
+    ("FLOAT64_IEEE", DataType::Float64),
+];
 
 /// The byte order that a word names.
 #[tactic(auto, unfolding(crate::specs::Keywords::order_said))]
-pub fn order_in(word: Located<'_>) -> Result<ByteOrder, Stop>
+pub fn order_in(word: Located<'_>) -> Result<ByteOrder, EntryFault>
     ensures { Gives (λ x. x) result (order_said (token_at word.entry)) }
 {
     let bytes = plain_in(word, Awaited::ByteOrder)?;
-    if is(bytes, "MSB_LAST") {
-        return Ok(ByteOrder::MsbLast);
+    if let Some(order) = meaning(bytes, &BYTE_ORDERS) {
+        return Ok(order);
     }
-    if is(bytes, "MSB_FIRST") {
-        return Ok(ByteOrder::MsbFirst);
+    if is(bytes, "LITTLE_ENDIAN") || is(bytes, "BIG_ENDIAN") {
+        return Err(EntryFault::Refused(word.at, Refused::OldByteOrder));
     }
-    if is(bytes, "LITTLE_ENDIAN") {
-        return Err(Stop::Refused(word.at, Refused::OldByteOrder));
-    }
-    if is(bytes, "BIG_ENDIAN") {
-        return Err(Stop::Refused(word.at, Refused::OldByteOrder));
-    }
-    Err(Stop::Awaited(word.at, Awaited::ByteOrder))
+    Err(EntryFault::Awaited(word.at, Awaited::ByteOrder))
 }
+
+/// The byte orders.
+const BYTE_ORDERS: [(&str, ByteOrder); 2] = [
+    ("MSB_LAST", ByteOrder::MsbLast),
+    ("MSB_FIRST", ByteOrder::MsbFirst),
+];
 
 /// The layout that a word names.
 #[tactic(auto, unfolding(crate::specs::Keywords::layout_said))]
-pub fn layout_in(word: Located<'_>) -> Result<Layout, Stop>
+pub fn layout_in(word: Located<'_>) -> Result<Layout, EntryFault>
     ensures { Gives (λ x. x) result (layout_said (token_at word.entry)) }
 {
     let bytes = plain_in(word, Awaited::Layout)?;
-    if is(bytes, "ROW_DIR") {
-        return Ok(Layout::Rows);
+    match meaning(bytes, &LAYOUTS) {
+        Some(layout) => Ok(layout),
+        None => Err(EntryFault::Awaited(word.at, Awaited::Layout)),
     }
-    if is(bytes, "COLUMN_DIR") {
-        return Ok(Layout::Columns);
-    }
-    Err(Stop::Awaited(word.at, Awaited::Layout))
 }
+
+/// The layouts of an array.
+const LAYOUTS: [(&str, Layout); 2] = [("ROW_DIR", Layout::Rows), ("COLUMN_DIR", Layout::Columns)];
 
 /// Whether a word is this keyword.
 pub fn is_keyword(word: Located<'_>, keyword: &str) -> bool
@@ -388,7 +293,7 @@ pub fn behind_keyword<'w, 'a>(left: Left<'w, 'a>, keyword: &str) -> Option<Left<
 
 /// The default byte order that the words of a MOD_COMMON give, if they do.
 #[tactic(auto, unfolding(crate::specs::Keywords::default_said))]
-pub fn default_order(words: Left<'_, '_>) -> Result<Option<ByteOrder>, Stop>
+pub fn default_order(words: Left<'_, '_>) -> Result<Option<ByteOrder>, EntryFault>
     ensures { Gives (λ x. x) result (default_said (tokens_of words.entry)) }
 {
     match behind_keyword(words, "BYTE_ORDER") {

@@ -1,3 +1,4 @@
+//! The two layouts of arrays: row by row, and column by column.
 /// In which order the elements of an array of two dimensions stand (ASAM MCD-2 MC, LAYOUT).
 #[derive(Clone, Copy, Debug, PartialEq, Eq)]
 pub enum Layout {

@@ -1,9 +1,10 @@
+//! The words of a block are taken from the front.
 ghost use Rattle.a2l_entries.specs.Gives.{Gives};
 ghost use Rattle.a2l_entries.specs.Said.{token_at, tokens_of, first_of, behind};
 
-use crate::entry_fault::Awaited;
-use crate::stop::Stop;
-use a2l_blocks::Located;
+use crate::awaited::Awaited;
+use crate::entry_fault::EntryFault;
+use a2l_text::Located;
 
 /// The words of a block that aren't read yet.
 #[derive(Clone, Copy)]
@@ -15,7 +16,7 @@ pub struct Left<'w, 'a> {
 
 impl<'w, 'a> Left<'w, 'a> {
     /// The first word, and those behind it.
-    pub fn first(self, awaited: Awaited) -> Result<(Located<'a>, Left<'w, 'a>), Stop>
+    pub fn first(self, awaited: Awaited) -> Result<(Located<'a>, Left<'w, 'a>), EntryFault>
         ensures { Gives (λ x. (token_at x.0, tokens_of x.1)) result
             (first_of (tokens_of self.entry)) }
     {
@@ -27,16 +28,16 @@ impl<'w, 'a> Left<'w, 'a> {
                     end: self.end,
                 },
             )),
-            None => Err(Stop::Awaited(self.end, awaited)),
+            None => Err(EntryFault::Awaited(self.end, awaited)),
         }
     }
 
     /// The words behind the first `count`.
-    pub fn behind(self, count: usize) -> Result<Left<'w, 'a>, Stop>
+    pub fn behind(self, count: usize) -> Result<Left<'w, 'a>, EntryFault>
         ensures { Gives (λ x. tokens_of x) result (behind count (tokens_of self.entry)) }
     {
         if self.words.len() < count {
-            return Err(Stop::Awaited(self.end, Awaited::Argument));
+            return Err(EntryFault::Awaited(self.end, Awaited::Argument));
         }
         let (_, words) = self.words.split_at(count);
         Ok(Left {

@@ -2,6 +2,7 @@
 //! conversion methods, tables of texts and the unit of a timestamp, before names are looked up.
 #![tactic(auto)]
 
+mod awaited;
 mod dimensions;
 mod entry_fault;
 mod keywords;
@@ -11,13 +12,14 @@ mod measurement_block;
 mod measurement_options;
 mod method_block;
 mod method_options;
+mod refused;
 mod said;
-mod stop;
 mod table_block;
 mod tick_block;
 
+pub use awaited::Awaited;
 pub use dimensions::element_count;
-pub use entry_fault::{Awaited, Refused};
+pub use entry_fault::EntryFault;
 pub use keywords::{
     MeasurementKeyword, MethodKeyword, MethodKind, OperationKeyword, default_order,
 };
@@ -27,7 +29,7 @@ pub use measurement_block::{MeasurementBlock, instance_of, measurement_of};
 pub use measurement_options::MeasurementOptions;
 pub use method_block::{MethodBlock, Rule, method_of};
 pub use method_options::{Coefficients, Line};
+pub use refused::Refused;
 pub use said::Reference;
-pub use stop::Stop;
 pub use table_block::{TableBlock, ranges_of, table_of};
 pub use tick_block::tick_of;

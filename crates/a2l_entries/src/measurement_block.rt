@@ -1,3 +1,4 @@
+//! The words of a MEASUREMENT are read, and the name of an INSTANCE.
 ghost use Rattle.std.specs.Prelude.{option_map, string_bytes};
 ghost use Rattle.a2l_entries.specs.Gives.{Gives};
 ghost use Rattle.a2l_entries.specs.Said.{tokens_of};
@@ -5,13 +6,13 @@ ghost use Rattle.a2l_entries.specs.MeasurementSaid.{measurement_seen, measuremen
 ghost use Rattle.a2l_entries.specs.MeasurementSaid.{method_first, behind_limits, name_of};
 ghost use Rattle.a2l_entries.specs.MeasurementSaid.{instance_said};
 
-use crate::entry_fault::Awaited;
+use crate::awaited::Awaited;
+use crate::entry_fault::EntryFault;
 use crate::keywords::{data_type_in, is_keyword};
 use crate::left::Left;
 use crate::measurement_options::{MeasurementOptions, measurement_options};
 use crate::said::{Reference, name_in};
-use crate::stop::Stop;
-use measurement::DataType;
+use measured_values::DataType;
 use std::alloc::Global;
 
 /// What a block MEASUREMENT says (ASAM MCD-2 MC, MEASUREMENT).
@@ -26,7 +27,7 @@ pub struct MeasurementBlock {
 
 /// What the words directly in a MEASUREMENT say.
 #[tactic(auto, unfolding(crate::specs::MeasurementSaid::measurement_said))]
-pub fn measurement_of(alloc: Global, words: Left<'_, '_>) -> Result<MeasurementBlock, Stop>
+pub fn measurement_of(alloc: Global, words: Left<'_, '_>) -> Result<MeasurementBlock, EntryFault>
     ensures { Gives measurement_seen result (measurement_said (tokens_of words.entry)) }
 {
     let (name, left) = words.name(alloc)?;
@@ -46,7 +47,7 @@ pub fn measurement_of(alloc: Global, words: Left<'_, '_>) -> Result<MeasurementB
 
 /// The name that the words directly in an INSTANCE begin with (ASAM MCD-2 MC, INSTANCE).
 #[tactic(auto, unfolding(crate::specs::MeasurementSaid::instance_said))]
-pub fn instance_of(alloc: Global, words: Left<'_, '_>) -> Result<String, Stop>
+pub fn instance_of(alloc: Global, words: Left<'_, '_>) -> Result<String, EntryFault>
     ensures { Gives (λ s. string_bytes s) result (instance_said (tokens_of words.entry)) }
 {
     let (name, _) = words.name(alloc)?;
@@ -58,7 +59,7 @@ pub fn instance_of(alloc: Global, words: Left<'_, '_>) -> Result<String, Stop>
 fn method_name<'w, 'a>(
     alloc: Global,
     left: Left<'w, 'a>,
-) -> Result<(Option<Reference>, Left<'w, 'a>), Stop>
+) -> Result<(Option<Reference>, Left<'w, 'a>), EntryFault>
     ensures { Gives (λ x. (option_map name_of x.0, tokens_of x.1)) result
         (method_first (tokens_of left.entry)) }
 {
@@ -72,7 +73,7 @@ fn method_name<'w, 'a>(
 
 /// What is behind the resolution, the accuracy and the two limits.
 #[tactic(auto, unfolding(crate::specs::MeasurementSaid::behind_limits))]
-fn behind_limits<'w, 'a>(left: Left<'w, 'a>) -> Result<Left<'w, 'a>, Stop>
+fn behind_limits<'w, 'a>(left: Left<'w, 'a>) -> Result<Left<'w, 'a>, EntryFault>
     ensures { Gives (λ x. tokens_of x) result (behind_limits (tokens_of left.entry)) }
 {
     let (_, left) = left.number()?;

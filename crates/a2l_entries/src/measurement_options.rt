@@ -1,3 +1,4 @@
+//! The options of a MEASUREMENT are read: address, order, mask, shifts, unit, dimensions.
 ghost use Rattle.std.specs.Prelude.{◌≡◌};
 ghost use Rattle.a2l_entries.specs.Gives.{Gives};
 ghost use Rattle.a2l_entries.specs.Said.{token_at, tokens_of};
@@ -7,17 +8,17 @@ ghost use Rattle.a2l_entries.specs.MeasurementSaid.{operation_of, operation_said
 ghost use Rattle.a2l_entries.specs.MeasurementSaid.{address_said, extended_said, dims_of};
 ghost use Rattle.a2l_entries.specs.MeasurementSaid.{has_shape, layout_of};
 
+use crate::awaited::Awaited;
 use crate::dimensions::{dimension_of, dimensions_in, element_count};
-use crate::entry_fault::Awaited;
+use crate::entry_fault::EntryFault;
 use crate::keywords::{
     MeasurementKeyword, OperationKeyword, layout_in, measurement_keyword, order_in,
 };
 use crate::layout::Layout;
 use crate::left::Left;
 use crate::said::{integer_in, number_in, text_in, whole_number};
-use crate::stop::Stop;
-use a2l_blocks::Located;
-use measurement::{BitOperation, ByteOrder};
+use a2l_text::Located;
+use measured_values::{BitOperation, ByteOrder};
 use std::alloc::Global;
 
 /// What the options of a MEASUREMENT say (ASAM MCD-2 MC, MEASUREMENT).
@@ -135,7 +136,10 @@ impl MeasurementOptions {
 }
 
 /// The options that words give. Of an option that is given twice the first counts.
-pub fn measurement_options(alloc: Global, left: Left<'_, '_>) -> Result<MeasurementOptions, Stop>
+pub fn measurement_options(
+    alloc: Global,
+    left: Left<'_, '_>,
+) -> Result<MeasurementOptions, EntryFault>
     ensures { Gives options_seen result (options_said (tokens_of left.entry)) }
 {
     let mut options = MeasurementOptions::none();
@@ -159,7 +163,7 @@ fn option_of(
     alloc: Global,
     keyword: MeasurementKeyword,
     left: Left<'_, '_>,
-) -> Result<MeasurementOptions, Stop>
+) -> Result<MeasurementOptions, EntryFault>
     ensures { Gives options_seen result (option_said keyword (tokens_of left.entry)) }
 {
     match keyword {
@@ -239,7 +243,7 @@ fn option_of(
 fn operation_option(
     keyword: OperationKeyword,
     left: Left<'_, '_>,
-) -> Result<MeasurementOptions, Stop>
+) -> Result<MeasurementOptions, EntryFault>
     ensures { Gives options_seen result (operation_said keyword (tokens_of left.entry)) }
 {
     match keyword {
@@ -272,43 +276,43 @@ fn operation_option(
 
 /// By how many bits a value is moved: 0 to 63.
 #[tactic(auto, unfolding(crate::specs::MeasurementSaid::shift_said))]
-fn shift_in(word: Located<'_>) -> Result<u8, Stop>
+fn shift_in(word: Located<'_>) -> Result<u8, EntryFault>
     ensures { Gives (λ x. x) result (shift_said (token_at word.entry)) }
 {
     let bits = integer_in(word)?;
     if bits > 63 {
-        return Err(Stop::Awaited(word.at, Awaited::Shift));
+        return Err(EntryFault::Awaited(word.at, Awaited::Shift));
     }
     Ok(bits as u8)
 }
 
 /// A mask, of which a bit is set.
 #[tactic(auto, unfolding(crate::specs::MeasurementSaid::mask_said))]
-fn mask_in(word: Located<'_>) -> Result<u64, Stop>
+fn mask_in(word: Located<'_>) -> Result<u64, EntryFault>
     ensures { Gives (λ x. x) result (mask_said (token_at word.entry)) }
 {
     let mask = integer_in(word)?;
     if mask == 0 {
-        return Err(Stop::Awaited(word.at, Awaited::Mask));
+        return Err(EntryFault::Awaited(word.at, Awaited::Mask));
     }
     Ok(mask)
 }
 
 /// An address, of 32 bits.
 #[tactic(auto, unfolding(crate::specs::MeasurementSaid::address_said))]
-fn address_in(word: Located<'_>) -> Result<u32, Stop>
+fn address_in(word: Located<'_>) -> Result<u32, EntryFault>
     ensures { Gives (λ x. x) result (address_said (token_at word.entry)) }
 {
     let address = integer_in(word)?;
     match u32::try_from(address) {
         Ok(address) => Ok(address),
-        Err(_) => Err(Stop::Awaited(word.at, Awaited::Address)),
+        Err(_) => Err(EntryFault::Awaited(word.at, Awaited::Address)),
     }
 }
 
 /// Whether a number, an extension of an address, is other than 0.
 #[tactic(auto, unfolding(crate::specs::MeasurementSaid::extended_said))]
-fn is_extended(word: Located<'_>) -> Result<bool, Stop>
+fn is_extended(word: Located<'_>) -> Result<bool, EntryFault>
     ensures { Gives (λ x. x) result (extended_said (token_at word.entry)) }
 {
     number_in(word)?;

@@ -1,15 +1,16 @@
+//! The words of a COMPU_METHOD are read: its name, its unit and its rule.
 ghost use Rattle.std.specs.Prelude.{◌≡◌};
 ghost use Rattle.a2l_entries.specs.Gives.{Gives};
 ghost use Rattle.a2l_entries.specs.Said.{tokens_of};
 ghost use Rattle.a2l_entries.specs.MethodSaid.{method_seen, method_said, rule_seen, rule_said};
 ghost use Rattle.a2l_entries.specs.MethodSaid.{rational, is_straight, is_zero, method_options_seen};
 
-use crate::entry_fault::Awaited;
+use crate::awaited::Awaited;
+use crate::entry_fault::EntryFault;
 use crate::keywords::{MethodKind, method_kind};
 use crate::left::Left;
 use crate::method_options::{Coefficients, MethodOptions, method_options};
 use crate::said::Reference;
-use crate::stop::Stop;
 use std::alloc::Global;
 
 /// How physical values come of raw ones, before the tables are known.
@@ -37,7 +38,7 @@ pub struct MethodBlock {
 
 /// What the words directly in a COMPU_METHOD say.
 #[tactic(auto, unfolding(crate::specs::MethodSaid::method_said))]
-pub fn method_of(alloc: Global, words: Left<'_, '_>) -> Result<MethodBlock, Stop>
+pub fn method_of(alloc: Global, words: Left<'_, '_>) -> Result<MethodBlock, EntryFault>
     ensures { Gives method_seen result (method_said (tokens_of words.entry)) }
 {
     let (name, left) = words.name(alloc)?;
@@ -53,7 +54,7 @@ pub fn method_of(alloc: Global, words: Left<'_, '_>) -> Result<MethodBlock, Stop
 
 /// The rule of a method of this kind. `end` is the offset of the block's end.
 #[tactic(auto, unfolding(crate::specs::MethodSaid::rule_said))]
-fn rule_of(kind: MethodKind, options: MethodOptions, end: usize) -> Result<Rule, Stop>
+fn rule_of(kind: MethodKind, options: MethodOptions, end: usize) -> Result<Rule, EntryFault>
     ensures { Gives rule_seen result (rule_said kind (method_options_seen options)) }
 {
     match kind {
@@ -64,15 +65,15 @@ fn rule_of(kind: MethodKind, options: MethodOptions, end: usize) -> Result<Rule,
                 factor: line.factor,
                 offset: line.offset,
             }),
-            None => Err(Stop::Awaited(end, Awaited::Linear)),
+            None => Err(EntryFault::Awaited(end, Awaited::Linear)),
         },
         MethodKind::Rational => match options.coefficients {
             Some(coefficients) => Ok(rational(coefficients)),
-            None => Err(Stop::Awaited(end, Awaited::Coefficients)),
+            None => Err(EntryFault::Awaited(end, Awaited::Coefficients)),
         },
         MethodKind::Verbal => match options.table {
             Some(table) => Ok(Rule::Texts(table)),
-            None => Err(Stop::Awaited(end, Awaited::TableName)),
+            None => Err(EntryFault::Awaited(end, Awaited::TableName)),
         },
     }
 }

@@ -1,3 +1,4 @@
+//! The options of a COMPU_METHOD are read: its coefficients, or the name of its table.
 ghost use Rattle.std.specs.Prelude.{◌≡◌};
 ghost use Rattle.a2l_entries.specs.Gives.{Gives};
 ghost use Rattle.a2l_entries.specs.Said.{tokens_of};
@@ -5,11 +6,11 @@ ghost use Rattle.a2l_entries.specs.MethodSaid.{method_options_seen, no_method_op
 ghost use Rattle.a2l_entries.specs.MethodSaid.{method_options_or, method_options_said};
 ghost use Rattle.a2l_entries.specs.MethodSaid.{method_option_said, coefficients_said};
 
-use crate::entry_fault::Awaited;
+use crate::awaited::Awaited;
+use crate::entry_fault::EntryFault;
 use crate::keywords::{MethodKeyword, method_keyword};
 use crate::left::Left;
 use crate::said::{Reference, name_in};
-use crate::stop::Stop;
 use std::alloc::Global;
 
 /// The six coefficients of a RAT_FUNC (ASAM MCD-2 MC, COEFFS).
@@ -63,7 +64,7 @@ impl MethodOptions {
 }
 
 /// The options that words give. Of an option that is given twice the first counts.
-pub fn method_options(alloc: Global, left: Left<'_, '_>) -> Result<MethodOptions, Stop>
+pub fn method_options(alloc: Global, left: Left<'_, '_>) -> Result<MethodOptions, EntryFault>
     ensures { Gives method_options_seen result (method_options_said (tokens_of left.entry)) }
 {
     let mut options = MethodOptions::none();
@@ -87,7 +88,7 @@ fn option_of(
     alloc: Global,
     keyword: MethodKeyword,
     left: Left<'_, '_>,
-) -> Result<MethodOptions, Stop>
+) -> Result<MethodOptions, EntryFault>
     ensures { Gives method_options_seen result (method_option_said keyword (tokens_of left.entry)) }
 {
     match keyword {
@@ -120,7 +121,7 @@ fn option_of(
 
 /// The six numbers that come first.
 #[tactic(auto, unfolding(crate::specs::MethodSaid::coefficients_said))]
-fn coefficients_in(left: Left<'_, '_>) -> Result<Coefficients, Stop>
+fn coefficients_in(left: Left<'_, '_>) -> Result<Coefficients, EntryFault>
     ensures { Gives (λ x. x) result (coefficients_said (tokens_of left.entry)) }
 {
     let (a, left) = left.number()?;

@@ -1,147 +1,72 @@
-ghost use Rattle.std.specs.Prelude.{◌≡◌, ◌≤◌, IfOk, IfSome};
+//! The words of a TIMESTAMP_SUPPORTED are read: how long a tick is.
+ghost use Rattle.std.specs.Prelude.{◌≤◌, IfOk};
 ghost use Rattle.a2l_entries.specs.Gives.{Gives};
 ghost use Rattle.a2l_entries.specs.Said.{token_at, tokens_of};
-ghost use Rattle.a2l_entries.specs.TickSaid.{tick_said, ticks_said, unit_said, unit_of};
-ghost use Rattle.a2l_entries.specs.TickSaid.{greater_unit_of};
+ghost use Rattle.a2l_entries.specs.TickSaid.{tick_said, tick_with, ticks_said, unit_said};
 
-use crate::entry_fault::Awaited;
+use crate::awaited::Awaited;
+use crate::entry_fault::EntryFault;
 use crate::left::Left;
-use crate::said::{integer_in, is, plain_in};
-use crate::stop::Stop;
-use a2l_blocks::Located;
-use measurement::Tick;
+use crate::said::{integer_in, plain_in};
+use a2l_text::{Located, meaning};
+use measured_values::Tick;
 
 /// The greatest number of ticks, which has 16 bits.
 pub const MAX_TICKS: u64 = 65535;
 
 /// What the words directly in a TIMESTAMP_SUPPORTED say (ASAM MCD-1 XCP, TIMESTAMP_SUPPORTED).
 #[tactic(auto, unfolding(crate::specs::TickSaid::tick_said))]
-pub fn tick_of(words: Left<'_, '_>) -> Result<Tick, Stop>
+pub fn tick_of(words: Left<'_, '_>) -> Result<Tick, EntryFault>
     ensures { Gives (λ x. x) result (tick_said (tokens_of words.entry)) }
 {
     let (word, left) = words.first(Awaited::Ticks)?;
     let ticks = ticks_in(word)?;
     let (_, left) = left.first(Awaited::Argument)?;
     let (word, _) = left.first(Awaited::TickUnit)?;
-    let unit = unit_in(word)?;
+    let (times, exponent) = unit_in(word)?;
     Ok(Tick {
-        mantissa: ticks * unit.mantissa,
-        exponent: unit.exponent,
+        mantissa: ticks * times as u32,
+        exponent,
     })
 }
 
 #[tactic(auto, unfolding(crate::specs::TickSaid::ticks_said))]
-fn ticks_in(word: Located<'_>) -> Result<u32, Stop>
+fn ticks_in(word: Located<'_>) -> Result<u32, EntryFault>
     ensures value { Gives (λ x. x) result (ticks_said (token_at word.entry)) }
     ensures limit { IfOk result (λ x. x ≤ 65535) }
 {
     let ticks = integer_in(word)?;
     if ticks == 0 || ticks > MAX_TICKS {
-        return Err(Stop::Awaited(word.at, Awaited::Ticks));
+        return Err(EntryFault::Awaited(word.at, Awaited::Ticks));
     }
     Ok(ticks as u32)
 }
 
+/// The unit that a word names: so many times 10 to the power of an exponent, in seconds.
 #[tactic(auto, unfolding(crate::specs::TickSaid::unit_said))]
-fn unit_in(word: Located<'_>) -> Result<Tick, Stop>
-    ensures value { Gives (λ x. x) result (unit_said (token_at word.entry)) }
-    ensures limit { IfOk result (λ x. x.mantissa ≤ 100) }
+fn unit_in(word: Located<'_>) -> Result<(u8, i8), EntryFault>
+    ensures { Gives (λ unit. tick_with unit.0 unit.1) result (unit_said (token_at word.entry)) }
 {
     let bytes = plain_in(word, Awaited::TickUnit)?;
-    match unit_of(bytes) {
+    match meaning(bytes, &UNITS) {
         Some(unit) => Ok(unit),
-        None => Err(Stop::Awaited(word.at, Awaited::TickUnit)),
+        None => Err(EntryFault::Awaited(word.at, Awaited::TickUnit)),
     }
 }
 
-fn unit_of(bytes: &[u8]) -> Option<Tick>
-    ensures value { result ≡ unit_of bytes.now }
-    ensures limit { IfSome result (λ x. x.mantissa ≤ 100) }
-{
-    if is(bytes, "UNIT_1PS") {
-        return Some(Tick {
-            mantissa: 1,
-            exponent: -12,
-        });
-    }
-    if is(bytes, "UNIT_10PS") {
-        return Some(Tick {
-            mantissa: 10,
-            exponent: -12,
-        });
-    }
-    if is(bytes, "UNIT_100PS") {
-        return Some(Tick {
-            mantissa: 100,
-            exponent: -12,
-        });
-    }
-    if is(bytes, "UNIT_1NS") {
-        return Some(Tick {
-            mantissa: 1,
-            exponent: -9,
-        });
-    }
-    if is(bytes, "UNIT_10NS") {
-        return Some(Tick {
-            mantissa: 10,
-            exponent: -9,
-        });
-    }
-    if is(bytes, "UNIT_100NS") {
-        return Some(Tick {
-            mantissa: 100,
-            exponent: -9,
-        });
-    }
-    greater_unit_of(bytes)
-}
-
-fn greater_unit_of(bytes: &[u8]) -> Option<Tick>
-    ensures value { result ≡ greater_unit_of bytes.now }
-    ensures limit { IfSome result (λ x. x.mantissa ≤ 100) }
-{
-    if is(bytes, "UNIT_1US") {
-        return Some(Tick {
-            mantissa: 1,
-            exponent: -6,
-        });
-    }
-    if is(bytes, "UNIT_10US") {
-        return Some(Tick {
-            mantissa: 10,
-            exponent: -6,
-        });
-    }
-    if is(bytes, "UNIT_100US") {
-        return Some(Tick {
-            mantissa: 100,
-            exponent: -6,
-        });
-    }
-    if is(bytes, "UNIT_1MS") {
-        return Some(Tick {
-            mantissa: 1,
-            exponent: -3,
-        });
-    }
-    if is(bytes, "UNIT_10MS") {
-        return Some(Tick {
-            mantissa: 10,
-            exponent: -3,
-        });
-    }
-    if is(bytes, "UNIT_100MS") {
-        return Some(Tick {
-            mantissa: 100,
-            exponent: -3,
-        });
-    }
-    if is(bytes, "UNIT_1S") {
-        return Some(Tick {
-            mantissa: 1,
-            exponent: 0,
-        });
-    }
-    None
-}
+/// The units of a timestamp.
+const UNITS: [(&str, (u8, i8)); 13] = [
+    ("UNIT_1PS", (1, -12)),
+    ("UNIT_10PS", (10, -12)),
+    ("UNIT_100PS", (100, -12)),
+    ("UNIT_1NS", (1, -9)),
+    ("UNIT_10NS", (10, -9)),
+    ("UNIT_100NS", (100, -9)),
+    ("UNIT_1US", (1, -6)),
+    ("UNIT_10US", (10, -6)),
+    ("UNIT_100US", (100, -6)),
+    ("UNIT_1MS", (1, -3)),
+    ("UNIT_10MS", (10, -3)),
+    ("UNIT_100MS", (100, -3)),
+    ("UNIT_1S", (1, 0)),
+];

@@ -1,3 +1,4 @@
+//! The finished send end of a ring of bytes, and how many items it sent.
 ghost use Rattle.std.specs.Prelude.{◌≡◌, ◌%◌, ◌^◌, length};
 ghost use Rattle.rtrb.specs.Ring.{all_sent};
 ghost use Rattle.channel_ring.specs.Names.{name_of};

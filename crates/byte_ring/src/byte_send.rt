@@ -1,3 +1,4 @@
+//! Items go into a ring of bytes, each as a whole record or not at all.
 ghost use Rattle.std.specs.Prelude.{◌≡◌, ◌+◌, ◌%◌, ◌^◌, ◌≤◌, true, false, [], ◌++◌, length};
 ghost use Rattle.rtrb.specs.Ring.{SameProducer, sent, known_free, producer_capacity};
 ghost use Rattle.channel_ring.specs.Names.{name_of};

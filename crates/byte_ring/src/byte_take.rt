@@ -1,3 +1,4 @@
+//! Items come out of a ring of bytes, each once its record is read.
 ghost use Rattle.std.specs.Prelude.{◌≡◌, ◌%◌, ◌^◌, [], length};
 ghost use Rattle.rtrb.specs.Ring.{received};
 ghost use Rattle.channel_ring.specs.Names.{name_of};

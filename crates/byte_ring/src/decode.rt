@@ -95,10 +95,10 @@ pub(crate) fn read_item(item: &mut Item, bytes: &[u8]) -> bool
     if bytes.len() < MARKER_LEN {
         return false;
     }
-    let Some(channel) = ChannelId::of_byte(bytes[1]) else {
+    let Some(channel) = ChannelId::new(bytes[1]) else {
         return false;
     };
-    let Some(list) = ListId::of_byte(bytes[2]) else {
+    let Some(list) = ListId::new(bytes[2]) else {
         return false;
     };
     if bytes[0] == SAMPLE {

@@ -1,3 +1,4 @@
+//! What a take end holds of the record that stands first in its ring.
 ghost use Rattle.std.specs.Prelude.{◌<◌};
 ghost use Rattle.byte_ring.specs.declared.record.TheConstants.{MAX_RECORD};
 

@@ -72,8 +72,8 @@ pub(crate) fn write_record(out: &mut [u8; MAX_RECORD], item: &Item) -> usize
 {
     match item {
         Item::Sample(sample) => {
-            let channel = ChannelId::from_byte(sample.channel());
-            let list = ListId::from_byte(sample.list());
+            let channel = ChannelId::at(sample.channel() as usize);
+            let list = ListId::at(sample.list() as u16);
             write_sample(out, channel, list, sample.number(), sample.packets())
         }
         Item::Marker(marker) => {

@@ -1,3 +1,4 @@
+//! A ring of bytes is made, and its two ends are handed out.
 ghost use Rattle.std.specs.Prelude.{◌≡◌, ◌<◌, ◌⊎◌, ◌↔◌, [], IfOk, IsErrOf};
 
 use crate::byte_send::ByteSend;

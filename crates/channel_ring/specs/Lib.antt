@@ -1,3 +1,4 @@
 pub mod Ends
 pub mod Names
 pub mod Room
+pub mod Orders

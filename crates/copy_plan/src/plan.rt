@@ -1,3 +1,4 @@
+//! A copy plan is made, once, of what is set of a ready DAQ list.
 ghost use Rattle.std.specs.Prelude.{◌≡◌, ◌<◌, ◌≤◌, IfOk, true, length, map};
 ghost use Rattle.xcp_base.specs.Forms.{FitsFirstPid, stamp_bytes};
 ghost use Rattle.daq_store.specs.Configuration.{is_ready};
@@ -20,7 +21,7 @@ use xcp_base::{IdKind, PacketForm};
 /// Why no plan was made.
 #[derive(Clone, Copy, Debug, PartialEq, Eq, Error)]
 pub enum PlanFault {
-    /// Memory was wanting.
+    /// Memory ran out.
     #[error("out of memory")]
     Memory,
 }

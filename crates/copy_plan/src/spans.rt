@@ -1,3 +1,4 @@
+//! The entries of an ODT as spans of the image: entries that touch are copied as one.
 ghost use Rattle.std.specs.Prelude.{◌≡◌, ◌==◌, ◌<◌, ◌≤◌, IfOk, IsSome, All, length};
 ghost use Rattle.xcp_base.specs.Copied.{AreStretches};
 ghost use Rattle.xcp_base.specs.declared.span.Span.{Span};

@@ -1,7 +1,7 @@
 -- What a picture shows to contracts.
 use Rattle.std.specs.Prelude.{ℕ, List, string_bytes}
 use Rattle.curve_picture.specs.declared.row.Row.{Row}
-use Rattle.curve_picture.specs.declared.words.Words.{Words}
+use Rattle.curve_picture.specs.declared.caption.Caption.{Caption}
 
 -- the rows, their names and units, the places of one bin, and the least and the greatest place of
 -- all values
@@ -13,5 +13,5 @@ pub record Gathered : Type 0 where
   pub last : ℕ
 
 -- a name and a unit
-abbrev pub name_of : Words → List ℕ × List ℕ
-name_of words = (string_bytes words.name, string_bytes words.unit)
+abbrev pub name_of : Caption → List ℕ × List ℕ
+name_of caption = (string_bytes caption.name, string_bytes caption.unit)

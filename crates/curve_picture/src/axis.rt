@@ -1,6 +1,6 @@
-//! What the axis of a picture counts.
+//! A picture of curves: what its axis counts.
 
-use measurement::Tick;
+use measured_values::Tick;
 
 /// What the places of values are.
 #[derive(Clone, Copy, Debug, PartialEq, Eq)]

@@ -1,8 +1,9 @@
-//! The text of a picture.
+//! A picture of curves: its text.
 ghost use Rattle.std.specs.Prelude.{IfOk, string_bytes};
 ghost use Rattle.sample_picture.specs.Shown.{IsClosed};
 
 use crate::axis::CurveAxis;
+use crate::caption::{Caption, push_cut};
 use crate::curve::{Plot, pieces_of, push_curve, push_dots};
 use crate::furniture::{LEFT, ROW, TOP, push_axis, push_head};
 use crate::heights::Heights;
@@ -10,8 +11,7 @@ use crate::label::label_of;
 use crate::levels::{Level, levels_of};
 use crate::marks::marks_of;
 use crate::row::Row;
-use crate::words::{Words, push_cut};
-use measurement::TextTable;
+use measured_values::TextTable;
 use sample_picture::{
     Grid, Losses, Ruler, lost_spans, push_number, push_strokes, push_tenths, push_triangles,
 };
@@ -24,7 +24,7 @@ const LETTERS: usize = 14;
 /// with their texts at the left.
 pub fn text_of(
     alloc: Global,
-    words: &[Words],
+    captions: &[Caption],
     rows: &[Row],
     losses: &[Losses],
     tables: &[Option<&TextTable>],
@@ -39,8 +39,8 @@ pub fn text_of(
     let mut top = TOP;
     for (place, row) in rows.iter().enumerate() {
         writeln!(text, "<g transform=\"translate({LEFT} {top})\">")?;
-        if let Some(words) = words.get(place) {
-            words.push_caption(&mut text)?;
+        if let Some(caption) = captions.get(place) {
+            caption.push_words(&mut text)?;
         }
         let lost = losses.get(place).unwrap_or(&Losses::NONE);
         let table = tables.get(place).copied().flatten();

@@ -1,7 +1,7 @@
 //! Which texts of values stand at the left of a curve, and where.
 
 use crate::heights::Heights;
-use measurement::{TextRow, TextTable};
+use measured_values::{TextRow, TextTable};
 use std::alloc::{AllocError, Global};
 
 /// The line of a text at the upper end of a curve, in tenths of a unit below that end; at the lower

@@ -4,6 +4,7 @@
 
 mod axis;
 mod bin;
+mod caption;
 mod curve;
 mod drawing;
 mod furniture;
@@ -17,7 +18,6 @@ mod row;
 mod scale;
 mod stretch;
 mod style;
-mod words;
 
 pub use axis::CurveAxis;
 pub use picture::CurvePicture;

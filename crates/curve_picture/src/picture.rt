@@ -8,11 +8,11 @@ ghost use Rattle.curve_picture.specs.Values.{AreWithin, Given, given_at};
 ghost use Rattle.curve_picture.specs.Inner.{doubled_row};
 
 use crate::axis::CurveAxis;
+use crate::caption::Caption;
 use crate::drawing::text_of;
 use crate::point::Point;
 use crate::row::Row;
-use crate::words::Words;
-use measurement::TextTable;
+use measured_values::TextTable;
 use sample_picture::{BINS, Grid, Losses, double_losses};
 use std::alloc::{AllocError, Global};
 use std::io::{self, Write};
@@ -26,7 +26,7 @@ use std::marker::Model;
 pub struct CurvePicture {
     alloc: Global,
     rows: Vec<Row>,
-    words: Vec<Words>,
+    captions: Vec<Caption>,
     losses: Vec<Losses>,
     grid: Grid,
 }
@@ -39,7 +39,7 @@ impl Model for CurvePicture {
 
     ghost view = { λ a. record {
       rows = a.rows.items;
-      names = map name_of a.words.items;
+      names = map name_of a.captions.items;
       width = a.grid.width;
       first = a.grid.first;
       last = a.grid.last;
@@ -55,7 +55,7 @@ impl CurvePicture {
         CurvePicture {
             alloc,
             rows: Vec::new(alloc),
-            words: Vec::new(alloc),
+            captions: Vec::new(alloc),
             losses: Vec::new(alloc),
             grid: Grid::new(),
         }
@@ -70,11 +70,11 @@ impl CurvePicture {
             → IsCurveOf self.new given) }
         ensures err { OnErr result (self.new ≡ self.old) }
     {
-        let words = Words::new(self.alloc, name, unit)?;
-        self.words.reserve(1)?;
+        let caption = Caption::new(self.alloc, name, unit)?;
+        self.captions.reserve(1)?;
         self.losses.reserve(1)?;
         self.rows.push(Row::new())?;
-        self.words.push_reserved(words);
+        self.captions.push_reserved(caption);
         self.losses.push_reserved(Losses::NONE);
         Ok(())
     }
@@ -112,7 +112,7 @@ impl CurvePicture {
     {
         let text = text_of(
             self.alloc,
-            &self.words,
+            &self.captions,
             &self.rows,
             &self.losses,
             tables,

@@ -2,7 +2,7 @@
 ghost use Rattle.std.specs.Prelude.{◌<◌};
 
 use crate::axis::CurveAxis;
-use measurement::Tick;
+use measured_values::Tick;
 use sample_picture::push_number;
 use std::alloc::AllocError;
 

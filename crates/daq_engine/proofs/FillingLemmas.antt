@@ -3,10 +3,10 @@ use Rattle.std.proofs.Common.{◌≡◌, ℕ, List, ◌++◌, length, sym, ap, s
 use Rattle.std.specs.Prelude.{Result, Ok, Err, IfOk, IfErr}
 use Rattle.xcp_base.specs.declared.item.Item.{Item}
 use Rattle.frame_writer.specs.Writing.{WriterState}
-use Rattle.transmitter.specs.Fills.{Fills, all_taken}
+use Rattle.transmitter.specs.Fills.{Fills, IsInFront, all_taken}
 use Rattle.transmitter.specs.Looks.{Looked}
 use Rattle.transmitter.specs.Merge.{of_ring}
-use Rattle.transmitter.specs.Pumps.{IsPump}
+use Rattle.transmitter.specs.Sinks.{FillsFront, RefusesFill}
 use Rattle.transmitter.specs.Written.{HasTaken, TransmitterState}
 use Rattle.transmitter.specs.declared.faults.PumpFault.{PumpFault}
 use Rattle.transmitter.specs.declared.pumped_all.PumpedAll.{PumpedAll}
@@ -14,10 +14,17 @@ use Rattle.transmitter.proofs.DrainLemmas.{LookedAtAll, with_known}
 use Rattle.daq_engine.specs.Fillings.{IsFillStep}
 
 -- whatever is answered, the rings stay
-pub filled-rings : (from next room : ℕ) (a b d : TransmitterState) (r : Result (PumpedAll × ℕ) PumpFault)
-    → IfOk r (λ done. Fills from next room done.1 a b done.0) → IfErr r (λ fault. IsPump a b (Err fault)) → Looked b d → d.rings ≡ a.rings
-filled-rings from next room a b d (Ok done) fills pump same = ap (λ (t : TransmitterState). t.rings) same ∙ fills.leads.rings
-filled-rings from next room a b d (Err fault) fills pump same = ap (λ (t : TransmitterState). t.rings) same ∙ pump.leads.rings
+pub filled-rings : (old new : List ℕ) (a b d : TransmitterState) (r : Result (PumpedAll × ℕ) PumpFault)
+    → IfOk r (FillsFront a b old new) → IfErr r (RefusesFill a b old new) → Looked b d → d.rings ≡ a.rings
+filled-rings old new a b d (Ok done) filled refused same = ap (λ (t : TransmitterState). t.rings) same ∙ filled.fills.leads.rings
+filled-rings old new a b d (Err fault) filled refused same = ap (λ (t : TransmitterState). t.rings) same ∙ refused.pump.leads.rings
+
+-- looks leave what the writer shows
+pub front_between : (a b q d : TransmitterState) (old new : List ℕ) (n : ℕ) → Looked a b → Looked q d
+    → IsInFront b.writer.out q.writer.out old new n → IsInFront a.writer.out d.writer.out old new n
+front_between a b q d old new n first second front =
+    subst (λ o. IsInFront o d.writer.out old new n) (ap (λ (t : TransmitterState). t.writer.out) first)
+    (subst (λ o. IsInFront b.writer.out o old new n) (sym (ap (λ (t : TransmitterState). t.writer.out) second)) front)
 
 -- a look, pumps that fill a buffer, and a look
 pub fill_between : (sent : List (List Item)) (n from low next high room end : ℕ) (a b q d : TransmitterState) (p : PumpedAll)

@@ -1,3 +1,4 @@
+//! Why a call about one event channel of an engine is refused.
 use std::fmt::Display;
 use thiserror::Error;
 

@@ -1,3 +1,4 @@
+//! Samplers and transmitter are opened over a store, with a ring for each event channel.
 ghost use Rattle.std.specs.Prelude.{◌≡◌, ◌<◌, ◌≤◌, false, length, IfOk};
 ghost use Rattle.std.specs.List.{list_all};
 ghost use Rattle.xcp_base.specs.declared.limits.TheConstants.{MAX_CHANNELS};
@@ -162,7 +163,7 @@ fn samplers_of<R: Ring>(
     let mut samplers = Vec::with_capacity(alloc, channels as usize)?;
     let mut ends = Vec::with_capacity(alloc, channels as usize)?;
     for c in 0..channels {
-        let id = ChannelId::new(c);
+        let id = ChannelId::at(c as usize);
         let (sampler, take) = open_channel::<R>(alloc, store, id, caps[id.index()])?;
         samplers.push_reserved(sampler);
         ends.push_reserved(take);

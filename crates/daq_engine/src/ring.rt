@@ -1,3 +1,4 @@
+//! The kinds of rings that an engine may be opened over.
 ghost use Rattle.std.specs.Prelude.{◌≡◌, ℕ, Bool, [], IfOk};
 ghost use Rattle.daq_engine.specs.Openings.{is_byte_cap, is_cap};
 

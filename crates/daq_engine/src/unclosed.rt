@@ -1,3 +1,4 @@
+//! Why an engine in one thread wasn't closed, with what comes back of it.
 use crate::engine::Engine;
 use channel_ring::Beside;
 use frame_writer::{FrameWriter, Out};

@@ -1,3 +1,4 @@
+//! Why the next frame of a recording can't be read: it is torn, or its counter jumps.
 use thiserror::Error;
 
 /// Why a recording breaks off, in the order of the checks.

@@ -1,3 +1,4 @@
+//! The packets of one DAQ list become samples again.
 ghost use Rattle.std.specs.Prelude.{◌≡◌, ◌==◌, ◌↔◌, ◌<◌, ◌≤◌, if◌then◌else◌, [], ◌∷◌, ◌++◌};
 ghost use Rattle.std.specs.Prelude.{IfErr, IfOk, IfSome, IsOk, IsSome, false};
 ghost use Rattle.std.specs.Prelude.{None, OnErr, OnOk, Some, length, true};

@@ -1,3 +1,4 @@
+//! How the packets of one DAQ list look, and what is wrong with one that doesn't fit.
 ghost use Rattle.std.specs.Prelude.{◌≡◌, ◌<◌, ◌≤◌, ◌+◌, ◌&&◌, nat_le, nat_lt, IfOk, IfSome};
 ghost use Rattle.std.specs.Prelude.{IsSome, length, map, slice_get, true};
 ghost use Rattle.xcp_base.specs.Forms.{FitsFirstPid, field_len};

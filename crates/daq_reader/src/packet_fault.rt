@@ -1,3 +1,4 @@
+//! Why a packet can't be the next one of a sample.
 use thiserror::Error;
 
 /// Why a packet doesn't go on with a sample of a DAQ list, in the order of the checks.

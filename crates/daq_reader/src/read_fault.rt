@@ -1,3 +1,4 @@
+//! The faults of a recording, of its frames and of their packets, in one.
 use crate::frame_fault::FrameFault;
 use crate::packet_fault::PacketFault;
 use thiserror::Error;

@@ -1,3 +1,4 @@
+//! The packets of several DAQ lists, each taken by the reader of its list.
 ghost use Rattle.std.specs.Prelude.{◌≡◌, ◌↔◌, ◌≤◌, ◌++◌, ◌∷◌, ℕ, List, [], IfErr, IfOk};
 ghost use Rattle.std.specs.Prelude.{None, OnErr, OnOk, Some, length, slice_get, true};
 ghost use Rattle.std.specs.Option.{option_copied};

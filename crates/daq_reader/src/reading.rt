@@ -1,3 +1,4 @@
+//! A recording is read frame by frame, and each whole sample is handed over.
 ghost use Rattle.std.specs.Prelude.{◌≡◌, ◌≢◌, ◌↔◌, List, ℕ, [], ◌∷◌, ◌++◌, IfErr, IsOk, None};
 ghost use Rattle.std.specs.Prelude.{Ok, OnErr, OnOk, Some, true, false};
 ghost use Rattle.frame_writer.specs.Frame.{frame};

@@ -1,3 +1,4 @@
+//! What a sample shows: its overload indication, its timestamp, the bytes of its entries.
 ghost use Rattle.std.specs.Prelude.{◌≡◌, ◌<◌, [], length, slice_index_or};
 ghost use Rattle.std.specs.Option.{option_copied};
 ghost use Rattle.daq_reader.specs.Recorded.{element};

@@ -1,3 +1,4 @@
+//! Where the bytes of each entry stand in an ODT.
 ghost use Rattle.std.specs.Prelude.{◌≡◌, IfOk, IfSome, length, option_map, slice_get};
 ghost use Rattle.daq_store.specs.Configuration.{odt_entries};
 ghost use Rattle.copy_plan.specs.Config.{written_entries};

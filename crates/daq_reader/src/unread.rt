@@ -1,3 +1,4 @@
+//! The frames of a recording that are left, taken one by one, with their counters checked.
 ghost use Rattle.std.specs.Prelude.{◌≡◌, ◌↔◌, ◌++◌, ℕ, List, [], None, Ok, IfErr, IfOk};
 ghost use Rattle.std.specs.Prelude.{IfSome, IsOkAnd, IsSomeAnd, OnErr};
 ghost use Rattle.frame_writer.specs.Frame.{IsFrame, frame};

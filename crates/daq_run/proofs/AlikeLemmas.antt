@@ -23,14 +23,14 @@ use Rattle.daq_engine.specs.Frames.{packets_of_frames}
 use Rattle.daq_engine.specs.Openings.{IsOpeningOf}
 use Rattle.daq_engine.specs.declared.report.ListReport.{ListReport}
 use Rattle.daq_engine.proofs.EndLemmas.{sent_at}
-use Rattle.daq_steps.specs.declared.cause.Cause.{Cause}
-use Rattle.daq_steps.specs.declared.cause.Cause.TheVariants.{Start as OfStart, Stop as OfStop, Trigger as OfTrigger}
-use Rattle.daq_steps.specs.Answers.{Answered}
-use Rattle.daq_steps.specs.Laws.{is_no_room, markers_refused}
-use Rattle.daq_steps.specs.Runs.{AreDone, Done, IsStepOf, is_refused_step, sent_in, taken_in}
-use Rattle.daq_steps.specs.Steps.{asked_of, run_step}
-use Rattle.daq_steps.proofs.AskLemmas.{sampler_at}
-use Rattle.daq_steps.proofs.LawLemmas.{refusals_decide}
+use Rattle.daq_run.specs.declared.cause.Cause.{Cause}
+use Rattle.daq_run.specs.declared.cause.Cause.TheVariants.{Start as OfStart, Stop as OfStop, Trigger as OfTrigger}
+use Rattle.daq_run.specs.Answers.{Answered}
+use Rattle.daq_run.specs.StepLaws.{is_no_room, markers_refused}
+use Rattle.daq_run.specs.StepRuns.{AreDone, Done, IsStepOf, is_refused_step, sent_in, taken_in}
+use Rattle.daq_run.specs.Steps.{asked_of, run_step}
+use Rattle.daq_run.proofs.AskLemmas.{sampler_at}
+use Rattle.daq_run.proofs.LawLemmas.{refusals_decide}
 use Rattle.daq_run.specs.Alike.{AmpleRunsAreSame, AreSame, IsWritten, RefuseAlike, RefusalsDecideRuns, RingsHoldAll, RunOutcome, past_of, told_in}
 use Rattle.daq_run.specs.Ample.{DropsNothing, ample_past}
 use Rattle.daq_run.specs.Runs.{IsClosed, settings_of_run}

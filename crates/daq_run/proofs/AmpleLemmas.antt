@@ -19,10 +19,10 @@ use Rattle.sampler.specs.declared.faults.StartFault.{StartFault}
 use Rattle.sampler.specs.declared.faults.StopFault.TheVariants.{NoRoom}
 use Rattle.sampler.specs.declared.faults.TriggerFault.{TriggerFault}
 use Rattle.sampler.proofs.Histories.{append_nil, due-append, due-more, items-more, length-map_of, length-zip_same, slice_get-behind, zip-append}
-use Rattle.daq_steps.specs.declared.cause.Cause.{Cause}
-use Rattle.daq_steps.specs.declared.cause.Cause.TheVariants.{Start as OfStart, Stop as OfStop, Trigger as OfTrigger}
-use Rattle.daq_steps.specs.Answers.{Answered, ExceedsRoom, IsAnswer, Setting, accepted, accepted_event, event_refusal, until}
-use Rattle.daq_steps.proofs.DoneLemmas.{due_of_front}
+use Rattle.daq_run.specs.declared.cause.Cause.{Cause}
+use Rattle.daq_run.specs.declared.cause.Cause.TheVariants.{Start as OfStart, Stop as OfStop, Trigger as OfTrigger}
+use Rattle.daq_run.specs.Answers.{Answered, ExceedsRoom, IsAnswer, Setting, accepted, accepted_event, event_refusal, until}
+use Rattle.daq_run.proofs.DoneLemmas.{due_of_front}
 use Rattle.daq_run.specs.Ample.{AmpleRingsDropNothing, fit_events, no_drops, whole_past}
 
 -- the items of a history in which no sample is dropped

@@ -11,9 +11,9 @@ use Rattle.sampler.specs.Standing.{EndStandsAfter}
 use Rattle.sampler.specs.State.{JoinedEnd, SamplerEndState, SamplerState, joined}
 use Rattle.daq_engine.specs.Configuration.{upto}
 use Rattle.daq_engine.specs.Standings.{EndsStandInOrder, StandInOrder}
-use Rattle.daq_steps.specs.Answers.{Answered, AreAnswered}
-use Rattle.daq_steps.specs.Samplings.{setting_of_sampler, was_refused}
-use Rattle.daq_steps.specs.Steps.{RunStep, asked_of}
+use Rattle.daq_run.specs.Answers.{Answered, AreAnswered}
+use Rattle.daq_run.specs.Samplings.{setting_of_sampler, was_refused}
+use Rattle.daq_run.specs.Steps.{RunStep, asked_of}
 use Rattle.daq_run.specs.Threads.{refused_in}
 use Rattle.daq_run.specs.Inner.Workers.{HaveWorked}
 

@@ -18,8 +18,8 @@ use Rattle.transmitter.specs.declared.faults.PumpFault.TheVariants.{Closed, Fail
 use Rattle.daq_engine.specs.Closed.{WasDrained}
 use Rattle.daq_engine.specs.declared.report.Report.{Report}
 use Rattle.daq_engine.proofs.EndLemmas.{sent_at}
-use Rattle.daq_steps.specs.Runs.{sent_in}
-use Rattle.daq_steps.proofs.AskLemmas.{sampler_at}
+use Rattle.daq_run.specs.StepRuns.{sent_in}
+use Rattle.daq_run.proofs.AskLemmas.{sampler_at}
 use Rattle.daq_run.specs.Runs.{IsClosed}
 use Rattle.daq_run.proofs.DrainedLemmas.{Empties, empties_same}
 

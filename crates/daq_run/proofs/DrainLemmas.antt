@@ -14,7 +14,7 @@ use Rattle.sampler.specs.Past.{Past}
 use Rattle.sampler.specs.State.{JoinedEnd, sent_by}
 use Rattle.daq_engine.specs.Closed.{WasDrained}
 use Rattle.daq_engine.proofs.EndLemmas.{sent_at}
-use Rattle.daq_steps.specs.Runs.{sent_in}
+use Rattle.daq_run.specs.StepRuns.{sent_in}
 
 -- all of them
 total : List (List Item) → ℕ

@@ -14,10 +14,10 @@ use Rattle.sampler.specs.History.{Event, Trigger, Start, Stop, Opening, due, due
 use Rattle.sampler.specs.Items.{items, items_at, sample, samples_from}
 use Rattle.sampler.specs.Past.{Past}
 use Rattle.daq_engine.specs.Openings.{IsOpeningOf, is_ready_on, list_plan}
-use Rattle.daq_steps.specs.Answers.{Answered, AreAnswered, Setting, accepted_event}
-use Rattle.daq_steps.specs.Runs.{sent_in}
-use Rattle.daq_steps.specs.Steps.{Ask, Pump, RunStep, asked_at, asked_of}
-use Rattle.daq_steps.proofs.StepLemmas.{length-parts}
+use Rattle.daq_run.specs.Answers.{Answered, AreAnswered, Setting, accepted_event}
+use Rattle.daq_run.specs.StepRuns.{sent_in}
+use Rattle.daq_run.specs.Steps.{Ask, Pump, RunStep, asked_at, asked_of}
+use Rattle.daq_run.proofs.StepLemmas.{length-parts}
 
 -- at most one for each
 few_mapped : {X Y : Type 0} (f : X → Option Y) (xs : List X) → length (filter_map f xs) ≤ length xs

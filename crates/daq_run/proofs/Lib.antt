@@ -13,3 +13,11 @@ pub mod SameLines
 pub mod OpeningLemmas
 pub mod ClosingLemmas
 pub mod AlikeLemmas
+pub mod CarryLemmas
+mod StandardFacts
+pub mod AskLemmas
+pub mod DoneLemmas
+pub mod StepLemmas
+pub mod LoopLemmas
+pub mod LawLemmas
+mod WatchLemmas

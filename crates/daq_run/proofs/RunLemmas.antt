@@ -23,11 +23,11 @@ use Rattle.daq_engine.specs.Samplers.{StayThose}
 use Rattle.daq_engine.specs.declared.report.Report.{Report}
 use Rattle.daq_engine.proofs.BesideLemmas.{as_many_stay}
 use Rattle.daq_engine.proofs.EndLemmas.{length-upto, sent_at}
-use Rattle.daq_steps.specs.Answers.{AreAnswered, Setting}
-use Rattle.daq_steps.specs.Runs.{AreDone, HasDone, TakesFront, past_after, sent_in, settings_of_samplers, taken_in, told_of}
-use Rattle.daq_steps.specs.Steps.{asked_of, run_step}
-use Rattle.daq_steps.proofs.AskLemmas.{read_at, sampler_at}
-use Rattle.daq_steps.proofs.StepLemmas.{decided, few_taken, sent_stands}
+use Rattle.daq_run.specs.Answers.{AreAnswered, Setting}
+use Rattle.daq_run.specs.StepRuns.{AreDone, HasDone, TakesFront, past_after, sent_in, settings_of_samplers, taken_in, told_of}
+use Rattle.daq_run.specs.Steps.{asked_of, run_step}
+use Rattle.daq_run.proofs.AskLemmas.{read_at, sampler_at}
+use Rattle.daq_run.proofs.StepLemmas.{decided, few_taken, sent_stands}
 use Rattle.daq_run.specs.Faults.{StandsAtFault, StopsBehind}
 use Rattle.daq_run.specs.Inner.Opened.{IsRunOpened}
 use Rattle.daq_run.specs.Runs.{ComesTo, HasRun, cost_in, settings_of_run}

@@ -19,9 +19,9 @@ use Rattle.frame_writer.specs.Shown.{BreaksOff, OutState, after_bytes}
 use Rattle.frame_writer.specs.Writing.{WriterState, fresh_writer}
 use Rattle.frame_writer.proofs.TextLemmas.{breaks_off-text}
 use Rattle.run_file.specs.RunFile.{RunData}
-use Rattle.run_setup.specs.Setup.{BreaksOffAt, LosesReply, WantsMemory, WasClosed}
-use Rattle.run_setup.specs.declared.setup.SetupFault.{SetupFault}
-use Rattle.run_setup.specs.declared.setup.SetupFault.TheVariants.{Memory, Write}
+use Rattle.daq_run.specs.Setup.{BreaksOffAt, LosesReply, WantsMemory, WasClosed}
+use Rattle.daq_run.specs.declared.setup.SetupFault.{SetupFault}
+use Rattle.daq_run.specs.declared.setup.SetupFault.TheVariants.{Memory, Write}
 use Rattle.daq_run.specs.Faults.{StandsAtFault, run_fault}
 use Rattle.daq_run.specs.SetUps.{StopsInSetUp, profile_of, replies_of}
 

@@ -28,12 +28,12 @@ use Rattle.daq_engine.specs.Order.{held_of}
 use Rattle.daq_engine.specs.Samplers.{AreBeside}
 use Rattle.daq_engine.specs.declared.report.Report.{Report}
 use Rattle.daq_engine.proofs.EndLemmas.{get_or-upto}
-use Rattle.daq_steps.specs.Answers.{AreAnswered, Setting}
-use Rattle.daq_steps.specs.Runs.{sent_in, taken_in}
-use Rattle.daq_steps.specs.Samplings.{setting_of_sampler}
-use Rattle.daq_steps.specs.Steps.{asked_of, run_step}
-use Rattle.daq_steps.proofs.AskLemmas.{read_at, sampler_at}
-use Rattle.daq_steps.proofs.StepLemmas.{stay_still}
+use Rattle.daq_run.specs.Answers.{AreAnswered, Setting}
+use Rattle.daq_run.specs.StepRuns.{sent_in, taken_in}
+use Rattle.daq_run.specs.Samplings.{setting_of_sampler}
+use Rattle.daq_run.specs.Steps.{asked_of, run_step}
+use Rattle.daq_run.proofs.AskLemmas.{read_at, sampler_at}
+use Rattle.daq_run.proofs.StepLemmas.{stay_still}
 use Rattle.daq_run.specs.Faults.{StandsAtFault, StopsBehind}
 use Rattle.daq_run.specs.Inner.Opened.{IsRunOpened}
 use Rattle.daq_run.specs.Runs.{cost_in, settings_of_run}

@@ -11,7 +11,7 @@ use Rattle.transmitter.specs.Merge.{of_ring}
 use Rattle.daq_engine.specs.Account.{IsLineOf}
 use Rattle.daq_engine.specs.Frames.{packets_of_frames}
 use Rattle.daq_engine.specs.declared.report.ListReport.{ListReport}
-use Rattle.daq_steps.proofs.AskLemmas.{sampler_at}
+use Rattle.daq_run.proofs.AskLemmas.{sampler_at}
 use Rattle.daq_run.specs.Ample.{ample_past, no_drops}
 use Rattle.daq_run.specs.Runs.{settings_of_run}
 use Rattle.daq_run.specs.Whole.{AmpleRunsAreWhole, IsWholeLine, WritesWhole}

@@ -14,11 +14,11 @@ use Rattle.sampler.specs.State.{SamplerEndState, SamplerState, joined}
 use Rattle.sampler.specs.Stays.{KeepsSetUp}
 use Rattle.transmitter.specs.Pumps.{TakesMore}
 use Rattle.transmitter.specs.Written.{HasTaken, TransmitterState}
-use Rattle.daq_steps.specs.declared.cause.Cause.{Cause}
-use Rattle.daq_steps.specs.Answers.{Answered, AreAnswered, Setting}
-use Rattle.daq_steps.specs.Samplings.{Answers, AnswersStep, HasAnswered, HasAnsweredMore, setting_of_sampler, was_refused}
-use Rattle.daq_steps.specs.Steps.{Ask, Pump, RunStep, asked_at, asked_of}
-use Rattle.daq_steps.proofs.DoneLemmas.{answered_more}
+use Rattle.daq_run.specs.declared.cause.Cause.{Cause}
+use Rattle.daq_run.specs.Answers.{Answered, AreAnswered, Setting}
+use Rattle.daq_run.specs.Samplings.{Answers, AnswersStep, HasAnswered, HasAnsweredMore, setting_of_sampler, was_refused}
+use Rattle.daq_run.specs.Steps.{Ask, Pump, RunStep, asked_at, asked_of}
+use Rattle.daq_run.proofs.DoneLemmas.{answered_more}
 use Rattle.daq_run.specs.Inner.Workers.{HasWorked, HaveWorked, IsLeftAfterSteps, is_of}
 
 -- nothing more was taken

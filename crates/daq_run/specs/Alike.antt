@@ -7,10 +7,10 @@ use Rattle.sampler.specs.History.{Opening}
 use Rattle.sampler.specs.Past.{Past}
 use Rattle.daq_engine.specs.Openings.{IsOpeningOf}
 use Rattle.daq_engine.specs.declared.report.Report.{Report}
-use Rattle.daq_steps.specs.Answers.{Answered}
-use Rattle.daq_steps.specs.Laws.{RefusesAlike}
-use Rattle.daq_steps.specs.Runs.{told_of}
-use Rattle.daq_steps.specs.Steps.{asked_of, run_step}
+use Rattle.daq_run.specs.Answers.{Answered}
+use Rattle.daq_run.specs.StepLaws.{RefusesAlike}
+use Rattle.daq_run.specs.StepRuns.{told_of}
+use Rattle.daq_run.specs.Steps.{asked_of, run_step}
 use Rattle.daq_run.specs.Ample.{HoldsAll}
 use Rattle.daq_run.specs.Runs.{ComesTo, settings_of_run}
 use Rattle.daq_run.specs.SetUps.{IsStoreAfter}

@@ -7,9 +7,9 @@ use Rattle.sampler.specs.History.{Event, Opening, due}
 use Rattle.sampler.specs.Past.{Past}
 use Rattle.sampler.specs.Standing.{DropsOnlyWhenFull}
 use Rattle.sampler.specs.declared.faults.StopFault.TheVariants.{NoRoom}
-use Rattle.daq_steps.specs.declared.cause.Cause.TheVariants.{Stop as OfStop}
-use Rattle.daq_steps.specs.Answers.{Answered, AreAnswered, Setting, event_refusal}
-use Rattle.daq_steps.specs.Runs.{sent_in}
+use Rattle.daq_run.specs.declared.cause.Cause.TheVariants.{Stop as OfStop}
+use Rattle.daq_run.specs.Answers.{Answered, AreAnswered, Setting, event_refusal}
+use Rattle.daq_run.specs.StepRuns.{sent_in}
 
 -- the decisions of a history in which no sample is dropped
 abbrev pub no_drops : Opening → List Event → List Bool

@@ -5,9 +5,9 @@ use Rattle.frame_writer.specs.Frame.{text}
 use Rattle.frame_writer.specs.Shown.{BreaksOff, OutState}
 use Rattle.frame_writer.specs.Writing.{WriterState}
 use Rattle.run_file.specs.RunFile.{RunData}
-use Rattle.run_setup.specs.declared.setup.SetupFault.{SetupFault}
-use Rattle.run_setup.specs.declared.setup.SetupFault.TheVariants.{Memory as OfMemory}
-use Rattle.run_setup.specs.declared.setup.SetupFault.TheVariants.{Write as OfWrite}
+use Rattle.daq_run.specs.declared.setup.SetupFault.{SetupFault}
+use Rattle.daq_run.specs.declared.setup.SetupFault.TheVariants.{Memory as OfMemory}
+use Rattle.daq_run.specs.declared.setup.SetupFault.TheVariants.{Write as OfWrite}
 use Rattle.daq_engine.specs.Openings.{some_list_runs}
 use Rattle.daq_run.specs.declared.sim_fault.SimFault.{SimFault}
 use Rattle.daq_run.specs.declared.sim_fault.SimFault.TheVariants.{EndLost, Memory, NoThread}

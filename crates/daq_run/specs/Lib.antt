@@ -6,3 +6,12 @@ pub mod Threads
 pub mod Whole
 pub mod Alike
 pub mod Inner
+pub mod Fixed
+pub mod Setup
+pub mod Steps
+pub mod Answers
+pub mod StepRuns
+pub mod Watched
+pub mod Cames
+pub mod StepLaws
+pub mod Samplings

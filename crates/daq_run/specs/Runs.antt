@@ -20,9 +20,9 @@ use Rattle.daq_engine.specs.Configuration.{IsConfiguration}
 use Rattle.daq_engine.specs.Drained.{LeavesNothing}
 use Rattle.daq_engine.specs.Openings.{IsOpeningOf, some_list_runs}
 use Rattle.daq_engine.specs.declared.report.Report.{Report}
-use Rattle.daq_steps.specs.Answers.{Setting}
-use Rattle.daq_steps.specs.Runs.{AreDone, Done, is_refused_step, sent_in, taken_in}
-use Rattle.daq_steps.specs.Steps.{run_step}
+use Rattle.daq_run.specs.Answers.{Setting}
+use Rattle.daq_run.specs.StepRuns.{AreDone, Done, is_refused_step, sent_in, taken_in}
+use Rattle.daq_run.specs.Steps.{run_step}
 use Rattle.daq_run.specs.SetUps.{IsSetUp}
 
 -- what an item takes up in a ring: one place, or the bytes of its record

@@ -7,7 +7,7 @@ use Rattle.frame_writer.specs.Frame.{text}
 use Rattle.frame_writer.specs.Shown.{OutState, after_bytes}
 use Rattle.frame_writer.specs.Writing.{AfterText, WriterState, fresh_writer}
 use Rattle.run_file.specs.RunFile.{RunData}
-use Rattle.run_setup.specs.Setup.{NeedsMemory}
+use Rattle.daq_run.specs.Setup.{NeedsMemory}
 
 -- what the store of a run is made for
 abbrev pub profile_of : RunData → Profile

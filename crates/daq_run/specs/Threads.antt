@@ -10,9 +10,9 @@ use Rattle.transmitter.specs.Written.{HasTaken, TransmitterState}
 use Rattle.daq_engine.specs.Configuration.{upto}
 use Rattle.daq_engine.specs.Openings.{some_list_runs}
 use Rattle.daq_engine.specs.declared.report.Report.{Report}
-use Rattle.daq_steps.specs.Answers.{Answered, AreAnswered}
-use Rattle.daq_steps.specs.Samplings.{was_refused}
-use Rattle.daq_steps.specs.Steps.{asked_of, run_step}
+use Rattle.daq_run.specs.Answers.{Answered, AreAnswered}
+use Rattle.daq_run.specs.Samplings.{was_refused}
+use Rattle.daq_run.specs.Steps.{asked_of, run_step}
 use Rattle.daq_run.specs.declared.sim_fault.SimFault.{SimFault}
 use Rattle.daq_run.specs.Ample.{DropsNothing, HoldsAll}
 use Rattle.daq_run.specs.Faults.{StandsBy}

@@ -14,8 +14,8 @@ use Rattle.daq_engine.specs.Filters.{of_channel}
 use Rattle.daq_engine.specs.Frames.{packets_of_frames}
 use Rattle.daq_engine.specs.declared.report.ListReport.{ListReport}
 use Rattle.daq_engine.specs.declared.report.Report.{Report}
-use Rattle.daq_steps.specs.Answers.{Answered}
-use Rattle.daq_steps.specs.Runs.{sent_in}
+use Rattle.daq_run.specs.Answers.{Answered}
+use Rattle.daq_run.specs.StepRuns.{sent_in}
 use Rattle.daq_run.specs.Ample.{DropsNothing, ample_past}
 use Rattle.daq_run.specs.Runs.{IsClosed, settings_of_run}
 

@@ -1,3 +1,4 @@
+//! What a caller puts beside the threads of a run: it holds steps, and hears of pumps.
 use transmitter::Pumped;
 
 /// What stands beside the threads of a run, and may hold a step back. No clause depends on it.

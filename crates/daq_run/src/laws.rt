@@ -2,6 +2,7 @@
 ghost use Rattle.daq_run.specs.Alike.{AmpleRunsAreSame, RefusalsDecideRuns};
 ghost use Rattle.daq_run.specs.Ample.{AmpleRingsDropNothing};
 ghost use Rattle.daq_run.specs.Whole.{AmpleRunsAreWhole};
+ghost use Rattle.daq_run.specs.StepLaws.{RefusalsDecide};
 
 use run_file::Run;
 
@@ -36,3 +37,10 @@ pub fn ample_runs_are_same(run: &Run)
     // for the proof: gives `limits` of the run
     let _ = run.ring();
 }
+
+/// If the writer doesn't fail, what the steps of a run did, and what its event channels have behind
+/// them, is a function of the openings, the steps, and of which offers the rings refused: so are
+/// the items taken, and with them the bytes.
+pub fn done_follows_from_the_refusals()
+    ensures { RefusalsDecide }
+{}

@@ -1,3 +1,4 @@
+//! What a run that was done gives: its refused steps, its account, and the writer.
 use daq_engine::Report;
 
 /// What came of a run.

@@ -1,9 +1,10 @@
+//! A whole run in one thread.
 ghost use Rattle.std.specs.Prelude.{◌≡◌, ◌⊎◌, IfErr, IfOk, length, true};
 ghost use Rattle.std.specs.List.{list_all};
 ghost use Rattle.frame_writer.specs.Shown.{shown};
 ghost use Rattle.daq_engine.specs.Closings.{GivesBack};
 ghost use Rattle.daq_engine.specs.Engines.{EngineState};
-ghost use Rattle.daq_steps.specs.Watched.{TellsSteps};
+ghost use Rattle.daq_run.specs.Watched.{TellsSteps};
 ghost use Rattle.daq_run.specs.Faults.{StandsAtFault};
 ghost use Rattle.daq_run.specs.Runs.{ComesTo, cost_in};
 ghost use Rattle.daq_run.specs.declared.sim_fault.SimFault.TheVariants.{EndLost, Memory};
@@ -11,10 +12,10 @@ ghost use Rattle.daq_run.specs.declared.sim_fault.SimFault.TheVariants.{EndLost,
 use crate::outcome::Outcome;
 use crate::setting_up::opened;
 use crate::sim_fault::SimFault;
+use crate::{NoWatch, Watch, do_watched};
 use byte_ring::ByteRing;
 use channel_ring::{Beside, RingEnd, SampleRing, SendEnd, TakeEnd};
 use daq_engine::{Engine, Ring, Unclosed};
-use daq_steps::{NoWatch, Watch, do_watched};
 use frame_writer::Out;
 use run_file::Run;
 use std::alloc::Global;

@@ -9,13 +9,13 @@ ghost use Rattle.daq_run.specs.Faults.{StandsAtFault};
 ghost use Rattle.daq_run.specs.Inner.Opened.{IsRunOpened};
 ghost use Rattle.daq_run.specs.SetUps.{IsSetUp, profile_of};
 
+use crate::carry_all;
 use crate::sim_fault::SimFault;
 use channel_ring::{RingEnd, SendEnd, TakeEnd};
 use daq_engine::{Engine, OpenFault, Ring, engine_over};
 use daq_store::{BadLimits, Store};
 use frame_writer::{FrameWriter, Out};
 use run_file::Run;
-use run_setup::carry_all;
 use std::alloc::Global;
 
 /// The fresh store of a run.

@@ -1,4 +1,5 @@
-use run_setup::SetupFault;
+//! Why a run breaks off: memory, nothing to run, a reply, a ring's end or a thread.
+use crate::SetupFault;
 use thiserror::Error;
 
 /// Why a run was not done to its end. The writer comes back.

@@ -5,7 +5,7 @@ ghost use Rattle.std.specs.List.{list_all};
 ghost use Rattle.frame_writer.specs.Shown.{shown};
 ghost use Rattle.run_file.specs.RunFile.{RunData};
 ghost use Rattle.transmitter.specs.Written.{transmission};
-ghost use Rattle.daq_steps.specs.Steps.{run_step};
+ghost use Rattle.daq_run.specs.Steps.{run_step};
 ghost use Rattle.daq_run.specs.Inner.Workers.{HaveWorked, KeepsTaking, MayComeLate};
 ghost use Rattle.daq_run.specs.Runs.{cost_in};
 ghost use Rattle.daq_run.specs.Threads.{ThreadsComeTo, ThreadsStandAtFault};

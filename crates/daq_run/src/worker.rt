@@ -3,13 +3,13 @@ ghost use Rattle.std.specs.Prelude.{◌≡◌, ◌≤◌, map};
 ghost use Rattle.run_file.specs.Lent.{step_data};
 ghost use Rattle.run_file.specs.declared.limits.TheConstants.{MAX_STEPS};
 ghost use Rattle.sampler.specs.Stays.{KeepsSetUp};
-ghost use Rattle.daq_steps.specs.Samplings.{HasAnsweredMore};
-ghost use Rattle.daq_steps.specs.Steps.{asked_at, asked_of, run_step};
+ghost use Rattle.daq_run.specs.Samplings.{HasAnsweredMore};
+ghost use Rattle.daq_run.specs.Steps.{asked_at, asked_of, run_step};
 ghost use Rattle.daq_run.specs.Inner.Workers.{HasWorked, is_of};
 
+use crate::ask;
 use crate::gate::Gate;
 use channel_ring::{RingEnd, SendEnd};
-use daq_steps::ask;
 use run_file::{Run, Step};
 use sampler::{Sampler, SamplerEnd};
 use std::snapshot::Snapshot;

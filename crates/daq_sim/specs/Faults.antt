@@ -3,8 +3,8 @@ use Rattle.std.specs.Prelude.{ℕ}
 use Rattle.daq_run.specs.declared.sim_fault.SimFault.TheVariants.{Memory}
 use Rattle.daq_sim.specs.declared.program_fault.ProgramFault.{ProgramFault}
 use Rattle.daq_sim.specs.declared.program_fault.ProgramFault.TheVariants.{Run, Sim, Unreadable}
-use Rattle.run_story.specs.declared.run_text_fault.RunTextFault.{RunTextFault}
-use Rattle.run_story.specs.declared.run_text_fault.RunTextFault.TheVariants as none
+use Rattle.explain.specs.declared.run_text_fault.RunTextFault.{RunTextFault}
+use Rattle.explain.specs.declared.run_text_fault.RunTextFault.TheVariants as none
 
 -- lack of memory, wherever it was met
 abbrev pub want_of_memory : ProgramFault

@@ -2,7 +2,7 @@
 use Rattle.std.specs.Prelude.{ℕ, Bool, false, true, List, ⊤}
 use Rattle.frame_writer.specs.Shown.{OutState}
 use Rattle.run_file.specs.RunFile.{IsRunText, RunData}
-use Rattle.run_story.specs.RunTexts.{IsNoRun}
+use Rattle.explain.specs.RunTexts.{IsNoRun}
 use Rattle.daq_run.specs.Faults.{StandsAtFault}
 use Rattle.daq_run.specs.Threads.{ThreadsStandAtFault}
 use Rattle.daq_run.specs.declared.sim_fault.SimFault.{SimFault}

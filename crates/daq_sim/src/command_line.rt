@@ -1,12 +1,15 @@
-//! The command line.
-ghost use Rattle.std.specs.Prelude.{◌≡◌, ◌⊎◌, IfErr};
+//! The command line of `xcpdaq`: its options, and what they ask for.
+ghost use Rattle.std.specs.Prelude.{◌≡◌, ◌≢◌, ◌⊎◌, IfErr, Ok, false, map, string_bytes, true};
+ghost use Rattle.program_input.specs.Versions.{asks_version};
 ghost use Rattle.daq_sim.specs.Faults.{want_of_memory};
+ghost use Rattle.daq_sim.specs.declared.command_line.CommandLine.TheVariants as line;
 ghost use Rattle.daq_sim.specs.declared.program_fault.ProgramFault.TheVariants as fault;
 
 use crate::program_fault::ProgramFault;
 use clap::error::ErrorKind;
 use clap::{Arg, ArgAction, ArgMatches, Command, Error};
-use run_story::Why;
+use explain::Why;
+use program_input::asks_version;
 use std::alloc::{AllocError, Global};
 
 /// What the command line asks for.
@@ -14,6 +17,8 @@ use std::alloc::{AllocError, Global};
 pub enum CommandLine<'a> {
     /// The help, which is the error's text.
     Help(Error),
+    /// The version.
+    Version,
     /// A run.
     Run(Options<'a>),
 }
@@ -37,8 +42,15 @@ pub fn read_command_line<'a>(
     words: &'a [String],
     why: &mut Why,
 ) -> Result<CommandLine<'a>, ProgramFault>
-    ensures { IfErr result (λ f. (f ≡ fault.CommandLine) ⊎ (f ≡ want_of_memory)) }
+    ensures faults { IfErr result (λ f. (f ≡ fault.CommandLine) ⊎ (f ≡ want_of_memory)) }
+    ensures version { asks_version (map string_bytes words.now) ≡ true
+        → result ≡ Ok line.Version }
+    ensures other { asks_version (map string_bytes words.now) ≡ false
+        → result ≢ Ok line.Version }
 {
+    if asks_version(words) {
+        return Ok(CommandLine::Version);
+    }
     match command(alloc)?.try_get_matches_from(words) {
         Ok(matches) => Ok(CommandLine::Run(options_of(&matches))),
         Err(error) => match error.kind() {
@@ -58,7 +70,8 @@ fn command<'a>(alloc: Global) -> Result<Command<'a>, AllocError> {
         .about("Carries out a run file, and prints its frames and its account")
         .no_binary_name(true);
     let command = with_threads(alloc, with_out(alloc, command)?)?;
-    with_run(alloc, with_explain(alloc, command)?)
+    let command = with_version(alloc, with_explain(alloc, command)?)?;
+    with_run(alloc, command)
 }
 
 /// A command that also takes the file for the frames.
@@ -87,6 +100,15 @@ fn with_explain<'a>(alloc: Global, command: Command<'a>) -> Result<Command<'a>, 
         .action(ArgAction::SetTrue)
         .help("Print each reply, step and frame in words, and the reason behind a fault");
     command.arg(explain)
+}
+
+/// A command whose help also tells of the version, which `asks_version` finds first.
+fn with_version<'a>(alloc: Global, command: Command<'a>) -> Result<Command<'a>, AllocError> {
+    let version = Arg::new(alloc, "version")
+        .long("version")
+        .action(ArgAction::SetTrue)
+        .help("Print the version");
+    command.arg(version)
 }
 
 /// A command that also takes the file of the run.

@@ -9,7 +9,8 @@ mod program_fault;
 mod report_text;
 mod whole_program;
 
-pub use daq_run::{Gate, NoGate, Outcome, SimFault, run_serial, run_threads};
+pub use daq_run::{
+    Gate, NoGate, Outcome, SetupFault, SimFault, carry_all, fixed_run, run_serial, run_threads,
+};
 pub use run_file::{Run, RunFault, Step};
-pub use run_setup::{SetupFault, carry_all, fixed_run};
 pub use whole_program::program;

@@ -1,9 +1,10 @@
+//! Why `xcpdaq` stops: the line that it prints, and its status.
 ghost use Rattle.std.specs.Prelude.{◌≡◌, ◌≢◌};
 ghost use Rattle.std.specs.IoError.{error_kind};
 
 use daq_run::SimFault;
+use explain::RunTextFault;
 use run_file::RunFault;
-use run_story::RunTextFault;
 use std::alloc::AllocError;
 use std::io::{self, ErrorKind};
 use thiserror::Error;

@@ -1,6 +1,8 @@
-//! The program: from its arguments and streams to its status.
-ghost use Rattle.std.specs.Prelude.{◌≡◌, ◌≤◌, Bool, IfErr, IfOk, IfSome, None, OnErr};
+//! The program `xcpdaq`: from its arguments and streams to its status.
+ghost use Rattle.std.specs.Prelude.{◌≡◌, ◌≤◌, Bool, IfErr, IfOk, IfSome, IsOkAnd, None, OnErr};
+ghost use Rattle.std.specs.Prelude.{codes, map, string_bytes, true};
 ghost use Rattle.std.specs.Io.KnownBytes.{Keeps};
+ghost use Rattle.program_input.specs.Versions.{PrintsVersion, asks_version};
 ghost use Rattle.run_file.specs.RunFile.{IsRunText};
 ghost use Rattle.daq_sim.specs.Done.{PrintsText, frames_line_of};
 ghost use Rattle.daq_sim.specs.Stops.{StopsAt};
@@ -10,8 +12,9 @@ use crate::command_line::{CommandLine, Options, read_command_line};
 use crate::explaining::explain;
 use crate::program_fault::ProgramFault;
 use clap::Error;
+use explain::{Why, run_from};
+use program_input::print_version;
 use run_file::Run;
-use run_story::{Why, run_from};
 use std::alloc::Global;
 use std::fs;
 use std::io::{BufWriter, Read, Write};
@@ -59,10 +62,13 @@ fn answer<R: Files + Threads + Wait + Sync, I: Read + Drop, W: Write>(
     why: &mut Why,
 ) -> Result<u8, ProgramFault>
     ensures status { IfOk result (λ status. status ≤ 1) }
+    ensures version { asks_version (map string_bytes words.now) ≡ true → IsOkAnd result
+        (PrintsVersion (codes "xcpdaq") (W.contents out.old) (W.contents out.new)) }
     ensures silent { OnErr result (Keeps (W.contents out.old) (W.contents out.new)) }
 {
     match read_command_line(alloc, words, why)? {
         CommandLine::Help(text) => Ok(print_help(out, text)),
+        CommandLine::Version => Ok(print_version(out, "xcpdaq")),
         CommandLine::Run(options) => do_run(rt, alloc, options, input, out, why),
     }
 }

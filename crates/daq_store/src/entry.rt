@@ -1,3 +1,4 @@
+//! ODT entries, and whether one lies within the image.
 ghost use Rattle.std.specs.Prelude.{◌≡◌};
 ghost use Rattle.daq_store.specs.Configuration.{is_within};
 

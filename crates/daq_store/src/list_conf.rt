@@ -1,3 +1,4 @@
+//! What is set of a DAQ list, and whether this makes the list ready to be started.
 ghost use Rattle.std.specs.Prelude.{◌≡◌, ◌<◌, ◌≤◌, IfOk, IfSome, OnOk, OnErr, IsSome, [], None};
 ghost use Rattle.std.specs.Prelude.{Some, length, map, option_map, replicate, slice_set};
 ghost use Rattle.xcp_base.specs.Forms.{field_len, stamp_bytes};

@@ -1,3 +1,4 @@
+//! A DAQ list in the store: what is set of it, and whether it runs or is selected.
 ghost use Rattle.std.specs.Prelude.{◌≡◌, IfOk, replicate};
 ghost use Rattle.daq_store.specs.Inner.Effects.{cleared, fresh_state, start_stopped, synched};
 

@@ -1,3 +1,4 @@
+//! What SET_DAQ_LIST_MODE sets: event channel, prescaler, timestamp and priority.
 /// SET_DAQ_LIST_MODE: the mode of a DAQ list.
 #[derive(Clone, Copy, Debug, PartialEq, Eq)]
 pub struct Mode {

@@ -1,3 +1,4 @@
+//! The entries of one ODT: allocated, written, cleared, and checked against the image.
 ghost use Rattle.std.specs.Prelude.{◌≡◌, ◌*◌, ◌<◌, ◌≤◌, [], None, Some, IfOk, length};
 ghost use Rattle.std.specs.Prelude.{option_and_then, replicate, slice_get, slice_set, sum_by};
 ghost use Rattle.std.specs.List.{list_all};

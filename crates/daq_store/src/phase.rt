@@ -1,3 +1,4 @@
+//! Which allocation may follow which.
 ghost use Rattle.std.specs.Prelude.{◌≡◌};
 ghost use Rattle.daq_store.specs.Shape.{forbids_lists, forbids_odts, forbids_entries};
 

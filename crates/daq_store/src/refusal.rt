@@ -1,3 +1,4 @@
+//! Why the store refuses: a check that fails, no memory, or numbers out of their limits.
 ghost use Rattle.std.specs.Prelude.{◌≡◌};
 ghost use Rattle.daq_store.specs.declared.refusal.Refusal.TheVariants.{Code, Memory};
 

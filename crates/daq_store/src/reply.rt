@@ -1,3 +1,4 @@
+//! The replies to the commands that set DAQ lists, and their packets.
 ghost use Rattle.std.specs.Prelude.{◌≡◌, ◌≤◌, length};
 ghost use Rattle.daq_store.specs.Answer.{read_reply};
 ghost use Rattle.daq_store.specs.Replies.{ShowsNoEntry, reply_bytes};

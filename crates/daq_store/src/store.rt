@@ -1,3 +1,4 @@
+//! The store, with one call for each DAQ command: it is checked, and then carried out.
 ghost use Rattle.std.specs.Prelude.{◌≡◌, ◌≢◌, ◌≤◌, ◌↔◌, [], IsOk, IfOk, IfErr, OnOk, OnErr};
 ghost use Rattle.std.specs.Prelude.{IsSome, Some};
 ghost use Rattle.xcp_base.specs.Forms.{form_of, usual_form};

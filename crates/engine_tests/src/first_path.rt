@@ -1,7 +1,7 @@
 //! From images to frames, by a fixed DAQ list.
 use crate::same::same;
+use daq_run::fixed_run;
 use frame_writer::{FuseOut, WriteFault};
-use run_setup::fixed_run;
 
 const TWO_IMAGES: [[u8; 2]; 2] = [[0xAA, 0xBB], [0xCC, 0xDD]];
 

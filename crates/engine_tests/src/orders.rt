@@ -1,8 +1,7 @@
 //! Orders through a control ring, and a stop that waits for room.
 use crate::same::same;
 use crate::stores::one_list;
-use channel_ring::{SendHalf, TakeHalf};
-use control_ring::{ControlRing, Order};
+use channel_ring::{ControlRing, Order, SendHalf, TakeHalf};
 use daq_engine::open;
 use frame_writer::{FrameWriter, VecOut};
 use sampler::{Polled, Sampler};

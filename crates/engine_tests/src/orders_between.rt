@@ -5,8 +5,10 @@ ghost use Rattle.transmitter.specs.Written.{transmission};
 use crate::same::same;
 use crate::stores::one_list;
 use byte_ring::ByteRing;
-use channel_ring::{RingEnd, SampleRing, SendEnd, TakeEnd};
-use control_ring::{ControlEnded, ControlRing, ControlSend, ControlTake, Order};
+use channel_ring::{
+    ControlEnded, ControlRing, ControlSend, ControlTake, Order, RingEnd, SampleRing, SendEnd,
+    TakeEnd,
+};
 use daq_engine::{Report, Ring, close, open_over};
 use frame_writer::{FrameWriter, Out, VecOut};
 use sampler::{Polled, Sampler, SamplerEnd};

@@ -3,3 +3,4 @@ pub mod SplitLemmas
 pub mod LayoutLemmas
 mod StandardFacts
 pub mod TextLemmas
+pub mod ReadingLemmas

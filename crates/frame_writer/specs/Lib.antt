@@ -3,6 +3,10 @@ pub mod Frame
 pub mod Inner
 pub mod MemoryOuts
 pub mod Shown
+pub mod Sinks
 pub mod Split
 pub mod Streams
 pub mod Writing
+pub mod Reach
+pub mod Pieces
+pub mod Reading

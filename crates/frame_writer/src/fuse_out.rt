@@ -1,3 +1,4 @@
+//! A writer that stalls, or fails after so many bytes, for tests of torn frames.
 ghost use Rattle.std.specs.Prelude.{◌≡◌, ◌+◌, ◌<◌, ◌++◌, IfOk, IsErr, OnErr, OnOk, length, take};
 ghost use Rattle.frame_writer.specs.Counts.{counted, is_stall, raised};
 ghost use Rattle.frame_writer.specs.MemoryOuts.{fuse_takes, unburnt};

@@ -1,7 +1,6 @@
 //! The packets of a sample, laid out where their frames are wanted.
 
 use crate::layout::{MAX_SAMPLE_BYTES, place_text, text_len};
-use crate::out::Out;
 use crate::sink_out::SinkOut;
 use crate::writer::FrameWriter;
 use xcp_base::Packets;
@@ -10,19 +9,20 @@ impl FrameWriter<SinkOut> {
     ghost use Rattle.std.specs.Prelude.{◌≡◌, ◌+◌, ◌≤◌, ◌++◌, drop, false, length, take};
     ghost use Rattle.frame_writer.specs.Frame.{text};
     ghost use Rattle.frame_writer.specs.Inner.{text_len};
-    ghost use Rattle.frame_writer.specs.Writing.{after_text, state_of};
+    ghost use Rattle.frame_writer.specs.Sinks.{sink_writer};
+    ghost use Rattle.frame_writer.specs.Writing.{after_text};
 
     /// `send_all`, and lays the frames out in a buffer, from `at` on; answers where they end. So
     /// they are copied once. It never fails, since the writer takes all.
     pub fn send_into(&mut self, buffer: &mut [u8], at: usize, packets: &Packets) -> usize
-        requires was_open { (state_of ⟦<SinkOut as Out>⟧ self.old).closed ≡ false }
+        requires was_open { (sink_writer self.old).closed ≡ false }
         requires room { at + MAX_SAMPLE_BYTES ≤ length buffer.old }
-        ensures sent { state_of ⟦<SinkOut as Out>⟧ self.new
-            ≡ after_text (state_of ⟦<SinkOut as Out>⟧ self.old) packets.now }
+        ensures sent { sink_writer self.new
+            ≡ after_text (sink_writer self.old) packets.now }
         ensures frames { take result buffer.new ≡ take at buffer.old
-            ++ text (state_of ⟦<SinkOut as Out>⟧ self.old).counter packets.now }
+            ++ text (sink_writer self.old).counter packets.now }
         ensures end { result ≡ at
-            + length (text (state_of ⟦<SinkOut as Out>⟧ self.old).counter packets.now) }
+            + length (text (sink_writer self.old).counter packets.now) }
         ensures within { result ≤ at + MAX_SAMPLE_BYTES }
         ensures behind { drop result buffer.new ≡ drop result buffer.old }
         ensures len { length buffer.new ≡ length buffer.old }
@@ -34,12 +34,12 @@ impl FrameWriter<SinkOut> {
 
     /// The same in a buffer that has room for these frames.
     pub(crate) fn lay_out(&mut self, buffer: &mut [u8], at: usize, packets: &Packets) -> usize
-        requires was_open { (state_of ⟦<SinkOut as Out>⟧ self.old).closed ≡ false }
+        requires was_open { (sink_writer self.old).closed ≡ false }
         requires room { at + text_len packets.now ≤ length buffer.old }
-        ensures sent { state_of ⟦<SinkOut as Out>⟧ self.new
-            ≡ after_text (state_of ⟦<SinkOut as Out>⟧ self.old) packets.now }
+        ensures sent { sink_writer self.new
+            ≡ after_text (sink_writer self.old) packets.now }
         ensures frames { take result buffer.new ≡ take at buffer.old
-            ++ text (state_of ⟦<SinkOut as Out>⟧ self.old).counter packets.now }
+            ++ text (sink_writer self.old).counter packets.now }
         ensures end { result ≡ at + text_len packets.now }
         ensures behind { drop result buffer.new ≡ drop result buffer.old }
         ensures len { length buffer.new ≡ length buffer.old }

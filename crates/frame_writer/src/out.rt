@@ -1,3 +1,4 @@
+//! What a writer of bytes promises: it takes some of them from the front, or fails.
 ghost use Rattle.std.specs.Prelude.{◌≡◌, ℕ, ◌≤◌, List, ◌++◌, IfOk, OnErr, length, take};
 ghost use Rattle.frame_writer.specs.Counts.{counted, is_stall, raised};
 

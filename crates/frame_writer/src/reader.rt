@@ -1,3 +1,4 @@
+//! The first frame is read off the front of some bytes.
 ghost use Rattle.std.specs.Prelude.{◌≡◌, ℕ, ◌++◌, List, IfSome, IsSomeAnd};
 ghost use Rattle.frame_writer.specs.Frame.{IsFrame, frame};
 

@@ -1,3 +1,4 @@
+//! A writer that throws its bytes away, for frames that are laid out in a caller's buffer.
 ghost use Rattle.std.specs.Prelude.{◌≡◌, []};
 ghost use Rattle.frame_writer.specs.Streams.{sunk};
 

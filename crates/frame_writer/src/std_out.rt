@@ -1,3 +1,4 @@
+//! A writer that hands its bytes on to a file or a stream of the standard library.
 ghost use Rattle.std.specs.Prelude.{◌≡◌, ◌≤◌, ◌++◌, IfOk, OnErr, OnOk, length, take};
 ghost use Rattle.std.specs.Io.KnownBytes.{WriteAppends};
 ghost use Rattle.frame_writer.specs.Counts.{counted, is_stall, raised};

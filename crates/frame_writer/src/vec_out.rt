@@ -1,3 +1,4 @@
+//! A writer that keeps its bytes in memory, to be read back.
 ghost use Rattle.std.specs.Prelude.{◌≡◌, ◌+◌, ◌<◌, ◌++◌, IfOk, OnErr, OnOk, length};
 ghost use Rattle.frame_writer.specs.Counts.{raised};
 ghost use Rattle.frame_writer.specs.MemoryOuts.{empty_vec_out};

@@ -1,3 +1,4 @@
+//! Packets become frames with LEN and CTR, and go to a writer until it fails.
 ghost use Rattle.std.specs.Prelude.{◌≡◌, ◌<◌, ◌≤◌, length};
 ghost use Rattle.frame_writer.specs.Inner.{BreaksOffAfter};
 ghost use Rattle.frame_writer.specs.Shown.{after_bytes, shown};

@@ -1,3 +1,4 @@
+//! The other thread's end of a line: it fetches values, and gives back what is left of them.
 use crate::known::{Fetched, InTurn, Known, Shown};
 use crate::parcel::{Backs, Parcel};
 use crate::rule::Rule;

@@ -1,3 +1,4 @@
+//! The owner's end of a way back, at which what is left of one value arrives.
 use crate::returns::{Return, Returns};
 use crate::rule::Rule;
 use rtrb::Consumer;

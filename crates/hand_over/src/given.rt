@@ -1,3 +1,4 @@
+//! A way back that was used: it shows that what is left of its value was given back.
 use crate::returns::{Return, Returns};
 use crate::rule::Rule;
 use rtrb::Producer;

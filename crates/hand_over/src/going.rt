@@ -1,3 +1,4 @@
+//! A value gets a way back of its own before it goes to another thread.
 ghost use Rattle.std.specs.Prelude.{◌≡◌, [], ◌<◌, IfErr, IfOk};
 ghost use Rattle.rtrb.specs.Ring.{IsPair, known_free, received, sent};
 

@@ -4,8 +4,8 @@ ghost use Rattle.std.specs.Prelude.{◌≡◌, [], ◌∷◌, ◌++◌};
 use crossbeam_queue::protocol::{Join, Lesson, Outcome, Protocol, Split};
 use std::collections::LinkedList;
 
-// What a pass may do, lend or fetch, what was lent through it and not recalled, and what it knows to
-// have been fetched. In a clause a `LinkedList` is a list. No value of it is made.
+// What a pass may do, lend or fetch, what was lent through it and not recalled, and what it knows
+// to have been fetched. In a clause a `LinkedList` is a list. No value of it is made.
 pub struct Known<T> {
     pub lends: bool,
     pub fetches: bool,

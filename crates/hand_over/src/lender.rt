@@ -1,3 +1,4 @@
+//! The owner's end of a line: it lends values, recalls them, and takes what is left of them.
 use crate::borrower::Borrower;
 use crate::known::{InTurn, Known, Lent, Recalled, Shown};
 use crate::parcel::{Backs, Parcel};

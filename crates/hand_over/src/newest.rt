@@ -1,3 +1,4 @@
+//! The last two values are kept: with one more, the newest becomes the older.
 ghost use Rattle.std.specs.Prelude.{◌≡◌, Some};
 ghost use Rattle.hand_over.specs.Newest.{one_before};
 

@@ -1,3 +1,4 @@
+//! What goes over the ring of a line, and the protocol that it follows.
 ghost use Rattle.hand_over.specs.Lines.{Comes};
 
 use crate::known::Known;

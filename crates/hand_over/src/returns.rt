@@ -1,3 +1,4 @@
+//! What goes over a way back, and the protocol that it follows.
 ghost use Rattle.hand_over.specs.Ways.{Follows};
 
 use crate::rule::Rule;

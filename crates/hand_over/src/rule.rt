@@ -1,3 +1,4 @@
+//! Rules that say what may be left of a value that was handed over.
 /// What is known of what comes back.
 pub trait Rule<T, L> {
     /// `leaves value left` says that this may be left of that value.

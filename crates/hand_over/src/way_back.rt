@@ -1,3 +1,4 @@
+//! The other thread's end of a way back, which travels with its value.
 use crate::given::Given;
 use crate::returns::{Return, Returns};
 use crate::rule::Rule;

@@ -3,7 +3,7 @@ use Rattle.std.proofs.Common.{◌≡◌, ◌≢◌, ℕ, ◌+◌, ◌*◌, ◌%�
 use Rattle.std.proofs.Common.{mul_assoc, pow-add, mul-pos, zero-mul, lit<, ◌⊎◌, ⊎_elim}
 use Rattle.std.proofs.Math.Nat.{one-le-pow}
 use Rattle.std.specs.Float.Numeral.{Parts, numeral_digits, tens_down, tens_up}
-use Rattle.measurement.specs.declared.tick.Tick.{Tick}
+use Rattle.measured_values.specs.declared.tick.Tick.{Tick}
 use Rattle.measured_values.specs.Decimals.{tens_above, tens_below}
 use Rattle.measured_values.specs.Ticks.{IsTickOf}
 use Rattle.measured_values.specs.declared.tick_text.TheConstants.{MAX_EXPONENT, MAX_MANTISSA}

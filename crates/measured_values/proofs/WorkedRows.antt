@@ -1,8 +1,8 @@
 -- Rows worked by hand, which the definitions have to give.
 use Rattle.std.proofs.Common.{◌≡◌, ◌*◌, ◌∷◌, [], codes, negsuc, pos, refl, true, false}
 use Rattle.std.specs.Prelude.{bit_and}
-use Rattle.measurement.specs.declared.bit_operation.BitOperation.{BitOperation}
-use Rattle.measurement.specs.declared.byte_order.ByteOrder.TheVariants.{MsbFirst, MsbLast}
+use Rattle.measured_values.specs.declared.bit_operation.BitOperation.{BitOperation}
+use Rattle.measured_values.specs.declared.byte_order.ByteOrder.TheVariants.{MsbFirst, MsbLast}
 use Rattle.measured_values.specs.Decimals.{placed}
 use Rattle.measured_values.specs.Raws.{half_exponent, half_fraction, half_units, highest_bit, masked, moved, number_of_bytes, sign_extended}
 use Rattle.measured_values.specs.Raws.{twos_complement}

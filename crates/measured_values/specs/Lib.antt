@@ -1,4 +1,5 @@
 pub mod Decimals
+pub mod Encodings
 pub mod Physicals
 pub mod Raws
 pub mod Tallies

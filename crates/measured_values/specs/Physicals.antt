@@ -4,13 +4,14 @@ use Rattle.std.specs.Prelude.{if◌then◌else◌}
 use Rattle.std.specs.Option.{option_map}
 use Rattle.std.specs.Float.{Float, binary32, binary64, round_to_format}
 use Rattle.std.specs.Float.Ieee.{add, div, eq, le, mul, sub}
-use Rattle.measurement.specs.declared.conversion.Conversion.{Conversion}
-use Rattle.measurement.specs.declared.conversion.Conversion.TheVariants.{Identical, Linear, Other}
-use Rattle.measurement.specs.declared.conversion.Conversion.TheVariants.{Rational, Texts}
-use Rattle.measurement.specs.declared.data_type.DataType.{DataType}
-use Rattle.measurement.specs.declared.data_type.DataType.TheVariants as type
-use Rattle.measurement.specs.declared.text_table.TextRow.{TextRow}
-use Rattle.measurement.specs.declared.text_table.TextTable.{TextTable}
+use Rattle.measured_values.specs.declared.conversion.Conversion.{Conversion}
+use Rattle.measured_values.specs.declared.conversion.Conversion.TheVariants.{Identical, Linear}
+use Rattle.measured_values.specs.declared.conversion.Conversion.TheVariants.{Other}
+use Rattle.measured_values.specs.declared.conversion.Conversion.TheVariants.{Rational, Texts}
+use Rattle.measured_values.specs.declared.data_type.DataType.{DataType}
+use Rattle.measured_values.specs.declared.data_type.DataType.TheVariants as type
+use Rattle.measured_values.specs.declared.text_table.TextRow.{TextRow}
+use Rattle.measured_values.specs.declared.text_table.TextTable.{TextTable}
 use Rattle.measured_values.specs.Raws.{number_of_raw}
 use Rattle.measured_values.specs.declared.physical.Physical.{Physical}
 use Rattle.measured_values.specs.declared.physical.Physical.TheVariants as of

@@ -6,16 +6,16 @@ use Rattle.std.specs.Prelude.{slice_index, nat_lt, Bool, true, false, ◌||◌}
 use Rattle.std.specs.Int.{leading_zeros, sum_through, trailing_zeros, w64}
 use Rattle.std.specs.Float.{Float, binary32, binary64, inf, nan}
 use Rattle.std.specs.Float.Ieee.{div, neg, of_int}
-use Rattle.measurement.specs.Encodings.{size_of}
-use Rattle.measurement.specs.declared.bit_operation.BitOperation.{BitOperation}
-use Rattle.measurement.specs.declared.byte_order.ByteOrder.{ByteOrder}
-use Rattle.measurement.specs.declared.byte_order.ByteOrder.TheVariants.{MsbFirst, MsbLast}
-use Rattle.measurement.specs.declared.data_type.DataType.{DataType}
-use Rattle.measurement.specs.declared.data_type.DataType.TheVariants.{AInt64, AUint64, Float16}
-use Rattle.measurement.specs.declared.data_type.DataType.TheVariants.{Float32, Float64, SByte}
-use Rattle.measurement.specs.declared.data_type.DataType.TheVariants.{SLong, SWord}
-use Rattle.measurement.specs.declared.data_type.DataType.TheVariants.{UByte, ULong, UWord}
-use Rattle.measurement.specs.declared.encoding.Encoding.{Encoding}
+use Rattle.measured_values.specs.Encodings.{size_of}
+use Rattle.measured_values.specs.declared.bit_operation.BitOperation.{BitOperation}
+use Rattle.measured_values.specs.declared.byte_order.ByteOrder.{ByteOrder}
+use Rattle.measured_values.specs.declared.byte_order.ByteOrder.TheVariants.{MsbFirst, MsbLast}
+use Rattle.measured_values.specs.declared.data_type.DataType.{DataType}
+use Rattle.measured_values.specs.declared.data_type.DataType.TheVariants.{AInt64, AUint64, Float16}
+use Rattle.measured_values.specs.declared.data_type.DataType.TheVariants.{Float32, Float64, SByte}
+use Rattle.measured_values.specs.declared.data_type.DataType.TheVariants.{SLong, SWord}
+use Rattle.measured_values.specs.declared.data_type.DataType.TheVariants.{UByte, ULong, UWord}
+use Rattle.measured_values.specs.declared.encoding.Encoding.{Encoding}
 use Rattle.measured_values.specs.declared.raw.Raw.{Raw}
 use Rattle.measured_values.specs.declared.raw.Raw.TheVariants.{Double, Signed, Single, Unsigned}
 

@@ -2,7 +2,7 @@
 use Rattle.std.specs.Prelude.{◌≡◌, ◌≢◌, ℕ, ◌+◌, ◌*◌, ◌<◌, ◌≤◌, ◌%◌, ◌^◌, List, length, true}
 use Rattle.std.specs.Float.Numeral.{Parts, has_digits, numeral_digits, scan_numeral, tens_down}
 use Rattle.std.specs.Float.Numeral.{tens_up}
-use Rattle.measurement.specs.declared.tick.Tick.{Tick}
+use Rattle.measured_values.specs.declared.tick.Tick.{Tick}
 use Rattle.measured_values.specs.Decimals.{tens_above, tens_below}
 use Rattle.measured_values.specs.declared.tick_text.TheConstants.{MAX_DIGITS, MAX_EXPONENT}
 use Rattle.measured_values.specs.declared.tick_text.TheConstants.{MAX_EXPONENT_DIGITS, MAX_MANTISSA}

@@ -1,3 +1,4 @@
+//! The physical values of measurements: integers, floats and texts.
 ghost use Rattle.std.specs.Prelude.{◌≡◌};
 ghost use Rattle.measured_values.specs.Physicals.{number_of_shown, shown_of, Value};
 

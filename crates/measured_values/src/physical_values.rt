@@ -4,9 +4,10 @@ ghost use Rattle.std.specs.Option.{option_copied};
 ghost use Rattle.measured_values.specs.Physicals.{converted, other_text, shown_of, takes_in};
 ghost use Rattle.measured_values.specs.Physicals.{text_in};
 
+use crate::conversion::Conversion;
 use crate::physical::Physical;
 use crate::raw::Raw;
-use measurement::{Conversion, TextRow, TextTable};
+use crate::text_table::{TextRow, TextTable};
 
 /// The physical value of a raw one (ASAM MCD-2 MC, COMPU_METHOD).
 ///

@@ -1,8 +1,9 @@
+//! The raw values of measurements, before a conversion: integers and floats.
 ghost use Rattle.std.specs.Prelude.{◌≡◌};
 ghost use Rattle.measured_values.specs.Physicals.{computed, narrowed, written};
 ghost use Rattle.measured_values.specs.Raws.{number_of_raw};
 
-use measurement::DataType;
+use crate::data_type::DataType;
 use std::num::{
     f32_to_f64_with_nan, nearest_f64_to_f32_with_nan, nearest_i64_to_f64, nearest_u64_to_f64,
 };

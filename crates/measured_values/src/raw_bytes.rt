@@ -2,15 +2,18 @@
 ghost use Rattle.std.specs.Prelude.{◌≡◌, ◌-◌, ◌*◌, ◌/◌, ◌%◌, ◌<◌, ◌≤◌, ◌^◌, ◌↔◌, IfSome, IsSome};
 ghost use Rattle.std.specs.Prelude.{false, length};
 ghost use Rattle.std.specs.Float.{inf, nan};
-ghost use Rattle.measurement.specs.Encodings.{size_of};
+ghost use Rattle.measured_values.specs.Encodings.{size_of};
 ghost use Rattle.measured_values.specs.Raws.{IsSize, masked, number_of_bytes, raw_in, raw_value};
 ghost use Rattle.measured_values.specs.Raws.{signed_in, twos_complement, unsigned_in};
 ghost use Rattle.measured_values.specs.Raws.{highest_bit, is_signed, keeps_sign, mask_in, moved};
 ghost use Rattle.measured_values.specs.Raws.{operated, operated_in, raw_by, raw_with};
 ghost use Rattle.measured_values.specs.Raws.{half, half_size, half_units, sign_extended};
 
+use crate::bit_operation::BitOperation;
+use crate::byte_order::ByteOrder;
+use crate::data_type::DataType;
+use crate::encoding::Encoding;
 use crate::raw::Raw;
-use measurement::{BitOperation, ByteOrder, DataType, Encoding};
 use std::num::{f32_from_bits_with_nan, f64_from_bits_with_nan, nearest_u64_to_f64};
 
 /// The raw value of bytes; `None` if there are not as many as the data type has.
@@ -32,7 +35,7 @@ pub fn raw_of(encoding: Encoding, bytes: &[u8]) -> Option<Raw>
 }
 
 /// The unsigned number of 1, 2, 4 or 8 bytes; `None` for another number of them.
-fn number_in(order: ByteOrder, bytes: &[u8]) -> Option<u64>
+pub fn number_in(order: ByteOrder, bytes: &[u8]) -> Option<u64>
     ensures some { IsSize (length bytes.now) → IsSome result }
     ensures value { IfSome result (λ number.
         number ≡ number_of_bytes order (length bytes.now) bytes.now) }

@@ -6,9 +6,9 @@ ghost use Rattle.measured_values.specs.Decimals.{IsDecimal};
 ghost use Rattle.measured_values.specs.Texts.{GrowsBy, Keeps};
 
 use crate::decimal_places::{push_placed, push_zeros};
+use crate::tick::Tick;
 use crate::trailing_zeros::without_zeros;
 use itoa::Buffer;
-use measurement::Tick;
 use std::alloc::AllocError;
 
 /// Appends `at` ticks in seconds, as an exact decimal: 1234 ticks of 1e-6 s are `0.001234`. There

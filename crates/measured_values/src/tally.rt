@@ -1,3 +1,4 @@
+//! Count, least, greatest and mean of the values of one measurement.
 ghost use Rattle.std.specs.Prelude.{◌≡◌, ◌∷◌, [], List, length};
 ghost use Rattle.std.specs.Float.{Float};
 ghost use Rattle.measured_values.specs.Tallies.{IsAbove, IsBelow, IsBestIfAny, IsBetter, IsTally};

@@ -5,11 +5,11 @@ ghost use Rattle.std.specs.Float.Numeral.{numeral_digits, tens_down, tens_up};
 ghost use Rattle.std.specs.Str.Parse.{AllDigits, digits_value_after};
 ghost use Rattle.measured_values.specs.Decimals.{tens_above, tens_below};
 ghost use Rattle.measured_values.specs.Ticks.{IsShort, IsTickOf, SaysTick};
-ghost use Rattle.measurement.specs.declared.tick.Tick.{Tick};
+ghost use Rattle.measured_values.specs.declared.tick.Tick.{Tick};
 
+use crate::tick::Tick;
 use crate::trailing_zeros::without_zeros;
 use fast_float::Numeral;
-use measurement::Tick;
 
 /// No more digits are read, but for those of an exponent.
 const MAX_DIGITS: usize = 30;

@@ -1,17 +1,18 @@
 //! The calls with which an engine ends.
 
 ghost use Rattle.std.specs.Prelude.{◌≡◌};
-ghost use Rattle.handle_calls.specs.Ends.{Closes, Drains};
-ghost use Rattle.handle_calls.specs.Samplers.{Finishes};
-ghost use Rattle.handle_calls.specs.Statuses.{number_of};
-ghost use Rattle.handle_calls.specs.declared.status.Status.{Status as StatusOf};
+ghost use Rattle.c_engine.specs.Ends.{Closes, Drains};
+ghost use Rattle.c_engine.specs.Samplers.{Finishes};
+ghost use Rattle.c_engine.specs.Statuses.{number_of};
+ghost use Rattle.c_engine.specs.declared.status.Status.{Status as StatusOf};
 
 use byte_ring::ByteRing;
+use c_engine::{
+    Handle, HeldRing, PumpedOut, ReportOut, close_by, drain_by, finish_by, status_of_close,
+    status_of_finish,
+};
 use channel_ring::SampleRing;
 use daq_engine::ListReport;
-use handle_calls::{
-    Handle, HeldRing, PumpedOut, ReportOut, close_by, drain_by, finish_by, status_of_finish,
-};
 use std::alloc::Global;
 
 /// Finishes a sampler, and gives what is left of it back to its engine. The handle is empty then.
@@ -74,5 +75,5 @@ pub extern "C" fn ng_close(
         (record { lines = lines.old; report = report.old })
         (record { lines = lines.new; report = report.new }) status }
 {
-    close_by(alloc, engine, lines, report).number()
+    status_of_close(close_by(alloc, engine, lines, report)).number()
 }

@@ -1,25 +1,25 @@
-//! The calls of an engine.
+//! The calls by which an engine is opened, hands out its samplers, is pumped, and is freed.
 
 ghost use Rattle.std.specs.Prelude.{◌≡◌};
-ghost use Rattle.handle_calls.specs.Answers.{Frees};
-ghost use Rattle.handle_calls.specs.Engines.{GivesSampler, OpensEngine, PumpsHandle};
-ghost use Rattle.handle_calls.specs.Fillings.{FillsHandle};
-ghost use Rattle.handle_calls.specs.Statuses.{number_of};
-ghost use Rattle.handle_calls.specs.declared.status.Status.{Status as StatusOf};
+ghost use Rattle.c_engine.specs.Answers.{Frees};
+ghost use Rattle.c_engine.specs.Engines.{GivesSampler, OpensEngine, PumpsHandle};
+ghost use Rattle.c_engine.specs.Fillings.{FillsHandle};
+ghost use Rattle.c_engine.specs.Statuses.{number_of};
+ghost use Rattle.c_engine.specs.declared.status.Status.{Status as StatusOf};
 
 use byte_ring::ByteRing;
-use channel_ring::SampleRing;
-use handle_calls::{
+use c_engine::{
     Handle, HeldRing, PumpedAllOut, PumpedOut, give_sampler, open_into, pump_all_by, pump_by,
 };
+use channel_ring::SampleRing;
 use std::alloc::Global;
 
 /// Opens an engine over a store, which stays as it is, with rings of the kind that has this number
 /// in `ng_ring`. That of event channel `c` has `caps[c]` places, 1 to 1024, or bytes, 532 to
 /// 65536.
 ///
-/// Refused in this order: an engine's handle that isn't empty, no store, no such kind of
-/// ring; capacities that don't fit, no list runs, lack of memory.
+/// Refused in this order: `InUse`, if the engine's handle isn't empty; `Empty`, without a store;
+/// `BadLimits`, without such a kind of ring; `BadCaps`, `NothingRunning`, `Memory`.
 #[unsafe(no_mangle)]
 pub extern "C" fn ng_open(
     alloc: Global,
@@ -38,8 +38,8 @@ pub extern "C" fn ng_open(
 
 /// Hands out the sampler of the lowest event channel whose sampler wasn't handed out yet.
 ///
-/// Refused in this order: a sampler's handle that isn't empty, no engine, all samplers are
-/// out, lack of memory.
+/// Refused in this order: `InUse`, if the sampler's handle isn't empty; `Empty`, without an engine;
+/// `NoSampler`, if all were handed out; `Memory`.
 #[unsafe(no_mangle)]
 pub extern "C" fn ng_next_sampler(alloc: Global, engine: &mut Handle, sampler: &mut Handle) -> u32
     ensures { (status : StatusOf) × (result ≡ number_of status)
@@ -51,8 +51,9 @@ pub extern "C" fn ng_next_sampler(alloc: Global, engine: &mut Handle, sampler: &
 /// Takes at most one item of each ring, and puts the frames of the samples into the front of the
 /// buffer, and their length in bytes into `len`.
 ///
-/// Refused in this order: no engine, a buffer of less than 4352 bytes, a writer that failed
-/// earlier, `MAX_TAKEN` items taken; then nothing is taken.
+/// Refused in this order: `Empty`, without an engine; `SmallBuffer`, below 4352 bytes, the most
+/// that the samples of 8 event channels take; `Spent`, once `MAX_TAKEN` items were taken. Then
+/// nothing is taken.
 #[unsafe(no_mangle)]
 pub extern "C" fn ng_pump(
     alloc: Global,
@@ -73,8 +74,8 @@ pub extern "C" fn ng_pump(
 /// Pumps until a pump finds nothing or the frames of the next sample don't fit, and puts the frames
 /// of the samples into the front of the buffer, and their length in bytes into `len`.
 ///
-/// Refused in this order: no engine, a buffer of less than 544 bytes, `MAX_TAKEN` items taken; then
-/// nothing is taken.
+/// Refused in this order: `Empty`, without an engine; `SmallBuffer`, below 544 bytes, the most that
+/// one sample takes; `Spent`, once `MAX_TAKEN` items were taken. Then nothing is taken.
 #[unsafe(no_mangle)]
 pub extern "C" fn ng_pump_all(
     alloc: Global,
@@ -92,7 +93,7 @@ pub extern "C" fn ng_pump_all(
     pump_all_by(alloc, engine, buffer, len, pumped).number()
 }
 
-/// Gives an engine up, with the samplers that weren't handed out.
+/// Gives an engine up, with the samplers that weren't handed out. Refused with `Empty`.
 #[unsafe(no_mangle)]
 pub extern "C" fn ng_engine_free(alloc: Global, engine: &mut Handle) -> u32
     ensures { (status : StatusOf) × (result ≡ number_of status)
@@ -101,7 +102,7 @@ pub extern "C" fn ng_engine_free(alloc: Global, engine: &mut Handle) -> u32
     engine.free(alloc).number()
 }
 
-/// Gives a sampler up.
+/// Gives a sampler up. Refused with `Empty`.
 #[unsafe(no_mangle)]
 pub extern "C" fn ng_sampler_free(alloc: Global, sampler: &mut Handle) -> u32
     ensures { (status : StatusOf) × (result ≡ number_of status)

@@ -1,15 +1,13 @@
 //! The calls of a sampler.
 
 ghost use Rattle.std.specs.Prelude.{◌≡◌};
-ghost use Rattle.handle_calls.specs.Statuses.{number_of};
-ghost use Rattle.handle_calls.specs.Samplers.{Counts, Starts, Stops, Triggers};
-ghost use Rattle.handle_calls.specs.declared.status.Status.{Status as StatusOf};
+ghost use Rattle.c_engine.specs.Statuses.{number_of};
+ghost use Rattle.c_engine.specs.Samplers.{Counts, Starts, Stops, Triggers};
+ghost use Rattle.c_engine.specs.declared.status.Status.{Status as StatusOf};
 
 use byte_ring::ByteRing;
+use c_engine::{CountsOut, Handle, HeldRing, TakenOut, counts_by, start_by, stop_by, trigger_by};
 use channel_ring::SampleRing;
-use handle_calls::{
-    CountsOut, Handle, HeldRing, TakenOut, counts_by, start_by, stop_by, trigger_by,
-};
 use std::alloc::Global;
 
 /// Takes a trigger of the sampler's event channel, with the memory image and a timestamp in ticks.

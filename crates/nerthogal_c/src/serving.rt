@@ -1,22 +1,23 @@
 //! The calls of a slave.
 
 ghost use Rattle.std.specs.Prelude.{◌≡◌};
-ghost use Rattle.handle_calls.specs.Statuses.{number_of};
-ghost use Rattle.handle_calls.specs.declared.status.Status.{Status as StatusOf};
-ghost use Rattle.slave_calls.specs.Bytes.{HangsUpSlave, HearsDatagrams, PeeksSlave, Receives};
-ghost use Rattle.slave_calls.specs.Bytes.{SendsSlave};
-ghost use Rattle.slave_calls.specs.Ends.{ClosesSlaveOf};
-ghost use Rattle.slave_calls.specs.Openings.{OpensSlave};
-ghost use Rattle.slave_calls.specs.Tasks.{GivesTask};
+ghost use Rattle.c_engine.specs.Statuses.{number_of};
+ghost use Rattle.c_engine.specs.declared.status.Status.{Status as StatusOf};
+ghost use Rattle.c_slave.specs.Bytes.{HangsUpSlave, HearsDatagrams, PeeksSlave, Receives};
+ghost use Rattle.c_slave.specs.Bytes.{SendsSlave};
+ghost use Rattle.c_slave.specs.Ends.{ClosesSlaveOf};
+ghost use Rattle.c_slave.specs.Openings.{OpensSlave};
+ghost use Rattle.c_slave.specs.States.{TellsState};
+ghost use Rattle.c_slave.specs.Tasks.{GivesTask};
 
 use byte_ring::ByteRing;
+use c_engine::HeldRing;
+use c_slave::{
+    EventIn, Handle, MeasurementsOut, ProfileIn, StateOut, close_slave_by, datagram_by, give_task,
+    hang_up_by, open_slave, peek_by, receive_by, sent_by, state_by,
+};
 use channel_ring::SampleRing;
 use daq_engine::ListReport;
-use handle_calls::{Handle, HeldRing};
-use slave_calls::{
-    EventIn, ProfileIn, close_slave_by, datagram_by, give_task, hang_up_by, open_slave, peek_by,
-    receive_by, sent_by,
-};
 use std::alloc::Global;
 
 /// Opens a slave with the profile and the event channels that are asked for, in an empty handle.
@@ -134,8 +135,21 @@ pub extern "C" fn ng_slave_sent(alloc: Global, slave: &mut Handle) -> u32
     sent_by(alloc, slave).number()
 }
 
+/// Tells what a slave is about: whether a master is connected, whether some list runs, and how many
+/// bytes wait.
+///
+/// Refused if there is no slave.
+#[unsafe(no_mangle)]
+pub extern "C" fn ng_slave_status(alloc: Global, slave: &mut Handle, state: &mut StateOut) -> u32
+    ensures { (status : StatusOf) × (result ≡ number_of status)
+        × TellsState slave.old.held slave.new.held state.old state.new status }
+{
+    state_by(alloc, slave, state).number()
+}
+
 /// Closes a slave, and tells the account of its session: a line for each DAQ list that there may
-/// be, and whether the account is whole. The handle is empty then.
+/// be, and whether the account is whole; and the accounts of the last measurements alone. The
+/// handle is empty then.
 ///
 /// Refused in this order: no slave, room for less than 16 lines, a task that wasn't finished.
 #[unsafe(no_mangle)]
@@ -144,12 +158,13 @@ pub extern "C" fn ng_slave_close(
     slave: &mut Handle,
     lines: &mut [ListReport],
     whole: &mut bool,
+    each: &mut MeasurementsOut,
 ) -> u32
     ensures { (status : StatusOf) × (result ≡ number_of status)
         × ClosesSlaveOf ⟦<SampleRing as HeldRing>⟧.rings ⟦<ByteRing as HeldRing>⟧.rings
         slave.old.held slave.new.held
-        (record { lines = lines.old; whole = whole.old })
-        (record { lines = lines.new; whole = whole.new }) status }
+        (record { lines = lines.old; whole = whole.old; each = each.old })
+        (record { lines = lines.new; whole = whole.new; each = each.new }) status }
 {
-    close_slave_by(alloc, slave, lines, whole).number()
+    close_slave_by(alloc, slave, lines, whole, each).number()
 }

@@ -1,11 +1,11 @@
 //! The calls of a store.
 
 ghost use Rattle.std.specs.Prelude.{◌≡◌};
-ghost use Rattle.handle_calls.specs.Statuses.{number_of};
-ghost use Rattle.handle_calls.specs.Answers.{CarriesCommand, Frees, MakesStore};
-ghost use Rattle.handle_calls.specs.declared.status.Status.{Status as StatusOf};
+ghost use Rattle.c_engine.specs.Statuses.{number_of};
+ghost use Rattle.c_engine.specs.Answers.{CarriesCommand, Frees, MakesStore};
+ghost use Rattle.c_engine.specs.declared.status.Status.{Status as StatusOf};
 
-use handle_calls::{Asked, Handle, carry, make};
+use c_engine::{Handle, StoreNumbers, carry_packet, make_store};
 use std::alloc::Global;
 
 /// Makes a store without DAQ lists, for 1 to 8 event channels and images of 1 to 4096 bytes, and
@@ -30,13 +30,13 @@ pub extern "C" fn ng_store_new(
           stamp_size = stamp_size;
         }) status }
 {
-    let asked = Asked {
+    let asked = StoreNumbers {
         channels,
         image_len,
         id,
         stamp_size,
     };
-    make(alloc, asked, store).number()
+    make_store(alloc, asked, store).number()
 }
 
 /// Carries one command packet of any bytes out. The packet that answers it goes into the front of
@@ -57,7 +57,7 @@ pub extern "C" fn ng_store_command(
         (record { buffer = reply.old; len = reply_len.old })
         (record { buffer = reply.new; len = reply_len.new }) status }
 {
-    carry(alloc, store, packet, reply, reply_len).number()
+    carry_packet(alloc, store, packet, reply, reply_len).number()
 }
 
 /// Gives a store up. The handle is empty then; one that is empty already stays so.

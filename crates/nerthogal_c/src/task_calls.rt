@@ -1,14 +1,14 @@
 //! The calls of a slave's task.
 
 ghost use Rattle.std.specs.Prelude.{◌≡◌};
-ghost use Rattle.handle_calls.specs.Statuses.{number_of};
-ghost use Rattle.handle_calls.specs.declared.status.Status.{Status as StatusOf};
-ghost use Rattle.slave_calls.specs.Tasks.{FinishesHeld, TriggersHeldTask};
+ghost use Rattle.c_engine.specs.Statuses.{number_of};
+ghost use Rattle.c_engine.specs.declared.status.Status.{Status as StatusOf};
+ghost use Rattle.c_slave.specs.Tasks.{FinishesHeld, TriggersHeldTask};
 
 use byte_ring::ByteRing;
+use c_engine::{HeldRing, TakenOut};
+use c_slave::{Handle, finish_task_by, status_of_finish, trigger_task_by};
 use channel_ring::SampleRing;
-use handle_calls::{Handle, HeldRing, TakenOut};
-use slave_calls::{finish_task_by, status_of_finish, trigger_task_by};
 use std::alloc::Global;
 
 /// Does all that the slave ordered, and then takes a trigger of the task's event channel, with the

@@ -1,3 +1,4 @@
+//! Why a program has no arguments to read, and the status that it ends with.
 ghost use Rattle.std.specs.Prelude.{◌≡◌};
 ghost use Rattle.program_input.specs.Faults.{status_of_arguments};
 

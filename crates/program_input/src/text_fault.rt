@@ -1,3 +1,4 @@
+//! Why the text of a file or of standard input can't be read.
 ghost use Rattle.std.specs.Prelude.{◌≡◌, ◌≢◌};
 ghost use Rattle.std.specs.IoError.{error_kind};
 

@@ -8,13 +8,12 @@ use Rattle.daq_reader.specs.Reading.{Reading}
 use Rattle.value_tables.specs.Columns.{AreColumns, HasChosen}
 use Rattle.value_tables.specs.declared.column.Column.{Column}
 use Rattle.recording.specs.ByName.{IsByName, IsFaultOfValues, ShowsByName}
-use Rattle.recording.specs.Faults.{want_of_memory}
 use Rattle.recording.specs.Shown.{ShowsBy}
 use Rattle.recording.specs.Stops.{IsFaultOfSamples}
 use Rattle.recording.specs.declared.mode.Mode.{Mode}
 use Rattle.recording.specs.declared.piece.Piece.{Piece}
-use Rattle.recording.specs.declared.program_fault.ProgramFault.{ProgramFault}
-use Rattle.recording.specs.declared.program_fault.ProgramFault.TheVariants.{NoValue}
+use Rattle.recording.specs.declared.recording_fault.RecordingFault.{RecordingFault}
+use Rattle.recording.specs.declared.recording_fault.RecordingFault.TheVariants.{Memory, NoValue}
 use Rattle.recording.specs.declared.values.Values.{Values}
 
 -- these columns, for the lists whose shapes they were chosen for, in the way that was asked for
@@ -57,14 +56,14 @@ none_of R (x ∷ xs) (y ∷ ys) all none = absurd (omega (arith, none))
 
 -- without columns, no measurement that is chosen is there
 pub no_columns : (values : Values) (plans : List ListPlan) (lists : List Reading)
-    (input rest : Option (List ℕ)) (first last : Piece) (fault : ProgramFault)
-    → plans ≡ plans_of lists → (fault ≡ NoValue) ⊎ (fault ≡ want_of_memory)
+    (input rest : Option (List ℕ)) (first last : Piece) (fault : RecordingFault)
+    → plans ≡ plans_of lists → (fault ≡ NoValue) ⊎ (fault ≡ Memory)
     → (fault ≡ NoValue → ¬ HasChosen values.description.now plans (option_copied values.only))
     → IsFaultOfValues values lists input rest first last fault
 no_columns values plans lists input rest first last fault of one lacks =
     let d = values.description.now in
     let only = option_copied values.only in
-    let IsSo = λ (f : ProgramFault). IsFaultOfValues values lists input rest first last f in
+    let IsSo = λ (f : RecordingFault). IsFaultOfValues values lists input rest first last f in
     elim one [
       | inl none ↦ subst IsSo (sym none) (subst (λ (ps : List ListPlan). ¬ HasChosen d ps only) of (lacks none))
       | inr memory ↦ subst IsSo (sym memory) tt
@@ -72,7 +71,7 @@ no_columns values plans lists input rest first last fault of one lacks =
 
 -- a fault of samples is one of values
 pub as_values : (values : Values) (lists : List Reading) (input rest : Option (List ℕ))
-    (first last : Piece) (fault : ProgramFault)
+    (first last : Piece) (fault : RecordingFault)
     → IsFaultOfSamples lists input rest first last fault
     → IsFaultOfValues values lists input rest first last fault
 as_values values lists input rest first last NoValue h = absurd h

@@ -3,7 +3,7 @@ use Rattle.std.proofs.Common.{◌≡◌, ◌⊎◌, inl, inr, ℕ, ◌<◌, List
 use Rattle.std.proofs.Transfers.{starts_with_of_append}
 use Rattle.std.proofs.lemmas.List.{length-map}
 use Rattle.std.specs.Option.{option_copied}
-use Rattle.std.specs.Prelude.{IfErr, IfSome, IsSome}
+use Rattle.std.specs.Prelude.{IfErr, IfSome}
 use Rattle.std.specs.Io.{StartsWith}
 use Rattle.std.specs.Io.KnownBytes.{Consumes}
 use Rattle.a2l.specs.declared.description.Description.{Description}
@@ -13,18 +13,16 @@ use Rattle.daq_reader.specs.Reading.{Reading}
 use Rattle.daq_reader.specs.Ready.{ready_lists}
 use Rattle.daq_reader.specs.Recorded.{Recorded}
 use Rattle.daq_reader.specs.Recording.{IsRecordingOf}
-use Rattle.run_story.specs.declared.run_text_fault.RunTextFault.TheVariants.{Memory}
 use Rattle.recording.proofs.FrontLemmas.{rest_of}
 use Rattle.recording.proofs.StopLemmas.{never_breaks, tears_at_end}
 use Rattle.recording.specs.ByName.{AreAsked, IsFaultOfValues, ShowsByName}
-use Rattle.recording.specs.declared.command_line.Options.{Options}
-use Rattle.recording.specs.declared.explaining.RunRecording.{RunRecording}
+use Rattle.recording.specs.declared.view.View.{View}
+use Rattle.recording.specs.declared.run_recording.RunRecording.{RunRecording}
 use Rattle.recording.specs.declared.piece.Piece.{Piece}
 use Rattle.recording.specs.declared.place.Place.{Place}
-use Rattle.recording.specs.declared.program_fault.ProgramFault.{ProgramFault}
-use Rattle.recording.specs.declared.program_fault.ProgramFault.TheVariants.{InReplies, NoValue, OtherRun, Text, Unreadable}
+use Rattle.recording.specs.declared.recording_fault.RecordingFault.{RecordingFault}
+use Rattle.recording.specs.declared.recording_fault.RecordingFault.TheVariants.{InReplies, Memory, NoValue, OtherRun, Unreadable}
 use Rattle.recording.specs.declared.values.Values.{Values}
-use Rattle.recording.specs.Faults.{want_of_memory}
 use Rattle.recording.specs.Files.{ArePassed, IsFaultBehind, IsFaultOfFile, IsFileWith, IsNotOfRecording, IsOfTearOr, ShowsBehind}
 use Rattle.recording.specs.Pieces.{unread_at, unread_with}
 use Rattle.recording.specs.Stops.{IsFront, IsWhole}
@@ -67,53 +65,48 @@ no_shorter recorded written lost input w shorter =
     absurd (omega (arith, short.1, length-append recorded.replies.now w.behind))
 
 -- what stands behind the replies, if it is whole
-behind_whole : (options : Options) (d : Option Description) (lists : List Reading) (written : List (ℕ × Recorded)) (input rest : Option (List ℕ)) (first last : Piece) (fault : ProgramFault)
-    → IsWhole lists written input first → IsFaultBehind options d lists input rest first last fault → IsNotOfRecording fault
-behind_whole options d lists written input rest first last NoValue w h = tt
-behind_whole options (Some d) lists written input rest first last fault w h = never_breaks lists written input rest first last fault w h.2
-behind_whole options None lists written input rest first last fault w h = never_breaks lists written input rest first last fault w h
+behind_whole : (view : View) (d : Option Description) (lists : List Reading) (written : List (ℕ × Recorded)) (input rest : Option (List ℕ)) (first last : Piece) (fault : RecordingFault)
+    → IsWhole lists written input first → IsFaultBehind view d lists input rest first last fault → IsNotOfRecording fault
+behind_whole view d lists written input rest first last NoValue w h = tt
+behind_whole view (Some d) lists written input rest first last fault w h = never_breaks lists written input rest first last fault w h.2
+behind_whole view None lists written input rest first last fault w h = never_breaks lists written input rest first last fault w h
 
 -- and if it is torn at its end
-behind_torn : (options : Options) (d : Option Description) (lists : List Reading) (written : List (ℕ × Recorded)) (input rest : Option (List ℕ)) (first last : Piece) (fault : ProgramFault)
-    → IsFront lists written input first → IsFaultBehind options d lists input rest first last fault → IsOfTearOr rest fault
-behind_torn options d lists written input rest first last NoValue w h = tt
-behind_torn options (Some d) lists written input rest first last fault w h = tears_at_end lists written input rest first last fault w h.2
-behind_torn options None lists written input rest first last fault w h = tears_at_end lists written input rest first last fault w h
+behind_torn : (view : View) (d : Option Description) (lists : List Reading) (written : List (ℕ × Recorded)) (input rest : Option (List ℕ)) (first last : Piece) (fault : RecordingFault)
+    → IsFront lists written input first → IsFaultBehind view d lists input rest first last fault → IsOfTearOr rest fault
+behind_torn view d lists written input rest first last NoValue w h = tt
+behind_torn view (Some d) lists written input rest first last fault w h = tears_at_end lists written input rest first last fault w h.2
+behind_torn view None lists written input rest first last fault w h = tears_at_end lists written input rest first last fault w h
 
 -- of a file that is whole no fault is the recording's
-pub whole_file : (options : Options) (recorded : RunRecording) (written : List (ℕ × Recorded)) (input rest : Option (List ℕ)) (fault : ProgramFault)
-    → IsFileWith recorded written [] input → IsFaultOfFile options recorded input rest fault → IsNotOfRecording fault
-whole_file options recorded written input rest OtherRun w h = begins recorded written [] input w h
-whole_file options recorded written input rest InReplies w h = no_shorter recorded written [] input w h
-whole_file options recorded written input rest Unreadable w h = tt
-whole_file options recorded written input rest (Text Memory) w h = tt
-whole_file options recorded written input rest fault w h =
-    behind_whole options _ _ written h.behind rest h.first h.last fault (is_whole recorded written input h.behind h.first w h.passed) h.is
+pub whole_file : (view : View) (recorded : RunRecording) (written : List (ℕ × Recorded)) (input rest : Option (List ℕ)) (fault : RecordingFault)
+    → IsFileWith recorded written [] input → IsFaultOfFile view recorded input rest fault → IsNotOfRecording fault
+whole_file view recorded written input rest OtherRun w h = begins recorded written [] input w h
+whole_file view recorded written input rest InReplies w h = no_shorter recorded written [] input w h
+whole_file view recorded written input rest Unreadable w h = tt
+whole_file view recorded written input rest Memory w h = tt
+whole_file view recorded written input rest fault w h =
+    behind_whole view _ _ written h.behind rest h.first h.last fault (is_whole recorded written input h.behind h.first w h.passed) h.is
 
 -- and of one that is torn at its end, it breaks off there
-pub torn_file : (options : Options) (recorded : RunRecording) (written : List (ℕ × Recorded)) (lost : List ℕ) (input rest : Option (List ℕ)) (fault : ProgramFault)
-    → IsFileWith recorded written lost input → IsFaultOfFile options recorded input rest fault → IsOfTearOr rest fault
-torn_file options recorded written lost input rest OtherRun w h = begins recorded written lost input w h
-torn_file options recorded written lost input rest InReplies w h = no_shorter recorded written lost input w h
-torn_file options recorded written lost input rest Unreadable w h = tt
-torn_file options recorded written lost input rest (Text Memory) w h = tt
-torn_file options recorded written lost input rest fault w h =
-    behind_torn options _ _ written h.behind rest h.first h.last fault (is_front recorded written lost input h.behind h.first w h.passed) h.is
-
--- the writer that is given back
-pub given_back : {W : Type 0} (shown : Option W) (P : W → Type 0) → IsSome shown → IfSome shown P → (after : W) × P after
-given_back (Some after) P some h = (after, h)
-given_back None P some h = absurd (cc (some))
+pub torn_file : (view : View) (recorded : RunRecording) (written : List (ℕ × Recorded)) (lost : List ℕ) (input rest : Option (List ℕ)) (fault : RecordingFault)
+    → IsFileWith recorded written lost input → IsFaultOfFile view recorded input rest fault → IsOfTearOr rest fault
+torn_file view recorded written lost input rest OtherRun w h = begins recorded written lost input w h
+torn_file view recorded written lost input rest InReplies w h = no_shorter recorded written lost input w h
+torn_file view recorded written lost input rest Unreadable w h = tt
+torn_file view recorded written lost input rest Memory w h = tt
+torn_file view recorded written lost input rest fault w h =
+    behind_torn view _ _ written h.behind rest h.first h.last fault (is_front recorded written lost input h.behind h.first w h.passed) h.is
 
 -- a fault of the replies is one of the file
-pub of_replies : {T : Type 0} (options : Options) (recorded : RunRecording) (input rest : Option (List ℕ)) (result : Result T ProgramFault) (fault : ProgramFault)
-    → result ≡ Err fault → IfErr result (λ f. (f ≡ OtherRun) ⊎ (f ≡ InReplies) ⊎ (f ≡ Unreadable) ⊎ (f ≡ want_of_memory))
+pub of_replies : {T : Type 0} (view : View) (recorded : RunRecording) (input rest : Option (List ℕ)) (result : Result T RecordingFault) (fault : RecordingFault)
+    → result ≡ Err fault → IfErr result (λ f. (f ≡ OtherRun) ⊎ (f ≡ InReplies) ⊎ (f ≡ Unreadable) ⊎ (f ≡ Memory))
     → (result ≡ Err OtherRun → IfSome input (λ bytes. ¬ StartsWith bytes recorded.replies.now))
     → (result ≡ Err InReplies → IfSome input (λ bytes. StartsWith recorded.replies.now bytes × (length bytes < length recorded.replies.now)))
-    → IsFaultOfFile options recorded input rest fault
-of_replies options recorded input rest result fault is one other within =
-    let IsSo = λ (f : ProgramFault). IsFaultOfFile options recorded input rest f in
-    elim (subst (λ r. IfErr r (λ f. (f ≡ OtherRun) ⊎ (f ≡ InReplies) ⊎ (f ≡ Unreadable) ⊎ (f ≡ want_of_memory))) is one) [
+    → IsFaultOfFile view recorded input rest fault
+of_replies view recorded input rest result fault is one other within =
+    let IsSo = λ (f : RecordingFault). IsFaultOfFile view recorded input rest f in
+    elim (subst (λ r. IfErr r (λ f. (f ≡ OtherRun) ⊎ (f ≡ InReplies) ⊎ (f ≡ Unreadable) ⊎ (f ≡ Memory))) is one) [
       | inl e ↦ subst IsSo (sym e) (other (is ∙ ap Err e))
       | inr (inl e) ↦ subst IsSo (sym e) (within (is ∙ ap Err e))
       | inr (inr (inl e)) ↦ subst IsSo (sym e) tt
@@ -121,35 +114,35 @@ of_replies options recorded input rest result fault is one other within =
     ]
 
 -- no fault behind the replies is one of them
-no_replies : (options : Options) (d : Option Description) (lists : List Reading) (input rest : Option (List ℕ)) (first last : Piece) → IsFaultBehind options d lists input rest first last OtherRun → ⊥
-no_replies options (Some d) lists input rest first last h = h.2
-no_replies options None lists input rest first last h = h
+no_replies : (view : View) (d : Option Description) (lists : List Reading) (input rest : Option (List ℕ)) (first last : Piece) → IsFaultBehind view d lists input rest first last OtherRun → ⊥
+no_replies view (Some d) lists input rest first last h = h.2
+no_replies view None lists input rest first last h = h
 
-no_front : (options : Options) (d : Option Description) (lists : List Reading) (input rest : Option (List ℕ)) (first last : Piece) → IsFaultBehind options d lists input rest first last InReplies → ⊥
-no_front options (Some d) lists input rest first last h = h.2
-no_front options None lists input rest first last h = h
+no_front : (view : View) (d : Option Description) (lists : List Reading) (input rest : Option (List ℕ)) (first last : Piece) → IsFaultBehind view d lists input rest first last InReplies → ⊥
+no_front view (Some d) lists input rest first last h = h.2
+no_front view None lists input rest first last h = h
 
 -- what is said behind the replies is said of the file
-pub passed_fault : {T : Type 0} (options : Options) (recorded : RunRecording) (input behind rest : Option (List ℕ)) (first last : Piece) (result : Result T ProgramFault)
-    → ArePassed recorded input behind first → IfErr result (IsFaultBehind options (option_copied recorded.description) (ready_lists recorded.store.now) behind rest first last)
-    → IfErr result (IsFaultOfFile options recorded input rest)
-passed_fault options recorded input behind rest first last (Ok x) passed h = tt
-passed_fault options recorded input behind rest first last (Err OtherRun) passed h = absurd (no_replies options (option_copied recorded.description) (ready_lists recorded.store.now) behind rest first last h)
-passed_fault options recorded input behind rest first last (Err InReplies) passed h = absurd (no_front options (option_copied recorded.description) (ready_lists recorded.store.now) behind rest first last h)
-passed_fault options recorded input behind rest first last (Err Unreadable) passed h = tt
-passed_fault options recorded input behind rest first last (Err (Text Memory)) passed h = tt
-passed_fault options recorded input behind rest first last (Err fault) passed h = record { behind = behind; first = first; last = last; passed = passed; is = h }
+pub passed_fault : {T : Type 0} (view : View) (recorded : RunRecording) (input behind rest : Option (List ℕ)) (first last : Piece) (result : Result T RecordingFault)
+    → ArePassed recorded input behind first → IfErr result (IsFaultBehind view (option_copied recorded.description) (ready_lists recorded.store.now) behind rest first last)
+    → IfErr result (IsFaultOfFile view recorded input rest)
+passed_fault view recorded input behind rest first last (Ok x) passed h = tt
+passed_fault view recorded input behind rest first last (Err OtherRun) passed h = absurd (no_replies view (option_copied recorded.description) (ready_lists recorded.store.now) behind rest first last h)
+passed_fault view recorded input behind rest first last (Err InReplies) passed h = absurd (no_front view (option_copied recorded.description) (ready_lists recorded.store.now) behind rest first last h)
+passed_fault view recorded input behind rest first last (Err Unreadable) passed h = tt
+passed_fault view recorded input behind rest first last (Err Memory) passed h = tt
+passed_fault view recorded input behind rest first last (Err fault) passed h = record { behind = behind; first = first; last = last; passed = passed; is = h }
 
 -- what is shown by name, of what is asked for
-pub named_behind : (options : Options) (d : Option Description) (description : Description) (values : Values) (lists : List Reading) (input rest : Option (List ℕ)) (first last : Piece) (before after : Option (List ℕ))
-    → d ≡ Some description → AreAsked options description values → ShowsByName values lists input rest first last before after → ShowsBehind options d lists input rest first last before after
-named_behind options d description values lists input rest first last before after is asked h =
-    subst (λ o. ShowsBehind options o lists input rest first last before after) (sym is) (values, asked, h)
+pub named_behind : (view : View) (d : Option Description) (description : Description) (values : Values) (lists : List Reading) (input rest : Option (List ℕ)) (first last : Piece) (before after : Option (List ℕ))
+    → d ≡ Some description → AreAsked view description values → ShowsByName values lists input rest first last before after → ShowsBehind view d lists input rest first last before after
+named_behind view d description values lists input rest first last before after is asked h =
+    subst (λ o. ShowsBehind view o lists input rest first last before after) (sym is) (values, asked, h)
 
-pub named_fault : (options : Options) (d : Option Description) (description : Description) (values : Values) (lists : List Reading) (input rest : Option (List ℕ)) (first last : Piece) (fault : ProgramFault)
-    → d ≡ Some description → AreAsked options description values → IsFaultOfValues values lists input rest first last fault → IsFaultBehind options d lists input rest first last fault
-named_fault options d description values lists input rest first last fault is asked h =
-    subst (λ o. IsFaultBehind options o lists input rest first last fault) (sym is) (values, asked, h)
+pub named_fault : (view : View) (d : Option Description) (description : Description) (values : Values) (lists : List Reading) (input rest : Option (List ℕ)) (first last : Piece) (fault : RecordingFault)
+    → d ≡ Some description → AreAsked view description values → IsFaultOfValues values lists input rest first last fault → IsFaultBehind view d lists input rest first last fault
+named_fault view d description values lists input rest first last fault is asked h =
+    subst (λ o. IsFaultBehind view o lists input rest first last fault) (sym is) (values, asked, h)
 
 -- as many frames were passed as the set-up has packets
 pub passed_of : {A : Type 0} (recorded : RunRecording) (input rest : Option (List ℕ)) (piece : Piece) (f : A → List ℕ) (packets : List A) → map f packets ≡ recorded.run.now.setup

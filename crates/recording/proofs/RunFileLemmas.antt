@@ -17,9 +17,9 @@ use Rattle.daq_reader.specs.Ready.{first_reading, plan_in, ready_lists, shows_re
 use Rattle.daq_reader.specs.Recorded.{Recorded}
 use Rattle.daq_reader.specs.Recording.{IsRecordingOf}
 use Rattle.daq_run.specs.SetUps.{profile_of, replies_of}
-use Rattle.read_back.specs.Plans.{plans_in}
-use Rattle.read_back.specs.Runs.{IsRunReadBack}
-use Rattle.recording.specs.declared.explaining.RunRecording.{RunRecording}
+use Rattle.recording.specs.Plans.{plans_in}
+use Rattle.recording.specs.Runs.{IsRunReadBack}
+use Rattle.recording.specs.declared.run_recording.RunRecording.{RunRecording}
 use Rattle.recording.specs.Files.{IsFileWith, IsOfRun}
 use Rattle.recording.specs.Pieces.{unread_with}
 use Rattle.recording.specs.RunFiles.{IsFileOf}

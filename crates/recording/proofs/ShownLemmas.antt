@@ -7,8 +7,7 @@ use Rattle.daq_reader.specs.Lists.{NoneWaits, Stands, plans_of}
 use Rattle.daq_reader.specs.Reading.{Reading}
 use Rattle.daq_reader.specs.Recorded.{Recorded}
 use Rattle.recording.specs.Pieces.{Passes, StandSomewhere}
-use Rattle.recording.specs.Shown.{IsShown, ShowsAll, ShowsBy}
-use Rattle.recording.specs.declared.mode.Mode.{Mode}
+use Rattle.recording.specs.Shown.{ShowsBy}
 use Rattle.recording.specs.declared.piece.Piece.{Piece}
 
 -- before the first packet
@@ -42,9 +41,22 @@ all_by IsSo lists first now none samples input rest piece last is empty read pla
   shown = shown;
 }
 
-pub all_shown : (mode : Mode) (lists first now : List Reading) (none samples : List (ℕ × Recorded)) (input rest : Option (List ℕ)) (piece last : Piece) (before after : Option (List ℕ))
-    → first ≡ lists → none ≡ [] → Passes first none now samples input rest piece last → plans_of now ≡ plans_of first
-    → IsAtEnd rest → last.bytes.items ≡ [] → NoneWaits now → IsShown mode (plans_of lists) samples before after
-    → ShowsAll mode lists input rest piece last before after
-all_shown mode lists first now none samples input rest piece last before after =
-    all_by (λ plans samples. IsShown mode plans samples before after) lists first now none samples input rest piece last
+-- what is shown of the samples says another thing of them
+pub shown_as : (IsSo IsThis : List ListPlan → List (ℕ × Recorded) → Type 0) (lists : List Reading) (input rest : Option (List ℕ)) (first last : Piece)
+    → ((samples : List (ℕ × Recorded)) → IsSo (plans_of lists) samples → IsThis (plans_of lists) samples)
+    → ShowsBy IsSo lists input rest first last → ShowsBy IsThis lists input rest first last
+shown_as IsSo IsThis lists input rest first last f s = record {
+  now = s.now;
+  samples = s.samples;
+  read = s.read;
+  plans = s.plans;
+  end = s.end;
+  all = s.all;
+  whole = s.whole;
+  shown = f s.samples s.shown;
+}
+
+-- what is so of the lists and of what the writer had before a sheet was made, is so of these
+pub of_start : (IsSo : List ListPlan → Option (List ℕ) → Type 0) (made : List ListPlan) (had : Option (List ℕ)) (shapes plans : List ListPlan) (before : Option (List ℕ))
+    → made ≡ shapes → shapes ≡ plans → had ≡ before → IsSo made had → IsSo plans before
+of_start IsSo made had shapes plans before is same start h = subst (IsSo plans) start (subst (λ ps. IsSo ps had) (is ∙ same) h)

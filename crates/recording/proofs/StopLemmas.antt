@@ -7,14 +7,13 @@ use Rattle.daq_reader.specs.declared.read_fault.ReadFault.TheVariants.{Frame, Pa
 use Rattle.daq_reader.specs.Lists.{NoneWaits, Stands, plans_of}
 use Rattle.daq_reader.specs.Reading.{Reading}
 use Rattle.daq_reader.specs.Recorded.{Recorded}
-use Rattle.run_story.specs.declared.run_text_fault.RunTextFault.TheVariants.{Memory}
 use Rattle.recording.proofs.FrontLemmas.{rest_of}
 use Rattle.recording.proofs.ShownLemmas.{all_by, of_ok}
 use Rattle.recording.proofs.WithinLemmas.{IsLeft, no_reason, passed_within}
 use Rattle.recording.specs.declared.break_off.BreakOff.{BreakOff}
 use Rattle.recording.specs.declared.piece.Piece.{Piece}
-use Rattle.recording.specs.declared.program_fault.ProgramFault.{ProgramFault}
-use Rattle.recording.specs.declared.program_fault.ProgramFault.TheVariants.{BreaksOff, Text, Unreadable}
+use Rattle.recording.specs.declared.recording_fault.RecordingFault.{RecordingFault}
+use Rattle.recording.specs.declared.recording_fault.RecordingFault.TheVariants.{BreaksOff, Memory, Unreadable}
 use Rattle.recording.specs.declared.reason.Reason.{Reason}
 use Rattle.recording.specs.declared.reason.Reason.TheVariants.{Read, WithinSample}
 use Rattle.recording.specs.Faults.{torn}
@@ -23,7 +22,7 @@ use Rattle.recording.specs.Shown.{IsRead}
 use Rattle.recording.specs.Stops.{IsFaultOfSamples, IsFront, IsOfReading, IsOfStream, IsOfTear, IsWhole}
 
 -- where it breaks off, it was read up to there, of the lists that were begun with
-pub why_not : {T : Type 0} (lists first now : List Reading) (none samples : List (ℕ × Recorded)) (input rest : Option (List ℕ)) (piece last : Piece) (result : Result T ProgramFault)
+pub why_not : {T : Type 0} (lists first now : List Reading) (none samples : List (ℕ × Recorded)) (input rest : Option (List ℕ)) (piece last : Piece) (result : Result T RecordingFault)
     → first ≡ lists → none ≡ [] → Stands first [] [] → plans_of now ≡ plans_of first → IfErr result IsOfReading
     → ((at : BreakOff) → result ≡ Err (BreaksOff at) → Passes first none now samples input rest piece last)
     → ((at : BreakOff) → result ≡ Err (BreaksOff at) → at.place ≡ last.place)
@@ -40,7 +39,7 @@ why_not lists first now none samples input rest piece last (Err (BreaksOff at)) 
   why = why at refl;
 }
 why_not lists first now none samples input rest piece last (Err Unreadable) is empty stands plans of broken place why = tt
-why_not lists first now none samples input rest piece last (Err (Text Memory)) is empty stands plans of broken place why = tt
+why_not lists first now none samples input rest piece last (Err Memory) is empty stands plans of broken place why = tt
 why_not lists first now none samples input rest piece last (Err fault) is empty stands plans of broken place why = absurd of
 
 -- what is read to the end is, of the lists that were begun with
@@ -63,12 +62,12 @@ its_end outcome (Ok w) P h ok = of_ok outcome P ok h
 its_end outcome (Err e) P h ok = tt
 
 -- a recording of whole samples doesn't break off
-pub never_breaks : (lists : List Reading) (written : List (ℕ × Recorded)) (input rest : Option (List ℕ)) (first last : Piece) (fault : ProgramFault) → IsWhole lists written input first → IsFaultOfSamples lists input rest first last fault → IsOfStream fault
+pub never_breaks : (lists : List Reading) (written : List (ℕ × Recorded)) (input rest : Option (List ℕ)) (first last : Piece) (fault : RecordingFault) → IsWhole lists written input first → IsFaultOfSamples lists input rest first last fault → IsOfStream fault
 never_breaks lists written input rest first last (BreaksOff at) w b =
     let left = passed_within written lists b.now [] b.samples w.left input rest first last w.is w.recording (b.read [] b.begins) b.plans in
     absurd (no_reason written b.now b.samples rest last at.why left b.why)
 never_breaks lists written input rest first last Unreadable w h = tt
-never_breaks lists written input rest first last (Text Memory) w h = tt
+never_breaks lists written input rest first last Memory w h = tt
 never_breaks lists written input rest first last fault w h = absurd h
 
 -- with what is lost, the same was read
@@ -91,13 +90,13 @@ at_tear written lists gs all rest piece (Read (Packet fault)) left is = absurd (
 at_tear written lists gs all rest piece WithinSample left is = (is.1, inr refl)
 
 -- the front of one breaks off at its end alone
-pub tears_at_end : (lists : List Reading) (written : List (ℕ × Recorded)) (input rest : Option (List ℕ)) (first last : Piece) (fault : ProgramFault) → IsFront lists written input first → IsFaultOfSamples lists input rest first last fault → IsOfTear rest fault
+pub tears_at_end : (lists : List Reading) (written : List (ℕ × Recorded)) (input rest : Option (List ℕ)) (first last : Piece) (fault : RecordingFault) → IsFront lists written input first → IsFaultOfSamples lists input rest first last fault → IsOfTear rest fault
 tears_at_end lists written input rest first last (BreaksOff at) w b =
     let p = with_lost b.now b.samples input rest first last w.left w.lost w.is (b.read [] b.begins) in
     let left = passed_within written lists b.now [] b.samples (w.left ++ w.lost) (Some (w.left ++ w.lost)) (Some (p.0 ++ w.lost)) first last refl w.recording p.1 b.plans in
     at_tear written b.now b.samples (Some (p.0 ++ w.lost)) rest last at.why left b.why
 tears_at_end lists written input rest first last Unreadable w h = tt
-tears_at_end lists written input rest first last (Text Memory) w h = tt
+tears_at_end lists written input rest first last Memory w h = tt
 tears_at_end lists written input rest first last fault w h = absurd h
 
 -- what holds of each fault
@@ -116,10 +115,10 @@ from_err (Ok x) fault P is h = tt
 from_err (Err f) fault P is h = subst P (sym is) h
 
 -- a recording of whole samples doesn't break off, and the front of one at its end alone
-pub whole_so : {T : Type 0} (lists : List Reading) (written : List (ℕ × Recorded)) (input rest : Option (List ℕ)) (first last : Piece) (result : Result T ProgramFault)
+pub whole_so : {T : Type 0} (lists : List Reading) (written : List (ℕ × Recorded)) (input rest : Option (List ℕ)) (first last : Piece) (result : Result T RecordingFault)
     → IsWhole lists written input first → IfErr result (IsFaultOfSamples lists input rest first last) → IfErr result IsOfStream
 whole_so lists written input rest first last result w h = each_fault result _ _ (λ fault. never_breaks lists written input rest first last fault w) h
 
-pub torn_so : {T : Type 0} (lists : List Reading) (written : List (ℕ × Recorded)) (input rest : Option (List ℕ)) (first last : Piece) (result : Result T ProgramFault)
+pub torn_so : {T : Type 0} (lists : List Reading) (written : List (ℕ × Recorded)) (input rest : Option (List ℕ)) (first last : Piece) (result : Result T RecordingFault)
     → IsFront lists written input first → IfErr result (IsFaultOfSamples lists input rest first last) → IfErr result (IsOfTear rest)
 torn_so lists written input rest first last result w h = each_fault result _ _ (λ fault. tears_at_end lists written input rest first last fault w) h

@@ -8,15 +8,15 @@ use Rattle.copy_plan.specs.Config.{ListPlan}
 use Rattle.daq_reader.specs.Lists.{plans_of}
 use Rattle.daq_reader.specs.Reading.{Reading}
 use Rattle.daq_reader.specs.Recorded.{Recorded}
-use Rattle.measurement.specs.declared.tick.Tick.{Tick}
+use Rattle.measured_values.specs.declared.tick.Tick.{Tick}
 use Rattle.recording.specs.Shown.{ShowsBy}
 use Rattle.recording.specs.Stops.{IsFaultOfSamples}
-use Rattle.recording.specs.declared.command_line.Options.{Options}
+use Rattle.recording.specs.declared.view.View.{View}
 use Rattle.recording.specs.declared.mode.Mode.{Mode}
 use Rattle.recording.specs.declared.mode.Mode.TheVariants.{Csv, Summary, Svg}
 use Rattle.recording.specs.declared.piece.Piece.{Piece}
-use Rattle.recording.specs.declared.program_fault.ProgramFault.{ProgramFault}
-use Rattle.recording.specs.declared.program_fault.ProgramFault.TheVariants.{NoValue}
+use Rattle.recording.specs.declared.recording_fault.RecordingFault.{RecordingFault}
+use Rattle.recording.specs.declared.recording_fault.RecordingFault.TheVariants.{NoValue}
 use Rattle.recording.specs.declared.values.Values.{Values}
 use Rattle.value_tables.specs.Columns.{AreColumns, HasChosen}
 use Rattle.value_tables.specs.TallyText.{IsTable}
@@ -50,18 +50,18 @@ pub record ShowsByName (values : Values) (lists : List Reading) (input rest : Op
   pub shows :
       ShowsBy (IsByName values.mode values.tick columns before after) lists input rest first last
 
--- these values of a description are asked for: how long a tick is the options say, and where they
--- don't, the file
-pub record AreAsked (options : Options) (description : Description) (values : Values) : Type 0 where
+-- a view asks for these values of a description: how long a tick is it says, and where it doesn't,
+-- the file
+pub record AreAsked (view : View) (description : Description) (values : Values) : Type 0 where
   pub of : values.description.now ≡ description
-  pub only : values.only ≡ options.only
-  pub tick : values.tick ≡ option_or options.tick description.tick
-  pub mode : values.mode ≡ options.mode
+  pub only : values.only ≡ view.only
+  pub tick : values.tick ≡ option_or view.tick description.tick
+  pub mode : values.mode ≡ view.mode
 
 -- a recording isn't shown by name for this: no measurement that is chosen stands in the lists; or
 -- its samples aren't all read
 abbrev pub IsFaultOfValues :
-    Values → List Reading → Option (List ℕ) → Option (List ℕ) → Piece → Piece → ProgramFault
+    Values → List Reading → Option (List ℕ) → Option (List ℕ) → Piece → Piece → RecordingFault
     → Type 0
 IsFaultOfValues values lists input rest first last NoValue =
     ¬ HasChosen values.description.now (plans_of lists) (option_copied values.only)

@@ -13,15 +13,14 @@ use Rattle.daq_reader.specs.Recording.{IsRecordingOf}
 use Rattle.daq_run.specs.SetUps.{IsStoreAfter, replies_of}
 use Rattle.frame_writer.specs.Frame.{text}
 use Rattle.run_file.specs.RunFile.{RunData}
-use Rattle.run_story.specs.declared.run_text_fault.RunTextFault.TheVariants.{Memory}
 use Rattle.recording.specs.ByName.{AreAsked, IsFaultOfValues, ShowsByName}
-use Rattle.recording.specs.declared.command_line.Options.{Options}
-use Rattle.recording.specs.declared.explaining.RunRecording.{RunRecording}
+use Rattle.recording.specs.declared.view.View.{View}
+use Rattle.recording.specs.declared.run_recording.RunRecording.{RunRecording}
 use Rattle.recording.specs.declared.piece.Piece.{Piece}
-use Rattle.recording.specs.declared.program_fault.ProgramFault.{ProgramFault}
-use Rattle.recording.specs.declared.program_fault.ProgramFault.TheVariants.{InReplies, NoValue}
-use Rattle.recording.specs.declared.program_fault.ProgramFault.TheVariants.{OtherRun, Text}
-use Rattle.recording.specs.declared.program_fault.ProgramFault.TheVariants.{Unreadable}
+use Rattle.recording.specs.declared.recording_fault.RecordingFault.{RecordingFault}
+use Rattle.recording.specs.declared.recording_fault.RecordingFault.TheVariants.{InReplies, Memory}
+use Rattle.recording.specs.declared.recording_fault.RecordingFault.TheVariants.{NoValue, OtherRun}
+use Rattle.recording.specs.declared.recording_fault.RecordingFault.TheVariants.{Unreadable}
 use Rattle.recording.specs.declared.values.Values.{Values}
 use Rattle.recording.specs.Shown.{IsRead, ShowsAll}
 use Rattle.recording.specs.Stops.{IsFaultOfSamples, IsOfStream, IsOfTear}
@@ -37,22 +36,22 @@ pub record ArePassed (recorded : RunRecording) (input rest : Option (List ℕ)) 
 
 -- the samples of a recording are shown as is asked for; in words it is told only that they are read
 abbrev pub ShowsSamples :
-    Bool → Options → List Reading → Option (List ℕ) → Option (List ℕ) → Piece → Piece
+    Bool → View → List Reading → Option (List ℕ) → Option (List ℕ) → Piece → Piece
     → Option (List ℕ) → Option (List ℕ) → Type 0
-ShowsSamples true options lists input rest first last before after =
+ShowsSamples true view lists input rest first last before after =
     IsRead lists input rest first last
-ShowsSamples false options lists input rest first last before after =
-    ShowsAll options.mode lists input rest first last before after
+ShowsSamples false view lists input rest first last before after =
+    ShowsAll view.mode lists input rest first last before after
 
 -- what stands behind the replies is shown: by name, if there is an A2L file
 abbrev pub ShowsBehind :
-    Options → Option Description → List Reading → Option (List ℕ) → Option (List ℕ)
+    View → Option Description → List Reading → Option (List ℕ) → Option (List ℕ)
     → Piece → Piece → Option (List ℕ) → Option (List ℕ) → Type 0
-ShowsBehind options (Some description) lists input rest first last before after =
-    (values : Values) × AreAsked options description values
+ShowsBehind view (Some description) lists input rest first last before after =
+    (values : Values) × AreAsked view description values
     × ShowsByName values lists input rest first last before after
-ShowsBehind options None lists input rest first last before after =
-    ShowsSamples options.explain options lists input rest first last before after
+ShowsBehind view None lists input rest first last before after =
+    ShowsSamples view.explain view lists input rest first last before after
 
 -- the replies of a file were passed, and what it has behind them was read from one piece to
 -- another, of which this is so
@@ -75,20 +74,12 @@ IsReadFile recorded input rest =
 
 -- and all that is asked for is shown of it
 abbrev pub ShowsFile :
-    Options → RunRecording → Option (List ℕ) → Option (List ℕ) → Option (List ℕ)
+    View → RunRecording → Option (List ℕ) → Option (List ℕ) → Option (List ℕ)
     → Option (List ℕ) → Type 0
-ShowsFile options recorded input rest before after =
+ShowsFile view recorded input rest before after =
     IsReadBehind recorded input rest
-    (λ behind first last. ShowsBehind options (option_copied recorded.description)
+    (λ behind first last. ShowsBehind view (option_copied recorded.description)
     (ready_lists recorded.store.now) behind rest first last before after)
-
--- the file that is named was read to its end, whatever it has, and all is shown of it
-pub record ShowsNamed (options : Options) (recorded : RunRecording) (before after : Option (List ℕ))
-    : Type 0 where
-  -- any: no clause tells what a file has
-  pub input : Option (List ℕ)
-  pub rest : Option (List ℕ)
-  pub shows : ShowsFile options recorded input rest before after
 
 -- the replies and the store of a recording are those that the set-up of a run leaves
 pub record IsOfRun (run : RunData) (recorded : RunRecording) : Type 0 where
@@ -96,47 +87,30 @@ pub record IsOfRun (run : RunData) (recorded : RunRecording) : Type 0 where
   pub replies : recorded.replies.now ≡ text 0 (replies_of run)
   pub store : IsStoreAfter run recorded.store.now run.setup
 
--- the file that the options name was read as that of a run, and all is shown of it
-pub record ShowsRun (options : Options) (run : RunData) (description : Option Description)
-    (before after : Option (List ℕ))
-    : Type 0 where
-  -- fixed by the other fields, but for stores that stand after the same calls
-  pub recorded : RunRecording
-  pub of : IsOfRun run recorded
-  pub named : recorded.name.now ≡ options.frames.now
-  pub described : option_copied recorded.description ≡ description
-  pub shows : ShowsNamed options recorded before after
-
--- of some run, and by some A2L file or none
-abbrev pub ShowsSomeRun : Options → Option (List ℕ) → Option (List ℕ) → Type 0
-ShowsSomeRun options before after =
-    (run : RunData) × (description : Option Description)
-    × ShowsRun options run description before after
-
 -- what stands behind the replies isn't shown for this
 abbrev pub IsFaultBehind :
-    Options → Option Description → List Reading → Option (List ℕ) → Option (List ℕ)
-    → Piece → Piece → ProgramFault → Type 0
-IsFaultBehind options (Some description) lists input rest first last fault =
-    (values : Values) × AreAsked options description values
+    View → Option Description → List Reading → Option (List ℕ) → Option (List ℕ)
+    → Piece → Piece → RecordingFault → Type 0
+IsFaultBehind view (Some description) lists input rest first last fault =
+    (values : Values) × AreAsked view description values
     × IsFaultOfValues values lists input rest first last fault
-IsFaultBehind options None lists input rest first last fault =
+IsFaultBehind view None lists input rest first last fault =
     IsFaultOfSamples lists input rest first last fault
 
 -- a file isn't shown for this: it doesn't begin with the replies, or is a front of theirs; it can't
 -- be read, or memory ran out; or what stands behind the replies isn't shown
 abbrev pub IsFaultOfFile :
-    Options → RunRecording → Option (List ℕ) → Option (List ℕ) → ProgramFault → Type 0
-IsFaultOfFile options recorded input rest OtherRun =
+    View → RunRecording → Option (List ℕ) → Option (List ℕ) → RecordingFault → Type 0
+IsFaultOfFile view recorded input rest OtherRun =
     IfSome input (λ bytes. ¬ StartsWith bytes recorded.replies.now)
-IsFaultOfFile options recorded input rest InReplies =
+IsFaultOfFile view recorded input rest InReplies =
     IfSome input (λ bytes.
     StartsWith recorded.replies.now bytes × (length bytes < length recorded.replies.now))
-IsFaultOfFile options recorded input rest Unreadable = Unit {0}
-IsFaultOfFile options recorded input rest (Text Memory) = Unit {0}
-IsFaultOfFile options recorded input rest fault =
+IsFaultOfFile view recorded input rest Unreadable = Unit {0}
+IsFaultOfFile view recorded input rest Memory = Unit {0}
+IsFaultOfFile view recorded input rest fault =
     IsReadBehind recorded input rest
-    (λ behind first last. IsFaultBehind options (option_copied recorded.description)
+    (λ behind first last. IsFaultBehind view (option_copied recorded.description)
     (ready_lists recorded.store.now) behind rest first last fault)
 
 -- behind the replies a file has these bytes, which the lost ones make a recording of these samples
@@ -152,11 +126,11 @@ pub record IsFileWith (recorded : RunRecording) (samples : List (ℕ × Recorded
 
 -- the fault isn't the recording's: it can't be read, memory ran out, or no measurement that is
 -- chosen is there
-abbrev pub IsNotOfRecording : ProgramFault → Type 0
+abbrev pub IsNotOfRecording : RecordingFault → Type 0
 IsNotOfRecording NoValue = Unit {0}
 IsNotOfRecording fault = IsOfStream fault
 
 -- or the recording is torn at its end
-abbrev pub IsOfTearOr : Option (List ℕ) → ProgramFault → Type 0
+abbrev pub IsOfTearOr : Option (List ℕ) → RecordingFault → Type 0
 IsOfTearOr rest NoValue = Unit {0}
 IsOfTearOr rest fault = IsOfTear rest fault

@@ -1,9 +1,12 @@
 pub mod ByName
 pub mod Faults
 pub mod Files
-pub mod Messages
-pub mod NoTexts
 pub mod Pieces
 pub mod RunFiles
+pub mod Sheets
 pub mod Shown
 pub mod Stops
+pub mod Accepted
+pub mod Plans
+pub mod Laws
+pub mod Runs

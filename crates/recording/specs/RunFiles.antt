@@ -16,10 +16,10 @@ use Rattle.daq_reader.specs.Recording.{IsRecordingOf}
 use Rattle.daq_run.specs.Runs.{ComesTo}
 use Rattle.daq_run.specs.SetUps.{IsStoreAfter, replies_of}
 use Rattle.daq_run.specs.Threads.{ThreadsComeTo}
-use Rattle.read_back.specs.Accepted.{recorded_of}
+use Rattle.recording.specs.Accepted.{recorded_of}
 use Rattle.recording.specs.Files.{IsFileWith, IsOfRun}
 use Rattle.recording.specs.Pieces.{IsLeftUnread, unread_with}
-use Rattle.recording.specs.declared.explaining.RunRecording.{RunRecording}
+use Rattle.recording.specs.declared.run_recording.RunRecording.{RunRecording}
 use Rattle.recording.specs.declared.piece.Piece.{Piece}
 
 -- a file of a run, whose channels came to these pasts: it has the frames of the replies, and behind

@@ -1,16 +1,15 @@
--- Why a recording is read no further, by the fault that the program answers.
+-- Why a recording is read no further, by the fault that is answered.
 use Rattle.std.specs.Prelude.{◌≡◌, ◌⊎◌, ℕ, List, [], ◌++◌, Option, Some}
 use Rattle.std.specs.Io.KnownBytes.{IsAtEnd}
 use Rattle.daq_reader.specs.Lists.{Stands, plans_of}
 use Rattle.daq_reader.specs.Reading.{Reading}
 use Rattle.daq_reader.specs.Recorded.{Recorded}
 use Rattle.daq_reader.specs.Recording.{IsRecordingOf}
-use Rattle.run_story.specs.declared.run_text_fault.RunTextFault.TheVariants.{Memory}
 use Rattle.recording.specs.declared.break_off.BreakOff.{BreakOff}
 use Rattle.recording.specs.declared.piece.Piece.{Piece}
-use Rattle.recording.specs.declared.program_fault.ProgramFault.{ProgramFault}
-use Rattle.recording.specs.declared.program_fault.ProgramFault.TheVariants.{BreaksOff, Text}
-use Rattle.recording.specs.declared.program_fault.ProgramFault.TheVariants.{Unreadable}
+use Rattle.recording.specs.declared.recording_fault.RecordingFault.{RecordingFault}
+use Rattle.recording.specs.declared.recording_fault.RecordingFault.TheVariants.{BreaksOff, Memory}
+use Rattle.recording.specs.declared.recording_fault.RecordingFault.TheVariants.{Unreadable}
 use Rattle.recording.specs.declared.reason.Reason.TheVariants.{WithinSample}
 use Rattle.recording.specs.Faults.{torn}
 use Rattle.recording.specs.Pieces.{IsReason, Passes, unread_of, unread_with}
@@ -30,20 +29,20 @@ pub record HasBrokenOff (lists : List Reading) (input rest : Option (List ℕ)) 
   pub why : IsReason now (unread_of last) rest at.why
 
 -- the fault is one of reading on: the recording breaks off, can't be read, or memory ran out
-abbrev pub IsOfReading : ProgramFault → Type 0
+abbrev pub IsOfReading : RecordingFault → Type 0
 IsOfReading (BreaksOff at) = Unit {0}
 IsOfReading Unreadable = Unit {0}
-IsOfReading (Text Memory) = Unit {0}
+IsOfReading Memory = Unit {0}
 IsOfReading _ = ⊥
 
 -- the samples of a recording aren't all read for this: it breaks off; or it can't be read, or
 -- memory ran out, of which no stream tells anything
 abbrev pub IsFaultOfSamples :
-    List Reading → Option (List ℕ) → Option (List ℕ) → Piece → Piece → ProgramFault → Type 0
+    List Reading → Option (List ℕ) → Option (List ℕ) → Piece → Piece → RecordingFault → Type 0
 IsFaultOfSamples lists input rest first last (BreaksOff at) =
     HasBrokenOff lists input rest first last at
 IsFaultOfSamples lists input rest first last Unreadable = Unit {0}
-IsFaultOfSamples lists input rest first last (Text Memory) = Unit {0}
+IsFaultOfSamples lists input rest first last Memory = Unit {0}
 IsFaultOfSamples lists input rest first last _ = ⊥
 
 -- a piece and the rest of the input behind it are a recording of these samples
@@ -67,12 +66,12 @@ pub record IsFront (lists : List Reading) (samples : List (ℕ × Recorded)) (re
   pub recording : IsRecordingOf (plans_of lists) samples [] (unread_with piece (left ++ lost))
 
 -- the fault is none of the recording: it can't be read, or memory ran out
-abbrev pub IsOfStream : ProgramFault → Type 0
+abbrev pub IsOfStream : RecordingFault → Type 0
 IsOfStream Unreadable = Unit {0}
-IsOfStream (Text Memory) = Unit {0}
+IsOfStream Memory = Unit {0}
 IsOfStream _ = ⊥
 
 -- or the recording is torn: it breaks off at the end of the input, within a frame or a sample
-abbrev pub IsOfTear : Option (List ℕ) → ProgramFault → Type 0
+abbrev pub IsOfTear : Option (List ℕ) → RecordingFault → Type 0
 IsOfTear rest (BreaksOff at) = IsAtEnd rest × ((at.why ≡ torn) ⊎ (at.why ≡ WithinSample))
 IsOfTear rest fault = IsOfStream fault

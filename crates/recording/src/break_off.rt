@@ -1,3 +1,4 @@
+//! The fault of a recording that breaks off, with its place, as it is printed.
 use crate::place::Place;
 use crate::reason::Reason;
 use thiserror::Error;

@@ -1,7 +1,7 @@
-ghost use Rattle.std.specs.Prelude.{◌≡◌, ℕ, List, [], IfOk, OnOk};
-ghost use Rattle.std.specs.Io.KnownBytes.{Appends};
-ghost use Rattle.sample_picture.specs.Shown.{IsClosed};
+//! Samples become a picture as they are read, with a row for each DAQ list.
+ghost use Rattle.std.specs.Prelude.{◌≡◌, [], IfOk};
 
+use crate::sheet::Sheet;
 use daq_reader::{SampleLog, SampleView, Samples};
 use daq_store::Store;
 use sample_picture::{Axis, Picture};
@@ -15,25 +15,26 @@ use xcp_base::StampSize;
 ///
 /// The axis is time where every list is stamped, else the sample's number in the recording.
 #[derive(Drop)]
-pub struct Drawing {
+pub struct Drawing<W: Write + Drop> {
     picture: Picture,
     places: Places,
     log: SampleLog,
+    out: W,
 }
 
-impl Model for Drawing {
-    ghost use Rattle.std.specs.Prelude.{ℕ, List};
-    ghost use Rattle.daq_reader.specs.Recorded.{Recorded};
+impl<W: Write + Drop> Model for Drawing<W> {
+    ghost use Rattle.recording.specs.Sheets.{PictureState};
 
-    ghost Value = { List (ℕ × Recorded) };
+    ghost Value = { PictureState };
 
-    ghost view = { λ a. a.log.samples };
+    ghost view = { λ a. record { start = W.contents a.out; samples = a.log.samples } };
 }
 
-impl Drawing {
+impl<W: Write + Drop> Drawing<W> {
     /// A picture of no sample. Lack of memory is the only fault.
-    pub fn new(alloc: Global, store: &Store) -> Result<Drawing, AllocError>
-        ensures { IfOk result (λ drawing. drawing ≡ []) }
+    pub fn new(alloc: Global, store: &Store, out: W) -> Result<Drawing<W>, AllocError>
+        ensures { IfOk result (λ drawing.
+            drawing ≡ record { start = W.contents out; samples = [] }) }
     {
         let mut picture = Picture::new(alloc);
         let mut axis = Axis::Ticks;
@@ -51,23 +52,19 @@ impl Drawing {
             picture,
             places: Places::new(alloc, axis, size, store.lists() as usize)?,
             log: SampleLog::new(),
+            out,
         })
-    }
-
-    /// Writes the picture as SVG.
-    pub fn print<W: Write>(&self, out: &mut W) -> io::Result<()>
-        ensures { OnOk result ((text : List ℕ) × IsClosed text
-            × Appends (W.contents out.old) (W.contents out.new) text) }
-    {
-        self.picture.print(out, self.places.axis())?;
-        out.flush()
     }
 }
 
-impl Samples for Drawing {
-    ghost handed = { λ a. a };
+impl<W: Write + Drop> Samples for Drawing<W> {
+    ghost use Rattle.std.specs.Prelude.{ℕ, List, Option};
 
-    ghost kept = { λ _. tt };
+    ghost handed = { λ a. a.samples };
+
+    ghost Kept = { Option (List ℕ) };
+
+    ghost kept = { λ a. a.start };
 
     /// The sample stands in the row of its list.
     fn hand(&mut self, place: usize, sample: &SampleView<'_>) {
@@ -75,5 +72,34 @@ impl Samples for Drawing {
         self.picture.sample(place, at, sample.overload());
         // for the proof: clauses speak of the samples that were handed over
         self.log.note(place, sample);
+    }
+}
+
+impl<W: Write + Drop> Sheet for Drawing<W> {
+    ghost use Rattle.std.proofs.Common.{subst};
+    ghost use Rattle.std.specs.Prelude.{ℕ, List};
+    ghost use Rattle.std.specs.Io.KnownBytes.{Appends};
+    ghost use Rattle.sample_picture.specs.Shown.{IsClosed};
+
+    type Out = W;
+
+    ghost IsPrinted = { λ a samples out.
+        (text : List ℕ) × IsClosed text × Appends a.start (W.contents out) text };
+
+    ghost by_kept = { λ a b samples out same.
+        subst (λ start.
+        (text : List ℕ) × IsClosed text × Appends start (W.contents out) text) same };
+
+    fn print(self) -> io::Result<W> {
+        let Drawing {
+            picture,
+            places,
+            out,
+            ..
+        } = self;
+        let mut out = out;
+        picture.print(&mut out, places.axis())?;
+        out.flush()?;
+        Ok(out)
     }
 }

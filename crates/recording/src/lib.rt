@@ -1,29 +1,40 @@
-//! The program `xcpread`, generic over its files and streams: the samples of a recording, read back
-//! by the run file that it was made of, as a table, as CSV, as a picture or in words.
+//! Recordings that are read back by the run file that they were made of: their samples are shown as
+//! a table, as CSV, as a picture, by name or in words.
 #![tactic(auto)]
 
 mod break_off;
-mod command_line;
+mod curve_sheet;
 mod drawing;
 mod explaining;
 pub mod laws;
 mod messages;
 mod mode;
-mod no_text;
 mod not_shown;
 mod piece;
 mod place;
-mod program_fault;
 mod reason;
 mod recording;
+mod recording_fault;
+mod row_sheets;
+mod run_recording;
 mod sample_lines;
+mod sheet;
 mod showing;
+mod source;
+mod table;
+mod tally_sheet;
 mod values;
-mod whole_program;
+mod view;
+mod whole_file;
 
 pub use break_off::BreakOff;
-pub use drawing::Drawing;
+pub use messages::Messages;
+pub use mode::Mode;
+pub use piece::Piece;
 pub use place::Place;
-pub use program_fault::ProgramFault;
 pub use reason::Reason;
-pub use whole_program::program;
+pub use recording_fault::RecordingFault;
+pub use run_recording::RunRecording;
+pub use source::Source;
+pub use view::View;
+pub use whole_file::show_recording;

@@ -1,3 +1,4 @@
+//! The ways to show samples: summary, CSV, picture.
 /// How the samples of a recording are shown.
 #[derive(Clone, Copy, Debug, PartialEq, Eq)]
 pub enum Mode {

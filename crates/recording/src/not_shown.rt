@@ -10,11 +10,7 @@ use value_tables::is_recorded;
 /// Tells how many of the A2L file's measurements and instances aren't shown, if there are any and
 /// none were chosen by name: those that no list has all bytes of, and those that were left out of
 /// its description. With the table they are named.
-pub fn tell_not_shown<E: Write + Drop>(
-    values: Values<'_>,
-    shapes: &[ListShape],
-    messages: &mut Messages<E>,
-) {
+pub fn tell_not_shown<M: Messages>(values: Values<'_>, shapes: &[ListShape], messages: &mut M) {
     if values.only.is_some() {
         return;
     }
@@ -43,11 +39,7 @@ fn unrecorded(description: &Description, shapes: &[ListShape]) -> usize {
 }
 
 /// Names what isn't shown.
-fn name_all<E: Write + Drop>(
-    description: &Description,
-    shapes: &[ListShape],
-    messages: &mut Messages<E>,
-) {
+fn name_all<M: Messages>(description: &Description, shapes: &[ListShape], messages: &mut M) {
     for measurement in &description.measurements {
         if !is_recorded(measurement, shapes) {
             messages.tell_hidden(&measurement.name);

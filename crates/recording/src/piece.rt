@@ -3,11 +3,11 @@ ghost use Rattle.std.specs.Prelude.{◌≡◌, ◌⊎◌, ◌-◌, ◌<◌, ◌�
 ghost use Rattle.std.specs.Io.{StartsWith, appended_bytes};
 ghost use Rattle.std.specs.Io.KnownBytes.{Consumes, IsAtEnd};
 ghost use Rattle.program_input.specs.declared.reading.TheConstants.{MAX_TEXT_BYTES};
-ghost use Rattle.recording.specs.declared.program_fault.ProgramFault.TheVariants.{Unreadable};
-ghost use Rattle.recording.specs.Faults.{want_of_memory};
+ghost use Rattle.recording.specs.declared.recording_fault.RecordingFault.TheVariants.{Unreadable};
+ghost use Rattle.recording.specs.declared.recording_fault.RecordingFault.TheVariants.{Memory};
 
 use crate::place::Place;
-use crate::program_fault::ProgramFault;
+use crate::recording_fault::RecordingFault;
 use program_input::is_read_to_end;
 use std::io::Read;
 
@@ -35,7 +35,7 @@ pub fn read_more<I: Read>(
     input: &mut I,
     chunk: &mut [u8],
     held: &mut Vec<u8>,
-) -> Result<bool, ProgramFault>
+) -> Result<bool, RecordingFault>
     requires room { 0 < length chunk.old }
     requires short { length held.old.items ≤ MAX_TEXT_BYTES }
     ensures appends { OnOk result (StartsWith held.new.items held.old.items) }
@@ -45,9 +45,9 @@ pub fn read_more<I: Read>(
     ensures nothing { IfOk result (λ at_end. at_end ≡ true → held.new.items ≡ held.old.items) }
     ensures within { OnOk result (length held.new.items ≤ MAX_TEXT_BYTES) }
     ensures room_stays { length chunk.new ≡ length chunk.old }
-    ensures fault { IfErr result (λ f. (f ≡ Unreadable) ⊎ (f ≡ want_of_memory)) }
+    ensures fault { IfErr result (λ f. (f ≡ Unreadable) ⊎ (f ≡ Memory)) }
 {
-    is_read_to_end(input, chunk, held).map_err(ProgramFault::of_recording)
+    is_read_to_end(input, chunk, held).map_err(RecordingFault::of_text)
 }
 
 /// Drops the first `n` bytes.

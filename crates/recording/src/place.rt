@@ -1,3 +1,4 @@
+//! Places in a recording, by the bytes and the frames before them.
 ghost use Rattle.std.specs.Prelude.{◌≡◌};
 ghost use Rattle.recording.specs.Pieces.{counter_at, place_behind};
 

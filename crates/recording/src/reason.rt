@@ -1,3 +1,4 @@
+//! What can be wrong where a recording breaks off.
 use daq_reader::ReadFault;
 use thiserror::Error;
 

@@ -9,23 +9,24 @@ ghost use Rattle.daq_reader.specs.Lists.{NoneWaits, Stands, plans_of};
 ghost use Rattle.daq_reader.specs.Reads.{HasRead, IsFaultOf};
 ghost use Rattle.daq_reader.specs.Recorded.{Recorded};
 ghost use Rattle.daq_reader.specs.Recording.{AreGivenBack, IsRecordingOf};
-ghost use Rattle.recording.specs.Faults.{breaks_off, torn, want_of_memory};
+ghost use Rattle.recording.specs.Faults.{breaks_off, torn};
+ghost use Rattle.recording.specs.declared.recording_fault.RecordingFault.TheVariants.{Memory};
 ghost use Rattle.recording.specs.Pieces.{IsReason, Passes, StandSomewhere, unread_of};
 ghost use Rattle.recording.specs.Pieces.{IsLeftUnread, unread_with};
 ghost use Rattle.recording.specs.Stops.{IsOfReading};
 ghost use Rattle.recording.specs.declared.piece.TheConstants.{MAX_FRAME};
-ghost use Rattle.recording.specs.declared.program_fault.ProgramFault.TheVariants.{BreaksOff};
-ghost use Rattle.recording.specs.declared.program_fault.ProgramFault.TheVariants.{InReplies};
-ghost use Rattle.recording.specs.declared.program_fault.ProgramFault.TheVariants.{OtherRun};
-ghost use Rattle.recording.specs.declared.program_fault.ProgramFault.TheVariants.{Unreadable};
+ghost use Rattle.recording.specs.declared.recording_fault.RecordingFault.TheVariants.{BreaksOff};
+ghost use Rattle.recording.specs.declared.recording_fault.RecordingFault.TheVariants.{InReplies};
+ghost use Rattle.recording.specs.declared.recording_fault.RecordingFault.TheVariants.{OtherRun};
+ghost use Rattle.recording.specs.declared.recording_fault.RecordingFault.TheVariants.{Unreadable};
 ghost use Rattle.recording.specs.declared.reason.Reason.TheVariants.{WithinSample};
 
 use crate::break_off::BreakOff;
 use crate::messages::Messages;
 use crate::piece::{CHUNK, MAX_FRAME, MAX_READS, Piece, drop_front, read_more};
 use crate::place::Place;
-use crate::program_fault::ProgramFault;
 use crate::reason::Reason;
+use crate::recording_fault::RecordingFault;
 use daq_reader::{FrameFault, ReadFault, Reader, Samples, Unread, read};
 use program_input::front_from;
 use std::alloc::Global;
@@ -38,7 +39,7 @@ pub fn pass_replies<I: Read>(
     input: &mut I,
     replies: &[u8],
     frames: usize,
-) -> Result<Piece, ProgramFault>
+) -> Result<Piece, RecordingFault>
     ensures begins { IfOk result (λ piece. Consumes (I.remaining input.old)
         (I.remaining input.new) (replies.now ++ piece.bytes.items)) }
     ensures place { IfOk result (λ piece.
@@ -48,14 +49,14 @@ pub fn pass_replies<I: Read>(
     ensures within { result ≡ Err InReplies → IfSome (I.remaining input.old)
         (λ bytes. StartsWith replies.now bytes × (length bytes < length replies.now)) }
     ensures fault { IfErr result (λ f. (f ≡ OtherRun) ⊎ (f ≡ InReplies) ⊎ (f ≡ Unreadable)
-        ⊎ (f ≡ want_of_memory)) }
+        ⊎ (f ≡ Memory)) }
 
     ensures passed { (behind : List ℕ) → I.remaining input.old ≡ Some (replies.now ++ behind)
         → (result ≢ Err OtherRun) × (result ≢ Err InReplies)
         × IfOk result (IsLeftUnread (I.remaining input.new)
         (record { rest = behind; counter = frames % 65536 })) }
 {
-    let mut bytes = front_from(alloc, input, replies.len()).map_err(ProgramFault::of_recording)?;
+    let mut bytes = front_from(alloc, input, replies.len()).map_err(RecordingFault::of_text)?;
     if !begins_with(&bytes, replies) {
         return Err(fault_of_front(&bytes, replies));
     }
@@ -68,15 +69,15 @@ pub fn pass_replies<I: Read>(
 }
 
 /// Why bytes that don't begin with the replies are no recording of the run.
-fn fault_of_front(bytes: &[u8], replies: &[u8]) -> ProgramFault
+fn fault_of_front(bytes: &[u8], replies: &[u8]) -> RecordingFault
     ensures within { (result ≡ InReplies) ↔ StartsWith replies.now bytes.now }
     ensures other { (result ≡ OtherRun) ↔ ¬ StartsWith replies.now bytes.now }
     ensures one { (result ≡ OtherRun) ⊎ (result ≡ InReplies) }
 {
     if begins_with(replies, bytes) {
-        return ProgramFault::InReplies;
+        return RecordingFault::InReplies;
     }
-    ProgramFault::OtherRun
+    RecordingFault::OtherRun
 }
 
 /// Whether bytes begin with others.
@@ -88,13 +89,13 @@ fn begins_with(bytes: &[u8], front: &[u8]) -> bool
 
 /// Reads the frames behind the replies, piece by piece, to the end of the recording; hands each
 /// sample that is whole over, and tells how far it has come.
-pub fn read_frames<I: Read, S: Samples, E: Write + Drop>(
+pub fn read_frames<I: Read, S: Samples, M: Messages>(
     input: &mut I,
     piece: &mut Piece,
     reader: &mut Reader,
     samples: &mut S,
-    messages: &mut Messages<E>,
-) -> Result<(), ProgramFault>
+    messages: &mut M,
+) -> Result<(), RecordingFault>
     requires stands { StandSomewhere reader.old (S.handed samples.old) }
     ensures read { OnOk result (Passes reader.old (S.handed samples.old) reader.new
         (S.handed samples.new) (I.remaining input.old) (I.remaining input.new)
@@ -129,12 +130,12 @@ pub fn read_frames<I: Read, S: Samples, E: Write + Drop>(
             return ended(piece, reader);
         }
     }
-    Err(ProgramFault::Unreadable)
+    Err(RecordingFault::Unreadable)
 }
 
 /// What comes of a recording that is at its end: it is read where no byte is left, and no list
 /// wants packets of a sample.
-fn ended(piece: &Piece, reader: &Reader) -> Result<(), ProgramFault>
+fn ended(piece: &Piece, reader: &Reader) -> Result<(), RecordingFault>
     ensures ok { IsOk result
         ↔ (piece.now.bytes.items ≡ []) × NoneWaits reader.now }
     ensures torn { piece.now.bytes.items ≢ []
@@ -157,10 +158,10 @@ fn ended(piece: &Piece, reader: &Reader) -> Result<(), ProgramFault>
 }
 
 /// The recording breaks off where a piece begins.
-fn broken(piece: &Piece, why: Reason) -> ProgramFault
+fn broken(piece: &Piece, why: Reason) -> RecordingFault
     ensures { result ≡ breaks_off piece.now.place why }
 {
-    ProgramFault::BreaksOff(BreakOff {
+    RecordingFault::BreaksOff(BreakOff {
         place: piece.place,
         why,
     })

@@ -1,7 +1,8 @@
+//! Samples are printed in words as they are read, and their counts behind them.
 ghost use Rattle.std.specs.Prelude.{◌≡◌, ◌≤◌, length};
 
 use daq_reader::{ListShape, SampleView, Samples};
-use run_story::write_sample;
+use explain::write_sample;
 use sample_tables::{Summary, print_summary};
 use std::alloc::Global;
 use std::io::{self, ErrorKind, Write};
@@ -46,7 +47,7 @@ impl<W: Write + Drop> SampleLines<W> {
 
     /// Prints an empty line, and the table of the lists of these shapes, and gives the writer back;
     /// refused if that, or a line, can't be printed.
-    pub fn finish(self, shapes: &[ListShape]) -> (io::Result<()>, W)
+    pub fn finish(self, shapes: &[ListShape]) -> io::Result<W>
         requires { length shapes.now ≤ self.lists }
     {
         let SampleLines {
@@ -56,11 +57,11 @@ impl<W: Write + Drop> SampleLines<W> {
             ..
         } = self;
         let mut out = out;
-        let printing = match failed {
-            Some(kind) => Err(io::Error::from(kind)),
-            None => print_table(&mut out, shapes, &summary),
-        };
-        (printing, out)
+        if let Some(kind) = failed {
+            return Err(io::Error::from(kind));
+        }
+        print_table(&mut out, shapes, &summary)?;
+        Ok(out)
     }
 }
 

@@ -1,3 +1,4 @@
+//! The first key of a run file that is wrong.
 ghost use Rattle.std.specs.Prelude.{IfOk, IfSome};
 ghost use Rattle.toml.specs.View.{table_view};
 ghost use Rattle.run_file.specs.Keys.{HasBadKey};
@@ -10,7 +11,7 @@ use std::alloc::{AllocError, Global};
 use toml::Table;
 use xcp_base::limits::{MAX_CHANNELS, MAX_IMAGE_LEN};
 
-/// Which key of a table makes that it is no run.
+/// The key for which a table is no run.
 #[derive(Clone, Copy, Debug, PartialEq, Eq)]
 pub enum BadKey {
     /// A key that is none of a run file.

@@ -1,3 +1,4 @@
+//! Steps as a run keeps them, apart from the bytes of their images.
 /// What a step does, without the image of a trigger.
 #[derive(Clone, Copy)]
 pub enum Action {

@@ -1,3 +1,4 @@
+//! A run is read from the text of its file, and shows what the file says.
 ghost use Rattle.std.specs.Prelude.{◌≡◌, ◌⊎◌, ℕ, IfErr, IfOk, IsErrOf, None, Some, length, map};
 ghost use Rattle.std.specs.Prelude.{option_map, slice_get, vec_items};
 ghost use Rattle.toml.specs.Parse.{parse_document};

@@ -1,3 +1,4 @@
+//! The faults of a run file, with the place of a bad packet or a bad step.
 use thiserror::Error;
 
 /// Why a text is no run file, in the order in which it is looked for. Places are counted from 0.

@@ -1,3 +1,4 @@
+//! The steps of a run: trigger, start, stop and pump.
 /// A step of a run. The image of a trigger is lent by the run.
 #[derive(Clone, Copy, Debug, PartialEq, Eq)]
 pub enum Step<'a> {

@@ -1,3 +1,4 @@
+//! The steps of a run are kept, with the images of all triggers in one vector.
 ghost use Rattle.std.specs.Prelude.{◌≡◌, ◌+◌, ◌<◌, ◌++◌, ◌∷◌, [], IfErr, IfOk, IsErrOf, None};
 ghost use Rattle.std.specs.Prelude.{OnErr, OnOk};
 ghost use Rattle.std.specs.Prelude.{◌≤◌, Some, drop, length, option_map, slice_get, slice_range};

@@ -1,3 +1,4 @@
+//! The keys of a run file become values within their limits; packets and steps stay texts.
 ghost use Rattle.std.specs.Prelude.{◌≡◌, ◌≤◌, ◌⊎◌, IfErr, IfOk};
 ghost use Rattle.toml.specs.View.{table_view};
 ghost use Rattle.run_file.specs.declared.run_fault.RunFault.TheVariants.{BadKey, Memory};

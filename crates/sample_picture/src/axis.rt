@@ -1,4 +1,4 @@
-//! What the axis of a picture counts.
+//! A picture of samples: what its axis counts.
 
 /// What the places of samples are: the word below the axis.
 #[derive(Clone, Copy, Debug, PartialEq, Eq)]

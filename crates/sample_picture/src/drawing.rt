@@ -1,4 +1,4 @@
-//! The text of a picture.
+//! A picture of samples: its text.
 ghost use Rattle.std.specs.Prelude.{IfOk, string_bytes};
 ghost use Rattle.sample_picture.specs.Shown.{IsClosed};
 

@@ -1,5 +1,8 @@
 //! A picture of where the samples of DAQ lists stand: gathered in one pass and in bounded memory,
 //! and written as SVG.
+//!
+//! `Picture` and `Axis` are what a program needs. The rest is public for `curve_picture`, which
+//! draws on the same axis and in the same style.
 #![tactic(auto)]
 
 mod axis;

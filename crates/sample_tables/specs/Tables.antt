@@ -14,16 +14,16 @@ abbrev pub line_feed : List ℕ
 line_feed = 10 ∷ []
 
 -- digits with spaces before them, up to a width, as the standard library aligns a number to the
--- right
+-- right; of `format_spec`, 32 is the space, 3 means right, 0 no flags, 2 ^ 64 - 1 no precision
 abbrev pub right_aligned : ℕ → List ℕ → List ℕ
 right_aligned width digits =
     padded_integral (format_spec 32 3 0 width (2 ^ 64 - 1)) false [] digits
 
--- a column: a space, and a number
+-- a column: a space, and a number, right-aligned in `width`
 abbrev pub column : ℕ → ℕ → List ℕ
 column width number = codes " " ++ right_aligned width (decimal number)
 
--- ticks, or `-` if there are none
+-- ticks in a column of width 10, or `-` at its end if there are none
 abbrev pub ticks_text : Option ℕ → List ℕ
 ticks_text None = codes "          -"
 ticks_text (Some ticks) = column 10 ticks
@@ -38,9 +38,10 @@ tally_line plan t = right_aligned 4 (decimal plan.list) ++ column 7 plan.channel
 abbrev pub list_line : List (ℕ × Recorded) → ℕ × ListPlan → List ℕ
 list_line samples (place, plan) = tally_line plan (tally_of (given place samples))
 
+-- the names of the columns, as wide as these
 abbrev pub head_line : List ℕ
 head_line = codes "list channel      samples    overloads      first       last" ++ line_feed
 
--- the head, and a line for each DAQ list
+-- what `print_summary` prints: the head, and a line for each DAQ list
 abbrev pub table_text : List ListPlan → List (ℕ × Recorded) → List ℕ
 table_text plans samples = head_line ++ flat_map (list_line samples) (enumerate_from 0 plans)

@@ -1,3 +1,4 @@
+//! Samples become rows of CSV as they are handed over, one row for each element.
 ghost use Rattle.std.specs.Prelude.{◌≡◌, [], IfOk, OnOk, Some, false, slice_get, true};
 ghost use Rattle.std.specs.Option.{option_copied};
 ghost use Rattle.std.specs.Io.KnownBytes.{Appends};

@@ -1,3 +1,4 @@
+//! The number and the time of a sample in its DAQ list.
 /// Where a sample stands.
 #[derive(Clone, Copy, Debug, PartialEq, Eq)]
 pub struct Spot {

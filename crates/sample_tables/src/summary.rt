@@ -1,3 +1,4 @@
+//! The samples of a recording are counted, list by list.
 ghost use Rattle.std.specs.Prelude.{◌≡◌, ◌<◌, ◌++◌, ◌∷◌, [], ℕ, List, IfOk, length, replicate};
 ghost use Rattle.std.specs.Prelude.{None};
 ghost use Rattle.daq_reader.specs.Lists.{given};

@@ -1,3 +1,4 @@
+//! The counts of one DAQ list: samples, overloads, first and last timestamp.
 ghost use Rattle.std.specs.Prelude.{◌≡◌};
 ghost use Rattle.sample_tables.specs.Tallies.{first_of, tally_with};
 

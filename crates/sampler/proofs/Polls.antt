@@ -1,7 +1,7 @@
 -- What looks at a ring of orders take off.
 use Rattle.std.proofs.Common.{◌≡◌, List, [], ◌∷◌, ◌++◌, flat_map, append_assoc, append-nil, sym, ap, ◌∙◌}
 use Rattle.std.proofs.lemmas.List.Concat.{flat_map-cons}
-use Rattle.control_ring.specs.Orders.{TakeState}
+use Rattle.channel_ring.specs.Orders.{TakeState}
 use Rattle.sampler.specs.declared.polled.Polled.{Polled}
 use Rattle.sampler.specs.Control.{ArePolled, OrdersAreAnsweredInOrder, answered}
 

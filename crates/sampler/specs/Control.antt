@@ -4,9 +4,9 @@ use Rattle.std.specs.Option.{is_some}
 use mathlib.Core.List.{IsPrefix}
 use Rattle.channel_ring.specs.declared.ends.SendEnd.{Ghosts as SendGhosts}
 use Rattle.channel_ring.specs.declared.ends.RingEnd.{Ghosts as EndGhosts}
-use Rattle.control_ring.specs.Orders.{TakeState}
-use Rattle.control_ring.specs.declared.order.Order.{Order}
-use Rattle.control_ring.specs.declared.order.Order.TheVariants as order
+use Rattle.channel_ring.specs.Orders.{TakeState}
+use Rattle.channel_ring.specs.declared.order.Order.{Order}
+use Rattle.channel_ring.specs.declared.order.Order.TheVariants as order
 use Rattle.sampler.specs.History.{Start, Stop}
 use Rattle.sampler.specs.Items.{marker_of}
 use Rattle.sampler.specs.Past.{Past}

@@ -1,3 +1,4 @@
+//! The counts of a DAQ list: samples due, accepted and dropped.
 /// How often a DAQ list was due, and what became of its samples.
 #[derive(Clone, Copy, Debug, PartialEq, Eq)]
 pub struct ListCounts {

@@ -1,3 +1,4 @@
+//! Why a sampler refuses a trigger, a start or a stop.
 use thiserror::Error;
 
 /// Why a trigger was not taken. The sampler is unchanged.

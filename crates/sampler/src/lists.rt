@@ -1,3 +1,4 @@
+//! The DAQ lists of a sampler: where each stands, which run, and when the next one is due.
 ghost use Rattle.std.specs.Prelude.{◌≡◌, ℕ, ◌≤◌, length, map, take, option_map};
 ghost use Rattle.copy_plan.specs.Config.{ListPlan};
 ghost use Rattle.xcp_base.specs.Lists.{has_list};

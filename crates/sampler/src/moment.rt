@@ -1,3 +1,4 @@
+//! What is the same for all DAQ lists that are due at one trigger.
 use std::marker::Model;
 use xcp_base::ChannelId;
 

@@ -1,3 +1,4 @@
+//! A due list's sample is made, and offered to the ring.
 ghost use Rattle.std.specs.Prelude.{◌≡◌, ◌+◌, ◌<◌, ◌≤◌, true, false, [], ◌∷◌, ◌++◌, length};
 ghost use Rattle.sampler.specs.Inner.AtTrigger.{item_of};
 
@@ -31,7 +32,7 @@ pub fn offer_sample<S: SendEnd>(
     ensures capacity_stays { S.capacity end.new ≡ S.capacity end.old }
     ensures ring_stays { S.ring end.new ≡ S.ring end.old }
 {
-    let list = ListId::from_byte(plan.list());
+    let list = ListId::at(plan.list() as u16);
     plan.fill_into(packets, moment.image, moment.stamp, marked);
     end.offer_sample(moment.channel, list, number, packets)
 }

@@ -1,4 +1,5 @@
-use control_ring::Order;
+//! The outcomes of one look at a control ring for an order.
+use channel_ring::Order;
 
 /// What became of a look at a control ring.
 #[derive(Clone, Copy, Debug, PartialEq, Eq)]

@@ -1,16 +1,15 @@
 //! Orders that come through a control ring.
 ghost use Rattle.std.specs.Prelude.{◌≡◌, [], ◌∷◌, ◌++◌};
 ghost use mathlib.Core.List.{IsPrefix};
-ghost use Rattle.control_ring.specs.declared.order.Order.TheVariants.{Start as ToStart};
-ghost use Rattle.control_ring.specs.declared.order.Order.TheVariants.{Stop as ToStop};
+ghost use Rattle.channel_ring.specs.declared.order.Order.TheVariants.{Start as ToStart};
+ghost use Rattle.channel_ring.specs.declared.order.Order.TheVariants.{Stop as ToStop};
 ghost use Rattle.sampler.specs.Control.{Polls, answered};
 ghost use Rattle.sampler.specs.Stays.{KeepsSetUp};
 
 use crate::faults::StopFault;
 use crate::polled::Polled;
 use crate::sampler::Sampler;
-use channel_ring::SendEnd;
-use control_ring::{ControlTake, Order};
+use channel_ring::{ControlTake, Order, SendEnd};
 
 impl<S: SendEnd> Sampler<S> {
     /// Carries out the order at the front of a control ring, if one is there.

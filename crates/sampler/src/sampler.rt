@@ -1,3 +1,4 @@
+//! The sampler of an event channel: its triggers, its starts and stops, and its finish.
 ghost use Rattle.std.specs.Prelude.{◌≡◌, ℕ, ◌<◌, ◌≤◌, ◌+◌, ◌↔◌, ◌≢◌, ◌&&◌, true, [], ◌++◌, None};
 ghost use Rattle.std.specs.Prelude.{IfOk, IfSome, IsNone, OnErr, OnOk, length, map, nat_eq};
 ghost use Rattle.std.specs.Prelude.{option_map};
@@ -100,7 +101,7 @@ impl<S: SendEnd> Sampler<S> {
         let lists = Lists::new(plans, running);
         let soonest = lists.soonest();
         Sampler {
-            channel: ChannelId::from_byte(channel),
+            channel: ChannelId::at(channel as usize),
             image_len,
             lists,
             end,

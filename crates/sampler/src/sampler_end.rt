@@ -1,3 +1,4 @@
+//! A finished sampler: its counts, and a last look at what it left in the ring.
 ghost use Rattle.std.specs.Prelude.{◌≡◌, ℕ, ◌<◌, List};
 ghost use Rattle.xcp_base.specs.declared.item.Item.{Item};
 ghost use Rattle.xcp_base.specs.declared.limits.TheConstants.{MAX_CHANNELS};

@@ -1,3 +1,4 @@
+//! Which DAQ lists were due at a trigger, and whose samples were accepted or dropped.
 ghost use Rattle.sampler.specs.Inner.AtTrigger.{Adds, row_of};
 ghost use Rattle.sampler.specs.declared.track.Track.{Track};
 

@@ -1,3 +1,4 @@
+//! What is kept of a DAQ list between triggers: when it is due next, and its overload.
 ghost use Rattle.std.specs.Prelude.{◌≡◌, ◌+◌, ◌≤◌, true, false};
 ghost use Rattle.xcp_base.specs.declared.limits.TheConstants.{MAX_TRIGGERS};
 ghost use Rattle.sampler.specs.Inner.AtTrigger.{due_now, triggered};

@@ -1,7 +1,6 @@
 pub mod PlaceLemmas
 pub mod ProfileLemmas
 pub mod ReplyLemmas
-pub mod FoldLemmas
 pub mod ListSetLemmas
 pub mod StartLemmas
 pub mod SetUpLemmas

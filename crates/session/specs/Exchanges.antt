@@ -136,20 +136,3 @@ reply_in d past x =
 
 abbrev pub past_behind : Profile → Past → Exchange → Past
 past_behind d past x = if x.out_of_memory then past else past_after_packet d past x.packet
-
--- the replies of exchanges, one after another, and what they leave
-abbrev pub master_replies : Profile → Past → List Exchange → List (Option (List ℕ))
-master_replies d past [] = []
-master_replies d past (x ∷ more) =
-    reply_in d past x ∷ master_replies d (past_behind d past x) more
-
-abbrev pub past_behind_all : Profile → Past → List Exchange → Past
-past_behind_all d past [] = past
-past_behind_all d past (x ∷ more) = past_behind_all d (past_behind d past x) more
-
--- each of the exchanges is out of memory only where it may
-abbrev pub RunOutOnlyWhereMay : Profile → Past → List Exchange → Type 0
-RunOutOnlyWhereMay d past [] = Unit {0}
-RunOutOnlyWhereMay d past (x ∷ more) =
-    (x.out_of_memory ≡ true → MayBeOut d past x.packet)
-    × RunOutOnlyWhereMay d (past_behind d past x) more

@@ -7,5 +7,4 @@ pub mod Exchanges
 pub mod Standing
 pub mod Starts
 pub mod SetUps
-pub mod Folds
 pub mod Laws

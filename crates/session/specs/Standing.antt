@@ -13,10 +13,10 @@ use Rattle.session.specs.declared.request.Request.TheVariants.{Lists}
 use Rattle.session.specs.Past.{Past}
 use Rattle.session.specs.Profiles.{IsProfile, lists_of}
 use Rattle.session.specs.Replies.{store_reply}
-use Rattle.session.specs.Exchanges.{Exchange, MayBeOut, RunOutOnlyWhereMay, calls_after_writes}
-use Rattle.session.specs.Exchanges.{greeting_reply, master_replies, master_reply, past_after}
+use Rattle.session.specs.Exchanges.{Exchange, MayBeOut, calls_after_writes}
+use Rattle.session.specs.Exchanges.{greeting_reply, master_reply, past_after}
 use Rattle.session.specs.Exchanges.{past_after_greeting, past_after_packet, past_behind}
-use Rattle.session.specs.Exchanges.{past_behind_all, reply_in, request_reply, writes_reply}
+use Rattle.session.specs.Exchanges.{reply_in, request_reply, writes_reply}
 
 -- what a session shows
 pub record SessionState : Type 0 where
@@ -112,14 +112,3 @@ pub record Exchanges
   pub answers :
       IsExchange old new
       (record { packet = packet; clock = clock; out_of_memory = out_of_memory }) reply
-
--- some exchanges, one after another: so the replies are those of a fold over them
-pub record ExchangesAll
-    (old new : SessionState) (xs : List Exchange) (sent : List (Option (List ℕ)))
-    : Type 0 where
-  pub profile : new.profile ≡ old.profile
-  pub answers :
-      (past : Past) → SessionStandsAfter old past
-      → (sent ≡ master_replies old.profile past xs)
-      × SessionStandsAfter new (past_behind_all old.profile past xs)
-      × RunOutOnlyWhereMay old.profile past xs

@@ -1,3 +1,4 @@
+//! The packets of replies, and the bits and texts that stand in them.
 ghost use Rattle.std.specs.Prelude.{◌≡◌, ◌+◌, ◌%◌, ◌<◌, ◌≤◌, ◌==◌, ◌∷◌, ◌++◌, Err, length};
 ghost use Rattle.std.specs.Prelude.{if◌then◌else◌};
 ghost use Rattle.session.specs.Fields.{IsReplyPacket, packet_of};
@@ -57,8 +58,8 @@ impl Cto {
         Cto { bytes: packet }
     }
 
-    /// ERR.
-    pub(crate) fn error(code: ErrCode) -> Cto
+    /// ERR, with an error code.
+    pub fn error(code: ErrCode) -> Cto
         ensures { result ≡ packet_of (Err code) }
     {
         let mut packet = ArrayVec::new();

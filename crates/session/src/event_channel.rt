@@ -1,3 +1,4 @@
+//! An event channel of the profile, and the limits of its name and its cycle.
 ghost use Rattle.std.specs.Prelude.{◌≡◌};
 ghost use Rattle.std.specs.List.{list_any};
 ghost use Rattle.session.specs.Profiles.{event_fault, events_fault, is_bad_name, is_unprintable};

@@ -4,7 +4,6 @@
 
 mod cto;
 mod event_channel;
-mod exchange;
 pub mod laws;
 mod list_sets;
 mod looks;
@@ -20,7 +19,6 @@ mod writes;
 
 pub use cto::Cto;
 pub use event_channel::EventChannel;
-pub use exchange::{Arrived, answer_all};
 pub use profile::{Profile, ProfileFault};
 pub use request::Request;
 pub use session::Session;

@@ -7,9 +7,8 @@ ghost use Rattle.session.specs.Starts.{is_on_after, shows_on};
 
 use daq_store::Store;
 use daq_store::command::Command;
-use list_set::ListSet;
 use xcp_base::limits::MAX_LISTS;
-use xcp_base::{ChannelId, ListId};
+use xcp_base::{ChannelId, ListId, ListSet};
 
 /// The lists that run.
 pub fn running_of(store: &Store) -> ListSet
@@ -18,7 +17,7 @@ pub fn running_of(store: &Store) -> ListSet
 {
     let mut set = ListSet::none();
     for l in 0..MAX_LISTS {
-        set = set.with_list_if(ListId::new(l), store.running(l));
+        set = set.with_list_if(ListId::at(l), store.running(l));
     }
     set
 }
@@ -31,7 +30,7 @@ pub fn waiting_of(store: &Store) -> ListSet
 {
     let mut set = ListSet::none();
     for l in 0..MAX_LISTS {
-        set = set.with_list_if(ListId::new(l), waits(store, l));
+        set = set.with_list_if(ListId::at(l), waits(store, l));
     }
     set
 }
@@ -55,7 +54,7 @@ pub fn ready_on(store: &Store, channel: ChannelId) -> ListSet
 {
     let mut set = ListSet::none();
     for l in 0..MAX_LISTS {
-        set = set.with_list_if(ListId::new(l), is_on(store, channel, l));
+        set = set.with_list_if(ListId::at(l), is_on(store, channel, l));
     }
     set
 }

@@ -1,3 +1,4 @@
+//! The mode of a DAQ list, kept to be compared with a later one.
 ghost use Rattle.std.specs.Prelude.{◌≡◌, ◌↔◌, true};
 ghost use Rattle.session.specs.SetUps.{but_priority, mode_held};
 

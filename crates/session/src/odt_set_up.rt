@@ -1,3 +1,4 @@
+//! The entries of an ODT, kept to be compared with later ones.
 ghost use Rattle.std.specs.Prelude.{◌≡◌, ◌↔◌, true, IfOk};
 ghost use Rattle.daq_store.specs.Configuration.{odt_entries};
 ghost use Rattle.session.specs.SetUps.{entry_held};

@@ -1,3 +1,4 @@
+//! The profile of a slave, and the check of its limits, one after another.
 ghost use Rattle.std.specs.Prelude.{◌≡◌, ◌≤◌, ◌+◌, nat_lt};
 ghost use Rattle.std.specs.List.{list_any};
 ghost use Rattle.session.specs.Profiles.{profile_fault, numbers_fault, names_fault};

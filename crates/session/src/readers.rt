@@ -9,9 +9,8 @@ ghost use Rattle.session.specs.Starts.{is_on, runs, shows_on};
 use crate::list_sets;
 use crate::session::Session;
 use daq_store::Store;
-use list_set::ListSet;
-use xcp_base::ChannelId;
 use xcp_base::limits::MAX_LISTS;
+use xcp_base::{ChannelId, ListSet};
 
 impl Session {
     /// The DAQ lists, as they are set.

@@ -1,3 +1,4 @@
+//! The session, from CONNECT to DISCONNECT: each packet of the master is answered.
 ghost use Rattle.std.specs.Prelude.{◌≡◌, [], IfErr, IfOk, IfSome, OnErr, OnOk, Some};
 ghost use Rattle.session.specs.Fields.{IsReplyPacket};
 ghost use Rattle.session.specs.Past.{new_past};

@@ -1,3 +1,4 @@
+//! What was set of a DAQ list, kept to tell later whether it has changed.
 ghost use Rattle.std.specs.Prelude.{◌≡◌, ◌↔◌, true, IfOk};
 ghost use Rattle.session.specs.SetUps.{set_up_of};
 

@@ -14,9 +14,8 @@ use crate::request::{self, Request};
 use crate::session::Session;
 use daq_store::Store;
 use daq_store::command::Command;
-use list_set::ListSet;
-use xcp_base::ListId;
 use xcp_base::limits::MAX_LISTS;
+use xcp_base::{ListId, ListSet};
 
 impl Session {
     /// The set of the DAQ lists that this packet would start if it came now: they don't run before
@@ -66,7 +65,7 @@ fn started_by_list(store: &Store, mode: u8, list: u16) -> ListSet
         return ListSet::none();
     }
     let starts = would_start(store, list);
-    ListSet::none().with_list_if(ListId::new(list), starts)
+    ListSet::none().with_list_if(ListId::at(list), starts)
 }
 
 /// Whether a list is there, ready, and doesn't run.

@@ -16,12 +16,12 @@ use Rattle.session.specs.Requests.{request}
 use Rattle.session.specs.Standing.{Exchanges, SessionStandsAfter, SessionState}
 use Rattle.session.specs.Starts.{is_on, runs, starts}
 use Rattle.session.specs.declared.profile.Profile.{Profile}
-use Rattle.frame_outbox.specs.Outboxes.{Laid, OutboxState}
-use Rattle.frame_outbox.specs.Outboxes.{StandsAfter as OutboxStandsAfter}
+use Rattle.slave_outbox.specs.Outboxes.{Laid, OutboxState}
+use Rattle.slave_outbox.specs.Outboxes.{StandsAfter as OutboxStandsAfter}
 use Rattle.slave.specs.Inner.{PartsGoBy}
 use Rattle.slave.specs.Inner.{Answers, LaysReply, Settles}
-use Rattle.session_account.specs.Accounts.{AccountStandsAfter}
-use Rattle.slave.specs.Log.{Heard, HungUp, entries_of, is_out, late_of, past_of, reply_laid, sent_units, waits}
+use Rattle.slave_channels.specs.Accounts.{AccountStandsAfter}
+use Rattle.slave.specs.Log.{Heard, HungUp, entries_of, is_out, late_in, past_of, reply_laid, sent_units, waits}
 use Rattle.slave.specs.Standing.{logged, SlaveState}
 use Rattle.slave.proofs.SettlingLemmas.{settled, settled-lines, settled-many, settled-opens, settled-out}
 use Rattle.slave.proofs.StandingLemmas.{starts-no-list}
@@ -105,7 +105,7 @@ module _ {S T F : Type 0} (take : TakeGhosts T F) where
                 as_logged = settled-opens take a.channels b.channels before now d (logged d log) settles has.as_logged;
                 many = settled-many take a.channels b.channels before now settles ∙ has.many;
                 plan = plan ∙ has.plan;
-                account = subst (λ z. AccountStandsAfter z (entries_of d log) (late_of d log)) (sym account) has.account;
+                account = subst (λ z. AccountStandsAfter z (entries_of d log) (late_in d log)) (sym account) has.account;
                 number = number ∙ has.number;
               };
               ended = λ none c ch at. (both c ch at).1 none;
@@ -139,7 +139,7 @@ module _ {S T F : Type 0} (take : TakeGhosts T F) where
             as_logged = settled-opens take a.channels b.channels before 0 d (logged d log) settles stands.has.as_logged;
             many = settled-many take a.channels b.channels before 0 settles ∙ stands.has.many;
             plan = plan ∙ has.plan;
-            account = subst (λ z. AccountStandsAfter z (entries_of d log) (late_of d log)) (sym account) has.account;
+            account = subst (λ z. AccountStandsAfter z (entries_of d log) (late_in d log)) (sym account) has.account;
             number = number ∙ has.number;
           };
           ended = λ quiet c ch at. (both c ch at).1 quiet;

@@ -5,14 +5,14 @@ use Rattle.std.proofs.lemmas.Bool.{false≢true}
 use Rattle.std.proofs.lemmas.Bool.Decides.{eqb_tells}
 use Rattle.xcp_base.specs.declared.limits.TheConstants.{MAX_LISTS, MAX_TAKEN}
 use Rattle.channel_ring.specs.declared.ends.TakeEnd.{Ghosts as TakeGhosts}
-use Rattle.channel_intake.specs.Deeds.{Deed}
-use Rattle.channel_intake.specs.Deeds.{runs as runs_there}
-use Rattle.channel_intake.specs.Intakes.{StandsAfter}
+use Rattle.slave_outbox.specs.Deeds.{Deed}
+use Rattle.slave_outbox.specs.Deeds.{runs as runs_there}
+use Rattle.slave_outbox.specs.Intakes.{StandsAfter}
 use Rattle.tasks.specs.Links.{AwayState, EndsNewest, EndsUnordered, LinkState, LooksAtNewest, SendsToNewest, is_running, runs_by, runs_of, takes_orders}
-use Rattle.control_ring.specs.declared.order.Order.{Order}
-use Rattle.control_ring.specs.declared.order.Order.TheVariants as order
-use Rattle.slave_channel.specs.Channels.{ChannelState, ShareState}
-use Rattle.slave_channel.specs.Ordering.{GoesOnBy, OrdersAll, SendsAll}
+use Rattle.channel_ring.specs.declared.order.Order.{Order}
+use Rattle.channel_ring.specs.declared.order.Order.TheVariants as order
+use Rattle.slave_channels.specs.Channels.{ChannelState, ShareState}
+use Rattle.slave_channels.specs.Ordering.{GoesOnBy, OrdersAll, SendsAll}
 use Rattle.slave_channels.specs.Calls.{Ends, Looks}
 use Rattle.slave.specs.Standing.{ChannelHas, PartHas}
 use Rattle.sampler.specs.State.{SamplerState, runs_in}

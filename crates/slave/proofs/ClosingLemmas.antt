@@ -1,20 +1,21 @@
 -- The account of a slave that is closed.
-use Rattle.std.proofs.Common.{◌≡◌, ◌*◌, ℕ, ◌+◌, ◌<◌, Bool, true, false, ◌&&◌, ◌||◌, not, ◌↔◌, ◌⊎◌, List, ◌++◌, length, append_assoc, refl, sym, ap, ◌∙◌, subst, arith, inl, inr}
+use Rattle.std.proofs.Common.{◌≡◌, ◌*◌, ℕ, ◌+◌, ◌-◌, ◌<◌, ◌≤◌, Bool, nat_le, nat_lt, true, false, ◌&&◌, ◌||◌, not, ◌↔◌, ◌⊎◌, List, ◌++◌, length, append_assoc, refl, sym, ap, ◌∙◌, subst, arith, inl, inr}
 use Rattle.std.specs.Prelude.{Option, Some, None}
 use Rattle.std.specs.Option.{is_some}
-use Rattle.std.proofs.lemmas.Bool.{false≢true}
+use Rattle.std.proofs.lemmas.Bool.{false≢true, le-leb, leb-true, lt-ltb, ltb-true}
 use Rattle.std.proofs.lemmas.Option.{slice_get_within}
 use Rattle.xcp_base.specs.declared.limits.TheConstants.{MAX_CHANNELS}
 use Rattle.channel_ring.specs.declared.ends.TakeEnd.{Ghosts as TakeGhosts}
-use Rattle.frame_outbox.specs.Outboxes.{has_waiting}
+use Rattle.slave_outbox.specs.Outboxes.{has_waiting}
 use Rattle.session.specs.declared.profile.Profile.{Profile}
-use Rattle.slave_channel.specs.Channels.{ChannelState, ShareState}
+use Rattle.slave_channels.specs.Channels.{ChannelState, ShareState, is_within}
 use Rattle.std.proofs.lemmas.List.{length-map}
-use Rattle.slave_channels.specs.Calls.{KeepsNone, KeepsOne}
-use Rattle.slave.specs.Closing.{AreEndsOf, Closes}
+use Rattle.slave_channels.specs.Calls.{KeepsNone, KeepsNoneWithin, KeepsOne, KeepsOneWithin}
+use Rattle.slave.specs.Closing.{AreEndsOf, Closes, IsComplete}
 use Rattle.slave.specs.Hearing.{GoesBy}
-use Rattle.slave.specs.Inner.{Collects, GathersFirst}
-use Rattle.slave.specs.Log.{AllBack, Act, discarding, is_back, is_out, losing, past_of}
+use Rattle.slave.specs.declared.complete.Complete.{Complete}
+use Rattle.slave.specs.Inner.{Collects, GathersFirst, HasAll, HasComplete}
+use Rattle.slave.specs.Log.{AllBack, AllBackWithin, Act, discarding, is_back, is_out, losing, past_of}
 use Rattle.slave.specs.Returns.{AreReturns, ends_in, returns_at}
 use Rattle.tasks.specs.Tasks.{TaskEndState}
 use Rattle.slave.specs.Standing.{NoneRuns, PartsStandAfter, SlaveStandsAfter, SlaveState, number_of}
@@ -48,6 +49,24 @@ or-split false b is = inr is
 or-none : (a b : Bool) → (a || b) ≡ false → (a ≡ false) × (b ≡ false)
 or-none true b is = absurd (false≢true (sym is))
 or-none false b is = (refl, is)
+
+-- a part that is kept, of one of these measurements, has such a number
+numbered-within : {T : Type 0} (o : Option (ShareState T)) (from to : ℕ) → is_within from to o ≡ true → (m : ℕ) × (from ≤ m) × (m < to) × (number_of o ≡ Some m)
+numbered-within None from to is = absurd (false≢true is)
+numbered-within (Some p) from to is =
+    let (least, less) = and-both (nat_le from p.number) (nat_lt p.number to) is in
+    (p.number, leb-true from p.number least, ltb-true p.number to less, refl) where
+      and-both : (a b : Bool) → (a && b) ≡ true → (a ≡ true) × (b ≡ true)
+      and-both true b both = (refl, both)
+      and-both false b both = absurd (false≢true both)
+
+not-within : {T : Type 0} (o : Option (ShareState T)) (m from to : ℕ) → from ≤ m → m < to → is_within from to o ≡ false → number_of o ≡ Some m → ⊥
+not-within None m from to least less is at = none_some m at
+not-within (Some p) m from to least less is at =
+    let same = some-inj p.number m at in
+    false≢true (sym is ∙ ap (λ n. nat_le from n && nat_lt n to) same ∙ ap (λ b. b && nat_lt m to) (le-leb from m least) ∙ lt-ltb m to less) where
+      some-inj : (x y : ℕ) → Some x ≡ Some y → x ≡ y
+      some-inj x y e = cc
 
 -- there are as many ends of tasks as event channels
 pub ends-many : {S T : Type 0} (s : SlaveState S T) (ends : List (TaskEndState S)) → AreEndsOf s.channels ends → length ends ≡ length s.channels
@@ -92,6 +111,52 @@ module _ {S T F : Type 0} (take : TakeGhosts T F) where
   told-whole d s log false stands none some = (λ e. all-back d s log stands (none refl), λ all. refl)
   told-whole d s log true stands none some = (λ e. absurd (false≢true e), λ all. absurd (not-back d s log stands (some refl) all))
 
+  -- where no part of these measurements is kept, all came back
+  back-within : (d : Profile) (s : SlaveState S T) (log : List Act) (from to : ℕ) → PartsStandAfter take d s log
+      → KeepsNoneWithin from to s.channels → AllBackWithin from to d log
+  back-within d s log from to stands none m c least less within there =
+      elim (is-bool (is_back m c log)) [
+        | inl back ↦ back
+        | inr out ↦
+            let (ch, at) = some-at s.channels c (omega (arith, within, stands.has.many)) in
+            let (older, newer) = or-none (is_within from to ch.older) (is_within from to ch.newer) (none c ch at) in
+            absurd (elim ((stands.has.out c ch at).kept m (ap (λ b. b && not (is_back m c log)) there ∙ ap not out)) [
+              | inl w ↦ not-within ch.newer m from to least less newer w
+              | inr w ↦ not-within ch.older m from to least less older w
+            ])
+      ]
+
+  -- and where one is kept, one did not
+  out-within : (d : Profile) (s : SlaveState S T) (log : List Act) (from to : ℕ) → PartsStandAfter take d s log
+      → KeepsOneWithin from to s.channels → AllBackWithin from to d log → ⊥
+  out-within d s log from to stands (c, (ch, at, is)) all =
+      let (m, least, less, out) = some-out in
+      false≢true (sym (out-back m c log out) ∙ all m c least less (omega (arith, slice_get_within s.channels c ch at, stands.has.many)) (out-part m c log out)) where
+        some-out : (m : ℕ) × (from ≤ m) × (m < to) × (is_out m c log ≡ true)
+        some-out =
+            elim (or-split (is_within from to ch.older) (is_within from to ch.newer) is) [
+              | inl w ↦ let (m, least, less, at_m) = numbered-within ch.older from to w in (m, least, less, (stands.has.out c ch at).older m at_m)
+              | inr w ↦ let (m, least, less, at_m) = numbered-within ch.newer from to w in (m, least, less, (stands.has.out c ch at).newer m at_m)
+            ]
+
+  told-within : (d : Profile) (s : SlaveState S T) (log : List Act) (from to : ℕ) (has : Bool) → PartsStandAfter take d s log → HasAll from to s.channels has
+      → (has ≡ true) ↔ AllBackWithin from to d log
+  told-within d s log from to true stands is = (λ e. back-within d s log from to stands (is.yes refl), λ all. refl)
+  told-within d s log from to false stands is = (λ e. absurd (false≢true e), λ all. absurd (out-within d s log from to stands (is.no refl) all))
+
+  -- so it is told of each measurement
+  pub told-complete : (d : Profile) (s : SlaveState S T) (log : List Act) (complete : Complete) → PartsStandAfter take d s log → HasComplete s.account.end s.channels complete
+      → IsComplete d log complete
+  told-complete d s log complete stands is =
+      let same = stands.has.account.end_is in
+      record {
+        many = is.many;
+        last = λ i has at.
+            subst (λ n. (has ≡ true) ↔ AllBackWithin (n - 4 + i) (n - 4 + (i + 1)) d log) same
+            (told-within d s log (s.account.end - 4 + i) (s.account.end - 4 + (i + 1)) has stands (is.last i has at));
+        older = subst (λ n. (complete.older ≡ true) ↔ AllBackWithin 0 (n - 4) d log) same (told-within d s log 0 (s.account.end - 4) complete.older stands is.older);
+      }
+
   -- where the master was lost, or none was connected, no list runs
   none-runs : (a : SlaveState S T) (log : List Act) → SlaveStandsAfter take a.session.profile a log
       → NoneRuns (past_of a.session.profile (discarding (has_waiting a.outbox) ++ (losing a.session.connected ++ log)))
@@ -106,14 +171,15 @@ module _ {S T F : Type 0} (take : TakeGhosts T F) where
         by true false is = quiet d log (sym stands.parts.has.session.connected ∙ is)
         by false false is = quiet d log (sym stands.parts.has.session.connected ∙ is)
 
-  pub closes : (a h b : SlaveState S T) (ends : List (TaskEndState S)) (kept : Bool) → b.acts < MOST_ACTS + PER_PACKET → GoesBy take a h (discarding (has_waiting a.outbox) ++ losing a.session.connected) → h.session.profile ≡ a.session.profile
+  pub closes : (a h b : SlaveState S T) (ends : List (TaskEndState S)) (kept : Bool) (complete : Complete) → b.acts < MOST_ACTS + PER_PACKET → GoesBy take a h (discarding (has_waiting a.outbox) ++ losing a.session.connected) → h.session.profile ≡ a.session.profile
       → Collects take (2 * MAX_CHANNELS) h b
       → length ends ≡ length h.channels
       → GathersFirst (length h.channels) ends h b
       → (kept ≡ false → KeepsNone b.channels)
       → (kept ≡ true → KeepsOne b.channels)
-      → Closes take a ends b.account (not kept)
-  closes a h b ends kept fits hangs profile collects as_many gathers none some = record {
+      → HasComplete b.account.end b.channels complete
+      → Closes take a ends b.account (not kept) complete
+  closes a h b ends kept complete fits hangs profile collects as_many gathers none some is_complete = record {
     last = collects.acts;
     are = collects.are;
     few = collects.few;
@@ -131,6 +197,7 @@ module _ {S T F : Type 0} (take : TakeGhosts T F) where
             law = session-law d all has.is_log;
             account_is = has.account;
             whole_is = told-whole d b all kept behind none some;
+            complete_is = told-complete d b all complete behind is_complete;
           },
           λ c end at.
               let there : c < length b.channels = omega (arith, slice_get_within ends c end at, as_many, collects.as_many) in

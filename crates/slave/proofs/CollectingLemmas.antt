@@ -13,7 +13,7 @@ use Rattle.channel_ring.specs.declared.ends.RingEnd.{Ghosts as EndGhosts}
 use Rattle.channel_ring.specs.declared.ends.TakeEnd.{Ghosts as TakeGhosts}
 use Rattle.session.specs.Past.{Past}
 use Rattle.session.specs.Standing.{SessionStandsAfter, SessionState}
-use Rattle.slave_channel.specs.Channels.{FinishedState, IsFinished}
+use Rattle.slave_channels.specs.Channels.{FinishedState, IsFinished}
 use Rattle.slave.specs.Finishing.{GivesBackBy}
 use Rattle.slave.specs.Hearing.{MayOpen, is_before, most_before, IsIdleRefusal}
 use Rattle.slave.specs.Inner.{PartsGoBy, AreAsOpened, Collects, HasOther, HasParts, IsOfOne, Prepares, SlaveStarted, StartsInVain, WantsPlaces}

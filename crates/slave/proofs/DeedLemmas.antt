@@ -11,13 +11,13 @@ use Rattle.xcp_base.specs.declared.limits.TheConstants.{MAX_LISTS}
 use Rattle.session.specs.Exchanges.{reply_in}
 use Rattle.session.specs.Fields.{packet_of}
 use Rattle.session.specs.declared.profile.Profile.{Profile}
-use Rattle.channel_intake.specs.Deeds.{Deed, Started, Stopped, Unsent, marks_of, passed, passes, stops_of, taken}
-use Rattle.channel_intake.specs.Deeds.{Took as TookItem}
-use Rattle.channel_intake.specs.Deeds.{runs as runs_there}
-use Rattle.frame_outbox.specs.Outboxes.{Laid}
-use Rattle.frame_outbox.specs.declared.unit.Origin.{Origin}
-use Rattle.frame_outbox.specs.declared.unit.Origin.TheVariants as origin
-use Rattle.slave_channel.specs.Ordering.{one_if, starts_noted, stops_noted}
+use Rattle.slave_outbox.specs.Deeds.{Deed, Started, Stopped, Unsent, marks_of, passed, passes, stops_of, taken}
+use Rattle.slave_outbox.specs.Deeds.{Took as TookItem}
+use Rattle.slave_outbox.specs.Deeds.{runs as runs_there}
+use Rattle.slave_outbox.specs.Outboxes.{Laid}
+use Rattle.slave_outbox.specs.declared.unit.Origin.{Origin}
+use Rattle.slave_outbox.specs.declared.unit.Origin.TheVariants as origin
+use Rattle.slave_channels.specs.Ordering.{one_if, starts_noted, stops_noted}
 use Rattle.slave.specs.Log.{Act, CameBack, Discarded, Heard, HungUp, Opened, Refused, Sent, Took, deeds_of, has_part, is_back, is_newest, is_of_ring, is_opening, is_out, opened, ordered_by, origins, past_of, reply_laid, sample_laid, starts_on, stops_at, unsent_by, unsent_one, waits, with_starts}
 use Rattle.slave.specs.Standing.{IsLog}
 

@@ -2,6 +2,7 @@
 use Rattle.std.proofs.Common.{◌≡◌, ◌≢◌, ℕ, ◌+◌, ◌-◌, ◌*◌, ◌<◌, ◌≤◌, Bool, true, false, ◌&&◌, not, nat_eq, if◌then◌else◌, List, [], ◌∷◌, ◌++◌, append_assoc, append-nil, drop, length, length-append, map, zero, suc, take as first, refl, sym, ap, ◌∙◌, subst, arith, ◌⊎◌, inl, inr, get_or, slice_get}
 use Rattle.std.specs.Prelude.{count_by, Option, Some, None}
 use Rattle.std.specs.List.{AllByRecursion}
+use Rattle.std.proofs.lemmas.Bool.{eq-eqb, ne_eqb}
 use Rattle.std.proofs.lemmas.Bool.Decides.{eqb_tells}
 use Rattle.std.proofs.lemmas.List.{length-map, take_more}
 use Rattle.std.proofs.lemmas.List.Sums.{sum_by-append, sum_by-take-le}
@@ -13,27 +14,28 @@ use Rattle.channel_ring.specs.declared.ends.TakeEnd.{Ghosts as TakeGhosts}
 use Rattle.session.specs.Exchanges.{reply_in}
 use Rattle.session.specs.Standing.{SessionStandsAfter, SessionState}
 use Rattle.session.specs.declared.profile.Profile.{Profile}
-use Rattle.channel_intake.specs.Deeds.{Deed, Unsent, passes}
-use Rattle.channel_intake.specs.Deeds.{runs as runs_there}
-use Rattle.channel_intake.specs.Intakes.{StandsAfter}
-use Rattle.channel_intake.proofs.DeedLemmas.{stands-beyond}
+use Rattle.slave_outbox.specs.Deeds.{Deed, Unsent, passes}
+use Rattle.slave_outbox.specs.Deeds.{runs as runs_there}
+use Rattle.slave_outbox.specs.Intakes.{StandsAfter}
+use Rattle.slave_outbox.proofs.DeedLemmas.{stands-beyond}
 use Rattle.daq_engine.proofs.PidLemmas.{all-append}
-use Rattle.frame_outbox.specs.Outboxes.{Laid, OutboxState, has_waiting, unit_of}
-use Rattle.frame_outbox.specs.Outboxes.{StandsAfter as OutboxStandsAfter}
-use Rattle.frame_outbox.specs.declared.unit.Origin.{Origin}
-use Rattle.frame_outbox.specs.declared.unit.Origin.TheVariants as origin
-use Rattle.frame_outbox.specs.declared.unit.Unit.{Unit as Frames}
-use Rattle.session_account.specs.Accounts.{AccountStandsAfter, AreTotals, Entry, more_unsent}
-use Rattle.session_account.specs.declared.totals.Totals.{Totals}
-use Rattle.slave_channel.specs.Channels.{ChannelState, GoesOnThere, ShareState}
+use Rattle.slave_outbox.specs.Outboxes.{Laid, OutboxState, has_waiting, unit_of}
+use Rattle.slave_outbox.specs.Outboxes.{StandsAfter as OutboxStandsAfter}
+use Rattle.slave_outbox.specs.declared.unit.Origin.{Origin}
+use Rattle.slave_outbox.specs.declared.unit.Origin.TheVariants as origin
+use Rattle.slave_outbox.specs.declared.unit.Unit.{Unit as Frames}
+use Rattle.slave_channels.specs.Accounts.{AccountStandsAfter, Entry, end_of, more_unsent}
+use Rattle.slave_channels.proofs.AccountLemmas.{same-unsent}
+use Rattle.slave_channels.specs.Channels.{ChannelState, GoesOnThere, ShareState}
 use Rattle.slave_channels.specs.Calls.{KeepsNoneOf}
 use Rattle.slave.specs.Hearing.{GoesBy, KeepsLines}
 use Rattle.slave_channels.specs.Calls.{rings_of}
 use Rattle.slave.proofs.KeepingLemmas.{lines-but}
 use Rattle.slave.specs.Inner.{LeavesFirst, LeavesOne, PartsGoBy, TellsAccount, TellsPart, left_deeds, left_late}
-use Rattle.slave.specs.Log.{Act, CameBack, Discarded, Heard, HungUp, Opened, Refused, Sent, Took, deeds_of, discarding, entries_of, is_late, is_of_ring, is_out, late_of, losing, opened, origins, past_of, reply_laid, sample_laid, sent_units, unsent_by, unsent_one, waits}
+use Rattle.slave.specs.Log.{Act, CameBack, Discarded, Heard, HungUp, Opened, Refused, Sent, Took, deeds_of, discarding, entries_of, has_part, is_back, is_late, is_of_ring, is_out, late_in, losing, opened, origins, past_of, reply_laid, sample_laid, sent_units, unsent_by, unsent_one, waits}
 use Rattle.slave.specs.Standing.{logged, ChannelHas, HasEnded, IsLog, IsOut, SlaveStandsAfter, SlaveState, StandsBy, number_of}
 use Rattle.slave.proofs.ChannelLemmas.{channel-same}
+use Rattle.slave.proofs.KnownLemmas.{back-end, part-at, parts-wait}
 use Rattle.slave.proofs.DeedLemmas.{deeds-and-waits-few, unsent-length}
 use Rattle.slave.proofs.OutLemmas.{opened-kept, out-kept, some-at}
 use Rattle.slave.proofs.SendingLemmas.{take-whole}
@@ -47,15 +49,6 @@ some_inj x y e = cc
 is-bool : (b : Bool) → (b ≡ true) ⊎ (b ≡ false)
 is-bool true = inl refl
 is-bool false = inr refl
-
--- an account stands by the numbers of its lists alone
-pub same-unsent : (account : List Totals) (entries : List Entry) (f g : ℕ → ℕ) → ((l : ℕ) → l < MAX_LISTS → f l ≡ g l) → AccountStandsAfter account entries f → AccountStandsAfter account entries g
-same-unsent account entries f g same stands = record {
-  entries_are = stands.entries_are;
-  lists = λ l below.
-      let (totals, at, are) = stands.lists l below in
-      (totals, at, subst (λ n. AreTotals entries n l totals) (same l below) are);
-}
 
 -- one more of some
 first-more : {X : Type 0} (xs : List X) (n : ℕ) (x : X) → slice_get xs n ≡ Some x → first (n + 1) xs ≡ first n xs ++ x ∷ []
@@ -72,17 +65,25 @@ deeds-more d log n c m x at =
     ap (λ ys. unsent_by m c ys ++ deeds_of d m c log) (first-more os n x at) ∙ ap (λ ys. ys ++ deeds_of d m c log) (unsent-more m c (first n os) x)
     ∙ append_assoc (unsent_one m c x) (unsent_by m c (first n os)) (deeds_of d m c log)
 
-late-more : (d : Profile) (log : List Act) (n l : ℕ) (x : Origin) → slice_get (origins (waits d log)) n ≡ Some x → left_late d log (n + 1) l ≡ left_late d log n l + (if is_late log l x then 1 else 0)
-late-more d log n l x at =
+late-more : (d : Profile) (log : List Act) (n m l : ℕ) (x : Origin) → slice_get (origins (waits d log)) n ≡ Some x → left_late d log (n + 1) m l ≡ left_late d log n m l + (if is_late log m l x then 1 else 0)
+late-more d log n m l x at =
     let os = origins (waits d log) in
-    let one = sum_by-append (λ o. if is_late log l o then 1 else 0) (first n os) (x ∷ []) in
-    let more = ap (count_by (is_late log l)) (first-more os n x at) in
+    let one = sum_by-append (λ o. if is_late log m l o then 1 else 0) (first n os) (x ∷ []) in
+    let more = ap (count_by (is_late log m l)) (first-more os n x at) in
     omega (arith, more, one)
 
-late-not : (d : Profile) (log : List Act) (n l : ℕ) (x : Origin) → slice_get (origins (waits d log)) n ≡ Some x → is_late log l x ≡ false → left_late d log n l ≡ left_late d log (n + 1) l
-late-not d log n l x at none =
-    let zero_more : ◌≡◌ {A = ℕ} (if is_late log l x then 1 else 0) 0 = ap (λ b. if b then 1 else 0) none in
-    omega (arith, late-more d log n l x at, zero_more)
+late-not : (d : Profile) (log : List Act) (n m l : ℕ) (x : Origin) → slice_get (origins (waits d log)) n ≡ Some x → is_late log m l x ≡ false → left_late d log n m l ≡ left_late d log (n + 1) m l
+late-not d log n m l x at none =
+    let zero_more : ◌≡◌ {A = ℕ} (if is_late log m l x then 1 else 0) 0 = ap (λ b. if b then 1 else 0) none in
+    omega (arith, late-more d log n m l x at, zero_more)
+
+and_false : (e : Bool) → (e && false) ≡ false
+and_false true = refl
+and_false false = refl
+
+and_true : (e : Bool) → (e && true) ≡ e
+and_true true = refl
+and_true false = refl
 
 -- of another ring nothing is thrown away, and of this one a sample of the list is
 one-else : (n m k c l : ℕ) → (m ≡ n → c ≡ k → ⊥) → unsent_one n k (origin.Sample m c l) ≡ []
@@ -110,47 +111,6 @@ one-runs m c (origin.Sample n k j) ds l = by (nat_eq n m && nat_eq k c) where
   by : (b : Bool) → runs_there ((if b then Unsent j ∷ [] else []) ++ ds) l ≡ runs_there ds l
   by true = refl
   by false = refl
-
--- what waits of samples is of event channels that there are
-abbrev IsThere : Profile → Origin → Type 0
-IsThere d origin.Reply = Unit {0}
-IsThere d (origin.Sample m c l) = c < length d.events.items
-
-abbrev AreThere : Profile → List Laid → Type 0
-AreThere d xs = AllByRecursion (λ (x : Laid). IsThere d x.origin) xs
-
-there-drop : (d : Profile) (n : ℕ) (xs : List Laid) → AreThere d xs → AreThere d (drop n xs)
-there-drop d zero xs are = are
-there-drop d (suc n) [] are = tt
-there-drop d (suc n) (x ∷ xs) are = there-drop d n xs are.1
-
-reply-there : (d : Profile) (reply : Option (List ℕ)) → AreThere d (reply_laid reply)
-reply-there d None = tt
-reply-there d (Some packet) = (tt, tt)
-
-sample-there : (d : Profile) (b : Bool) (m c : ℕ) (s : SampleParts) → c < length d.events.items → AreThere d (sample_laid b m c s)
-sample-there d true m c s within = (within, tt)
-sample-there d false m c s within = tt
-
-waits-there : (d : Profile) (log : List Act) → IsLog d log → AreThere d (waits d log)
-waits-there d [] is = tt
-waits-there d (Heard x ∷ log) is = all-append (λ (y : Laid). IsThere d y.origin) (waits d log) _ (waits-there d log is.2) (reply-there d (reply_in d (past_of d log) x))
-waits-there d (Refused packet code ∷ log) is = all-append (λ (y : Laid). IsThere d y.origin) (waits d log) _ (waits-there d log is.2) (tt, tt)
-waits-there d (Opened at ∷ log) is = waits-there d log is.1
-waits-there d (Took m c (Sample s) ∷ log) is =
-    all-append (λ (y : Laid). IsThere d y.origin) (waits d log) _ (waits-there d log is.2) (sample-there d (passes (deeds_of d m c log) s.list) m c s is.1.within)
-waits-there d (Took m c (Marker k) ∷ log) is = waits-there d log is.2
-waits-there d (CameBack m c past ∷ log) is = waits-there d log is.1
-waits-there d (Sent n ∷ log) is = there-drop d n (waits d log) (waits-there d log is.1)
-waits-there d (HungUp ∷ log) is = waits-there d log is
-waits-there d (Discarded ∷ log) is = tt
-
-there-at : (d : Profile) (xs : List Laid) (n : ℕ) (x : Origin) → AreThere d xs → slice_get (origins xs) n ≡ Some x → IsThere d x
-there-at d [] n x are at = absurd (none at) where
-  none : {y : Origin} → None ≡ Some y → ⊥
-  none e = cc
-there-at d (y ∷ xs) zero x are at = subst (IsThere d) (some_inj y.origin x at) are.0
-there-at d (y ∷ xs) (suc n) x are at = there-at d xs n x are.1 at
 
 -- so much was done at a ring at most, with what of it waits
 few-left : (d : Profile) (log : List Act) (n c m : ℕ) → 32 * (1 + length log) ≤ MAX_TAKEN → length (left_deeds d log n c m) < MAX_TAKEN
@@ -216,7 +176,7 @@ module _ {S T F : Type 0} (take : TakeGhosts T F) where
   left-reply d log n a b at same has =
       left-beside d log n origin.Reply a b at (same ∙ ap (λ z. record a { account = z }) (ap (λ (s : SlaveState S T). s.account) (sym same))) (λ c ch p is kept stands. stands)
       (subst (λ z. AccountStandsAfter z (entries_of d log) (left_late d log (n + 1))) (ap (λ (s : SlaveState S T). s.account) (sym same))
-      (same-unsent a.account (entries_of d log) (left_late d log n) (left_late d log (n + 1)) (λ l below. late-not d log n l origin.Reply at refl) has.account)) has
+      (same-unsent a.account (entries_of d log) (left_late d log n) (left_late d log (n + 1)) (λ q l below. late-not d log n q l origin.Reply at refl) has.account)) has
 
   -- a sample of a list that there can't be
   left-beyond : (d : Profile) (log : List Act) (n m c l : ℕ) (a b : SlaveState S T) → 32 * (1 + length log) ≤ MAX_TAKEN → slice_get (origins (waits d log)) n ≡ Some (origin.Sample m c l) → MAX_LISTS ≤ l → b ≡ a
@@ -225,16 +185,16 @@ module _ {S T F : Type 0} (take : TakeGhosts T F) where
       left-beside d log n (origin.Sample m c l) a b at (same ∙ ap (λ z. record a { account = z }) (ap (λ (s : SlaveState S T). s.account) (sym same)))
       (λ k ch p is kept stands. by k p (nat_eq m p.number && nat_eq c k) stands)
       (subst (λ z. AccountStandsAfter z (entries_of d log) (left_late d log (n + 1))) (ap (λ (s : SlaveState S T). s.account) (sym same))
-      (same-unsent a.account (entries_of d log) (left_late d log n) (left_late d log (n + 1)) (λ j below. late-not d log n j (origin.Sample m c l) at (not-of j below)) has.account)) has where
+      (same-unsent a.account (entries_of d log) (left_late d log n) (left_late d log (n + 1)) (λ q j below. late-not d log n q j (origin.Sample m c l) at (not-of q j below)) has.account)) has where
         by : (k : ℕ) (p : ShareState T) (here : Bool) → StandsAfter take p.intake (left_deeds d log n k p.number) → StandsAfter take p.intake ((if here then Unsent l ∷ [] else []) ++ left_deeds d log n k p.number)
         by k p true stands = stands-beyond take p.intake l (left_deeds d log n k p.number) beyond (few-left d log n k p.number few) stands
         by k p false stands = stands
 
-        not-of : (j : ℕ) → j < MAX_LISTS → is_late log j (origin.Sample m c l) ≡ false
-        not-of j below =
+        not-of : (q j : ℕ) → j < MAX_LISTS → is_late log q j (origin.Sample m c l) ≡ false
+        not-of q j below =
             elim (eqb_tells l j) [
               | inl w ↦ absurd (omega (arith, w.1, below, beyond))
-              | inr w ↦ ap (λ e. e && not (is_out m c log)) w.0
+              | inr w ↦ ap (λ e. nat_eq m q && (e && not (is_out m c log))) w.0 ∙ and_false (nat_eq m q)
             ]
 
   -- a part that isn't kept isn't out
@@ -250,14 +210,14 @@ module _ {S T F : Type 0} (take : TakeGhosts T F) where
       → StandsBy take (left_deeds d log n) (left_late d log n) d a log → StandsBy take (left_deeds d log (n + 1)) (left_late d log (n + 1)) d b log
   left-late-one d log n m c l a b at tells has =
       let x = origin.Sample m c l in
-      let there : c < length d.events.items = there-at d (waits d log) n x (waits-there d log has.is_log) at in
+      let (there, known, part) = part-at d log (waits d log) n x (parts-wait d log has.is_log) at in
       let (ch, here) = some-at a.channels c (omega (arith, there, has.many)) in
       let none = tells.none ch here in
       let back : is_out m c log ≡ false = not-out (λ k. is_out k c log) ch m (has.out c ch here) none.0 none.1 in
       left-beside d log n x a b at tells.rest
       (λ k other p is kept stands. part-else take d log n k m c l p (λ same also. gone k other p is kept same also) stands)
-      (same-unsent b.account (entries_of d log) (more_unsent l 1 (left_late d log n)) (left_late d log (n + 1)) (λ j below. more j back)
-      (tells.account (entries_of d log) (left_late d log n) has.account)) has where
+      (same-unsent b.account (entries_of d log) (more_unsent m l 1 (left_late d log n)) (left_late d log (n + 1)) (λ q j below. more q j back)
+      (tells.account (entries_of d log) (left_late d log n) (back-end d log m c (came-back part back)) has.account)) has where
         number : (p : ShareState T) (o : Option (ShareState T)) → o ≡ Some p → number_of o ≡ Some p.number
         number p o is = ap (λ (q : Option (ShareState T)). number_of q) is
 
@@ -269,20 +229,33 @@ module _ {S T F : Type 0} (take : TakeGhosts T F) where
               | inr w ↦ older (number p other.older w ∙ ap Some (sym same))
             ]
 
-        more : (j : ℕ) → is_out m c log ≡ false → more_unsent l 1 (left_late d log n) j ≡ left_late d log (n + 1) j
-        more j back =
-            elim (eqb_tells j l) [
-              | inl w ↦
-                  let yes_late : is_late log j (origin.Sample m c l) ≡ true = ap (λ e. nat_eq l j && not e) back ∙ and_true (nat_eq l j) ∙ elim (eqb_tells l j) [ inl v ↦ v.0 | inr v ↦ absurd (v.1 (sym w.1)) ] in
-                  let one_more : ◌≡◌ {A = ℕ} (if is_late log j (origin.Sample m c l) then 1 else 0) 1 = ap (λ e. if e then 1 else 0) yes_late in
-                  ap (λ e. if e then left_late d log n j + 1 else left_late d log n j) w.0 ∙ omega (arith, late-more d log n j (origin.Sample m c l) at, one_more)
+        came-back : has_part m c log ≡ true → is_out m c log ≡ false → is_back m c log ≡ true
+        came-back part back = is-not (is_back m c log) (sym (ap (λ e. e && not (is_back m c log)) part) ∙ back) where
+          is-not : (e : Bool) → not e ≡ false → e ≡ true
+          is-not true is = refl
+          is-not false is = sym is
+
+        of-it : (q j : ℕ) → is_out m c log ≡ false → is_late log q j (origin.Sample m c l) ≡ (nat_eq m q && nat_eq l j)
+        of-it q j back = ap (λ e. nat_eq m q && (nat_eq l j && not e)) back ∙ ap (λ e. nat_eq m q && e) (and_true (nat_eq l j))
+
+        more : (q j : ℕ) → is_out m c log ≡ false → more_unsent m l 1 (left_late d log n) q j ≡ left_late d log (n + 1) q j
+        more q j back =
+            elim (eqb_tells q m) [
+              | inl w ↦ elim (eqb_tells j l) [
+                | inl v ↦
+                    let late : is_late log q j (origin.Sample m c l) ≡ true = of-it q j back ∙ ap (λ e. e && nat_eq l j) (eq-eqb m q (sym w.1)) ∙ eq-eqb l j (sym v.1) in
+                    let one_more : ◌≡◌ {A = ℕ} (if is_late log q j (origin.Sample m c l) then 1 else 0) 1 = ap (λ e. if e then 1 else 0) late in
+                    ap (λ e. if e && nat_eq j l then left_late d log n q j + 1 else left_late d log n q j) w.0
+                    ∙ ap (λ e. if e then left_late d log n q j + 1 else left_late d log n q j) v.0 ∙ omega (arith, late-more d log n q j (origin.Sample m c l) at, one_more)
+                | inr v ↦
+                    let not_late : is_late log q j (origin.Sample m c l) ≡ false = of-it q j back ∙ ap (λ e. nat_eq m q && e) (ne_eqb l j (λ same. v.1 (sym same))) ∙ and_false (nat_eq m q) in
+                    ap (λ e. if e && nat_eq j l then left_late d log n q j + 1 else left_late d log n q j) w.0
+                    ∙ ap (λ e. if e then left_late d log n q j + 1 else left_late d log n q j) v.0 ∙ late-not d log n q j (origin.Sample m c l) at not_late
+              ]
               | inr w ↦
-                  let not_late : is_late log j (origin.Sample m c l) ≡ false = elim (eqb_tells l j) [ inl v ↦ absurd (w.1 (sym v.1)) | inr v ↦ ap (λ e. e && not (is_out m c log)) v.0 ] in
-                  ap (λ e. if e then left_late d log n j + 1 else left_late d log n j) w.0 ∙ late-not d log n j (origin.Sample m c l) at not_late
-            ] where
-              and_true : (e : Bool) → (e && true) ≡ e
-              and_true true = refl
-              and_true false = refl
+                  let not_late : is_late log q j (origin.Sample m c l) ≡ false = of-it q j back ∙ ap (λ e. e && nat_eq l j) (ne_eqb m q (λ same. w.1 (sym same))) in
+                  ap (λ e. if e && nat_eq j l then left_late d log n q j + 1 else left_late d log n q j) w.0 ∙ late-not d log n q j (origin.Sample m c l) at not_late
+            ]
 
   -- a sample of a part that is kept: the part is told
   record IsTold (x y : ChannelState S T) (m l : ℕ) : Type 0 where
@@ -334,7 +307,7 @@ module _ {S T F : Type 0} (take : TakeGhosts T F) where
       → StandsBy take (left_deeds d log n) (left_late d log n) d a log → StandsBy take (left_deeds d log (n + 1)) (left_late d log (n + 1)) d b log
   left-told d log n m c l a b few at tells has =
       let o = origin.Sample m c l in
-      let there : c < length d.events.items = there-at d (waits d log) n o (waits-there d log has.is_log) at in
+      let there : c < length d.events.items = (part-at d log (waits d log) n o (parts-wait d log has.is_log) at).0 in
       let (x, was) = some-at a.channels c (omega (arith, there, has.many)) in
       let (y, is) = some-at b.channels c (omega (arith, there, has.many, tells.channels.as_many)) in
       let changes = changes-at a b m c l x y tells was is in
@@ -364,11 +337,8 @@ module _ {S T F : Type 0} (take : TakeGhosts T F) where
         number = changes.number ∙ has.number;
         account = subst (λ z. AccountStandsAfter z (entries_of d log) (left_late d log (n + 1))) (sym (ap (λ (s : SlaveState S T). s.account) tells.rest))
             (same-unsent a.account (entries_of d log) (left_late d log n) (left_late d log (n + 1))
-            (λ j below. late-not d log n j o at (ap (λ e. nat_eq l j && not e) out ∙ and_false (nat_eq l j))) has.account);
-      } where
-        and_false : (e : Bool) → (e && false) ≡ false
-        and_false true = refl
-        and_false false = refl
+            (λ q j below. late-not d log n q j o at (ap (λ e. nat_eq m q && (nat_eq l j && not e)) out ∙ ap (λ e. nat_eq m q && e) (and_false (nat_eq l j)) ∙ and_false (nat_eq m q))) has.account);
+      }
 
   -- what is from there isn't sent
   left-one : (d : Profile) (log : List Act) (n : ℕ) (x : Origin) (a b : SlaveState S T) → 32 * (1 + length log) ≤ MAX_TAKEN → slice_get (origins (waits d log)) n ≡ Some x → LeavesOne take x a b
@@ -447,7 +417,7 @@ module _ {S T F : Type 0} (take : TakeGhosts T F) where
           many = has.many;
           plan = has.plan;
           number = has.number;
-          account = same-unsent a.account (entries_of a.session.profile log) (late_of a.session.profile log) (left_late a.session.profile log 0) (λ l below. omega arith) has.account;
+          account = same-unsent a.account (entries_of a.session.profile log) (late_in a.session.profile log) (left_late a.session.profile log 0) (λ q l below. omega arith) has.account;
         };
     ended = λ log few stands. stands.ended;
   }
@@ -487,12 +457,12 @@ module _ {S T F : Type 0} (take : TakeGhosts T F) where
 
   -- the account was told
   pub told-late : (x : Origin) (m c l k : ℕ) (a w b : SlaveState S T) → x ≡ origin.Sample m c l → w ≡ a → k ≡ l → KeepsNoneOf m c w.channels → b ≡ record w { account = b.account }
-      → ((entries : List Entry) (unsent : ℕ → ℕ) → AccountStandsAfter w.account entries unsent → AccountStandsAfter b.account entries (more_unsent k 1 unsent)) → LeavesOne take x a b
+      → ((entries : List Entry) (unsent : ℕ → ℕ → ℕ) → m < end_of entries → AccountStandsAfter w.account entries unsent → AccountStandsAfter b.account entries (more_unsent m k 1 unsent)) → LeavesOne take x a b
   told-late x m c l k a w b is same list none rest account =
       subst (λ o. LeavesOne take o a b) (sym is) (subst (λ (z : SlaveState S T). LeavesOne take (origin.Sample m c l) z b) same
       (inr (inl (record {
         none = none;
-        account = subst (λ j. (entries : List Entry) (unsent : ℕ → ℕ) → AccountStandsAfter w.account entries unsent → AccountStandsAfter b.account entries (more_unsent j 1 unsent)) list account;
+        account = subst (λ j. (entries : List Entry) (unsent : ℕ → ℕ → ℕ) → m < end_of entries → AccountStandsAfter w.account entries unsent → AccountStandsAfter b.account entries (more_unsent m j 1 unsent)) list account;
         rest = rest;
       }))))
 
@@ -524,8 +494,8 @@ module _ {S T F : Type 0} (take : TakeGhosts T F) where
             many = ap length channels ∙ has.many;
             plan = ap (λ (z : SlaveState S T). z.plan) rest ∙ has.plan;
             number = ap (λ (z : SlaveState S T). z.number) rest ∙ has.number;
-            account = subst (λ z. AccountStandsAfter z (entries_of d log) (late_of d (Discarded ∷ log))) (sym (ap (λ (z : SlaveState S T). z.account) rest))
-                (same-unsent s.account (entries_of d log) (left_late d log (length a.outbox.units)) (late_of d (Discarded ∷ log)) (λ l below. ap (λ ys. late_of d log l + count_by (is_late log l) ys) all) has.account);
+            account = subst (λ z. AccountStandsAfter z (entries_of d log) (late_in d (Discarded ∷ log))) (sym (ap (λ (z : SlaveState S T). z.account) rest))
+                (same-unsent s.account (entries_of d log) (left_late d log (length a.outbox.units)) (late_in d (Discarded ∷ log)) (λ q l below. ap (λ ys. late_in d log q l + count_by (is_late log q l) ys) all) has.account);
           };
           ended = λ none c ch at. leaves.ended log few stands none c ch (ap (λ zs. slice_get zs c) (sym channels) ∙ at);
         },

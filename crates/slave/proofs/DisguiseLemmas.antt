@@ -19,8 +19,8 @@ use Rattle.sampler.specs.Items.{sample}
 use Rattle.sampler.specs.Past.{Past as SamplerPast}
 use Rattle.daq_engine.specs.Order.{items_of}
 use Rattle.daq_engine.proofs.PidLemmas.{all-append, all-front, all-indexed, all-items, all-map_range}
-use Rattle.channel_intake.specs.Accounts.{HasPlans}
-use Rattle.channel_intake.specs.Deeds.{Deed, Started, Stopped, Took, Unsent, passed, passes, taken}
+use Rattle.slave_outbox.specs.Accounts.{HasPlans}
+use Rattle.slave_outbox.specs.Deeds.{Deed, Started, Stopped, Took, Unsent, passed, passes, taken}
 use Rattle.frame_writer.specs.Split.{Fits}
 use Rattle.session.specs.Fields.{begins_reply}
 

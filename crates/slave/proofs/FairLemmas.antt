@@ -7,13 +7,13 @@ use Rattle.std.proofs.lemmas.Bool.Decides.{eqb_tells, leb_tells}
 use Rattle.std.proofs.lemmas.Option.{slice_get_past}
 use Rattle.xcp_base.specs.declared.item.Item.{Item}
 use Rattle.channel_ring.specs.declared.ends.TakeEnd.{Ghosts as TakeGhosts}
-use Rattle.channel_intake.specs.Intakes.{OnlyLooked}
-use Rattle.channel_intake.specs.Steps.{Takes}
-use Rattle.channel_intake.specs.declared.step.Step.{Step}
-use Rattle.channel_intake.specs.declared.step.Step.TheVariants.{Full, Marked, Nothing, Skipped, Wrote}
-use Rattle.frame_outbox.specs.Outboxes.{OutboxState}
-use Rattle.frame_outbox.specs.Taking.{TakesItem}
-use Rattle.slave_channel.specs.Channels.{ShareState, TakesOf}
+use Rattle.slave_outbox.specs.Intakes.{OnlyLooked}
+use Rattle.slave_outbox.specs.Steps.{Takes}
+use Rattle.slave_outbox.specs.declared.step.Step.{Step}
+use Rattle.slave_outbox.specs.declared.step.Step.TheVariants.{Full, Marked, Nothing, Skipped, Wrote}
+use Rattle.slave_outbox.specs.Outboxes.{OutboxState}
+use Rattle.slave_outbox.specs.Taking.{TakesItem}
+use Rattle.slave_channels.specs.Channels.{ShareState, TakesOf}
 use Rattle.slave.specs.Hearing.{is_spent}
 use Rattle.slave.specs.Inner.{EndsAt, GoesRound, KeepsNewest, LooksFrom, LooksOnce}
 use Rattle.slave.specs.Standing.{SlaveState}

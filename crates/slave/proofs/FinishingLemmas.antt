@@ -4,24 +4,23 @@ use Rattle.std.specs.Prelude.{Option, Some, None, IfSome, IsNone, IsSome}
 use Rattle.std.proofs.lemmas.Bool.Decides.{eqb_tells}
 use Rattle.sampler.specs.Past.{Past as SamplerPast}
 use Rattle.session.specs.Standing.{SessionStandsAfter, SessionState}
-use Rattle.frame_outbox.specs.Outboxes.{StandsAfter as OutboxStandsAfter}
+use Rattle.slave_outbox.specs.Outboxes.{StandsAfter as OutboxStandsAfter}
 use Rattle.slave.specs.Inner.{PartsGoBy, counting}
 use Rattle.std.proofs.lemmas.Bool.{false≢true}
 use Rattle.channel_ring.specs.declared.ends.SendEnd.{Ghosts as SendGhosts}
 use Rattle.channel_ring.specs.declared.ends.RingEnd.{Ghosts as EndGhosts}
 use Rattle.channel_ring.specs.declared.ends.TakeEnd.{Ghosts as TakeGhosts}
-use Rattle.channel_intake.specs.Deeds.{Deed}
-use Rattle.channel_intake.specs.Intakes.{StandsAfter}
+use Rattle.slave_outbox.specs.Deeds.{Deed}
+use Rattle.slave_outbox.specs.Intakes.{StandsAfter}
 use Rattle.tasks.specs.Links.{is_out as is_away_out}
 use Rattle.tasks.specs.Links.{AwayState, LinkState, LooksAtNewest, is_running, runs_of, takes_orders}
-use Rattle.slave_channel.specs.Channels.{ChannelState, FinishedState, IsBackOf, IsPastOf, OpenedState, ShareState}
+use Rattle.slave_channels.specs.Channels.{ChannelState, FinishedState, IsBackOf, IsPastOf, OpenedState, ShareState}
 use Rattle.slave_channels.specs.Calls.{GivesBackNewer, GivesBackOlder}
 use Rattle.slave_channels.specs.Each.{IsOnlyAt}
 use Rattle.slave.specs.Finishing.{GivesBack, GivesBackBy, IsFinishedOf, IsOpenedThere}
-use Rattle.session_account.specs.Accounts.{AccountStandsAfter}
-use Rattle.session_account.specs.declared.totals.Totals.{Totals}
+use Rattle.slave_channels.specs.Accounts.{AccountStandsAfter, AccountState}
 use Rattle.slave.specs.Inner.{IsOver, Notes}
-use Rattle.slave.specs.Log.{Act, CameBack, deeds_of, entries_of, has_part, is_back, is_out, late_of, opened, past_of, sent_units, waits}
+use Rattle.slave.specs.Log.{Act, CameBack, deeds_of, entries_of, has_part, is_back, is_out, late_in, opened, past_of, sent_units, waits}
 use Rattle.daq_engine.specs.Openings.{IsOpeningOf}
 use Rattle.session.specs.declared.profile.Profile.{Profile}
 use Rattle.slave.specs.Openings.{IsOpenedAfter, IsOpeningAfter, past_at}
@@ -162,7 +161,7 @@ module _ {S T F : Type 0} (take : TakeGhosts T F) where
 
   -- what is left of the sampler of a part came back
   came-back : (a b : SlaveState S T) (c m : ℕ) (x y : ChannelState S T) (past : SamplerPast) → ChangesAt take a b c x y → y.link.ring ≡ x.link.ring → b.outbox ≡ a.outbox
-      → ((log : List Act) → PartsStandAfter take a.session.profile a log → AccountStandsAfter b.account (record { past = past; deeds = deeds_of a.session.profile m c log } ∷ entries_of a.session.profile log) (late_of a.session.profile log)
+      → ((log : List Act) → PartsStandAfter take a.session.profile a log → AccountStandsAfter b.account (record { number = m; past = past; deeds = deeds_of a.session.profile m c log } ∷ entries_of a.session.profile log) (late_in a.session.profile log)
       × ComesBack a.session.profile log m c past
       × ChannelHas take (opened log) (λ q. deeds_of a.session.profile q c log) y × IsOut (λ q. is_out q c (CameBack m c past ∷ log)) y
       × IsAsLogged a.session.profile (logged a.session.profile (CameBack m c past ∷ log)) c y)
@@ -203,11 +202,11 @@ module _ {E T F : Type 0} {ring : EndGhosts E} (take : TakeGhosts T F) where
 
 module _ {S E T F : Type 0} (send : SendGhosts S E) (ring : EndGhosts E) (take : TakeGhosts T F) where
   -- what the account gained
-  note-none : (a b : List Totals) (answer : Option (FinishedState E T)) → Notes ring take a b answer → IsNone answer → b ≡ a
+  note-none : (a b : AccountState) (answer : Option (FinishedState E T)) → Notes ring take a b answer → IsNone answer → b ≡ a
   note-none a b None notes nothing = notes
   note-none a b (Some f) notes nothing = absurd (false≢true (sym nothing))
 
-  note-some : (a b : List Totals) (answer : Option (FinishedState E T)) (f : FinishedState E T) → Notes ring take a b answer → answer ≡ Some f → Notes ring take a b (Some f)
+  note-some : (a b : AccountState) (answer : Option (FinishedState E T)) (f : FinishedState E T) → Notes ring take a b answer → answer ≡ Some f → Notes ring take a b (Some f)
   note-some a b answer f notes at = subst (λ z. Notes ring take a b z) at notes
 
   -- what came back is of a part that was kept
@@ -248,7 +247,7 @@ module _ {S E T F : Type 0} (send : SendGhosts S E) (ring : EndGhosts E) (take :
   newer-off x y None gives off = looks-off x.link.newer y.link.newer (gives.none refl).1.looked off
   newer-off x y (Some f) gives off = ap takes_orders (gives.some refl).0
 
-  pub gives-older : (v w : SlaveState S T) (xs : List (ChannelState S T)) (account : List Totals) (c : ℕ) (answer : Option (FinishedState E T)) → w ≡ v → Notes ring take w.account account answer → c < length w.channels
+  pub gives-older : (v w : SlaveState S T) (xs : List (ChannelState S T)) (account : AccountState) (c : ℕ) (answer : Option (FinishedState E T)) → w ≡ v → Notes ring take w.account account answer → c < length w.channels
       → IsOnlyAt (GivesBackOlder send ring take answer) c w.channels xs → GivesBackBy take (PartsGoBy take) ring v (record w { channels = xs; account = account }) c answer
   gives-older v w xs account c answer same notes below only =
       let (x, was) = some-at w.channels c below in
@@ -288,7 +287,7 @@ module _ {S E T F : Type 0} (send : SendGhosts S E) (ring : EndGhosts E) (take :
             let part = has.older s there in
             let out = stands.has.out c x was in
             let of_part : number_of x.older ≡ Some f.number = ap (λ (o : Option (ShareState T)). number_of o) there ∙ ap Some (sym number) in (
-              note-some w.account account answer f notes at (record { past = past; deeds = deeds_of d f.number c log }) is_past (intake f at log stands) (entries_of d log) (late_of d log) stands.has.account,
+              note-some w.account account answer f notes at (record { number = f.number; past = past; deeds = deeds_of d f.number c log }) refl (omega (arith, part.0.there, number, few-opened log, stands.has.few)) is_past (intake f at log stands) (entries_of d log) (late_in d log) stands.has.account,
               record {
                 there = omega (arith, part.0.there, number);
                 once = out-back f.number c log (out.older f.number of_part);
@@ -330,7 +329,7 @@ module _ {S E T F : Type 0} (send : SendGhosts S E) (ring : EndGhosts E) (take :
         is-off true never = absurd (never refl)
         is-off false never = refl
 
-  pub gives-newer : (v w : SlaveState S T) (xs : List (ChannelState S T)) (account : List Totals) (c : ℕ) (answer : Option (FinishedState E T)) → w ≡ v → Notes ring take w.account account answer → IsOver w c → c < length w.channels
+  pub gives-newer : (v w : SlaveState S T) (xs : List (ChannelState S T)) (account : AccountState) (c : ℕ) (answer : Option (FinishedState E T)) → w ≡ v → Notes ring take w.account account answer → IsOver w c → c < length w.channels
       → IsOnlyAt (GivesBackNewer send ring take answer) c w.channels xs → GivesBackBy take (PartsGoBy take) ring v (record w { channels = xs; account = account }) c answer
   gives-newer v w xs account c answer same notes over below only =
       let (x, was) = some-at w.channels c below in
@@ -372,7 +371,7 @@ module _ {S E T F : Type 0} (send : SendGhosts S E) (ring : EndGhosts E) (take :
             let out = stands.has.out c x was in
             let off = ended log stands in
             let of_part : number_of x.newer ≡ Some f.number = ap (λ (o : Option (ShareState T)). number_of o) there ∙ ap Some (sym number) in (
-              note-some w.account account answer f notes at (record { past = past; deeds = deeds_of d f.number c log }) is_past (intake f at log stands) (entries_of d log) (late_of d log) stands.has.account,
+              note-some w.account account answer f notes at (record { number = f.number; past = past; deeds = deeds_of d f.number c log }) refl (omega (arith, part.there, number, few-opened log, stands.has.few)) is_past (intake f at log stands) (entries_of d log) (late_in d log) stands.has.account,
               record {
                 there = omega (arith, part.there, number);
                 once = out-back f.number c log (out.newer f.number of_part);

@@ -9,18 +9,18 @@ use mathlib.Core.List.{IsPrefix}
 use Rattle.channel_ring.specs.declared.ends.SendEnd.{Ghosts as SendGhosts}
 use Rattle.channel_ring.specs.declared.ends.RingEnd.{Ghosts as EndGhosts}
 use Rattle.channel_ring.specs.declared.ends.TakeEnd.{Ghosts as TakeGhosts}
-use Rattle.list_set.specs.Counts.{one_if}
+use Rattle.xcp_base.specs.Counts.{one_if}
 use Rattle.tasks.specs.Links.{AwayState, LinkState, LooksAtNewest, NoneIsBack, NothingCame, is_out, is_running, takes_orders}
 use Rattle.tasks.specs.Tasks.{TaskEndState}
 use Rattle.tasks.specs.Ways.{LeftState}
-use Rattle.slave_channel.specs.Channels.{ChannelState, FinishedState, IsBackOf, ShareState}
+use Rattle.slave_channels.specs.Channels.{ChannelState, FinishedState, IsBackOf, ShareState}
 use Rattle.channel_ring.specs.Ends.{RingName}
 use Rattle.slave.specs.Closing.{AreEndsOf}
 use Rattle.slave_channels.specs.Calls.{GivesBackNewer, GivesBackOlder, IsBeside, IsRingAt, rings_of}
 use Rattle.slave_channels.specs.Each.{IsOnlyAt}
 use Rattle.slave.specs.Inner.{Busy, Collects, Gathers, GathersFirst, Grows, Rests, TakesAll, TakesOne, kept_of}
 use Rattle.slave.specs.Returns.{ends_in}
-use Rattle.channel_intake.specs.Deeds.{Deed}
+use Rattle.slave_outbox.specs.Deeds.{Deed}
 use Rattle.slave.specs.Standing.{ChannelHas, SlaveState, number_of}
 use Rattle.slave.proofs.OutLemmas.{opened_of, some-at, was-there}
 use Rattle.slave.proofs.TakingLemmas.{ChangesAt, took-none}

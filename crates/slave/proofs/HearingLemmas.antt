@@ -10,13 +10,13 @@ use Rattle.session.specs.Past.{Past}
 use Rattle.session.specs.Standing.{SessionStandsAfter, SessionState}
 use Rattle.session.specs.Exchanges.{Exchange}
 use Rattle.session.specs.Starts.{is_on, starts}
-use Rattle.slave_channel.specs.Channels.{ChannelState}
+use Rattle.slave_channels.specs.Channels.{ChannelState}
 use Rattle.slave_channels.specs.Calls.{rings_of}
 use Rattle.slave.specs.Hearing.{FindsNoPlaces, GoesBy, Hears, most_before, HasNoRoom, IsIdleRefusal}
 use Rattle.session.specs.declared.profile.Profile.{Profile}
 use Rattle.slave.specs.Inner.{Answers, PartsGoBy, counting, AreAsOpened, HasOther, HasParts, IsOfOne, LaysReply, Prepares, SlaveStarted, StartsInVain, WantsPlaces}
-use Rattle.session_account.specs.Accounts.{AccountStandsAfter}
-use Rattle.slave.specs.Log.{Act, Heard, Refused, entries_of, late_of, past_of, sent_units, waits}
+use Rattle.slave_channels.specs.Accounts.{AccountStandsAfter}
+use Rattle.slave.specs.Log.{Act, Heard, Refused, entries_of, late_in, past_of, sent_units, waits}
 use Rattle.slave.specs.Standing.{PartsStandAfter, SlaveState, StartsOther, StartsWell}
 use Rattle.slave.proofs.AnsweringLemmas.{reply-laid}
 use Rattle.slave.proofs.StartLemmas.{starts-list}
@@ -176,7 +176,7 @@ module _ {S T F : Type 0} (take : TakeGhosts T F) where
                   as_logged = λ c ch at. has.as_logged c ch (ap (λ xs. slice_get xs c) (sym channels) ∙ at);
                   many = ap length channels ∙ has.many;
                   plan = ap (λ (s : SlaveState S T). s.plan) rest ∙ has.plan;
-                  account = subst (λ x. AccountStandsAfter x (entries_of d before) (late_of d before)) (sym (ap (λ (s : SlaveState S T). s.account) rest)) has.account;
+                  account = subst (λ x. AccountStandsAfter x (entries_of d before) (late_in d before)) (sym (ap (λ (s : SlaveState S T). s.account) rest)) has.account;
                   number = ap (λ (s : SlaveState S T). s.number) rest ∙ has.number;
                 };
                 ended = λ none c ch at. was.ended none c ch (ap (λ xs. slice_get xs c) (sym channels) ∙ at);

@@ -2,7 +2,7 @@
 use Rattle.std.proofs.Common.{◌≡◌, ◌≢◌, ℕ, suc, List, [], ◌∷◌, length, refl, sym, ap, ◌∙◌, arith, inl, inr}
 use Rattle.std.specs.Prelude.{slice_get, Option, Some}
 use Rattle.std.proofs.lemmas.Bool.Decides.{eqb_tells}
-use Rattle.slave_channel.specs.Channels.{ChannelState}
+use Rattle.slave_channels.specs.Channels.{ChannelState}
 use Rattle.slave_channels.specs.Calls.{rings_of}
 use Rattle.slave_channels.specs.Each.{IsEach}
 

@@ -1,5 +1,8 @@
 -- Once all parts came back, all that was laid out is known.
-use Rattle.std.proofs.Common.{◌≡◌, ℕ, ◌<◌, Bool, true, false, if◌then◌else◌, List, [], ◌∷◌, length, ap, ◌∙◌, arith}
+use Rattle.std.proofs.Common.{◌≡◌, ℕ, zero, suc, ◌+◌, ◌<◌, Bool, true, false, ◌&&◌, ◌||◌, nat_eq, if◌then◌else◌, List, [], ◌∷◌, drop, length, slice_get, sym, ap, ◌∙◌, subst, arith, inl, inr}
+use Rattle.std.proofs.lemmas.Bool.{false≢true}
+use Rattle.std.proofs.lemmas.Bool.Decides.{eqb_tells}
+use Rattle.slave_channels.specs.Accounts.{end_of}
 use Rattle.std.specs.Prelude.{Option, Some, None}
 use Rattle.std.specs.List.{AllByRecursion}
 use Rattle.std.proofs.lemmas.List.Elements.{All-from_recursion}
@@ -8,11 +11,11 @@ use Rattle.xcp_base.specs.declared.item.Item.TheVariants.{Marker, Sample}
 use Rattle.session.specs.Exchanges.{reply_in}
 use Rattle.session.specs.declared.profile.Profile.{Profile}
 use Rattle.daq_engine.proofs.PidLemmas.{all-append, all-mono}
-use Rattle.channel_intake.specs.Deeds.{passes}
-use Rattle.frame_outbox.specs.Outboxes.{Laid}
-use Rattle.frame_outbox.specs.declared.unit.Origin.{Origin}
-use Rattle.frame_outbox.specs.declared.unit.Origin.TheVariants as origin
-use Rattle.slave.specs.Log.{AllBack, Act, CameBack, Discarded, Heard, HungUp, Opened, Refused, Sent, Took, deeds_of, has_part, laid, laid_by, opened, past_of, reply_laid, sample_laid, sent_units}
+use Rattle.slave_outbox.specs.Deeds.{passes}
+use Rattle.slave_outbox.specs.Outboxes.{Laid}
+use Rattle.slave_outbox.specs.declared.unit.Origin.{Origin}
+use Rattle.slave_outbox.specs.declared.unit.Origin.TheVariants as origin
+use Rattle.slave.specs.Log.{AllBack, Act, CameBack, Discarded, Heard, HungUp, Opened, Refused, Sent, Took, deeds_of, entries_of, has_part, is_back, laid, laid_by, opened, origins, past_of, reply_laid, sample_laid, sent_units, waits}
 use Rattle.slave.specs.Session.{AreKnown, IsKnown}
 use Rattle.slave.specs.Standing.{IsLog}
 use Rattle.slave.proofs.DeedLemmas.{opened-more, out-part}
@@ -20,7 +23,7 @@ use Rattle.slave.proofs.LaidLemmas.{all-parts}
 use Rattle.slave.proofs.RunLemmas.{apart}
 
 -- what is from a ring is from that of a part
-abbrev IsOfPart : Profile → List Act → Origin → Type 0
+abbrev pub IsOfPart : Profile → List Act → Origin → Type 0
 IsOfPart d log origin.Reply = Unit {0}
 IsOfPart d log (origin.Sample m c l) = (c < length d.events.items) × (m < opened log) × (has_part m c log ≡ true)
 
@@ -76,6 +79,54 @@ parts-laid d (act ∷ log) is =
     all-append (OfPart d (act ∷ log)) (laid d log) (laid_by d act log)
     (all-mono (OfPart d log) (OfPart d (act ∷ log)) (laid d log) (λ x. part-stays d act log x.origin) (parts-laid d log (log-before d act log is)))
     (by-part d act log is)
+
+parts-dropped : (d : Profile) (log : List Act) (n : ℕ) (xs : List Laid) → AllByRecursion (OfPart d log) xs → AllByRecursion (OfPart d log) (drop n xs)
+parts-dropped d log zero xs are = are
+parts-dropped d log (suc n) [] are = tt
+parts-dropped d log (suc n) (x ∷ xs) are = parts-dropped d log n xs are.1
+
+-- and so is what waits
+pub parts-wait : (d : Profile) (log : List Act) → IsLog d log → AllByRecursion (λ (x : Laid). IsOfPart d log x.origin) (waits d log)
+parts-wait d [] is = tt
+parts-wait d (act ∷ log) is = by act is (all-mono (OfPart d log) (OfPart d (act ∷ log)) (waits d log) (λ x. part-stays d act log x.origin) (parts-wait d log (log-before d act log is))) where
+  by : (act : Act) → IsLog d (act ∷ log) → AllByRecursion (OfPart d (act ∷ log)) (waits d log) → AllByRecursion (OfPart d (act ∷ log)) (waits d (act ∷ log))
+  by (Heard x) is before = all-append (OfPart d (Heard x ∷ log)) (waits d log) _ before (by-part d (Heard x) log is)
+  by (Refused packet code) is before = all-append (OfPart d (Refused packet code ∷ log)) (waits d log) _ before (by-part d (Refused packet code) log is)
+  by (Opened at) is before = before
+  by (Took m c (Sample s)) is before = all-append (OfPart d (Took m c (Sample s) ∷ log)) (waits d log) _ before (by-part d (Took m c (Sample s)) log is)
+  by (Took m c (Marker k)) is before = before
+  by (CameBack m c past) is before = before
+  by (Sent n) is before = parts-dropped d (Sent n ∷ log) n (waits d log) before
+  by HungUp is before = before
+  by Discarded is before = tt
+
+-- so the one at a place is
+pub part-at : (d : Profile) (log : List Act) (xs : List Laid) (n : ℕ) (x : Origin) → AllByRecursion (λ (y : Laid). IsOfPart d log y.origin) xs → slice_get (origins xs) n ≡ Some x → IsOfPart d log x
+part-at d log [] n x are at = absurd (none at) where
+  none : {y : Origin} → None ≡ Some y → ⊥
+  none e = cc
+part-at d log (y ∷ xs) zero x are at = subst (IsOfPart d log) (some-inj y.origin x at) are.0 where
+  some-inj : (u v : Origin) → Some u ≡ Some v → u ≡ v
+  some-inj u v e = cc
+part-at d log (y ∷ xs) (suc n) x are at = part-at d log xs n x are.1 at
+
+-- what came back is among the entries
+pub back-end : (d : Profile) (log : List Act) (m c : ℕ) → is_back m c log ≡ true → m < end_of (entries_of d log)
+back-end d [] m c back = absurd (false≢true back)
+back-end d (Heard x ∷ log) m c back = back-end d log m c back
+back-end d (Refused packet code ∷ log) m c back = back-end d log m c back
+back-end d (Opened at ∷ log) m c back = back-end d log m c back
+back-end d (Took n k x ∷ log) m c back = back-end d log m c back
+back-end d (CameBack n k past ∷ log) m c back =
+    elim (eqb_tells n m) [
+      | inl w ↦ omega (arith, w.1)
+      | inr w ↦
+          let before = back-end d log m c (sym (ap (λ b. (b && nat_eq k c) || is_back m c log) w.0) ∙ back) in
+          omega (arith, before)
+    ]
+back-end d (Sent n ∷ log) m c back = back-end d log m c back
+back-end d (HungUp ∷ log) m c back = back-end d log m c back
+back-end d (Discarded ∷ log) m c back = back-end d log m c back
 
 part-known : (d : Profile) (log : List Act) → AllBack d log → (o : Origin) → IsOfPart d log o → IsKnown log o
 part-known d log back origin.Reply is = tt

@@ -16,14 +16,14 @@ use Rattle.session.specs.Exchanges.{reply_in}
 use Rattle.session.specs.Fields.{packet_of}
 use Rattle.session.specs.declared.profile.Profile.{Profile}
 use Rattle.daq_engine.proofs.PidLemmas.{all-append, all-front}
-use Rattle.channel_intake.specs.Deeds.{Deed, Started, Stopped, Unsent, is_unsent_of, passed, passes, unsent_of}
-use Rattle.channel_intake.specs.Deeds.{Took as TookItem}
-use Rattle.channel_intake.specs.Deeds.{runs as runs_there}
-use Rattle.frame_outbox.specs.Outboxes.{Laid, packets_in}
-use Rattle.frame_outbox.specs.Units.{is_reply}
-use Rattle.frame_outbox.specs.declared.unit.Origin.{Origin}
-use Rattle.frame_outbox.specs.declared.unit.Origin.TheVariants as origin
-use Rattle.slave_channel.specs.Ordering.{one_if, starts_noted, stops_noted}
+use Rattle.slave_outbox.specs.Deeds.{Deed, Started, Stopped, Unsent, is_unsent_of, passed, passes, unsent_of}
+use Rattle.slave_outbox.specs.Deeds.{Took as TookItem}
+use Rattle.slave_outbox.specs.Deeds.{runs as runs_there}
+use Rattle.slave_outbox.specs.Outboxes.{Laid, packets_in}
+use Rattle.slave_outbox.specs.Units.{is_reply}
+use Rattle.slave_outbox.specs.declared.unit.Origin.{Origin}
+use Rattle.slave_outbox.specs.declared.unit.Origin.TheVariants as origin
+use Rattle.slave_channels.specs.Ordering.{one_if, starts_noted, stops_noted}
 use Rattle.slave.specs.Log.{Act, CameBack, Discarded, Heard, HungUp, Opened, Refused, Sent, Took, deeds_of, is_back, is_newest, is_of_ring, is_out, is_sample_of, laid, laid_by, ordered_by, origins, past_of, reply_laid, sample_laid, sent_units, starts_on, stops_at, thrown, unsent_by, unsent_one, waits, with_starts}
 use Rattle.slave.specs.Session.{IsAnswered, IsSince, NoneThrows, answers_in, from_ring, replies_by, replies_of, sample_of}
 use Rattle.slave.specs.Standing.{IsLog}

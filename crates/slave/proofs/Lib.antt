@@ -42,3 +42,4 @@ pub mod TurnLemmas
 pub mod RoundLemmas
 pub mod WaitsLemmas
 pub mod DiscardingLemmas
+pub mod ReceivingLemmas

@@ -5,9 +5,9 @@ use Rattle.std.proofs.lemmas.Bool.Decides.{eqb_tells}
 use Rattle.xcp_base.specs.declared.limits.TheConstants.{MAX_LISTS}
 use Rattle.session.specs.Starts.{is_on, runs}
 use Rattle.session.specs.declared.profile.Profile.{Profile}
-use Rattle.channel_intake.specs.Deeds.{Deed, passes}
-use Rattle.channel_intake.specs.Deeds.{Took as TookItem}
-use Rattle.channel_intake.specs.Deeds.{runs as runs_there}
+use Rattle.slave_outbox.specs.Deeds.{Deed, passes}
+use Rattle.slave_outbox.specs.Deeds.{Took as TookItem}
+use Rattle.slave_outbox.specs.Deeds.{runs as runs_there}
 use Rattle.slave.specs.Log.{Act, CameBack, Discarded, Heard, HungUp, Opened, Refused, Sent, Took, deeds_of, is_newest, opened, ordered_by, origins, past_of, starts_at, starts_on, stops_at, waits, with_starts}
 use Rattle.slave.specs.Laws.{NothingOutsideARun}
 use Rattle.slave.specs.Standing.{IsLog}

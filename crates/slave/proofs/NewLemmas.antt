@@ -9,16 +9,15 @@ use Rattle.daq_store.specs.Configuration.{Configuration}
 use Rattle.session.specs.Past.{new_past}
 use Rattle.session.specs.Standing.{SessionStandsAfter, SessionState}
 use Rattle.session.specs.declared.profile.Profile.{Profile}
-use Rattle.frame_outbox.specs.Outboxes.{OutboxState}
-use Rattle.frame_outbox.specs.Outboxes.{StandsAfter as OutboxStandsAfter}
+use Rattle.slave_outbox.specs.Outboxes.{OutboxState}
+use Rattle.slave_outbox.specs.Outboxes.{StandsAfter as OutboxStandsAfter}
 use Rattle.tasks.specs.Links.{takes_orders}
-use Rattle.slave_channel.specs.Channels.{ChannelState, no_measurement}
+use Rattle.slave_channels.specs.Channels.{ChannelState, no_measurement}
 use Rattle.slave_channels.specs.Calls.{AreNew, rings_of}
 use Rattle.slave_channels.proofs.NewLemmas.{at-map}
 use Rattle.tasks.specs.Tasks.{TaskState, just_begun}
 use Rattle.slave.specs.Log.{deeds_of}
-use Rattle.session_account.specs.Accounts.{AccountStandsAfter}
-use Rattle.session_account.specs.declared.totals.Totals.{Totals}
+use Rattle.slave_channels.specs.Accounts.{AccountStandsAfter, AccountState}
 use Rattle.slave.specs.Standing.{logged, ChannelHas, IsOut, PartsStandAfter, SlaveStandsAfter, IsAsLogged}
 
 none_some : {X : Type 0} (x : X) → None ≡ Some x → ⊥
@@ -53,7 +52,7 @@ module _ {S T F : Type 0} (take : TakeGhosts T F) where
   nothing-opened d c ring = record { newer = λ p at. absurd (none_some p at); older = λ p at. absurd (none_some p at); came = refl }
 
   -- it stands after nothing
-  pub new-stands : (d : Profile) (s : SessionState) (o : OutboxState) (channels : List (ChannelState S T)) (tasks : List (TaskState S)) (plan : List Configuration) (account : List Totals) (n : ℕ) → AccountStandsAfter account [] (λ l. 0) → plan ≡ [] → s.profile ≡ d → SessionStandsAfter s new_past → OutboxStandsAfter o [] []
+  pub new-stands : (d : Profile) (s : SessionState) (o : OutboxState) (channels : List (ChannelState S T)) (tasks : List (TaskState S)) (plan : List Configuration) (account : AccountState) (n : ℕ) → AccountStandsAfter account [] (λ m l. 0) → plan ≡ [] → s.profile ≡ d → SessionStandsAfter s new_past → OutboxStandsAfter o [] []
       → AreNew n channels tasks → n ≡ length d.events.items
       → SlaveStandsAfter take d (record { session = s; outbox = o; channels = channels; plan = plan; number = 0; account = account; acts = 0; next = 0 }) []
   new-stands d s o channels tasks plan account n fresh none profile session outbox new many =

@@ -4,10 +4,10 @@ use Rattle.std.specs.Prelude.{Option, Some, None}
 use Rattle.std.proofs.lemmas.Bool.Decides.{eqb_tells, leb_tells}
 use Rattle.std.proofs.lemmas.Option.{slice_get_past}
 use Rattle.channel_ring.specs.declared.ends.TakeEnd.{Ghosts as TakeGhosts}
-use Rattle.channel_intake.specs.declared.step.Step.{Step}
-use Rattle.channel_intake.specs.declared.step.Step.TheVariants.{Full, Nothing}
-use Rattle.frame_outbox.specs.Outboxes.{OutboxState}
-use Rattle.slave_channel.specs.Channels.{ChannelState, ShareState, TakesOf}
+use Rattle.slave_outbox.specs.declared.step.Step.{Step}
+use Rattle.slave_outbox.specs.declared.step.Step.TheVariants.{Full, Nothing}
+use Rattle.slave_outbox.specs.Outboxes.{OutboxState}
+use Rattle.slave_channels.specs.Channels.{ChannelState, ShareState, TakesOf}
 use Rattle.slave_channels.specs.Calls.{TakesFromNewer, TakesFromOlder}
 use Rattle.slave_channels.specs.Each.{IsOnlyAt}
 use Rattle.slave.specs.Hearing.{is_spent}

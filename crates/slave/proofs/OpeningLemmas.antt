@@ -6,9 +6,9 @@ use Rattle.xcp_base.specs.declared.limits.TheConstants.{MAX_LISTS}
 use Rattle.channel_ring.specs.declared.ends.SendEnd.{Ghosts as SendGhosts}
 use Rattle.channel_ring.specs.declared.ends.RingEnd.{Ghosts as EndGhosts}
 use Rattle.channel_ring.specs.declared.ends.TakeEnd.{Ghosts as TakeGhosts}
-use Rattle.channel_intake.specs.Deeds.{Deed}
-use Rattle.channel_intake.specs.Deeds.{runs as runs_there}
-use Rattle.channel_intake.specs.Intakes.{StandsAfter}
+use Rattle.slave_outbox.specs.Deeds.{Deed}
+use Rattle.slave_outbox.specs.Deeds.{runs as runs_there}
+use Rattle.slave_outbox.specs.Intakes.{StandsAfter}
 use Rattle.daq_store.specs.Standing.{StoreState, shows_running}
 use Rattle.sampler.specs.History.{Opening, is_list_of, runs_after}
 use Rattle.sampler.specs.Past.{first_past}
@@ -17,7 +17,7 @@ use Rattle.sampler.proofs.Readers.{sampler-runs}
 use Rattle.daq_engine.specs.Opened.{IsOpenedAt}
 use Rattle.tasks.specs.Links.{LinkState, is_running, takes_orders}
 use Rattle.hand_over.specs.Newest.{one_before}
-use Rattle.slave_channel.specs.Channels.{ChannelState, Opens, ShareState}
+use Rattle.slave_channels.specs.Channels.{ChannelState, Opens, ShareState}
 use Rattle.slave_channels.specs.Calls.{Ends, OpensIfAny}
 use Rattle.session.specs.declared.profile.Profile.{Profile}
 use Rattle.slave.specs.Openings.{IsOpenedAfter}

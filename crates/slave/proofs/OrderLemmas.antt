@@ -2,10 +2,10 @@
 use Rattle.std.proofs.Common.{◌≡◌, ◌≢◌, ℕ, zero, suc, ◌<◌, Bool, true, false, ◌&&◌, ◌||◌, not, [], ◌++◌, refl, ap, ◌∙◌, arith, inl, inr}
 use Rattle.std.proofs.lemmas.Bool.Decides.{eqb_tells}
 use Rattle.xcp_base.specs.declared.limits.TheConstants.{MAX_LISTS}
-use Rattle.channel_intake.specs.Deeds.{Started, Stopped}
+use Rattle.slave_outbox.specs.Deeds.{Started, Stopped}
 use Rattle.tasks.specs.Links.{runs_by}
-use Rattle.control_ring.specs.declared.order.Order.TheVariants.{Start, Stop}
-use Rattle.slave_channel.specs.Ordering.{one_if, starts_noted, starts_sent, stops_noted, stops_sent}
+use Rattle.channel_ring.specs.declared.order.Order.TheVariants.{Start, Stop}
+use Rattle.slave_channels.specs.Ordering.{one_if, starts_noted, starts_sent, stops_noted, stops_sent}
 use Rattle.slave.proofs.ChannelLemmas.{Sets, runs_by-all}
 use Rattle.slave.proofs.RunLemmas.{apart, here, runs-not-started, runs-not-stopped, runs-started, runs-stopped}
 

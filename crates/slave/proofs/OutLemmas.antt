@@ -6,12 +6,12 @@ use Rattle.std.proofs.lemmas.Option.{slice_get-get_or, slice_get_within}
 use Rattle.channel_ring.specs.declared.ends.SendEnd.{Ghosts as SendGhosts}
 use Rattle.channel_ring.specs.declared.ends.RingEnd.{Ghosts as EndGhosts}
 use Rattle.channel_ring.specs.declared.ends.TakeEnd.{Ghosts as TakeGhosts}
-use Rattle.channel_intake.specs.Deeds.{Deed}
+use Rattle.slave_outbox.specs.Deeds.{Deed}
 use Rattle.daq_store.specs.Standing.{StoreState}
-use Rattle.control_ring.specs.declared.order.Order.{Order}
+use Rattle.channel_ring.specs.declared.order.Order.{Order}
 use Rattle.hand_over.specs.Newest.{one_before}
-use Rattle.slave_channel.specs.Channels.{ChannelState, OpenedState, Opens, ShareState}
-use Rattle.slave_channel.specs.Ordering.{GoesOnBy, OrdersAll}
+use Rattle.slave_channels.specs.Channels.{ChannelState, OpenedState, Opens, ShareState}
+use Rattle.slave_channels.specs.Ordering.{GoesOnBy, OrdersAll}
 use Rattle.slave_channels.specs.Calls.{Ends, Looks, OpensIfAny}
 use Rattle.slave_channels.specs.Each.{IsEach}
 use Rattle.session.specs.declared.profile.Profile.{Profile}

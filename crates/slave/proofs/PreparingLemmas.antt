@@ -13,7 +13,7 @@ use Rattle.daq_store.specs.Configuration.{Configuration}
 use Rattle.daq_store.specs.Standing.{StoreState}
 use Rattle.session.specs.Standing.{SessionStandsAfter, SessionState}
 use Rattle.session.specs.declared.profile.Profile.{Profile}
-use Rattle.slave_channel.specs.Channels.{ChannelState, keeps_two}
+use Rattle.slave_channels.specs.Channels.{ChannelState, keeps_two}
 use Rattle.slave_channels.specs.Calls.{CanStartAll, HasSome, Looks, OpensAt, OpenedAndEnded, StartsAt}
 use Rattle.slave_channels.specs.Each.{IsEach}
 use Rattle.slave_channels.specs.Calls.{rings_of}
@@ -32,7 +32,7 @@ use Rattle.slave.proofs.DeedLemmas.{opened-more}
 use Rattle.session.specs.Past.{Past}
 use Rattle.session.specs.Starts.{is_on, shows_on}
 use Rattle.sampler.specs.State.{SamplerState}
-use Rattle.control_ring.specs.Orders.{TakeState}
+use Rattle.channel_ring.specs.Orders.{TakeState}
 use Rattle.tasks.specs.Links.{AwayState, CanStart, just_out, runs_of}
 use Rattle.tasks.proofs.NeedLemmas.{how_many-le}
 use Rattle.slave_channels.proofs.CallLemmas.{looks-same}

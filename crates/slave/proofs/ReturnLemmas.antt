@@ -13,7 +13,7 @@ use Rattle.sampler.specs.Past.{Past, first_past}
 use Rattle.sampler.specs.Standing.{EndStandsAfter}
 use Rattle.sampler.specs.State.{JoinedEnd, SamplerEndState, joined}
 use Rattle.sampler.specs.Tracks.{counts_of}
-use Rattle.slave_channel.specs.Channels.{FinishedState, IsBack, IsBackOf, IsPastOf, ShareState}
+use Rattle.slave_channels.specs.Channels.{FinishedState, IsBack, IsBackOf, IsPastOf, ShareState}
 use Rattle.tasks.specs.Links.{AwayState, LinkState, NoneIsBack}
 use Rattle.tasks.specs.Ways.{LeftState, SeenEnd, seen_of}
 use Rattle.slave.specs.Log.{Act, CameBack}

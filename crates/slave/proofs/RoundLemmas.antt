@@ -7,14 +7,14 @@ use Rattle.std.proofs.lemmas.Bool.Decides.{eqb_tells, leb_tells}
 use Rattle.xcp_base.specs.Samples.{SampleParts}
 use Rattle.xcp_base.specs.declared.item.Item.TheVariants.{Sample}
 use Rattle.channel_ring.specs.declared.ends.TakeEnd.{Ghosts as TakeGhosts}
-use Rattle.channel_intake.specs.Deeds.{Deed}
-use Rattle.channel_intake.specs.Intakes.{IntakeState, OnlyLooked, StandsAfter}
-use Rattle.channel_intake.specs.Steps.{Passes}
-use Rattle.channel_intake.specs.declared.step.Step.{Step}
-use Rattle.channel_intake.specs.declared.step.Step.TheVariants.{Full, Marked, Nothing, Skipped, Wrote}
-use Rattle.frame_outbox.specs.Outboxes.{OutboxState}
-use Rattle.frame_outbox.specs.Taking.{HasNoRoom, TakesItem}
-use Rattle.slave_channel.specs.Channels.{ChannelState, ShareState, TakesOf}
+use Rattle.slave_outbox.specs.Deeds.{Deed}
+use Rattle.slave_outbox.specs.Intakes.{IntakeState, OnlyLooked, StandsAfter}
+use Rattle.slave_outbox.specs.Steps.{Passes}
+use Rattle.slave_outbox.specs.declared.step.Step.{Step}
+use Rattle.slave_outbox.specs.declared.step.Step.TheVariants.{Full, Marked, Nothing, Skipped, Wrote}
+use Rattle.slave_outbox.specs.Outboxes.{OutboxState}
+use Rattle.slave_outbox.specs.Taking.{HasNoRoom, TakesItem}
+use Rattle.slave_channels.specs.Channels.{ChannelState, ShareState, TakesOf}
 use Rattle.slave_channels.specs.Calls.{TakesFromNewer, TakesFromOlder}
 use Rattle.slave_channels.specs.Each.{IsOnlyAt}
 use Rattle.slave.specs.Hearing.{is_spent}

@@ -3,9 +3,9 @@ use Rattle.std.proofs.Common.{◌≡◌, ◌≢◌, ℕ, zero, suc, ◌<◌, Boo
 use Rattle.std.specs.Prelude.{find, Some}
 use Rattle.std.proofs.lemmas.Bool.{false≢true}
 use Rattle.std.proofs.lemmas.Bool.Decides.{eqb_tells}
-use Rattle.channel_intake.specs.Deeds.{Deed, Started, Stopped, is_order_of, is_start, passes}
-use Rattle.channel_intake.specs.Deeds.{runs as runs_there}
-use Rattle.slave_channel.specs.Ordering.{one_if, starts_noted, stops_noted}
+use Rattle.slave_outbox.specs.Deeds.{Deed, Started, Stopped, is_order_of, is_start, passes}
+use Rattle.slave_outbox.specs.Deeds.{runs as runs_there}
+use Rattle.slave_channels.specs.Ordering.{one_if, starts_noted, stops_noted}
 
 pub apart : (n l : ℕ) → n ≢ l → nat_eq n l ≡ false
 apart n l different =

@@ -4,13 +4,13 @@ use Rattle.std.proofs.lemmas.Bool.Decides.{leb_tells}
 use Rattle.std.proofs.lemmas.List.{length-map}
 use Rattle.channel_ring.specs.declared.ends.TakeEnd.{Ghosts as TakeGhosts}
 use Rattle.session.specs.Standing.{SessionStandsAfter, SessionState}
-use Rattle.frame_outbox.specs.Outboxes.{Laid, OutboxState, unit_of}
-use Rattle.frame_outbox.specs.Outboxes.{StandsAfter as OutboxStandsAfter}
+use Rattle.slave_outbox.specs.Outboxes.{Laid, OutboxState, unit_of}
+use Rattle.slave_outbox.specs.Outboxes.{StandsAfter as OutboxStandsAfter}
 use Rattle.slave_channels.specs.Calls.{rings_of}
 use Rattle.slave.specs.Hearing.{GoesBy}
 use Rattle.slave.specs.Inner.{PartsGoBy}
-use Rattle.slave.specs.Log.{Act, Sent, entries_of, late_of, past_of, sending, sent_units, waits}
-use Rattle.session_account.specs.Accounts.{AccountStandsAfter}
+use Rattle.slave.specs.Log.{Act, Sent, entries_of, late_in, past_of, sending, sent_units, waits}
+use Rattle.slave_channels.specs.Accounts.{AccountStandsAfter}
 use Rattle.slave.specs.Standing.{PartsStandAfter, SlaveState}
 use Rattle.slave.specs.declared.limits.TheConstants.{MOST_ACTS, PER_PACKET}
 use Rattle.slave.proofs.WeightLemmas.{counted, counted-sent}
@@ -77,7 +77,7 @@ module _ {S T F : Type 0} (take : TakeGhosts T F) where
             as_logged = λ c ch at. has.as_logged c ch (ap (λ zs. slice_get zs c) (sym channels) ∙ at);
             many = ap length channels ∙ has.many;
             plan = ap (λ (s : SlaveState S T). s.plan) rest ∙ has.plan;
-            account = subst (λ x. AccountStandsAfter x (entries_of d log) (late_of d log)) (sym (ap (λ (s : SlaveState S T). s.account) rest)) has.account;
+            account = subst (λ x. AccountStandsAfter x (entries_of d log) (late_in d log)) (sym (ap (λ (s : SlaveState S T). s.account) rest)) has.account;
             number = ap (λ (s : SlaveState S T). s.number) rest ∙ has.number;
           };
           ended = λ none c ch at. stands.ended none c ch (ap (λ zs. slice_get zs c) (sym channels) ∙ at);
@@ -105,7 +105,7 @@ module _ {S T F : Type 0} (take : TakeGhosts T F) where
           as_logged = λ c ch at. has.as_logged c ch (ap (λ zs. slice_get zs c) (sym channels) ∙ at);
           many = ap length channels ∙ has.many;
           plan = ap (λ (s : SlaveState S T). s.plan) rest ∙ has.plan;
-          account = subst (λ x. AccountStandsAfter x (entries_of d log) (late_of d log)) (sym (ap (λ (s : SlaveState S T). s.account) rest)) has.account;
+          account = subst (λ x. AccountStandsAfter x (entries_of d log) (late_in d log)) (sym (ap (λ (s : SlaveState S T). s.account) rest)) has.account;
           number = ap (λ (s : SlaveState S T). s.number) rest ∙ has.number;
         };
         ended = λ none c ch at. stands.ended none c ch (ap (λ zs. slice_get zs c) (sym channels) ∙ at);

@@ -14,15 +14,15 @@ use Rattle.session.specs.Profiles.{IsProfile}
 use Rattle.session.specs.declared.profile.Profile.{Profile}
 use Rattle.sampler.specs.Past.{Past as SamplerPast}
 use Rattle.daq_engine.proofs.PidLemmas.{all-append, all-mono}
-use Rattle.channel_intake.specs.Deeds.{passed, passes}
-use Rattle.channel_intake.proofs.AccountLemmas.{line-stands}
-use Rattle.frame_outbox.specs.Outboxes.{Laid, packets_in}
-use Rattle.frame_outbox.specs.Units.{is_reply}
-use Rattle.frame_outbox.specs.declared.unit.Origin.{Origin}
-use Rattle.frame_outbox.specs.declared.unit.Origin.TheVariants as origin
+use Rattle.slave_outbox.specs.Deeds.{passed, passes}
+use Rattle.slave_outbox.proofs.AccountLemmas.{line-stands}
+use Rattle.slave_outbox.specs.Outboxes.{Laid, packets_in}
+use Rattle.slave_outbox.specs.Units.{is_reply}
+use Rattle.slave_outbox.specs.declared.unit.Origin.{Origin}
+use Rattle.slave_outbox.specs.declared.unit.Origin.TheVariants as origin
 use Rattle.frame_writer.proofs.SplitLemmas.{split_of_text}
 use Rattle.frame_writer.specs.Split.{Fits}
-use Rattle.session_account.specs.Accounts.{Entry, accepted_of, dropped_of, due_of, written_of}
+use Rattle.slave_channels.specs.Accounts.{Entry, accepted_of, dropped_of, due_of, written_of}
 use Rattle.slave.specs.Log.{Act, CameBack, Discarded, Heard, HungUp, Opened, Refused, Sent, Took, deeds_of, entries_of, is_back, is_of_ring, laid, laid_by, past_of, reply_laid, sample_laid, sent_units, waits}
 use Rattle.slave.specs.Session.{AddsUp, AddsUpIn, BeginsOtherwise, IsKnown, IsNoReply, IsTold, SessionLaw, answers_in, from_ring, left_of, packets_sent, replies_of, sample_of}
 use Rattle.slave.specs.Standing.{ComesBack, IsLog}
@@ -83,7 +83,7 @@ comes-back : (d : Profile) (log : List Act) → IsLog d log → (m c : ℕ) (pas
 comes-back d log is m c past later earlier split = (log-behind d later (CameBack m c past ∷ earlier) (subst (IsLog d) split is)).0
 
 -- the numbers of a part, and of all parts
-adds-up : (d : Profile) (log : List Act) (m c : ℕ) (past : SamplerPast) → ComesBack d log m c past → (l : ℕ) → AddsUp (record { past = past; deeds = deeds_of d m c log }) l
+adds-up : (d : Profile) (log : List Act) (m c : ℕ) (past : SamplerPast) → ComesBack d log m c past → (l : ℕ) → AddsUp (record { number = m; past = past; deeds = deeds_of d m c log }) l
 adds-up d log m c past comes l =
     let stands = line-stands past (deeds_of d m c log) l comes.plans comes.decided comes.front in
     record {
@@ -120,7 +120,7 @@ add-up-all d (Heard x ∷ log) is l = add-up-all d log is.2 l
 add-up-all d (Refused packet code ∷ log) is l = add-up-all d log is.2 l
 add-up-all d (Opened at ∷ log) is l = add-up-all d log is.1 l
 add-up-all d (Took m c x ∷ log) is l = add-up-all d log is.2 l
-add-up-all d (CameBack m c past ∷ log) is l = add-up-more (record { past = past; deeds = deeds_of d m c log }) (entries_of d log) l (adds-up d log m c past is.0 l) (add-up-all d log is.1 l)
+add-up-all d (CameBack m c past ∷ log) is l = add-up-more (record { number = m; past = past; deeds = deeds_of d m c log }) (entries_of d log) l (adds-up d log m c past is.0 l) (add-up-all d log is.1 l)
 add-up-all d (Sent n ∷ log) is l = add-up-all d log is.1 l
 add-up-all d (HungUp ∷ log) is l = add-up-all d log is l
 add-up-all d (Discarded ∷ log) is l = add-up-all d log is l

@@ -4,7 +4,7 @@ use Rattle.std.proofs.lemmas.Bool.{false≢true}
 use Rattle.xcp_base.specs.Lists.{has_list}
 use Rattle.xcp_base.specs.declared.limits.TheConstants.{MAX_LISTS}
 use Rattle.channel_ring.specs.declared.ends.TakeEnd.{Ghosts as TakeGhosts}
-use Rattle.slave_channel.specs.Channels.{ChannelState}
+use Rattle.slave_channels.specs.Channels.{ChannelState}
 use Rattle.slave_channels.specs.Calls.{Ends, StopsAll}
 use Rattle.slave_channels.specs.Each.{IsEach}
 use Rattle.slave.specs.Inner.{Settles}

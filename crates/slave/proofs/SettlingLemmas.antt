@@ -8,12 +8,12 @@ use Rattle.xcp_base.specs.declared.limits.TheConstants.{MAX_LISTS, MAX_TAKEN}
 use Rattle.channel_ring.specs.declared.ends.TakeEnd.{Ghosts as TakeGhosts}
 use Rattle.session.specs.Starts.{is_on, runs}
 use Rattle.session.specs.declared.profile.Profile.{Profile}
-use Rattle.channel_intake.specs.Deeds.{Deed}
-use Rattle.channel_intake.specs.Deeds.{runs as runs_there}
+use Rattle.slave_outbox.specs.Deeds.{Deed}
+use Rattle.slave_outbox.specs.Deeds.{runs as runs_there}
 use Rattle.tasks.specs.Links.{AwayState, is_running, runs_of, takes_orders}
-use Rattle.slave_channel.specs.Channels.{ChannelState}
-use Rattle.slave_channel.specs.Ordering.{starts_noted, stops_noted, stops_sent}
-use Rattle.slave_channel.proofs.OrderingLemmas.{stops_noted-same}
+use Rattle.slave_channels.specs.Channels.{ChannelState}
+use Rattle.slave_channels.specs.Ordering.{starts_noted, stops_noted, stops_sent}
+use Rattle.slave_channels.proofs.OrderingLemmas.{stops_noted-same}
 use Rattle.slave_channels.specs.Calls.{Ends, StopsAll}
 use Rattle.slave.specs.Inner.{Settles, started}
 use Rattle.slave.specs.Log.{Act, deeds_of, is_newest, opened, ordered_by, past_of, starts_on, stops_at, with_starts}

@@ -18,19 +18,19 @@ use Rattle.session.specs.Profiles.{lists_of}
 use Rattle.session.specs.Standing.{SessionStandsAfter, SessionState}
 use Rattle.session.specs.Starts.{is_on}
 use Rattle.session.specs.declared.profile.Profile.{Profile}
-use Rattle.channel_intake.specs.Deeds.{Deed}
-use Rattle.channel_intake.specs.Deeds.{runs as runs_there}
-use Rattle.frame_outbox.specs.Outboxes.{StandsAfter as OutboxStandsAfter}
+use Rattle.slave_outbox.specs.Deeds.{Deed}
+use Rattle.slave_outbox.specs.Deeds.{runs as runs_there}
+use Rattle.slave_outbox.specs.Outboxes.{StandsAfter as OutboxStandsAfter}
 use Rattle.tasks.specs.Links.{AwayState, CanStart, LinkState, takes_orders}
-use Rattle.session_account.specs.Accounts.{AccountStandsAfter}
-use Rattle.slave_channel.specs.Channels.{ChannelState, Opens, ShareState}
-use Rattle.slave_channel.specs.Ordering.{starts_noted, starts_sent}
+use Rattle.slave_channels.specs.Accounts.{AccountStandsAfter}
+use Rattle.slave_channels.specs.Channels.{ChannelState, Opens, ShareState}
+use Rattle.slave_channels.specs.Ordering.{starts_noted, starts_sent}
 use Rattle.slave_channels.specs.Calls.{CanStartAll, Ends, HasSome, Looks, OpensIfAny, StartsAt}
 use Rattle.slave_channels.specs.Each.{IsEach}
 use Rattle.slave.specs.Hearing.{KeepsLines}
 use Rattle.slave.proofs.KeepingLemmas.{lines-each, lines-same}
 use Rattle.slave.specs.Inner.{AreSets, HasParts, LooksAtAll, OpensAll, OpensBeside, OpensInVain, SlaveStarted, StartsLists, started}
-use Rattle.slave.specs.Log.{Act, Opened, deeds_of, entries_of, has_part, is_opening, is_out, late_of, opened, past_of, sent_units, waits}
+use Rattle.slave.specs.Log.{Act, Opened, deeds_of, entries_of, has_part, is_opening, is_out, late_in, opened, past_of, sent_units, waits}
 use Rattle.slave.specs.Openings.{IsOpenedAfter, capacities_of, past_at}
 use Rattle.slave.specs.Standing.{IsAsLogged, logged, ChannelHas, HasEnded, IsOut, NoneRuns, SlaveHas, PartsStandAfter, SlaveState, number_of, AreParts, HasReady}
 use Rattle.slave.proofs.ChannelLemmas.{channel-looks, channel-ordered, channel-same, goes-none, takes-looked}
@@ -85,7 +85,7 @@ module _ {S E T F : Type 0} (send : SendGhosts S E) (ring : EndGhosts E) (take :
     as_logged = as_logged;
     many = as_many ∙ has.many;
     plan = rest.plan ∙ plan-by d a.session (past_of d log) (rest.lists ∙ ap lists_of has.profile) has.session;
-    account = subst (λ x. AccountStandsAfter x (entries_of d log) (late_of d log)) (sym rest.account) has.account;
+    account = subst (λ x. AccountStandsAfter x (entries_of d log) (late_in d log)) (sym rest.account) has.account;
     number = rest.number ∙ ap (λ n. (n + 1) % 18446744073709551616) has.number ∙ one-more (opened log) (length log) (few-opened log) few ∙ omega (arith, opened-more at log);
   }
 
@@ -304,7 +304,7 @@ module _ {S T F : Type 0} (take : TakeGhosts T F) where
         as_logged = opened-each (λ c. Looks) a.channels b.channels d (logged d log) looks.channels (λ c x y l. keeps-looks x y l) has.as_logged;
         many = looks.channels.as_many ∙ has.many;
         plan = ap (λ (s : SlaveState S T). s.plan) looks.rest ∙ has.plan;
-        account = subst (λ x. AccountStandsAfter x (entries_of d log) (late_of d log)) (sym (ap (λ (s : SlaveState S T). s.account) looks.rest)) has.account;
+        account = subst (λ x. AccountStandsAfter x (entries_of d log) (late_in d log)) (sym (ap (λ (s : SlaveState S T). s.account) looks.rest)) has.account;
         number = ap (λ (s : SlaveState S T). s.number) looks.rest ∙ has.number;
       }
 
@@ -377,7 +377,7 @@ module _ {S T F : Type 0} (take : TakeGhosts T F) where
             opened-kept d (logged d log) c old ch (keeps-orders take old ch _ _ (starts.each c old ch was at set there)) (has.as_logged c old was);
         many = starts.as_many ∙ has.many;
         plan = ap (λ (s : SlaveState S T). s.plan) rest ∙ has.plan;
-        account = subst (λ x. AccountStandsAfter x (entries_of d log) (late_of d log)) (sym (ap (λ (s : SlaveState S T). s.account) rest)) has.account;
+        account = subst (λ x. AccountStandsAfter x (entries_of d log) (late_in d log)) (sym (ap (λ (s : SlaveState S T). s.account) rest)) has.account;
         number = ap (λ (s : SlaveState S T). s.number) rest ∙ has.number;
       } where
         is-false : (b : Bool) → (b ≡ true → ⊥) → b ≡ false

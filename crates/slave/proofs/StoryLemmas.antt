@@ -7,19 +7,20 @@ use Rattle.xcp_base.specs.declared.limits.TheConstants.{MAX_LISTS}
 use Rattle.channel_ring.specs.declared.ends.TakeEnd.{Ghosts as TakeGhosts}
 use Rattle.session.specs.Profiles.{IsProfile}
 use Rattle.session.specs.declared.profile.Profile.{Profile}
-use Rattle.channel_intake.specs.Deeds.{Deed, taken}
-use Rattle.channel_intake.specs.Intakes.{StandsAfter}
-use Rattle.frame_outbox.specs.Outboxes.{packets_in}
+use Rattle.slave_outbox.specs.Deeds.{Deed, taken}
+use Rattle.slave_outbox.specs.Intakes.{StandsAfter}
+use Rattle.slave_outbox.specs.Outboxes.{packets_in}
 use Rattle.frame_writer.proofs.SplitLemmas.{split_is_unique, split_of_text}
 use Rattle.frame_writer.specs.Frame.{text}
 use Rattle.frame_writer.specs.Split.{Fits, IsSplit, numbered}
 use Rattle.daq_engine.proofs.FrameLemmas.{packets_of_frames-numbered}
 use Rattle.daq_engine.specs.Frames.{packets_of_frames}
-use Rattle.session_account.proofs.TotalsLemmas.{agree-plus, agree-same}
-use Rattle.session_account.specs.Accounts.{AccountStandsAfter, Agree, AreTotals, Entry, accepted_in, dropped_in, due_in, written_in}
-use Rattle.session_account.specs.declared.totals.Totals.{Totals}
-use Rattle.slave_channel.specs.Channels.{ChannelState, ShareState}
-use Rattle.slave.specs.Log.{Act, deeds_of, entries_of, is_out, late_of, waits}
+use Rattle.slave_channels.proofs.TotalsLemmas.{agree-plus, agree-same}
+use Rattle.slave_channels.specs.Accounts.{AccountStandsAfter, AccountState, Agree, AreSums, AreTotals, Entry, accepted_in, dropped_in, due_in, end_of, sum_before, written_in}
+use Rattle.slave_channels.specs.AccountInner.{all_of}
+use Rattle.slave_channels.proofs.SumsLemmas.{all-are}
+use Rattle.slave_channels.specs.Channels.{ChannelState, ShareState}
+use Rattle.slave.specs.Log.{Act, deeds_of, entries_of, is_out, late_in, waits}
 use Rattle.slave.specs.Session.{SameStory, packets_sent}
 use Rattle.slave.specs.Standing.{IsOut, SlaveHas, PartsStandAfter, SlaveState, number_of}
 use Rattle.slave.proofs.OutLemmas.{some-at}
@@ -38,17 +39,24 @@ some-inj : {X : Type 0} (x y : X) → Some x ≡ Some y → x ≡ y
 some-inj x y e = cc
 
 -- the totals of one account, where so many samples were thrown away late
-same-totals : (account : List Totals) (xs ys : List Entry) (u v : ℕ → ℕ) (l : ℕ) → l < MAX_LISTS → AccountStandsAfter account xs u → AccountStandsAfter account ys v
-    → Agree (due_in xs l) (due_in ys l) × Agree (dropped_in xs l) (dropped_in ys l) × Agree (written_in xs l + v l) (written_in ys l + u l) × Agree (accepted_in xs l) (accepted_in ys l)
+same-totals : (account : AccountState) (xs ys : List Entry) (u v : ℕ → ℕ → ℕ) (l : ℕ) → l < MAX_LISTS → AccountStandsAfter account xs u → AccountStandsAfter account ys v
+    → Agree (due_in xs l) (due_in ys l) × Agree (dropped_in xs l) (dropped_in ys l)
+    × Agree (written_in xs l + sum_before (end_of ys) v l) (written_in ys l + sum_before (end_of xs) u l) × Agree (accepted_in xs l) (accepted_in ys l)
 same-totals account xs ys u v l below one other =
-    let (t, at, are) = one.lists l below in
-    let (other_t, also_at, also_are) = other.lists l below in
-    let also : AreTotals ys (v l) l t = subst (AreTotals ys (v l) l) (some-inj other_t t (sym also_at ∙ at)) also_are in (
+    let (s, at, sums) = one.has.lists l below in
+    let (other_s, also_at, also_sums) = other.has.lists l below in
+    let t = all_of s in
+    let of_u = sum_before (end_of xs) u l in
+    let of_v = sum_before (end_of ys) v l in
+    let are : AreTotals xs of_u l t = subst (λ n. AreTotals xs (sum_before n u l) l t) one.end_is (all-are account.end l xs u s sums one.has.reach) in
+    let also : AreTotals ys of_v l t =
+    subst (λ n. AreTotals ys (sum_before n v l) l t) other.end_is
+    (all-are account.end l ys v s (subst (AreSums account.end ys v l) (some-inj other_s s (sym also_at ∙ at)) also_sums) other.has.reach) in (
       sym are.all_due ∙ also.all_due,
       sym are.dropped ∙ also.dropped,
-      agree-plus (written_in xs l) (t.written + u l) (v l) (v l) (sym are.written) refl
-          ∙ agree-same (t.written + u l + v l) (t.written + v l + u l) (omega arith)
-          ∙ agree-plus (t.written + v l) (written_in ys l) (u l) (u l) also.written refl,
+      agree-plus (written_in xs l) (t.written + of_u) of_v of_v (sym are.written) refl
+          ∙ agree-same (t.written + of_u + of_v) (t.written + of_v + of_u) (omega arith)
+          ∙ agree-plus (t.written + of_v) (written_in ys l) of_u of_u also.written refl,
       sym are.left ∙ also.left,
     )
 
@@ -113,7 +121,7 @@ module _ {S T F : Type 0} (take : TakeGhosts T F) where
   same-story d s a b stands_a stands_b =
       let one = stands_a.has in
       let other = stands_b.has in
-      let totals = λ (l : ℕ) (below : l < MAX_LISTS). same-totals s.account (entries_of d a) (entries_of d b) (late_of d a) (late_of d b) l below one.account other.account in
+      let totals = λ (l : ℕ) (below : l < MAX_LISTS). same-totals s.account (entries_of d a) (entries_of d b) (late_in d a) (late_in d b) l below one.account other.account in
       record {
         sent = sym one.outbox.gone ∙ other.outbox.gone;
         waits_are = sym one.outbox.waiting ∙ other.outbox.waiting;

@@ -9,24 +9,24 @@ use Rattle.xcp_base.specs.declared.item.Item.TheVariants.{Marker, Sample}
 use Rattle.channel_ring.specs.declared.ends.TakeEnd.{Ghosts as TakeGhosts}
 use Rattle.session.specs.Past.{Past}
 use Rattle.session.specs.Standing.{SessionStandsAfter, SessionState}
-use Rattle.channel_intake.specs.Deeds.{Deed, passes}
-use Rattle.channel_intake.specs.Deeds.{Took as TookItem}
-use Rattle.channel_intake.specs.Deeds.{runs as runs_there}
-use Rattle.channel_intake.specs.Intakes.{IntakeState, OnlyLooked, StandsAfter}
-use Rattle.channel_intake.specs.Steps.{Takes}
-use Rattle.channel_intake.specs.declared.step.Step.{Step}
-use Rattle.channel_intake.specs.declared.step.Step.TheVariants.{Full, Marked, Nothing, Skipped, Wrote}
-use Rattle.frame_outbox.specs.Outboxes.{Laid, LaysOut, OutboxState}
-use Rattle.frame_outbox.specs.Outboxes.{StandsAfter as OutboxStandsAfter}
-use Rattle.frame_outbox.specs.Taking.{TakesItem}
+use Rattle.slave_outbox.specs.Deeds.{Deed, passes}
+use Rattle.slave_outbox.specs.Deeds.{Took as TookItem}
+use Rattle.slave_outbox.specs.Deeds.{runs as runs_there}
+use Rattle.slave_outbox.specs.Intakes.{IntakeState, OnlyLooked, StandsAfter}
+use Rattle.slave_outbox.specs.Steps.{Takes}
+use Rattle.slave_outbox.specs.declared.step.Step.{Step}
+use Rattle.slave_outbox.specs.declared.step.Step.TheVariants.{Full, Marked, Nothing, Skipped, Wrote}
+use Rattle.slave_outbox.specs.Outboxes.{Laid, LaysOut, OutboxState}
+use Rattle.slave_outbox.specs.Outboxes.{StandsAfter as OutboxStandsAfter}
+use Rattle.slave_outbox.specs.Taking.{TakesItem}
 use Rattle.tasks.specs.Links.{LinkState, is_running, takes_orders}
-use Rattle.slave_channel.specs.Channels.{ChannelState, ShareState, TakesOf}
+use Rattle.slave_channels.specs.Channels.{ChannelState, ShareState, TakesOf}
 use Rattle.slave_channels.specs.Calls.{TakesFromNewer, TakesFromOlder}
-use Rattle.session_account.specs.Accounts.{AccountStandsAfter}
+use Rattle.slave_channels.specs.Accounts.{AccountStandsAfter}
 use Rattle.slave_channels.specs.Each.{IsOnlyAt}
 use Rattle.slave.specs.Hearing.{GoesBy, KeepsLines, is_spent}
 use Rattle.slave.specs.Inner.{PartsGoBy, acts_of, counting}
-use Rattle.slave.specs.Log.{Act, Took, deeds_of, entries_of, is_out, laid_by, late_of, opened, past_of, sample_laid, sent_units, waits}
+use Rattle.slave.specs.Log.{Act, Took, deeds_of, entries_of, is_out, laid_by, late_in, opened, past_of, sample_laid, sent_units, waits}
 use Rattle.slave.specs.Returns.{ends_in}
 use Rattle.slave.specs.Standing.{Logged, logged, ChannelHas, HasEnded, IsOut, PartsStandAfter, SlaveStandsAfter, SlaveState, number_of, IsAsLogged, HasPacketsIfPasses}
 use Rattle.slave.proofs.KeepingLemmas.{lines-but}
@@ -35,7 +35,7 @@ use Rattle.session.specs.declared.profile.Profile.{Profile}
 use Rattle.slave.specs.Taking.{TakesItems, is_take}
 use Rattle.slave.proofs.WaitsLemmas.{waits-took}
 use Rattle.slave.proofs.ChannelLemmas.{channel-same}
-use Rattle.frame_outbox.specs.declared.unit.Origin.TheVariants as origin
+use Rattle.slave_outbox.specs.declared.unit.Origin.TheVariants as origin
 use Rattle.std.specs.List.{list_all}
 use Rattle.std.proofs.lemmas.List.Folds.{list_all-append}
 use Rattle.slave.proofs.DeedLemmas.{deeds-few}
@@ -285,7 +285,7 @@ module _ {S T F : Type 0} (take : TakeGhosts T F) where
             as_logged = opened-changed d (logged d log) (logged d log) a b c x y changes (λ k ch other is. is) (opened-kept d (logged d log) c x y part.keeps (has.as_logged c x changes.was)) has.as_logged;
             many = changes.as_many ∙ has.many;
             plan = changes.plan ∙ has.plan;
-            account = subst (λ z. AccountStandsAfter z (entries_of d log) (late_of d log)) (sym account) has.account;
+            account = subst (λ z. AccountStandsAfter z (entries_of d log) (late_in d log)) (sym account) has.account;
             number = changes.number ∙ has.number;
           };
           ended = ended-changed a b c x y (past_of d log) changes stands.ended;
@@ -315,7 +315,7 @@ module _ {S T F : Type 0} (take : TakeGhosts T F) where
             as_logged = opened-changed d (logged d log) (logged d log) a b c x y changes (λ k ch other is. is) (opened-kept d (logged d log) c x y keeps (has.as_logged c x changes.was)) has.as_logged;
             many = changes.as_many ∙ has.many;
             plan = changes.plan ∙ has.plan;
-            account = subst (λ z. AccountStandsAfter z (entries_of d log) (late_of d log)) (sym account) has.account;
+            account = subst (λ z. AccountStandsAfter z (entries_of d log) (late_in d log)) (sym account) has.account;
             number = changes.number ∙ has.number;
           };
           ended = ended-changed a b c x y (past_of d log) changes stands.ended;

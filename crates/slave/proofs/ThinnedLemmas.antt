@@ -1,6 +1,6 @@
 -- Lists without some of their items, one behind another.
 use Rattle.std.proofs.Common.{◌≡◌, ℕ, suc, ◌+◌, Bool, true, false, if◌then◌else◌, List, [], ◌∷◌, ◌++◌, append-nil, length, filter, refl, sym, ap, subst, arith, inl, inr}
-use Rattle.frame_outbox.specs.Outboxes.{Laid, packets_in}
+use Rattle.slave_outbox.specs.Outboxes.{Laid, packets_in}
 use Rattle.slave.specs.Thinned.{IsWithout}
 
 pub assoc : {X : Type 0} (a b c : List X) → (a ++ b) ++ c ≡ a ++ (b ++ c)

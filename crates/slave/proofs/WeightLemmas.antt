@@ -6,11 +6,11 @@ use Rattle.std.proofs.lemmas.List.{length-drop, length-map}
 use Rattle.xcp_base.specs.Samples.{SampleParts}
 use Rattle.xcp_base.specs.declared.item.Item.TheVariants.{Marker, Sample}
 use Rattle.channel_ring.specs.declared.ends.TakeEnd.{Ghosts as TakeGhosts}
-use Rattle.list_set.specs.Counts.{one_if}
+use Rattle.xcp_base.specs.Counts.{one_if}
 use Rattle.session.specs.Exchanges.{reply_in}
 use Rattle.session.specs.declared.profile.Profile.{Profile}
-use Rattle.channel_intake.specs.Deeds.{passes}
-use Rattle.frame_outbox.specs.Outboxes.{has_waiting, unit_of}
+use Rattle.slave_outbox.specs.Deeds.{passes}
+use Rattle.slave_outbox.specs.Outboxes.{has_waiting, unit_of}
 use Rattle.session.specs.Fields.{packet_of}
 use Rattle.slave.specs.Hearing.{GoesBy}
 use Rattle.slave.specs.Inner.{PartsGoBy, counting}

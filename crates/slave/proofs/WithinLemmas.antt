@@ -11,11 +11,11 @@ use Rattle.session.specs.Exchanges.{Exchange, past_after_packet, past_behind, re
 use Rattle.session.specs.Past.{Past, new_past}
 use Rattle.session.specs.Starts.{runs, starts}
 use Rattle.session.specs.declared.profile.Profile.{Profile}
-use Rattle.channel_intake.specs.Deeds.{Deed, Started, Stopped, is_order_of, is_start, passes}
-use Rattle.channel_intake.specs.Deeds.{Took as TookItem}
-use Rattle.channel_intake.specs.Deeds.{runs as runs_there}
-use Rattle.frame_outbox.specs.Outboxes.{Laid}
-use Rattle.slave_channel.specs.Ordering.{one_if, starts_noted, stops_noted}
+use Rattle.slave_outbox.specs.Deeds.{Deed, Started, Stopped, is_order_of, is_start, passes}
+use Rattle.slave_outbox.specs.Deeds.{Took as TookItem}
+use Rattle.slave_outbox.specs.Deeds.{runs as runs_there}
+use Rattle.slave_outbox.specs.Outboxes.{Laid}
+use Rattle.slave_channels.specs.Ordering.{one_if, starts_noted, stops_noted}
 use Rattle.slave.specs.Log.{Act, CameBack, Discarded, Heard, HungUp, Opened, Refused, Sent, Took, deeds_of, is_newest, is_sample_of, laid, laid_by, opened, ordered_by, origins, past_of, reply_laid, sample_laid, starts_on, stops_at, waits, with_starts}
 use Rattle.slave.specs.Session.{HasPositive, IsWithin, Rests, from_list, sample_of}
 use Rattle.slave.specs.Standing.{IsLog, IsStart, JustOpened, NoneRuns}

@@ -1,17 +1,20 @@
 -- What a slave leaves where it is closed.
-use Rattle.std.specs.Prelude.{◌≡◌, ℕ, ◌*◌, ◌≤◌, ◌↔◌, Bool, true, List, ◌++◌, length, map}
+use Rattle.std.specs.Prelude.{◌≡◌, ℕ, ◌+◌, ◌-◌, ◌*◌, ◌≤◌, ◌↔◌, Bool, true, List, ◌++◌}
+use Rattle.std.specs.Prelude.{length, map}
 use Rattle.std.specs.Prelude.{slice_get, Some}
 use Rattle.std.specs.List.{list_all}
 use Rattle.xcp_base.specs.declared.limits.TheConstants.{MAX_CHANNELS}
 use Rattle.channel_ring.specs.declared.ends.TakeEnd.{Ghosts as TakeGhosts}
-use Rattle.frame_outbox.specs.Outboxes.{has_waiting}
+use Rattle.slave_outbox.specs.Outboxes.{has_waiting}
 use Rattle.session.specs.declared.profile.Profile.{Profile}
-use Rattle.slave_channel.specs.Channels.{ChannelState}
+use Rattle.slave_channels.specs.Channels.{ChannelState}
 use Rattle.slave_channels.specs.Calls.{rings_of}
 use Rattle.tasks.specs.Tasks.{TaskEndState}
-use Rattle.session_account.specs.Accounts.{AccountStandsAfter}
-use Rattle.session_account.specs.declared.totals.Totals.{Totals}
-use Rattle.slave.specs.Log.{Act, AllBack, discarding, entries_of, is_return, late_of, losing}
+use Rattle.slave_channels.specs.Accounts.{AccountStandsAfter, AccountState, end_of}
+use Rattle.slave_channels.specs.declared.sums.TheConstants.{LAST}
+use Rattle.slave.specs.declared.complete.Complete.{Complete}
+use Rattle.slave.specs.Log.{Act, AllBack, AllBackWithin, discarding, entries_of, is_return}
+use Rattle.slave.specs.Log.{late_in, losing}
 use Rattle.slave.specs.Returns.{AreReturns, ends_in, returns_at}
 use Rattle.slave.specs.Session.{SessionLaw}
 use Rattle.slave.specs.Standing.{IsLog, SlaveStandsAfter, SlaveState}
@@ -27,28 +30,43 @@ AreOfTasks ends log =
 abbrev pub AreEndsOf : {S T : Type 0} → List (ChannelState S T) → List (TaskEndState S) → Type 0
 AreEndsOf channels ends = map (λ (end : TaskEndState _). end.ring) ends ≡ rings_of channels
 
+-- it says of each of the last four measurements whether all parts came back, in the order of their
+-- numbers, and of all before them
+pub record IsComplete (d : Profile) (log : List Act) (complete : Complete) : Type 0 where
+  pub many : length complete.last ≡ LAST
+  pub last :
+      (i : ℕ) (has : Bool) → slice_get complete.last i ≡ Some has
+      → (has ≡ true)
+      ↔ AllBackWithin (end_of (entries_of d log) - LAST + i)
+      (end_of (entries_of d log) - LAST + (i + 1)) d log
+  pub older :
+      (complete.older ≡ true) ↔ AllBackWithin 0 (end_of (entries_of d log) - LAST) d log
+
 -- an account is that of a whole log, of which the law of a session holds: of all parts that came
--- back, without what was thrown away behind that; and it is whole where all parts came back
-pub record IsClosedWith (d : Profile) (account : List Totals) (whole : Bool) (log : List Act)
+-- back, without what was thrown away behind that, together and of the last four measurements alone;
+-- and it is whole where all parts came back
+pub record IsClosedWith (d : Profile) (account : AccountState) (whole : Bool) (complete : Complete)
+    (log : List Act)
     : Type 0 where
   pub is_log : IsLog d log
   pub law : SessionLaw d log
-  pub account_is : AccountStandsAfter account (entries_of d log) (late_of d log)
+  pub account_is : AccountStandsAfter account (entries_of d log) (late_in d log)
   pub whole_is : (whole ≡ true) ↔ AllBack d log
+  pub complete_is : IsComplete d log complete
 
 module _ {S T F : Type 0} (take : TakeGhosts T F) where
   -- the lists stopped, as where the master is lost, if one was connected; what waited was thrown
   -- away; and parts came back, two at most of an event channel. The account is that of this and all
   -- that was before: of all that the tasks gave back
-  pub record Closes (a : SlaveState S T) (ends : List (TaskEndState S)) (account : List Totals)
-      (whole : Bool)
+  pub record Closes (a : SlaveState S T) (ends : List (TaskEndState S)) (account : AccountState)
+      (whole : Bool) (complete : Complete)
       : Type 0 where
     pub last : List Act
     pub are : list_all is_return last ≡ true
     pub few : length last ≤ 2 * MAX_CHANNELS
     pub closed :
         (log : List Act) → SlaveStandsAfter take a.session.profile a log
-        → IsClosedWith a.session.profile account whole
+        → IsClosedWith a.session.profile account whole complete
         (last ++ (discarding (has_waiting a.outbox) ++ (losing a.session.connected ++ log)))
         × AreOfTasks ends
         (last ++ (discarding (has_waiting a.outbox) ++ (losing a.session.connected ++ log)))

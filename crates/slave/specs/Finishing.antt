@@ -3,8 +3,8 @@ use Rattle.std.specs.Prelude.{◌≡◌, ℕ, List, [], ◌∷◌, length, Optio
 use Rattle.channel_ring.specs.declared.ends.RingEnd.{Ghosts as EndGhosts}
 use Rattle.sampler.specs.Past.{Past}
 use Rattle.channel_ring.specs.declared.ends.TakeEnd.{Ghosts as TakeGhosts}
-use Rattle.channel_intake.specs.Intakes.{StandsAfter}
-use Rattle.slave_channel.specs.Channels.{FinishedState, IsPastOf}
+use Rattle.slave_outbox.specs.Intakes.{StandsAfter}
+use Rattle.slave_channels.specs.Channels.{FinishedState, IsPastOf}
 use Rattle.slave.specs.Hearing.{GoesBy}
 use Rattle.slave.specs.Log.{Act, CameBack, deeds_of}
 use Rattle.slave.specs.Standing.{PartsStandAfter, SlaveState}

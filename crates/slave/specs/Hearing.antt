@@ -11,9 +11,9 @@ use Rattle.session.specs.Exchanges.{Exchange}
 use Rattle.session.specs.Past.{Past}
 use Rattle.session.specs.Starts.{is_on, starts}
 use Rattle.session.specs.declared.profile.Profile.{Profile}
-use Rattle.frame_outbox.specs.Outboxes.{has_room}
+use Rattle.slave_outbox.specs.Outboxes.{has_room}
 use Rattle.tasks.specs.Links.{CanStart}
-use Rattle.slave_channel.specs.Channels.{ChannelState, keeps_two, number_of}
+use Rattle.slave_channels.specs.Channels.{ChannelState, keeps_two, number_of}
 use Rattle.slave_channels.specs.Calls.{rings_of}
 use Rattle.slave.specs.Log.{Act, CameBack, Discarded, Heard, HungUp, Opened, Refused, Sent, Took}
 use Rattle.slave.specs.Log.{opened, past_of}

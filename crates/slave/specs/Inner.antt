@@ -1,5 +1,6 @@
 -- What no public clause cites: parts of what a slave does with a packet.
-use Rattle.std.specs.Prelude.{◌≡◌, ◌≢◌, ℕ, ◌+◌, ◌-◌, ◌*◌, ◌%◌, ◌<◌, ◌≤◌, ◌⊎◌, ◌&&◌, not}
+use Rattle.std.specs.Prelude.{◌≡◌, ◌≢◌, ℕ, ◌+◌, ◌-◌, ◌*◌, ◌%◌, ◌^◌, ◌<◌, ◌≤◌, ◌⊎◌}
+use Rattle.std.specs.Prelude.{◌&&◌, not}
 use Rattle.std.specs.Prelude.{Bool, true, false, List, [], ◌∷◌, count_by}
 use Rattle.std.specs.Prelude.{take as first}
 use Rattle.std.specs.Prelude.{◌++◌, ◌↔◌, length, slice_get, if◌then◌else◌, Option, Some, None}
@@ -19,27 +20,29 @@ use Rattle.session.specs.Exchanges.{Exchange}
 use Rattle.session.specs.Starts.{is_on, shows_on, starts}
 use Rattle.session.specs.declared.profile.Profile.{Profile}
 use Rattle.sampler.specs.State.{SamplerState}
-use Rattle.control_ring.specs.Orders.{TakeState}
-use Rattle.list_set.specs.Counts.{one_if}
+use Rattle.channel_ring.specs.Orders.{TakeState}
+use Rattle.xcp_base.specs.Counts.{one_if}
 use Rattle.tasks.specs.Links.{LinkState, is_out, just_out}
 use Rattle.tasks.specs.Tasks.{TaskEndState}
 use mathlib.Core.List.{IsPrefix}
 use Rattle.std.specs.Option.{is_some}
-use Rattle.channel_intake.specs.Deeds.{Deed, Unsent}
-use Rattle.channel_intake.specs.declared.step.Step.{Step}
-use Rattle.channel_intake.specs.declared.step.Step.TheVariants.{Full, Marked, Nothing, Skipped}
-use Rattle.channel_intake.specs.declared.step.Step.TheVariants.{Wrote}
-use Rattle.frame_outbox.specs.Outboxes.{LaysOut, OutboxState}
-use Rattle.frame_outbox.specs.declared.unit.Origin.{Origin}
-use Rattle.frame_outbox.specs.declared.unit.Origin.TheVariants as origin
-use Rattle.channel_intake.specs.Intakes.{StandsAfter as IntakeStandsAfter}
-use Rattle.session_account.specs.Accounts.{AccountStandsAfter, Entry, more_unsent}
-use Rattle.session_account.specs.declared.totals.Totals.{Totals}
-use Rattle.slave_channel.specs.Channels.{ChannelState, FinishedState, GoesOnThere, IsPastOf}
-use Rattle.slave_channel.specs.Channels.{number_of}
-use Rattle.slave_channel.specs.Ordering.{starts_noted}
+use Rattle.slave_outbox.specs.Deeds.{Deed, Unsent}
+use Rattle.slave_outbox.specs.declared.step.Step.{Step}
+use Rattle.slave_outbox.specs.declared.step.Step.TheVariants.{Full, Marked, Nothing, Skipped}
+use Rattle.slave_outbox.specs.declared.step.Step.TheVariants.{Wrote}
+use Rattle.slave_outbox.specs.Outboxes.{LaysOut, OutboxState}
+use Rattle.slave_outbox.specs.declared.unit.Origin.{Origin}
+use Rattle.slave_outbox.specs.declared.unit.Origin.TheVariants as origin
+use Rattle.slave_outbox.specs.Intakes.{StandsAfter as IntakeStandsAfter}
+use Rattle.slave_channels.specs.Accounts.{AccountStandsAfter, AccountState, Entry, end_of}
+use Rattle.slave_channels.specs.Accounts.{more_unsent}
+use Rattle.slave_channels.specs.declared.sums.TheConstants.{LAST}
+use Rattle.slave_channels.specs.Channels.{ChannelState, FinishedState, GoesOnThere, IsPastOf}
+use Rattle.slave_channels.specs.Channels.{number_of}
+use Rattle.slave_channels.specs.Ordering.{starts_noted}
 use Rattle.slave_channels.specs.Calls.{CanStartAll, Ends, HasFull, HasNoPlaces, HasSome}
-use Rattle.slave_channels.specs.Calls.{HaveRoom, KeepsNoneOf, Looks, OpenedAndEnded, OpensAt}
+use Rattle.slave_channels.specs.Calls.{HaveRoom, KeepsNoneOf, KeepsNoneWithin, KeepsOneWithin}
+use Rattle.slave_channels.specs.Calls.{Looks, OpenedAndEnded, OpensAt}
 use Rattle.slave_channels.specs.Calls.{StartsAt, StopsAll}
 use Rattle.slave_channels.specs.Each.{IsEach, IsOnlyAt}
 use Rattle.slave.specs.Hearing.{IsStartRefusal, KeepsLines, MayOpen, IsIdleRefusal, is_spent}
@@ -48,13 +51,15 @@ use Rattle.slave.specs.Taking.{known_of, newest_at, older_at}
 use Rattle.slave.specs.declared.round.Round.{Round}
 use Rattle.slave.specs.declared.round.Round.TheVariants.{Empty, HeldUp, Took}
 use Rattle.slave.specs.Log.{Act, Heard}
-use Rattle.slave.specs.Log.{deeds_of, has_part, is_late, is_newest, is_return, late_of, opened}
+use Rattle.slave.specs.Log.{deeds_of, has_part, is_late, is_newest, is_return, late_in, opened}
 use Rattle.slave.specs.Log.{origins, past_of, unsent_by, waits}
 use Rattle.slave.specs.Openings.{capacities_of}
 use Rattle.slave.specs.Plans.{IsAsOpened, plan_of}
 use Rattle.slave.specs.Standing.{HasEnded, JustOpened, NoneRuns, PartsStandAfter, SlaveState}
 use Rattle.slave.specs.Standing.{StandsBy}
+pub use Rattle.slave.specs.Standing.{Busy, Idle}
 use Rattle.slave.specs.Standing.{StartsWell}
+use Rattle.slave.specs.declared.complete.Complete.{Complete}
 use Rattle.slave.specs.declared.limits.TheConstants.{PER_ACT}
 
 -- of these lists, those that are ready and whose modes name event channel c: by the session's past,
@@ -110,13 +115,6 @@ abbrev pub HasParts : Profile → List Act → ℕ → Type 0
 HasParts d log lists =
     (c l : ℕ) → c < length d.events.items → l < MAX_LISTS → has_list lists l ≡ true
     → is_on d (past_of d log) c l ≡ true → has_part (opened log - 1) c log ≡ true
-
--- no list runs; and some list runs
-abbrev pub Idle : SessionState → Type 0
-Idle s = (past : Past) → SessionStandsAfter s past → NoneRuns past
-
-abbrev pub Busy : SessionState → Type 0
-Busy s = (past : Past) → SessionStandsAfter s past → ¬ NoneRuns past
 
 -- a task has no place for the orders, or there is no memory
 abbrev pub IsPlaceRefusal : ErrCode → Type 0
@@ -225,7 +223,7 @@ module _ {S T F : Type 0} (take : TakeGhosts T F) where
 
   -- the lists were started
   abbrev pub SlaveStarted : Profile → SlaveState S T → List Act → ℕ → Type 0
-  SlaveStarted d s log lists = StandsBy take (started d log lists) (late_of d log) d s log
+  SlaveStarted d s log lists = StandsBy take (started d log lists) (late_in d log) d s log
 
   -- the lists that ran before and don't now were stopped where they run; and where none runs now,
   -- each measurement ended
@@ -323,12 +321,12 @@ module _ {S T F : Type 0} (take : TakeGhosts T F) where
 
 module _ {E T F : Type 0} (ring : EndGhosts E) (take : TakeGhosts T F) where
   -- a part that came back was added to an account, if there is one
-  abbrev pub Notes : List Totals → List Totals → Option (FinishedState E T) → Type 0
+  abbrev pub Notes : AccountState → AccountState → Option (FinishedState E T) → Type 0
   Notes a b None = b ≡ a
   Notes a b (Some f) =
-      (entry : Entry) → IsPastOf ring take f entry.past
-      → IntakeStandsAfter take f.intake entry.deeds
-      → (entries : List Entry) (unsent : ℕ → ℕ) → AccountStandsAfter a entries unsent
+      (entry : Entry) → entry.number ≡ f.number → entry.number + 1 < 2 ^ 64
+      → IsPastOf ring take f entry.past → IntakeStandsAfter take f.intake entry.deeds
+      → (entries : List Entry) (unsent : ℕ → ℕ → ℕ) → AccountStandsAfter a entries unsent
       → AccountStandsAfter b (entry ∷ entries) unsent
 
 module _ {S E T F : Type 0} (send : SendGhosts S E) (ring : EndGhosts E) (take : TakeGhosts T F)
@@ -417,9 +415,9 @@ module _ {S T F : Type 0} (take : TakeGhosts T F) where
 abbrev pub left_deeds : Profile → List Act → ℕ → ℕ → ℕ → List Deed
 left_deeds d log n c m = unsent_by m c (first n (origins (waits d log))) ++ deeds_of d m c log
 
-abbrev pub left_late : Profile → List Act → ℕ → ℕ → ℕ
-left_late d log n l =
-    late_of d log l + count_by (is_late log l) (first n (origins (waits d log)))
+abbrev pub left_late : Profile → List Act → ℕ → ℕ → ℕ → ℕ
+left_late d log n m l =
+    late_in d log m l + count_by (is_late log m l) (first n (origins (waits d log)))
 
 module _ {S T F : Type 0} (take : TakeGhosts T F) where
   -- the part of measurement m at event channel c was told that a sample of list l isn't sent
@@ -431,8 +429,9 @@ module _ {S T F : Type 0} (take : TakeGhosts T F) where
   pub record TellsAccount (m c l : ℕ) (a b : SlaveState S T) : Type 0 where
     pub none : KeepsNoneOf m c a.channels
     pub account :
-        (entries : List Entry) (unsent : ℕ → ℕ) → AccountStandsAfter a.account entries unsent
-        → AccountStandsAfter b.account entries (more_unsent l 1 unsent)
+        (entries : List Entry) (unsent : ℕ → ℕ → ℕ) → m < end_of entries
+        → AccountStandsAfter a.account entries unsent
+        → AccountStandsAfter b.account entries (more_unsent m l 1 unsent)
     pub rest : b ≡ record a { account = b.account }
 
   -- what is from here isn't sent: of a sample its part or the account was told, if there may be
@@ -511,3 +510,18 @@ module _ {S T : Type 0} where
         (c : ℕ) (end : TaskEndState S) (y : ChannelState S T) → c < n
         → slice_get ends c ≡ Some end → slice_get b.channels c ≡ Some y
         → Busy a.session ⊎ (y.link.came ≡ end.gave)
+
+module _ {S T : Type 0} where
+  -- it says whether no part is kept of the measurements from the one to below the other
+  pub record HasAll (from to : ℕ) (now : List (ChannelState S T)) (has : Bool) : Type 0 where
+    pub yes : has ≡ true → KeepsNoneWithin from to now
+    pub no : has ≡ false → KeepsOneWithin from to now
+
+  -- so of each of the last four up to an end, and of all before
+  pub record HasComplete (end : ℕ) (now : List (ChannelState S T)) (complete : Complete)
+      : Type 0 where
+    pub many : length complete.last ≡ LAST
+    pub last :
+        (i : ℕ) (has : Bool) → slice_get complete.last i ≡ Some has
+        → HasAll (end - LAST + i) (end - LAST + (i + 1)) now has
+    pub older : HasAll 0 (end - LAST) now complete.older

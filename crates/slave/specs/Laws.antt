@@ -4,7 +4,7 @@ use Rattle.xcp_base.specs.declared.limits.TheConstants.{MAX_LISTS}
 use Rattle.channel_ring.specs.declared.ends.TakeEnd.{Ghosts as TakeGhosts}
 use Rattle.session.specs.Starts.{runs}
 use Rattle.session.specs.declared.profile.Profile.{Profile}
-use Rattle.channel_intake.specs.Deeds.{passes}
+use Rattle.slave_outbox.specs.Deeds.{passes}
 use Rattle.slave.specs.Log.{Act, deeds_of, opened, past_of}
 use Rattle.slave.specs.Session.{SameStory, SessionLaw}
 use Rattle.slave.specs.Standing.{IsLog, SlaveStandsAfter, SlaveState}

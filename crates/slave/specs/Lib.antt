@@ -13,3 +13,4 @@ pub mod Session
 pub mod Turns
 pub mod Laws
 pub mod Inner
+pub mod Receiving

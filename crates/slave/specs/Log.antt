@@ -1,11 +1,11 @@
 -- What a slave did, and what follows of it: the past of its session, what was done at each event
 -- channel, and the frames that were laid out, and what became of them.
-use Rattle.std.specs.Prelude.{◌≡◌, ℕ, ◌+◌, ◌<◌, zero, suc}
+use Rattle.std.specs.Prelude.{◌≡◌, ℕ, ◌+◌, ◌<◌, ◌≤◌, zero, suc}
 use Rattle.std.specs.Prelude.{Bool, true, false, ◌&&◌, ◌||◌, not, nat_eq, if◌then◌else◌}
 use Rattle.std.specs.Prelude.{List, [], ◌∷◌, ◌++◌, length, count_by, drop, map}
 use Rattle.std.specs.Prelude.{take as first}
 use Rattle.std.specs.Prelude.{Option, Some, None, Err}
-use Rattle.list_set.specs.Counts.{one_if}
+use Rattle.xcp_base.specs.Counts.{one_if}
 use Rattle.xcp_base.specs.Samples.{SampleParts}
 use Rattle.xcp_base.specs.declared.err_code.ErrCode.{ErrCode}
 use Rattle.xcp_base.specs.declared.item.Item.{Item}
@@ -17,14 +17,14 @@ use Rattle.session.specs.Past.{Past, new_past}
 use Rattle.session.specs.Starts.{is_on, runs}
 use Rattle.session.specs.declared.profile.Profile.{Profile}
 use Rattle.sampler.specs.Past.{Past as SamplerPast}
-use Rattle.channel_intake.specs.Deeds.{Deed, Unsent, passes}
-use Rattle.channel_intake.specs.Deeds.{Took as TookItem}
-use Rattle.channel_intake.specs.Deeds.{runs as runs_there}
-use Rattle.frame_outbox.specs.Outboxes.{Laid}
-use Rattle.frame_outbox.specs.declared.unit.Origin.{Origin}
-use Rattle.frame_outbox.specs.declared.unit.Origin.TheVariants as origin
-use Rattle.slave_channel.specs.Ordering.{starts_noted, stops_noted}
-use Rattle.session_account.specs.Accounts.{Entry}
+use Rattle.slave_outbox.specs.Deeds.{Deed, Unsent, passes}
+use Rattle.slave_outbox.specs.Deeds.{Took as TookItem}
+use Rattle.slave_outbox.specs.Deeds.{runs as runs_there}
+use Rattle.slave_outbox.specs.Outboxes.{Laid}
+use Rattle.slave_outbox.specs.declared.unit.Origin.{Origin}
+use Rattle.slave_outbox.specs.declared.unit.Origin.TheVariants as origin
+use Rattle.slave_channels.specs.Ordering.{starts_noted, stops_noted}
+use Rattle.slave_channels.specs.Accounts.{Entry, end_of, sum_before}
 
 -- a packet was answered by the session; a start was refused by the slave, with an error code, and
 -- changed nothing; a measurement was opened, with a part at these event channels; an item was taken
@@ -270,6 +270,12 @@ abbrev pub AllBack : Profile → List Act → Type 0
 AllBack d log =
     (m c : ℕ) → c < length d.events.items → has_part m c log ≡ true → is_back m c log ≡ true
 
+-- and all of the measurements from the one to below the other
+abbrev pub AllBackWithin : ℕ → ℕ → Profile → List Act → Type 0
+AllBackWithin from to d log =
+    (m c : ℕ) → from ≤ m → m < to → c < length d.events.items → has_part m c log ≡ true
+    → is_back m c log ≡ true
+
 -- the parts of measurements that came back, with what had been done with their rings, the newest
 -- first
 abbrev pub entries_of : Profile → List Act → List Entry
@@ -279,7 +285,7 @@ entries_of d (Refused packet code ∷ log) = entries_of d log
 entries_of d (Opened at ∷ log) = entries_of d log
 entries_of d (Took m c x ∷ log) = entries_of d log
 entries_of d (CameBack m c past ∷ log) =
-    record { past = past; deeds = deeds_of d m c log } ∷ entries_of d log
+    record { number = m; past = past; deeds = deeds_of d m c log } ∷ entries_of d log
 entries_of d (Sent n ∷ log) = entries_of d log
 entries_of d (HungUp ∷ log) = entries_of d log
 entries_of d (Discarded ∷ log) = entries_of d log
@@ -289,21 +295,25 @@ abbrev pub is_sample_of : ℕ → Origin → Bool
 is_sample_of l origin.Reply = false
 is_sample_of l (origin.Sample m c k) = nat_eq k l
 
--- it is one whose part isn't out any more
-abbrev pub is_late : List Act → ℕ → Origin → Bool
-is_late log l origin.Reply = false
-is_late log l (origin.Sample m c k) = nat_eq k l && not (is_out m c log)
+-- it is one of measurement m whose part isn't out any more
+abbrev pub is_late : List Act → ℕ → ℕ → Origin → Bool
+is_late log m l origin.Reply = false
+is_late log m l (origin.Sample n c k) = nat_eq n m && (nat_eq k l && not (is_out n c log))
 
--- how many samples of list l were thrown away behind the return of their part, which had counted
--- them as written
+-- how many samples of list l in measurement m were thrown away behind the return of their part,
+-- which had counted them as written
+abbrev pub late_in : Profile → List Act → ℕ → ℕ → ℕ
+late_in d [] m l = 0
+late_in d (Heard x ∷ log) m l = late_in d log m l
+late_in d (Refused packet code ∷ log) m l = late_in d log m l
+late_in d (Opened at ∷ log) m l = late_in d log m l
+late_in d (Took n c x ∷ log) m l = late_in d log m l
+late_in d (CameBack n c past ∷ log) m l = late_in d log m l
+late_in d (Sent n ∷ log) m l = late_in d log m l
+late_in d (HungUp ∷ log) m l = late_in d log m l
+late_in d (Discarded ∷ log) m l =
+    late_in d log m l + count_by (is_late log m l) (origins (waits d log))
+
+-- and in all measurements
 abbrev pub late_of : Profile → List Act → ℕ → ℕ
-late_of d [] l = 0
-late_of d (Heard x ∷ log) l = late_of d log l
-late_of d (Refused packet code ∷ log) l = late_of d log l
-late_of d (Opened at ∷ log) l = late_of d log l
-late_of d (Took m c x ∷ log) l = late_of d log l
-late_of d (CameBack m c past ∷ log) l = late_of d log l
-late_of d (Sent n ∷ log) l = late_of d log l
-late_of d (HungUp ∷ log) l = late_of d log l
-late_of d (Discarded ∷ log) l =
-    late_of d log l + count_by (is_late log l) (origins (waits d log))
+late_of d log l = sum_before (end_of (entries_of d log)) (late_in d log) l

@@ -16,7 +16,7 @@ use Rattle.session.specs.Profiles.{lists_of}
 use Rattle.session.specs.Starts.{is_on}
 use Rattle.session.specs.declared.event_channel.EventChannel.{EventChannel}
 use Rattle.session.specs.declared.profile.Profile.{Profile}
-use Rattle.slave_channel.specs.Channels.{OpenedState}
+use Rattle.slave_channels.specs.Channels.{OpenedState}
 use Rattle.slave.specs.Log.{Act, CameBack, Discarded, Heard, HungUp, Opened, Refused, Sent, Took}
 use Rattle.slave.specs.Log.{opened, past_of}
 

@@ -27,14 +27,14 @@ use Rattle.sampler.specs.Past.{Past as SamplerPast}
 use Rattle.transmitter.specs.Items.{samples}
 use Rattle.daq_engine.specs.Order.{items_of}
 use Rattle.daq_engine.specs.Overload.{HasMarks}
-use Rattle.channel_intake.specs.Deeds.{passed, passes, taken, unsent_of}
-use Rattle.frame_outbox.specs.Outboxes.{Laid, packets_in, unit_of}
-use Rattle.frame_outbox.specs.Units.{is_reply}
-use Rattle.frame_outbox.specs.declared.unit.Origin.{Origin}
-use Rattle.frame_outbox.specs.declared.unit.Origin.TheVariants as origin
-use Rattle.session_account.specs.Accounts.{Agree, Entry, accepted_in, accepted_of}
-use Rattle.session_account.specs.Accounts.{dropped_in, dropped_of, due_in, due_of}
-use Rattle.session_account.specs.Accounts.{written_in, written_of}
+use Rattle.slave_outbox.specs.Deeds.{passed, passes, taken, unsent_of}
+use Rattle.slave_outbox.specs.Outboxes.{Laid, packets_in, unit_of}
+use Rattle.slave_outbox.specs.Units.{is_reply}
+use Rattle.slave_outbox.specs.declared.unit.Origin.{Origin}
+use Rattle.slave_outbox.specs.declared.unit.Origin.TheVariants as origin
+use Rattle.slave_channels.specs.Accounts.{Agree, Entry, accepted_in, accepted_of}
+use Rattle.slave_channels.specs.Accounts.{dropped_in, dropped_of, due_in, due_of}
+use Rattle.slave_channels.specs.Accounts.{written_in, written_of}
 use Rattle.slave.specs.Log.{AllBack, Act, CameBack, Discarded, Heard, HungUp, Opened, Refused}
 use Rattle.slave.specs.Log.{Sent, Took, deeds_of, entries_of, is_back, is_of_ring, is_out}
 use Rattle.slave.specs.Log.{is_sample_of, laid, late_of, opened, past_of, sent_units, thrown}
@@ -191,12 +191,13 @@ Rests d l since before =
     (later sooner : List Act) (act : Act) → since ≡ later ++ act ∷ sooner
     → runs (past_of d (sooner ++ before)) l ≡ false
 
--- how many samples of list l were accepted in a part and not laid out
+-- how many samples of list l were accepted in a part and not written: not laid out, or thrown away
+-- before they were sent
 abbrev pub left_of : Entry → ℕ → ℕ
 left_of e l = accepted_of e l - written_of e l
 
--- each sample of list l that was due in a part was laid out, dropped, or is left, and each that was
--- accepted was laid out or is left
+-- each sample of list l that was due in a part was written, dropped, or is left, and each that was
+-- accepted was written or is left
 pub record AddsUp (e : Entry) (l : ℕ) : Type 0 where
   pub all_due : due_of e l ≡ written_of e l + dropped_of e l + left_of e l
   pub accepted : accepted_of e l ≡ written_of e l + left_of e l
@@ -223,7 +224,8 @@ pub record IsTold (d : Profile) (log : List Act) (m c : ℕ) (past : SamplerPast
   pub written :
       from_ring m c (laid d log) ≡ map (sample_of m c) (passed (deeds_of d m c earlier))
   pub marks : HasMarks past (samples (taken (deeds_of d m c earlier)))
-  pub adds_up : (l : ℕ) → AddsUp (record { past = past; deeds = deeds_of d m c earlier }) l
+  pub adds_up :
+      (l : ℕ) → AddsUp (record { number = m; past = past; deeds = deeds_of d m c earlier }) l
 
 -- the law of a log
 pub record SessionLaw (d : Profile) (log : List Act) : Type 0 where

@@ -16,26 +16,25 @@ use Rattle.session.specs.Standing.{SessionStandsAfter, SessionState}
 use Rattle.session.specs.Exchanges.{MayBeOut}
 use Rattle.session.specs.Starts.{is_on, runs, starts}
 use Rattle.session.specs.declared.profile.Profile.{Profile}
-use Rattle.channel_intake.specs.Deeds.{Deed}
-use Rattle.channel_intake.specs.Deeds.{runs as runs_there}
-use Rattle.channel_intake.specs.Intakes.{StandsAfter as IntakeStandsAfter}
-use Rattle.frame_outbox.specs.Outboxes.{OutboxState}
-use Rattle.frame_outbox.specs.Outboxes.{StandsAfter as OutboxStandsAfter}
+use Rattle.slave_outbox.specs.Deeds.{Deed}
+use Rattle.slave_outbox.specs.Deeds.{runs as runs_there}
+use Rattle.slave_outbox.specs.Intakes.{StandsAfter as IntakeStandsAfter}
+use Rattle.slave_outbox.specs.Outboxes.{OutboxState}
+use Rattle.slave_outbox.specs.Outboxes.{StandsAfter as OutboxStandsAfter}
 use Rattle.tasks.specs.Links.{is_running, takes_orders}
-use Rattle.slave_channel.specs.Channels.{ChannelState, ShareState}
-pub use Rattle.slave_channel.specs.Channels.{number_of}
+use Rattle.slave_channels.specs.Channels.{ChannelState, ShareState}
+pub use Rattle.slave_channels.specs.Channels.{number_of}
 use Rattle.sampler.specs.History.{due}
 use Rattle.sampler.specs.Past.{Past as SamplerPast}
-use Rattle.channel_intake.specs.Accounts.{HasPlans}
-use Rattle.channel_intake.specs.Deeds.{passes, taken}
+use Rattle.slave_outbox.specs.Accounts.{HasPlans}
+use Rattle.slave_outbox.specs.Deeds.{passes, taken}
 use Rattle.daq_engine.specs.Order.{items_of}
 use Rattle.daq_engine.specs.Overload.{HasMarks}
 use Rattle.transmitter.specs.Items.{samples}
 use Rattle.slave.specs.Log.{Act, CameBack, Discarded, Heard, HungUp, Opened, Refused, Sent, Took}
-use Rattle.slave.specs.Log.{deeds_of, entries_of, has_part, is_back, is_out, late_of, opened}
+use Rattle.slave.specs.Log.{deeds_of, entries_of, has_part, is_back, is_out, late_in, opened}
 use Rattle.slave.specs.Log.{past_of, sent_units, waits, weight}
-use Rattle.session_account.specs.Accounts.{AccountStandsAfter}
-use Rattle.session_account.specs.declared.totals.Totals.{Totals}
+use Rattle.slave_channels.specs.Accounts.{AccountStandsAfter, AccountState}
 use Rattle.slave.specs.Plans.{IsAsOpened, plan_at}
 use Rattle.slave.specs.Openings.{IsOpenedAfter, IsOpeningAfter, past_at}
 use Rattle.slave.specs.Returns.{AreReturns, ends_in, returns_at}
@@ -50,13 +49,20 @@ pub record SlaveState (S T : Type 0) : Type 0 where
   pub channels : List (ChannelState S T)
   pub plan : List Configuration
   pub number : ℕ
-  pub account : List Totals
+  pub account : AccountState
   pub acts : ℕ
   pub next : ℕ
 
 -- no list runs
 abbrev pub NoneRuns : Past → Type 0
 NoneRuns past = (l : ℕ) → l < MAX_LISTS → runs past l ≡ false
+
+-- of a session: no list runs; and some list runs
+abbrev pub Idle : SessionState → Type 0
+Idle s = (past : Past) → SessionStandsAfter s past → NoneRuns past
+
+abbrev pub Busy : SessionState → Type 0
+Busy s = (past : Past) → SessionStandsAfter s past → ¬ NoneRuns past
 
 -- a packet that would start a list
 abbrev pub IsStart : Profile → Past → List ℕ → Type 0
@@ -211,8 +217,8 @@ module _ {T F : Type 0} (take : TakeGhosts T F) where
         (l : ℕ) → l < MAX_LISTS → is_running ch.link.newer l ≡ runs_there (deeds (n - 1)) l
 
   -- the parts of a slave stand after a log of no more than 2^57 acts; at its event channels so much
-  -- was done in each measurement, and of each list so many samples were thrown away late
-  pub record StandsBy {S : Type 0} (deeds : ℕ → ℕ → List Deed) (late : ℕ → ℕ) (d : Profile)
+  -- was done in each measurement, and of each list so many samples of it were thrown away late
+  pub record StandsBy {S : Type 0} (deeds : ℕ → ℕ → List Deed) (late : ℕ → ℕ → ℕ) (d : Profile)
       (s : SlaveState S T) (log : List Act)
       : Type 0 where
     pub few : 32 * length log ≤ MAX_TAKEN
@@ -235,7 +241,7 @@ module _ {T F : Type 0} (take : TakeGhosts T F) where
     pub account : AccountStandsAfter s.account (entries_of d log) late
 
   abbrev pub SlaveHas : {S : Type 0} → Profile → SlaveState S T → List Act → Type 0
-  SlaveHas d s log = StandsBy (λ c m. deeds_of d m c log) (late_of d log) d s log
+  SlaveHas d s log = StandsBy (λ c m. deeds_of d m c log) (late_in d log) d s log
 
   -- all parts of a slave stand after a log
   pub record PartsStandAfter {S : Type 0} (d : Profile) (s : SlaveState S T) (log : List Act)

@@ -8,9 +8,9 @@ use Rattle.xcp_base.specs.declared.item.Item.TheVariants.{Sample}
 use Rattle.std.specs.List.{list_all}
 use Rattle.xcp_base.specs.declared.limits.TheConstants.{MAX_CHANNELS}
 use Rattle.channel_ring.specs.declared.ends.TakeEnd.{Ghosts as TakeGhosts}
-use Rattle.channel_intake.specs.Steps.{Passes}
-use Rattle.frame_outbox.specs.Taking.{HasNoRoom}
-use Rattle.slave_channel.specs.Channels.{ChannelState, ShareState}
+use Rattle.slave_outbox.specs.Steps.{Passes}
+use Rattle.slave_outbox.specs.Taking.{HasNoRoom}
+use Rattle.slave_channels.specs.Channels.{ChannelState, ShareState}
 use Rattle.slave.specs.Hearing.{GoesBy, is_spent}
 use Rattle.slave.specs.Log.{Act, CameBack, Discarded, Heard, HungUp, Opened, Refused, Sent, Took}
 use Rattle.slave.specs.Standing.{SlaveState}

@@ -1,14 +1,13 @@
 //! A packet is answered: the lists that it stops are stopped, and the reply is laid out.
 ghost use Rattle.std.specs.Prelude.{◌≡◌, true, Err, Some};
-ghost use Rattle.frame_outbox.specs.Outboxes.{has_room};
+ghost use Rattle.slave_outbox.specs.Outboxes.{has_room};
 ghost use Rattle.session.specs.Fields.{packet_of};
 ghost use Rattle.slave.specs.Inner.{Answers, LaysReply, Settles};
 
 use crate::slave::Slave;
 use daq_engine::Ring;
-use list_set::ListSet;
 use session::Cto;
-use xcp_base::ErrCode;
+use xcp_base::{ErrCode, ListSet};
 
 impl<R: Ring> Slave<R> {
     /// Answers a packet whose lists were started.
@@ -34,7 +33,7 @@ impl<R: Ring> Slave<R> {
         ensures shown_stays { self.new.outbox.shown ≡ self.old.outbox.shown }
         ensures rest_stays { self.new ≡ record self.old { outbox = self.new.outbox } }
     {
-        let _ = self.outbox.reply(&[0xFE, code.byte()]);
+        self.lay(Some(Cto::error(code)));
     }
 
     /// Stops the lists that ran before and don't now, and ends the measurement where none runs.

@@ -1,14 +1,16 @@
 //! A slave is closed.
 ghost use Rattle.std.specs.Prelude.{◌≡◌, ◌*◌, ◌<◌, length};
+ghost use Rattle.slave_channels.specs.declared.sums.TheConstants.{LAST as OWN};
 ghost use Rattle.xcp_base.specs.declared.limits.TheConstants.{MAX_CHANNELS};
 ghost use Rattle.slave.specs.Closing.{AreEndsOf, Closes};
-ghost use Rattle.slave.specs.Inner.{Collects, Gathers, GathersFirst};
+ghost use Rattle.slave.specs.Inner.{Collects, Gathers, GathersFirst, HasAll, HasComplete};
 ghost use Rattle.slave_channels.specs.Calls.{IsBeside, IsRingAt};
 ghost use Rattle.slave_channels.specs.Each.{IsOnlyAt};
 
+use crate::complete::Complete;
 use crate::slave::Slave;
 use daq_engine::Ring;
-use session_account::Account;
+use slave_channels::{Account, LAST};
 use tasks::TaskEnd;
 
 /// What a slave leaves.
@@ -19,6 +21,8 @@ pub struct Closed {
     /// Whether all that was handed to tasks came back, so that each measurement is in the account
     /// with all of its event channels.
     pub is_whole: bool,
+    /// The same of the last four measurements, one by one, and of all before them.
+    pub complete: Complete,
 }
 
 impl<R: Ring> Slave<R> {
@@ -39,15 +43,42 @@ impl<R: Ring> Slave<R> {
     /// recalled; if it can't be, the account isn't whole.
     pub fn close(mut self, mut ends: Vec<TaskEnd<R::Send>>) -> Closed
         requires tasks { AreEndsOf self.channels ends.items }
-        ensures closes { Closes R.Take.TakeEnd self ends.items result.account result.is_whole }
+        ensures closes { Closes R.Take.TakeEnd self ends.items result.account result.is_whole
+            result.complete }
+        ensures many { length result.complete.last ≡ OWN }
     {
         self.hang_up();
         self.gather_all(&mut ends);
         let is_whole = !self.channels.has_parts();
+        let complete = self.complete();
         Closed {
             account: self.account,
             is_whole,
+            complete,
         }
+    }
+
+    /// Of which measurements all parts came back.
+    fn complete(&self) -> Complete
+        ensures { HasComplete self.now.account.end self.now.channels result }
+    {
+        let first = self.account.end().saturating_sub(LAST);
+        Complete {
+            last: [
+                self.has_all(first, first + 1),
+                self.has_all(first + 1, first + 2),
+                self.has_all(first + 2, first + 3),
+                self.has_all(first + 3, first + 4),
+            ],
+            older: self.has_all(0, first),
+        }
+    }
+
+    /// Whether all parts of the measurements with these numbers came back.
+    fn has_all(&self, from: u64, to: u64) -> bool
+        ensures { HasAll from to self.now.channels result }
+    {
+        !self.channels.has_parts_within(from, to)
     }
 
     /// Takes back, at all event channels, what their tasks gave back, which were finished.

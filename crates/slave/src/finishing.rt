@@ -12,8 +12,7 @@ ghost use Rattle.std.specs.Option.{is_some};
 use crate::limits::PER_ACT;
 use crate::slave::Slave;
 use daq_engine::Ring;
-use session_account::Account;
-use slave_channel::Finished;
+use slave_channels::{Account, Finished};
 
 /// Adds a part that came back to an account, if there is one.
 fn note<R: Ring>(account: &mut Account, part: &Option<Finished<R>>)

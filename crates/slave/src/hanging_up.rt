@@ -1,15 +1,14 @@
 //! The master is lost, and what waits for it is thrown away.
 ghost use Rattle.std.specs.Prelude.{◌≡◌, ◌++◌, [], ◌∷◌, length};
-ghost use Rattle.frame_outbox.specs.Outboxes.{has_waiting};
+ghost use Rattle.slave_outbox.specs.Outboxes.{has_waiting};
 ghost use Rattle.slave.specs.Hearing.{GoesBy};
 ghost use Rattle.slave.specs.Inner.{LeavesFirst, LeavesOne, PartsGoBy};
 ghost use Rattle.slave.specs.Log.{Discarded, HungUp, discarding, losing};
 
 use crate::slave::Slave;
 use daq_engine::Ring;
-use frame_outbox::Origin;
-use list_set::ListSet;
-use xcp_base::ListId;
+use slave_outbox::Origin;
+use xcp_base::{ListId, ListSet};
 
 impl<R: Ring> Slave<R> {
     /// The transport was lost: it is as behind DISCONNECT, but nothing is replied; and what waits
@@ -105,11 +104,11 @@ impl<R: Ring> Slave<R> {
         let Origin::Sample(number, c, list) = origin else {
             return;
         };
-        let Some(l) = ListId::of_byte(list) else {
+        let Some(l) = ListId::new(list) else {
             return;
         };
         if !self.channels.unsent(c, number, l) {
-            self.account.unsent(l, 1);
+            self.account.unsent(number, l, 1);
         }
     }
 }

@@ -1,6 +1,6 @@
 //! The packets of the master are heard.
 ghost use Rattle.std.specs.Prelude.{◌≡◌, ◌+◌, ◌<◌, true, false};
-ghost use Rattle.frame_outbox.specs.Outboxes.{has_room};
+ghost use Rattle.slave_outbox.specs.Outboxes.{has_room};
 ghost use Rattle.slave.specs.Hearing.{Hears, is_spent, may_hear};
 ghost use Rattle.slave.specs.Inner.{counting};
 ghost use Rattle.slave.specs.declared.limits.TheConstants.{MOST_ACTS, PER_PACKET};

@@ -3,6 +3,8 @@
 
 mod answering;
 mod closing;
+mod complete;
+mod datagrams;
 mod finishing;
 mod hanging_up;
 mod hearing;
@@ -14,8 +16,13 @@ mod round;
 mod sending;
 mod slave;
 mod starting;
+mod state;
+mod stream;
 
 pub use closing::Closed;
+pub use complete::Complete;
+pub use datagrams::datagram;
 pub use limits::MOST_ACTS;
 pub use opening::OpenFault;
 pub use slave::Slave;
+pub use stream::MasterStream;

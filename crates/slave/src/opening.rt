@@ -1,3 +1,4 @@
+//! A slave and its tasks are opened with a profile.
 ghost use Rattle.std.specs.Prelude.{◌≡◌, [], IfErr, IfOk, OnOk, length, map};
 ghost use Rattle.std.specs.List.{list_all};
 ghost use Rattle.slave.specs.Openings.{capacities_in};
@@ -9,10 +10,9 @@ ghost use Rattle.tasks.specs.Tasks.{just_begun};
 use crate::plan::Plan;
 use crate::slave::Slave;
 use daq_engine::Ring;
-use frame_outbox::Outbox;
 use session::{EventChannel, Profile, ProfileFault, Session};
-use session_account::Account;
-use slave_channels::Channels;
+use slave_channels::{Account, Channels};
+use slave_outbox::Outbox;
 use std::alloc::{AllocError, Global};
 use tasks::Task;
 use thiserror::Error;

@@ -1,15 +1,15 @@
+//! The set-up that a measurement was opened with: a DAQ list that has changed can't join it.
 ghost use Rattle.std.specs.Prelude.{◌≡◌, ℕ, ◌<◌, ◌↔◌, [], true, false, IfOk};
 ghost use Rattle.xcp_base.specs.declared.limits.TheConstants.{MAX_LISTS};
 ghost use Rattle.xcp_base.specs.Lists.{has_list};
 ghost use Rattle.slave.specs.Plans.{IsSame, plan_of};
 
 use daq_store::Store;
-use list_set::ListSet;
 use session::SetUp;
 use std::alloc::{AllocError, Global};
 use std::marker::Model;
-use xcp_base::ListId;
 use xcp_base::limits::MAX_LISTS;
+use xcp_base::{ListId, ListSet};
 
 /// How the DAQ lists were set up where a measurement was opened.
 #[derive(Drop)]
@@ -58,7 +58,7 @@ impl Plan {
             × (¬ IsSame self.now store.now l) }
     {
         for l in 0..MAX_LISTS {
-            if !self.stands_if(store, lists, ListId::new(l)) {
+            if !self.stands_if(store, lists, ListId::at(l)) {
                 return false;
             }
         }

@@ -1,6 +1,7 @@
+//! How a round over the rings of a measurement ended, and whether it was the last.
 ghost use Rattle.std.specs.Prelude.{◌≡◌, ◌<◌, ◌≢◌, ◌⊎◌, true, false};
 
-use channel_intake::Step;
+use slave_outbox::Step;
 
 /// How a round over the rings of the newest measurement ended.
 #[derive(Clone, Copy, Debug, PartialEq, Eq)]

@@ -3,8 +3,8 @@ ghost use Rattle.std.specs.Prelude.{◌≡◌, ◌*◌, ◌<◌, ◌≤◌, [], 
 ghost use Rattle.std.specs.Prelude.{OnErr, OnOk};
 ghost use Rattle.std.specs.Prelude.{take as first};
 ghost use Rattle.xcp_base.specs.declared.limits.TheConstants.{MAX_CHANNELS};
-ghost use Rattle.frame_outbox.specs.Outboxes.{Shows};
-ghost use Rattle.frame_outbox.specs.Putting.{Hands};
+ghost use Rattle.slave_outbox.specs.Outboxes.{Shows};
+ghost use Rattle.slave_outbox.specs.Putting.{Hands};
 ghost use Rattle.frame_writer.specs.Shown.{shown};
 ghost use Rattle.slave.specs.Hearing.{GoesBy};
 ghost use Rattle.slave.specs.Inner.{EndsRound, GoesRound, KeepsNewest, KeepsOlder};
@@ -17,15 +17,14 @@ ghost use Rattle.slave.specs.declared.limits.TheConstants.{PER_ACT};
 use crate::limits::PER_ACT;
 use crate::round::{Round, is_full};
 use crate::slave::Slave;
-use channel_intake::Step;
 use daq_engine::Ring;
-use frame_outbox::PutFault;
 use frame_writer::Out;
+use slave_outbox::{PutFault, Step};
 
 /// The most items that are taken off one ring in a call.
 const MOST_ITEMS: usize = 1024;
 
-/// What an item that was taken counts as.
+/// What a step adds to `acts`: nothing if it took no item.
 fn acts_of(step: Step) -> u64
     ensures value { result ≡ acts_of step }
     ensures limit { result ≤ PER_ACT }
@@ -37,15 +36,16 @@ fn acts_of(step: Step) -> u64
 }
 
 impl<R: Ring> Slave<R> {
-    /// Takes items off the rings, round by round: in a round at most one of each, in rising event
-    /// channel. It lays those samples out whose DAQ list runs, as long as their frames end within
-    /// the page; the call ends at the first sample that finds no room, and the next one begins at
-    /// its ring. Else it ends once a round over all rings found nothing, or after 1,024 rounds. So
-    /// the rings have their turns: no ring gives more than one item more than one of which each
-    /// call leaves some (`laws::fair_shares`).
+    /// Takes items off the newest measurement's rings, round by round: in a round at most one of
+    /// each, in rising event channel. It lays those samples out whose DAQ list runs, as long as
+    /// their frames end within the page; the call ends at the first sample that finds no room, and
+    /// the next call begins at that ring. Else it ends once a round over all rings found nothing,
+    /// or after 1,024 rounds. So the rings take turns: over many calls none gives more than one
+    /// item more than a ring in which each call leaves some (`laws::fair_shares`).
     ///
-    /// What the rings of measurements before the last still hold is let go, so that their tasks'
-    /// stops find room. It takes no memory; and nothing off the rings of a slave that is spent.
+    /// First, up to 1,024 items are let go of each ring of the measurement before, so that its
+    /// tasks' stops find room. It takes no memory, and nothing off the rings of a slave that is
+    /// spent (`is_spent`).
     pub fn take(&mut self)
         ensures takes { TakesItems R.Take.TakeEnd most_taken self.old self.new }
         ensures through { LooksThrough R.Take.TakeEnd self.old self.new }
@@ -65,7 +65,8 @@ impl<R: Ring> Slave<R> {
         }
     }
 
-    /// Takes an item of each ring, from that of event channel `begin` on.
+    /// Takes an item of each ring, from that of event channel `begin` on. It breaks off at a sample
+    /// that finds no room, and notes its channel in `next`; else `next` is 0.
     fn round(&mut self, begin: usize) -> Round
         ensures takes { TakesItems R.Take.TakeEnd MAX_CHANNELS self.old self.new }
         ensures ends { EndsRound R.Take.TakeEnd self.old self.new begin result }
@@ -88,7 +89,7 @@ impl<R: Ring> Slave<R> {
         Round::Empty
     }
 
-    /// Takes what the rings of the measurements before the last still hold.
+    /// Takes up to 1,024 items of each ring of the measurement before the last.
     fn let_go(&mut self)
         ensures takes { TakesItems R.Take.TakeEnd (1024 * MAX_CHANNELS) self.old self.new }
         ensures keeps { KeepsNewest self.old self.new }
@@ -99,7 +100,7 @@ impl<R: Ring> Slave<R> {
         }
     }
 
-    /// Takes items of the measurement before the last at event channel `c`.
+    /// Takes up to 1,024 items of the measurement before the last at event channel `c`.
     fn take_from_older(&mut self, c: usize)
         requires channel { c < length self.old.channels }
         ensures takes { TakesItems R.Take.TakeEnd 1024 self.old self.new }
@@ -108,6 +109,7 @@ impl<R: Ring> Slave<R> {
     {
         let mut taken = 0;
         while taken < MOST_ITEMS {
+            // never `Full`: no list of that measurement runs
             if let Step::Nothing | Step::Full = self.take_one_older(c) {
                 return;
             }

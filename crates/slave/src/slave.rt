@@ -1,9 +1,9 @@
+//! What a slave is made of: session, outbox, event channels, account.
 use crate::plan::Plan;
 use daq_engine::Ring;
-use frame_outbox::Outbox;
 use session::Session;
-use session_account::Account;
-use slave_channels::Channels;
+use slave_channels::{Account, Channels};
+use slave_outbox::Outbox;
 use std::marker::Model;
 
 /// The transmitter's thread of an XCP slave: the session with its master, the event channels, and

@@ -12,11 +12,10 @@ ghost use Rattle.slave_channels.specs.Calls.{HasSome};
 use crate::plan::Plan;
 use crate::slave::Slave;
 use daq_engine::Ring;
-use list_set::ListSet;
 use std::alloc::Global;
 use tasks::HandFault;
 use xcp_base::limits::MAX_CHANNELS;
-use xcp_base::{ChannelId, ErrCode};
+use xcp_base::{ChannelId, ErrCode, ListSet};
 
 /// What a start is refused with where a measurement can't be opened.
 fn code_of(fault: HandFault) -> ErrCode

@@ -1,5 +1,5 @@
 -- What a call did at one event channel, as the clauses have it of all.
-use Rattle.std.proofs.Common.{◌≡◌, ◌≢◌, ℕ, suc, ◌+◌, ◌<◌, ◌≤◌, true, false, inl, inr, List, length, set, get_or, Some, None, Option, refl, sym, ap, subst, ◌∙◌, arith}
+use Rattle.std.proofs.Common.{◌≡◌, ◌≢◌, ℕ, suc, ◌+◌, ◌<◌, ◌≤◌, Bool, true, false, inl, inr, List, length, set, get_or, Some, None, Option, refl, sym, ap, subst, ◌∙◌, arith}
 use Rattle.std.specs.Prelude.{slice_get}
 use Rattle.std.proofs.lemmas.Bool.Decides.{eqb_tells, leb_tells}
 use Rattle.std.proofs.lemmas.Option.{same_Some, slice_get-get_or, slice_get_within}
@@ -10,10 +10,9 @@ use Rattle.channel_ring.specs.declared.ends.RingEnd.{Ghosts as EndGhosts}
 use Rattle.channel_ring.specs.declared.ends.TakeEnd.{Ghosts as TakeGhosts}
 use Rattle.daq_store.specs.Standing.{StoreState}
 use Rattle.tasks.specs.Links.{AwayState, CanStart, LooksAtNewest}
-use Rattle.slave_channel.specs.Channels.{ChannelState, keeps_part, keeps_two}
-use Rattle.slave_channel.specs.Ordering.{starts_noted, starts_sent}
-use Rattle.slave_channel.proofs.OrderingLemmas.{looked-at, orders-after-look}
-use Rattle.slave_channels.specs.Calls.{CanStartAll, HasFull, HasNoPlaces, HasSome, HaveRoom, KeepsNone, KeepsOne, Looks, OpenedAndEnded, OpensAt, OpensIfAny, StartsAt}
+use Rattle.slave_channels.specs.Channels.{ChannelState, keeps_two}
+use Rattle.slave_channels.specs.Ordering.{starts_noted, starts_sent}
+use Rattle.slave_channels.specs.Calls.{CanStartAll, HasFull, HasNoPlaces, HasSome, HaveRoom, Looks, OpenedAndEnded, OpensAt, OpensIfAny, StartsAt}
 use Rattle.slave_channels.specs.Each.{IsEach}
 use Rattle.slave_channels.specs.Inner.{EndsAt, HaveRoomBelow, IsFront, KeepNone}
 use Rattle.slave_channels.proofs.EachLemmas.{each-twice, front-map, front-next, front-rest, front-twice, get-set_same, read_at}
@@ -101,33 +100,27 @@ module _ {S E T F : Type 0} (send : SendGhosts S E) (ring : EndGhosts E) (take :
       at-place (λ n. OpensIfAny send ring take store number c n set a b) caps c in_caps
       (at-place (λ n. OpensIfAny send ring take store number c (get_or caps c 0) n a b) lists c in_lists opens set set_at) cap cap_at
 
--- what was started behind a look
-pub started-after-look : {S T F : Type 0} (take : TakeGhosts T F) (lists : List ℕ) (xs ys zs : List (ChannelState S T)) → IsEach (λ c. Looks) xs ys → IsEach (StartsAt take lists) ys zs → IsEach (StartsAt take lists) xs zs
-started-after-look take lists xs ys zs looked started =
-    each-twice (λ c. Looks) (StartsAt take lists) (StartsAt take lists) xs ys zs
-    (λ k a m b look starts set at. orders-after-look take a m b (starts_sent (has_list set) MAX_LISTS) (starts_noted (has_list set) MAX_LISTS) (looked-at take a m look.newer look.rest) (starts set at)) looked started
-
 module _ {S T : Type 0} where
   -- a part is kept at an event channel that was read
-  pub keeps-here : (all now : List (ChannelState S T)) (c : ℕ) (x : ChannelState S T) → all ≡ now → x ≡ get_or all c x → c < length all → keeps_part x ≡ true → KeepsOne now
-  keeps-here all now c x same is here keeps = (c, (x, ap (λ xs. slice_get xs c) (sym same) ∙ read_at all c x is here, keeps))
+  pub keeps-here : (test : ChannelState S T → Bool) (all now : List (ChannelState S T)) (c : ℕ) (x : ChannelState S T) → all ≡ now → x ≡ get_or all c x → c < length all → test x ≡ true → (k : ℕ) × ((ch : ChannelState S T) × (slice_get now k ≡ Some ch) × (test ch ≡ true))
+  keeps-here test all now c x same is here keeps = (c, (x, ap (λ xs. slice_get xs c) (sym same) ∙ read_at all c x is here, keeps))
 
-  pub keep-first : (all : List (ChannelState S T)) → KeepNone all 0
-  keep-first all = λ c ch below at. absurd (omega (arith, below))
+  pub keep-first : (test : ChannelState S T → Bool) (all : List (ChannelState S T)) → KeepNone test all 0
+  keep-first test all = λ c ch below at. absurd (omega (arith, below))
 
   -- one event channel more
-  pub keep-more : (all : List (ChannelState S T)) (n : ℕ) (x : ChannelState S T) → x ≡ get_or all n x → n < length all → keeps_part x ≡ false → KeepNone all n → KeepNone all (n + 1)
-  keep-more all n x is here none before = λ c ch below at.
+  pub keep-more : (test : ChannelState S T → Bool) (all : List (ChannelState S T)) (n : ℕ) (x : ChannelState S T) → x ≡ get_or all n x → n < length all → test x ≡ false → KeepNone test all n → KeepNone test all (n + 1)
+  keep-more test all n x is here none before = λ c ch below at.
       elim (eqb_tells c n) [
-        | inl w ↦ ap keeps_part (same_Some ch x (sym at ∙ ap (slice_get all) w.1 ∙ read_at all n x is here)) ∙ none
+        | inl w ↦ ap test (same_Some ch x (sym at ∙ ap (slice_get all) w.1 ∙ read_at all n x is here)) ∙ none
         | inr w ↦ before c ch (less c n below w.1) at
       ] where
         less : (c n : ℕ) → c < n + 1 → c ≢ n → c < n
         less c n below other = elim (leb_tells (suc c) n) [ inl t ↦ t.1 | inr t ↦ absurd (other (omega (arith, below, t.1))) ]
 
   -- these are all
-  pub keep-all : (all now : List (ChannelState S T)) (n : ℕ) → all ≡ now → length all ≤ n → KeepNone all n → KeepsNone now
-  keep-all all now n same all_are before = λ c ch at.
+  pub keep-all : (test : ChannelState S T → Bool) (all now : List (ChannelState S T)) (n : ℕ) → all ≡ now → length all ≤ n → KeepNone test all n → (c : ℕ) (ch : ChannelState S T) → slice_get now c ≡ Some ch → test ch ≡ false
+  keep-all test all now n same all_are before = λ c ch at.
       let there = ap (λ xs. slice_get xs c) same ∙ at in
       before c ch (omega (arith, slice_get_within all c ch there, all_are)) there
 

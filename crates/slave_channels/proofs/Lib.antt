@@ -1,3 +1,12 @@
 pub mod EachLemmas
 pub mod CallLemmas
 pub mod NewLemmas
+pub mod PartLemmas
+pub mod OrderingLemmas
+pub mod TotalsLemmas
+pub mod AddingLemmas
+pub mod EntryLemmas
+pub mod RowLemmas
+pub mod SumsLemmas
+pub mod AccountLemmas
+pub mod SumLemmas

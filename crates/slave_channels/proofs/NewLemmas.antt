@@ -2,7 +2,7 @@
 use Rattle.std.proofs.Common.{◌≡◌, ℕ, zero, suc, ◌+◌, slice_get, List, [], ◌∷◌, ◌++◌, map, sym, ap, subst, ◌∙◌}
 use Rattle.std.specs.Prelude.{Some, None}
 use Rattle.std.proofs.lemmas.List.{length-append, map-append}
-use Rattle.slave_channel.specs.Channels.{ChannelState, no_measurement}
+use Rattle.slave_channels.specs.Channels.{ChannelState, no_measurement}
 use Rattle.slave_channels.specs.Calls.{AreNew}
 use Rattle.tasks.specs.Tasks.{TaskState, just_begun}
 

@@ -8,16 +8,17 @@ use Rattle.channel_ring.specs.Ends.{RingName}
 use Rattle.channel_ring.specs.declared.ends.SendEnd.{Ghosts as SendGhosts}
 use Rattle.channel_ring.specs.declared.ends.RingEnd.{Ghosts as EndGhosts}
 use Rattle.channel_ring.specs.declared.ends.TakeEnd.{Ghosts as TakeGhosts}
-use Rattle.channel_intake.specs.declared.step.Step.{Step}
+use Rattle.slave_outbox.specs.declared.step.Step.{Step}
 use Rattle.daq_store.specs.Standing.{StoreState}
-use Rattle.frame_outbox.specs.Outboxes.{OutboxState}
+use Rattle.slave_outbox.specs.Outboxes.{OutboxState}
 use Rattle.tasks.specs.Links.{CanStart, EndsNewest, LooksAtNewest, NoneIsBack, is_out, is_running}
 use Rattle.tasks.specs.Links.{takes_orders}
 use Rattle.tasks.specs.Tasks.{TaskEndState, TaskState, just_begun}
-use Rattle.slave_channel.specs.Channels.{ChannelState, FinishedState, IsBackOf, Opens, TakesOf}
-use Rattle.slave_channel.specs.Channels.{keeps_part, keeps_two, no_measurement, number_of}
-use Rattle.slave_channel.specs.Ordering.{OrdersAll, starts_noted, starts_sent}
-use Rattle.slave_channel.specs.Ordering.{stops_noted, stops_sent}
+use Rattle.slave_channels.specs.Channels.{ChannelState, FinishedState, IsBackOf, Opens, TakesOf}
+use Rattle.slave_channels.specs.Channels.{keeps_part, keeps_two, keeps_within, no_measurement}
+use Rattle.slave_channels.specs.Channels.{number_of}
+use Rattle.slave_channels.specs.Ordering.{OrdersAll, starts_noted, starts_sent}
+use Rattle.slave_channels.specs.Ordering.{stops_noted, stops_sent}
 
 -- a list is one of these
 abbrev pub HasSome : ℕ → Type 0
@@ -101,6 +102,16 @@ module _ {S T : Type 0} where
   abbrev pub KeepsOne : List (ChannelState S T) → Type 0
   KeepsOne now =
       (c : ℕ) × ((ch : ChannelState S T) × (slice_get now c ≡ Some ch) × (keeps_part ch ≡ true))
+
+  -- no part is kept of a measurement with a number from `from` to below `to`; and one is
+  abbrev pub KeepsNoneWithin : ℕ → ℕ → List (ChannelState S T) → Type 0
+  KeepsNoneWithin from to now =
+      (c : ℕ) (ch : ChannelState S T) → slice_get now c ≡ Some ch → keeps_within from to ch ≡ false
+
+  abbrev pub KeepsOneWithin : ℕ → ℕ → List (ChannelState S T) → Type 0
+  KeepsOneWithin from to now =
+      (c : ℕ) × ((ch : ChannelState S T) × (slice_get now c ≡ Some ch)
+      × (keeps_within from to ch ≡ true))
 
   -- no part of measurement m is kept at event channel c
   abbrev pub KeepsNoneOf : ℕ → ℕ → List (ChannelState S T) → Type 0

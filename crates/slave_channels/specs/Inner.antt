@@ -1,11 +1,13 @@
--- What no public clause cites: the first elements of a list changed; the parts of a measurement
--- that was opened in part end.
-use Rattle.std.specs.Prelude.{◌≡◌, ◌≢◌, ℕ, ◌<◌, ◌≤◌, false, List, length, slice_get, Some}
-use Rattle.slave_channel.specs.Channels.{ChannelState, keeps_part, keeps_two}
+-- What no public clause cites: how far a loop over event channels has come, and how the parts end
+-- of a measurement that could be opened only in part. lists[c] is its set of DAQ lists at event
+-- channel c; 0 is the empty set.
+use Rattle.std.specs.Prelude.{◌≡◌, ◌≢◌, ℕ, ◌<◌, ◌≤◌, Bool, false, List, length, slice_get, Some}
+use Rattle.slave_channels.specs.Channels.{ChannelState, keeps_two}
 use Rattle.slave_channels.specs.Calls.{Ends}
 
 module _ {A : Type 0} where
-  -- each of the first n elements, with its place, became one so, and the others are as they were
+  -- each of the first n elements changed as R says of its place, before and after; the others
+  -- didn't
   pub record IsFront (R : ℕ → A → A → Type 0) (n : ℕ) (old now : List A) : Type 0 where
     pub as_many : length now ≡ length old
     pub front :
@@ -14,20 +16,20 @@ module _ {A : Type 0} where
     pub rest : (k : ℕ) → n ≤ k → slice_get now k ≡ slice_get old k
 
 module _ {S T : Type 0} where
-  -- the measurement ended at event channel c, if it has lists there
+  -- the measurement ended at event channel c if lists[c] isn't empty; else nothing changed
   abbrev pub EndsAt : List ℕ → ℕ → ChannelState S T → ChannelState S T → Type 0
   EndsAt lists c a b =
       (set : ℕ) → slice_get lists c ≡ Some set
       → (set ≡ 0 → b ≡ a) × (set ≢ 0 → Ends a b)
 
-  -- at the first n event channels, if they have lists, there is room for one more part
+  -- `HaveRoom`, so far: at each of the first n event channels whose lists[c] isn't empty
   abbrev pub HaveRoomBelow : List ℕ → List (ChannelState S T) → ℕ → Type 0
   HaveRoomBelow lists now n =
       (c set : ℕ) (ch : ChannelState S T) → c < n
       → slice_get lists c ≡ Some set → slice_get now c ≡ Some ch → set ≢ 0
       → keeps_two ch ≡ false
 
-  -- no part of a measurement is kept at the first n event channels
-  abbrev pub KeepNone : List (ChannelState S T) → ℕ → Type 0
-  KeepNone now n =
-      (c : ℕ) (ch : ChannelState S T) → c < n → slice_get now c ≡ Some ch → keeps_part ch ≡ false
+  -- none of the first n event channels passes this test
+  abbrev pub KeepNone : (ChannelState S T → Bool) → List (ChannelState S T) → ℕ → Type 0
+  KeepNone test now n =
+      (c : ℕ) (ch : ChannelState S T) → c < n → slice_get now c ≡ Some ch → test ch ≡ false

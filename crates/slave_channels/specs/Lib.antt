@@ -1,3 +1,9 @@
 pub mod Each
 pub mod Inner
 pub mod Calls
+pub mod Channels
+pub mod Ordering
+pub mod PartInner
+pub mod Accounts
+pub mod AccountLaws
+pub mod AccountInner

@@ -1,12 +1,13 @@
 //! What came back of the measurements at one event channel.
 ghost use Rattle.std.specs.Prelude.{◌≡◌, ◌<◌, length, true, false};
 ghost use Rattle.slave_channels.specs.Calls.{GivesBackNewer, GivesBackOlder, IsNewestAt};
-ghost use Rattle.slave_channels.specs.Calls.{IsBeside, IsRingAt, KeepsNone, KeepsOne};
+ghost use Rattle.slave_channels.specs.Calls.{IsBeside, IsRingAt, KeepsNone, KeepsNoneWithin};
+ghost use Rattle.slave_channels.specs.Calls.{KeepsOne, KeepsOneWithin};
 ghost use Rattle.slave_channels.specs.Each.{IsOnlyAt};
 
+use crate::Finished;
 use crate::channels::Channels;
 use daq_engine::Ring;
-use slave_channel::Finished;
 use tasks::TaskEnd;
 
 impl<R: Ring> Channels<R> {
@@ -18,6 +19,20 @@ impl<R: Ring> Channels<R> {
     {
         for c in 0..self.all.len() {
             if self.all[c].has_parts() {
+                return true;
+            }
+        }
+        false
+    }
+
+    /// Whether a part is kept at an event channel of a measurement with a number from `from` to
+    /// below `to`.
+    pub fn has_parts_within(&self, from: u64, to: u64) -> bool
+        ensures none { result ≡ false → KeepsNoneWithin from to self.now }
+        ensures some { result ≡ true → KeepsOneWithin from to self.now }
+    {
+        for c in 0..self.all.len() {
+            if self.all[c].has_part_within(from, to) {
                 return true;
             }
         }

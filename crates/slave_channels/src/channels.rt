@@ -1,5 +1,6 @@
+//! All event channels of a slave are made, each with its task.
+use crate::Channel;
 use daq_engine::Ring;
-use slave_channel::Channel;
 use std::alloc::{AllocError, Global};
 use std::marker::Model;
 use tasks::Task;
@@ -13,7 +14,7 @@ pub struct Channels<R: Ring> {
 impl<R: Ring> Model for Channels<R> {
     ghost use Rattle.std.specs.Prelude.{List, length, ◌≤◌};
     ghost use Rattle.xcp_base.specs.declared.limits.TheConstants.{MAX_CHANNELS};
-    ghost use Rattle.slave_channel.specs.Channels.{ChannelState};
+    ghost use Rattle.slave_channels.specs.Channels.{ChannelState};
 
     ghost Value = { List (ChannelState R.Send R.Take) };
 

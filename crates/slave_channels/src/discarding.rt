@@ -1,7 +1,7 @@
 //! A sample of one event channel that was laid out is thrown away.
 ghost use Rattle.std.specs.Prelude.{◌≡◌, ◌<◌, length, true, false};
-ghost use Rattle.channel_intake.specs.Deeds.{Unsent};
-ghost use Rattle.slave_channel.specs.Channels.{GoesOnThere};
+ghost use Rattle.slave_outbox.specs.Deeds.{Unsent};
+ghost use Rattle.slave_channels.specs.Channels.{GoesOnThere};
 ghost use Rattle.slave_channels.specs.Calls.{KeepsNoneOf};
 ghost use Rattle.slave_channels.specs.Each.{IsOnlyAt};
 

@@ -2,10 +2,10 @@
 ghost use Rattle.slave_channels.specs.Calls.{Ends, StopsAll};
 ghost use Rattle.slave_channels.specs.Each.{IsEach};
 
+use crate::Channel;
 use crate::channels::Channels;
 use daq_engine::Ring;
-use list_set::ListSet;
-use slave_channel::Channel;
+use xcp_base::ListSet;
 
 /// Ends the measurement that is there at an event channel, if one is.
 pub(crate) fn end_one<R: Ring>(channel: &mut Channel<R>)

@@ -1,20 +1,19 @@
 //! A measurement is opened at all event channels that have lists of it, or at none.
 ghost use Rattle.std.specs.Prelude.{◌≡◌, ◌≢◌, ◌<◌, ◌≤◌, OnErr, OnOk, length, true, false};
-ghost use Rattle.slave_channel.specs.Channels.{keeps_two};
+ghost use Rattle.slave_channels.specs.Channels.{keeps_two};
 ghost use Rattle.slave_channels.specs.Calls.{Ends, HasFull, HasSome, HaveRoom};
 ghost use Rattle.slave_channels.specs.Calls.{OpenedAndEnded, OpensAt, OpensIfAny};
 ghost use Rattle.slave_channels.specs.Each.{IsEach, IsOnlyAt};
 ghost use Rattle.slave_channels.specs.Inner.{EndsAt, IsFront};
 
+use crate::Channel;
 use crate::channels::Channels;
 use crate::ending::end_one;
 use daq_engine::Ring;
 use daq_store::Store;
-use list_set::ListSet;
-use slave_channel::Channel;
 use std::alloc::Global;
 use tasks::HandFault;
-use xcp_base::ChannelId;
+use xcp_base::{ChannelId, ListSet};
 
 /// Opens an event channel's part of a measurement, if it has lists of it.
 fn open_one<R: Ring>(

@@ -5,10 +5,10 @@ ghost use Rattle.tasks.specs.Links.{CanStart};
 ghost use Rattle.slave_channels.specs.Calls.{CanStartAll, HasNoPlaces, Looks, Starts, StartsAt};
 ghost use Rattle.slave_channels.specs.Each.{IsEach};
 
+use crate::Channel;
 use crate::channels::Channels;
 use daq_engine::Ring;
-use list_set::ListSet;
-use slave_channel::Channel;
+use xcp_base::ListSet;
 
 /// Whether starts of these lists find places at an event channel, if they are any.
 fn can_start_one<R: Ring>(channel: &mut Channel<R>, set: ListSet) -> bool
@@ -47,22 +47,6 @@ impl<R: Ring> Channels<R> {
                 return false;
             }
         }
-        true
-    }
-
-    /// Orders the starts of the lists `lists[c]` at each event channel `c` if all find places, and
-    /// returns whether they do; else none is ordered at any channel. It takes no memory.
-    pub fn start_all(&mut self, lists: &[ListSet]) -> bool
-        requires lists { length lists.now ≡ length self.old }
-        ensures yes { result ≡ true
-            → IsEach (StartsAt R.Take.TakeEnd lists.now) self.old self.new }
-        ensures no { result ≡ false → HasNoPlaces lists.now self.new }
-        ensures looked { result ≡ false → IsEach (λ c. Looks) self.old self.new }
-    {
-        if !self.can_start(lists) {
-            return false;
-        }
-        self.start_checked(lists);
         true
     }
 

@@ -4,9 +4,8 @@ ghost use Rattle.slave_channels.specs.Calls.{TakesFromNewer, TakesFromOlder};
 ghost use Rattle.slave_channels.specs.Each.{IsOnlyAt};
 
 use crate::channels::Channels;
-use channel_intake::Step;
 use daq_engine::Ring;
-use frame_outbox::Outbox;
+use slave_outbox::{Outbox, Step};
 use xcp_base::ChannelId;
 
 impl<R: Ring> Channels<R> {

@@ -3,7 +3,7 @@ use Rattle.std.proofs.Common.{◌≡◌, ℕ, List, [], ◌∷◌, ◌++◌, ref
 use Rattle.sampler.specs.Past.{Past}
 use Rattle.sampler.specs.declared.taken.Taken.{Taken}
 use Rattle.tasks.specs.Deeds.{Deed, Obeyed, Took, orders_in, past_after, past_after_deed}
-use Rattle.control_ring.specs.declared.order.Order.{Order}
+use Rattle.channel_ring.specs.declared.order.Order.{Order}
 
 pub past-more : (past : Past) (ds : List Deed) (d : Deed)
     → past_after past (ds ++ d ∷ []) ≡ past_after_deed (past_after past ds) d

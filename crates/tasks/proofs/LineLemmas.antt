@@ -5,7 +5,7 @@ use Rattle.std.specs.Prelude.{IfOk, IfSome, map, ◌⊎◌, ◌≤◌, Bool}
 use Rattle.std.specs.Option.{is_some}
 use Rattle.channel_ring.specs.declared.ends.SendEnd.{Ghosts as SendGhosts}
 use Rattle.channel_ring.specs.declared.ends.RingEnd.{Ghosts as EndGhosts}
-use Rattle.control_ring.specs.Orders.{TakeState}
+use Rattle.channel_ring.specs.Orders.{TakeState}
 use Rattle.sampler.specs.Standing.{StandsAfter}
 use Rattle.sampler.specs.State.{SamplerEndState, SamplerState}
 use Rattle.hand_over.specs.Newest.{one_before}
@@ -16,8 +16,8 @@ use Rattle.tasks.specs.Links.{AwayState, CameBack, ComesNext, EndsNewest, EndsUn
 use Rattle.tasks.specs.Tasks.{HeldState}
 use Rattle.tasks.specs.Ways.{HasCome, IsLeftOf, LeavesBy, LeftState, left_of, seen_of}
 use Rattle.tasks.specs.declared.lost.Lost.{Lost}
-use Rattle.control_ring.specs.declared.order.Order.{Order}
-use Rattle.control_ring.specs.declared.order.Order.TheVariants as order
+use Rattle.channel_ring.specs.declared.order.Order.{Order}
+use Rattle.channel_ring.specs.declared.order.Order.TheVariants as order
 use Rattle.tasks.proofs.WayLemmas.{come-here, come-left}
 
 tail_of : {A : Type 0} → List A → List A

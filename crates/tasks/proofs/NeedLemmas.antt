@@ -7,7 +7,7 @@ use Rattle.xcp_base.specs.declared.limits.TheConstants.{MAX_LISTS}
 use Rattle.xcp_base.specs.Lists.{has_list}
 use Rattle.tasks.specs.Links.{without}
 use Rattle.xcp_base.specs.declared.limits.TheConstants.{MAX_CONTROL_RING}
-use Rattle.list_set.specs.Counts.{how_many, one_if}
+use Rattle.xcp_base.specs.Counts.{how_many, one_if}
 use Rattle.tasks.specs.Needs.{places_for}
 
 or_false : (b : Bool) → (b || false) ≡ b

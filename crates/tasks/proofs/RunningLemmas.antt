@@ -4,9 +4,9 @@ use Rattle.xcp_base.specs.declared.limits.TheConstants.{MAX_LISTS}
 use Rattle.xcp_base.specs.Lists.{has_list}
 use Rattle.sampler.specs.State.{SamplerState, runs_in}
 use Rattle.tasks.specs.Links.{AwayState, HasPlacesFor, SendsOrder, runs_behind, runs_by, runs_of, without}
-use Rattle.list_set.specs.Counts.{how_many}
-use Rattle.control_ring.specs.declared.order.Order.{Order}
-use Rattle.control_ring.specs.declared.order.Order.TheVariants as order
+use Rattle.xcp_base.specs.Counts.{how_many}
+use Rattle.channel_ring.specs.declared.order.Order.{Order}
+use Rattle.channel_ring.specs.declared.order.Order.TheVariants as order
 use Rattle.tasks.proofs.NeedLemmas.{start-leaves, start-others}
 
 pub runs_by-more : (os : List Order) (o : Order) (before : Bool) (l : ℕ)

@@ -16,9 +16,9 @@ use Rattle.xcp_base.specs.contracts.item.Item as Item
 use Rattle.channel_ring.specs.declared.ends.SendEnd.{Ghosts as SendGhosts}
 use Rattle.channel_ring.specs.declared.ends.RingEnd.{Ghosts as EndGhosts}
 use Rattle.copy_plan.specs.contracts.plan.CopyPlan as CopyPlan
-use Rattle.control_ring.specs.contracts.order.Order as Order
-use Rattle.control_ring.specs.contracts.send.ControlSend as ControlSend
-use Rattle.control_ring.specs.contracts.take.ControlTake as ControlTake
+use Rattle.channel_ring.specs.contracts.order.Order as Order
+use Rattle.channel_ring.specs.contracts.control_send.ControlSend as ControlSend
+use Rattle.channel_ring.specs.contracts.control_take.ControlTake as ControlTake
 use Rattle.hand_over.proofs.SendLemmas.{borrower_send, lender_send}
 use Rattle.tasks.specs.contracts.away.Away as Away
 use Rattle.tasks.specs.contracts.handed.Handed as Handed

@@ -14,8 +14,8 @@ use Rattle.sampler.specs.declared.polled.Polled.{Polled}
 use Rattle.sampler.specs.declared.taken.Taken.{Taken}
 use Rattle.sampler.specs.declared.faults.TriggerFault.{TriggerFault}
 use Rattle.sampler.specs.declared.faults.TriggerFault.TheVariants.{Spent, WrongImage}
-use Rattle.control_ring.specs.declared.order.Order.{Order}
-use Rattle.control_ring.specs.declared.order.Order.TheVariants as order
+use Rattle.channel_ring.specs.declared.order.Order.{Order}
+use Rattle.channel_ring.specs.declared.order.Order.TheVariants as order
 use Rattle.tasks.specs.Deeds.{is_end}
 use Rattle.tasks.specs.Inner.{ObeysAs, ObeysHeldAs}
 use Rattle.tasks.specs.Tasks.{GivesBack, GivesBackHeld, GivesBackIfAny, HeldState, Obeys, ObeysHeld, Rests, RestsHeld, Steps, StepsBy, StepsThrough, TaskState, TriggersSampler}

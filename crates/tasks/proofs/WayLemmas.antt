@@ -3,9 +3,9 @@ use Rattle.std.proofs.Common.{◌≡◌, ℕ, List, [], ◌∷◌, ◌++◌, app
 use Rattle.std.specs.Prelude.{IfOk, OnErr}
 use Rattle.channel_ring.specs.declared.ends.SendEnd.{Ghosts as SendGhosts}
 use Rattle.channel_ring.specs.declared.ends.RingEnd.{Ghosts as EndGhosts}
-use Rattle.control_ring.specs.Orders.{TakeState}
-use Rattle.control_ring.specs.declared.order.Order.{Order}
-use Rattle.control_ring.specs.declared.order.Order.TheVariants as order
+use Rattle.channel_ring.specs.Orders.{TakeState}
+use Rattle.channel_ring.specs.declared.order.Order.{Order}
+use Rattle.channel_ring.specs.declared.order.Order.TheVariants as order
 use Rattle.sampler.specs.Control.{CarriesOut, Polls, Refuses, answered}
 use Rattle.sampler.specs.History.{Start, Stop}
 use Rattle.sampler.specs.Past.{Past}

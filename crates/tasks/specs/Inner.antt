@@ -5,8 +5,8 @@ use mathlib.Core.List.{IsPrefix}
 use Rattle.channel_ring.specs.declared.ends.SendEnd.{Ghosts as SendGhosts}
 use Rattle.channel_ring.specs.declared.ends.RingEnd.{Ghosts as EndGhosts}
 use Rattle.sampler.specs.State.{SamplerEndState}
-use Rattle.control_ring.specs.Orders.{TakeState}
-use Rattle.control_ring.specs.declared.order.Order.{Order}
+use Rattle.channel_ring.specs.Orders.{TakeState}
+use Rattle.channel_ring.specs.declared.order.Order.{Order}
 use Rattle.hand_over.specs.Lines.{LenderState}
 use Rattle.tasks.specs.Links.{AwayState, CameBack, ComesNext, LinkState, NothingCame}
 use Rattle.tasks.specs.Tasks.{HeldState, Obeys, RestsHeld, TaskState}

@@ -3,7 +3,7 @@ use Rattle.std.specs.Prelude.{◌≡◌, ◌≢◌, ℕ, ◌+◌, ◌≤◌, ◌
 use Rattle.std.specs.Prelude.{nat_eq, List, [], ◌∷◌, ◌++◌, length}
 use Rattle.std.specs.Prelude.{Option, Some, None, Result, Ok, Err}
 use mathlib.Core.List.{IsPrefix}
-use Rattle.control_ring.specs.Orders.{TakeState}
+use Rattle.channel_ring.specs.Orders.{TakeState}
 use Rattle.std.specs.Option.{is_some}
 use Rattle.channel_ring.specs.declared.ends.SendEnd.{Ghosts as SendGhosts}
 use Rattle.channel_ring.specs.declared.ends.RingEnd.{Ghosts as EndGhosts}
@@ -17,8 +17,8 @@ use Rattle.tasks.specs.Needs.{places_for}
 use Rattle.tasks.specs.Ways.{IsLeftOf, LeftState, seen_of}
 use Rattle.tasks.specs.declared.fault.HandFault.{HandFault}
 use Rattle.tasks.specs.declared.fault.HandFault.TheVariants.{Busy, NotEnded}
-use Rattle.control_ring.specs.declared.order.Order.{Order}
-use Rattle.control_ring.specs.declared.order.Order.TheVariants as order
+use Rattle.channel_ring.specs.declared.order.Order.{Order}
+use Rattle.channel_ring.specs.declared.order.Order.TheVariants as order
 use Rattle.xcp_base.specs.declared.limits.TheConstants.{MAX_CONTROL_RING}
 
 -- a sampler that was handed out, and the task's end of its orders, as they were then; the orders

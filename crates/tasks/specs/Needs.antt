@@ -1,7 +1,7 @@
 -- The places that orders about DAQ lists take in a ring of orders.
 use Rattle.std.specs.Prelude.{ℕ, ◌+◌, Bool, ◌||◌}
 use Rattle.xcp_base.specs.declared.limits.TheConstants.{MAX_LISTS}
-use Rattle.list_set.specs.Counts.{how_many}
+use Rattle.xcp_base.specs.Counts.{how_many}
 
 -- the places that starts of these lists take, with the stops of all lists that then run and an
 -- order to end

@@ -1,13 +1,12 @@
+//! What the slave keeps of a sampler that is at its task: orders sent, and lists that run.
 use crate::handed::Handed;
 use crate::needs::places_for;
 use crate::rule::Left;
-use channel_ring::SendEnd;
-use control_ring::{ControlSend, Order};
-use list_set::ListSet;
+use channel_ring::{ControlSend, Order, SendEnd};
 use sampler::SamplerEnd;
 use std::marker::Model;
 use std::snapshot::Snapshot;
-use xcp_base::ListId;
+use xcp_base::{ListId, ListSet};
 
 /// What the slave keeps of a sampler that was handed out: its end of the orders, the set of the DAQ
 /// lists that run by those that were sent, and the sampler itself, if it was recalled.
@@ -27,7 +26,7 @@ impl<S: SendEnd> Model for Away<S> {
     ghost use Rattle.xcp_base.specs.declared.limits.TheConstants.{MAX_LISTS};
     ghost use Rattle.xcp_base.specs.Lists.{has_list};
     ghost use Rattle.sampler.specs.State.{runs_in};
-    ghost use Rattle.list_set.specs.Counts.{how_many};
+    ghost use Rattle.xcp_base.specs.Counts.{how_many};
     ghost use Rattle.tasks.specs.Links.{AwayState, runs_by};
 
     ghost Value = { AwayState S };
@@ -61,7 +60,7 @@ impl<S: SendEnd> Away<S> {
     ghost use Rattle.tasks.specs.Links.{HasPlacesFor, LooksAtOrders, SendsOrder};
     ghost use Rattle.tasks.specs.Links.{runs_of, without};
     ghost use Rattle.tasks.specs.Ways.{LeavesBy};
-    ghost use Rattle.control_ring.specs.declared.order.Order.TheVariants.{Start, Stop, End};
+    ghost use Rattle.channel_ring.specs.declared.order.Order.TheVariants.{Start, Stop, End};
 
     /// Whether it takes orders.
     pub fn takes_orders(&self) -> bool

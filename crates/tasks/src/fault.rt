@@ -1,3 +1,4 @@
+//! Why a sampler isn't handed out to its task.
 use thiserror::Error;
 
 /// Why a sampler was not handed out. The link is unchanged.

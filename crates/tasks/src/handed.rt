@@ -1,7 +1,7 @@
+//! What a task holds: a sampler, and the orders that it carries out on it.
 use crate::lost;
 use crate::rule::Left;
-use channel_ring::SendEnd;
-use control_ring::ControlTake;
+use channel_ring::{ControlTake, SendEnd};
 use sampler::{Polled, Sampler, Taken, TriggerFault};
 use std::marker::Model;
 

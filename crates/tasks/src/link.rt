@@ -1,19 +1,19 @@
+//! The slave's side of a task: samplers are handed out, ordered to start and stop lists,
+//! ended, and taken back.
 use crate::away::Away;
 use crate::fault::HandFault;
 use crate::handed::Handed;
 use crate::rule::{Left, SlaveLine};
 use crate::task::Task;
 use crate::task_end::TaskEnd;
-use channel_ring::SendEnd;
-use control_ring::ControlRing;
+use channel_ring::{ControlRing, SendEnd};
 use hand_over::{keep_newest, new_line};
-use list_set::ListSet;
 use sampler::{Sampler, SamplerEnd};
 use std::alloc::{AllocError, Global};
 use std::marker::Model;
 use std::snapshot::Snapshot;
-use xcp_base::ListId;
 use xcp_base::limits::MAX_CONTROL_RING;
+use xcp_base::{ListId, ListSet};
 
 /// The slave's side of a task.
 ///
@@ -60,7 +60,7 @@ ghost use Rattle.tasks.specs.Links.{takes_orders, without};
 ghost use Rattle.tasks.specs.Tasks.{HeldState, just_begun};
 ghost use Rattle.tasks.specs.Ways.{LeavesBy};
 ghost use Rattle.tasks.specs.declared.lost.Lost.{Lost};
-ghost use Rattle.control_ring.specs.declared.order.Order.TheVariants.{Start, Stop, End};
+ghost use Rattle.channel_ring.specs.declared.order.Order.TheVariants.{Start, Stop, End};
 
 /// A sampler to be handed out, and what the slave keeps of it; or it comes back, if there is no
 /// memory.
@@ -357,14 +357,6 @@ impl<S: SendEnd> TaskLink<S> {
         Ok(())
     }
 
-    /// Whether the sampler that was handed out last takes orders: it is out, and its measurement
-    /// has not ended.
-    pub fn takes_orders(&self) -> bool
-        ensures { result ≡ takes_orders self.now.newer }
-    {
-        newest_takes_orders(&self.newer)
-    }
-
     /// The set of the DAQ lists that run by the orders that were sent to it.
     pub fn running(&self) -> ListSet
         ensures { (l : ℕ) → l < MAX_LISTS → has_list result l ≡ is_running self.now.newer l }
@@ -470,8 +462,8 @@ impl<S: SendEnd> TaskLink<S> {
     }
 
     /// What came back of the sampler that was handed out last, with the number of orders that were
-    /// not carried out. It comes behind the older one. If its measurement has ended and the task has
-    /// not fetched it, it is recalled.
+    /// not carried out. It comes behind the older one. If its measurement has ended and the
+    /// task has not fetched it, it is recalled.
     pub fn take_newer(&mut self) -> Option<(SamplerEnd<S::End>, usize)>
         ensures back { IfSome result (λ back. (a : AwayState S) × (self.old.newer ≡ Some a)
             × IsBackBy S.SendEnd S.End.RingEnd self.old self.new a back.0 back.1) }

@@ -1,3 +1,4 @@
+//! A sampler is finished, or nothing is left of it since its ring is gone.
 ghost use Rattle.std.specs.Prelude.{IfOk};
 ghost use Rattle.tasks.specs.Ways.{IsLeftOf};
 

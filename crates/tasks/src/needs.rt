@@ -3,7 +3,7 @@ ghost use Rattle.std.specs.Prelude.{◌≡◌};
 ghost use Rattle.xcp_base.specs.Lists.{has_list};
 ghost use Rattle.tasks.specs.Needs.{places_for};
 
-use list_set::ListSet;
+use xcp_base::ListSet;
 
 /// The places that starts of these lists take, with the stops of all lists that then run and an
 /// order to end.

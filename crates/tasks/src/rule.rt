@@ -1,7 +1,7 @@
+//! The lines between slave and tasks, and the rule for what comes back over them.
 use crate::handed::Handed;
 use crate::lost::Lost;
-use channel_ring::SendEnd;
-use control_ring::ControlTake;
+use channel_ring::{ControlTake, SendEnd};
 use hand_over::{Borrower, Lender, Rule};
 use sampler::SamplerEnd;
 

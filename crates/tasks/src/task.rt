@@ -1,8 +1,8 @@
+//! The task of an event channel: it carries out the slave's orders, then takes a trigger.
 use crate::handed::Handed;
 use crate::rule::TaskLine;
 use crate::task_end::TaskEnd;
-use channel_ring::SendEnd;
-use control_ring::Order;
+use channel_ring::{Order, SendEnd};
 use sampler::{Polled, Taken, TriggerFault};
 use std::marker::Model;
 

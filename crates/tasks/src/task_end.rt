@@ -1,3 +1,4 @@
+//! What goes back to the slave's thread once a task is finished.
 use crate::rule::TaskLine;
 use channel_ring::SendEnd;
 use std::marker::Model;

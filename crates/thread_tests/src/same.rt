@@ -1,3 +1,4 @@
+//! The comparison that all tables of tests call.
 use std::fmt::Debug;
 use std::process::Abort;
 

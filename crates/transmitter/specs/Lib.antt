@@ -1,5 +1,6 @@
 pub mod Items
 pub mod Merge
+pub mod Sinks
 pub mod Written
 pub mod Looks
 pub mod Pumps

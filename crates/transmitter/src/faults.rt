@@ -1,3 +1,4 @@
+//! Why a pump is refused, or breaks off at a frame.
 use thiserror::Error;
 
 /// Why a pump stopped.

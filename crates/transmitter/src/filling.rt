@@ -7,7 +7,7 @@ use crate::fit_turn::Fit;
 use crate::pumped_all::{NOTHING, PumpedAll};
 use crate::transmitter::Transmitter;
 use channel_ring::TakeEnd;
-use frame_writer::{Out, SinkOut};
+use frame_writer::SinkOut;
 use xcp_base::limits::MAX_TAKEN;
 use xcp_base::with_list;
 
@@ -19,15 +19,14 @@ fn found_nothing(from: usize, before: u64, taken: u64) -> bool
 }
 
 impl<T: TakeEnd> Transmitter<SinkOut, T> {
-    ghost use Rattle.std.specs.Prelude.{◌≡◌, ◌≢◌, ◌+◌, ◌*◌, ◌<◌, ◌≤◌, length};
-    ghost use Rattle.std.specs.Prelude.{Err, None, IfErr, IfOk, OnErr, vec_len};
+    ghost use Rattle.std.specs.Prelude.{◌≡◌, ◌+◌, ◌*◌, ◌<◌, ◌≤◌, length};
+    ghost use Rattle.std.specs.Prelude.{None, IfErr, IfOk, vec_len};
     ghost use Rattle.xcp_base.specs.declared.limits.TheConstants.{MAX_TAKEN};
-    ghost use Rattle.frame_writer.specs.Writing.{state_of};
+    ghost use Rattle.frame_writer.specs.Sinks.{sink_writer};
     ghost use Rattle.frame_writer.specs.declared.layout.TheConstants.{MAX_SAMPLE_BYTES};
-    ghost use Rattle.transmitter.specs.Fills.{Fills, FindsNoRoom, IsInFront};
+    ghost use Rattle.transmitter.specs.Fills.{FindsNoRoom};
     ghost use Rattle.transmitter.specs.Inner.Fits.{AreFew, HasTurns, LaysOn};
-    ghost use Rattle.transmitter.specs.Pumps.{IsPump};
-    ghost use Rattle.transmitter.specs.Written.{next_of, transmission};
+    ghost use Rattle.transmitter.specs.Sinks.{FillsFront, RefusesFill, sink_transmitter};
 
     /// Pumps again and again, until a pump finds nothing or the next sample's frames don't fit into
     /// the buffer; answers what the pumps did, and how many bytes their frames have in the front of
@@ -38,21 +37,10 @@ impl<T: TakeEnd> Transmitter<SinkOut, T> {
     /// bytes has room for any sample. Refused as `pump_into` is; then nothing is taken, and the
     /// buffer is as it was.
     pub fn pump_all(&mut self, buffer: &mut [u8]) -> Result<(PumpedAll, usize), PumpFault>
-        ensures ok { IfOk result (λ done. Fills (next_of self.old) (next_of self.new)
-            (length buffer.old) done.1
-            (transmission ⟦<SinkOut as Out>⟧ T.TakeEnd self.old)
-            (transmission ⟦<SinkOut as Out>⟧ T.TakeEnd self.new) done.0) }
-        ensures front { IfOk result (λ done. IsInFront
-            (transmission ⟦<SinkOut as Out>⟧ T.TakeEnd self.old).writer.out
-            (transmission ⟦<SinkOut as Out>⟧ T.TakeEnd self.new).writer.out
-            buffer.old buffer.new done.1) }
-
-        ensures err { IfErr result (λ fault. IsPump
-            (transmission ⟦<SinkOut as Out>⟧ T.TakeEnd self.old)
-            (transmission ⟦<SinkOut as Out>⟧ T.TakeEnd self.new) (Err fault)) }
-        ensures never_fails { IfErr result (λ fault. fault ≢ PumpFault.Failed) }
-        ensures next_stays { OnErr result (next_of self.new ≡ next_of self.old) }
-        ensures buffer_stays { OnErr result (buffer.new ≡ buffer.old) }
+        ensures ok { IfOk result (FillsFront (sink_transmitter T.TakeEnd self.old)
+            (sink_transmitter T.TakeEnd self.new) buffer.old buffer.new) }
+        ensures err { IfErr result (RefusesFill (sink_transmitter T.TakeEnd self.old)
+            (sink_transmitter T.TakeEnd self.new) buffer.old buffer.new) }
     {
         if self.writer.closed() {
             return Err(PumpFault::Closed);
@@ -94,16 +82,16 @@ impl<T: TakeEnd> Transmitter<SinkOut, T> {
         requires inside { end.old ≤ length buffer.old }
         requires count { pumped.old.taken ≤ self.old.taken }
         requires long { 4 * pumped.old.frames ≤ end.old }
-        ensures turns { HasTurns from result (transmission ⟦<SinkOut as Out>⟧ T.TakeEnd self.old)
-            (transmission ⟦<SinkOut as Out>⟧ T.TakeEnd self.new) pumped.old pumped.new }
-        ensures lays { LaysOn (state_of ⟦<SinkOut as Out>⟧ self.old.writer).out
-            (state_of ⟦<SinkOut as Out>⟧ self.new.writer).out
+        ensures turns { HasTurns from result (sink_transmitter T.TakeEnd self.old)
+            (sink_transmitter T.TakeEnd self.new) pumped.old pumped.new }
+        ensures lays { LaysOn (sink_writer self.old.writer).out
+            (sink_writer self.new.writer).out
             buffer.old buffer.new end.old end.new }
         ensures few { AreFew result pumped.old pumped.new end.old end.new }
         ensures long { 4 * pumped.new.frames ≤ end.new }
         ensures stop { result ≤ vec_len self.old.ends }
         ensures no_room { result < vec_len self.old.ends → FindsNoRoom result
-            (transmission ⟦<SinkOut as Out>⟧ T.TakeEnd self.new) (length buffer.old) end.new }
+            (sink_transmitter T.TakeEnd self.new) (length buffer.old) end.new }
         ensures short { result < vec_len self.old.ends
             → length buffer.old < end.new + MAX_SAMPLE_BYTES }
         ensures as_many { vec_len self.new.ends ≡ vec_len self.old.ends }

@@ -1,13 +1,14 @@
 //! A turn at one ring, if the frames fit.
 ghost use Rattle.std.specs.Prelude.{◌≡◌, ◌+◌, ◌*◌, ◌<◌, ◌≤◌, IfSome, None, false, length};
 ghost use Rattle.frame_writer.specs.Frame.{text};
-ghost use Rattle.frame_writer.specs.Writing.{AfterText, state_of};
+ghost use Rattle.frame_writer.specs.Sinks.{sink_writer};
+ghost use Rattle.frame_writer.specs.Writing.{AfterText};
 ghost use Rattle.transmitter.specs.Inner.Turns.{Lays};
 
 use crate::transmitter::Transmitter;
 use crate::turn::{first_of, let_go, look_for};
 use channel_ring::TakeEnd;
-use frame_writer::{FrameWriter, Out, SinkOut};
+use frame_writer::{FrameWriter, SinkOut};
 use xcp_base::{Item, Packets};
 
 /// What a turn at a ring came to, if the frames fit.
@@ -25,8 +26,8 @@ pub enum Fit {
 
 impl<T: TakeEnd> Transmitter<SinkOut, T> {
     ghost use Rattle.std.specs.Prelude.{◌≡◌, ◌^◌, ◌<◌, ◌≤◌, None, length, vec_len};
-    ghost use Rattle.frame_writer.specs.Writing.{state_of};
-    ghost use Rattle.transmitter.specs.Written.{transmission};
+    ghost use Rattle.frame_writer.specs.Sinks.{sink_writer};
+    ghost use Rattle.transmitter.specs.Sinks.{sink_transmitter};
     ghost use Rattle.transmitter.specs.Inner.Fits.{FitLays, FitMeans};
 
     /// `turn`, with the frames laid out in a buffer from `end` on, which is then where they end. A
@@ -37,10 +38,10 @@ impl<T: TakeEnd> Transmitter<SinkOut, T> {
         requires taken { self.old.taken < 2 ^ 63 }
         requires inside { end.old ≤ length buffer.old }
         ensures turn { FitMeans c (length buffer.old) end.old
-            (transmission ⟦<SinkOut as Out>⟧ T.TakeEnd self.old)
-            (transmission ⟦<SinkOut as Out>⟧ T.TakeEnd self.new) result }
-        ensures lays { FitLays (state_of ⟦<SinkOut as Out>⟧ self.old.writer).out
-            (state_of ⟦<SinkOut as Out>⟧ self.new.writer).out
+            (sink_transmitter T.TakeEnd self.old)
+            (sink_transmitter T.TakeEnd self.new) result }
+        ensures lays { FitLays (sink_writer self.old.writer).out
+            (sink_writer self.new.writer).out
             buffer.old buffer.new end.old end.new result }
         ensures inside { end.new ≤ length buffer.old }
         ensures as_many { vec_len self.new.ends ≡ vec_len self.old.ends }
@@ -79,19 +80,19 @@ fn lay_within(
     at: usize,
     packets: &Packets,
 ) -> Option<usize>
-    requires was_open { (state_of ⟦<SinkOut as Out>⟧ writer.old).closed ≡ false }
+    requires was_open { (sink_writer writer.old).closed ≡ false }
     requires inside { at ≤ length buffer.old }
-    ensures all { IfSome result (λ _. AfterText (state_of ⟦<SinkOut as Out>⟧ writer.old)
-        (state_of ⟦<SinkOut as Out>⟧ writer.new) packets.now) }
-    ensures lays { IfSome result (λ end. Lays (state_of ⟦<SinkOut as Out>⟧ writer.old).out
-        (state_of ⟦<SinkOut as Out>⟧ writer.new).out buffer.old buffer.new at end) }
+    ensures all { IfSome result (λ _. AfterText (sink_writer writer.old)
+        (sink_writer writer.new) packets.now) }
+    ensures lays { IfSome result (λ end. Lays (sink_writer writer.old).out
+        (sink_writer writer.new).out buffer.old buffer.new at end) }
     ensures inside { IfSome result (λ end. end ≤ length buffer.old) }
     ensures long { IfSome result (λ end. at + 4 * length packets.now ≤ end) }
 
     ensures too_long { result ≡ None → length buffer.old
-        < at + length (text (state_of ⟦<SinkOut as Out>⟧ writer.old).counter packets.now) }
+        < at + length (text (sink_writer writer.old).counter packets.now) }
     ensures stays { result ≡ None
-        → state_of ⟦<SinkOut as Out>⟧ writer.new ≡ state_of ⟦<SinkOut as Out>⟧ writer.old }
+        → sink_writer writer.new ≡ sink_writer writer.old }
     ensures buffer_stays { result ≡ None → buffer.new ≡ buffer.old }
 {
     writer.send_within(buffer, at, packets)

@@ -1,3 +1,4 @@
+//! What one pump did: items taken, frames written, DAQ lists stopped.
 /// What a pump took and wrote.
 #[derive(Clone, Copy, Debug, PartialEq, Eq)]
 pub struct Pumped {

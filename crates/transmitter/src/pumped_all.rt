@@ -1,3 +1,4 @@
+//! The sums over several pumps, in wider numbers than those of one.
 ghost use Rattle.std.specs.Prelude.{◌≡◌, ◌^◌, ◌<◌};
 
 use crate::pumped::Pumped;

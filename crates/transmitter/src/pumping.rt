@@ -5,7 +5,7 @@ use crate::pumped::Pumped;
 use crate::pumped_all::NOTHING;
 use crate::transmitter::Transmitter;
 use channel_ring::TakeEnd;
-use frame_writer::{MAX_SAMPLE_BYTES, Out, SinkOut};
+use frame_writer::{MAX_SAMPLE_BYTES, SinkOut};
 use xcp_base::limits::{MAX_CHANNELS, MAX_TAKEN};
 
 /// The bytes that a pump writes at most: the frames of a sample at their longest, for each event
@@ -13,10 +13,10 @@ use xcp_base::limits::{MAX_CHANNELS, MAX_TAKEN};
 pub const MAX_PUMP: usize = MAX_CHANNELS as usize * MAX_SAMPLE_BYTES;
 
 impl<T: TakeEnd> Transmitter<SinkOut, T> {
-    ghost use Rattle.std.specs.Prelude.{◌≡◌, ◌≢◌, ◌≤◌, length, Err, Ok, IfErr, IfOk, OnErr, OnOk};
+    ghost use Rattle.std.specs.Prelude.{◌≤◌, length, Ok, IfErr, IfOk};
     ghost use Rattle.transmitter.specs.Fills.{IsInFront};
     ghost use Rattle.transmitter.specs.Pumps.{IsPump};
-    ghost use Rattle.transmitter.specs.Written.{next_of, transmission};
+    ghost use Rattle.transmitter.specs.Sinks.{RefusesFill, sink_transmitter};
 
     /// `pump`, and places the frames into the front of a buffer; answers what it did, and how many
     /// bytes these are.
@@ -27,21 +27,15 @@ impl<T: TakeEnd> Transmitter<SinkOut, T> {
     pub fn pump_into(&mut self, buffer: &mut [u8]) -> Result<(Pumped, usize), PumpFault>
         requires room { MAX_PUMP ≤ length buffer.old }
         ensures ok { IfOk result (λ done. IsPump
-            (transmission ⟦<SinkOut as Out>⟧ T.TakeEnd self.old)
-            (transmission ⟦<SinkOut as Out>⟧ T.TakeEnd self.new) (Ok done.0)) }
+            (sink_transmitter T.TakeEnd self.old)
+            (sink_transmitter T.TakeEnd self.new) (Ok done.0)) }
         ensures within { IfOk result (λ done. done.1 ≤ MAX_PUMP) }
         ensures front { IfOk result (λ done. IsInFront
-            (transmission ⟦<SinkOut as Out>⟧ T.TakeEnd self.old).writer.out
-            (transmission ⟦<SinkOut as Out>⟧ T.TakeEnd self.new).writer.out
+            (sink_transmitter T.TakeEnd self.old).writer.out
+            (sink_transmitter T.TakeEnd self.new).writer.out
             buffer.old buffer.new done.1) }
-        ensures next { OnOk result (next_of self.new ≡ 0) }
-
-        ensures err { IfErr result (λ fault. IsPump
-            (transmission ⟦<SinkOut as Out>⟧ T.TakeEnd self.old)
-            (transmission ⟦<SinkOut as Out>⟧ T.TakeEnd self.new) (Err fault)) }
-        ensures never_fails { IfErr result (λ fault. fault ≢ PumpFault.Failed) }
-        ensures next_stays { OnErr result (next_of self.new ≡ next_of self.old) }
-        ensures buffer_stays { OnErr result (buffer.new ≡ buffer.old) }
+        ensures err { IfErr result (RefusesFill (sink_transmitter T.TakeEnd self.old)
+            (sink_transmitter T.TakeEnd self.new) buffer.old buffer.new) }
     {
         if self.writer.closed() {
             return Err(PumpFault::Closed);

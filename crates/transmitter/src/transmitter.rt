@@ -1,3 +1,4 @@
+//! The transmitter: it pumps items off all rings, and counts the samples written of each list.
 ghost use Rattle.std.specs.Prelude.{◌≡◌, ℕ, ◌≤◌, is_some, slice_index, vec_len};
 ghost use Rattle.xcp_base.specs.declared.limits.TheConstants.{MAX_CHANNELS};
 ghost use Rattle.frame_writer.specs.Writing.{is_closed};

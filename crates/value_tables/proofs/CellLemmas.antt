@@ -7,7 +7,7 @@ use Rattle.std.specs.Fmt.{decimal}
 use Rattle.std.specs.Io.KnownBytes.{Appends}
 use Rattle.csv.specs.Writing.{row_text, text_written}
 use Rattle.csv.specs.declared.writer.Writer.{Writer}
-use Rattle.measurement.specs.declared.tick.Tick.{Tick}
+use Rattle.measured_values.specs.declared.tick.Tick.{Tick}
 use Rattle.sample_tables.specs.Rows.{one_or_zero, rfc_4180}
 use Rattle.sample_tables.specs.declared.spot.Spot.{Spot}
 use Rattle.copy_plan.specs.Config.{ListPlan}

@@ -7,7 +7,7 @@ use Rattle.csv.specs.Writing.{row_text, text_written, writer_pending, writer_und
 use Rattle.csv.specs.declared.writer.Writer.{Writer}
 use Rattle.copy_plan.specs.Config.{ListPlan}
 use Rattle.daq_reader.specs.Recorded.{Recorded}
-use Rattle.measurement.specs.declared.tick.Tick.{Tick}
+use Rattle.measured_values.specs.declared.tick.Tick.{Tick}
 use Rattle.sample_tables.specs.Rows.{IsBetweenRows, rfc_4180}
 use Rattle.sample_tables.specs.Spots.{spot_of}
 use Rattle.sample_tables.specs.declared.spot.Spot.{Spot}

@@ -11,10 +11,11 @@ use Rattle.a2l.specs.declared.description.Description.{Description}
 use Rattle.a2l.specs.declared.description.Measurement.{Measurement}
 use Rattle.a2l.specs.declared.description.Method.{Method}
 use Rattle.copy_plan.specs.Config.{ListPlan}
-use Rattle.measurement.specs.Encodings.{size_of}
-use Rattle.measurement.specs.declared.conversion.Conversion.{Conversion}
-use Rattle.measurement.specs.declared.conversion.Conversion.TheVariants.{Identical, Linear, Other}
-use Rattle.measurement.specs.declared.conversion.Conversion.TheVariants.{Rational, Texts}
+use Rattle.measured_values.specs.Encodings.{size_of}
+use Rattle.measured_values.specs.declared.conversion.Conversion.{Conversion}
+use Rattle.measured_values.specs.declared.conversion.Conversion.TheVariants.{Identical, Linear}
+use Rattle.measured_values.specs.declared.conversion.Conversion.TheVariants.{Other}
+use Rattle.measured_values.specs.declared.conversion.Conversion.TheVariants.{Rational, Texts}
 use Rattle.value_tables.specs.Sources.{source_of}
 use Rattle.value_tables.specs.declared.column.Column.{Column}
 

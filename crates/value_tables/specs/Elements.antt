@@ -3,7 +3,7 @@ use Rattle.std.specs.Prelude.{ℕ, zero, suc, Bool, List, [], ◌∷◌, ◌++�
 use Rattle.std.specs.Prelude.{Option, Some, None, if◌then◌else◌}
 use Rattle.std.specs.List.{flat_map, list_any}
 use Rattle.copy_plan.specs.Config.{ListPlan}
-use Rattle.measurement.specs.Encodings.{size_of}
+use Rattle.measured_values.specs.Encodings.{size_of}
 use Rattle.a2l.specs.Described.{Described}
 use Rattle.a2l.specs.Elements.{element_address, element_at, elements_in}
 use Rattle.a2l.specs.Resolved.{Value}

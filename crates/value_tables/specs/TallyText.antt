@@ -9,7 +9,7 @@ use Rattle.measured_values.specs.Tallies.{IsAbove, IsBelow, IsBestIfAny, counted
 use Rattle.measured_values.specs.Texts.{IsNumberText}
 use Rattle.measured_values.specs.Physicals.{written}
 use Rattle.measured_values.specs.declared.raw.Raw.{Raw}
-use Rattle.measurement.specs.declared.data_type.DataType.{DataType}
+use Rattle.measured_values.specs.declared.data_type.DataType.{DataType}
 use Rattle.copy_plan.specs.Config.{ListPlan}
 use Rattle.daq_reader.specs.Recorded.{Recorded}
 use Rattle.sample_tables.specs.Tables.{line_feed, right_aligned}

@@ -7,7 +7,7 @@ use Rattle.std.specs.List.{AllZip}
 use Rattle.std.specs.Io.KnownBytes.{Appends}
 use Rattle.csv.specs.Writing.{row_text, text_written}
 use Rattle.csv.specs.declared.writer.Writer.{Writer}
-use Rattle.measurement.specs.declared.tick.Tick.{Tick}
+use Rattle.measured_values.specs.declared.tick.Tick.{Tick}
 use Rattle.measured_values.specs.Decimals.{IsDecimal}
 use Rattle.copy_plan.specs.Config.{ListPlan}
 use Rattle.daq_reader.specs.Recorded.{Recorded}

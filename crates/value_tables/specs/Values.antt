@@ -2,9 +2,9 @@
 use Rattle.std.specs.Prelude.{◌≡◌, ℕ, ◌+◌, nat_le, if◌then◌else◌, List, [], length, map, take, drop}
 use Rattle.std.specs.Prelude.{Option, None, Some, option_map}
 use Rattle.std.specs.Option.{option_copied}
-use Rattle.measurement.specs.Encodings.{size_of}
-use Rattle.measurement.specs.declared.conversion.Conversion.{Conversion}
-use Rattle.measurement.specs.declared.conversion.Conversion.TheVariants.{Identical}
+use Rattle.measured_values.specs.Encodings.{size_of}
+use Rattle.measured_values.specs.declared.conversion.Conversion.{Conversion}
+use Rattle.measured_values.specs.declared.conversion.Conversion.TheVariants.{Identical}
 use Rattle.measured_values.specs.Physicals.{converted}
 use Rattle.measured_values.specs.Raws.{raw_value}
 use Rattle.measured_values.specs.Texts.{IsTextOf}

@@ -1,4 +1,5 @@
-use measurement::{Conversion, Encoding};
+//! A measurement as it is shown: its name, its unit, its bytes in the image, its conversion.
+use measured_values::{Conversion, Encoding};
 
 /// A measurement that is shown (ASAM MCD-2 MC, MEASUREMENT): what it is called, where and how its
 /// value stands in a memory image, and what is made of it.

@@ -9,7 +9,7 @@ use crate::column::Column;
 use crate::source::source_of;
 use a2l::{Description, Measurement, Method};
 use daq_reader::ListShape;
-use measurement::Conversion;
+use measured_values::Conversion;
 use std::alloc::{AllocError, Global};
 
 /// The measurements of a description that are shown of samples of DAQ lists of these shapes, in its

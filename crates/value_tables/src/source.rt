@@ -1,11 +1,11 @@
 //! Which bytes of a sample are those of a value.
 ghost use Rattle.std.specs.Prelude.{◌≡◌, Some, slice_get};
 ghost use Rattle.copy_plan.specs.Config.{OdtEntry, odt};
-ghost use Rattle.measurement.specs.Encodings.{size_of};
+ghost use Rattle.measured_values.specs.Encodings.{size_of};
 ghost use Rattle.value_tables.specs.Sources.{holds, source_at, source_in, source_of};
 
 use daq_reader::ListShape;
-use measurement::DataType;
+use measured_values::DataType;
 
 /// Where the bytes of a value stand in the samples of a DAQ list.
 #[derive(Clone, Copy, Debug, PartialEq, Eq)]

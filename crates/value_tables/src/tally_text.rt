@@ -14,8 +14,7 @@ ghost use Rattle.value_tables.specs.ValueRows.{head_of};
 use crate::column::Column;
 use crate::row_writer::write_head;
 use crate::value_tallies::ValueTallies;
-use measured_values::{Physical, Raw, Tally, push_physical};
-use measurement::DataType;
+use measured_values::{DataType, Physical, Raw, Tally, push_physical};
 use std::alloc::{AllocError, Global};
 use std::io::{self, ErrorKind, Write};
 

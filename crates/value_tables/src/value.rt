@@ -1,4 +1,4 @@
-//! The value of a column in a sample.
+//! From a sample to the value of a column: its bytes, raw, physical, as a number, as a text.
 ghost use Rattle.std.specs.Prelude.{◌≡◌, IfSome, None, OnOk, Option, length};
 ghost use Rattle.std.specs.Prelude.{option_map, string_bytes};
 ghost use Rattle.std.specs.Option.{option_copied};
@@ -12,7 +12,8 @@ use daq_reader::SampleView;
 use measured_values::{Physical, Raw, physical_of, push_physical, raw_of};
 use std::alloc::AllocError;
 
-/// The bytes of a column in a sample, which stand at a source, if its list has one.
+/// The bytes of a column in a sample. `source` says where the samples of its DAQ list have them; it
+/// is `None` if they don't.
 fn bytes_at<'s>(
     sample: &'s SampleView<'_>,
     column: &Column<'_>,
@@ -28,7 +29,7 @@ fn bytes_at<'s>(
     bytes.get(offset..offset + column.encoding.data_type.size())
 }
 
-/// The raw value of a column in a sample, whose bytes stand at a source, if its list has one.
+/// The raw value of a column in a sample, at its source; `None` without one.
 pub fn raw_at(sample: &SampleView<'_>, column: &Column<'_>, source: Option<Source>) -> Option<Raw>
     ensures { result ≡ raw_at sample.now.sample column.now source }
 {
@@ -39,8 +40,8 @@ pub fn raw_at(sample: &SampleView<'_>, column: &Column<'_>, source: Option<Sourc
     Some(raw)
 }
 
-/// The number of a column in a sample, whose bytes stand at a source, if its list has one: that of
-/// the physical value, for a text that of the raw value.
+/// The number that a curve or a mean takes: that of the physical value, of a text that of the raw
+/// value. `None` as for `raw_at`.
 pub fn number_at(
     sample: &SampleView<'_>,
     column: &Column<'_>,
@@ -53,7 +54,8 @@ pub fn number_at(
     Some(physical_in(column, raw).number(raw))
 }
 
-/// Makes a text the physical value of a raw one, or nothing if there is none.
+/// Puts the physical value of a raw one into a text, in place of what was there; without a value
+/// the text is empty.
 pub fn write_value(
     text: &mut String,
     column: &Column<'_>,

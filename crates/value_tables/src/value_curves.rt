@@ -1,3 +1,4 @@
+//! The values of samples become curves, and are printed as a picture.
 ghost use Rattle.std.specs.Prelude.{◌≡◌, [], ℕ, IfOk, List, OnOk};
 ghost use Rattle.std.specs.Io.KnownBytes.{Appends};
 ghost use Rattle.sample_picture.specs.Shown.{IsClosed};
@@ -7,7 +8,7 @@ use crate::list_columns::{ListColumns, list_at, lists_of};
 use crate::value::number_at;
 use curve_picture::{CurveAxis, CurvePicture};
 use daq_reader::{ListShape, SampleLog, SampleView, Samples};
-use measurement::{Conversion, TextTable};
+use measured_values::{Conversion, TextTable};
 use sample_tables::Places;
 use std::alloc::{AllocError, Global};
 use std::io::{self, Write};

@@ -1,3 +1,4 @@
+//! The values of samples are written as CSV, one row for each sample.
 ghost use Rattle.std.specs.Prelude.{◌≡◌, ◌↔◌, ◌^◌, ◌<◌, [], ℕ, IfOk, IfSome, IsOk, List, None};
 ghost use Rattle.std.specs.Prelude.{length, option_map};
 ghost use Rattle.std.specs.Option.{option_copied};
@@ -12,7 +13,7 @@ use crate::list_columns::{ListColumns, list_at, lists_of};
 use crate::row_writer::RowWriter;
 use csv::{Terminator, WriterBuilder};
 use daq_reader::{ListShape, SampleLog, SampleView, Samples};
-use measurement::Tick;
+use measured_values::Tick;
 use sample_tables::{Spot, Spots};
 use std::alloc::{AllocError, Global};
 use std::io::{self, ErrorKind, Write};

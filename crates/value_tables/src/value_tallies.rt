@@ -1,3 +1,4 @@
+//! The values of samples are counted, column by column.
 ghost use Rattle.std.specs.Prelude.{◌≡◌, ◌↔◌, ◌<◌, [], All, IfOk, IfSome, IsSome, Option, Some};
 ghost use Rattle.std.specs.Prelude.{length, option_map, reverse, slice_get};
 ghost use Rattle.std.specs.Option.{option_copied};

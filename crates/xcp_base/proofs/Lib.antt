@@ -4,3 +4,4 @@ pub mod PacketsLemmas
 pub mod IterLemmas
 pub mod FormLemmas
 pub mod StretchLemmas
+mod BitLemmas

@@ -7,3 +7,4 @@ pub mod Lists
 pub mod Packets
 pub mod Rings
 pub mod Samples
+pub mod Counts

@@ -1,3 +1,4 @@
+//! The bytes in which a sample's packets are kept, and the copy from an image to them.
 ghost use Rattle.std.specs.Prelude.{◌≡◌, ◌+◌, ◌<◌, ◌≤◌, [], ◌∷◌, ◌++◌, All, length};
 ghost use Rattle.std.specs.Prelude.{slice_range, take};
 ghost use Rattle.xcp_base.specs.Copied.{AreStretches, HasSize, IsSpanInside, copied, copied_packet};

@@ -23,36 +23,8 @@ impl Model for ChannelId {
 }
 
 impl ChannelId {
-    /// The event channel of this number in a WORD.
-    pub fn new(number: u16) -> ChannelId
-        requires { number < MAX_CHANNELS }
-        ensures { result ≡ number }
-    {
-        ChannelId {
-            number: number as u8,
-        }
-    }
-
-    /// The event channel of this number in a byte.
-    pub fn from_byte(number: u8) -> ChannelId
-        requires { number < MAX_CHANNELS }
-        ensures { result ≡ number }
-    {
-        ChannelId { number }
-    }
-
-    /// The event channel at this place in a table of all.
-    pub fn at(place: usize) -> ChannelId
-        requires { place < MAX_CHANNELS }
-        ensures { result ≡ place }
-    {
-        ChannelId {
-            number: place as u8,
-        }
-    }
-
-    /// The event channel of this number in a byte, if there may be one.
-    pub fn of_byte(number: u8) -> Option<ChannelId>
+    /// The event channel of this number, if there may be one.
+    pub fn new(number: u8) -> Option<ChannelId>
         ensures there { IsSome result ↔ (number < MAX_CHANNELS) }
         ensures value { IfSome result (λ c. c ≡ number) }
     {
@@ -60,6 +32,16 @@ impl ChannelId {
             Some(ChannelId { number })
         } else {
             None
+        }
+    }
+
+    /// The event channel of this number, of which there is one: its place in a table of all.
+    pub fn at(number: usize) -> ChannelId
+        requires { number < MAX_CHANNELS }
+        ensures { result ≡ number }
+    {
+        ChannelId {
+            number: number as u8,
         }
     }
 

@@ -1,3 +1,4 @@
+//! The error codes of ERR packets, with their bytes.
 ghost use Rattle.std.specs.Prelude.{◌≡◌};
 ghost use Rattle.xcp_base.specs.ErrorCodes.{error_byte};
 

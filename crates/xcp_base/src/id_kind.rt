@@ -1,3 +1,4 @@
+//! The three identification fields: their lengths, their bytes, and the PIDs that each allows.
 ghost use Rattle.std.specs.Prelude.{◌≡◌, ◌∷◌, ◌*◌, ◌≤◌, take};
 ghost use Rattle.xcp_base.specs.Forms.{field_len, first_pid_behind, list_field, most_odts};
 

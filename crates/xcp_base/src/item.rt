@@ -1,3 +1,5 @@
+//! What goes through a ring from a sampler to a transmitter, or to a slave: samples, and stop
+//! markers among them.
 use crate::sample::Sample;
 use crate::stop_mark::StopMark;
 

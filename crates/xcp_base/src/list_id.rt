@@ -23,26 +23,8 @@ impl Model for ListId {
 }
 
 impl ListId {
-    /// The DAQ list of this number in a WORD.
-    pub fn new(number: u16) -> ListId
-        requires { number < MAX_LISTS }
-        ensures { result ≡ number }
-    {
-        ListId {
-            number: number as u8,
-        }
-    }
-
-    /// The DAQ list of this number in a byte.
-    pub fn from_byte(number: u8) -> ListId
-        requires { number < MAX_LISTS }
-        ensures { result ≡ number }
-    {
-        ListId { number }
-    }
-
-    /// The DAQ list of this number in a byte, if there may be one.
-    pub fn of_byte(number: u8) -> Option<ListId>
+    /// The DAQ list of this number, if there may be one.
+    pub fn new(number: u8) -> Option<ListId>
         ensures there { IsSome result ↔ (number < MAX_LISTS) }
         ensures value { IfSome result (λ l. l ≡ number) }
     {
@@ -50,6 +32,16 @@ impl ListId {
             Some(ListId { number })
         } else {
             None
+        }
+    }
+
+    /// The DAQ list of this number, of which there is one.
+    pub fn at(number: u16) -> ListId
+        requires { number < MAX_LISTS }
+        ensures { result ≡ number }
+    {
+        ListId {
+            number: number as u8,
         }
     }
 

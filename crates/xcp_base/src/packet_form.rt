@@ -1,3 +1,4 @@
+//! What all DAQ packets of a run share: identification field and size of timestamps.
 ghost use Rattle.std.specs.Prelude.{◌≡◌};
 ghost use Rattle.xcp_base.specs.Forms.{form_of};
 

@@ -1,3 +1,4 @@
+//! The packets of a sample, one after another, without a copy.
 use std::marker::Model;
 
 /// The packets of a sample that are still to come, in order.

@@ -1,3 +1,4 @@
+//! The packets of a sample in one value: appended, copied from an image, or read off bytes.
 ghost use Rattle.std.specs.Prelude.{◌≡◌, ℕ, ◌<◌, ◌≤◌, ◌+◌, List, [], ◌∷◌, ◌++◌, ◌↔◌, IfSome};
 ghost use Rattle.std.specs.Prelude.{true, false, All, IsNone, IsOk, OnErr, OnOk, drop, length};
 ghost use Rattle.std.specs.Prelude.{slice_get, slice_index, take};

@@ -1,3 +1,4 @@
+//! The two kinds of rings, and the limits of their capacities.
 ghost use Rattle.std.specs.Prelude.{◌≡◌};
 ghost use Rattle.xcp_base.specs.Rings.{least_cap, most_cap};
 

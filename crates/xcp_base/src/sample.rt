@@ -1,3 +1,4 @@
+//! What one trigger makes of one DAQ list: its packets, with event channel, list and number.
 ghost use Rattle.std.specs.Prelude.{◌≡◌, ℕ, ◌<◌, List, true, false, length};
 ghost use Rattle.xcp_base.specs.Bodies.{IsBodyOf};
 ghost use Rattle.xcp_base.specs.Samples.{HasParts};
@@ -50,8 +51,8 @@ impl Sample {
           packets = packets;
         } }
     {
-        let channel = ChannelId::from_byte(channel);
-        Sample::of(channel, ListId::from_byte(list), number, packets)
+        let channel = ChannelId::at(channel as usize);
+        Sample::of(channel, ListId::at(list as u16), number, packets)
     }
 
     /// A sample, as `new` makes it.

@@ -1,3 +1,4 @@
+//! The sizes that a timestamp may have: 1, 2 or 4 bytes.
 ghost use Rattle.std.specs.Prelude.{◌≡◌, ◌≤◌};
 ghost use Rattle.xcp_base.specs.Forms.{size_of, stamp_bytes};
 

@@ -1,3 +1,4 @@
+//! What a stop sends through the ring, to tell the samples before it from those after it.
 ghost use Rattle.std.specs.Prelude.{◌≡◌, ◌<◌};
 
 use crate::channel_id::ChannelId;
@@ -30,7 +31,7 @@ impl StopMark {
         requires list_below { list < MAX_LISTS }
         ensures { result ≡ record { channel = channel; list = list } }
     {
-        StopMark::of(ChannelId::from_byte(channel), ListId::from_byte(list))
+        StopMark::of(ChannelId::at(channel as usize), ListId::at(list as u16))
     }
 
     /// The marker of a DAQ list of an event channel, as `new` makes it.

@@ -1,8 +1,16 @@
-//! The program `xcpread`: it reads a recording back, and prints its samples.
+//! The program `xcpread`: it reads a recording back, by the run file that it was made of, and
+//! prints its samples.
 #![tactic(auto)]
 
+mod command_line;
+mod err_messages;
+mod no_text;
+mod program_fault;
+mod whole_program;
+mod why_unread;
+
+use crate::whole_program::program;
 use program_input::arguments;
-use recording::program;
 use std::process::ExitCode;
 
 fn main(rt: HostRuntime) -> ExitCode {

@@ -1,8 +1,13 @@
-//! The command line.
+//! The command line of `xcpslave`: its options, and what they ask for.
+ghost use Rattle.std.specs.Prelude.{◌≡◌, ◌≢◌, Ok, false, map, string_bytes, true};
+ghost use Rattle.program_input.specs.Versions.{asks_version};
+ghost use Rattle.xcpslave.specs.declared.command_line.CommandLine.TheVariants as line;
+
 use crate::session_fault::SessionFault;
 use clap::error::ErrorKind;
 use clap::{Arg, ArgAction, Command, Error};
-use run_story::Why;
+use explain::Why;
+use program_input::asks_version;
 use std::alloc::{AllocError, Global};
 
 /// What the command line asks for.
@@ -10,6 +15,8 @@ use std::alloc::{AllocError, Global};
 pub enum CommandLine<'a> {
     /// The help, which is the error's text.
     Help(Error),
+    /// The version.
+    Version,
     /// A session.
     Session(Options<'a>),
 }
@@ -28,7 +35,15 @@ pub fn read_command_line<'a>(
     alloc: Global,
     words: &'a [String],
     why: &mut Why,
-) -> Result<CommandLine<'a>, SessionFault> {
+) -> Result<CommandLine<'a>, SessionFault>
+    ensures version { asks_version (map string_bytes words.now) ≡ true
+        → result ≡ Ok line.Version }
+    ensures other { asks_version (map string_bytes words.now) ≡ false
+        → result ≢ Ok line.Version }
+{
+    if asks_version(words) {
+        return Ok(CommandLine::Version);
+    }
     let Ok(command) = command(alloc) else {
         return Err(SessionFault::Memory);
     };
@@ -58,8 +73,13 @@ fn command<'a>(alloc: Global) -> Result<Command<'a>, AllocError> {
         .long("explain")
         .action(ArgAction::SetTrue)
         .help("Print each line and each frame in words, and the reason behind a fault");
+    // for the help alone: `asks_version` finds it first
+    let version = Arg::new(alloc, "version")
+        .long("version")
+        .action(ArgAction::SetTrue)
+        .help("Print the version");
     let command = Command::new(alloc, "xcpslave")
         .about("Plays a session of an XCP slave, and prints what the slave sent and the account")
         .no_binary_name(true);
-    command.arg(explain)?.arg(session)
+    command.arg(explain)?.arg(version)?.arg(session)
 }

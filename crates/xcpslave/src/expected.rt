@@ -1,4 +1,5 @@
-use slave_file::BadKey;
+//! The names of a session file's keys, and what the value of a bad one should be.
+use session_file::BadKey;
 use std::alloc::AllocError;
 
 /// The name of a bad key, if it is one of a session file.

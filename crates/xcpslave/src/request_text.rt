@@ -1,4 +1,5 @@
-use run_story::CommandText;
+//! The packets of a master are written in words, by the standard's names.
+use explain::CommandText;
 use std::fmt::{self, Display};
 
 /// The command of a packet of a master by its name (ASAM MCD-1 XCP, protocol layer), with its

@@ -1,9 +1,9 @@
+//! Why `xcpslave` stops: the line that it prints, and its status.
 ghost use Rattle.std.specs.Prelude.{◌≤◌};
 
 use program_input::TextFault;
 use session::ProfileFault;
-use slave_file::FileFault;
-use slave_play::PlayFault;
+use session_file::{FileFault, PlayFault};
 use thiserror::Error;
 
 /// Why the program stops, as the line that it prints.

@@ -1,7 +1,7 @@
 //! What came of a session, in words.
 use crate::session_words::write_frames;
 use daq_engine::ListReport;
-use slave_play::Played;
+use session_file::Played;
 use std::alloc::{AllocError, Global};
 use xcp_base::ListId;
 use xcp_base::limits::MAX_LISTS;
@@ -63,7 +63,7 @@ fn write_parts(text: &mut String, played: &Played) -> Result<(), AllocError> {
 /// The sums of the lists.
 fn write_sums(text: &mut String, played: &Played) -> Result<(), AllocError> {
     for l in 0..MAX_LISTS {
-        if let Some(line) = sum_of(played, ListId::new(l)) {
+        if let Some(line) = sum_of(played, ListId::at(l)) {
             write_line(text, &line)?;
         }
     }

@@ -1,8 +1,7 @@
 //! A session in words: its lines, and the frames that were sent.
 use crate::request_text::RequestText;
-use run_story::{ByteText, ReplyText};
-use slave_file::Line;
-use slave_play::Played;
+use explain::{ByteText, ReplyText};
+use session_file::{Line, Played};
 use std::alloc::{AllocError, Global};
 
 /// A line in words for each line of a script.

@@ -1,15 +1,15 @@
-//! The program: from its arguments and streams to its status.
-ghost use Rattle.std.specs.Prelude.{◌≤◌, IfOk};
+//! The program `xcpslave`: from its arguments and streams to its status.
+ghost use Rattle.std.specs.Prelude.{◌≡◌, ◌≤◌, IfOk, IsOkAnd, codes, map, string_bytes, true};
+ghost use Rattle.program_input.specs.Versions.{PrintsVersion, asks_version};
 
 use crate::command_line::{CommandLine, Options, read_command_line};
 use crate::session_fault::SessionFault;
 use crate::session_text::{text_of, told_of};
 use crate::session_words::words_of;
 use crate::why_no_session::why_no_session;
-use program_input::{TextFault, text_from};
-use run_story::Why;
-use slave_file::{FileFault, SessionFile};
-use slave_play::play;
+use explain::Why;
+use program_input::{TextFault, print_version, text_from};
+use session_file::{FileFault, SessionFile, play};
 use std::alloc::Global;
 use std::fs;
 use std::io::{self, Read, Write};
@@ -49,13 +49,16 @@ fn answer<R: Files, I: Read + Drop, W: Write>(
     out: &mut W,
     why: &mut Why,
 ) -> Result<u8, SessionFault>
-    ensures { IfOk result (λ status. status ≤ 1) }
+    ensures status { IfOk result (λ status. status ≤ 1) }
+    ensures version { asks_version (map string_bytes words.now) ≡ true → IsOkAnd result
+        (PrintsVersion (codes "xcpslave") (W.contents out.old) (W.contents out.new)) }
 {
     match read_command_line(alloc, words, why)? {
         CommandLine::Help(text) => {
             let printing = write!(out, "{text}").and_then(|()| out.flush());
             Ok(status_of_printing(printing))
         }
+        CommandLine::Version => Ok(print_version(out, "xcpslave")),
         CommandLine::Session(options) => {
             let file = session_of(rt, alloc, options, input, why)?;
             print_session(alloc, file, options.explain, out)

@@ -1,7 +1,7 @@
 //! Why a text is no session.
 use crate::expected::{key_of, write_expected};
-use run_story::{line_of_key, near_key, write_place, write_string, write_value};
-use slave_file::{BadKey, FileFault, is_file_key};
+use explain::{line_of_key, near_key, write_place, write_string, write_value};
+use session_file::{BadKey, FileFault, is_file_key};
 use std::alloc::{AllocError, Global};
 use toml::Table;
 

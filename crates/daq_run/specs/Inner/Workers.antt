@@ -12,9 +12,9 @@ use Rattle.transmitter.specs.Written.{TransmitterState}
 use Rattle.daq_run.specs.declared.sim_fault.SimFault.{SimFault}
 use Rattle.daq_run.specs.declared.sim_fault.SimFault.TheVariants.{EndLost, Memory, NoThread}
 use Rattle.daq_run.specs.declared.sim_fault.SimFault.TheVariants.{NothingRunning, SetupWrite}
-use Rattle.daq_steps.specs.Answers.{Answered, AreAnswered, Setting}
-use Rattle.daq_steps.specs.Samplings.{setting_of_sampler, was_refused}
-use Rattle.daq_steps.specs.Steps.{Ask, Pump, RunStep, asked_of}
+use Rattle.daq_run.specs.Answers.{Answered, AreAnswered, Setting}
+use Rattle.daq_run.specs.Samplings.{setting_of_sampler, was_refused}
+use Rattle.daq_run.specs.Steps.{Ask, Pump, RunStep, asked_of}
 
 -- the step is of channel c
 abbrev pub is_of : ℕ → RunStep → Bool

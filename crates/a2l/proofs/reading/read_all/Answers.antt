@@ -1,5 +1,5 @@
 use Rattle.std.proofs.lemmas.Result.{err_from_is_err_and}
-use Rattle.a2l_blocks.specs.States.{state_of}
+use Rattle.a2l_text.specs.States.{state_of}
 use Rattle.a2l.specs.Drafts.{draft_seen}
 use Rattle.a2l.proofs.ReadLemmas.{part_taken, part_says_none, all_taken, next_none}
 use Rattle.a2l.proofs.reading.read_all.Goals as goal

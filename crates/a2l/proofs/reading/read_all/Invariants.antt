@@ -1,6 +1,6 @@
 use Rattle.std.proofs.Common.{length}
-use Rattle.a2l_words.specs.State.{rest_of}
-use Rattle.a2l_blocks.specs.States.{state_of}
+use Rattle.a2l_text.specs.State.{rest_of}
+use Rattle.a2l_text.specs.States.{state_of}
 use Rattle.a2l.specs.ModuleSaid.{no_parts}
 use Rattle.a2l.specs.Drafts.{draft_seen}
 use Rattle.a2l.specs.Described.{nothing}

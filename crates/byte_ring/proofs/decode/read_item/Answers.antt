@@ -17,10 +17,10 @@ returns-in_default-clause-no c = λ _ x h is.
     let within = c.in_default.ensures.there.1 f.channel in
     grind (arith, common_steps, within)
 
-pub returns-in_default-of_byte-clause-no : goal.returns-in_default-of_byte-clause-no
-returns-in_default-of_byte-clause-no c = λ _ x h is.
+pub returns-in_default-new-clause-no : goal.returns-in_default-new-clause-no
+returns-in_default-new-clause-no c = λ _ x h is.
     let f = front_of x c.args.bytes.now h is in
-    let within = c.in_default-of_byte.ensures.there.1 f.list in
+    let within = c.in_default-new.ensures.there.1 f.list in
     grind (arith, common_steps, within)
 
 pub returns-then-bytes-ne-MARKER-clause-no : goal.returns-then-bytes-ne-MARKER-clause-no
@@ -34,4 +34,4 @@ returns-then-bytes-ne-MARKER_LEN-clause-no c = λ _ x h is.
     omega (arith, m.1)
 
 pub returns-clause-yes : goal.returns-clause-yes
-returns-clause-yes c = λ _. ap (λ x. record_of (Marker x)) c.of.ensures ∙ rw (c.in-Some.ensures.value, c.in-Some-of_byte.ensures.value) (marker_record_is c.args.bytes.now (omega arith) (omega arith))
+returns-clause-yes c = λ _. ap (λ x. record_of (Marker x)) c.of.ensures ∙ rw (c.in-Some.ensures.value, c.in-Some-new.ensures.value) (marker_record_is c.args.bytes.now (omega arith) (omega arith))

@@ -4,8 +4,8 @@ use Rattle.frame_writer.specs.Writing.{WriterState}
 use Rattle.sampler.specs.Past.{Past}
 use Rattle.daq_engine.specs.Closings.{ClosesEngine}
 use Rattle.daq_engine.specs.Engines.{Standing, engine_state}
-use Rattle.daq_steps.specs.Runs.{Done, taken_in}
-use Rattle.daq_steps.proofs.StepLemmas.{stay_still}
+use Rattle.daq_run.specs.StepRuns.{Done, taken_in}
+use Rattle.daq_run.proofs.StepLemmas.{stay_still}
 use Rattle.daq_run.proofs.RunLemmas.{as_many, comes_to, stops_at, stops_behind}
 use Rattle.daq_run.proofs.serial.run_over.Goals as goal
 

@@ -1,7 +1,7 @@
 use Rattle.std.proofs.Common.{◌≡◌, ℕ, Err, List, map, vec_items, ap, subst}
 use Rattle.frame_writer.specs.Shown.{shown}
 use Rattle.frame_writer.specs.Writing.{WriterState, fresh_writer, state_of}
-use Rattle.run_setup.specs.Setup.{LosesReply, WantsMemory}
+use Rattle.daq_run.specs.Setup.{LosesReply, WantsMemory}
 use Rattle.daq_run.specs.Faults.{StandsAtFault, run_fault}
 use Rattle.daq_run.specs.SetUps.{profile_of}
 use Rattle.daq_run.proofs.SetUpLemmas.{stops}

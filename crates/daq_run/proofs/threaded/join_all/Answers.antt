@@ -4,7 +4,7 @@ use Rattle.std.proofs.lemmas.Iterator.Adapters.{YieldsList-from_vec}
 use Rattle.std.proofs.lemmas.Iterator.Consumers.{YieldsList-end}
 use Rattle.std.proofs.lemmas.List.{map-append, map-id}
 use Rattle.run_file.specs.RunFile.{RunData}
-use Rattle.daq_steps.specs.Steps.{run_step}
+use Rattle.daq_run.specs.Steps.{run_step}
 use Rattle.daq_run.specs.Inner.Workers.{HaveWorked, IsLeftAfterSteps}
 use Rattle.daq_run.specs.declared.worker.WillWork.{WillWork}
 use Rattle.daq_run.proofs.WorkLemmas.{all-before, worked-more}

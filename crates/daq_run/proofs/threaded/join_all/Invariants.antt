@@ -1,7 +1,7 @@
 use Rattle.std.proofs.Common.{◌≡◌, ◌≤◌, ◌*◌, All, length, map, vec_capacity, vec_len}
 use Rattle.run_file.specs.RunFile.{RunData}
 use Rattle.run_file.specs.declared.limits.TheConstants.{MAX_STEPS}
-use Rattle.daq_steps.specs.Steps.{run_step}
+use Rattle.daq_run.specs.Steps.{run_step}
 use Rattle.daq_run.specs.Inner.Workers.{HaveWorked}
 use Rattle.daq_run.proofs.threaded.join_all.Given as goal
 

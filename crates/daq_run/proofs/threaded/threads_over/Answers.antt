@@ -6,7 +6,7 @@ use Rattle.sampler.specs.State.{joined}
 use Rattle.transmitter.specs.Written.{transmission, writer_of}
 use Rattle.daq_engine.specs.Closed.{ClosesWith}
 use Rattle.daq_engine.specs.Engines.{engine_state}
-use Rattle.daq_steps.specs.Steps.{run_step}
+use Rattle.daq_run.specs.Steps.{run_step}
 use Rattle.daq_run.specs.Inner.Workers.{HaveWorked, KeepsTaking}
 use Rattle.daq_run.proofs.ThreadLemmas.{are_ends, late_at, of_rings, stops_among, threads_come_to}
 use Rattle.daq_run.proofs.threaded.threads_over.Goals as goal

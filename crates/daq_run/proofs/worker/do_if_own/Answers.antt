@@ -2,7 +2,7 @@ use Rattle.std.proofs.Common.{ap, sym, ◌∙◌}
 use Rattle.std.specs.Option.{is_some}
 use Rattle.std.specs.Prelude.{cond}
 use Rattle.run_file.specs.Lent.{step_data}
-use Rattle.daq_steps.specs.Steps.{run_step}
+use Rattle.daq_run.specs.Steps.{run_step}
 use Rattle.daq_run.specs.Inner.Workers.{is_of}
 use Rattle.daq_run.proofs.WorkLemmas.{asked_other, asked_own}
 use Rattle.daq_run.proofs.worker.do_if_own.Goals as goal

@@ -2,10 +2,10 @@ use Rattle.std.proofs.Common.{◌≡◌, ◌+◌, map, take, sym, ap, subst, ◌
 use Rattle.std.specs.Prelude.{Some, slice_get}
 use Rattle.std.specs.Option.{option_map}
 use Rattle.run_file.specs.Lent.{step_data}
-use Rattle.daq_steps.specs.Samplings.{HasAnsweredMore}
-use Rattle.daq_steps.specs.Steps.{asked_at, asked_of, run_step}
-use Rattle.daq_steps.proofs.DoneLemmas.{asked-more}
-use Rattle.daq_steps.proofs.LoopLemmas.{none_within, steps-more, whole_steps}
+use Rattle.daq_run.specs.Samplings.{HasAnsweredMore}
+use Rattle.daq_run.specs.Steps.{asked_at, asked_of, run_step}
+use Rattle.daq_run.proofs.DoneLemmas.{asked-more}
+use Rattle.daq_run.proofs.LoopLemmas.{none_within, steps-more, whole_steps}
 use Rattle.daq_run.proofs.WorkLemmas.{asked_both, asked_nothing, stays_on, stays_still}
 use Rattle.daq_run.proofs.worker.do_own.Goals as goal
 

@@ -1,7 +1,7 @@
 use Rattle.std.proofs.Common.{◌≤◌, map, take}
 use Rattle.sampler.specs.Stays.{KeepsSetUp}
-use Rattle.daq_steps.specs.Samplings.{HasAnsweredMore}
-use Rattle.daq_steps.specs.Steps.{asked_of, run_step}
+use Rattle.daq_run.specs.Samplings.{HasAnsweredMore}
+use Rattle.daq_run.specs.Steps.{asked_of, run_step}
 use Rattle.daq_run.proofs.worker.do_own.Given as goal
 
 -- of the first i steps those of the sampler's channel were done

@@ -1,5 +1,5 @@
 use Rattle.std.proofs.Common.{map}
-use Rattle.daq_steps.specs.Steps.{run_step}
+use Rattle.daq_run.specs.Steps.{run_step}
 use Rattle.daq_run.proofs.WorkLemmas.{worked}
 use Rattle.daq_run.proofs.worker.work.Goals as goal
 

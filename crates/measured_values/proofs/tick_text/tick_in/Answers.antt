@@ -1,6 +1,6 @@
 use Rattle.std.proofs.Common.{◌+◌, ◌<◌, ap, arith, sym, ◌∙◌, subst, rules, SFits, w8, ℤ}
 use Rattle.std.proofs.lemmas.Int.{to_z-of_z}
-use Rattle.measurement.specs.declared.tick.Tick.{Tick}
+use Rattle.measured_values.specs.declared.tick.Tick.{Tick}
 use Rattle.measured_values.specs.Ticks.{IsTickOf}
 use Rattle.measured_values.proofs.PowerLemmas.{rest_some}
 use Rattle.measured_values.proofs.TickLemmas.{IsReducedTo-digits, IsTickOf-reduced, no_far_tick}

@@ -7,7 +7,7 @@ use Rattle.session.proofs.list_sets.ready_on.Goals as goal
 pub loop-l-preserved : goal.loop-l-preserved
 loop-l-preserved c =
     let s = c.args.store.now in
-    let one = rw c.new.ensures at c.with_list_if-set.ensures in
+    let one = rw c.at.ensures at c.with_list_if-set.ensures in
     let set : ℕ = c.loop-l.set in
     let new : ℕ = c.with_list_if-set.result in
     record {

@@ -1,6 +1,6 @@
 use Rattle.std.proofs.Common.{◌∙◌, ap, subst, sym}
 use Rattle.sampler.specs.State.{SamplerState}
-use Rattle.control_ring.specs.Orders.{TakeState}
+use Rattle.channel_ring.specs.Orders.{TakeState}
 use Rattle.tasks.specs.Links.{is_out}
 use Rattle.tasks.specs.Ways.{LeavesBy}
 use Rattle.tasks.proofs.LineLemmas.{is-first}

@@ -1,6 +1,6 @@
 use Rattle.std.proofs.Common.{Option, Some, subst, sym}
 use Rattle.tasks.specs.Links.{AwayState, CanStart, SendsToNewest}
-use Rattle.control_ring.specs.declared.order.Order.TheVariants.{Start}
+use Rattle.channel_ring.specs.declared.order.Order.TheVariants.{Start}
 use Rattle.tasks.proofs.link.start_of.Goals as goal
 
 pub start-requires : goal.start-requires

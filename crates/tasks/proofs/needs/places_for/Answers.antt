@@ -1,7 +1,7 @@
 use Rattle.std.proofs.Common.{◌≡◌, ◌∙◌, ◌||◌, arith}
 use Rattle.xcp_base.specs.declared.limits.TheConstants.{MAX_LISTS}
 use Rattle.xcp_base.specs.Lists.{has_list}
-use Rattle.list_set.specs.Counts.{how_many}
+use Rattle.xcp_base.specs.Counts.{how_many}
 use Rattle.tasks.proofs.NeedLemmas.{how_many-same}
 use Rattle.tasks.proofs.needs.places_for.Goals as goal
 

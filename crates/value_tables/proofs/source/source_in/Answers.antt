@@ -2,7 +2,7 @@ use Rattle.std.proofs.Common.{◌≡◌, ◌<◌, ◌∙◌, arith, get_or, leng
 use Rattle.std.specs.Prelude.{Some, slice_get}
 use Rattle.std.proofs.lemmas.Option.{slice_get-get_or}
 use Rattle.copy_plan.specs.Config.{OdtEntry, odt}
-use Rattle.measurement.specs.Encodings.{size_of}
+use Rattle.measured_values.specs.Encodings.{size_of}
 use Rattle.value_tables.specs.Sources.{source_at}
 use Rattle.value_tables.proofs.SourceLemmas.{first_here, first_later}
 use Rattle.value_tables.proofs.source.source_in.Goals as goal

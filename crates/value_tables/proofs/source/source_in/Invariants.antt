@@ -1,7 +1,7 @@
 -- none of the entries so far has the bytes
 use Rattle.std.proofs.Common.{◌≡◌, drop}
 use Rattle.copy_plan.specs.Config.{odt}
-use Rattle.measurement.specs.Encodings.{size_of}
+use Rattle.measured_values.specs.Encodings.{size_of}
 use Rattle.value_tables.specs.Sources.{first_of, source_at, source_in}
 use Rattle.value_tables.proofs.source.source_in.Given as goal
 

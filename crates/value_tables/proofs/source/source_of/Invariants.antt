@@ -1,6 +1,6 @@
 -- none of the ODTs so far has the bytes
 use Rattle.std.proofs.Common.{◌≡◌, drop}
-use Rattle.measurement.specs.Encodings.{size_of}
+use Rattle.measured_values.specs.Encodings.{size_of}
 use Rattle.value_tables.specs.Sources.{first_of, source_in, source_of}
 use Rattle.value_tables.proofs.source.source_of.Given as goal
 

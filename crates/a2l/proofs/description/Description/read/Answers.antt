@@ -1,4 +1,4 @@
-use Rattle.a2l_blocks.specs.States.{state_of}
+use Rattle.a2l_text.specs.States.{state_of}
 use Rattle.a2l.specs.Drafts.{draft_seen}
 use Rattle.a2l.proofs.ReadLemmas.{describes, describes_only, nothing_from, unless_out}
 use Rattle.a2l.proofs.description.Description.read.Goals as goal

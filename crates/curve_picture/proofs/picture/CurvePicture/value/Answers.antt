@@ -23,7 +23,7 @@ returns-clause-stands c = λ real given h.
     let before : Gathered =
     record {
       rows = old;
-      names = map name_of c.self.inside.words.items;
+      names = map name_of c.self.inside.captions.items;
       width = c.self.inside.grid.width;
       first = c.self.inside.grid.first;
       last = c.self.inside.grid.last;
@@ -31,7 +31,7 @@ returns-clause-stands c = λ real given h.
     let after : Gathered =
     record {
       rows = set (take c.self.inside.rows.len (new ++ drop (length new) old)) c.args.row c.note.new.self;
-      names = map name_of c.self.inside.words.items;
+      names = map name_of c.self.inside.captions.items;
       width = grid.width;
       first = grid.first;
       last = grid.last;

@@ -16,12 +16,15 @@ returns-clause-ok g c =
     let t = transmission out g.T.TakeEnd c.args.self.now.transmitter in
     let u = transmission out g.T.TakeEnd c.fill_step.new.transmitter in
     let e = c.fill_step.ensures in
-    IfOk-weaker c.fill_step.result _ _ (λ done step. record {
-      step = step;
-      samplers = e.samplers;
-      stands = leads-taken g.T.Send.SendEnd g.T.End.RingEnd xs ys t e.samplers.those u (all_taken step.fills.pumps ++ step.fills.last) (filled_on _ _ _ _ _ _ t u done.0 step) e.samplers.stand;
-      roomy = e.roomy;
-    }) e.fills
+    IfOk-weaker c.fill_step.result _ _ (λ done filled. record {
+      fills = record {
+        step = filled.step;
+        samplers = e.samplers;
+        stands = leads-taken g.T.Send.SendEnd g.T.End.RingEnd xs ys t e.samplers.those u (all_taken filled.step.fills.pumps ++ filled.step.fills.last) (filled_on _ _ _ _ _ _ t u done.0 filled.step) e.samplers.stand;
+        roomy = e.roomy;
+      };
+      front = filled.front;
+    }) e.ok
 
 -- a refused call took nothing
 pub returns-clause-err : goal.returns-clause-err
@@ -31,9 +34,14 @@ returns-clause-err g c =
     let t = transmission out g.T.TakeEnd c.args.self.now.transmitter in
     let u = transmission out g.T.TakeEnd c.fill_step.new.transmitter in
     let e = c.fill_step.ensures in
-    IfErr-weaker c.fill_step.result _ _ (λ fault step. record {
-      step = step;
-      samplers = e.samplers;
-      stands = leads-taken g.T.Send.SendEnd g.T.End.RingEnd xs ys t e.samplers.those u step.pumps.taken (pumped_on _ _ t u _ step) e.samplers.stand;
-      roomy = e.roomy;
+    IfErr-weaker c.fill_step.result _ _ (λ fault refused. record {
+      pump = record {
+        step = refused.step;
+        samplers = e.samplers;
+        stands = leads-taken g.T.Send.SendEnd g.T.End.RingEnd xs ys t e.samplers.those u refused.step.pumps.taken (pumped_on _ _ t u _ refused.step) e.samplers.stand;
+        roomy = e.roomy;
+      };
+      never_fails = refused.never_fails;
+      next_stays = refused.next_stays;
+      buffer_stays = refused.buffer_stays;
     }) e.err

@@ -7,10 +7,10 @@ new-lists-requires g c = omega (arith, rise-length c.args.channel c.args.image_l
 
 pub invariant_of-result : goal.invariant_of-result
 invariant_of-result g c =
-    rw (c.new-lists.ensures.plans, c.from_byte.ensures)
+    rw (c.new-lists.ensures.plans, c.at.ensures)
     (first-sampler c.args.channel c.args.image_len c.args.running c.args.plans.items c.new-lists.result.tracks c.soonest-soonest.result c.requires.plans_of c.requires.rising c.new-lists.ensures.places c.new-lists.ensures.tracks (rw (sym c.new-lists.ensures.plans) c.soonest-soonest.ensures))
 
 pub returns-clause-stands : goal.returns-clause-stands
 returns-clause-stands g c =
-    rw (c.new-lists.ensures.plans, c.from_byte.ensures)
+    rw (c.new-lists.ensures.plans, c.at.ensures)
     (first-stands g.S.SendEnd g.S.End.RingEnd c.args.channel c.args.image_len c.args.running c.args.plans.items c.args.end c.new-lists.result.tracks c.requires.plans_of c.new-lists.ensures.tracks c.requires.nothing_sent)

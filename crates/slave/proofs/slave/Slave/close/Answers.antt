@@ -13,9 +13,11 @@ gather_all-requires g c = record { tasks = c.requires.tasks ∙ sym c.hang_up.en
 pub returns : goal.returns
 returns g c = record {
   closes =
-      subst (λ (s : SlaveState _ _). Closes g.R.Take.TakeEnd c.args.self c.args.ends.items s.account (not c.has_parts-is_whole.result)) (sym c.self.view_is)
-      (closes g.R.Take.TakeEnd c.args.self c.hang_up.new.self c.gather_all.new.self c.args.ends.items c.has_parts-is_whole.result
+      subst (λ (s : SlaveState _ _). Closes g.R.Take.TakeEnd c.args.self c.args.ends.items s.account (not c.has_parts-is_whole.result) c.complete-complete.result) (sym c.self.view_is)
+      (closes g.R.Take.TakeEnd c.args.self c.hang_up.new.self c.gather_all.new.self c.args.ends.items c.has_parts-is_whole.result c.complete-complete.result
       (subst (λ (s : SlaveState _ _). s.acts < MOST_ACTS + PER_PACKET) c.self.view_is c.self.invariant.1) c.hang_up.ensures.hangs_up c.hang_up.ensures.profile_stays c.gather_all.ensures.collects
       (ends-many c.hang_up.new.self c.args.ends.items (c.requires.tasks ∙ sym c.hang_up.ensures.hangs_up.0)) c.gather_all.ensures.gathers
-      (λ none. subst (λ (s : SlaveState _ _). KeepsNone s.channels) c.self.view_is (c.has_parts-is_whole.ensures.none none)) (λ some. subst (λ (s : SlaveState _ _). KeepsOne s.channels) c.self.view_is (c.has_parts-is_whole.ensures.some some)));
+      (λ none. subst (λ (s : SlaveState _ _). KeepsNone s.channels) c.self.view_is (c.has_parts-is_whole.ensures.none none)) (λ some. subst (λ (s : SlaveState _ _). KeepsOne s.channels) c.self.view_is (c.has_parts-is_whole.ensures.some some))
+      c.complete-complete.ensures);
+  many = c.complete-complete.ensures.many;
 }

@@ -1,6 +1,6 @@
 use Rattle.std.proofs.Common.{Bool, true, false, not, ◌≡◌, ◌<◌, ◌+◌, refl, sym, subst, ◌∙◌}
 use Rattle.std.proofs.lemmas.Bool.{false≢true}
-use Rattle.frame_outbox.specs.Outboxes.{has_waiting}
+use Rattle.slave_outbox.specs.Outboxes.{has_waiting}
 use Rattle.slave.proofs.WeightLemmas.{not-thrown, thrown}
 use Rattle.slave.specs.declared.limits.TheConstants.{MOST_ACTS, PER_PACKET}
 use Rattle.slave.proofs.slave.Slave.discard.Goals as goal

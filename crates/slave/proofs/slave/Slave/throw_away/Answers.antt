@@ -1,5 +1,5 @@
 use Rattle.std.proofs.Common.{subst, sym, ap}
-use Rattle.frame_outbox.specs.Outboxes.{StandsAfter}
+use Rattle.slave_outbox.specs.Outboxes.{StandsAfter}
 use Rattle.slave.specs.Standing.{SlaveState}
 use Rattle.slave.proofs.DiscardingLemmas.{throws-away}
 use Rattle.slave.proofs.slave.Slave.throw_away.Goals as goal

@@ -1,6 +1,6 @@
 use Rattle.std.proofs.Common.{◌≡◌, ◌≢◌, ◌<◌, false, get_or, length, ap, subst, ◌∙◌, arith}
 use Rattle.std.proofs.lemmas.Grind.{get_or_default_zero}
-use Rattle.slave_channel.specs.Channels.{keeps_two}
+use Rattle.slave_channels.specs.Channels.{keeps_two}
 use Rattle.slave_channels.specs.Calls.{HasSome}
 use Rattle.slave_channels.proofs.CallLemmas.{full-here, room-all, room-first, room-more}
 use Rattle.slave_channels.proofs.channels.Channels.can_open.Goals as goal

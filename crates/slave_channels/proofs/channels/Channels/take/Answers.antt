@@ -1,7 +1,7 @@
 use Rattle.std.proofs.Common.{◌≤◌, sym, subst}
 use Rattle.std.proofs.lemmas.List.{length-set}
 use Rattle.xcp_base.specs.declared.limits.TheConstants.{MAX_CHANNELS}
-use Rattle.slave_channel.specs.Channels.{TakesOf}
+use Rattle.slave_channels.specs.Channels.{TakesOf}
 use Rattle.slave_channels.proofs.EachLemmas.{only-set}
 use Rattle.slave_channels.proofs.channels.Channels.take.Goals as goal
 

@@ -3,7 +3,7 @@ use Rattle.std.specs.Prelude.{slice_get}
 use Rattle.std.proofs.Common.{slice_set}
 use Rattle.std.proofs.lemmas.List.{set-get_or}
 use Rattle.std.proofs.lemmas.Option.{same_Some, slice_get_within}
-use Rattle.slave_channel.specs.Channels.{ChannelState, number_of}
+use Rattle.slave_channels.specs.Channels.{ChannelState, number_of}
 use Rattle.slave_channels.proofs.EachLemmas.{only-set, read_at}
 use Rattle.slave_channels.proofs.channels.Channels.unsent.Goals as goal
 

@@ -1,9 +1,9 @@
 use Rattle.std.proofs.Common.{List, ◌∙◌, ap, sym}
 use Rattle.xcp_base.specs.Lists.{has_list}
 use Rattle.sampler.specs.State.{runs_in}
-use Rattle.control_ring.specs.Orders.{SendState}
+use Rattle.channel_ring.specs.Orders.{SendState}
 use Rattle.tasks.specs.Links.{runs_by}
-use Rattle.control_ring.specs.declared.order.Order.{Order}
+use Rattle.channel_ring.specs.declared.order.Order.{Order}
 use Rattle.tasks.proofs.NeedLemmas.{places-same, test-fits, test-misses}
 use Rattle.tasks.proofs.away.Away.can_start.Goals as goal
 

@@ -1,6 +1,6 @@
 use Rattle.std.proofs.Common.{◌∙◌, refl, true≢false}
 use Rattle.sampler.specs.State.{runs_in}
-use Rattle.control_ring.specs.declared.order.Order.TheVariants.{End}
+use Rattle.channel_ring.specs.declared.order.Order.TheVariants.{End}
 use Rattle.tasks.proofs.RunningLemmas.{running-sent}
 use Rattle.tasks.proofs.away.Away.end.Goals as goal
 

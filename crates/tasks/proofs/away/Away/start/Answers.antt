@@ -1,7 +1,7 @@
 use Rattle.std.proofs.Common.{◌∙◌, ap, refl, subst, sym}
 use Rattle.sampler.specs.State.{runs_in}
 use Rattle.tasks.specs.Links.{AwayState, HasPlacesFor}
-use Rattle.control_ring.specs.declared.order.Order.TheVariants.{Start}
+use Rattle.channel_ring.specs.declared.order.Order.TheVariants.{Start}
 use Rattle.tasks.proofs.RunningLemmas.{others-checked, places-kept, running-sent}
 use Rattle.tasks.proofs.away.Away.start.Goals as goal
 

@@ -2,7 +2,7 @@ use Rattle.std.proofs.Common.{◌∙◌, ap}
 use Rattle.xcp_base.specs.Lists.{has_list}
 use Rattle.sampler.specs.State.{runs_in}
 use Rattle.tasks.specs.Links.{AwayState, runs_of}
-use Rattle.control_ring.specs.declared.order.Order.TheVariants.{Stop}
+use Rattle.channel_ring.specs.declared.order.Order.TheVariants.{Stop}
 use Rattle.tasks.proofs.NeedLemmas.{stop-leaves}
 use Rattle.tasks.proofs.RunningLemmas.{running-sent}
 use Rattle.tasks.proofs.away.Away.stop.Goals as goal

@@ -29,12 +29,10 @@ returns-then-stop-len-clause-ok g c =
     let short : c.pump_on-stop.result < vec_len c.loop-self.self.ends = omega (arith, c.if-stop-len.true, c.len.ensures, e.as_many) in
     let few : c.pump_on-stop.result < length (map g.T.TakeEnd.ring ends.items) = omega (arith, c.if-stop-len.true, c.len.ensures, e.as_many, i.as_many, length-map ends.items g.T.TakeEnd.ring, ends.ok.0) in
     let finds = rw i.lays.len at e.no_room short in
-    fills_no_room _ _ _ _ _ _ _ _ _ _ (sym c.closed.ensures ∙ c.if-closed.false, omega (arith, c.if-self-ge-MAX_TAKEN.false)) i.filled e.turns few finds
-
-pub returns-then-stop-len-clause-front : goal.returns-then-stop-len-clause-front
-returns-then-stop-len-clause-front g c =
-    let s = c.args.self.now in
-    lays-front _ _ _ _ _ (lays-append (state_of out s.writer).out _ _ c.args.buffer.now c.loop-self.buffer _ 0 c.loop-self.end _ c.loop-self.invariant.lays c.pump_on-stop.ensures.lays)
+    record {
+      fills = fills_no_room _ _ _ _ _ _ _ _ _ _ (sym c.closed.ensures ∙ c.if-closed.false, omega (arith, c.if-self-ge-MAX_TAKEN.false)) i.filled e.turns few finds;
+      front = lays-front _ _ _ _ _ (lays-append (state_of out c.args.self.now.writer).out _ _ c.args.buffer.now c.loop-self.buffer _ 0 c.loop-self.end _ i.lays e.lays);
+    }
 
 -- a whole pump found nothing
 pub returns-then-found_nothing-clause-ok : goal.returns-then-found_nothing-clause-ok
@@ -43,12 +41,10 @@ returns-then-found_nothing-clause-ok g c =
     let e = c.pump_on-stop.ensures in
     let ends = c.args.self.now.ends in
     let whole : c.pump_on-stop.result ≡ length (map g.T.TakeEnd.ring ends.items) = omega (arith, e.stop, c.if-stop-len.false, c.len.ensures, e.as_many, i.as_many, length-map ends.items g.T.TakeEnd.ring, ends.ok.0) in
-    fills_all _ _ _ _ _ _ _ _ _ _ (sym c.closed.ensures ∙ c.if-closed.false, omega (arith, c.if-self-ge-MAX_TAKEN.false)) i.filled e.turns whole (c.found_nothing.ensures.0 c.if-found_nothing.true)
-
-pub returns-then-found_nothing-clause-front : goal.returns-then-found_nothing-clause-front
-returns-then-found_nothing-clause-front g c =
-    let s = c.args.self.now in
-    lays-front _ _ _ _ _ (lays-append (state_of out s.writer).out _ _ c.args.buffer.now c.loop-self.buffer _ 0 c.loop-self.end _ c.loop-self.invariant.lays c.pump_on-stop.ensures.lays)
+    record {
+      fills = fills_all _ _ _ _ _ _ _ _ _ _ (sym c.closed.ensures ∙ c.if-closed.false, omega (arith, c.if-self-ge-MAX_TAKEN.false)) i.filled e.turns whole (c.found_nothing.ensures.0 c.if-found_nothing.true);
+      front = lays-front _ _ _ _ _ (lays-append (state_of out c.args.self.now.writer).out _ _ c.args.buffer.now c.loop-self.buffer _ 0 c.loop-self.end _ i.lays e.lays);
+    }
 
 -- one pump more
 pub loop-self-preserved : goal.loop-self-preserved
@@ -68,8 +64,7 @@ loop-self-preserved g c =
 
 -- too many items were taken
 pub returns-clause-ok : goal.returns-clause-ok
-returns-clause-ok g c =
-    fills_spent _ _ _ _ _ _ _ (sym c.closed.ensures ∙ c.if-closed.false, omega (arith, c.if-self-ge-MAX_TAKEN.false)) c.loop-self.invariant.filled (omega (arith, c.loop-self-test.false))
-
-pub returns-clause-front : goal.returns-clause-front
-returns-clause-front g c = lays-front _ _ _ _ _ c.loop-self.invariant.lays
+returns-clause-ok g c = record {
+  fills = fills_spent _ _ _ _ _ _ _ (sym c.closed.ensures ∙ c.if-closed.false, omega (arith, c.if-self-ge-MAX_TAKEN.false)) c.loop-self.invariant.filled (omega (arith, c.loop-self-test.false));
+  front = lays-front _ _ _ _ _ c.loop-self.invariant.lays;
+}

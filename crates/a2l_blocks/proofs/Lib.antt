@@ -1,4 +1,0 @@
-pub mod Steps
-pub mod TreeLaws
-pub mod Completions
-pub mod StepLemmas

@@ -1,0 +1,13 @@
+pub mod FrontLemmas
+pub mod KindLemmas
+pub mod GapLemmas
+pub mod TextLemmas
+pub mod WordLemmas
+pub mod LawLemmas
+pub mod NumberLemmas
+pub mod DecodedLemmas
+pub mod StandardFacts
+pub mod Steps
+pub mod TreeLaws
+pub mod Completions
+pub mod StepLemmas

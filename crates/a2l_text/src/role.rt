@@ -1,0 +1,114 @@
+//! Which blocks are read and which are passed over, by their names and where they stand.
+ghost use Rattle.std.specs.Prelude.{◌≡◌};
+ghost use Rattle.a2l_text.specs.Roles.{inside, inside_part, module_block, after_plain};
+ghost use Rattle.a2l_text.specs.Roles.{after_text, may_include, part_of};
+
+use crate::part::Part;
+use crate::{is, meaning};
+
+/// What an open block is to the reader of a text.
+#[derive(Clone, Copy, Debug, PartialEq, Eq)]
+pub enum Role {
+    /// No block: the text itself.
+    File,
+    Project,
+    Module,
+    /// An IF_DATA whose first word isn't read yet.
+    Data,
+    /// In an IF_DATA of XCP.
+    Xcp,
+    /// Its words are gathered.
+    Gathered(Part),
+    /// Its name and its words are gathered with those of the part that it stands in.
+    Joined,
+    /// In A2ML, the grammar of IF_DATA: it is passed over, and may name other files to include.
+    Grammar,
+    /// It is passed over, with all that stands in it.
+    Passed,
+}
+
+impl Role {
+    /// The role of a block of this name in a block of this role.
+    pub fn inside(self, name: &[u8]) -> Role
+        ensures { result ≡ inside self name.now }
+    {
+        match self {
+            Role::File if is(name, "PROJECT") => Role::Project,
+            Role::Project if is(name, "MODULE") => Role::Module,
+            Role::Module => module_block(name),
+            Role::Xcp if is(name, "TIMESTAMP_SUPPORTED") => Role::Gathered(Part::Timestamp),
+            Role::Xcp => Role::Xcp,
+            Role::Gathered(part) => inside_part(part, name),
+            Role::Grammar => Role::Grammar,
+            _ => Role::Passed,
+        }
+    }
+
+    /// The role behind a word that stands directly in the block.
+    pub fn after_plain(self, word: &[u8]) -> Role
+        ensures { result ≡ after_plain self word.now }
+    {
+        match self {
+            Role::Data if is(word, "XCP") => Role::Xcp,
+            Role::Data => Role::Passed,
+            _ => self,
+        }
+    }
+
+    /// The role behind a text that stands directly in the block.
+    pub fn after_text(self) -> Role
+        ensures { result ≡ after_text self }
+    {
+        match self {
+            Role::Data => Role::Passed,
+            _ => self,
+        }
+    }
+
+    /// Whether `/include` is passed over in the block.
+    pub fn may_include(self) -> bool
+        ensures { result ≡ may_include self }
+    {
+        matches!(self, Role::Grammar)
+    }
+
+    /// What the block is, if it is a part.
+    pub fn part(self) -> Option<Part>
+        ensures { result ≡ part_of self }
+    {
+        match self {
+            Role::Module => Some(Part::Module),
+            Role::Gathered(part) => Some(part),
+            _ => None,
+        }
+    }
+}
+
+/// The role of a block of this name directly in a part.
+fn inside_part(part: Part, name: &[u8]) -> Role
+    ensures { result ≡ inside_part part name.now }
+{
+    match part {
+        Part::Measurement if is(name, "BIT_OPERATION") => Role::Joined,
+        _ => Role::Passed,
+    }
+}
+
+/// The role of a block of this name directly in a MODULE.
+fn module_block(name: &[u8]) -> Role
+    ensures { result ≡ module_block name.now }
+{
+    meaning(name, &MODULE_BLOCKS).unwrap_or(Role::Passed)
+}
+
+/// The blocks directly in a MODULE that aren't passed over.
+const MODULE_BLOCKS: [(&str, Role); 8] = [
+    ("MEASUREMENT", Role::Gathered(Part::Measurement)),
+    ("INSTANCE", Role::Gathered(Part::Instance)),
+    ("COMPU_METHOD", Role::Gathered(Part::Method)),
+    ("COMPU_VTAB", Role::Gathered(Part::Table)),
+    ("COMPU_VTAB_RANGE", Role::Gathered(Part::Ranges)),
+    ("MOD_COMMON", Role::Gathered(Part::Defaults)),
+    ("IF_DATA", Role::Data),
+    ("A2ML", Role::Grammar),
+];

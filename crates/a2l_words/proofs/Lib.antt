@@ -1,9 +1,0 @@
-pub mod FrontLemmas
-pub mod KindLemmas
-pub mod GapLemmas
-pub mod TextLemmas
-pub mod WordLemmas
-pub mod LawLemmas
-pub mod NumberLemmas
-pub mod DecodedLemmas
-pub mod StandardFacts

@@ -1,5 +1,0 @@
-use Rattle.a2l_words.proofs.LawLemmas.{one_list}
-use Rattle.a2l_words.proofs.laws.one_list_of_words.Goals as goal
-
-pub returns : goal.returns
-returns c = one_list

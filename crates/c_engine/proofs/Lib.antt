@@ -1,0 +1,10 @@
+pub mod CloseLemmas
+pub mod EndLemmas
+pub mod EngineLemmas
+pub mod HandleValues
+pub mod LendingLemmas
+pub mod OnLemmas
+pub mod OpenedLemmas
+pub mod PartsValues
+pub mod SendLemmas
+pub mod WayLemmas

@@ -1,0 +1,35 @@
+use Rattle.std.proofs.Common.{◌<◌, [], ◌∷◌, ap, arith, length, reverse}
+use Rattle.std.proofs.lemmas.Grind.{common_steps}
+use Rattle.c_engine.specs.Lendings.{LendingState}
+use Rattle.c_engine.proofs.LendingLemmas.{came, prefix-more, prefix-same}
+use Rattle.c_engine.proofs.lending.Lending.collect.Goals as goal
+
+-- at first nothing more came
+pub loop-self-init : goal.loop-self-init
+loop-self-init g c = record {
+  began = ap (λ (l : LendingState _ _). l.began) c.self.view_is;
+  samplers = ap (λ (l : LendingState _ _). l.samplers) c.self.view_is;
+  ends = prefix-same _ _ (ap (λ (l : LendingState _ _). l.ends) c.self.view_is);
+  samplers_fit = c.self.invariant.0;
+  ways_fit = c.self.invariant.1;
+  ends_fit = c.self.invariant.2;
+  come = c.self.invariant.3;
+}
+
+-- what came back is left of the first that was out
+pub loop-self-preserved : goal.loop-self-preserved
+loop-self-preserved g c =
+    let out = c.loop-self.self-inside.ways.items in
+    let some : 0 < length out = grind (arith, common_steps) in
+    record {
+      began = c.loop-self.invariant.began;
+      samplers = c.loop-self.invariant.samplers;
+      ends = rw c.push_reserved.ensures.items (prefix-more _ _ (c.in-Some.end ∷ []) c.loop-self.invariant.ends);
+      samplers_fit = grind (arith, common_steps);
+      ways_fit = grind (arith, common_steps);
+      ends_fit = grind (arith, common_steps);
+      come = rw (c.remove.ensures.items, c.push_reserved.ensures.items)
+          (came g.R.Send.SendEnd g.R.Send.End.RingEnd c.loop-self.self-inside.began.value.items c.loop-self.self-inside.ends.items c.in-Some.end
+          out c.index_mut.result.now c.take.new.self (reverse c.loop-self.self-inside.samplers.items) some c.take.ensures.stays c.index_mut.ensures.value
+          c.in-Some.ensures.left c.loop-self.invariant.come);
+    }

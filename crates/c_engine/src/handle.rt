@@ -1,0 +1,114 @@
+//! The handles of C: filled, emptied and freed; each owns what its pointer leads to.
+ghost use Rattle.std.specs.Prelude.{◌≡◌, MatchOption};
+ghost use Rattle.std.specs.declared.option.Option.{Option};
+ghost use Rattle.std.specs.declared.option.Option.TheVariants.{None, Some};
+ghost use Rattle.c_engine.specs.declared.content.Content.{Content as ContentOf};
+ghost use Rattle.c_engine.specs.Answers.{Frees};
+ghost use Rattle.c_engine.specs.Owned.{coded_held};
+
+use crate::content::Content;
+use crate::hidden::Hidden;
+use crate::parts::Parts;
+use crate::status::Status;
+use std::alloc::Global;
+use std::marker::Model;
+use std::mem::replace;
+
+/// A handle of a store, of an engine or of a sampler, that C owns: something behind a pointer, or
+/// nothing. In C it is `ng_store`, `ng_engine` and `ng_sampler`.
+///
+/// Contracts speak of what is `held`. C keeps the two fields as the calls leave them; an empty
+/// handle is one whose `full` is false.
+#[repr(C)]
+pub struct Handle {
+    at: *mut Hidden,
+    full: bool,
+    pub ghost held: { Option ContentOf } by { coded_held },
+}
+
+impl Model for Handle {
+    ghost use Rattle.c_engine.specs.Owned.{owns_held};
+
+    ghost also_owns = { λ h. owns_held h.full h.at h.held };
+}
+
+impl Handle {
+    /// An empty handle.
+    fn none() -> Handle
+        ensures { result.held ≡ None }
+    {
+        Handle {
+            at: std::ptr::null_mut(),
+            full: false,
+        }
+    }
+
+    /// A handle that holds what these are the parts of.
+    fn of_parts(parts: Parts<Content, Global>) -> Handle
+        ensures { result.held ≡ Some parts.value }
+    {
+        let Parts { ptr, alloc: _ } = parts;
+        Handle {
+            at: ptr as *mut Hidden,
+            full: true,
+        }
+    }
+
+    /// The parts of what is held.
+    fn into_parts(self, alloc: Global) -> Option<Parts<Content, Global>>
+        ensures { MatchOption result (self.held ≡ None) (λ parts. self.held ≡ Some parts.value) }
+    {
+        let Handle { at, full } = self;
+        if full {
+            return Some(Parts {
+                ptr: at as *mut Content,
+                alloc,
+            });
+        }
+        None
+    }
+
+    /// A handle that holds this.
+    fn of(content: Box<Content>) -> Handle
+        ensures { result.held ≡ Some content.value }
+    {
+        Handle::of_parts(Parts::of(content))
+    }
+
+    /// What is held.
+    fn into_box(self, alloc: Global) -> Option<Box<Content>>
+        ensures { MatchOption result (self.held ≡ None)
+            (λ content. self.held ≡ Some content.value) }
+    {
+        let parts = self.into_parts(alloc)?;
+        Some(parts.into_box())
+    }
+
+    /// Takes out what is held, and leaves the handle empty.
+    pub fn take(&mut self, alloc: Global) -> Option<Box<Content>>
+        ensures taken { MatchOption result (self.old.held ≡ None)
+            (λ content. self.old.held ≡ Some content.value) }
+        ensures left { self.new.held ≡ None }
+    {
+        replace(self, Handle::none()).into_box(alloc)
+    }
+
+    /// Puts this in. What the handle held is given up.
+    pub fn put(&mut self, alloc: Global, content: Box<Content>)
+        ensures { self.new.held ≡ Some content.value }
+    {
+        let _given_up = replace(self, Handle::of(content)).into_box(alloc);
+    }
+
+    /// Gives up what is held.
+    pub fn free(&mut self, alloc: Global) -> Status
+        ensures { Frees self.old.held self.new.held result }
+    {
+        match self.take(alloc) {
+            Some(_held) => Status::Ok,
+            None => Status::Empty,
+        }
+    }
+}
+
+unsafe impl Send for Handle {}

@@ -1,0 +1,4 @@
+pub mod CloseLemmas
+pub mod HandleValues
+pub mod OnLemmas
+pub mod TellingLemmas

@@ -1,0 +1,9 @@
+pub mod Bytes
+pub mod Ends
+pub mod Measurements
+pub mod OnHandles
+pub mod Openings
+pub mod Owned
+pub mod Profiles
+pub mod States
+pub mod Tasks

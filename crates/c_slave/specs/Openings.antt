@@ -1,0 +1,38 @@
+-- What ng_slave_open does to a handle.
+use Rattle.std.specs.Prelude.{◌≡◌, List, Option, Some, None, IsSome}
+use Rattle.c_engine.specs.States.{Bytes, Items}
+use Rattle.c_slave.specs.declared.content.Content.{Content}
+use Rattle.c_slave.specs.declared.content.Content.TheVariants as held
+use Rattle.c_engine.specs.declared.status.Status.{Status}
+use Rattle.c_engine.specs.declared.status.Status.TheVariants as status
+use Rattle.session.specs.declared.profile.Profile.{Profile}
+use Rattle.xcp_base.specs.declared.ring_kind.RingKind.{RingKind}
+use Rattle.xcp_base.specs.declared.ring_kind.RingKind.TheVariants as ring
+use Rattle.slave_lending.specs.Lends.{IsOpenedWith}
+use Rattle.c_slave.specs.Profiles.{IsGoodProfileOf, IsOutOfLimits}
+use Rattle.c_slave.specs.declared.profile_in.EventIn.{EventIn}
+use Rattle.c_slave.specs.declared.profile_in.ProfileIn.{ProfileIn}
+
+module _ (items : Items) (bytes : Bytes) where
+  -- a slave was opened with this profile, over rings of this kind
+  abbrev pub IsSlaveOf : RingKind → Profile → Content → Type 0
+  IsSlaveOf ring.Samples d (held.Slave s) = IsOpenedWith items.give d s
+  IsSlaveOf ring.Bytes d (held.ByteSlave s) = IsOpenedWith bytes.give d s
+  IsSlaveOf kind d _ = ⊥
+
+  -- the same, with the profile that was asked for, over its kind of rings
+  pub record SlaveOf (p : ProfileIn) (events : List EventIn) (it : Content) : Type 0 where
+    pub profile : Profile
+    pub good : IsGoodProfileOf p events profile
+    pub opened : IsSlaveOf profile.ring profile it
+
+  -- what ng_slave_open does to a handle
+  abbrev pub OpensSlave
+      : Option Content → Option Content → ProfileIn → List EventIn → Status → Type 0
+  OpensSlave old new p events status.Ok =
+      (old ≡ None) × ((it : Content) × (new ≡ Some it) × SlaveOf p events it)
+  OpensSlave old new p events status.InUse = IsSome old × (new ≡ old)
+  OpensSlave old new p events status.BadLimits =
+      (old ≡ None) × (new ≡ old) × IsOutOfLimits p events
+  OpensSlave old new p events status.Memory = (old ≡ None) × (new ≡ old)
+  OpensSlave old new p events _ = ⊥

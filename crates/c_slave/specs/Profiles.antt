@@ -1,0 +1,74 @@
+-- The profile that C asks for.
+use Rattle.std.specs.Prelude.{◌≡◌, ◌≢◌, ◌⊎◌, ℕ, ◌==◌, if◌then◌else◌, List, [], ◌∷◌, map}
+use Rattle.std.specs.Prelude.{Some, None}
+use Rattle.c_engine.specs.Kinds.{kind_of, ring_of}
+use Rattle.c_engine.specs.declared.status.Status.{Status}
+use Rattle.c_engine.specs.declared.status.Status.TheVariants as status
+use Rattle.session.specs.Profiles.{profile_fault}
+use Rattle.session.specs.declared.event_channel.EventChannel.{EventChannel}
+use Rattle.session.specs.declared.profile.Profile.{Profile}
+use Rattle.c_slave.specs.declared.profile_in.EventIn.{EventIn}
+use Rattle.c_slave.specs.declared.profile_in.ProfileIn.{ProfileIn}
+
+-- the bytes before the first zero byte
+abbrev pub text_of : List ℕ → List ℕ
+text_of [] = []
+text_of (b ∷ bs) = if b == 0 then [] else b ∷ text_of bs
+
+-- what is told of an event channel
+pub record EventTold : Type 0 where
+  pub capacity : ℕ
+  pub name : List ℕ
+  pub cycle : ℕ
+  pub cycle_unit : ℕ
+  pub priority : ℕ
+
+-- by C, and by an event channel
+abbrev pub told_in : EventIn → EventTold
+told_in e = record {
+  capacity = e.capacity;
+  name = text_of e.name;
+  cycle = e.cycle;
+  cycle_unit = e.cycle_unit;
+  priority = e.priority;
+}
+
+abbrev pub told_of : EventChannel → EventTold
+told_of e = record {
+  capacity = e.capacity;
+  name = e.name.items;
+  cycle = e.cycle;
+  cycle_unit = e.cycle_unit;
+  priority = e.priority;
+}
+
+-- this is the profile that is asked for
+pub record IsProfileOf (p : ProfileIn) (events : List EventIn) (d : Profile) : Type 0 where
+  pub image_len : d.image_len ≡ p.image_len
+  pub id : kind_of p.id ≡ Some d.id
+  pub stamp_size : d.stamp_size ≡ p.stamp_size
+  pub unit : d.unit ≡ p.unit
+  pub ticks : d.ticks ≡ p.ticks
+  pub base : d.base ≡ p.base
+  pub rings : ring_of p.ring ≡ Some d.ring
+  pub name : d.name.items ≡ text_of p.name
+  pub channels : map told_of d.events.items ≡ map told_in events
+
+-- the same, and it is within its limits
+pub record IsGoodProfileOf (p : ProfileIn) (events : List EventIn) (d : Profile) : Type 0 where
+  pub is : IsProfileOf p events d
+  pub within : profile_fault d ≡ None
+
+-- there is no such identification field, or no such kind of rings; or else the profile is out of a
+-- limit
+abbrev pub IsOutOfLimits : ProfileIn → List EventIn → Type 0
+IsOutOfLimits p events =
+    (kind_of p.id ≡ None)
+    ⊎ ((ring_of p.ring ≡ None)
+    ⊎ ((d : Profile) × IsProfileOf p events d × (profile_fault d ≢ None)))
+
+-- why there is no profile
+abbrev pub RefusesProfile : ProfileIn → List EventIn → Status → Type 0
+RefusesProfile p events status.BadLimits = IsOutOfLimits p events
+RefusesProfile p events status.Memory = Unit {0}
+RefusesProfile p events _ = ⊥

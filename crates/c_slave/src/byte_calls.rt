@@ -1,0 +1,155 @@
+//! The calls by which the slave of a handle hears its master.
+
+ghost use Rattle.std.specs.Prelude.{Some};
+ghost use Rattle.c_slave.specs.Bytes.{HangsUpSlave, HearsDatagrams, Receives, ReceivesBytes};
+ghost use Rattle.c_slave.specs.Bytes.{ReceivesDatagram};
+
+use crate::content::Content;
+use crate::handle::Handle;
+use byte_ring::ByteRing;
+use c_engine::{HeldRing, Status};
+use channel_ring::SampleRing;
+use daq_engine::Ring;
+use slave_lending::LendingSlave;
+use std::alloc::Global;
+
+/// Takes bytes of a stream.
+fn receive<R: Ring>(
+    alloc: Global,
+    slave: &mut LendingSlave<R>,
+    bytes: &[u8],
+    clock: u32,
+    taken: &mut usize,
+) -> Status
+    ensures { ReceivesBytes R.Take.TakeEnd slave.old slave.new bytes.now clock
+        taken.old taken.new result }
+{
+    if slave.is_spent() {
+        return Status::Spent;
+    }
+    match slave.receive(alloc, bytes, clock) {
+        Ok(count) => {
+            *taken = count;
+            Status::Ok
+        }
+        Err(_) => Status::BadFrame,
+    }
+}
+
+/// Takes bytes of a stream by a slave, if this is one.
+fn receive_in(
+    alloc: Global,
+    content: &mut Content,
+    bytes: &[u8],
+    clock: u32,
+    taken: &mut usize,
+) -> Status
+    ensures { Receives ⟦<SampleRing as HeldRing>⟧.rings ⟦<ByteRing as HeldRing>⟧.rings
+        (Some content.old) (Some content.new) bytes.now clock taken.old taken.new result }
+{
+    match content {
+        Content::Slave(slave) => receive(alloc, slave, bytes, clock, taken),
+        Content::ByteSlave(slave) => receive(alloc, slave, bytes, clock, taken),
+        _ => Status::Empty,
+    }
+}
+
+/// Takes bytes of a stream by the slave of a handle.
+pub fn receive_by(
+    alloc: Global,
+    handle: &mut Handle,
+    bytes: &[u8],
+    clock: u32,
+    taken: &mut usize,
+) -> Status
+    ensures { Receives ⟦<SampleRing as HeldRing>⟧.rings ⟦<ByteRing as HeldRing>⟧.rings
+        handle.old.held handle.new.held bytes.now clock taken.old taken.new result }
+{
+    let Some(mut held) = handle.take(alloc) else {
+        return Status::Empty;
+    };
+    let status = receive_in(alloc, held.as_mut(), bytes, clock, taken);
+    handle.put(alloc, held);
+    status
+}
+
+/// Hears the frames of a datagram.
+fn hear<R: Ring>(
+    alloc: Global,
+    slave: &mut LendingSlave<R>,
+    bytes: &[u8],
+    clock: u32,
+    taken: &mut usize,
+) -> Status
+    ensures { ReceivesDatagram R.Take.TakeEnd slave.old slave.new bytes.now clock
+        taken.old taken.new result }
+{
+    if slave.is_spent() {
+        return Status::Spent;
+    }
+    *taken = slave.datagram(alloc, bytes, clock);
+    Status::Ok
+}
+
+/// Hears the frames of a datagram by a slave, if this is one.
+fn datagram_in(
+    alloc: Global,
+    content: &mut Content,
+    bytes: &[u8],
+    clock: u32,
+    taken: &mut usize,
+) -> Status
+    ensures { HearsDatagrams ⟦<SampleRing as HeldRing>⟧.rings ⟦<ByteRing as HeldRing>⟧.rings
+        (Some content.old) (Some content.new) bytes.now clock taken.old taken.new result }
+{
+    match content {
+        Content::Slave(slave) => hear(alloc, slave, bytes, clock, taken),
+        Content::ByteSlave(slave) => hear(alloc, slave, bytes, clock, taken),
+        _ => Status::Empty,
+    }
+}
+
+/// Hears the frames of a datagram by the slave of a handle.
+pub fn datagram_by(
+    alloc: Global,
+    handle: &mut Handle,
+    bytes: &[u8],
+    clock: u32,
+    taken: &mut usize,
+) -> Status
+    ensures { HearsDatagrams ⟦<SampleRing as HeldRing>⟧.rings ⟦<ByteRing as HeldRing>⟧.rings
+        handle.old.held handle.new.held bytes.now clock taken.old taken.new result }
+{
+    let Some(mut held) = handle.take(alloc) else {
+        return Status::Empty;
+    };
+    let status = datagram_in(alloc, held.as_mut(), bytes, clock, taken);
+    handle.put(alloc, held);
+    status
+}
+
+/// Hangs up by a slave, if this is one.
+fn hang_up_in(content: &mut Content) -> Status
+    ensures { HangsUpSlave ⟦<SampleRing as HeldRing>⟧.rings ⟦<ByteRing as HeldRing>⟧.rings
+        (Some content.old) (Some content.new) result }
+{
+    match content {
+        Content::Slave(slave) => slave.hang_up(),
+        Content::ByteSlave(slave) => slave.hang_up(),
+        _ => return Status::Empty,
+    }
+    Status::Ok
+}
+
+/// Hangs up by the slave of a handle.
+pub fn hang_up_by(alloc: Global, handle: &mut Handle) -> Status
+    ensures { HangsUpSlave ⟦<SampleRing as HeldRing>⟧.rings ⟦<ByteRing as HeldRing>⟧.rings
+        handle.old.held handle.new.held result }
+{
+    let Some(mut held) = handle.take(alloc) else {
+        return Status::Empty;
+    };
+    let status = hang_up_in(held.as_mut());
+    handle.put(alloc, held);
+    status
+}

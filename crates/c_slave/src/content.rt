@@ -1,0 +1,38 @@
+//! What a handle of a slave or a task holds.
+ghost use Rattle.std.specs.Prelude.{◌≡◌, IfErr, IfOk};
+
+use byte_ring::{ByteRing, ByteSend};
+use c_engine::Status;
+use channel_ring::{SampleRing, SendHalf};
+use slave_lending::{LendingSlave, LentTask};
+use std::alloc::Global;
+
+/// What a handle of a slave or of its tasks may hold.
+#[derive(Drop)]
+pub enum Content {
+    /// A slave over rings of items.
+    Slave(LendingSlave<SampleRing>),
+    /// The task of an event channel, over a ring of items.
+    Task(LentTask<SendHalf>),
+    /// A slave over rings of bytes.
+    ByteSlave(LendingSlave<ByteRing>),
+    /// The task of an event channel, over a ring of bytes.
+    ByteTask(LentTask<ByteSend>),
+}
+
+impl Content {
+    /// The same on the heap.
+    pub fn boxed(self, alloc: Global) -> Result<Box<Content>, Status>
+        ensures ok { IfOk result (λ it. it.value ≡ self) }
+        ensures err { IfErr result (λ status. status ≡ Status.Memory) }
+    {
+        match Box::new(alloc, self) {
+            Ok(boxed) => Ok(boxed),
+            Err(failed) => {
+                // for the proof: what is lost is dropped as a content, whose drop is proved once
+                let _lost = failed.value;
+                Err(Status::Memory)
+            }
+        }
+    }
+}

@@ -1,0 +1,74 @@
+//! A slave is opened.
+ghost use Rattle.std.specs.Prelude.{◌≡◌, IfErr, IfOk};
+ghost use Rattle.c_slave.specs.Openings.{IsSlaveOf, OpensSlave, SlaveOf};
+ghost use Rattle.c_slave.specs.Profiles.{RefusesProfile};
+
+use crate::content::Content;
+use crate::handle::Handle;
+use crate::profile_in::{EventIn, ProfileIn};
+use crate::profiles::good_profile;
+use byte_ring::ByteRing;
+use c_engine::{HeldRing, Status};
+use channel_ring::SampleRing;
+use session::Profile;
+use slave_lending::LendingSlave;
+use std::alloc::Global;
+use xcp_base::RingKind;
+
+/// A slave with this profile, over its kind of rings, as a handle holds it.
+fn opened_as(alloc: Global, profile: Profile) -> Result<Content, Status>
+    ensures ok { IfOk result
+        (IsSlaveOf ⟦<SampleRing as HeldRing>⟧.rings ⟦<ByteRing as HeldRing>⟧.rings
+        profile.ring profile) }
+    ensures err { IfErr result (λ status. status ≡ Status.Memory) }
+{
+    match profile.ring {
+        RingKind::Samples => match LendingSlave::<SampleRing>::open(alloc, profile) {
+            Ok(slave) => Ok(Content::Slave(slave)),
+            Err(_) => Err(Status::Memory),
+        },
+        RingKind::Bytes => match LendingSlave::<ByteRing>::open(alloc, profile) {
+            Ok(slave) => Ok(Content::ByteSlave(slave)),
+            Err(_) => Err(Status::Memory),
+        },
+    }
+}
+
+/// A slave with the profile that is asked for, on the heap.
+fn opened_on_heap(
+    alloc: Global,
+    asked: &ProfileIn,
+    events: &[EventIn],
+) -> Result<Box<Content>, Status>
+    ensures ok { IfOk result (λ it.
+        SlaveOf ⟦<SampleRing as HeldRing>⟧.rings ⟦<ByteRing as HeldRing>⟧.rings
+        asked.now events.now it.value) }
+    ensures err { IfErr result (RefusesProfile asked.now events.now) }
+{
+    let profile = good_profile(alloc, asked, events)?;
+    let content = opened_as(alloc, profile)?;
+    content.boxed(alloc)
+}
+
+/// Opens a slave with the profile that is asked for, into an empty handle.
+pub fn open_slave(
+    alloc: Global,
+    asked: &ProfileIn,
+    events: &[EventIn],
+    slave: &mut Handle,
+) -> Status
+    ensures { OpensSlave ⟦<SampleRing as HeldRing>⟧.rings ⟦<ByteRing as HeldRing>⟧.rings
+        slave.old.held slave.new.held asked.now events.now result }
+{
+    if let Some(held) = slave.take(alloc) {
+        slave.put(alloc, held);
+        return Status::InUse;
+    }
+    match opened_on_heap(alloc, asked, events) {
+        Ok(content) => {
+            slave.put(alloc, content);
+            Status::Ok
+        }
+        Err(status) => status,
+    }
+}

@@ -1,0 +1,41 @@
+//! The profile of a slave and its event channels, laid out as C gives them.
+/// The places for the bytes of a name: one more than a name may have.
+pub const NAME_PLACES: usize = 57;
+
+/// What a slave tells of an event channel, of any numbers. In C it is `ng_event`.
+#[repr(C)]
+#[derive(Clone, Copy)]
+pub struct EventIn {
+    /// The capacity of its ring, in the units of the ring's kind.
+    pub capacity: usize,
+    /// Its name, up to the first zero byte.
+    pub name: [u8; NAME_PLACES],
+    /// The cycle of its triggers, in its unit; 0 if there is none.
+    pub cycle: u8,
+    /// The unit of the cycle.
+    pub cycle_unit: u8,
+    /// Its priority.
+    pub priority: u8,
+}
+
+/// What a slave is asked for by, of any numbers. In C it is `ng_profile`.
+#[repr(C)]
+#[derive(Clone, Copy)]
+pub struct ProfileIn {
+    /// The length of an image, in bytes.
+    pub image_len: usize,
+    /// The address of the image's first byte.
+    pub base: u32,
+    /// The number of the identification field, as in `ng_id_kind`.
+    pub id: u32,
+    /// The number of the kind of rings, as in `ng_ring`.
+    pub ring: u32,
+    /// So many units are one tick of a timestamp.
+    pub ticks: u16,
+    /// The unit of a timestamp.
+    pub unit: u8,
+    /// The length of a timestamp, in bytes.
+    pub stamp_size: u8,
+    /// The name of the slave, up to the first zero byte.
+    pub name: [u8; NAME_PLACES],
+}

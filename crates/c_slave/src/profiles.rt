@@ -1,0 +1,91 @@
+//! The profile that is asked for.
+ghost use Rattle.std.specs.Prelude.{◌≡◌, IfErr, IfOk, map};
+ghost use Rattle.c_slave.specs.Profiles.{IsGoodProfileOf, IsProfileOf, RefusesProfile};
+ghost use Rattle.c_slave.specs.Profiles.{text_of, told_in, told_of};
+
+use crate::profile_in::{EventIn, ProfileIn};
+use c_engine::{Status, kind_numbered, ring_numbered};
+use session::{EventChannel, Profile};
+use std::alloc::{AllocError, Global};
+
+/// The bytes of a name, up to the first zero byte.
+fn text_of(alloc: Global, name: &[u8]) -> Result<Vec<u8>, AllocError>
+    ensures { IfOk result (λ text. text.items ≡ text_of name.now) }
+{
+    let mut text = Vec::new(alloc);
+    for k in 0..name.len() {
+        let byte = name[k];
+        if byte == 0 {
+            return Ok(text);
+        }
+        text.push(byte)?;
+    }
+    Ok(text)
+}
+
+/// The event channel that is asked for.
+fn event_of(alloc: Global, event: &EventIn) -> Result<EventChannel, AllocError>
+    ensures { IfOk result (λ made. told_of made ≡ told_in event.now) }
+{
+    let name = text_of(alloc, &event.name)?;
+    Ok(EventChannel {
+        capacity: event.capacity,
+        name,
+        cycle: event.cycle,
+        cycle_unit: event.cycle_unit,
+        priority: event.priority,
+    })
+}
+
+/// The event channels that are asked for, in their order.
+fn events_of(alloc: Global, events: &[EventIn]) -> Result<Vec<EventChannel>, AllocError>
+    ensures { IfOk result (λ made. map told_of made.items ≡ map told_in events.now) }
+{
+    let mut made = Vec::new(alloc);
+    for event in events {
+        made.push(event_of(alloc, event)?)?;
+    }
+    Ok(made)
+}
+
+/// The profile that is asked for, if there are such an identification field and such rings.
+fn profile_of(alloc: Global, asked: &ProfileIn, events: &[EventIn]) -> Result<Profile, Status>
+    ensures ok { IfOk result (IsProfileOf asked.now events.now) }
+    ensures err { IfErr result (RefusesProfile asked.now events.now) }
+{
+    let Some(id) = kind_numbered(asked.id) else {
+        return Err(Status::BadLimits);
+    };
+    let Some(ring) = ring_numbered(asked.ring) else {
+        return Err(Status::BadLimits);
+    };
+    let Ok(name) = text_of(alloc, &asked.name) else {
+        return Err(Status::Memory);
+    };
+    let Ok(events) = events_of(alloc, events) else {
+        return Err(Status::Memory);
+    };
+    Ok(Profile {
+        image_len: asked.image_len,
+        id,
+        stamp_size: asked.stamp_size,
+        unit: asked.unit,
+        ticks: asked.ticks,
+        base: asked.base,
+        ring,
+        name,
+        events,
+    })
+}
+
+/// The profile that is asked for, if it is within its limits.
+pub fn good_profile(alloc: Global, asked: &ProfileIn, events: &[EventIn]) -> Result<Profile, Status>
+    ensures ok { IfOk result (IsGoodProfileOf asked.now events.now) }
+    ensures err { IfErr result (RefusesProfile asked.now events.now) }
+{
+    let profile = profile_of(alloc, asked, events)?;
+    match profile.fault() {
+        None => Ok(profile),
+        Some(_) => Err(Status::BadLimits),
+    }
+}

@@ -1,0 +1,47 @@
+//! The call by which the slave of a handle tells what it is about.
+
+ghost use Rattle.std.specs.Prelude.{Some};
+ghost use Rattle.c_slave.specs.States.{IsStateOf, TellsState};
+
+use crate::content::Content;
+use crate::handle::Handle;
+use crate::state_out::StateOut;
+use c_engine::Status;
+use daq_engine::Ring;
+use slave_lending::LendingSlave;
+use std::alloc::Global;
+
+/// What a slave is about.
+fn state_of<R: Ring>(slave: &LendingSlave<R>) -> StateOut
+    ensures { IsStateOf slave.now result }
+{
+    StateOut {
+        connected: slave.is_connected(),
+        measuring: slave.is_measuring(),
+        waiting: slave.waiting(),
+    }
+}
+
+/// Tells what a slave is about, if this is one.
+fn tell_state(content: &Content, state: &mut StateOut) -> Status
+    ensures { TellsState (Some content.now) (Some content.now) state.old state.new result }
+{
+    match content {
+        Content::Slave(slave) => *state = state_of(slave),
+        Content::ByteSlave(slave) => *state = state_of(slave),
+        _ => return Status::Empty,
+    }
+    Status::Ok
+}
+
+/// Tells what the slave of a handle is about.
+pub fn state_by(alloc: Global, handle: &mut Handle, state: &mut StateOut) -> Status
+    ensures { TellsState handle.old.held handle.new.held state.old state.new result }
+{
+    let Some(held) = handle.take(alloc) else {
+        return Status::Empty;
+    };
+    let status = tell_state(held.as_ref(), state);
+    handle.put(alloc, held);
+    status
+}

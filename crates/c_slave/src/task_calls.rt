@@ -1,0 +1,104 @@
+//! The calls by the task of a handle.
+
+ghost use Rattle.std.specs.Prelude.{◌≡◌, ◌↔◌, IsTrue, Some};
+ghost use Rattle.c_slave.specs.Tasks.{FinishesHeldBy, IsTask, TriggersHeldTask, TriggersTask};
+ghost use Rattle.c_slave.specs.Tasks.{status_of_finish};
+
+use crate::content::Content;
+use crate::given_back::GivenBack;
+use crate::handle::Handle;
+use byte_ring::ByteRing;
+use c_engine::{HeldRing, Status, TakenOut};
+use channel_ring::{SampleRing, SendEnd};
+use sampler::TriggerFault;
+use slave_lending::LentTask;
+use std::alloc::Global;
+
+/// Takes a trigger.
+fn trigger<S: SendEnd>(
+    task: &mut LentTask<S>,
+    image: &[u8],
+    stamp: u32,
+    taken: &mut TakenOut,
+) -> Status
+    ensures { TriggersTask S.SendEnd S.End.RingEnd
+        task.old task.new image.now stamp taken.old taken.new result }
+{
+    match task.trigger(image, stamp) {
+        Ok(sets) => {
+            *taken = TakenOut::of(sets);
+            Status::Ok
+        }
+        Err(TriggerFault::WrongImage) => Status::WrongImage,
+        Err(TriggerFault::Spent) => Status::Spent,
+    }
+}
+
+/// Takes a trigger by a task, if this is one.
+fn trigger_in(content: &mut Content, image: &[u8], stamp: u32, taken: &mut TakenOut) -> Status
+    ensures { TriggersHeldTask ⟦<SampleRing as HeldRing>⟧.rings ⟦<ByteRing as HeldRing>⟧.rings
+        (Some content.old) (Some content.new) image.now stamp taken.old taken.new result }
+{
+    match content {
+        Content::Task(task) => trigger(task, image, stamp, taken),
+        Content::ByteTask(task) => trigger(task, image, stamp, taken),
+        _ => Status::Empty,
+    }
+}
+
+/// Takes a trigger by the task of a handle.
+pub fn trigger_task_by(
+    alloc: Global,
+    handle: &mut Handle,
+    image: &[u8],
+    stamp: u32,
+    taken: &mut TakenOut,
+) -> Status
+    ensures { TriggersHeldTask ⟦<SampleRing as HeldRing>⟧.rings ⟦<ByteRing as HeldRing>⟧.rings
+        handle.old.held handle.new.held image.now stamp taken.old taken.new result }
+{
+    let Some(mut held) = handle.take(alloc) else {
+        return Status::Empty;
+    };
+    let status = trigger_in(held.as_mut(), image, stamp, taken);
+    handle.put(alloc, held);
+    status
+}
+
+/// Whether a task is held.
+fn holds_task(content: &Content) -> bool
+    ensures { IsTrue result ↔ IsTask content.now }
+{
+    matches!(content, Content::Task(_) | Content::ByteTask(_))
+}
+
+/// Finishes the task of a handle, and gives what is left of it back to its slave: the way on which
+/// it was given; or `Empty`, if there is no task.
+pub fn finish_task_by(alloc: Global, handle: &mut Handle) -> Result<GivenBack, Status>
+    ensures { FinishesHeldBy ⟦<SampleRing as HeldRing>⟧.rings ⟦<ByteRing as HeldRing>⟧.rings
+        handle.old.held handle.new.held result }
+{
+    let Some(held) = handle.take(alloc) else {
+        return Err(Status::Empty);
+    };
+    if !holds_task(held.as_ref()) {
+        handle.put(alloc, held);
+        return Err(Status::Empty);
+    }
+    match Box::into_inner(held) {
+        Content::Task(task) => Ok(GivenBack::Items(task.finish())),
+        Content::ByteTask(task) => Ok(GivenBack::Bytes(task.finish())),
+        _ => unreachable!(),
+    }
+}
+
+/// What a finish is to C: what was given back is there for its slave, and this end of the way is
+/// freed.
+pub fn status_of_finish(finish: Result<GivenBack, Status>) -> Status
+    ensures { result ≡ status_of_finish finish }
+{
+    match finish {
+        Ok(_given) => Status::Ok,
+        Err(status) => status,
+    }
+}

@@ -1,0 +1,13 @@
+//! The tests of captures, byte by byte. As a library this crate is empty.
+#![tactic(auto)]
+
+#[cfg(test)]
+mod faults;
+#[cfg(test)]
+mod frames;
+#[cfg(test)]
+mod packets;
+#[cfg(test)]
+mod same;
+#[cfg(test)]
+mod shown;

@@ -1,5 +1,0 @@
-pub mod DeedLemmas
-pub mod StepLemmas
-pub mod StopLemmas
-pub mod AccountLemmas
-pub mod AbsentLemmas

@@ -1,6 +1,0 @@
-pub mod AskLemmas
-pub mod DoneLemmas
-pub mod StepLemmas
-pub mod LoopLemmas
-pub mod LawLemmas
-mod WatchLemmas

@@ -1,0 +1,24 @@
+//! What captured packets carry: IP packets, and UDP datagrams and TCP segments in them.
+#![tactic(auto)]
+
+mod datagram;
+mod ip;
+mod ip_packet;
+mod ipv4;
+mod ipv6;
+mod link;
+mod link_frame;
+mod segment;
+mod tcp;
+mod udp;
+
+pub use datagram::Datagram;
+pub use ip::packet_in;
+pub use ip_packet::{IpPacket, Part};
+pub use ipv4::ipv4_in;
+pub use ipv6::ipv6_in;
+pub use link::Link;
+pub use link_frame::ip_in;
+pub use segment::Segment;
+pub use tcp::tcp_in;
+pub use udp::udp_in;

@@ -1,0 +1,33 @@
+//! What is measured: an engine's speed and its temperature, once a millisecond.
+use session::{EventChannel, Profile};
+use std::alloc::{AllocError, Global};
+use xcp_base::{IdKind, RingKind};
+
+/// One event channel, whose ring has room for two samples, and timestamps of 4 bytes in
+/// microseconds.
+pub fn profile(alloc: Global) -> Result<Profile, AllocError> {
+    let event = EventChannel {
+        capacity: 2,
+        name: Vec::from_slice(alloc, b"1 ms")?,
+        cycle: 1,
+        cycle_unit: 6,
+        priority: 0,
+    };
+    Ok(Profile {
+        image_len: 3,
+        id: IdKind::Absolute,
+        stamp_size: 4,
+        unit: 3,
+        ticks: 1,
+        base: 0x1000,
+        ring: RingKind::Samples,
+        name: Vec::from_slice(alloc, b"engine")?,
+        events: vec![in alloc; event]?,
+    })
+}
+
+/// A memory image: the speed in two bytes, the least significant first, and the temperature in one.
+pub fn image(speed: u16, temperature: u8) -> [u8; 3] {
+    let [low, high] = speed.to_le_bytes();
+    [low, high, temperature]
+}

@@ -1,0 +1,112 @@
+//! An XCP slave in one thread: a master connects, measures with one DAQ list, and disconnects.
+#![tactic(auto)]
+
+ghost use Rattle.std.specs.Prelude.{◌≡◌, [], ◌∷◌, IfOk, OnOk};
+ghost use Rattle.slave.specs.Hearing.{KeepsLines};
+ghost use Rattle.slave_channels.specs.Calls.{rings_of};
+
+mod commands;
+mod engine;
+
+use crate::commands::{CONNECT, DISCONNECT, SET_UP};
+use crate::engine::{image, profile};
+use anyhow::{Result, bail};
+use channel_ring::{SampleRing, SendHalf};
+use slave::{MasterStream, Slave};
+use std::alloc::Global;
+use tasks::Task;
+use xcp_base::ListId;
+
+fn main(rt: HostRuntime) -> Result<()> {
+    let alloc = rt.alloc();
+    let (mut slave, mut task) = open(alloc)?;
+    let sent = serve(alloc, &mut slave, &mut task)?;
+    print!(rt; "{sent}")?;
+
+    // what the task still holds comes back, and is in the account
+    let closed = slave.close(vec![in alloc; task.finish()]?);
+    if !closed.is_whole {
+        bail!("a measurement did not come back");
+    }
+    let line = closed.account.line(ListId::at(0));
+    println!(rt;
+        "list {}: {} due, {} written, {} dropped, {} left",
+        line.list, line.due, line.written, line.dropped, line.left
+    )?;
+    Ok(())
+}
+
+/// What the slave sends while a master connects, measures and disconnects: a line of hexadecimal
+/// digits for each datagram.
+fn serve(alloc: Global, slave: &mut Slave<SampleRing>, task: &mut Task<SendHalf>) -> Result<String>
+    ensures lines { OnOk result (KeepsLines slave.old slave.new) }
+    ensures line { OnOk result (task.new.ring ≡ task.old.ring) }
+{
+    let mut master = MasterStream::new();
+    let mut sent = String::new(alloc);
+
+    // each reply waits until it is sent
+    hear(alloc, slave, &mut master, CONNECT, 0)?;
+    send(slave, &mut sent)?;
+    hear(alloc, slave, &mut master, SET_UP, 0)?;
+    send(slave, &mut sent)?;
+
+    // the ring has room for two samples: the third is dropped, and the one behind it says so
+    task.trigger(&image(2000, 85), 100)?;
+    task.trigger(&image(2010, 85), 200)?;
+    task.trigger(&image(2020, 86), 300)?;
+    send(slave, &mut sent)?;
+    task.trigger(&image(2030, 86), 400)?;
+    send(slave, &mut sent)?;
+
+    // all lists stop; the reply is still sent
+    hear(alloc, slave, &mut master, DISCONNECT, 400)?;
+    send(slave, &mut sent)?;
+    Ok(sent)
+}
+
+/// A slave with one event channel, and the task of that.
+fn open(alloc: Global) -> Result<(Slave<SampleRing>, Task<SendHalf>)>
+    ensures one { IfOk result (λ made. rings_of made.0.channels ≡ made.1.ring ∷ []) }
+{
+    let (slave, mut tasks) = Slave::<SampleRing>::open(alloc, profile(alloc)?)?;
+    let Some(task) = tasks.pop() else {
+        bail!("there is no event channel");
+    };
+    if !tasks.is_empty() {
+        bail!("there is more than one event channel");
+    }
+    Ok((slave, task))
+}
+
+/// The slave hears what came over the master's stream.
+fn hear(
+    alloc: Global,
+    slave: &mut Slave<SampleRing>,
+    master: &mut MasterStream,
+    bytes: &[u8],
+    clock: u32,
+) -> Result<()>
+    ensures lines { OnOk result (KeepsLines slave.old slave.new) }
+{
+    let taken = master.receive(slave, alloc, bytes, clock)?;
+    if taken < bytes.len() {
+        bail!("there is no room for the replies");
+    }
+    Ok(())
+}
+
+/// Sends what waits, as one datagram: here it is written in hexadecimal.
+fn send(slave: &mut Slave<SampleRing>, sent: &mut String) -> Result<()>
+    ensures lines { OnOk result (KeepsLines slave.old slave.new) }
+{
+    slave.take();
+    let mut datagram = [0; 1472];
+    let len = slave.peek(&mut datagram);
+    for byte in datagram[..len].iter() {
+        write!(sent, "{byte:02x}")?;
+    }
+    sent.push_str("\n")?;
+    slave.sent();
+    Ok(())
+}

@@ -1,3 +1,0 @@
-pub mod LaidLemmas
-pub mod FrontLemmas
-pub mod TakingLemmas

@@ -1,0 +1,52 @@
+-- What a reader shows, and when it stands after all bytes that it took and the packets that it
+-- gave.
+use Rattle.std.specs.Prelude.{◌≡◌, ℕ, ◌+◌, ◌<◌, ◌≤◌, Bool, true, false, All, List, [], ◌∷◌, ◌++◌}
+use Rattle.std.specs.Prelude.{length, take, Option, Some, None}
+use Rattle.xcp_base.specs.declared.limits.TheConstants.{MAX_CTO}
+use Rattle.frame_writer.specs.declared.reach.Reach.TheVariants.{Part, Bad}
+use Rattle.frame_writer.specs.declared.fed.Fed.{Fed}
+use Rattle.arrayvec.specs.ArrayVec.{ArrayVec}
+use Rattle.frame_writer.specs.Reach.{reach}
+use Rattle.frame_writer.specs.Pieces.{SplitsInto}
+
+-- the bytes that are held, and whether a frame was bad
+pub record ReaderState : Type 0 where
+  pub held : List ℕ
+  pub closed : Bool
+
+-- the bytes split into frames with these packets, and then the bytes held: less than a frame, or
+-- if the reader is closed the begin of a bad one
+pub record ReaderStandsAfter (r : ReaderState) (bytes : List ℕ) (packets : List (List ℕ))
+    : Type 0 where
+  pub split : SplitsInto bytes packets r.held
+  pub part : r.closed ≡ false → reach r.held ≡ Part
+  pub bad : r.closed ≡ true → reach r.held ≡ Bad
+
+-- if the old reader stands after some bytes and packets, the new one stands after those and then
+-- these
+abbrev pub Leads : ReaderState → ReaderState → List ℕ → List (List ℕ) → Type 0
+Leads old new more given =
+    (bytes : List ℕ) (packets : List (List ℕ)) → ReaderStandsAfter old bytes packets
+    → ReaderStandsAfter new (bytes ++ more) (packets ++ given)
+
+-- the packet that was given, if there was one
+abbrev pub packet_list : Option (ArrayVec ℕ) → List (List ℕ)
+packet_list (Some packet) = packet.items ∷ []
+packet_list None = []
+
+abbrev pub given_of : Fed → List (List ℕ)
+given_of fed = packet_list fed.packet
+
+-- some first bytes led to the begin of a bad frame, or it was there before; no packet was given
+pub record IsBadAfter (old new : ReaderState) (bytes : List ℕ) : Type 0 where
+  -- how many of the bytes were read: fixed by `leads`, since a reader that is closed takes no more
+  pub taken : ℕ
+  pub within : taken ≤ length bytes
+  pub leads : Leads old new (take taken bytes) []
+  pub closed : new.closed ≡ true
+
+-- what every reader keeps to
+pub record IsReader (r : ReaderState) : Type 0 where
+  pub fit : All (λ b. b < 256) r.held
+  pub limit : length r.held < 4 + MAX_CTO
+  pub part : r.closed ≡ false → reach r.held ≡ Part

@@ -1,7 +1,0 @@
-use Rattle.handle_calls.proofs.OpenedLemmas.{opened-first}
-use Rattle.handle_calls.proofs.opening.opened.Goals as goal
-
--- it is opened with these samplers
-pub engine_of-requires-clause-opened : goal.engine_of-requires-clause-opened
-engine_of-requires-clause-opened g c =
-    opened-first g.R.Send.SendEnd g.R.Send.End.RingEnd c.args.store.now c.args.caps.now _ _ _ _ c.in-Ok.ensures.opened.opened c.in-Ok.ensures.opened.paired

@@ -1,5 +1,0 @@
-/// What a handle points to, to C: no C code reads or writes it.
-#[repr(C)]
-pub struct Hidden {
-    byte: u8,
-}

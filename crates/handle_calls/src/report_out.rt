@@ -1,9 +1,0 @@
-/// The rest of an account, whose lines stand in a buffer. In C it is `ng_report`.
-#[repr(C)]
-#[derive(Clone, Copy)]
-pub struct ReportOut {
-    /// The lines, one for each DAQ list that the engine had.
-    pub lines: usize,
-    /// Whether a frame was not written whole.
-    pub failed: bool,
-}

@@ -1,5 +1,0 @@
-use Rattle.read_back.proofs.JoinLemmas.{written_is_read_back}
-use Rattle.read_back.proofs.laws.what_is_written_is_read_back.Goals as goal
-
-pub returns : goal.returns
-returns c = written_is_read_back

@@ -1,4 +1,0 @@
-pub mod Accepted
-pub mod Plans
-pub mod Laws
-pub mod Runs

@@ -1,2 +1,0 @@
-pub mod SetupLemmas
-mod StandardFacts

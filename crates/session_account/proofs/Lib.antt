@@ -1,3 +1,0 @@
-pub mod TotalsLemmas
-pub mod AddingLemmas
-pub mod SumLemmas

@@ -1,6 +1,0 @@
-use Rattle.session_account.proofs.SumLemmas.{add_up}
-use Rattle.session_account.proofs.laws.totals_add_up.Goals as goal
-
--- each due sample of each entry was dropped or accepted
-pub returns : goal.returns
-returns c = add_up

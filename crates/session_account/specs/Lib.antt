@@ -1,3 +1,0 @@
-pub mod Accounts
-pub mod Laws
-pub mod Inner

@@ -1,0 +1,73 @@
+-- The keys of a session file, and their values as the table of the document has them.
+use Rattle.std.specs.Prelude.{◌≡◌, ◌&&◌, ℕ, Bool, true, List, [], ◌∷◌, codes, Option, Some, None}
+use Rattle.toml.specs.Data.{Data, Items, Members, no_members, member, get_member}
+use Rattle.toml.specs.Data.{as_array, as_str}
+use Rattle.xcp_base.specs.declared.id_kind.IdKind.{IdKind}
+use Rattle.xcp_base.specs.declared.stamp_size.StampSize.{StampSize}
+use Rattle.xcp_base.specs.declared.limits.TheConstants.{MAX_UNIT}
+use Rattle.run_file.specs.Keys.{at_key, id_of, image_len_of, is_among, number_in, ring_of, stamp_of}
+use Rattle.run_file.specs.Keys.{texts_at}
+use Rattle.xcp_base.specs.declared.ring_kind.RingKind.{RingKind}
+use Rattle.session_file.specs.declared.limits.TheConstants.{MAX_LINES}
+
+-- the keys of a session file, and of an event channel
+abbrev pub keys : List (List ℕ)
+keys =
+    codes "image_len" ∷ codes "id" ∷ codes "stamp_size" ∷ codes "ring" ∷ codes "unit"
+    ∷ codes "ticks" ∷ codes "base" ∷ codes "name" ∷ codes "events" ∷ codes "script" ∷ []
+
+abbrev pub event_keys : List (List ℕ)
+event_keys =
+    codes "capacity" ∷ codes "name" ∷ codes "cycle" ∷ codes "cycle_unit" ∷ codes "priority" ∷ []
+
+-- each key of the table is one of these
+abbrev pub only_keys : List (List ℕ) → Members → Bool
+only_keys ks no_members = true
+only_keys ks (member key d ms) = is_among ks key && only_keys ks ms
+
+-- the integer of a value, if it is no more than `most`; 0 if there is none
+abbrev pub number_or : ℕ → Option Data → Option ℕ
+number_or most None = Some 0
+number_or most (Some d) = number_in 0 most d
+
+abbrev pub number_or_0 : ℕ → List ℕ → Members → Option ℕ
+number_or_0 most key ms = number_or most (get_member key ms)
+
+-- the string of a value; the empty one if there is none
+abbrev pub text_or : Option Data → Option (List ℕ)
+text_or None = Some []
+text_or (Some d) = as_str d
+
+abbrev pub text_or_empty : List ℕ → Members → Option (List ℕ)
+text_or_empty key ms = text_or (get_member key ms)
+
+-- the values of the keys, with the items of `events` and the texts of `script`
+pub record KeyValues : Type 0 where
+  pub image_len : ℕ
+  pub id : IdKind
+  pub stamp : StampSize
+  pub ring : RingKind
+  pub unit : ℕ
+  pub ticks : ℕ
+  pub base : ℕ
+  pub name : List ℕ
+  pub events : Items
+  pub script : List (List ℕ)
+
+-- in the table these are the values, and no other key is there
+pub record AreKeyValues (ms : Members) (v : KeyValues) : Type 0 where
+  pub known : only_keys keys ms ≡ true
+  pub image_len_is : image_len_of ms ≡ Some v.image_len
+  pub id_is : id_of ms ≡ Some v.id
+  pub stamp_is : stamp_of ms ≡ Some v.stamp
+  pub ring_is : ring_of ms ≡ Some v.ring
+  pub unit_is : at_key (number_in 0 MAX_UNIT) (codes "unit") ms ≡ Some v.unit
+  pub ticks_are : at_key (number_in 1 65535) (codes "ticks") ms ≡ Some v.ticks
+  pub base_is : number_or_0 4294967295 (codes "base") ms ≡ Some v.base
+  pub name_is : text_or_empty (codes "name") ms ≡ Some v.name
+  pub events_are : at_key as_array (codes "events") ms ≡ Some v.events
+  pub script_is : texts_at MAX_LINES (codes "script") ms ≡ Some v.script
+
+-- a key isn't known, is missing, or has no value as it has to be: no values are those of the table
+abbrev pub HasBadKey : Members → Type 0
+HasBadKey ms = (v : KeyValues) → ¬ (AreKeyValues ms v)

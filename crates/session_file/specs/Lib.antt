@@ -1,0 +1,7 @@
+pub mod Lines
+pub mod LineOf
+pub mod Keys
+pub mod Events
+pub mod Files
+pub mod Inner
+pub mod Playing

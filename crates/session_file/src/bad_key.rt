@@ -1,0 +1,70 @@
+//! The first key of a session file that is wrong.
+ghost use Rattle.std.specs.Prelude.{IfSome};
+ghost use Rattle.toml.specs.View.{table_view};
+ghost use Rattle.session_file.specs.Keys.{HasBadKey};
+
+use crate::keys::{has_file_keys, number_or_0, text_or_empty};
+use crate::limits::MAX_LINES;
+use run_file::{array_at, id_of, number_at, ring_of, stamp_of, texts_at};
+use toml::Table;
+use xcp_base::limits::{MAX_IMAGE_LEN, MAX_UNIT};
+
+/// The key for which a table is no session.
+#[derive(Clone, Copy, Debug, PartialEq, Eq)]
+pub enum BadKey {
+    /// A key that is none of a session file.
+    Unknown,
+    ImageLen,
+    Id,
+    StampSize,
+    Ring,
+    Unit,
+    Ticks,
+    Base,
+    Name,
+    Events,
+    Script,
+}
+
+impl BadKey {
+    /// The first bad key of a table, in the order in which `SessionFile::read` looks; none if all
+    /// keys are good.
+    pub fn of(table: &Table) -> Option<BadKey>
+        ensures { IfSome result (λ _. HasBadKey (table_view table.now)) }
+    {
+        if !has_file_keys(table) {
+            return Some(BadKey::Unknown);
+        }
+        let Some(_) = number_at(table, "image_len", 1, MAX_IMAGE_LEN) else {
+            return Some(BadKey::ImageLen);
+        };
+        let Some(_) = id_of(table) else {
+            return Some(BadKey::Id);
+        };
+        let Some(_) = stamp_of(table) else {
+            return Some(BadKey::StampSize);
+        };
+        let Some(_) = ring_of(table) else {
+            return Some(BadKey::Ring);
+        };
+        let Some(_) = number_at(table, "unit", 0, MAX_UNIT as usize) else {
+            return Some(BadKey::Unit);
+        };
+        let Some(_) = number_at(table, "ticks", 1, u16::MAX as usize) else {
+            return Some(BadKey::Ticks);
+        };
+        let Some(_) = number_or_0(table, "base", u32::MAX as usize) else {
+            return Some(BadKey::Base);
+        };
+        let Some(_) = text_or_empty(table, "name") else {
+            return Some(BadKey::Name);
+        };
+        let Some(_) = array_at(table, "events") else {
+            return Some(BadKey::Events);
+        };
+        let Some(_) = texts_at(table, "script", MAX_LINES) else {
+            return Some(BadKey::Script);
+        };
+        None
+    }
+}

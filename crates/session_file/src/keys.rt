@@ -1,0 +1,80 @@
+//! Values of keys, with their defaults.
+ghost use Rattle.std.specs.Prelude.{◌≡◌, ◌≤◌, IfOk, IfSome, option_copied};
+ghost use Rattle.toml.specs.View.{table_view};
+ghost use Rattle.session_file.specs.Keys.{event_keys, keys, number_or_0, only_keys, text_or_empty};
+ghost use Rattle.run_file.specs.Keys.{is_among};
+
+use run_file::number_in;
+use std::alloc::{AllocError, Global};
+use toml::Table;
+
+/// Whether each key of a table is one of a session file.
+pub fn has_file_keys(table: &Table) -> bool
+    ensures { result ≡ only_keys keys (table_view table.now) }
+{
+    table.keys().all(|key| is_file_key(key.as_str()))
+}
+
+/// Whether a word is a key of a session file.
+pub fn is_file_key(word: &str) -> bool
+    ensures { result ≡ is_among keys word.now }
+{
+    word == "image_len"
+        || word == "id"
+        || word == "stamp_size"
+        || word == "ring"
+        || word == "unit"
+        || word == "ticks"
+        || word == "base"
+        || word == "name"
+        || word == "events"
+        || word == "script"
+}
+
+/// Whether each key of a table is one of an event channel.
+pub fn has_event_keys(table: &Table) -> bool
+    ensures { result ≡ only_keys event_keys (table_view table.now) }
+{
+    table.keys().all(|key| is_event_key(key.as_str()))
+}
+
+/// Whether a word is a key of an event channel.
+fn is_event_key(word: &str) -> bool
+    ensures { result ≡ is_among event_keys word.now }
+{
+    word == "capacity"
+        || word == "name"
+        || word == "cycle"
+        || word == "cycle_unit"
+        || word == "priority"
+}
+
+/// The integer of a key, if it is no more than `most`; 0 if the key is absent.
+pub fn number_or_0(table: &Table, key: &str, most: usize) -> Option<usize>
+    ensures value { result ≡ number_or_0 most key.now (table_view table.now) }
+    ensures within { IfSome result (λ n. n ≤ most) }
+{
+    match table.get(key) {
+        Some(value) => number_in(value, 0, most),
+        None => Some(0),
+    }
+}
+
+/// The string of a key; the empty one if the key is absent.
+pub fn text_or_empty<'a>(table: &'a Table, key: &str) -> Option<&'a str>
+    ensures { option_copied result ≡ text_or_empty key.now (table_view table.now) }
+{
+    match table.get(key) {
+        Some(value) => value.as_str(),
+        None => Some(""),
+    }
+}
+
+/// The bytes of a text.
+pub fn bytes_in(alloc: Global, text: &str) -> Result<Vec<u8>, AllocError>
+    ensures { IfOk result (λ bytes. bytes.items ≡ text.now) }
+{
+    let mut bytes = Vec::new(alloc);
+    bytes.extend_from_slice(text.as_bytes())?;
+    Ok(bytes)
+}

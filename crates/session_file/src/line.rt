@@ -1,0 +1,19 @@
+//! What a line of a session does: a packet, a trigger, a sending, or a loss.
+/// A line of a session's script.
+#[derive(Debug, Drop)]
+pub enum Line {
+    /// A packet of the master, without LEN and CTR.
+    Master(Vec<u8>),
+    /// The task of an event channel takes a trigger.
+    Trigger {
+        channel: u8,
+        stamp: u32,
+        image: Vec<u8>,
+    },
+    /// Items are taken off the rings, and all that waits is sent.
+    Send,
+    /// The same is shown, and the transport refuses it.
+    Lose,
+    /// The transport is lost.
+    HangUp,
+}

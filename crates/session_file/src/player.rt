@@ -1,0 +1,207 @@
+//! A slave, its tasks and its transport, which play lines.
+ghost use Rattle.std.specs.Prelude.{◌≡◌, ◌+◌, ◌<◌, ◌≤◌, ◌∷◌, [], IfOk, OnOk, map};
+ghost use Rattle.slave.specs.Standing.{SlaveState};
+ghost use Rattle.session_file.specs.Inner.{line_data};
+ghost use Rattle.session_file.specs.Lines.{master};
+ghost use Rattle.session_file.specs.Playing.{Advances, AreTasksOf, Does, lines_of, most_a_line};
+ghost use Rattle.session_file.specs.Playing.{sending};
+ghost use Rattle.tasks.specs.Tasks.{TaskEndState};
+
+use crate::Line;
+use crate::parts::Parts;
+use crate::play_fault::PlayFault;
+use crate::played::Played;
+use crate::transport::{collect, lose, send};
+use channel_ring::SendEnd;
+use daq_engine::Ring;
+use frame_writer::VecOut;
+use slave::Slave;
+use std::alloc::{AllocError, Global};
+use tasks::{Task, TaskEnd};
+
+/// A slave with its tasks, and what came of the lines so far.
+#[derive(Drop)]
+pub struct Player<R: Ring> {
+    pub(crate) slave: Slave<R>,
+    pub(crate) tasks: Vec<Task<R::Send>>,
+    pub(crate) image_len: usize,
+    pub(crate) clock: u32,
+    pub(crate) out: VecOut,
+    pub(crate) ends: Vec<usize>,
+    pub(crate) parts: Parts,
+    pub(crate) refused: u64,
+}
+
+/// The task of an event channel takes a trigger, if there is one and the image has the length that
+/// it has to have; and returns whether it did.
+fn is_taken<S: SendEnd>(
+    tasks: &mut [Task<S>],
+    image_len: usize,
+    channel: u8,
+    image: &[u8],
+    stamp: u32,
+) -> bool
+    ensures lines { lines_of tasks.new ≡ lines_of tasks.old }
+{
+    let c = channel as usize;
+    if c >= tasks.len() || image.len() != image_len {
+        return false;
+    }
+    tasks[c].trigger(image, stamp).is_ok()
+}
+
+/// Finishes tasks, which give back what is left of what they hold: what is left of each.
+fn finish_all<S: SendEnd>(alloc: Global, tasks: Vec<Task<S>>) -> Result<Vec<TaskEnd<S>>, AllocError>
+    ensures lines { IfOk result (λ ends.
+        map (λ (end : TaskEndState S). end.ring) ends.items ≡ lines_of tasks.items) }
+{
+    let mut ends = Vec::with_capacity(alloc, tasks.len())?;
+    for task in tasks {
+        ends.push(task.finish())?;
+    }
+    Ok(ends)
+}
+
+impl<R: Ring> Player<R> {
+    /// Plays a line.
+    pub(crate) fn line(&mut self, alloc: Global, line: &Line) -> Result<(), AllocError>
+        requires few { self.old.refused < 0xFFFFFFFFFFFFFFFF }
+        ensures does { OnOk result (Does R.Take.TakeEnd
+            (sending self.old.slave self.old.out.contents)
+            (sending self.new.slave self.new.out.contents)
+            self.old.refused self.new.refused (line_data line.now ∷ [])) }
+        ensures tasks { lines_of self.new.tasks.items ≡ lines_of self.old.tasks.items }
+    {
+        match line {
+            Line::Master(packet) => self.master(alloc, packet),
+            Line::Trigger {
+                channel,
+                stamp,
+                image,
+            } => {
+                self.trigger(*channel, *stamp, image);
+                Ok(())
+            }
+            Line::Send => self.send(),
+            Line::Lose => {
+                self.lose();
+                Ok(())
+            }
+            Line::HangUp => {
+                self.hang_up();
+                Ok(())
+            }
+        }
+    }
+
+    /// A packet of the master comes at the clock of the last trigger. What came back is collected
+    /// before it, for the lines of each measurement.
+    fn master(&mut self, alloc: Global, packet: &[u8]) -> Result<(), AllocError>
+        requires few { self.old.refused < 0xFFFFFFFFFFFFFFFF }
+        ensures does { OnOk result (Does R.Take.TakeEnd
+            (sending self.old.slave self.old.out.contents)
+            (sending self.new.slave self.new.out.contents)
+            self.old.refused self.new.refused (master packet.now ∷ [])) }
+        ensures tasks_stay { self.new.tasks ≡ self.old.tasks }
+    {
+        collect(&mut self.slave, &mut self.parts)?;
+        if self.slave.hear(alloc, packet, self.clock) {
+            return Ok(());
+        }
+        self.refused += 1;
+        Ok(())
+    }
+
+    /// A task takes a trigger. One that isn't taken is refused, and changes nothing.
+    fn trigger(&mut self, channel: u8, stamp: u32, image: &[u8])
+        requires few { self.old.refused < 0xFFFFFFFFFFFFFFFF }
+        ensures slave_stays { self.new.slave ≡ self.old.slave }
+        ensures out_stays { self.new.out ≡ self.old.out }
+        ensures tasks { lines_of self.new.tasks.items ≡ lines_of self.old.tasks.items }
+        ensures counted { self.old.refused ≤ self.new.refused }
+        ensures most { self.new.refused ≤ self.old.refused + 1 }
+    {
+        if is_taken(&mut self.tasks, self.image_len, channel, image, stamp) {
+            self.clock = stamp;
+        } else {
+            self.refused += 1;
+        }
+    }
+
+    /// Sends what waits, as one datagram.
+    fn send(&mut self) -> Result<(), AllocError>
+        ensures sends { OnOk result (Advances R.Take.TakeEnd most_a_line
+            (sending self.old.slave self.old.out.contents)
+            (sending self.new.slave self.new.out.contents) []) }
+        ensures refused_stays { self.new.refused ≡ self.old.refused }
+        ensures tasks_stay { self.new.tasks ≡ self.old.tasks }
+    {
+        let before = self.out.bytes().len();
+        send(&mut self.slave, &mut self.out)?;
+        let after = self.out.bytes().len();
+        if after > before {
+            self.ends.push(after)?;
+        }
+        Ok(())
+    }
+
+    /// A transport refuses what waits.
+    fn lose(&mut self)
+        ensures loses { Advances R.Take.TakeEnd most_a_line
+            (sending self.old.slave self.old.out.contents)
+            (sending self.new.slave self.new.out.contents) [] }
+        ensures refused_stays { self.new.refused ≡ self.old.refused }
+        ensures tasks_stay { self.new.tasks ≡ self.old.tasks }
+    {
+        lose(&mut self.slave);
+    }
+
+    /// The transport is lost, and what waits is thrown away.
+    fn hang_up(&mut self)
+        ensures hangs_up { Advances R.Take.TakeEnd most_a_line
+            (sending self.old.slave self.old.out.contents)
+            (sending self.new.slave self.new.out.contents) [] }
+        ensures refused_stays { self.new.refused ≡ self.old.refused }
+        ensures tasks_stay { self.new.tasks ≡ self.old.tasks }
+    {
+        self.slave.hang_up();
+    }
+
+    /// The session ends: the slave hangs up, which throws away what waits, the tasks finish, all
+    /// that came back is collected, and the slave is closed.
+    ///
+    /// Refused with `PartLost` if something did not come back.
+    pub(crate) fn finish(mut self, alloc: Global) -> Result<Played, PlayFault>
+        requires tasks { AreTasksOf self.slave self.tasks.items }
+        ensures sent { IfOk result (λ played. played.sent ≡ self.out) }
+        ensures refused { IfOk result (λ played. played.refused ≡ self.refused) }
+        ensures ends { IfOk result (λ played. (s : SlaveState R.Send R.Take)
+            × Advances R.Take.TakeEnd most_a_line (sending self.slave self.out.contents)
+            (sending s played.sent.contents) []) }
+    {
+        self.slave.hang_up();
+        let Player {
+            mut slave,
+            tasks,
+            image_len: _,
+            clock: _,
+            out,
+            ends,
+            mut parts,
+            refused,
+        } = self;
+        let left = finish_all(alloc, tasks)?;
+        collect(&mut slave, &mut parts)?;
+        let closed = slave.close(left);
+        if !closed.is_whole {
+            return Err(PlayFault::PartLost);
+        }
+        Ok(Played {
+            sent: out,
+            ends,
+            parts,
+            account: closed.account,
+            refused,
+        })
+    }
+}

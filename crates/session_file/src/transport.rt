@@ -1,0 +1,69 @@
+//! What a transport does with a slave: it sends what waits, or refuses it; and what came back of
+//! measurements is collected.
+ghost use Rattle.std.specs.Prelude.{◌+◌, ◌*◌, [], ℕ, List, OnOk};
+ghost use Rattle.xcp_base.specs.declared.limits.TheConstants.{MAX_CHANNELS};
+ghost use Rattle.slave.specs.Taking.{most_taken};
+ghost use Rattle.session_file.specs.Playing.{Advances, sending};
+
+use crate::parts::Parts;
+use daq_engine::Ring;
+use frame_writer::VecOut;
+use slave::Slave;
+use std::alloc::AllocError;
+use xcp_base::limits::MAX_CHANNELS;
+
+/// The room for what is shown: more than ever waits.
+const ROOM: usize = 4096;
+
+/// The most parts of measurements that are collected in a row at one event channel: more than can
+/// be out.
+const MOST_PARTS: usize = 4;
+
+/// Takes items off the rings, and sends all that waits.
+pub fn send<R: Ring>(slave: &mut Slave<R>, out: &mut VecOut) -> Result<(), AllocError>
+    ensures sends { OnOk result (Advances R.Take.TakeEnd (most_taken + 1)
+        (sending slave.old out.old.contents) (sending slave.new out.new.contents) []) }
+{
+    slave.take();
+    let Ok(()) = slave.put(out) else {
+        return Err(AllocError);
+    };
+    Ok(())
+}
+
+/// Takes items off the rings, and shows all that waits to a transport that refuses it.
+pub fn lose<R: Ring>(slave: &mut Slave<R>)
+    ensures shows { (sent : List ℕ) → Advances R.Take.TakeEnd most_taken
+        (sending slave.old sent) (sending slave.new sent) [] }
+{
+    slave.take();
+    let mut buffer = [0; ROOM];
+    let _ = slave.peek(&mut buffer);
+}
+
+/// Collects what came back of measurements at all event channels.
+pub fn collect<R: Ring>(slave: &mut Slave<R>, parts: &mut Parts) -> Result<(), AllocError>
+    ensures collects { OnOk result ((sent : List ℕ) → Advances R.Take.TakeEnd (4 * MAX_CHANNELS)
+        (sending slave.old sent) (sending slave.new sent) []) }
+{
+    for c in 0..MAX_CHANNELS as usize {
+        collect_at(slave, c, parts)?;
+    }
+    Ok(())
+}
+
+/// The same at one event channel.
+fn collect_at<R: Ring>(slave: &mut Slave<R>, c: usize, parts: &mut Parts) -> Result<(), AllocError>
+    ensures collects { OnOk result ((sent : List ℕ) → Advances R.Take.TakeEnd 4
+        (sending slave.old sent) (sending slave.new sent) []) }
+{
+    let mut found = 0;
+    while found < MOST_PARTS {
+        let Some(finished) = slave.take_back(c) else {
+            return Ok(());
+        };
+        parts.add(&finished)?;
+        found += 1;
+    }
+    Ok(())
+}

@@ -1,0 +1,82 @@
+//! The keys of a session file become values; event channels and lines are read later.
+ghost use Rattle.std.specs.Prelude.{◌≡◌, IfErr, IfOk};
+ghost use Rattle.toml.specs.View.{table_view};
+ghost use Rattle.session_file.specs.declared.file_fault.FileFault.TheVariants.{BadKey};
+ghost use Rattle.session_file.specs.Keys.{AreKeyValues, HasBadKey};
+ghost use Rattle.session_file.specs.Inner.{values_data};
+
+use crate::file_fault::FileFault;
+use crate::keys::{has_file_keys, number_or_0, text_or_empty};
+use crate::limits::MAX_LINES;
+use run_file::{array_at, id_of, number_at, ring_of, stamp_of, texts_at};
+use toml::{Table, Value};
+use xcp_base::limits::{MAX_IMAGE_LEN, MAX_UNIT};
+use xcp_base::{IdKind, RingKind, StampSize};
+
+/// The values of the keys, each of its type and within its limits. Event channels are still values,
+/// and lines still texts.
+#[derive(Drop)]
+pub struct Values<'a> {
+    pub(crate) image_len: usize,
+    pub(crate) id: IdKind,
+    pub(crate) stamp: StampSize,
+    pub(crate) ring: RingKind,
+    pub(crate) unit: u8,
+    pub(crate) ticks: u16,
+    pub(crate) base: u32,
+    pub(crate) name: &'a str,
+    pub(crate) events: &'a [Value],
+    pub(crate) script: &'a [Value],
+}
+
+/// The values of the keys of a table.
+pub fn values_of(table: &Table) -> Result<Values<'_>, FileFault>
+    ensures ok { IfOk result (λ values. AreKeyValues (table_view table.now) (values_data values)) }
+    ensures err { IfErr result (λ e. (e ≡ BadKey) × HasBadKey (table_view table.now)) }
+{
+    if !has_file_keys(table) {
+        return Err(FileFault::BadKey);
+    }
+    let Some(image_len) = number_at(table, "image_len", 1, MAX_IMAGE_LEN) else {
+        return Err(FileFault::BadKey);
+    };
+    let Some(id) = id_of(table) else {
+        return Err(FileFault::BadKey);
+    };
+    let Some(stamp) = stamp_of(table) else {
+        return Err(FileFault::BadKey);
+    };
+    let Some(ring) = ring_of(table) else {
+        return Err(FileFault::BadKey);
+    };
+    let Some(unit) = number_at(table, "unit", 0, MAX_UNIT as usize) else {
+        return Err(FileFault::BadKey);
+    };
+    let Some(ticks) = number_at(table, "ticks", 1, u16::MAX as usize) else {
+        return Err(FileFault::BadKey);
+    };
+    let Some(base) = number_or_0(table, "base", u32::MAX as usize) else {
+        return Err(FileFault::BadKey);
+    };
+    let Some(name) = text_or_empty(table, "name") else {
+        return Err(FileFault::BadKey);
+    };
+    let Some(events) = array_at(table, "events") else {
+        return Err(FileFault::BadKey);
+    };
+    let Some(script) = texts_at(table, "script", MAX_LINES) else {
+        return Err(FileFault::BadKey);
+    };
+    Ok(Values {
+        image_len,
+        id,
+        stamp,
+        ring,
+        unit: unit as u8,
+        ticks: ticks as u16,
+        base: base as u32,
+        name,
+        events,
+        script,
+    })
+}

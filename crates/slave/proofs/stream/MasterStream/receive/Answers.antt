@@ -1,0 +1,13 @@
+use Rattle.slave.proofs.stream.MasterStream.receive.Goals as goal
+
+-- a frame was bad, and then the slave disconnected
+pub returns-in-Err-clause-bad : goal.returns-in-Err-clause-bad
+returns-in-Err-clause-bad g c = λ _. record {
+  between = c.read.new.slave;
+  breaks_off = c.in-Err.ensures.bad;
+  disconnects = c.disconnect.ensures.disconnects;
+  outbox = c.disconnect.ensures.outbox_stays;
+  counted = c.disconnect.ensures.acts_stay;
+  next = c.disconnect.ensures.next_stays;
+  profile = c.disconnect.ensures.profile_stays;
+}

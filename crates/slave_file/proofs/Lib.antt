@@ -1,3 +1,0 @@
-pub mod LineLaw
-pub mod ItemLemmas
-pub mod FileLemmas

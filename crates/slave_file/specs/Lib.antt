@@ -1,6 +1,0 @@
-pub mod Lines
-pub mod LineOf
-pub mod Keys
-pub mod Events
-pub mod Files
-pub mod Inner

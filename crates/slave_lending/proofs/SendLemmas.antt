@@ -1,0 +1,105 @@
+-- A slave that lends its tasks, and a task that was handed out, may go to other threads, where the
+-- ends of their rings may. For callers that move them there.
+use denote.RattleType.{RattleType}
+use denote.Param.Send.{AllSend, IsSend, owning_send, sendable, struct_send, recorded_send, view_send}
+use denote.Struct.Declared.{shape}
+use denote.Struct.Struct.{exits_of}
+use denote.Struct.Owning.{shape as owned_shape, fields as owned_fields, to}
+use Rattle.std.proofs.Crossing.{crosses, frees}
+use Rattle.std_alloc.proofs.SendSync.{quiet}
+use Rattle.frame_writer.specs.contracts.byte_log.ByteLog as Log
+use Rattle.std.specs.contracts.alloc.Global as Global
+use Rattle.std.specs.contracts.impls.GlobalAllocator.TheImpl.{ghosts as heap_ghosts}
+use Rattle.circular_buffer.proofs.Crosses.{Cells-send, Deed-send}
+use Rattle.circular_buffer.specs.contracts.cells.Cells as Cells
+use Rattle.circular_buffer.specs.contracts.cells.Deed as Deed
+use Rattle.circular_buffer.specs.contracts.heap.HeapCircularBuffer as Buffer
+use Rattle.circular_buffer.specs.contracts.heap.HeapCircularBuffer.TheInside as BufferInside
+use Rattle.circular_buffer.specs.contracts.ring.Ring as Ring
+use Rattle.channel_ring.specs.declared.ends.SendEnd.{Ghosts as SendGhosts}
+use Rattle.channel_ring.specs.declared.ends.RingEnd.{Ghosts as EndGhosts}
+use Rattle.channel_ring.specs.declared.ends.TakeEnd.{Ghosts as TakeGhosts}
+use Rattle.daq_engine.specs.declared.ring.Ring.{Ghosts as RingGhosts}
+use Rattle.slave_outbox.specs.contracts.outbox.Outbox as Outbox
+use Rattle.slave_outbox.specs.contracts.unit.Unit as OutUnit
+use Rattle.session.specs.contracts.session.Session as Session
+use Rattle.slave_channels.specs.contracts.account.Account as Account
+use Rattle.slave.specs.contracts.plan.Plan as Plan
+use Rattle.slave.specs.contracts.slave.Slave as Slave
+use Rattle.slave_channels.specs.contracts.channel.Channel as Channel
+use Rattle.slave_channels.specs.contracts.channels.Channels as Channels
+use Rattle.slave.specs.contracts.stream.MasterStream as MasterStream
+use Rattle.tasks.specs.contracts.task.Task as Task
+use Rattle.tasks.specs.contracts.task_end.TaskEnd as TaskEnd
+use Rattle.hand_over.proofs.SendLemmas.{coming_send, way_send}
+use Rattle.tasks.proofs.SendLemmas.{link_send, task_end_send, task_send}
+use Rattle.slave_lending.specs.contracts.lending_slave.LendingSlave as LendingSlave
+use Rattle.slave_lending.specs.contracts.lent_task.LentTask as LentTask
+use Rattle.slave_lending.specs.contracts.slot.Slot as Slot
+
+session_send : IsSend Session.the_row
+session_send = search (sendable, crosses) depth 60 fits 20000
+
+deed_send : IsSend (Deed.the_row OutUnit.the_row Global.the_row heap_ghosts)
+deed_send = Deed-send OutUnit.the_row Global.the_row heap_ghosts frees
+
+cells_send : IsSend (Cells.the_row OutUnit.the_row)
+cells_send = Cells-send OutUnit.the_row (search (sendable, crosses) depth 40)
+
+ring_send : IsSend (Ring.the_field OutUnit.the_row Global.the_row heap_ghosts).row
+ring_send = search (sendable, crosses, cells_send, deed_send) depth 60 fits 20000
+
+inside_send : IsSend (BufferInside.the_row OutUnit.the_row Global.the_row heap_ghosts)
+inside_send =
+    let inside = BufferInside.the_type OutUnit.the_row Global.the_row heap_ghosts in
+    recorded_send _ _ _ inside.to_one (struct_send (shape inside) (ring_send, tt))
+
+buffer_send : IsSend (Buffer.the_row OutUnit.the_row Global.the_row heap_ghosts)
+buffer_send = view_send _ _ _ _ _ inside_send
+
+-- a list of bytes of which none is kept owns nothing
+log_send : IsSend Log.the_row
+log_send =
+    let all : AllSend (owned_fields Log.the_type) = (search sendable, tt) in
+    owning_send Log.the_type all (λ d. tt)
+    (λ k. quiet (to Log.the_type) (exits_of k (owned_fields Log.the_type)) ((struct_send (owned_shape Log.the_type) all).leaving k))
+
+outbox_send : IsSend Outbox.the_row
+outbox_send = search (sendable, crosses, buffer_send, log_send) depth 60 fits 20000
+
+plan_send : IsSend Plan.the_row
+plan_send = search (sendable, crosses) depth 60 fits 20000
+
+account_send : IsSend Account.the_row
+account_send = search (sendable, crosses) depth 60 fits 20000
+
+stream_send : IsSend MasterStream.the_row
+stream_send = search (sendable, crosses) depth 60 fits 20000
+
+module _ (S E : RattleType) (send : SendGhosts S.Denot E.Denot) (ring : EndGhosts E.Denot) (s_goes : IsSend S) (e_goes : IsSend E) where
+  task_goes : IsSend (Task.the_row S E send ring)
+  task_goes = task_send S E send ring s_goes e_goes
+
+  end_goes : IsSend (TaskEnd.the_row S E send ring)
+  end_goes = task_end_send S E send ring s_goes e_goes
+
+  pub lent_task_send : IsSend (LentTask.the_row S E send ring)
+  lent_task_send = search (sendable, crosses, way_send, task_goes, end_goes) depth 60 fits 20000
+
+  slot_send : IsSend (Slot.the_row S E send ring)
+  slot_send = search (sendable, crosses, coming_send, task_goes, end_goes) depth 60 fits 20000
+
+-- over rings of one kind, whose ends may go
+module _ (R S T E : RattleType) (kind : RingGhosts R.Denot S.Denot T.Denot E.Denot) (send : SendGhosts S.Denot E.Denot)
+    (ring : EndGhosts E.Denot) (give : TakeGhosts T.Denot E.Denot) (s_goes : IsSend S) (t_goes : IsSend T) (e_goes : IsSend E) where
+  channel_send : IsSend (Channel.the_row R S T E kind send ring give)
+  channel_send = search (sendable, crosses, link_send) depth 60 fits 20000
+
+  channels_send : IsSend (Channels.the_row R S T E kind send ring give)
+  channels_send = search (sendable, crosses, channel_send) depth 60 fits 20000
+
+  slave_send : IsSend (Slave.the_row R S T E kind send ring give)
+  slave_send = search (sendable, crosses, session_send, outbox_send, plan_send, account_send, channels_send) depth 60 fits 20000
+
+  pub lending_slave_send : IsSend (LendingSlave.the_row R S T E kind send ring give)
+  lending_slave_send = search (sendable, crosses, slave_send, stream_send, slot_send, end_goes) depth 60 fits 20000

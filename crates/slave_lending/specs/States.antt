@@ -1,0 +1,11 @@
+-- What contracts see of a slave that lends its tasks.
+use Rattle.std.specs.Prelude.{List}
+use Rattle.frame_writer.specs.Reading.{ReaderState}
+use Rattle.slave.specs.Standing.{SlaveState}
+use Rattle.slave_lending.specs.Slots.{SlotState}
+
+-- the slave, the stream of its master, and the tasks of its event channels, in their order
+pub record LendingSlaveState (S T : Type 0) : Type 0 where
+  pub slave : SlaveState S T
+  pub stream : ReaderState
+  pub tasks : List (SlotState S)

@@ -1,0 +1,14 @@
+//! The rule for a task that was handed out: what comes back is of its own line.
+use channel_ring::SendEnd;
+use hand_over::Rule;
+use tasks::{Task, TaskEnd};
+
+/// What is left of a task is of the task's line with its slave.
+#[derive(Clone, Copy)]
+pub struct SameLine;
+
+impl<S: SendEnd> Rule<Task<S>, TaskEnd<S>> for SameLine {
+    ghost use Rattle.std.specs.Prelude.{◌≡◌};
+
+    ghost leaves = { λ task end. end.ring ≡ task.ring };
+}

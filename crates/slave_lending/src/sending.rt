@@ -1,0 +1,24 @@
+//! What waits is shown, and sent.
+ghost use Rattle.slave_lending.specs.Sending.{Peeks, Sends};
+
+use crate::lending_slave::LendingSlave;
+use daq_engine::Ring;
+
+impl<R: Ring> LendingSlave<R> {
+    /// Takes samples off the rings, and copies as many whole replies and samples that wait as find
+    /// room to the front of a buffer, as `Slave::take` and `Slave::peek`; and returns how many
+    /// bytes these are.
+    pub fn peek(&mut self, buffer: &mut [u8]) -> usize
+        ensures { Peeks R.Take.TakeEnd self.old self.new buffer.old buffer.new result }
+    {
+        self.slave.take();
+        self.slave.peek(buffer)
+    }
+
+    /// What the last peek showed was sent, and waits no more.
+    pub fn sent(&mut self)
+        ensures { Sends R.Take.TakeEnd self.old self.new }
+    {
+        self.slave.sent();
+    }
+}

@@ -1,0 +1,11 @@
+pub mod Deeds
+pub mod Intakes
+pub mod Steps
+pub mod Accounts
+pub mod Laws
+pub mod IntakeInner
+pub mod Units
+pub mod Outboxes
+pub mod Taking
+pub mod Putting
+pub mod Inner

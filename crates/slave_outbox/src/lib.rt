@@ -1,0 +1,25 @@
+//! What a slave sends: it takes the items of an event channel's ring while a master starts and
+//! stops DAQ lists, lays out the samples of the lists that run, and keeps replies and samples,
+//! under one counter, until its transport took them.
+#![tactic(auto)]
+
+mod account;
+mod discarding;
+mod front;
+mod intake;
+pub mod laws;
+mod laying;
+mod limits;
+mod list_intake;
+mod outbox;
+mod putting;
+mod step;
+mod taking;
+mod unit;
+
+pub use intake::Intake;
+pub use limits::{MAX_REPLIES, PAGE};
+pub use outbox::Outbox;
+pub use putting::PutFault;
+pub use step::Step;
+pub use unit::{Origin, Unit};

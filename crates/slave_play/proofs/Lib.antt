@@ -1,3 +1,0 @@
-pub mod LogLemmas
-pub mod PlayLemmas
-pub mod TaskLemmas

@@ -1,9 +1,0 @@
-use Rattle.std.proofs.Common.{ap, ◌∙◌}
-use Rattle.slave_channels.specs.Calls.{rings_of}
-use Rattle.slave_play.specs.Playing.{lines_of}
-use Rattle.slave_play.proofs.TaskLemmas.{begun-lines}
-use Rattle.slave_play.proofs.playing.open.Goals as goal
-
--- tasks that were just begun are on the lines of the event channels
-pub returns-in-Ok-clause-tasks : goal.returns-in-Ok-clause-tasks
-returns-in-Ok-clause-tasks g c = ap lines_of c.in-Ok.ensures.tasks ∙ begun-lines _ (rings_of c.in-Ok.slave.channels)

@@ -1,0 +1,10 @@
+use Rattle.std.proofs.Common.{◌||◌, ap, ◌∙◌}
+use Rattle.xcp_base.specs.Lists.{has_list}
+use Rattle.xcp_base.proofs.BitLemmas.{has-union}
+use Rattle.xcp_base.proofs.list_set.ListSet.union.Goals as goal
+
+pub returns : goal.returns
+returns c = λ k.
+    has-union c.self.inside.bits c.other.inside.bits k
+    ∙ ap (λ n. has_list n k || has_list c.other.inside.bits k) c.self.view_is
+    ∙ ap (λ n. has_list c.args.self k || has_list n k) c.other.view_is

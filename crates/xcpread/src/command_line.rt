@@ -1,0 +1,273 @@
+//! The command line of `xcpread`: its options, and what they ask for.
+ghost use Rattle.std.specs.Prelude.{◌≡◌, ◌≢◌, ◌⊎◌, IfErr, Ok, false, map, string_bytes, true};
+ghost use Rattle.program_input.specs.Versions.{asks_version};
+ghost use Rattle.xcpread.specs.Faults.{want_of_memory};
+ghost use Rattle.xcpread.specs.declared.command_line.CommandLine.TheVariants as line;
+ghost use Rattle.xcpread.specs.declared.program_fault.ProgramFault.TheVariants as fault;
+
+use crate::program_fault::ProgramFault;
+use clap::error::ErrorKind;
+use clap::{Arg, ArgAction, ArgMatches, Command, Error};
+use explain::Why;
+use measured_values::{Tick, tick_of};
+use program_input::asks_version;
+use recording::{Mode, View};
+use std::alloc::{AllocError, Global};
+
+/// What the command line asks for.
+#[derive(Drop)]
+pub enum CommandLine<'a> {
+    /// The help, which is the error's text.
+    Help(Error),
+    /// The version.
+    Version,
+    /// A recording.
+    Recording(Options<'a>),
+}
+
+/// Which recording is read, and how it is shown.
+#[derive(Clone, Copy)]
+pub struct Options<'a> {
+    /// How it is shown.
+    pub view: View<'a>,
+    /// The run file that the recording was made of.
+    pub run: &'a str,
+    /// The file of the recording.
+    pub frames: &'a str,
+    /// Whether standard error is told how far it is read.
+    pub progress: bool,
+    /// The A2L file that says which values are shown, if there is one.
+    pub a2l: Option<&'a str>,
+}
+
+/// Reads the arguments, without the program's name.
+pub fn read_command_line<'a>(
+    alloc: Global,
+    words: &'a [String],
+    why: &mut Why,
+) -> Result<CommandLine<'a>, ProgramFault>
+    ensures faults { IfErr result (λ f. (f ≡ fault.CommandLine) ⊎ (f ≡ want_of_memory)) }
+    ensures version { asks_version (map string_bytes words.now) ≡ true
+        → result ≡ Ok line.Version }
+    ensures other { asks_version (map string_bytes words.now) ≡ false
+        → result ≢ Ok line.Version }
+{
+    if asks_version(words) {
+        return Ok(CommandLine::Version);
+    }
+    match command(alloc)?.try_get_matches_from(words) {
+        Ok(matches) => recording_of(&matches, why),
+        Err(error) => match error.kind() {
+            ErrorKind::DisplayHelp => Ok(CommandLine::Help(error)),
+            ErrorKind::OutOfMemory => Err(ProgramFault::MEMORY),
+            _ => {
+                why.tell_words(error);
+                Err(ProgramFault::CommandLine)
+            }
+        },
+    }
+}
+
+/// An option of the command line.
+#[derive(Clone, Copy)]
+struct Choice<'a> {
+    name: &'a str,
+    /// The name of its value, if it has one.
+    value: Option<&'a str>,
+    /// The options that it doesn't stand with.
+    without: &'a [&'a str],
+    help: &'a str,
+}
+
+/// The options: the ways to show samples, what is shown by name, and whether progress is told.
+const CHOICES: [Choice; 10] = [
+    Choice {
+        name: "summary",
+        value: None,
+        without: &[],
+        help: "Print a table with a line for each DAQ list [default]",
+    },
+    Choice {
+        name: "csv",
+        value: None,
+        without: &["summary"],
+        help: "Print CSV with a row for each element of each sample, with its time and number",
+    },
+    Choice {
+        name: "svg",
+        value: None,
+        without: &["summary", "csv"],
+        help: "Print a picture with a row for each DAQ list, as SVG",
+    },
+    Choice {
+        name: "explain",
+        value: None,
+        without: &["summary", "csv", "svg"],
+        help: "Print each reply and frame in words, then a table, and the reason behind a fault",
+    },
+    Choice {
+        name: "a2l",
+        value: Some("FILE"),
+        without: &["explain"],
+        help: "Show the measurements of this A2L file, by name and as physical values",
+    },
+    Choice {
+        name: "only",
+        value: Some("NAMES"),
+        without: &[],
+        help: "With --a2l: show these measurements alone; commas between their names",
+    },
+    Choice {
+        name: "tick",
+        value: Some("SECONDS"),
+        without: &[],
+        help: "With --a2l: how long a tick of a timestamp is, if the file doesn't say it",
+    },
+    Choice {
+        name: "long",
+        value: None,
+        without: &[],
+        help: "Only with --csv: print a row for each element, in spite of --a2l",
+    },
+    Choice {
+        name: "progress",
+        value: None,
+        without: &[],
+        help: "Say on standard error how far a long recording is read",
+    },
+    // for the help alone: `asks_version` finds it first
+    Choice {
+        name: "version",
+        value: None,
+        without: &[],
+        help: "Print the version",
+    },
+];
+
+/// The arguments that the program takes.
+fn command<'a>(alloc: Global) -> Result<Command<'a>, AllocError> {
+    let mut command = Command::new(alloc, "xcpread")
+        .about("Reads a recording back, and prints its samples")
+        .no_binary_name(true);
+    for choice in CHOICES {
+        command = with_choice(alloc, command, choice)?;
+    }
+    let run = "The run file that the recording was made of";
+    let command = with_file(alloc, command, "run", "RUN", run)?;
+    let frames = "The recording, as xcpdaq --out wrote it";
+    with_file(alloc, command, "frames", "FRAMES", frames)
+}
+
+/// A command that also takes an option.
+fn with_choice<'a>(
+    alloc: Global,
+    command: Command<'a>,
+    choice: Choice<'a>,
+) -> Result<Command<'a>, AllocError> {
+    let option = Arg::new(alloc, choice.name)
+        .long(choice.name)
+        .help(choice.help)
+        .conflicts_with_all(choice.without)?;
+    let option = match choice.value {
+        Some(value) => option.value_name(value).action(ArgAction::Set),
+        None => option.action(ArgAction::SetTrue),
+    };
+    command.arg(option)
+}
+
+/// A command that also takes a file, which has to be named.
+fn with_file<'a>(
+    alloc: Global,
+    command: Command<'a>,
+    name: &'a str,
+    value: &'a str,
+    help: &'a str,
+) -> Result<Command<'a>, AllocError> {
+    let file = Arg::new(alloc, name)
+        .value_name(value)
+        .required(true)
+        .action(ArgAction::Set)
+        .help(help);
+    command.arg(file)
+}
+
+/// What matched.
+fn recording_of<'a>(
+    matches: &ArgMatches<'a>,
+    why: &mut Why,
+) -> Result<CommandLine<'a>, ProgramFault>
+    ensures fault { IfErr result (λ f. f ≡ fault.CommandLine) }
+    ensures other { result ≢ Ok line.Version }
+{
+    let Some(run) = matches.get_str("run") else {
+        return Err(ProgramFault::CommandLine);
+    };
+    let Some(frames) = matches.get_str("frames") else {
+        return Err(ProgramFault::CommandLine);
+    };
+    let a2l = a2l_of(matches, why)?;
+    let view = View {
+        mode: mode_of(matches),
+        explain: matches.get_flag("explain"),
+        only: matches.get_str("only"),
+        tick: tick_in(matches, why)?,
+    };
+    Ok(CommandLine::Recording(Options {
+        view,
+        run,
+        frames,
+        progress: matches.get_flag("progress"),
+        a2l,
+    }))
+}
+
+/// The A2L file by which values are shown; none if rows of elements are asked for.
+fn a2l_of<'a>(matches: &ArgMatches<'a>, why: &mut Why) -> Result<Option<&'a str>, ProgramFault>
+    ensures { IfErr result (λ f. f ≡ fault.CommandLine) }
+{
+    let a2l = matches.get_str("a2l");
+    if a2l.is_none() && is_of_values(matches) {
+        why.tell_words("--only and --tick want --a2l\n");
+        return Err(ProgramFault::CommandLine);
+    }
+    if !matches.get_flag("long") {
+        return Ok(a2l);
+    }
+    if !matches.get_flag("csv") {
+        why.tell_words("--long wants --csv\n");
+        return Err(ProgramFault::CommandLine);
+    }
+    Ok(None)
+}
+
+/// Whether an option stands there that speaks of values.
+fn is_of_values(matches: &ArgMatches<'_>) -> bool {
+    matches.get_str("only").is_some() || matches.get_str("tick").is_some()
+}
+
+/// How long a tick is, if that is said.
+fn tick_in(matches: &ArgMatches<'_>, why: &mut Why) -> Result<Option<Tick>, ProgramFault>
+    ensures { IfErr result (λ f. f ≡ fault.CommandLine) }
+{
+    let Some(text) = matches.get_str("tick") else {
+        return Ok(None);
+    };
+    match tick_of(text) {
+        Some(tick) => Ok(Some(tick)),
+        None => {
+            why.tell_words("--tick wants a number of seconds, such as 0.001 or 1e-6\n");
+            Err(ProgramFault::CommandLine)
+        }
+    }
+}
+
+/// How the samples are shown; a table where no mode is asked for.
+fn mode_of(matches: &ArgMatches<'_>) -> Mode {
+    if matches.get_flag("csv") {
+        return Mode::Csv;
+    }
+    if matches.get_flag("svg") {
+        return Mode::Svg;
+    }
+    Mode::Summary
+}

@@ -1,0 +1,950 @@
+/* Goes through each call of a slave and of its tasks, and each status that can be met. Prints a
+ * line for each part; ends with status 1 at the first answer that isn't the one wanted. Frames are
+ * written out by hand: LEN and CTR, least significant byte first, and then the packet. */
+#include "memory.h"
+#include "nerthogal.h"
+#include <stdio.h>
+#include <stdlib.h>
+#include <string.h>
+
+#define UNWRITTEN 0xA5u
+#define CLOCK 0x01020304u
+#define LEN(table) (sizeof(table) / sizeof(table)[0])
+
+static const char *part = "";
+
+/* The kind of rings that the parts are gone through with. */
+static ng_ring ring = NG_RING_ITEMS;
+
+static const char *over(void) { return ring == NG_RING_BYTES ? "over rings of bytes: " : ""; }
+
+static void want(bool holds, const char *what) {
+    if (holds) return;
+    printf("%s%s: FAILED: %s\n", over(), part, what);
+    exit(1);
+}
+
+static void begin(const char *name) { part = name; }
+
+static void end(void) { printf("%s%s: ok\n", over(), part); }
+
+/* The bytes of a text in hexadecimal. */
+static size_t unhex(const char *text, uint8_t *bytes) {
+    size_t len = strlen(text) / 2;
+    for (size_t i = 0; i < len; i++) {
+        unsigned byte = 0;
+        sscanf(text + 2 * i, "%2x", &byte);
+        bytes[i] = (uint8_t)byte;
+    }
+    return len;
+}
+
+/* An identification field of one byte, images of two bytes from address 0 on, and timestamps of
+ * four bytes in microseconds. */
+static ng_profile profile_of(void) {
+    ng_profile profile = {.image_len = 2, .id = NG_ABSOLUTE, .ticks = 1, .unit = 3,
+                          .stamp_size = 4, .name = "ng"};
+    profile.ring = ring;
+    return profile;
+}
+
+/* An event channel of 1 ms whose ring has room for four samples, or for more. */
+static ng_event event_of(const char *name) {
+    ng_event event = {.cycle = 1, .cycle_unit = 6};
+    event.capacity = ring == NG_RING_BYTES ? NG_MIN_BYTE_RING : 4;
+    memcpy(event.name, name, strlen(name));
+    return event;
+}
+
+/* A slave of one event channel, or of two. */
+static ng_slave open_slave(size_t channels) {
+    ng_profile profile = profile_of();
+    ng_event events[2] = {event_of("e0"), event_of("e1")};
+    ng_slave slave = NG_SLAVE_INIT;
+    want(ng_slave_open(&profile, events, channels, &slave) == NG_OK, "open");
+    return slave;
+}
+
+static ng_task task_of(ng_slave *slave, uint16_t channel) {
+    ng_task task = NG_TASK_INIT;
+    want(ng_slave_task(slave, channel, &task) == NG_OK, "task");
+    return task;
+}
+
+/* How a slave hears frames of its master: from a stream, whole or in pieces, or in datagrams. */
+static enum { STREAM, PIECES, DATAGRAMS } way = STREAM;
+
+/* The bytes of a piece. */
+static size_t piece = 1;
+
+static void hear(ng_slave *slave, const char *frames) {
+    static uint8_t bytes[1024];
+    size_t len = unhex(frames, bytes), taken = 77, step;
+    if (way == DATAGRAMS) {
+        want(ng_slave_datagram(slave, bytes, len, CLOCK, &taken) == NG_OK, frames);
+        want(taken == len, frames);
+        return;
+    }
+    for (size_t at = 0; at < len; at += step) {
+        step = way == PIECES && piece < len - at ? piece : len - at;
+        taken = 77;
+        want(ng_slave_receive(slave, bytes + at, step, CLOCK, &taken) == NG_OK, frames);
+        want(taken == step, frames);
+    }
+}
+
+static uint8_t buffer[1400];
+
+/* Wants these frames to wait, and behind them nothing written. */
+static void shows(ng_slave *slave, const char *frames) {
+    static uint8_t bytes[sizeof buffer];
+    size_t len = 77;
+    memset(buffer, UNWRITTEN, sizeof buffer);
+    memset(bytes, UNWRITTEN, sizeof bytes);
+    unsigned long asked = memory_asked;
+    want(ng_slave_peek(slave, buffer, sizeof buffer, &len) == NG_OK, "peek");
+    want(asked == memory_asked, "no memory is asked for");
+    want(len == unhex(frames, bytes) && memcmp(buffer, bytes, sizeof buffer) == 0, frames);
+}
+
+/* The same, and sends them. */
+static void sends(ng_slave *slave, const char *frames) {
+    shows(slave, frames);
+    want(ng_slave_sent(slave) == NG_OK, "sent");
+}
+
+static void trigger(ng_task *task, const char *image, unsigned due, unsigned accepted) {
+    uint8_t bytes[2] = {0};
+    ng_taken taken = {0x5555, 0x5555, 0x5555};
+    size_t len = unhex(image, bytes);
+    unsigned long asked = memory_asked, held = memory_held;
+    want(ng_task_trigger(task, bytes, len, 0, &taken) == NG_OK, image);
+    want(asked == memory_asked && held == memory_held, "no memory is asked for or given back");
+    want(taken.due == due && taken.accepted == accepted && taken.dropped == (due & ~accepted),
+         "what the trigger did");
+}
+
+static ng_line lines[NG_MAX_LISTS + 1];
+static ng_measurements each;
+
+/* What a slave is about. */
+static void is_about(ng_slave *slave, bool connected, bool measuring, size_t waiting) {
+    ng_slave_state state = {!connected, !measuring, waiting + 1};
+    want(ng_slave_status(slave, &state) == NG_OK, "status");
+    want(state.connected == connected && state.measuring == measuring, "connected, measuring");
+    want(state.waiting == waiting, "how many bytes wait");
+}
+
+/* The accounts of the last measurements, and of those before, add up to the line of a list. */
+static void adds_up(const ng_line *line) {
+    size_t l = line->list;
+    uint64_t due = each.older.lines[l].due, written = each.older.lines[l].written;
+    for (size_t k = 0; k < each.count; k++) {
+        due += each.last[k].lines[l].due;
+        written += each.last[k].lines[l].written;
+    }
+    want(due == line->due && written == line->written, "the measurements add up");
+}
+
+/* Closes a slave, and wants these lines, of zeros for the other lists. */
+static void close_with(ng_slave *slave, const ng_line *account, size_t count) {
+    bool whole = false;
+    memset(lines, UNWRITTEN, sizeof lines);
+    want(ng_slave_close(slave, lines, LEN(lines), &whole, &each) == NG_OK, "close");
+    want(whole, "the account is whole");
+    for (size_t l = 0; l < NG_MAX_LISTS; l++) {
+        ng_line zeros = {(uint8_t)l, 0, 0, 0, 0};
+        ng_line wanted = l < count ? account[l] : zeros;
+        want(lines[l].list == l && lines[l].due == wanted.due, "due");
+        want(lines[l].written == wanted.written && lines[l].dropped == wanted.dropped
+                 && lines[l].left == wanted.left, "written, dropped, left");
+        adds_up(&lines[l]);
+    }
+    want(lines[NG_MAX_LISTS].due == 0xA5A5A5A5A5A5A5A5u, "behind the account nothing is written");
+    want(ng_slave_close(slave, lines, LEN(lines), &whole, &each) == NG_EMPTY, "it is empty then");
+}
+
+static void finish(ng_task *task) {
+    want(ng_task_finish(task) == NG_OK && ng_task_finish(task) == NG_EMPTY, "finish");
+}
+
+static void openings(void) {
+    ng_profile good = profile_of();
+    ng_event events[9] = {event_of("e0")};
+    ng_slave slave = NG_SLAVE_INIT;
+    begin("openings");
+    for (size_t c = 1; c < 9; c++) events[c] = event_of("e1");
+    for (unsigned k = 0; k < 20; k++) {
+        ng_profile p = good;
+        ng_event e = event_of("e0");
+        if (k == 0) p.image_len = 0;
+        if (k == 1) p.image_len = NG_MAX_IMAGE + 1;
+        if (k == 2) p.id = 3;
+        if (k == 3) p.ring = 2;
+        if (k == 4) p.ticks = 0;
+        if (k == 5) p.unit = 10;
+        if (k == 6) p.stamp_size = 3;
+        if (k == 7) p.stamp_size = 0;
+        if (k == 8) p.base = 0xFFFFFFFFu;
+        if (k == 9) memset(p.name, 'n', sizeof p.name);
+        if (k == 10) p.name[0] = 0x1F;
+        if (k == 11) p.name[0] = 0x7F;
+        if (k == 12) e.capacity = 0;
+        if (k == 13) e.capacity = ring == NG_RING_BYTES ? NG_MAX_BYTE_RING + 1 : NG_MAX_RING + 1;
+        if (k == 14) e.capacity = SIZE_MAX;
+        if (k == 15) memset(e.name, 'n', sizeof e.name);
+        if (k == 16) e.name[1] = '\n';
+        if (k == 17) e.cycle_unit = 10;
+        if (k == 18) e.capacity = ring == NG_RING_BYTES ? NG_MIN_BYTE_RING - 1 : NG_MAX_RING + 1;
+        if (k == 19) p.id = UINT32_MAX;
+        events[1] = e;
+        want(ng_slave_open(&p, events, 2, &slave) == NG_BAD_LIMITS, "out of a limit");
+        want(!slave.full, "nothing is made");
+    }
+    events[1] = event_of("");
+    want(ng_slave_open(&good, events, 0, &slave) == NG_BAD_LIMITS, "no event channel");
+    want(ng_slave_open(&good, events, 9, &slave) == NG_BAD_LIMITS, "nine event channels");
+    good.base = 0xFFFFFFFEu;
+    memset(good.name, 'n', NG_MAX_NAME);
+    want(ng_slave_open(&good, events, 8, &slave) == NG_OK, "eight");
+    want(ng_slave_open(&good, events, 9, &slave) == NG_IN_USE, "it is in use");
+    close_with(&slave, NULL, 0);
+    end();
+}
+
+static void empty_handles(void) {
+    ng_slave slave = NG_SLAVE_INIT;
+    ng_task task = NG_TASK_INIT;
+    size_t len = 77;
+    bool whole = true;
+    ng_taken taken = {1, 2, 3};
+    ng_slave_state state = {true, true, 77};
+    begin("empty handles");
+    want(ng_slave_task(&slave, 0, &task) == NG_EMPTY, "task");
+    want(ng_slave_receive(&slave, buffer, 0, 0, &len) == NG_EMPTY, "receive");
+    want(ng_slave_datagram(&slave, buffer, 0, 0, &len) == NG_EMPTY, "datagram");
+    want(ng_slave_hang_up(&slave) == NG_EMPTY, "hang_up");
+    want(ng_slave_peek(&slave, buffer, 0, &len) == NG_EMPTY, "peek");
+    want(ng_slave_sent(&slave) == NG_EMPTY, "sent");
+    want(ng_slave_status(&slave, &state) == NG_EMPTY, "status");
+    want(ng_slave_close(&slave, lines, 0, &whole, &each) == NG_EMPTY, "close");
+    want(ng_task_trigger(&task, buffer, 0, 0, &taken) == NG_EMPTY, "trigger");
+    want(ng_task_finish(&task) == NG_EMPTY, "finish");
+    want(len == 77 && whole && taken.due == 1 && taken.dropped == 3, "nothing is written");
+    want(state.connected && state.measuring && state.waiting == 77, "nothing is written");
+    end();
+}
+
+/* A worked session: what the master sends, what waits then at the slave, and is sent. */
+static const struct {
+    const char *master, *slave;
+} connecting[] = {
+    {"01000000fd", ""},
+    {"02000100ff00", "08000000ff04804040000101"},
+    {"02000200ff01", "02000100fe22"},
+    {"01000300fd", "06000200ff0000000000"},
+    {"01000400fc", "02000300fe00"},
+    {"02000500fa00", "0a000400ff010000020000006e67"},
+    {"01000600da", "08000500ff53000001000000"},
+    {"01000700d9", "08000600ff013f0100340100"},
+    {"02000800f501", "02000700fe29"},
+    {"04000900d7000000", "07000800ff441002010600"},
+    {"02000a00f502", "03000900ff6530"},
+    {"02000b00f501", "02000a00fe22"},
+    {"04000c00d7000100", "02000b00fe22"},
+    {"01000d00dc", "08000c00ff00000004030201"},
+    {"01000e00d6", "01000d00ff"},
+    {"04000f00d5000100", "01000e00ff"},
+    {"05001000d400000001", "01000f00ff"},
+    {"06001100d30000000001", "01001000ff"},
+    {"06001200e20000000000", "01001100ff"},
+    {"08001300e1ff020000000000", "01001200ff"},
+    {"08001400e000000000000100", "01001300ff"},
+    {"04001500df000000", "08001400ff00000000000100"},
+    {"04001600de010000", "02001500ff00"},
+};
+
+static void session(void) {
+    static const ng_line account[] = {{0, 4, 3, 0, 1}};
+    ng_slave slave = open_slave(1);
+    ng_task task = task_of(&slave, 0);
+    trigger(&task, "", 0, 0);
+    for (size_t k = 0; k < LEN(connecting); k++) {
+        hear(&slave, connecting[k].master);
+        sends(&slave, connecting[k].slave);
+    }
+    trigger(&task, "aabb", 1, 1);
+    sends(&slave, "0300160000aabb");
+    hear(&slave, "01001700fd");
+    sends(&slave, "06001700ff4000000000");
+    trigger(&task, "ccdd", 1, 1);
+    hear(&slave, "04001800de000000");
+    sends(&slave, "02001800ff00");
+    hear(&slave, "04001900de010000");
+    trigger(&task, "eeff", 1, 1);
+    shows(&slave, "02001900ff00" "03001a0000eeff");
+    sends(&slave, "02001900ff00" "03001a0000eeff");
+    sends(&slave, "");
+    for (unsigned k = 0; k < 4; k++) {
+        hear(&slave, "04001a00de000000");
+        hear(&slave, "04001b00de010000");
+    }
+    sends(&slave, "02001b00ff00" "02001c00ff00" "02001d00ff00" "02001e00ff00"
+                  "02001f00ff00" "02002000ff00" "02002100ff00" "02002200ff00");
+    trigger(&task, "1122", 1, 1);
+    sends(&slave, "03002300001122");
+    hear(&slave, "01001c00fe");
+    sends(&slave, "01002400ff");
+    hear(&slave, "01001d00fd");
+    sends(&slave, "");
+    trigger(&task, "3344", 0, 0);
+    finish(&task);
+    close_with(&slave, account, 1);
+}
+
+static void sessions(void) {
+    begin("a worked session, by a stream");
+    session();
+    end();
+    begin("the same, byte by byte");
+    way = PIECES;
+    session();
+    end();
+    begin("the same, by datagrams");
+    way = DATAGRAMS;
+    session();
+    way = STREAM;
+    end();
+}
+
+/* The tasks are those of their event channels, whichever is handed out first. */
+static void two_channels(void) {
+    static const ng_line account[] = {{0, 1, 1, 0, 0}, {1, 2, 2, 0, 0}};
+    begin("two event channels, and their tasks");
+    for (unsigned k = 0; k < 2; k++) {
+        ng_slave slave = open_slave(2);
+        ng_task tasks[2] = {NG_TASK_INIT, NG_TASK_INIT}, more = NG_TASK_INIT;
+        uint16_t first = (uint16_t)k, second = (uint16_t)(1 - k);
+        want(ng_slave_task(&slave, 2, &more) == NG_BAD_LIMITS, "no event channel 2");
+        want(ng_slave_task(&slave, UINT16_MAX, &more) == NG_BAD_LIMITS, "nor 65535");
+        tasks[first] = task_of(&slave, first);
+        want(ng_slave_task(&slave, first, &more) == NG_NO_TASK && !more.full, "once");
+        want(ng_slave_task(&slave, second, &tasks[first]) == NG_IN_USE, "it is in use");
+        tasks[second] = task_of(&slave, second);
+        hear(&slave, "02000000ff00" "04000000d5000200" "05000000d400000001" "05000000d400010001"
+                     "06000000d30000000001" "06000000d30001000001");
+        hear(&slave, "06000000e20000000000" "08000000e1ff010000000000" "08000000e000000000000100"
+                     "06000000e20001000000" "08000000e1ff010001000000" "08000000e000010001000100");
+        sends(&slave, "08000000ff04804040000101" "01000100ff" "01000200ff" "01000300ff"
+                      "01000400ff" "01000500ff" "01000600ff" "01000700ff" "01000800ff"
+                      "01000900ff" "01000a00ff" "01000b00ff");
+        hear(&slave, "04000000de020000" "04000000de020100" "02000000dd01");
+        sends(&slave, "02000c00ff00" "02000d00ff01" "01000e00ff");
+        trigger(&tasks[1], "a1a2", 2, 2);
+        sends(&slave, "02000f0001a2");
+        trigger(&tasks[0], "b1b2", 1, 1);
+        sends(&slave, "0200100000b1");
+        trigger(&tasks[1], "c1c2", 2, 2);
+        sends(&slave, "0200110001c2");
+        finish(&tasks[0]);
+        finish(&tasks[1]);
+        close_with(&slave, account, 2);
+    }
+    end();
+}
+
+/* CONNECT, GET_STATUS and GET_DAQ_CLOCK, whose replies tell that no list runs, and the clock. */
+static const char three[] = "02000000ff00" "01000100fd" "01000200dc";
+
+/* Frames that come in pieces of so many bytes, and one whose bytes come in three calls. */
+static void pieces(void) {
+    static const size_t lens[] = {1, 2, 3, 16};
+    begin("frames in pieces");
+    for (size_t k = 0; k < LEN(lens); k++) {
+        ng_slave slave = open_slave(1);
+        way = PIECES;
+        piece = lens[k];
+        hear(&slave, three);
+        sends(&slave, "08000000ff04804040000101" "06000100ff0000000000" "08000200ff00000004030201");
+        hear(&slave, three);
+        sends(&slave, "08000300ff04804040000101" "06000400ff0000000000" "08000500ff00000004030201");
+        piece = 1;
+        way = STREAM;
+        hear(&slave, "02000000ff");
+        sends(&slave, "");
+        hear(&slave, "");
+        sends(&slave, "");
+        hear(&slave, "000100");
+        sends(&slave, "08000600ff04804040000101");
+        hear(&slave, "0707fd");
+        sends(&slave, "06000700ff0000000000");
+        close_with(&slave, NULL, 0);
+    }
+    end();
+}
+
+/* A part of a frame at the end of a datagram, or a bad one, is dropped, and nothing else. */
+static void datagrams(void) {
+    static const char *const more[] = {"01000400", "", "41000700fd", "", "0100", ""};
+    ng_slave slave = open_slave(1);
+    begin("datagrams with a part of a frame, or a bad one, at the end");
+    way = DATAGRAMS;
+    hear(&slave, three);
+    sends(&slave, "08000000ff04804040000101" "06000100ff0000000000" "08000200ff00000004030201");
+    hear(&slave, "");
+    sends(&slave, "");
+    for (unsigned k = 0; k < LEN(more); k++) {
+        char frames[32], reply[32];
+        snprintf(frames, sizeof frames, "01000300fd%s", more[k]);
+        snprintf(reply, sizeof reply, "0600%02x00ff0000000000", 3 + k);
+        hear(&slave, frames);
+        sends(&slave, reply);
+        hear(&slave, "00");
+        sends(&slave, "");
+    }
+    way = STREAM;
+    close_with(&slave, NULL, 0);
+    end();
+}
+
+/* Wants the slave to have no master. */
+static void hear_nothing(ng_slave *slave) {
+    way = DATAGRAMS;
+    hear(slave, "01000000fd");
+    sends(slave, "");
+    way = STREAM;
+}
+
+/* A bad frame closes a stream, until the slave hangs up. */
+static void bad_frames(void) {
+    static const char *const bad[] = {"0000", "4100", "0001", "ffff"};
+    begin("a bad frame closes a stream, and drops what is left of a datagram");
+    for (size_t k = 0; k < LEN(bad); k++) {
+        ng_slave slave = open_slave(1);
+        uint8_t bytes[64];
+        size_t taken = 77, len = unhex("02000000ff00", bytes);
+        len += unhex(bad[k], bytes + len);
+        want(ng_slave_receive(&slave, bytes, len, 0, &taken) == NG_BAD_FRAME, "a bad LEN");
+        want(taken == 77, "nothing is told");
+        sends(&slave, "08000000ff04804040000101");
+        want(ng_slave_receive(&slave, bytes, 6, 0, &taken) == NG_BAD_FRAME, "it stays closed");
+        want(ng_slave_receive(&slave, bytes, 0, 0, &taken) == NG_BAD_FRAME, "it stays closed");
+        sends(&slave, "");
+        way = DATAGRAMS;
+        hear(&slave, "01000000fd");
+        sends(&slave, "");
+        want(ng_slave_datagram(&slave, bytes, len, 0, &taken) == NG_OK && taken == len, "datagram");
+        sends(&slave, "08000100ff04804040000101");
+        want(ng_slave_receive(&slave, bytes, 6, 0, &taken) == NG_BAD_FRAME, "it stays closed");
+        hear(&slave, "01000000fd");
+        sends(&slave, "06000200ff0000000000");
+        way = STREAM;
+        want(ng_slave_hang_up(&slave) == NG_OK, "hang up");
+        hear(&slave, "01000000fd");
+        sends(&slave, "");
+        hear(&slave, "02000000ff00" "0200");
+        sends(&slave, "08000300ff04804040000101");
+        want(ng_slave_hang_up(&slave) == NG_OK, "what is held of a frame is dropped");
+        hear(&slave, "02000000ff00");
+        sends(&slave, "08000400ff04804040000101");
+        want(ng_slave_receive(&slave, bytes + 6, 1, 0, &taken) == NG_OK && taken == 1, "half");
+        want(ng_slave_receive(&slave, bytes + 7, 1, 0, &taken) == NG_BAD_FRAME, "the other half");
+        hear_nothing(&slave);
+        close_with(&slave, NULL, 0);
+    }
+    end();
+}
+
+/* Sixteen replies wait at most. */
+static void many_replies(void) {
+    ng_slave slave = open_slave(1);
+    uint8_t bytes[6 + 20 * 5];
+    size_t len = unhex("02000000ff00", bytes), taken = 77;
+    begin("where sixteen replies wait, no more bytes are taken");
+    for (unsigned k = 0; k < 20; k++) len += unhex("01000000fc", bytes + len);
+    want(ng_slave_receive(&slave, bytes, len, 0, &taken) == NG_OK && taken == 6 + 15 * 5, "16");
+    want(ng_slave_datagram(&slave, bytes + taken, 5, 0, &len) == NG_OK && len == 0, "no more");
+    want(ng_slave_receive(&slave, bytes + taken, 5, 0, &len) == NG_OK && len == 0, "no more");
+    want(ng_slave_peek(&slave, buffer, sizeof buffer, &len) == NG_OK && len == 12 + 15 * 6, "16");
+    want(ng_slave_sent(&slave) == NG_OK, "sent");
+    want(ng_slave_receive(&slave, bytes + taken, 25, 0, &len) == NG_OK && len == 25, "the others");
+    want(ng_slave_peek(&slave, buffer, sizeof buffer, &len) == NG_OK && len == 5 * 6, "5");
+    want(ng_slave_sent(&slave) == NG_OK, "sent");
+    want(ng_slave_datagram(&slave, bytes, 106, 0, &taken) == NG_OK && taken == 6 + 15 * 5, "16");
+    want(ng_slave_datagram(&slave, bytes + taken, 5, 0, &len) == NG_OK && len == 0, "no more");
+    want(ng_slave_peek(&slave, buffer, sizeof buffer, &len) == NG_OK && len == 12 + 15 * 6, "16");
+    want(ng_slave_sent(&slave) == NG_OK, "sent");
+    want(ng_slave_datagram(&slave, bytes + taken, 25, 0, &len) == NG_OK && len == 25, "the others");
+    close_with(&slave, NULL, 0);
+    end();
+}
+
+/* Hears a command, and sends its reply, which is positive. */
+static void ask(ng_slave *slave, const char *packet) {
+    uint8_t frame[68];
+    size_t len = unhex(packet, frame + 4), taken = 77;
+    memcpy(frame, (uint8_t[]){(uint8_t)len, 0, 0, 0}, 4);
+    want(ng_slave_datagram(slave, frame, 4 + len, 0, &taken) == NG_OK && taken == 4 + len, packet);
+    want(ng_slave_peek(slave, buffer, sizeof buffer, &len) == NG_OK && len > 4, packet);
+    want(buffer[4] == 0xFF && ng_slave_sent(slave) == NG_OK, packet);
+}
+
+#define ASK(slave, ...) \
+    do { \
+        char packet[64]; \
+        snprintf(packet, sizeof packet, __VA_ARGS__); \
+        ask(slave, packet); \
+    } while (0)
+
+/* DAQ lists of one event channel or more, in turn, each with as many ODTs, and these with as many
+ * entries. */
+struct load {
+    unsigned channels, capacity;
+    unsigned lists, odts, entries, size;
+    ng_id_kind id;
+};
+
+static void set_up(ng_slave *slave, const struct load *load) {
+    ASK(slave, "ff00");
+    ASK(slave, "d500%02x00", load->lists);
+    for (unsigned l = 0; l < load->lists; l++) ASK(slave, "d400%02x00%02x", l, load->odts);
+    for (unsigned l = 0; l < load->lists; l++)
+        for (unsigned k = 0; k < load->odts; k++)
+            ASK(slave, "d300%02x00%02x%02x", l, k, load->entries);
+    for (unsigned l = 0; l < load->lists; l++) {
+        for (unsigned k = 0; k < load->odts; k++) {
+            ASK(slave, "e200%02x00%02x00", l, k);
+            for (unsigned e = 0; e < load->entries; e++)
+                ASK(slave, "e1ff%02x00%02x000000", load->size, e * (load->size + 1));
+        }
+        ASK(slave, "e010%02x00%02x000100", l, l % load->channels);
+    }
+}
+
+/* Starts all lists. */
+static void start_all(ng_slave *slave, const struct load *load) {
+    for (unsigned l = 0; l < load->lists; l++) ASK(slave, "de02%02x00", l);
+    ask(slave, "dd01");
+}
+
+static void trigger_all(ng_task *tasks, const struct load *load) {
+    static uint8_t image[256];
+    unsigned long bytes = memory_bytes;
+    ng_taken taken;
+    for (unsigned c = 0; c < load->channels; c++)
+        want(ng_task_trigger(&tasks[c], image, sizeof image, 0, &taken) == NG_OK, "trigger");
+    want(bytes == memory_bytes, "triggers take no memory, and give none back");
+}
+
+/* Wants so many bytes to be within these, and tells how many they are where they aren't. */
+static void within(unsigned long least, unsigned long bytes, unsigned long most, const char *what) {
+    bool holds = least <= bytes && bytes <= most;
+    if (!holds) printf("%lu bytes, and not %lu to %lu: ", bytes, least, most);
+    want(holds, what);
+}
+
+/* What nerthogal.h says of the bytes that a slave takes at most, and when it gives them back. */
+static void heap_of(const struct load *load) {
+    bool of_bytes = ring == NG_RING_BYTES;
+    unsigned l = load->lists, o = l * load->odts, e = o * load->entries, n = load->channels;
+    unsigned long capacity = of_bytes ? 64 * load->capacity : load->capacity;
+    if (of_bytes && capacity < NG_MIN_BYTE_RING) capacity = NG_MIN_BYTE_RING;
+    unsigned long of_slave = 28000 + (of_bytes ? 23800 : 18800) * n;
+    unsigned long of_lists = 40 * l + 24 * o + 12 * e, of_ring = (of_bytes ? 1 : 560) * capacity;
+    unsigned long most = 2200 * n + 160 * l + 100 * o + 56 * e + n * of_ring;
+    ng_profile profile = profile_of();
+    ng_event events[8] = {event_of("e")};
+    ng_slave slave = NG_SLAVE_INIT;
+    ng_task tasks[8];
+    unsigned long before = memory_bytes;
+    profile.image_len = 256;
+    profile.id = load->id;
+    for (unsigned c = 0; c < n; c++) {
+        events[c] = events[0];
+        events[c].capacity = capacity;
+    }
+    want(ng_slave_open(&profile, events, n, &slave) == NG_OK, "open");
+    for (unsigned c = 0; c < n; c++) tasks[c] = task_of(&slave, (uint16_t)c);
+    unsigned long opened = memory_bytes;
+    within(0, opened - before, of_slave, "of a slave");
+    set_up(&slave, load);
+    within(of_lists, memory_bytes - opened, of_lists, "of its DAQ lists");
+    start_all(&slave, load);
+    unsigned long measures = memory_bytes;
+    within(0, measures - opened - of_lists, most, "of a measurement");
+    if (n == 2 && !of_bytes) within(236000, measures - before, 260000, "some 254 kB");
+    trigger_all(tasks, load);
+    ask(&slave, "fe");
+    /* each stop of a list finds room, also in a ring of one place */
+    for (unsigned k = 0; k < 4; k++) {
+        size_t len;
+        trigger_all(tasks, load);
+        want(ng_slave_peek(&slave, buffer, sizeof buffer, &len) == NG_OK, "peek");
+        want(ng_slave_sent(&slave) == NG_OK, "sent");
+    }
+    unsigned long kept = measures - of_lists;
+    within(kept, memory_bytes, kept, "it is kept behind DISCONNECT");
+    set_up(&slave, load);
+    start_all(&slave, load);
+    within(measures, memory_bytes, measures, "the next one takes its place");
+    trigger_all(tasks, load);
+    ask(&slave, "dd00");
+    start_all(&slave, load);
+    unsigned long both = memory_bytes;
+    within(measures + 1, both, measures + most, "beside one that tasks have");
+    ask(&slave, "dd00");
+    start_all(&slave, load);
+    within(both, memory_bytes, both, "there are no more than two");
+    for (unsigned c = 0; c < n; c++) want(ng_task_finish(&tasks[c]) == NG_OK, "finish");
+    bool whole = false;
+    want(ng_slave_close(&slave, lines, NG_MAX_LISTS, &whole, &each) == NG_OK && whole, "close");
+    within(before, memory_bytes, before, "all is given back");
+}
+
+static void heap(void) {
+    static const struct load loads[] = {{1, 1, 1, 1, 1, 1, NG_ABSOLUTE},
+                                        {1, 64, 15, 8, 17, 1, NG_ABSOLUTE},
+                                        {2, 64, 15, 8, 15, 3, NG_ABSOLUTE},
+                                        {8, 1, 16, 1, 1, 1, NG_ABSOLUTE},
+                                        {8, 1024, 16, 8, 32, 1, NG_RELATIVE_WORD}};
+    begin("a slave takes as many bytes as are said, and gives them back");
+    for (size_t k = 0; k < LEN(loads); k++) heap_of(&loads[k]);
+    end();
+}
+
+/* In a ring that has room for nothing a stop waits, and so does a start behind it. */
+static void waiting_stop(void) {
+    static const struct load load = {1, 4, 3, 1, 1, 1, NG_ABSOLUTE};
+    ng_slave slave = open_slave(1);
+    ng_task task = task_of(&slave, 0);
+    uint8_t image[2] = {0};
+    ng_taken taken = {0};
+    size_t len;
+    begin("a stop waits for room in a full ring, and a later start behind it");
+    set_up(&slave, &load);
+    ask(&slave, "de010000"); /* three lists are ready, and the first one is started */
+    /* each sample takes 12 bytes of a record, 1 for the packet's length, and 6: 532 has 28 */
+    while (taken.dropped == 0)
+        want(ng_task_trigger(&task, image, 2, 0, &taken) == NG_OK && taken.due == 1, "0 is due");
+    hear(&slave, "04000000de010200" "04000000de000000" "04000000de010100");
+    want(ng_task_trigger(&task, image, 2, 0, &taken) == NG_OK, "trigger");
+    want(taken.due == 5 && taken.accepted == 0, "2 was started before; 0 still runs, 1 doesn't");
+    want(ng_slave_peek(&slave, buffer, sizeof buffer, &len) == NG_OK && len > 0, "peek");
+    want(ng_task_trigger(&task, image, 2, 0, &taken) == NG_OK, "trigger");
+    want(taken.due == 6 && taken.accepted == 6, "the stop is done, and then the start");
+    want(ng_task_finish(&task) == NG_OK, "finish");
+    bool whole = false;
+    want(ng_slave_close(&slave, lines, NG_MAX_LISTS, &whole, &each) == NG_OK && whole, "close");
+    want(lines[0].written == 0, "the stop holds for the master at once");
+    end();
+}
+
+static void start(ng_slave *slave) {
+    hear(slave, "02000000ff00" "04000000d5000100" "05000000d400000001" "06000000d30000000001"
+                "06000000e20000000000" "08000000e1ff020000000000" "08000000e000000000000100"
+                "04000000de010000");
+    sends(slave, "08000000ff04804040000101" "01000100ff" "01000200ff" "01000300ff" "01000400ff"
+                 "01000500ff" "01000600ff" "02000700ff00");
+}
+
+/* A bad frame ends a measurement, and throws nothing away. */
+static void behind_a_bad_frame(void) {
+    static const ng_line account[] = {{0, 2, 1, 0, 1}};
+    ng_slave slave = open_slave(1);
+    ng_task task = task_of(&slave, 0);
+    uint8_t bytes[64];
+    size_t taken = 77, len = unhex("01000000dc" "4100", bytes);
+    begin("what waits at a bad frame is still sent");
+    start(&slave);
+    trigger(&task, "aabb", 1, 1);
+    hear(&slave, "01000000fd");
+    shows(&slave, "06000800ff4000000000" "0300090000aabb");
+    trigger(&task, "ccdd", 1, 1);
+    want(ng_slave_receive(&slave, bytes, len, CLOCK, &taken) == NG_BAD_FRAME, "a bad LEN");
+    sends(&slave, "06000800ff4000000000" "0300090000aabb" "08000a00ff00000004030201");
+    trigger(&task, "eeff", 0, 0);
+    hear_nothing(&slave);
+    finish(&task);
+    close_with(&slave, account, 1);
+    end();
+}
+
+/* What waits for a master that is gone is thrown away, also what was shown and not sent, and CTR
+ * goes on behind the last frame that was sent. */
+static void lost_masters(void) {
+    static const ng_line account[] = {{0, 5, 2, 0, 3}};
+    ng_slave slave = open_slave(1);
+    ng_task task = task_of(&slave, 0);
+    begin("what waits for a master that is gone never reaches another one");
+    is_about(&slave, false, false, 0);
+    start(&slave);
+    is_about(&slave, true, true, 0);
+    trigger(&task, "aabb", 1, 1);
+    sends(&slave, "0300080000aabb");
+    hear(&slave, "01000000fd");
+    is_about(&slave, true, true, 10);
+    trigger(&task, "ccdd", 1, 1);
+    shows(&slave, "06000900ff4000000000" "03000a0000ccdd");
+    is_about(&slave, true, true, 17);
+    trigger(&task, "eeff", 1, 1);
+    want(ng_slave_hang_up(&slave) == NG_OK, "hang up");
+    is_about(&slave, false, false, 0);
+    want(ng_slave_sent(&slave) == NG_OK, "nothing is shown any more");
+    shows(&slave, "");
+    trigger(&task, "1122", 0, 0);
+    hear(&slave, "02000000ff00");
+    sends(&slave, "08000900ff04804040000101");
+    hear(&slave, "04000000d5000100" "05000000d400000001" "06000000d30000000001"
+                 "06000000e20000000000" "08000000e1ff020000000000" "08000000e000000000000100"
+                 "04000000de010000");
+    sends(&slave, "01000a00ff" "01000b00ff" "01000c00ff" "01000d00ff" "01000e00ff" "01000f00ff"
+                  "02001000ff00");
+    trigger(&task, "3344", 1, 1);
+    sends(&slave, "03001100003344");
+    trigger(&task, "5566", 1, 1);
+    hear(&slave, "01000000fe");
+    shows(&slave, "01001200ff");
+    want(ng_slave_hang_up(&slave) == NG_OK, "hang up, where no master is connected");
+    shows(&slave, "");
+    hear(&slave, "02000000ff00");
+    sends(&slave, "08001200ff04804040000101");
+    finish(&task);
+    close_with(&slave, account, 1);
+    end();
+}
+
+/* Sends what waits, whatever it is. */
+static void skip(ng_slave *slave) {
+    size_t len = 0;
+    want(ng_slave_peek(slave, buffer, sizeof buffer, &len) == NG_OK && len > 0, "peek");
+    want(ng_slave_sent(slave) == NG_OK, "sent");
+}
+
+/* Wants a buffer of so many bytes to show samples of eight packets of 64 bytes: so many of them,
+ * each of images of one byte, which is that of the first one and then one more, and so is CTR. */
+static void shows_long(ng_slave *slave, size_t cap, size_t samples, unsigned image,
+                       unsigned counter) {
+    size_t len = 77;
+    want(ng_slave_peek(slave, buffer, cap, &len) == NG_OK && len == samples * 544, "whole samples");
+    for (size_t k = 0; k < samples * 8; k++) {
+        const uint8_t *frame = buffer + k * 68;
+        want(frame[0] == 64 && frame[1] == 0 && frame[2] == counter + k && frame[3] == 0, "header");
+        want(frame[4] == k % 8, "PID");
+        for (size_t i = 5; i < 68; i++) want(frame[i] == image + k / 8, "the image");
+    }
+}
+
+/* What finds no room in a buffer waits, and what is not sent is shown again. */
+static void full_buffers(void) {
+    static const ng_line account[] = {{0, 3, 3, 0, 0}};
+    ng_profile profile = profile_of();
+    ng_event event = event_of("e0");
+    ng_slave slave = NG_SLAVE_INIT;
+    ng_taken taken;
+    uint8_t image[63];
+    begin("a buffer that one sample fills");
+    profile.image_len = sizeof image;
+    if (ring == NG_RING_BYTES) event.capacity = 3 * NG_MIN_BYTE_RING;
+    want(ng_slave_open(&profile, &event, 1, &slave) == NG_OK, "open");
+    ng_task task = task_of(&slave, 0);
+    hear(&slave, "02000000ff00" "04000000d5000100" "05000000d400000008");
+    skip(&slave);
+    for (unsigned k = 0; k < 8; k++) {
+        char frames[32];
+        snprintf(frames, sizeof frames, "06000000d3000000%02x01", k);
+        hear(&slave, frames);
+    }
+    skip(&slave);
+    for (unsigned k = 0; k < 8; k++) {
+        char frames[32];
+        snprintf(frames, sizeof frames, "06000000e2000000%02x00", k);
+        hear(&slave, frames);
+        hear(&slave, "08000000e1ff3f0000000000");
+    }
+    skip(&slave);
+    hear(&slave, "08000000e000000000000100" "04000000de010000");
+    skip(&slave);
+    for (unsigned k = 1; k < 4; k++) {
+        memset(image, 0x10 + (int)k, sizeof image);
+        want(ng_task_trigger(&task, image, sizeof image, 0, &taken) == NG_OK, "trigger");
+        want(taken.accepted == 1, "it finds room");
+    }
+    shows_long(&slave, NG_PEEK_BYTES, 1, 0x11, 29);
+    shows_long(&slave, NG_PEEK_BYTES, 1, 0x11, 29);
+    want(ng_slave_sent(&slave) == NG_OK, "sent");
+    shows_long(&slave, sizeof buffer, 2, 0x12, 37);
+    shows_long(&slave, NG_PEEK_BYTES, 1, 0x12, 37);
+    want(ng_slave_sent(&slave) == NG_OK, "sent");
+    shows_long(&slave, NG_PEEK_BYTES, 1, 0x13, 45);
+    want(ng_slave_sent(&slave) == NG_OK, "sent");
+    sends(&slave, "");
+    finish(&task);
+    close_with(&slave, account, 1);
+    end();
+}
+
+static void small_buffers(void) {
+    static const ng_line account[] = {{0, 1, 0, 0, 1}};
+    ng_slave slave = open_slave(1);
+    ng_task task = task_of(&slave, 0);
+    size_t len = 77;
+    bool whole = true;
+    ng_taken taken = {1, 2, 3};
+    begin("buffers that are too short, and images of another length");
+    start(&slave);
+    trigger(&task, "aabb", 1, 1);
+    memset(buffer, UNWRITTEN, sizeof buffer);
+    want(ng_slave_peek(&slave, buffer, NG_PEEK_BYTES - 1, &len) == NG_SMALL_BUFFER, "peek");
+    want(len == 77 && buffer[0] == UNWRITTEN, "nothing is written");
+    want(ng_slave_peek(&slave, buffer, NG_PEEK_BYTES, &len) == NG_OK && len == 7, "peek");
+    want(ng_task_trigger(&task, buffer, 1, 0, &taken) == NG_WRONG_IMAGE, "one byte");
+    want(ng_task_trigger(&task, buffer, 3, 0, &taken) == NG_WRONG_IMAGE, "three bytes");
+    want(taken.due == 1 && taken.dropped == 3, "nothing is written");
+    want(ng_slave_close(&slave, lines, NG_MAX_LISTS - 1, &whole, &each) == NG_SMALL_BUFFER, "close");
+    finish(&task);
+    close_with(&slave, account, 1);
+    end();
+}
+
+/* A slave one of whose tasks isn't finished stays open. */
+static void unfinished(void) {
+    static const ng_line account[] = {{0, 2, 1, 0, 1}};
+    ng_slave slave = open_slave(2);
+    ng_task task = task_of(&slave, 0);
+    bool whole = false;
+    begin("a slave one of whose tasks isn't finished stays open, and loses nothing");
+    memset(lines, UNWRITTEN, sizeof lines);
+    want(ng_slave_close(&slave, lines, NG_MAX_LISTS, &whole, &each) == NG_UNFINISHED, "close");
+    start(&slave);
+    trigger(&task, "aabb", 1, 1);
+    want(ng_slave_close(&slave, lines, NG_MAX_LISTS, &whole, &each) == NG_UNFINISHED, "close");
+    want(!whole && lines[0].due == 0xA5A5A5A5A5A5A5A5u, "nothing is written");
+    sends(&slave, "0300080000aabb");
+    trigger(&task, "ccdd", 1, 1);
+    finish(&task);
+    close_with(&slave, account, 1);
+    end();
+}
+
+/* A measurement of a task that was finished, or that never fetched it, ends as others do. */
+static void gone_tasks(void) {
+    static const ng_line none[] = {{0, 0, 0, 0, 0}}, one[] = {{0, 1, 1, 0, 0}};
+    begin("measurements that a task left, or never took, are in the account");
+    for (unsigned k = 0; k < 3; k++) {
+        ng_slave slave = open_slave(1);
+        ng_task task = NG_TASK_INIT;
+        if (k > 0) task = task_of(&slave, 0);
+        if (k == 1) finish(&task);
+        start(&slave);
+        if (k == 2) trigger(&task, "aabb", 1, 1);
+        if (k == 2) finish(&task);
+        sends(&slave, k == 2 ? "0300080000aabb" : "");
+        hear(&slave, "04000000de000000" "04000000de010000" "02000000dd00");
+        sends(&slave, k == 2 ? "02000900ff00" "02000a00ff00" "01000b00ff"
+                             : "02000800ff00" "02000900ff00" "01000a00ff");
+        close_with(&slave, k == 2 ? one : none, 1);
+    }
+    end();
+}
+
+/* Handles of another kind are as empty ones. */
+static void other_kinds(void) {
+    ng_slave slave = open_slave(1);
+    ng_task task = NG_TASK_INIT;
+    begin("a task's handle in place of a slave's");
+    want(ng_slave_task(&slave, 0, &task) == NG_OK, "task");
+    ng_slave other = {task.at, task.full};
+    want(ng_slave_sent(&other) == NG_EMPTY && other.full, "it is no slave");
+    finish(&task);
+    close_with(&slave, NULL, 0);
+    end();
+}
+
+/* Each allocation of an opening and of its tasks is refused in turn. */
+static void no_memory(void) {
+    begin("want of memory");
+    for (unsigned long k = 0;; k++) {
+        ng_profile profile = profile_of();
+        ng_event events[2] = {event_of("e0"), event_of("e1")};
+        ng_slave slave = NG_SLAVE_INIT;
+        ng_task task = NG_TASK_INIT;
+        unsigned long held = memory_held;
+        memory_refuse_behind(k);
+        ng_status opened = ng_slave_open(&profile, events, 2, &slave);
+        if (opened == NG_MEMORY) want(held == memory_held, "what was had is given back");
+        unsigned long before = memory_held;
+        ng_status lent = opened == NG_OK ? ng_slave_task(&slave, 1, &task) : NG_OK;
+        if (lent == NG_MEMORY) want(before == memory_held, "what was had is given back");
+        bool refused = memory_refused();
+        unsigned long lacking = (opened == NG_MEMORY) + (lent == NG_MEMORY);
+        want(lacking <= (refused ? 1u : 0u), "want of memory is answered where it was met");
+        if (opened == NG_MEMORY) want(ng_slave_open(&profile, events, 2, &slave) == NG_OK, "again");
+        if (!task.full) task = task_of(&slave, 1);
+        finish(&task);
+        close_with(&slave, NULL, 0);
+        want(held == memory_held, "all is given back");
+        if (!refused) {
+            want(k > 8, "some were refused");
+            break;
+        }
+    }
+    end();
+}
+
+static void long_run(void) {
+    static const ng_line account[] = {{0, 70000, 70000, 0, 0}};
+    ng_slave slave = open_slave(1);
+    ng_task task = task_of(&slave, 0);
+    size_t len = 0;
+    ng_taken taken;
+    begin("seventy thousand triggers and peeks ask for no memory, and CTR wraps");
+    start(&slave);
+    trigger(&task, "0000", 1, 1);
+    sends(&slave, "03000800000000");
+    unsigned long asked = memory_asked, held = memory_held;
+    for (uint32_t k = 1; k < 70000; k++) {
+        uint8_t image[2] = {(uint8_t)k, (uint8_t)(k >> 8)};
+        want(ng_task_trigger(&task, image, 2, k, &taken) == NG_OK && taken.accepted == 1, "taken");
+        want(ng_slave_peek(&slave, buffer, sizeof buffer, &len) == NG_OK && len == 7, "a frame");
+        want(buffer[0] == 3 && buffer[1] == 0 && buffer[4] == 0, "a whole frame");
+        want((buffer[2] | buffer[3] << 8) == (int)((k + 8) & 0xFFFF), "its counter");
+        want(buffer[5] == image[0] && buffer[6] == image[1], "its bytes");
+        want(ng_slave_sent(&slave) == NG_OK, "sent");
+    }
+    want(asked == memory_asked && held == memory_held, "none was asked for, none given back");
+    finish(&task);
+    close_with(&slave, account, 1);
+    end();
+}
+
+int main(void) {
+    static char text[4096];
+    setvbuf(stdout, text, _IOFBF, sizeof text);
+    unsigned long held = memory_held;
+    empty_handles();
+    for (ring = NG_RING_ITEMS; ring <= NG_RING_BYTES; ring++) {
+        openings();
+        sessions();
+        two_channels();
+        pieces();
+        datagrams();
+        bad_frames();
+        many_replies();
+        behind_a_bad_frame();
+        lost_masters();
+        full_buffers();
+        small_buffers();
+        unfinished();
+        gone_tasks();
+        other_kinds();
+        no_memory();
+        long_run();
+        heap();
+        waiting_stop();
+    }
+    ring = NG_RING_ITEMS;
+    begin("all memory was given back");
+    want(memory_held == held, "a block is left");
+    end();
+    return 0;
+}
