@@ -45,7 +45,7 @@ pub fn option_value<'b>(
 fn first_of<'b>(before: Option<&'b [u8]>, option: Found<'b>, code: u64) -> Option<&'b [u8]>
     ensures { option_map (λ v. v.now) result
         ≡ first_value (option_map (λ v. v.now) before.entry)
-            option.entry.code option.entry.value.now code }
+        option.entry.code option.entry.value.now code }
 {
     if before.is_some() {
         return before;

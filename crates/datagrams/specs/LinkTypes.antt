@@ -9,7 +9,7 @@ link_of type =
     if nat_eq type 0 then Null
     else if nat_eq type 1 then Ethernet
     else if nat_eq type 12 || nat_eq type 14 || nat_eq type 101
-        || nat_eq type 228 || nat_eq type 229 then Raw
+    || nat_eq type 228 || nat_eq type 229 then Raw
     else if nat_eq type 108 then Loop
     else if nat_eq type 113 then Cooked1
     else if nat_eq type 276 then Cooked2
