@@ -2,7 +2,9 @@
  * xcp_server.a2l, and prints a row of CSV for each sample.
  *
  *   xcp_master --tcp PORT [--samples N] [--times N] [--pause MS] [--vanish] [--bad] [--wait MS]
+ *              [--record FILE]
  *   xcp_master --udp PORT [the same]
+ *   xcp_master --help
  *
  * It measures until N samples of the fast task came (100), and that as often as is said (once), each
  * time with lists that are set up anew. It checks what comes: counters rise by one; each reply is to
@@ -12,9 +14,11 @@
  * With --pause it reads nothing for so long in the middle of a measurement, so that samples are
  * dropped. With --vanish it goes in the middle of one, and with --bad it sends a bad frame then. It
  * waits for a reply for as long as is said (10000).
+ * With --record it keeps what it sends and hears as a capture, by capture_file.h.
  * Its last line on standard error says how many samples came, and how many overloads. Ends with
  * status 1 at the first thing that isn't as it should be. Link with -lm. */
 #define _POSIX_C_SOURCE 200809L
+#include "capture_file.h"
 #include <arpa/inet.h>
 #include <math.h>
 #include <netinet/in.h>
@@ -63,10 +67,18 @@ static unsigned entries_of(unsigned event) {
     return n;
 }
 
+static struct record record; /* what is kept of it as a capture, if anything */
+
+/* Ends the program; with status 1 if the capture isn't whole. */
+static void leave(int status) {
+    bool whole = record_end(&record);
+    exit(whole ? status : 1);
+}
+
 static void fail(const char *what) {
     fflush(stdout);
     fprintf(stderr, "xcp_master: %s\n", what);
-    exit(1);
+    leave(1);
 }
 
 static void want(bool holds, const char *what) {
@@ -173,6 +185,7 @@ static bool hear_more(int wait) {
     from = 0;
     ssize_t got = recv(line, heard + to, sizeof heard - to, 0);
     want(got > 0, "the server is gone");
+    record_bytes(&record, false, heard + to, (size_t)got);
     to += (size_t)got;
     return true;
 }
@@ -191,12 +204,19 @@ static const uint8_t *next_packet(unsigned *len, int wait) {
     return frame + 4;
 }
 
+/* Sends bytes; answers whether all of them went out. */
+static bool send_bytes(const uint8_t *bytes, size_t len) {
+    ssize_t gone = send(line, bytes, len, MSG_NOSIGNAL);
+    if (gone > 0) record_bytes(&record, true, bytes, (size_t)gone);
+    return gone == (ssize_t)len;
+}
+
 static void send_frame(const uint8_t *packet, unsigned len) {
     uint8_t frame[68];
     put(frame, 2, len);
     put(frame + 2, 2, sent++);
     memcpy(frame + 4, packet, len);
-    want(send(line, frame, 4u + len, MSG_NOSIGNAL) == (ssize_t)(4u + len), "sending");
+    want(send_bytes(frame, 4u + len), "sending");
 }
 
 /* Sends a command, and waits for its positive reply. Samples that come meanwhile are taken. */
@@ -215,6 +235,18 @@ static const uint8_t *ask(const uint8_t *packet, unsigned len) {
 }
 
 #define ASK(...) ask((const uint8_t[]){__VA_ARGS__}, sizeof((const uint8_t[]){__VA_ARGS__}))
+
+/* Connects, and makes sure that samples come in the form in which take_sample reads them; a capture
+ * has that then too. */
+static void ask_who_is_there(void) {
+    const uint8_t *reply = ASK(0xFF, 0); /* CONNECT */
+    want((reply[2] & 0x07) == 0, "another byte order or address granularity");
+    reply = ASK(0xDA);                   /* GET_DAQ_PROCESSOR_INFO */
+    want(reply[1] >> 6 == 1, "no overload indication in the PID");
+    want(reply[7] >> 6 == 0, "no absolute ODT numbers");
+    reply = ASK(0xD9);                   /* GET_DAQ_RESOLUTION_INFO */
+    want((reply[5] & 0xF7) == 0x34, "no timestamps of 4 bytes, in microseconds");
+}
 
 /* A list for each event channel, of one ODT: a timestamp, and what its event channel samples. */
 static void set_up(void) {
@@ -250,8 +282,8 @@ static void measure(unsigned long many, int pause, bool vanish, bool bad) {
         take_sample(packet, len);
         if (samples[0] < middle || paused) continue;
         paused = true;
-        if (vanish) exit(0);
-        if (bad) send(line, "\0\0\0\0", 4, MSG_NOSIGNAL);
+        if (vanish) leave(0);
+        if (bad) send_bytes((const uint8_t[4]){0}, 4);
         if (pause > 0) nanosleep(&(struct timespec){pause / 1000, pause % 1000 * 1000000L}, NULL);
     }
     ASK(0xDD, 0);    /* START_STOP_SYNCH: stop all */
@@ -275,7 +307,26 @@ struct options {
     unsigned long samples, times;
     int pause;
     bool vanish, bad;
+    const char *record;
 };
+
+static const char usage[] = "usage: xcp_master --tcp PORT | --udp PORT [--samples N] [--times N] "
+                            "[--pause MS] [--vanish] [--bad] [--wait MS] [--record FILE]\n";
+
+static const char help[] =
+    "\n"
+    "Measures all variables of xcp_server.a2l on this machine, prints a row of CSV for each sample,\n"
+    "and checks what comes.\n"
+    "\n"
+    "  --tcp PORT, --udp PORT  where the server listens\n"
+    "  --samples N             measures until so many samples of the task of 1 ms came; else 100\n"
+    "  --times N               measures so often; else once\n"
+    "  --pause MS              reads nothing for so long in the middle of each measurement\n"
+    "  --vanish                goes in the middle of one, and says nothing\n"
+    "  --bad                   sends a bad frame in the middle of each\n"
+    "  --wait MS               waits for a reply for so long; else 10000\n"
+    "  --record FILE           keeps what it sends and hears as a capture that Wireshark and\n"
+    "                          tcpdump read; if it can't all be written, the status is 1\n";
 
 static struct options read_options(int argc, char **argv) {
     struct options o = {.samples = 100, .times = 1};
@@ -287,6 +338,11 @@ static struct options read_options(int argc, char **argv) {
         else if (more && strcmp(argv[i], "--times") == 0) o.times = strtoul(argv[++i], NULL, 10);
         else if (more && strcmp(argv[i], "--pause") == 0) o.pause = atoi(argv[++i]);
         else if (more && strcmp(argv[i], "--wait") == 0) patience = atoi(argv[++i]);
+        else if (more && strcmp(argv[i], "--record") == 0) o.record = argv[++i];
+        else if (strcmp(argv[i], "--help") == 0) {
+            printf("%s%s", usage, help);
+            exit(0);
+        }
         else if (more && strcmp(argv[i], "--tcp") == 0) {
             o.kind = SOCK_STREAM;
             o.port = (unsigned)atoi(argv[++i]);
@@ -296,8 +352,7 @@ static struct options read_options(int argc, char **argv) {
         } else o.port = 0, i = argc;
     }
     if (o.port == 0) {
-        fprintf(stderr, "usage: xcp_master --tcp PORT | --udp PORT [--samples N] [--times N] "
-                        "[--pause MS] [--vanish] [--bad] [--wait MS]\n");
+        fprintf(stderr, "%s", usage);
         exit(2);
     }
     return o;
@@ -306,7 +361,8 @@ static struct options read_options(int argc, char **argv) {
 int main(int argc, char **argv) {
     struct options o = read_options(argc, argv);
     connect_to(o.kind, o.port);
-    ASK(0xFF, 0); /* CONNECT */
+    if (o.record != NULL) record_to(&record, o.record, line, by_stream);
+    ask_who_is_there();
     printf("seconds,event,overload");
     for (unsigned v = 0; v < VARIABLES; v++) printf(",%s", variables[v].name);
     printf("\n");
@@ -317,6 +373,7 @@ int main(int argc, char **argv) {
     ASK(0xFE); /* DISCONNECT */
     /* it counts each 10 ms */
     want(now.slow > begun.slow || now.stamp - begun.stamp < 200000, "slow_counter stands still");
+    bool whole = record_end(&record);
     fprintf(stderr, "samples %lu and %lu, overloads %lu\n", samples[0], samples[1], overloads);
-    return 0;
+    return whole ? 0 : 1;
 }
