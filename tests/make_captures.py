@@ -21,9 +21,11 @@ import sys
 class Form:
     """How a slave answers: its byte order, and what its GET_DAQ_* say."""
 
-    def __init__(self, order, key, overload, stamp, fixed=False, granularity=1, fill=0, many=False):
+    def __init__(self, order, key, overload, stamp, fixed=False, granularity=1, fill=0, many=False, first=0):
         self.order, self.key, self.overload, self.stamp, self.fixed = order, key, overload, stamp, fixed
-        self.granularity, self.fill, self.many = granularity, fill, many
+        self.granularity, self.fill = granularity, fill
+        self.many = many              # whether its master sends WRITE_DAQ_MULTIPLE
+        self.first = first            # so many lists are there without ALLOC_DAQ: MIN_DAQ
 
     def word(self, number):
         return struct.pack(self.order + "H", number)
@@ -47,6 +49,7 @@ FORMS = {
     "b": Form(">", 3, OVERLOAD_NONE, 2, fixed=True, granularity=2, fill=3, many=True),
     "c": Form("<", 2, OVERLOAD_EVENT, 0),
     "d": Form(">", 0, OVERLOAD_PID, 1),
+    "e": Form("<", 0, OVERLOAD_EVENT, 2, first=3),
 }
 LISTS = {
     "a": [List([[(0, 0x10000000, 4), (1, 0x20, 1)], [(0, 0x10000004, 7)], [(0, 0xFFFFFFFF, 1)]]),
@@ -59,12 +62,15 @@ LISTS = {
     "d": [List([[(0, 0x100, 4)], [(0, 0x104, 4), (0, 0x108, 1)]], first_pid=0x60),
           List([[(0, 0x200, 8)], [(0, 0x208, 3)], [(0, 0x20B, 2)]], stamped=False, first_pid=0x07, every=2),
           List([[(0, 0x300, 4)]], mode=STIM, first_pid=0x50, every=9)],
+    "e": [List([[(0, 0x1000, 4), (0, 0x1004, 2)], [(0, 0x1006, 3)]], first_pid=0xFA),
+          List([[(0, 0x1010, 1)], [(0, 0x1011, 1)], [(9, 0x1012, 2)]], stamped=False, first_pid=0x7F, every=2)],
 }
 AGAIN = {
     "a": [List([[(0, 0x10000100, 3)], [(0, 0x10000104, 4)]], stamped=False), List([[(2, 0x10000110, 5)]], every=2)],
     "b": [List([[(0, 0x6000, 4)]])],
     "c": [List([[(0, 0xD000 + 240 * i, 240) for i in range(5)]])],
     "d": [List([[(0, 0x400, 2)], [(0, 0x402, 2)]], first_pid=0x03), List([[(0, 0x500, 1)]], first_pid=0x01, every=3)],
+    "e": [List([[(0, 0x1020, 2)]], first_pid=0x80)],
 }
 
 
@@ -84,9 +90,11 @@ class Datagram:
         self.loose = loose            # the measurement of which it has samples, from 1: then it may be lost
         self.fate = "kept"
         self.connects = False         # whether a connection begins with it
+        self.stray = False            # whether its CTR is from long ago
+        self.tail = b""               # bytes behind its frames that are no frame
 
     def bytes(self):
-        return b"".join(it.bytes() for it in self.frames)
+        return b"".join(it.bytes() for it in self.frames) + self.tail
 
 
 class Session:
@@ -112,18 +120,44 @@ class Session:
         self.send(True, command)
         self.send(False, reply)
 
+    def lose(self, many):
+        """So many frames of the slave are lost, which none of its lists has."""
+        self.send(False, b"\xfd\x03")
+        self.datagrams[-1].fate, self.datagrams[-1].frames[0].kept = "lost", False
+        self.slave_counter = (self.slave_counter + many - 1) & 0xFFFF
+
+    def stray(self):
+        """A frame that differs from the last one by 32768, which is from below."""
+        self.send(False, b"\xfd\x04")
+        frame = self.datagrams[-1].frames[0]
+        self.slave_counter, frame.counter = frame.counter, (frame.counter - 1 + 0x8000) & 0xFFFF
+        self.datagrams[-1].stray = True
+
+    def frames(self):
+        """The slave's, in order."""
+        return [frame for it in self.datagrams if not it.from_master and not it.stray for frame in it.frames]
+
     # the set-up
 
-    def connect(self, counts_anew=False):
+    def connect(self, counts_anew=False, trouble=False):
         form = self.form
         if counts_anew:
             self.slave_counter = 0
+        if trouble:
+            self.ask(b"\xff\x01", b"\xfe\x22")
+            self.send(True, b"\xff\x00")
         mode = 0x80 | (form.order == ">") | {1: 0, 2: 2, 4: 4}[form.granularity]
         self.ask(b"\xff\x00", bytes([0xFF, 0x04, mode, 0xFF]) + form.word(1500) + b"\x01\x01")
         self.ask(b"\xfd", b"\xff\0\0\0" + form.word(0))
-        properties = 0x13 | form.overload << 6
-        self.ask(b"\xda", bytes([0xFF, properties]) + form.word(0) + form.word(2) + bytes([0, form.key << 6 | 0x01]))
-        self.ask(b"\xd9", bytes([0xFF, 1, 0xFF, 1, 0, form.stamp | form.fixed << 3 | 3 << 4]) + form.word(1))
+        for command in (0xDA, 0xD9):
+            self.ask(bytes([command]), self.reply_to(command))
+
+    def reply_to(self, command):
+        """What the slave says to GET_DAQ_PROCESSOR_INFO, and to GET_DAQ_RESOLUTION_INFO."""
+        form = self.form
+        if command == 0xDA:
+            return bytes([0xFF, 0x13 | form.overload << 6]) + form.word(0) + form.word(2) + bytes([form.first, form.key << 6 | 0x01])
+        return bytes([0xFF, 1, 0xFF, 1, 0, form.stamp | form.fixed << 3 | 3 << 4]) + form.word(1)
 
     def entry(self, extension, address, size):
         size //= self.form.granularity
@@ -137,22 +171,25 @@ class Session:
     def mode_of(self, it):
         return it.mode | (STAMPED if it.stamped and self.form.stamp and not self.form.fixed else 0)
 
-    def set_up(self, lists, trouble=False):
+    def set_up(self, lists, trouble=False, lost=False):
         """With trouble, commands are refused and sent again, or sent again since no reply came, and others come between."""
         word = self.form.word
+        lists = list(enumerate(lists, self.form.first))
         self.ask(b"\xd6")
         if trouble:
             self.ask(b"\xd5\0" + word(9), b"\xfe\x30")
             self.send(True, b"\xd5\0" + word(len(lists)))
         self.ask(b"\xd5\0" + word(len(lists)))
-        for number, it in enumerate(lists):
+        if lost:
+            self.lose(3)              # before a list is set up
+        for number, it in lists:
             self.ask(b"\xd4\0" + word(number) + bytes([len(it.odts)]))
-        for number, it in enumerate(lists):
+        for number, it in lists:
             for k, odt in enumerate(it.odts):
                 self.ask(b"\xd3\0" + word(number) + bytes([k, len(odt)]))
         if trouble:
-            self.write_wrongly(lists)
-        for number, it in enumerate(lists):
+            self.write_wrongly()
+        for number, it in lists:
             for k, odt in enumerate(it.odts):
                 self.write(number, k, odt, trouble)
             if trouble:
@@ -160,20 +197,21 @@ class Session:
             self.ask(bytes([0xE0, self.mode_of(it)]) + word(number) + word(0) + b"\x01\0")
             if trouble:
                 self.ask(b"\xde\x02" + word(number), b"\xfe\x29")
-                self.send(True, b"\x00\x01\x02")                # STIM
             self.send(True, b"\xde\x02" + word(number))
             if trouble:
+                self.send(True, b"\x00\x01\x02")                 # STIM
                 self.send(False, b"\xfd\x00\xff", b"\xfc\x01text")  # EV and SERV
             self.send(False, bytes([0xFF, it.first_pid]))
         self.ask(b"\xdd\x01")
-        return sum(len(it.frames) for it in self.datagrams if not it.from_master)
+        return len(self.frames())
 
-    def write_wrongly(self, lists):
-        """Entries of the first list that are cleared again."""
-        self.ask(b"\xe2\0" + self.form.word(0) + b"\0\0")
+    def write_wrongly(self):
+        """An entry and a mode of the first list that are cleared again."""
+        first = self.form.word(self.form.first)
+        self.ask(b"\xe2\0" + first + b"\0\0")
         self.ask(self.entry(3, 0x77, 2 * self.form.granularity))
-        self.ask(b"\xe0\x10" + self.form.word(0) + self.form.word(1) + b"\x01\0")
-        self.ask(b"\xe3\0" + self.form.word(0))
+        self.ask(b"\xe0\x10" + first + self.form.word(1) + b"\x01\0")
+        self.ask(b"\xe3\0" + first)
 
     def write(self, number, k, odt, trouble):
         pointer = b"\xe2\0" + self.form.word(number) + bytes([k, 0])
@@ -181,6 +219,11 @@ class Session:
             self.ask(b"\xe2\0" + self.form.word(number) + bytes([k, len(odt)]), b"\xfe\x22")
             self.send(True, pointer)         # no reply comes to it
             self.ask(b"\xfc", b"\xfe\x00")   # SYNCH
+        if len(odt) > 1 and not trouble:
+            # its last entry first
+            self.ask(pointer[:-1] + bytes([len(odt) - 1]))
+            self.ask(self.entry(*odt[-1]))
+            odt = odt[:-1]
         self.ask(pointer)
         if self.form.many and len(odt) > 1:
             self.ask(self.entries(odt))
@@ -208,24 +251,39 @@ class Session:
             for extension, address, size in odt:
                 value = data.getrandbits(8 * size).to_bytes(size, "big")
                 if it.mode & PID_OFF:
-                    value = b"\x40" + value[1:]      # without an identification field, this isn't to look like a reply
+                    value = bytes([it.first_pid]) + value[1:]   # this looks like an identification field, and is none
+                elif size >= 200 and data.random() < 0.5:
+                    value = self.mock_frames() + value[len(self.mock_frames()):]
                 values.append((extension, address, value))
                 packet += value
-            packets.append(packet + b"\xcc" * form.fill)
+            packets.append(packet + b"\xcc" * (3 if it.mode & PID_OFF else form.fill))
         sample = {"list": number, "overload": overload, "ticks": ticks, "values": values, "frames": [],
                   "shown": not it.mode & (STIM | DTO_CTR | PID_OFF)}
         return sample, packets
 
-    def measure(self, lists, turns, since, unknown=False):
+    def mock_frames(self):
+        """Three frames that follow each other, then one whose CTR is too high, and three more; and four without a CTR that rises."""
+        counters = [7, 8, 9, 11, 12, 13] + [20, 20, 20, 20]
+        return b"".join(struct.pack("<HHB", 1, it, 0xFF) for it in counters) + b"\0\0"
+
+    def measure(self, lists, turns, since, unknown=False, lost=False):
         """Samples of lists that were set up with this frame of the slave; or long before the capture, where they are unknown."""
         self.measurements += 1
         for turn in range(turns):
             self.ticks = (self.ticks + 7) & 0xFFFFFFFF
-            due = [self.packets_of(number, it) for number, it in enumerate(lists)
+            due = [self.packets_of(number, it) for number, it in enumerate(lists, self.form.first)
                    if turn % it.every == 0 and not it.mode & STIM]
-            for sample, _ in due:
+            for sample, packets in due:
                 sample["since"] = since
                 sample["shown"] &= not unknown
+                if lost and len(packets) > 1 and self.random.random() < 0.08:
+                    # the slave itself has no room for a packet, which never gets a CTR
+                    packets.pop(self.random.randrange(len(packets)))
+                    sample["shown"] = False
+            if lost and turn % 16 == 9:
+                self.lose(0x7FFE)
+            if lost and turn % 16 == 12:
+                self.stray()
             # packets of several lists between each other
             waiting = [(sample, list(packets)) for sample, packets in due]
             mixed = []
@@ -240,8 +298,12 @@ class Session:
                     sample["frames"].append(frame)
                 mixed = mixed[many:]
             self.samples += [sample for sample, _ in due]
-            if turn % 5 == 2:
-                self.ask(b"\xfd", b"\xff\x40\0\0" + self.form.word(0))
+            # commands, with samples before their replies
+            if turn % 4 == 1:
+                asked = 0xDA if turn % 8 == 1 else 0xD9
+                self.send(True, bytes([asked]))
+            if turn % 4 == 3:
+                self.send(False, self.reply_to(asked))
             if self.form.overload == OVERLOAD_EVENT and turn % 7 == 3:
                 self.send(False, b"\xfd\x02")
 
@@ -251,11 +313,17 @@ class Session:
     # what comes of it
 
     def spoil(self):
-        """Datagrams of samples that are lost, copied, or late."""
-        loose = [it for it in self.datagrams if it.loose]
+        """Datagrams of samples that are lost, copied, or late; and some with bytes behind their frames."""
+        sent = [it for it in self.datagrams if not it.from_master and not it.stray]
+        # around frames that are lost already all stay, since none may come later than those
+        lost = {at + i for at, it in enumerate(sent) if it.fate == "lost" for i in range(-5, 2)}
+        loose = [it for it in sent if it.loose]
+        firm = {id(it) for at, it in enumerate(sent) if at in lost}
         places = iter(range(3, len(loose) - 3))
         for at in places:
             draw = self.random.random()
+            if id(loose[at]) in firm:
+                continue
             if draw < 0.06:
                 loose[at].fate = "lost"
             elif draw < 0.12:
@@ -268,11 +336,16 @@ class Session:
             if loose[at].fate in ("lost", "late"):
                 for frame in loose[at].frames:
                     frame.kept = False
+            if draw > 0.8:
+                loose[at].tail = self.random.choice((b"\0\0\0\0", b"\0\0", b"\x09\0\x01\0\x55\x55", b"\0\0\x77\x77\xff"))
 
     def arrivals(self):
         """The datagrams as they come to the capture."""
         coming, held = [], []
         for it in self.datagrams:
+            if it.fate == "lost" and not it.loose:
+                coming += [late for _, late in held]
+                held = []
             if it.fate not in ("lost", "late"):
                 coming.append(it)
             if it.fate == "copied":
@@ -288,12 +361,13 @@ class Session:
 
     def shown(self):
         """The samples that are shown, each with its mark, in the order in which they are whole."""
-        frames = [frame for it in self.datagrams if not it.from_master for frame in it.frames]
+        frames = self.frames()
         place = {id(frame): at for at, frame in enumerate(frames)}
         last, shown = {}, []
-        for sample in sorted(self.samples, key=lambda it: place[id(it["frames"][-1])]):
+        whole = [it for it in self.samples if it["shown"]]
+        for sample in sorted(whole, key=lambda it: place[id(it["frames"][-1])]):
             first, end = place[id(sample["frames"][0])], place[id(sample["frames"][-1])]
-            if not sample["shown"] or not all(frame.kept for frame in frames[first:end + 1]):
+            if not all(frame.kept for frame in frames[first:end + 1]):
                 continue
             key = sample["list"], sample["since"]
             gap = not all(frame.kept for frame in frames[last.get(key, sample["since"]):first])
@@ -304,8 +378,8 @@ class Session:
 
     def gaps(self):
         """How often frames are missing, or come late, between others."""
-        kept = [frame.kept for it in self.datagrams if not it.from_master for frame in it.frames]
-        return sum(before and not here for before, here in zip(kept, kept[1:]))
+        kept = [frame.kept for frame in self.frames()]
+        return sum(here and not before for before, here in zip(kept, kept[1:]))
 
 
 def line_of(sample, mark):
@@ -329,10 +403,10 @@ def checksum(data):
 
 
 class Net:
-    """The addresses of a master and a slave, in IPv4 or IPv6."""
+    """The addresses of a master and a slave, in IPv4 or IPv6; perhaps with options in their headers, and bytes behind datagrams."""
 
-    def __init__(self, six=False, master=10, slave=20, port=5555, master_port=49152, room=None):
-        self.six, self.port, self.master_port, self.room = six, port, master_port, room
+    def __init__(self, six=False, master=10, slave=20, port=5555, master_port=49152, room=None, more=False):
+        self.six, self.port, self.master_port, self.room, self.more = six, port, master_port, room, more
         self.hosts = [bytes([0xFD] + [0] * 14 + [it]) if six else bytes([192, 168, 7, it]) for it in (slave, master)]
         self.count = itertools.count(0xFFF0)
 
@@ -343,14 +417,25 @@ class Net:
         """The packet; or its fragments, where there is no room for it in one."""
         ends = self.hosts[from_master] + self.hosts[not from_master]
         number, packets, at = next(self.count) & 0xFFFF, [], 0
+        hops, options = b"", b""
+        if self.more and self.six:
+            # options for the destination; a route; and for each hop, which stand before the fragment's header
+            payload = bytes([43, 1, 1, 12]) + bytes(12) + bytes([protocol, 0, 4, 0]) + bytes(4) + payload
+            protocol, hops = 60, bytes([60, 0, 1, 4, 0, 0, 0, 0])
+        elif self.more:
+            options = b"\x01\x01\x01\x00"
         while at == 0 or at < len(payload):
             part = payload[at:at + self.room] if self.room else payload
             more, whole = at + len(part) < len(payload), len(part) == len(payload)
             if self.six:
                 front = b"" if whole else struct.pack(">BBHI", protocol, 0, at | more, number)
-                head = struct.pack(">IHBB", 6 << 28, len(front + part), protocol if whole else 44, 64) + ends + front
+                following = protocol if whole else 44
+                front = (bytes([following]) + hops[1:] if hops else b"") + front
+                head = struct.pack(">IHBB", 6 << 28, len(front + part), 0 if hops else following, 64) + ends + front
             else:
-                head = struct.pack(">BBHHHBBH", 0x45, 0, 20 + len(part), number, more << 13 | at // 8, 64, protocol, 0) + ends
+                size = 20 + len(options)
+                head = struct.pack(">BBHHHBBH", 0x40 | size // 4, 0, size + len(part), number, more << 13 | at // 8, 64, protocol, 0)
+                head += ends + options
                 head = head[:10] + struct.pack(">H", checksum(head)) + head[12:]
             packets.append(head + part)
             at += max(len(part), 1)
@@ -363,10 +448,12 @@ class Net:
 
     def udp(self, from_master, payload):
         data = self.ports(from_master) + struct.pack(">HH", 8 + len(payload), 0) + payload
-        return self.ip(from_master, 17, self.summed(17, data, 6))
+        return self.ip(from_master, 17, self.summed(17, data, 6) + b"\x02\0\x03\0\xff\xff" * self.more)
 
     def tcp(self, from_master, number, acknowledged, flags, payload=b""):
-        head = struct.pack(">IIBBHHH", number & 0xFFFFFFFF, acknowledged & 0xFFFFFFFF, 0x80, flags, 0xFFFF, 0, 0) + b"\x01" * 12
+        options = b"\x01" * (12 if flags & SYN or self.more else 0)
+        words = 5 + len(options) // 4
+        head = struct.pack(">IIBBHHH", number & 0xFFFFFFFF, acknowledged & 0xFFFFFFFF, words << 4, flags, 0xFFFF, 0, 0) + options
         return self.ip(from_master, 6, self.summed(6, self.ports(from_master) + head + payload, 16))[0]
 
 
@@ -382,9 +469,10 @@ def by_udp(session, net, spoilt=False):
         packets += parts
     if spoilt and net.room:
         for it in session.datagrams:
-            if it.fate == "lost":
+            parts = net.udp(False, it.bytes()) if it.fate == "lost" else []
+            if len(parts) > 1:
                 # one fragment of it is there, and the others aren't
-                packets.insert(session.random.randrange(len(packets)), Packet(net.udp(False, it.bytes())[0]))
+                packets.insert(session.random.randrange(len(packets)), Packet(parts[0]))
     return packets
 
 
@@ -415,8 +503,8 @@ class Wire:
             self.next[from_master] += len(payload) + bool(flags & (SYN | FIN))
             self.sent += 0 if from_master else len(payload)
 
-    def send(self, datagrams, copies):
-        """What one end sends in one go."""
+    def send(self, datagrams, copies, whole):
+        """What one end sends in one go: in one segment, or in some."""
         from_master, data = datagrams[0].from_master, b""
         for frame in (frame for it in datagrams for frame in it.frames):
             data += frame.bytes()
@@ -424,14 +512,24 @@ class Wire:
                 self.ends.append((self.sent + len(data), frame))
         at = 0
         while at < len(data):
-            many = self.random.randint(1, 1300 if len(data) > 1400 else 90)
+            many = len(data) if whole else self.random.randint(1, 1300 if len(data) > 1400 else 90)
             self.put(from_master, ACK | 8, data[at:at + many])
-            at += many
+            at = min(at + many, len(data))
             if copies and not from_master and self.random.random() < 0.3:
                 back = self.random.randint(1, min(at, 100))
                 self.put(False, ACK | 8, data[at - back:at], back)
             if not from_master and self.random.random() < 0.2:
                 self.put(True, ACK)
+
+    def copy_begin(self):
+        """What a connection begins with comes once more, behind what follows it."""
+        self.packets[12:12] = self.packets[:2]
+
+    def begin_inside(self):
+        """The capture begins with a segment of the slave that begins inside of a frame."""
+        ends = [0] + [end for end, _ in self.ends]
+        first = next(at for at, it in enumerate(self.packets) if at >= 16 and not it[0] and it[2] > it[1] and it[1] not in ends)
+        del self.packets[:first]
 
     def swap(self):
         """Segments of the slave that come in another order."""
@@ -444,32 +542,54 @@ class Wire:
         """The capture misses segments of the slave between these bytes of its stream, each alone."""
         inside = [it for it in self.packets if not it[0] and low < it[1] < it[2] < high]
         for i in range(many):
-            _, start, end, packet = lost = inside[len(inside) * (2 * i + 1) // (2 * many)]
+            lost = inside[len(inside) * (2 * i + 1) // (2 * many)]
             self.packets.remove(lost)
-            begins = [0] + [it for it, _ in self.ends]
-            for begin, (finish, frame) in zip(begins, self.ends):
-                if begin < end and finish > start:
-                    frame.kept = False
+            for frame in self.frames_in(lost):
+                frame.kept = False
+
+    def frames_in(self, segment):
+        """The frames of which a segment has a byte."""
+        begins = [0] + [it for it, _ in self.ends]
+        return [frame for begin, (finish, frame) in zip(begins, self.ends) if begin < segment[2] and finish > segment[1]]
+
+    def end_behind_hole(self, many):
+        """The capture misses the frame before the last ones, each of which is a segment, and has nothing of the master behind it: too few
+        of them aren't read."""
+        frames = [frame for _, frame in self.ends]
+        lost = [it for it in self.packets if not it[0] and it[2] > it[1]][-1 - many]
+        at = self.packets.index(lost)
+        self.packets = self.packets[:at] + [it for it in self.packets[at + 1:] if not it[0]]
+        for frame in frames[-1 - many:-many] if many >= 4 else frames[-1 - many:]:
+            frame.kept = False
 
 
-def by_tcp(session, net, copies=False, holes=0):
-    """A connection, or more: one begins with each datagram that says so."""
+def by_tcp(session, net, copies=False, holes=0, inside=False, last=0):
+    """A connection, or more: one begins with each datagram that says so. The capture may begin inside of it, or end so many frames behind a
+    hole."""
     packets, isn = [], 0xFFFFFE00
     for _, run in itertools.groupby(session.datagrams, key=lambda it, n=itertools.count(), now=[0]: connection_of(it, now)):
         wire, loose = Wire(net, session.random, isn), []
         for _, part in itertools.groupby(run, key=lambda it: it.from_master):
             part = list(part)
             start = wire.sent
-            wire.send(part, copies)
+            alone = [[Datagram(it.from_master, [frame])] for it in part for frame in it.frames]
+            for each in alone if last else [part]:
+                wire.send(each, copies, bool(last))
             if any(it.loose == 1 for it in part):
                 loose += [start, wire.sent]
         if copies:
             wire.swap()
+            wire.copy_begin()
         if holes:
             wire.lose(loose[0] + 100, loose[-1], holes)
-        wire.put(True, FIN | ACK)
-        wire.put(False, FIN | ACK)
-        wire.put(True, ACK)
+        if inside:
+            wire.begin_inside()
+        if last:
+            wire.end_behind_hole(last)
+        else:
+            wire.put(True, FIN | ACK)
+            wire.put(False, FIN | ACK)
+            wire.put(True, ACK)
         packets += [it[3] for it in wire.packets]
         isn += 0x12345678
     return packets
@@ -483,9 +603,11 @@ def connection_of(datagram, now):
 # ---- frames of links, and files
 
 ETHERNET, NULL, LOOP, SLL, SLL2 = 1, 0, 108, 113, 276
+CHECKED = ETHERNET | 0x44000000   # with the four bytes of a checksum behind each frame
 # the link type, and what stands before the packet: kind is the type of Ethernet, six whether the packet is of IPv6
 LINKS = {
     "ethernet": (ETHERNET, lambda kind, six: b"\x02\0\0\0\0\x01\x02\0\0\0\0\x02" + kind),
+    "checked": (CHECKED, lambda kind, six: b"\x02\0\0\0\0\x01\x02\0\0\0\0\x02" + kind),
     "vlan": (ETHERNET, lambda kind, six: b"\x02\0\0\0\0\x01\x02\0\0\0\0\x02\x81\0\x20\x07" + kind),
     "two_vlans": (ETHERNET, lambda kind, six: b"\x02\0\0\0\0\x01\x02\0\0\0\0\x02\x88\xa8\0\x05\x81\0\x20\x07" + kind),
     "cooked": (SLL, lambda kind, six: b"\0\x04\0\x01\0\x06\x02\0\0\0\0\x01\0\0" + kind),
@@ -505,7 +627,9 @@ def framed(link, data):
     six = data[0] >> 4 == 6
     kind, front = LINKS[link]
     data = front(b"\x86\xdd" if six else b"\x08\x00", six) + data
-    return kind, data.ljust(60, b"\x55") if kind == ETHERNET else data   # an Ethernet card fills up
+    if kind & 0xFFFF == ETHERNET:
+        data = data.ljust(60, b"\x55")          # a card fills up
+    return kind, data + b"\x02\0\0\0" if kind == CHECKED else data
 
 
 BEGIN, STEP = 1800000000 * 10**9, 250000000   # nanoseconds; a power of 2 of them is a quarter of a second
@@ -617,10 +741,13 @@ def session_of(name, kind, turns=16):
         session.connect()
         session.measure(AGAIN[name], 15, session.set_up(AGAIN[name]))
         return session
-    session.connect()
-    session.measure(LISTS[name], turns, session.set_up(LISTS[name], trouble=kind == "refused"))
+    session.connect(trouble=kind == "refused")
+    since = session.set_up(LISTS[name], trouble=kind == "refused", lost=kind == "lost")
+    session.measure(LISTS[name], turns, since, lost=kind == "lost")
     if kind == "lost":
         session.spoil()
+    if kind == "on":
+        return session
     session.stop()
     if kind == "twice":
         begins = len(session.datagrams)
@@ -661,22 +788,25 @@ def main():
     files = itertools.cycle([("<", False, "ethernet"), (">", False, "vlan"), ("<", True, "cooked"), (">", True, "cooked_2"),
                              ("<", True, "raw"), (">", False, "null_msb"), ("<", False, "two_vlans")])
     # each form by UDP, in IPv4 and IPv6 by turns; the long packets of c in fragments of both
-    for name, kind in itertools.product("abcd", ("plain", "lost", "refused", "twice", "middle")):
+    for name, kind in itertools.product("abcde", ("plain", "lost", "refused", "twice", "middle")):
         for six in (False, True) if name == "c" else ((name in "bd") ^ (kind in ("lost", "twice")),):
-            session, net = session_of(name, kind, 80 if kind == "lost" else 16), Net(six, room=576 if name == "c" else None)
+            session = session_of(name, kind, 80 if kind == "lost" else 16)
+            net = Net(six, room=576 if name == "c" else None, more=kind in ("lost", "twice"))
             packets = by_udp(session, net, spoilt=kind == "lost")
             folder.put(f"{name}_udp{'6' if six else '4'}_{kind}", "pcap", pcap(packets, *next(files)), [session])
-    # and by TCP
-    for name, kind in itertools.product("abcd", ("plain", "copies", "hole", "hole_twice", "twice", "middle")):
+    # and by TCP: a connection is one session, but for hole_twice, where a slave counts anew in one
+    for name, kind in itertools.product("abcde", ("plain", "copies", "hole", "hole_twice", "twice", "middle")):
         holes = 4 if kind.startswith("hole") else 0
         session = session_of(name, {"copies": "refused", "hole": "plain", "hole_twice": "twice"}.get(kind, kind), 60 if holes else 16)
         if kind == "hole_twice":
             for it in session.datagrams:
                 it.connects = False
-        packets = by_tcp(session, Net(name in "bc"), copies=kind == "copies", holes=holes)
-        if kind == "middle":
-            packets = packets[17:]
+        packets = by_tcp(session, Net(name in "bc", more=kind == "twice"), copies=kind == "copies", holes=holes,
+                         inside=kind == "middle")
         folder.put(f"{name}_tcp_{kind}", "pcap", pcap(packets, *next(files)), [session])
+    for many in (3, 4, 5):
+        session = session_of("d", "on")
+        folder.put(f"end_behind_{many}", "pcap", pcap(by_tcp(session, Net(), last=many), *next(files)), [session])
     # each link in each kind of file
     for link in LINKS:
         session = session_of("a", "plain")
@@ -695,6 +825,9 @@ def main():
     for order in "<>":
         session = session_of("a", "lost", 40)
         folder.put(f"simple_{'lsb' if order == '<' else 'msb'}", "pcapng", simple_pcapng(by_udp(session, Net()), order), [session])
+    for six in (False, True):
+        session = session_of("e", "plain")
+        folder.put(f"checked_tcp{'6' if six else '4'}", "pcap", pcap(by_tcp(session, Net(six)), "<", False, "checked"), [session])
     # two masters of two slaves, between each other
     sessions = [session_of("a", "refused"), session_of("b", "twice")]
     pair = [by_udp(sessions[0], Net()), by_udp(sessions[1], Net(master=11, slave=21))]

@@ -19,7 +19,6 @@ import sys
 
 # ---- captures: each packet as (time in nanoseconds or None, link type, bytes)
 
-
 # what a file of libpcap begins with: the order of its bytes, and the parts of a second
 MARKS = {b"\xd4\xc3\xb2\xa1": ("<", 10**6), b"\xa1\xb2\xc3\xd4": (">", 10**6),
          b"\x4d\x3c\xb2\xa1": ("<", 10**9), b"\xa1\xb2\x3c\x4d": (">", 10**9)}
@@ -431,7 +430,7 @@ class Session:
             if self.stamp_bytes and (self.stamp_fixed or it.mode & TIMESTAMP):
                 ticks = self.number(packet, at, self.stamp_bytes)
                 at += self.stamp_bytes
-            it.part, it.passes = [time, ticks, bool(self.overload and packet[0] & 0x80), 0, []], False
+            it.part, it.passes = [time, ticks, False, 0, []], False
         elif it.part is None or it.part[3] != odt:
             if not it.passes:
                 self.leave_out(number, it)
@@ -439,6 +438,7 @@ class Session:
         for extension, address, size in it.odts[odt]:
             it.part[4].append((extension, address, packet[at:at + size]))
             at += size
+        it.part[2] |= bool(self.overload and packet[0] & 0x80)
         it.part[3] += 1
         if at > len(packet):
             self.leave_out(number, it)
@@ -508,10 +508,11 @@ class Reader:
             number += 1
         elif key not in self.streams:
             self.streams[key] = Stream()
-        if payload:
-            yield from self.frames(key, self.streams[key].segment(time, number & 0xFFFFFFFF, payload))
+        # what it acknowledges was there before it was sent
         if flags & 0x10 and other in self.streams and self.streams[other].next is not None:
             yield from self.frames(other, self.streams[other].acknowledged(four(data, 8)))
+        if payload:
+            yield from self.frames(key, self.streams[key].segment(time, number & 0xFFFFFFFF, payload))
 
     def begin(self, key, other, number, is_answer):
         """A connection begins: what was there of an earlier one ends."""
