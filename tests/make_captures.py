@@ -563,11 +563,20 @@ class Wire:
             frame.kept = False
 
 
+def connections_of(session):
+    """The datagrams of each connection."""
+    runs = [[]]
+    for it in session.datagrams:
+        runs += [[]] if it.connects else []
+        runs[-1].append(it)
+    return runs
+
+
 def by_tcp(session, net, copies=False, holes=0, inside=False, last=0):
     """A connection, or more: one begins with each datagram that says so. The capture may begin inside of it, or end so many frames behind a
     hole."""
     packets, isn = [], 0xFFFFFE00
-    for _, run in itertools.groupby(session.datagrams, key=lambda it, n=itertools.count(), now=[0]: connection_of(it, now)):
+    for run in connections_of(session):
         wire, loose = Wire(net, session.random, isn), []
         for _, part in itertools.groupby(run, key=lambda it: it.from_master):
             part = list(part)
@@ -593,11 +602,6 @@ def by_tcp(session, net, copies=False, holes=0, inside=False, last=0):
         packets += [it[3] for it in wire.packets]
         isn += 0x12345678
     return packets
-
-
-def connection_of(datagram, now):
-    now[0] += datagram.connects
-    return now[0]
 
 
 # ---- frames of links, and files
@@ -686,7 +690,7 @@ def enhanced(order, which, time, ticks, offset, data):
     return block(order, 6, body + option(order, 1, b"a comment") + option(order, 0, b""))
 
 
-def pcapng(packets, _chance):
+def pcapng(packets):
     """Two sections, in both orders, with interfaces of several links and times."""
     times, half, out = Times(), len(packets) // 2, b""
     for order, part, links in (("<", packets[:half], [("ethernet", None, 10**6, 0), ("raw", 9, 10**9, 0), ("cooked_2", 0x85, 2**5, 0)]),
@@ -821,7 +825,7 @@ def main():
         folder.put(name, "pcap", data, [session], "--port 6000")
     for kind in ("plain", "twice"):
         session = session_of("b", kind)
-        folder.put(f"sections_{kind}", "pcapng", pcapng(other_traffic(by_udp(session, Net())), None), [session])
+        folder.put(f"sections_{kind}", "pcapng", pcapng(other_traffic(by_udp(session, Net()))), [session])
     for order in "<>":
         session = session_of("a", "lost", 40)
         folder.put(f"simple_{'lsb' if order == '<' else 'msb'}", "pcapng", simple_pcapng(by_udp(session, Net()), order), [session])

@@ -80,10 +80,17 @@ def pcapng_packets(data):
 
 
 def packets_of(data):
-    """Nothing where this is no capture."""
+    """Up to where the file breaks off, or has what can't be; nothing where it is no capture."""
     if data[:4] == b"\n\r\r\n" and data[8:12] in (b"\x4d\x3c\x2b\x1a", b"\x1a\x2b\x3c\x4d"):
-        return pcapng_packets(data)
+        return undamaged(pcapng_packets(data))
     return pcap_packets(data) if data[:4] in MARKS and len(data) >= 24 else None
+
+
+def undamaged(packets):
+    try:
+        yield from packets
+    except (struct.error, IndexError):
+        return
 
 
 # ---- what packets carry: network numbers have the most significant byte first
