@@ -420,7 +420,7 @@ class Net:
         hops, options = b"", b""
         if self.more and self.six:
             # options for the destination; a route; and for each hop, which stand before the fragment's header
-            payload = bytes([43, 1, 1, 12]) + bytes(12) + bytes([protocol, 0, 4, 0]) + bytes(4) + payload
+            payload = bytes([43, 1, 1, 12]) + bytes(12) + bytes([protocol, 0, 253, 0]) + bytes(4) + payload
             protocol, hops = 60, bytes([60, 0, 1, 4, 0, 0, 0, 0])
         elif self.more:
             options = b"\x01\x01\x01\x00"
@@ -607,7 +607,7 @@ def by_tcp(session, net, copies=False, holes=0, inside=False, last=0):
 # ---- frames of links, and files
 
 ETHERNET, NULL, LOOP, SLL, SLL2 = 1, 0, 108, 113, 276
-CHECKED = ETHERNET | 0x44000000   # with the four bytes of a checksum behind each frame
+CHECKED = ETHERNET | 0x24000000   # with a checksum of two words behind each frame
 # the link type, and what stands before the packet: kind is the type of Ethernet, six whether the packet is of IPv6
 LINKS = {
     "ethernet": (ETHERNET, lambda kind, six: b"\x02\0\0\0\0\x01\x02\0\0\0\0\x02" + kind),
