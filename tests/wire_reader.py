@@ -206,8 +206,9 @@ def has_four_frames(data, at):
 
 
 class Stream:
-    """One direction of a connection by TCP. Segments are read once, in order; one that comes too soon waits. Behind a hole, and where the
-    capture begins in the connection, it goes on at the first byte from which four frames follow."""
+    """One direction of a connection by TCP. Segments are read once, in order; one that comes too soon waits. What is missing is a hole once
+    the other end acknowledged it, or all ends. Behind a hole, and where the capture begins in the connection, it goes on at the first byte
+    from which four frames follow."""
 
     def __init__(self, first=None):
         self.begun = first           # the number of its SYN, if that was captured
@@ -300,6 +301,9 @@ class List:
 
 
 class Session:
+    """One master and one slave. A command is out until a reply, another command or SYNCH comes. CTR of the slave counts all its frames: behind
+    a jump each list that is set up has its next sample marked; a frame from below is passed over. The reply to CONNECT counts anew."""
+
     def __init__(self, counts):
         self.counts = counts
         self.last = self.command = self.pointer = None
@@ -371,7 +375,7 @@ class Session:
     # what the slave sends
 
     def is_set_up(self, it):
-        """Whether all is known of a list that its packets need to be read."""
+        """Whether all is known of a list that its packets need to be read: the slave's form, each entry, the mode, FIRST_PID."""
         return (self.id is not None and it.mode is not None and not it.mode & UNREAD_MODES
                 and bool(it.odts) and all(odt and None not in odt for odt in it.odts)
                 and not (it.mode & TIMESTAMP and self.stamp_bytes is None) and (self.id != 0 or it.first_pid is not None))
