@@ -301,8 +301,8 @@ class List:
 
 
 class Session:
-    """One master and one slave. A command is out until a reply, another command or SYNCH comes. CTR of the slave counts all its frames: behind
-    a jump each list that is set up has its next sample marked; a frame from below is passed over. The reply to CONNECT counts anew."""
+    """One master and one slave. A command is out until a reply, another command or SYNCH comes. CTR of the slave counts all its frames:
+    behind a jump each list that is set up has its next sample marked; a frame from below is passed over. CONNECT's reply counts anew."""
 
     def __init__(self, counts):
         self.counts = counts
