@@ -1,0 +1,33 @@
+//! The session of a master and a slave, learnt from the packets that were captured of it.
+#![tactic(auto)]
+
+mod captured_session;
+mod command;
+mod element;
+mod fact;
+mod facts;
+mod form;
+mod id_field;
+mod limits;
+mod list_mode;
+mod outcome;
+mod outcomes;
+mod pointer;
+mod pointers;
+mod session_fault;
+mod set_up;
+mod side;
+mod told_forms;
+
+pub use captured_session::CapturedSession;
+pub use command::{Command, command_in};
+pub use element::Element;
+pub use fact::Fact;
+pub use form::Form;
+pub use id_field::IdField;
+pub use list_mode::ListMode;
+pub use outcome::Outcome;
+pub use pointer::Pointer;
+pub use session_fault::SessionFault;
+pub use set_up::SetUp;
+pub use side::Side;
