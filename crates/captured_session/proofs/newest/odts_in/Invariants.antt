@@ -1,0 +1,7 @@
+use Rattle.std.specs.Prelude.{◌≡◌, take}
+use Rattle.captured_session.specs.Lists.{odts_said, newest}
+use Rattle.captured_session.proofs.newest.odts_in.Given as goal
+
+-- what the facts before say
+abbrev pub invariant-loop-fact : goal.invariant-loop-fact
+invariant-loop-fact l = l.said ≡ newest (odts_said l.list) (take l.fact-index l.facts)

@@ -1,0 +1,14 @@
+//! What is known of an entry of an ODT.
+
+use crate::element::Element;
+
+/// What is known of an entry of an ODT.
+#[derive(Clone, Copy, Debug, PartialEq, Eq)]
+pub enum Entry {
+    /// Nothing.
+    Open,
+    /// It isn't written, so it has no bytes.
+    Unwritten,
+    /// It is this one.
+    Is(Element),
+}
