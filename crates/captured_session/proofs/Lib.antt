@@ -1,2 +1,3 @@
 pub mod FactLemmas
 pub mod NewestLemmas
+pub mod ListLemmas

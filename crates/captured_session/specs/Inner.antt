@@ -1,10 +1,13 @@
 -- One exchange more of a session.
-use Rattle.std.specs.Prelude.{ℕ, if◌then◌else◌, List, [], ◌++◌, Option, Some, None}
+use Rattle.std.specs.Prelude.{ℕ, if◌then◌else◌, List, [], ◌∷◌, ◌++◌, Option, Some, None}
 use Rattle.captured_session.specs.Commands.{command_of}
 use Rattle.captured_session.specs.Exchanges.{is_command, is_reply}
 use Rattle.captured_session.specs.SetUps.{Session, SetUp, facts_of, form_behind, frees, outcome_of}
 use Rattle.captured_session.specs.SetUps.{pointer_behind, reply_of}
 use Rattle.captured_session.specs.declared.command.Command.{Command}
+use Rattle.captured_session.specs.declared.element.Element.{Element}
+use Rattle.captured_session.specs.declared.entry.Entry.{Entry as KnownEntry}
+use Rattle.captured_session.specs.declared.entry.Entry.TheVariants.{Is, Open, Unwritten}
 use Rattle.captured_session.specs.declared.outcome.Outcome.{Outcome}
 use Rattle.captured_session.specs.declared.side.Side.{Side}
 use Rattle.captured_session.specs.declared.side.Side.TheVariants.{Master, Slave}
@@ -35,3 +38,15 @@ hears Master p old =
 hears Slave p old =
     if is_reply p then record { set_up = ends_by old.waiting (Some p) old.set_up; waiting = None }
     else old
+
+-- behind entries of which these are written
+abbrev pub entry_behind : Option (List Element) → KnownEntry → Option (List Element)
+entry_behind None entry = None
+entry_behind (Some xs) Open = None
+entry_behind (Some xs) Unwritten = Some xs
+entry_behind (Some xs) (Is x) = Some (xs ++ x ∷ [])
+
+-- behind ODTs of which these are known
+abbrev pub odt_behind : Option (List (List Element)) → Option (List Element) → Option (List (List Element))
+odt_behind (Some odts) (Some odt) = Some (odts ++ odt ∷ [])
+odt_behind _ _ = None

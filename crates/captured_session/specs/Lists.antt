@@ -1,7 +1,7 @@
 -- A DAQ list as the facts of a set-up tell it: of those that speak of the same thing the newest,
 -- which stands at the end, counts.
-use Rattle.std.specs.Prelude.{ℕ, ◌==◌, ◌&&◌, Bool, if◌then◌else◌, List, [], ◌∷◌, map, Option, Some}
-use Rattle.std.specs.Prelude.{None}
+use Rattle.std.specs.Prelude.{ℕ, ◌/◌, ◌%◌, ◌==◌, ◌&&◌, ◌||◌, not, Bool, true, false, if◌then◌else◌}
+use Rattle.std.specs.Prelude.{List, [], ◌∷◌, map, Option, Some, None}
 use Rattle.std.specs.List.{range_with_len}
 use Rattle.std.specs.Option.{option_or}
 use Rattle.captured_session.specs.declared.element.Element.{Element}
@@ -11,6 +11,10 @@ use Rattle.captured_session.specs.declared.fact.Fact.{Fact}
 use Rattle.captured_session.specs.declared.fact.Fact.TheVariants.{Cleared, Entries, Entry, FirstPid}
 use Rattle.captured_session.specs.declared.fact.Fact.TheVariants.{LostAll, LostList, LostOdt, Mode}
 use Rattle.captured_session.specs.declared.fact.Fact.TheVariants.{Odts}
+use Rattle.captured_session.specs.SetUps.{SetUp}
+use Rattle.captured_session.specs.declared.form.Form.{Form}
+use Rattle.captured_session.specs.declared.id_field.IdField.{IdField}
+use Rattle.captured_session.specs.declared.id_field.IdField.TheVariants.{Absolute}
 use Rattle.captured_session.specs.declared.list_mode.ListMode.{ListMode}
 
 -- what the newest fact says that says anything
@@ -108,3 +112,50 @@ odts_of facts list (Some n) = all_of (map (odt_at facts list) (range_with_len 0 
 
 abbrev pub odts_at : List Fact → ℕ → Option (List (List Element))
 odts_at facts list = odts_of facts list (known (newest (odts_said list) facts))
+
+-- a DAQ list whose packets can be read: the numbers of its set-up, and the entries that are written
+pub record ListOf : Type 0 where
+  pub list : ℕ
+  pub form : Form
+  pub mode : ListMode
+  pub first_pid : Option ℕ
+  pub odts : List (List Element)
+
+-- a bit of a mode: the bit of this value
+abbrev pub has_bit : ℕ → ℕ → Bool
+has_bit bits value = bits / value % 2 == 1
+
+-- the bytes of a timestamp, in the first packet of a sample: where it is fixed or chosen, as many
+-- as TIMESTAMP_MODE says
+abbrev pub stamp_len : Form → ListMode → ℕ
+stamp_len form mode =
+    if has_bit form.stamp 8 || has_bit mode.bits 16 then form.stamp % 8 else 0
+
+abbrev pub is_stamp_len : ℕ → Bool
+is_stamp_len n = n == 0 || n == 1 || n == 2 || n == 4
+
+-- a list isn't read whose direction is STIM, or that has DTO counters or no PIDs; nor where an
+-- address counts more than a byte
+abbrev pub is_plain : Form → ListMode → Bool
+is_plain form mode =
+    not (has_bit mode.bits 2) && not (has_bit mode.bits 8) && not (has_bit mode.bits 32)
+    && form.granularity == 0 && is_stamp_len (stamp_len form mode)
+
+-- with an absolute ODT number it has to be known with which PID those of the list begin
+abbrev pub has_pids : IdField → Option ℕ → Bool
+has_pids Absolute None = false
+has_pids _ _ = true
+
+abbrev pub list_of :
+    Form → ℕ → Option ListMode → Option ℕ → Option (List (List Element)) → Option ListOf
+list_of form list (Some mode) first (Some odts) =
+    if is_plain form mode && has_pids form.field first
+    then Some record { list = list; form = form; mode = mode; first_pid = first; odts = odts }
+    else None
+list_of form list _ first _ = None
+
+-- a list of a set-up, if all is known of it and its packets can be read
+abbrev pub list_at : SetUp → ℕ → Option ListOf
+list_at s list =
+    list_of s.form list (known (newest (mode_said list) s.facts))
+    (newest (first_pid_said list) s.facts) (odts_at s.facts list)

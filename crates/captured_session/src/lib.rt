@@ -1,6 +1,7 @@
 //! The session of a master and a slave, learnt from the packets that were captured of it.
 #![tactic(auto)]
 
+mod captured_list;
 mod captured_session;
 mod command;
 mod element;
@@ -11,6 +12,7 @@ mod form;
 mod id_field;
 mod limits;
 mod list_mode;
+mod lists;
 mod newest;
 mod outcome;
 mod outcomes;
@@ -20,8 +22,10 @@ mod said;
 mod session_fault;
 mod set_up;
 mod side;
+mod stamps;
 mod told_forms;
 
+pub use captured_list::CapturedList;
 pub use captured_session::CapturedSession;
 pub use command::{Command, command_in};
 pub use element::Element;
@@ -29,6 +33,7 @@ pub use fact::Fact;
 pub use form::Form;
 pub use id_field::IdField;
 pub use list_mode::ListMode;
+pub use lists::list_in;
 pub use outcome::Outcome;
 pub use pointer::Pointer;
 pub use session_fault::SessionFault;

@@ -1,0 +1,88 @@
+//! A DAQ list of a captured session.
+
+use crate::element::Element;
+use crate::form::Form;
+use crate::list_mode::ListMode;
+use crate::stamps::stamp_len;
+use std::marker::Model;
+
+/// A DAQ list of a captured session whose packets can be read: its mode, and the entries that are
+/// written, ODT by ODT.
+#[derive(Drop)]
+pub struct CapturedList {
+    pub(crate) list: u16,
+    pub(crate) form: Form,
+    pub(crate) mode: ListMode,
+    pub(crate) first_pid: Option<u8>,
+    pub(crate) odts: Vec<Vec<Element>>,
+}
+
+impl Model for CapturedList {
+    ghost use Rattle.std.specs.Prelude.{map};
+    ghost use Rattle.captured_session.specs.Lists.{ListOf};
+
+    ghost Value = { ListOf };
+
+    ghost view = { λ a. record {
+      list = a.list;
+      form = a.form;
+      mode = a.mode;
+      first_pid = a.first_pid;
+      odts = map (λ v. v.items) a.odts.items;
+    } };
+}
+
+impl CapturedList {
+    ghost use Rattle.std.specs.Prelude.{◌≡◌, ◌<◌, length, slice_index_or, []};
+    ghost use Rattle.captured_session.specs.Lists.{stamp_len};
+
+    /// The number of the list.
+    pub fn list(&self) -> u16
+        ensures { result ≡ self.now.list }
+    {
+        self.list
+    }
+
+    /// How the packets of the slave look.
+    pub fn form(&self) -> Form
+        ensures { result ≡ self.now.form }
+    {
+        self.form
+    }
+
+    /// The mode of the list.
+    pub fn mode(&self) -> ListMode
+        ensures { result ≡ self.now.mode }
+    {
+        self.mode
+    }
+
+    /// With which PID those of the list begin, if that was told.
+    pub fn first_pid(&self) -> Option<u8>
+        ensures { result ≡ self.now.first_pid }
+    {
+        self.first_pid
+    }
+
+    /// The bytes of a timestamp, in the first packet of a sample.
+    pub fn stamp_len(&self) -> usize
+        ensures { result ≡ stamp_len self.now.form self.now.mode }
+    {
+        stamp_len(self.form, self.mode)
+    }
+
+    /// The number of ODTs.
+    pub fn odts(&self) -> usize
+        ensures { result ≡ length self.now.odts }
+    {
+        self.odts.len()
+    }
+
+    /// The entries of an ODT that are written, in their order.
+    pub fn entries(&self, odt: usize) -> &[Element]
+        requires { odt < length self.now.odts }
+        ensures { result.now ≡ slice_index_or self.now.odts odt [] }
+    {
+        &self.odts[odt]
+    }
+}
