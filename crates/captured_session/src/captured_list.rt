@@ -18,7 +18,7 @@ pub struct CapturedList {
 }
 
 impl Model for CapturedList {
-    ghost use Rattle.std.specs.Prelude.{map};
+    ghost use Rattle.std.specs.Prelude.{◌≤◌, All, length, map};
     ghost use Rattle.captured_session.specs.Lists.{ListOf};
 
     ghost Value = { ListOf };
@@ -30,10 +30,13 @@ impl Model for CapturedList {
       first_pid = a.first_pid;
       odts = map (λ v. v.items) a.odts.items;
     } };
+
+    ghost invariant = { λ a. (length a.odts.items ≤ 255)
+        × All (λ xs. length xs.items ≤ 255) a.odts.items };
 }
 
 impl CapturedList {
-    ghost use Rattle.std.specs.Prelude.{◌≡◌, ◌<◌, length, slice_index_or, []};
+    ghost use Rattle.std.specs.Prelude.{◌≡◌, ◌<◌, ◌≤◌, length, slice_index_or, []};
     ghost use Rattle.captured_session.specs.Lists.{stamp_len};
 
     /// The number of the list.
@@ -66,14 +69,16 @@ impl CapturedList {
 
     /// The bytes of a timestamp, in the first packet of a sample.
     pub fn stamp_len(&self) -> usize
-        ensures { result ≡ stamp_len self.now.form self.now.mode }
+        ensures value { result ≡ stamp_len self.now.form self.now.mode }
+        ensures few { result < 8 }
     {
         stamp_len(self.form, self.mode)
     }
 
     /// The number of ODTs.
     pub fn odts(&self) -> usize
-        ensures { result ≡ length self.now.odts }
+        ensures value { result ≡ length self.now.odts }
+        ensures few { result ≤ 255 }
     {
         self.odts.len()
     }
@@ -81,7 +86,8 @@ impl CapturedList {
     /// The entries of an ODT that are written, in their order.
     pub fn entries(&self, odt: usize) -> &[Element]
         requires { odt < length self.now.odts }
-        ensures { result.now ≡ slice_index_or self.now.odts odt [] }
+        ensures value { result.now ≡ slice_index_or self.now.odts odt [] }
+        ensures few { length result.now ≤ 255 }
     {
         &self.odts[odt]
     }

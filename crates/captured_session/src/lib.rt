@@ -27,7 +27,7 @@ mod told_forms;
 
 pub use captured_list::CapturedList;
 pub use captured_session::CapturedSession;
-pub use command::{Command, command_in};
+pub use command::{Command, command_in, dword, word};
 pub use element::Element;
 pub use fact::Fact;
 pub use form::Form;

@@ -1,5 +1,5 @@
 //! The DAQ lists of a set-up.
-ghost use Rattle.std.specs.Prelude.{◌≡◌, IfOk, Ok, None, Some, false, map, option_map, true};
+ghost use Rattle.std.specs.Prelude.{◌≡◌, ◌+◌, ◌≤◌, All, IfOk, IfSome, length, Ok, None, Some, false, map, option_map, true};
 ghost use Rattle.std.specs.List.{range_with_len};
 ghost use Rattle.captured_session.specs.Inner.{entry_behind};
 ghost use Rattle.captured_session.specs.Lists.{all_of, entry_at, list_at, list_of, odt_at, odts_at, written};
@@ -45,8 +45,10 @@ fn odts_of(
     facts: &[Fact],
     list: u16,
 ) -> Result<Option<Vec<Vec<Element>>>, AllocError>
-    ensures { IfOk result (λ odts. option_map (λ v. map (λ xs. xs.items) v.items) odts
+    ensures value { IfOk result (λ odts. option_map (λ v. map (λ xs. xs.items) v.items) odts
         ≡ odts_at facts.now list) }
+    ensures few { IfOk result (λ odts. IfSome odts
+        (λ v. (length v.items ≤ 255) × All (λ xs. length xs.items ≤ 255) v.items)) }
 {
     match odts_in(facts, list) {
         Some(count) => all_odts(alloc, facts, list, count),
@@ -61,8 +63,10 @@ fn all_odts(
     list: u16,
     count: u8,
 ) -> Result<Option<Vec<Vec<Element>>>, AllocError>
-    ensures { IfOk result (λ odts. option_map (λ v. map (λ xs. xs.items) v.items) odts
+    ensures value { IfOk result (λ odts. option_map (λ v. map (λ xs. xs.items) v.items) odts
         ≡ all_of (map (odt_at facts.now list) (range_with_len 0 count))) }
+    ensures few { IfOk result (λ odts. IfSome odts
+        (λ v. (length v.items ≤ 255) × All (λ xs. length xs.items ≤ 255) v.items)) }
 {
     let mut odts = Vec::new(alloc);
     for odt in 0..count {
@@ -81,8 +85,9 @@ fn odt_in(
     list: u16,
     odt: u8,
 ) -> Result<Option<Vec<Element>>, AllocError>
-    ensures { IfOk result
+    ensures value { IfOk result
         (λ elements. option_map (λ v. v.items) elements ≡ odt_at facts.now list odt) }
+    ensures few { IfOk result (λ elements. IfSome elements (λ v. length v.items ≤ 255)) }
 {
     match entries_in(facts, list, odt) {
         Some(count) => written_in(alloc, facts, list, odt, count),
@@ -98,8 +103,9 @@ fn written_in(
     odt: u8,
     count: u8,
 ) -> Result<Option<Vec<Element>>, AllocError>
-    ensures { IfOk result (λ elements. option_map (λ v. v.items) elements
+    ensures value { IfOk result (λ elements. option_map (λ v. v.items) elements
         ≡ written (map (entry_at facts.now list odt) (range_with_len 0 count))) }
+    ensures few { IfOk result (λ elements. IfSome elements (λ v. length v.items ≤ 255)) }
 {
     let mut elements = Vec::new(alloc);
     for entry in 0..count {
@@ -114,6 +120,7 @@ fn written_in(
 fn push_known(elements: &mut Vec<Element>, entry: Entry) -> Result<bool, AllocError>
     ensures known { result ≡ Ok true
         → entry_behind (Some elements.old.items) entry ≡ Some elements.new.items }
+    ensures few { length elements.new.items ≤ length elements.old.items + 1 }
     ensures open { result ≡ Ok false → entry_behind (Some elements.old.items) entry ≡ None }
 {
     match entry {
