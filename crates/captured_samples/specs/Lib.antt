@@ -1,3 +1,4 @@
 pub mod Places
 pub mod Samples
+pub mod Counters
 pub mod Inner

@@ -1,10 +1,22 @@
 //! The samples of the DAQ lists of a captured session.
 #![tactic(auto)]
 
+mod counter_steps;
+mod last_command;
 mod list_samples;
+mod list_state;
+mod mark;
 mod places;
+mod sample_sink;
+mod slave_samples;
 mod stamps;
 mod taken;
+mod tallies;
 
+pub use counter_steps::{CounterStep, counter_step};
 pub use list_samples::ListSamples;
+pub use mark::Mark;
+pub use sample_sink::SampleSink;
+pub use slave_samples::SlaveSamples;
 pub use taken::Taken;
+pub use tallies::Tallies;

@@ -2,6 +2,7 @@
 
 use crate::element::Element;
 use crate::form::Form;
+use crate::id_field::IdField;
 use crate::list_mode::ListMode;
 use crate::stamps::stamp_len;
 use std::marker::Model;
@@ -90,5 +91,15 @@ impl CapturedList {
         ensures few { length result.now ≤ 255 }
     {
         &self.odts[odt]
+    }
+
+    /// Whether packets are read in the same way by another one. Where packets name their list, it
+    /// doesn't matter with which PID those of the list begin.
+    pub fn is_same(&self, other: &CapturedList) -> bool {
+        self.list == other.list
+            && self.form == other.form
+            && self.mode == other.mode
+            && (self.first_pid == other.first_pid || self.form.field != IdField::Absolute)
+            && self.odts == other.odts
     }
 }

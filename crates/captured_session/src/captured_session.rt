@@ -58,6 +58,16 @@ impl CapturedSession {
         &self.set_up
     }
 
+    /// The command that waits for its reply, if there is one.
+    pub fn waiting(&self) -> Option<&[u8]>
+        ensures { option_copied result ≡ self.now.waiting }
+    {
+        match &self.waiting {
+            Some(command) => Some(command),
+            None => None,
+        }
+    }
+
     /// The next packet, in the order in which they were sent; each once. Refused if there is no
     /// memory, or if more than `MAX_FACTS` would be kept; then nothing changes.
     pub fn hear(&mut self, side: Side, packet: &[u8]) -> Result<(), SessionFault>

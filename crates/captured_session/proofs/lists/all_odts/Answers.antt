@@ -16,9 +16,10 @@ returns-in_default-clause-value c =
 -- one ODT more
 pub loop-odt-preserved : goal.loop-odt-preserved
 loop-odt-preserved c =
-    let here = sym (ap (option_map (λ v. v.items)) c.in-Some.is) ∙ c.in_ok-elements.ensures.value in
-    (next-odt (odt_at c.args.facts.now c.args.list) c.loop-odt.odt (map (λ xs. xs.items) c.loop-odt.odts.items)
-    (Some c.in-Some.elements.items) (Some (map (λ xs. xs.items) c.push.new.self.items)) c.loop-odt.invariant.0 here
-    (ap Some (sym (ap (map (λ xs. xs.items)) c.in_ok-push.ensures.items
-    ∙ map-append (λ xs. xs.items) c.loop-odt.odts.items (c.in-Some.elements ∷ []))))
-    , grind (arith, common_steps, c.in_ok-push.ensures.items, c.loop-odt.invariant.1, c.in_ok-elements.ensures.few, c.in-Some.is))
+    let here = sym (ap (option_map (λ v. v.items)) c.in-Some.is) ∙ c.in_ok-elements.ensures.value in (
+      next-odt (odt_at c.args.facts.now c.args.list) c.loop-odt.odt (map (λ xs. xs.items) c.loop-odt.odts.items)
+          (Some c.in-Some.elements.items) (Some (map (λ xs. xs.items) c.push.new.self.items)) c.loop-odt.invariant.0 here
+          (ap Some (sym (ap (map (λ xs. xs.items)) c.in_ok-push.ensures.items
+          ∙ map-append (λ xs. xs.items) c.loop-odt.odts.items (c.in-Some.elements ∷ [])))),
+      grind (arith, common_steps, c.in_ok-push.ensures.items, c.loop-odt.invariant.1, c.in_ok-elements.ensures.few, c.in-Some.is),
+    )

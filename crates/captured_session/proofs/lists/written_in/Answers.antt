@@ -14,7 +14,8 @@ returns-then-not-branch-clause-value c =
 -- one entry more
 pub loop-entry-preserved : goal.loop-entry-preserved
 loop-entry-preserved c =
-    let is = c.in_ok-push_known.was ∙ ap Ok c.if-not-branch.false in
-    (next-written (entry_at c.args.facts.now c.args.list c.args.odt) c.loop-entry.entry c.loop-entry.elements.items c.entry_in.result
-    (Some c.push_known.new.elements.items) c.loop-entry.invariant.0 c.entry_in.ensures (c.push_known.ensures.known is)
-    , omega (arith, c.push_known.ensures.few, c.loop-entry.invariant.1))
+    let is = c.in_ok-push_known.was ∙ ap Ok c.if-not-branch.false in (
+      next-written (entry_at c.args.facts.now c.args.list c.args.odt) c.loop-entry.entry c.loop-entry.elements.items c.entry_in.result
+          (Some c.push_known.new.elements.items) c.loop-entry.invariant.0 c.entry_in.ensures (c.push_known.ensures.known is),
+      omega (arith, c.push_known.ensures.few, c.loop-entry.invariant.1),
+    )
