@@ -1,0 +1,93 @@
+//! Reads a capture, piece by piece.
+ghost use Rattle.std.specs.Prelude.{◌≡◌, ◌≤◌, IfOk, length};
+
+use crate::recording_fault::RecordingFault;
+use crate::slaves::{Sinks, Slaves};
+use capture::{CaptureFault, CaptureReader, Step};
+use program_input::{TextFault, is_read_to_end};
+use std::alloc::Global;
+use std::io::Read;
+
+/// How many bytes are asked for in one read.
+const CHUNK: usize = 65_536;
+
+/// The most reads of a capture, the one that finds its end among them.
+const MAX_READS: u64 = 1_099_511_627_776;
+
+/// Reads a capture to its end. What stands before a fault was taken.
+pub fn read_capture<I: Read, K: Sinks + Drop>(
+    alloc: Global,
+    input: &mut I,
+    slaves: &mut Slaves<K>,
+) -> Result<(), RecordingFault> {
+    let mut chunk = [0; CHUNK];
+    let mut held = Vec::new(alloc);
+    let mut reader = CaptureReader::new(alloc);
+    for _ in 0..MAX_READS {
+        let taken = take_units(&mut reader, &held, slaves)?;
+        drop_front(&mut held, taken);
+        match is_read_to_end(input, &mut chunk, &mut held) {
+            Ok(false) => {}
+            Ok(true) => return ended(&held),
+            Err(TextFault::Memory) => return Err(RecordingFault::Memory),
+            Err(TextFault::Unreadable) => return Err(RecordingFault::Unreadable),
+        }
+    }
+    Err(RecordingFault::Unreadable)
+}
+
+/// What comes of a capture at its end, of which these bytes are left.
+fn ended(held: &[u8]) -> Result<(), RecordingFault> {
+    if held.is_empty() {
+        return Ok(());
+    }
+    Err(RecordingFault::Torn)
+}
+
+/// Takes the headers, records and blocks that are whole, and tells how many bytes they are.
+fn take_units<K: Sinks + Drop>(
+    reader: &mut CaptureReader,
+    held: &[u8],
+    slaves: &mut Slaves<K>,
+) -> Result<usize, RecordingFault>
+    ensures { IfOk result (λ taken. taken ≤ length held.now) }
+{
+    let mut at = 0;
+    while at < held.len() {
+        let taken = take_unit(reader, &held[at..], slaves)?;
+        if taken == 0 {
+            return Ok(at);
+        }
+        at += taken;
+    }
+    Ok(at)
+}
+
+/// Takes the next header, record or block, if it is whole, and tells how many bytes it is.
+fn take_unit<K: Sinks + Drop>(
+    reader: &mut CaptureReader,
+    bytes: &[u8],
+    slaves: &mut Slaves<K>,
+) -> Result<usize, RecordingFault>
+    ensures { IfOk result (λ taken. taken ≤ length bytes.now) }
+{
+    match reader.next(bytes) {
+        Ok(Step::Packet(len, captured)) => {
+            slaves.take(&captured)?;
+            Ok(len)
+        }
+        Ok(Step::Passed(len)) => Ok(len),
+        Ok(Step::Wants(_)) => Ok(0),
+        Err(CaptureFault::Memory) => Err(RecordingFault::Memory),
+        Err(fault) => Err(RecordingFault::Capture(fault)),
+    }
+}
+
+/// Drops the first `n` bytes.
+fn drop_front(held: &mut Vec<u8>, n: usize)
+    requires { n ≤ length held.old.items }
+{
+    let len = held.len();
+    held.as_mut_slice().copy_within(n..len, 0);
+    held.truncate(len - n);
+}

@@ -1,0 +1,28 @@
+//! Why a capture is read no further.
+
+use capture::CaptureFault;
+use captured_session::SessionFault;
+use thiserror::Error;
+
+/// Why a capture is read no further.
+#[derive(Clone, Copy, Debug, PartialEq, Eq, Error)]
+pub enum RecordingFault {
+    /// It can't be read.
+    #[error("cannot read capture")]
+    Unreadable,
+    /// It isn't a capture, or no further.
+    #[error("bad capture: {0}")]
+    Capture(CaptureFault),
+    /// Its last record or block isn't whole.
+    #[error("capture breaks off within a packet")]
+    Torn,
+    /// A session in it can't be followed.
+    #[error("capture: {0}")]
+    Session(SessionFault),
+    /// There are more than `MAX_SLAVES` slaves.
+    #[error("capture of over 256 slaves")]
+    ManySlaves,
+    /// Want of memory.
+    #[error("out of memory")]
+    Memory,
+}

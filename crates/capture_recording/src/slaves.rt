@@ -1,0 +1,109 @@
+//! The slaves of a capture.
+
+use crate::capture_sink::CaptureSink;
+use crate::nanoseconds::nanoseconds_of;
+use crate::recording_fault::RecordingFault;
+use crate::slave::Slave;
+use crate::talk::Talk;
+use crate::talks::talk_in;
+use capture::Captured;
+use captured_samples::SlaveSamples;
+use captured_session::Form;
+use std::alloc::Global;
+use std::net::IpAddr;
+
+/// The most slaves of a capture.
+pub const MAX_SLAVES: usize = 256;
+
+/// Who makes a sink for each slave.
+pub trait Sinks {
+    /// What is handed the samples of a slave.
+    type Sink: CaptureSink + Drop;
+
+    /// The sink of a slave; `None`: its samples aren't read.
+    fn sink_of(&mut self, address: IpAddr) -> Option<Self::Sink>;
+}
+
+/// The slaves of a capture, in the order in which they are met first.
+#[derive(Drop)]
+pub struct Slaves<K: Sinks + Drop> {
+    alloc: Global,
+    port: u16,
+    form: Form,
+    sinks: K,
+    slaves: Vec<Slave<K::Sink>>,
+}
+
+impl<K: Sinks + Drop> Slaves<K> {
+    /// None yet. They have this port, and their packets look like this until they say otherwise.
+    pub fn new(alloc: Global, port: u16, form: Form, sinks: K) -> Slaves<K> {
+        Slaves {
+            alloc,
+            port,
+            form,
+            sinks,
+            slaves: Vec::new(alloc),
+        }
+    }
+
+    /// The slaves that were met.
+    pub fn met(&self) -> &[Slave<K::Sink>] {
+        &self.slaves
+    }
+
+    /// The slaves that were met, handed out.
+    pub fn into_met(self) -> Vec<Slave<K::Sink>> {
+        self.slaves
+    }
+
+    /// The next captured packet.
+    pub fn take(&mut self, captured: &Captured<'_>) -> Result<(), RecordingFault> {
+        let Some(talk) = talk_in(captured, self.port) else {
+            return Ok(());
+        };
+        let Some(place) = self.place_of(&talk)? else {
+            return Ok(());
+        };
+        let Some(slave) = self.slaves.get_mut(place) else {
+            return Ok(());
+        };
+        let time = captured.time.and_then(nanoseconds_of);
+        slave.sink.set_time(time);
+        match slave.hear(talk.is_of_master, talk.payload) {
+            Ok(()) => Ok(()),
+            Err(fault) => Err(RecordingFault::Session(fault)),
+        }
+    }
+
+    /// The place of a slave, which may be met for the first time; `None` if it isn't read.
+    fn place_of(&mut self, talk: &Talk<'_>) -> Result<Option<usize>, RecordingFault> {
+        let known = self
+            .slaves
+            .iter()
+            .position(|slave| slave.address == talk.slave);
+        if known.is_some() {
+            return Ok(known);
+        }
+        let Some(sink) = self.sinks.sink_of(talk.slave) else {
+            return Ok(None);
+        };
+        self.add(talk.slave, sink)
+    }
+
+    /// One slave more.
+    fn add(&mut self, address: IpAddr, sink: K::Sink) -> Result<Option<usize>, RecordingFault> {
+        let place = self.slaves.len();
+        if place >= MAX_SLAVES {
+            return Err(RecordingFault::ManySlaves);
+        }
+        let slave = Slave {
+            address,
+            samples: SlaveSamples::new(self.alloc, self.form),
+            sink,
+        };
+        match self.slaves.push(slave) {
+            Ok(()) => Ok(Some(place)),
+            Err(_) => Err(RecordingFault::Memory),
+        }
+    }
+}
