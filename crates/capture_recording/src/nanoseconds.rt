@@ -9,6 +9,9 @@ const SECOND: u64 = 1_000_000_000;
 /// are more than 63 bits.
 pub fn nanoseconds_of(time: CaptureTime) -> Option<i64> {
     let parts = parts_of(time.resolution)?;
+    if parts == 0 {
+        return None;
+    }
     let seconds = i64::try_from(time.ticks / parts).ok()?;
     let rest = (time.ticks % parts) as u128 * SECOND as u128 / parts as u128;
     let whole = seconds.checked_add(time.offset)?;

@@ -4,7 +4,7 @@ ghost use Rattle.std.specs.Prelude.{◌≡◌, ◌≤◌, IfOk, length};
 use crate::recording_fault::RecordingFault;
 use crate::slaves::{Sinks, Slaves};
 use capture::{CaptureFault, CaptureReader, Step};
-use program_input::{TextFault, is_read_to_end};
+use program_input::{MAX_TEXT_BYTES, TextFault, is_read_to_end};
 use std::alloc::Global;
 use std::io::Read;
 
@@ -26,6 +26,9 @@ pub fn read_capture<I: Read, K: Sinks + Drop>(
     for _ in 0..MAX_READS {
         let taken = take_units(&mut reader, &held, slaves)?;
         drop_front(&mut held, taken);
+        if held.len() > MAX_TEXT_BYTES {
+            return Err(RecordingFault::Unreadable);
+        }
         match is_read_to_end(input, &mut chunk, &mut held) {
             Ok(false) => {}
             Ok(true) => return ended(&held),
@@ -52,15 +55,18 @@ fn take_units<K: Sinks + Drop>(
 ) -> Result<usize, RecordingFault>
     ensures { IfOk result (λ taken. taken ≤ length held.now) }
 {
-    let mut at = 0;
-    while at < held.len() {
-        let taken = take_unit(reader, &held[at..], slaves)?;
+    let mut at = 0usize;
+    for _ in 0..held.len() {
+        let Some(bytes) = held.get(at..) else {
+            break;
+        };
+        let taken = take_unit(reader, bytes, slaves)?;
         if taken == 0 {
-            return Ok(at);
+            break;
         }
-        at += taken;
+        at = at.saturating_add(taken);
     }
-    Ok(at)
+    Ok(at.min(held.len()))
 }
 
 /// Takes the next header, record or block, if it is whole, and tells how many bytes it is.

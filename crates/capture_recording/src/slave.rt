@@ -22,14 +22,26 @@ impl<S: CaptureSink + Drop> Slave<S> {
     /// layer for Ethernet, header).
     pub fn hear(&mut self, is_of_master: bool, payload: &[u8]) -> Result<(), SessionFault> {
         let mut rest = payload;
-        while let Some((counter, packet, behind)) = next_frame(rest) {
-            if is_of_master {
-                self.samples.hear_master(counter, packet)?;
-            } else {
-                self.samples.hear_slave(counter, packet, &mut self.sink)?;
-            }
+        for _ in 0..payload.len() {
+            let Some((counter, packet, behind)) = next_frame(rest) else {
+                break;
+            };
+            self.hear_packet(is_of_master, counter, packet)?;
             rest = behind;
         }
         Ok(())
+    }
+
+    /// The packet of a frame.
+    fn hear_packet(
+        &mut self,
+        is_of_master: bool,
+        counter: u16,
+        packet: &[u8],
+    ) -> Result<(), SessionFault> {
+        if is_of_master {
+            return self.samples.hear_master(counter, packet);
+        }
+        self.samples.hear_slave(counter, packet, &mut self.sink)
     }
 }

@@ -70,7 +70,7 @@ fn is_known_by(measurement: &Measurement, shapes: &[ListShape], name: &str) -> b
 }
 
 /// The column of a measurement.
-fn column_of<'a>(description: &'a Description, measurement: &'a Measurement) -> Column<'a>
+pub fn column_of<'a>(description: &'a Description, measurement: &'a Measurement) -> Column<'a>
     ensures { IsColumnOf description.now measurement.now result }
 {
     Column {
@@ -121,7 +121,7 @@ fn is_shown(measurement: &Measurement, shapes: &[ListShape], only: Option<&str>)
 }
 
 /// Whether a name is among those with commas between them, if there are any.
-fn is_chosen(name: &str, only: Option<&str>) -> bool
+pub fn is_chosen(name: &str, only: Option<&str>) -> bool
     ensures { result ≡ is_chosen (option_copied only.entry) name.now }
 {
     match only {

@@ -16,9 +16,11 @@ mod value_rows;
 mod value_tallies;
 
 pub use column::Column;
-pub use columns::{columns_of, is_recorded, unknown_name};
+pub use columns::{column_of, columns_of, is_chosen, is_recorded, unknown_name};
 pub use elements::with_elements;
-pub use tally_text::print_tallies;
+pub use row_writer::write_head;
+pub use tally_text::{print_head as print_tally_head, print_line as print_tally, print_tallies};
+pub use value::{physical_in, write_value};
 pub use value_curves::ValueCurves;
 pub use value_rows::ValueRows;
 pub use value_tallies::ValueTallies;

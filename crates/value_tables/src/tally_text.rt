@@ -44,7 +44,7 @@ pub fn print_tallies<W: Write>(
 }
 
 /// Prints the head of the table.
-fn print_head<W: Write>(out: &mut W) -> io::Result<()>
+pub fn print_head<W: Write>(out: &mut W) -> io::Result<()>
     ensures { OnOk result (Appends (W.contents out.old) (W.contents out.new) head_line) }
 {
     writeln!(
@@ -54,7 +54,7 @@ fn print_head<W: Write>(out: &mut W) -> io::Result<()>
 }
 
 /// Prints the line of a column.
-fn print_line<W: Write>(
+pub fn print_line<W: Write>(
     out: &mut W,
     text: &mut String,
     column: &Column<'_>,

@@ -1,0 +1,23 @@
+//! What is printed of a capture: the samples of a slave, by name or by address.
+#![tactic(auto)]
+
+mod capture_clock;
+mod capture_column;
+mod capture_rows;
+mod columns;
+mod element_rows;
+mod element_survey;
+mod list_table;
+mod row_text;
+mod sample_time;
+mod tally_table;
+mod value_picture;
+mod values_at;
+
+pub use capture_rows::CaptureRows;
+pub use columns::{captured_columns, unknown_in};
+pub use element_rows::ElementRows;
+pub use element_survey::ElementSurvey;
+pub use list_table::ListTable;
+pub use tally_table::TallyTable;
+pub use value_picture::ValuePicture;

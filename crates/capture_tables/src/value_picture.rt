@@ -1,0 +1,88 @@
+//! The values of samples as curves.
+
+use crate::capture_clock::CaptureClock;
+use crate::capture_column::CaptureColumns;
+use capture_recording::CaptureSink;
+use captured_samples::{ListSamples, Mark, SampleSink};
+use captured_session::CapturedList;
+use curve_picture::{CurveAxis, CurvePicture};
+use measured_values::{Conversion, TextTable, Tick};
+use std::alloc::{AllocError, Global};
+use std::io::{self, Write};
+use value_tables::{Column, physical_in};
+
+/// Draws the values of each column in the samples that it is handed, over the time since the first
+/// of them.
+#[derive(Drop)]
+pub struct ValuePicture<'a> {
+    columns: CaptureColumns<'a>,
+    tables: Vec<Option<&'a TextTable>>,
+    clock: CaptureClock,
+    tick: Option<Tick>,
+    picture: CurvePicture,
+}
+
+impl<'a> ValuePicture<'a> {
+    /// No values of these columns.
+    pub fn new(alloc: Global, columns: Vec<Column<'a>>) -> Result<ValuePicture<'a>, AllocError> {
+        let mut picture = CurvePicture::new(alloc);
+        let mut tables = Vec::new(alloc);
+        for column in &columns {
+            picture.add_row(column.name, column.unit)?;
+            tables.push(table_of(column))?;
+        }
+        Ok(ValuePicture {
+            columns: CaptureColumns::new(alloc, columns),
+            tables,
+            clock: CaptureClock::new(),
+            tick: None,
+            picture,
+        })
+    }
+
+    /// Writes the picture as SVG.
+    pub fn print<W: Write>(&self, out: &mut W) -> io::Result<()> {
+        let axis = match self.tick {
+            Some(tick) => CurveAxis::Seconds(tick),
+            None => CurveAxis::Ticks,
+        };
+        self.picture.print(out, &self.tables, axis)?;
+        out.flush()
+    }
+}
+
+/// The texts of a column's values, if it has such.
+fn table_of<'a>(column: &Column<'a>) -> Option<&'a TextTable> {
+    match column.conversion {
+        Some(Conversion::Texts(table)) => Some(table),
+        _ => None,
+    }
+}
+
+impl<'a> SampleSink for ValuePicture<'a> {
+    fn begin(&mut self, _number: usize, list: &CapturedList) -> Result<(), AllocError> {
+        self.columns.add(list)
+    }
+
+    fn hand(&mut self, number: usize, sample: &ListSamples, mark: Mark) {
+        let Some(time) = self.clock.next(sample) else {
+            return;
+        };
+        let Ok(at) = u64::try_from(time.at) else {
+            return;
+        };
+        self.tick = Some(time.tick);
+        for (row, column) in self.columns.columns().iter().enumerate() {
+            if let Some(raw) = self.columns.raw(number, row, sample.bytes()) {
+                let value = physical_in(column, raw).number(raw);
+                self.picture.value(row, at, value, mark.number() > 0);
+            }
+        }
+    }
+}
+
+impl<'a> CaptureSink for ValuePicture<'a> {
+    fn set_time(&mut self, nanoseconds: Option<i64>) {
+        self.clock.set(nanoseconds);
+    }
+}
