@@ -1,7 +1,7 @@
 //! Reads a capture, piece by piece.
 ghost use Rattle.std.specs.Prelude.{◌≡◌, ◌≤◌, IfOk, length};
 
-use crate::recording_fault::RecordingFault;
+use crate::capture_read_fault::CaptureReadFault;
 use crate::slaves::{Sinks, Slaves};
 use capture::{CaptureFault, CaptureReader, Step};
 use program_input::{MAX_TEXT_BYTES, TextFault, is_read_to_end};
@@ -19,7 +19,7 @@ pub fn read_capture<I: Read, K: Sinks + Drop>(
     alloc: Global,
     input: &mut I,
     slaves: &mut Slaves<K>,
-) -> Result<(), RecordingFault> {
+) -> Result<(), CaptureReadFault> {
     let mut chunk = [0; CHUNK];
     let mut held = Vec::new(alloc);
     let mut reader = CaptureReader::new(alloc);
@@ -27,24 +27,24 @@ pub fn read_capture<I: Read, K: Sinks + Drop>(
         let taken = take_units(&mut reader, &held, slaves)?;
         drop_front(&mut held, taken);
         if held.len() > MAX_TEXT_BYTES {
-            return Err(RecordingFault::Unreadable);
+            return Err(CaptureReadFault::Unreadable);
         }
         match is_read_to_end(input, &mut chunk, &mut held) {
             Ok(false) => {}
             Ok(true) => return ended(&held),
-            Err(TextFault::Memory) => return Err(RecordingFault::Memory),
-            Err(TextFault::Unreadable) => return Err(RecordingFault::Unreadable),
+            Err(TextFault::Memory) => return Err(CaptureReadFault::Memory),
+            Err(TextFault::Unreadable) => return Err(CaptureReadFault::Unreadable),
         }
     }
-    Err(RecordingFault::Unreadable)
+    Err(CaptureReadFault::Unreadable)
 }
 
 /// What comes of a capture at its end, of which these bytes are left.
-fn ended(held: &[u8]) -> Result<(), RecordingFault> {
+fn ended(held: &[u8]) -> Result<(), CaptureReadFault> {
     if held.is_empty() {
         return Ok(());
     }
-    Err(RecordingFault::Torn)
+    Err(CaptureReadFault::Torn)
 }
 
 /// Takes the headers, records and blocks that are whole, and tells how many bytes they are.
@@ -52,7 +52,7 @@ fn take_units<K: Sinks + Drop>(
     reader: &mut CaptureReader,
     held: &[u8],
     slaves: &mut Slaves<K>,
-) -> Result<usize, RecordingFault>
+) -> Result<usize, CaptureReadFault>
     ensures { IfOk result (λ taken. taken ≤ length held.now) }
 {
     let mut at = 0usize;
@@ -74,7 +74,7 @@ fn take_unit<K: Sinks + Drop>(
     reader: &mut CaptureReader,
     bytes: &[u8],
     slaves: &mut Slaves<K>,
-) -> Result<usize, RecordingFault>
+) -> Result<usize, CaptureReadFault>
     ensures { IfOk result (λ taken. taken ≤ length bytes.now) }
 {
     match reader.next(bytes) {
@@ -84,8 +84,8 @@ fn take_unit<K: Sinks + Drop>(
         }
         Ok(Step::Passed(len)) => Ok(len),
         Ok(Step::Wants(_)) => Ok(0),
-        Err(CaptureFault::Memory) => Err(RecordingFault::Memory),
-        Err(fault) => Err(RecordingFault::Capture(fault)),
+        Err(CaptureFault::Memory) => Err(CaptureReadFault::Memory),
+        Err(fault) => Err(CaptureReadFault::Capture(fault)),
     }
 }
 

@@ -1,8 +1,8 @@
 //! The slaves of a capture.
 
+use crate::capture_read_fault::CaptureReadFault;
 use crate::capture_sink::CaptureSink;
 use crate::nanoseconds::nanoseconds_of;
-use crate::recording_fault::RecordingFault;
 use crate::slave::Slave;
 use crate::talk::Talk;
 use crate::talks::talk_in;
@@ -57,7 +57,7 @@ impl<K: Sinks + Drop> Slaves<K> {
     }
 
     /// The next captured packet.
-    pub fn take(&mut self, captured: &Captured<'_>) -> Result<(), RecordingFault> {
+    pub fn take(&mut self, captured: &Captured<'_>) -> Result<(), CaptureReadFault> {
         let Some(talk) = talk_in(captured, self.port) else {
             return Ok(());
         };
@@ -71,12 +71,12 @@ impl<K: Sinks + Drop> Slaves<K> {
         slave.sink.set_time(time);
         match slave.hear(talk.is_of_master, talk.payload) {
             Ok(()) => Ok(()),
-            Err(fault) => Err(RecordingFault::Session(fault)),
+            Err(fault) => Err(CaptureReadFault::Session(fault)),
         }
     }
 
     /// The place of a slave, which may be met for the first time; `None` if it isn't read.
-    fn place_of(&mut self, talk: &Talk<'_>) -> Result<Option<usize>, RecordingFault> {
+    fn place_of(&mut self, talk: &Talk<'_>) -> Result<Option<usize>, CaptureReadFault> {
         let known = self
             .slaves
             .iter()
@@ -91,10 +91,10 @@ impl<K: Sinks + Drop> Slaves<K> {
     }
 
     /// One slave more.
-    fn add(&mut self, address: IpAddr, sink: K::Sink) -> Result<Option<usize>, RecordingFault> {
+    fn add(&mut self, address: IpAddr, sink: K::Sink) -> Result<Option<usize>, CaptureReadFault> {
         let place = self.slaves.len();
         if place >= MAX_SLAVES {
-            return Err(RecordingFault::ManySlaves);
+            return Err(CaptureReadFault::ManySlaves);
         }
         let slave = Slave {
             address,
@@ -103,7 +103,7 @@ impl<K: Sinks + Drop> Slaves<K> {
         };
         match self.slaves.push(slave) {
             Ok(()) => Ok(Some(place)),
-            Err(_) => Err(RecordingFault::Memory),
+            Err(_) => Err(CaptureReadFault::Memory),
         }
     }
 }

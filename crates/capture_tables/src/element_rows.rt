@@ -18,12 +18,13 @@ pub struct ElementRows<W: Write + Drop> {
 }
 
 /// The names of the columns.
-const HEADS: [&str; 10] = [
+const HEADS: [&str; 11] = [
     "time [s]",
+    "ticks",
     "list",
-    "sample",
     "odt",
     "entry",
+    "sample",
     "extension",
     "address",
     "size",
@@ -34,6 +35,7 @@ const HEADS: [&str; 10] = [
 /// The front of the rows of a sample, and its mark.
 #[derive(Clone, Copy)]
 struct Front {
+    ticks: Option<u32>,
     list: u16,
     sample: u64,
     mark: u8,
@@ -116,10 +118,11 @@ fn write_place<W: Write + Drop>(
     entry: usize,
     element: &Element,
 ) -> Result<(), ErrorKind> {
+    text.put_ticks(front.ticks)?;
     text.put_number(front.list as u64)?;
-    text.put_number(front.sample)?;
     text.put_number(odt as u64)?;
     text.put_number(entry as u64)?;
+    text.put_number(front.sample)?;
     text.put_number(element.extension as u64)?;
     text.put_number(element.address as u64)?;
     text.put_number(element.size as u64)
@@ -133,6 +136,7 @@ impl<W: Write + Drop> SampleSink for ElementRows<W> {
 
     fn hand(&mut self, number: usize, sample: &ListSamples, mark: Mark) {
         let front = Front {
+            ticks: sample.ticks(),
             list: sample.list().list(),
             sample: self.next_sample(number),
             mark: mark.number(),

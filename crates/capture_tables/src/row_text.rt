@@ -38,6 +38,14 @@ impl<W: Write + Drop> RowText<W> {
         self.put(Buffer::new().format(number))
     }
 
+    /// The ticks of a timestamp; nothing if there is none.
+    pub fn put_ticks(&mut self, ticks: Option<u32>) -> Result<(), ErrorKind> {
+        match ticks {
+            Some(ticks) => self.put_number(ticks as u64),
+            None => self.put(""),
+        }
+    }
+
     /// A time in seconds; nothing if there is none.
     pub fn put_time(&mut self, time: Option<SampleTime>) -> Result<(), ErrorKind> {
         self.cell.clear();

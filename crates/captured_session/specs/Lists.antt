@@ -141,6 +141,11 @@ is_plain form mode =
     not (has_bit mode.bits 2) && not (has_bit mode.bits 8) && not (has_bit mode.bits 32)
     && form.granularity == 0 && is_stamp_len (stamp_len form mode)
 
+-- the slave told how its packets look, and how timestamps look if the list has them
+abbrev pub is_told : Form → ListMode → Bool
+is_told form mode =
+    form.has_order && form.has_field && (form.has_stamp || not (has_bit mode.bits 16))
+
 -- with an absolute ODT number it has to be known with which PID those of the list begin
 abbrev pub has_pids : IdField → Option ℕ → Bool
 has_pids Absolute None = false
@@ -149,7 +154,7 @@ has_pids _ _ = true
 abbrev pub list_of :
     Form → ℕ → Option ListMode → Option ℕ → Option (List (List Element)) → Option ListOf
 list_of form list (Some mode) first (Some odts) =
-    if is_plain form mode && has_pids form.field first
+    if is_told form mode && is_plain form mode && has_pids form.field first
     then Some record { list = list; form = form; mode = mode; first_pid = first; odts = odts }
     else None
 list_of form list _ first _ = None

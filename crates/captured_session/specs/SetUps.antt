@@ -54,17 +54,21 @@ field_of kind =
 
 abbrev pub connected : Form → List ℕ → Form
 connected form (_ ∷ _ ∷ mode ∷ _) =
-    record form { order = order_of mode; granularity = mode / 2 % 4 }
+    record form { has_order = true; order = order_of mode; granularity = mode / 2 % 4 }
 connected form _ = form
 
 abbrev pub with_processor : Form → List ℕ → Form
 with_processor form (_ ∷ properties ∷ _ ∷ _ ∷ _ ∷ _ ∷ _ ∷ key ∷ _) =
-    record form { field = field_of (key / 64 % 4); has_overload = properties / 64 % 2 == 1 }
+    record form {
+      has_field = true;
+      field = field_of (key / 64 % 4);
+      has_overload = properties / 64 % 2 == 1;
+    }
 with_processor form _ = form
 
 abbrev pub with_resolution : Form → List ℕ → Form
 with_resolution form (_ ∷ _ ∷ _ ∷ _ ∷ _ ∷ mode ∷ a ∷ b ∷ _) =
-    record form { stamp = mode; ticks = word form.order a b }
+    record form { has_stamp = true; stamp = mode; ticks = word form.order a b }
 with_resolution form _ = form
 
 abbrev pub form_behind : Command → Outcome → List ℕ → Form → Form

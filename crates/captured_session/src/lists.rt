@@ -10,7 +10,7 @@ use crate::entry::Entry;
 use crate::fact::Fact;
 use crate::newest::{entries_in, entry_in, first_pid_in, mode_in, odts_in};
 use crate::set_up::SetUp;
-use crate::stamps::{has_pids, is_plain};
+use crate::stamps::{has_pids, is_plain, is_told};
 use std::alloc::{AllocError, Global};
 
 /// A DAQ list of a set-up, if all is known of it and its packets can be read. Lack of memory is the
@@ -24,7 +24,7 @@ pub fn list_in(alloc: Global, set_up: &SetUp, list: u16) -> Result<Option<Captur
         return Ok(None);
     };
     let first_pid = first_pid_in(facts, list);
-    if !is_plain(form, mode) || !has_pids(form.field, first_pid) {
+    if !is_told(form, mode) || !is_plain(form, mode) || !has_pids(form.field, first_pid) {
         return Ok(None);
     }
     let Some(odts) = odts_of(alloc, facts, list)? else {

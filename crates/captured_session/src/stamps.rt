@@ -1,6 +1,7 @@
 //! Which lists can be read, and the length of their timestamps.
 ghost use Rattle.std.specs.Prelude.{◌≡◌, ◌<◌};
-ghost use Rattle.captured_session.specs.Lists.{has_bit, has_pids, is_plain, is_stamp_len, stamp_len};
+ghost use Rattle.captured_session.specs.Lists.{has_bit, has_pids, is_plain, is_stamp_len, is_told};
+ghost use Rattle.captured_session.specs.Lists.{stamp_len};
 
 use crate::form::Form;
 use crate::id_field::IdField;
@@ -33,6 +34,14 @@ fn is_stamp_len(len: usize) -> bool
     ensures { result ≡ is_stamp_len len }
 {
     len == 0 || len == 1 || len == 2 || len == 4
+}
+
+/// Whether the slave told how its packets look, and how timestamps look if a list of this mode has
+/// them.
+pub fn is_told(form: Form, mode: ListMode) -> bool
+    ensures { result ≡ is_told form mode }
+{
+    form.has_order && form.has_field && (form.has_stamp || !has_bit(mode.bits, 16))
 }
 
 /// Whether packets with this field can be known as those of a list.

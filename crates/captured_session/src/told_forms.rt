@@ -27,6 +27,7 @@ fn connected(form: Form, reply: &[u8]) -> Form
 {
     match reply {
         [_, _, mode, ..] => Form {
+            has_order: true,
             order: order_of(*mode),
             granularity: *mode / 2 % 4,
             ..form
@@ -41,6 +42,7 @@ fn with_processor(form: Form, reply: &[u8]) -> Form
 {
     match reply {
         [_, properties, _, _, _, _, _, key, ..] => Form {
+            has_field: true,
             field: field_of(*key / 64 % 4),
             has_overload: *properties / 64 % 2 == 1,
             ..form
@@ -55,6 +57,7 @@ fn with_resolution(form: Form, reply: &[u8]) -> Form
 {
     match reply {
         [_, _, _, _, _, mode, a, b, ..] => Form {
+            has_stamp: true,
             stamp: *mode,
             ticks: word(form.order, *a, *b),
             ..form

@@ -1,11 +1,13 @@
 -- The faults of the program, and the status of each.
 use Rattle.std.specs.Prelude.{ℕ}
+use Rattle.capture_recording.specs.declared.capture_read_fault.CaptureReadFault.TheVariants as unread
 use Rattle.recording.specs.declared.recording_fault.RecordingFault.{RecordingFault}
 use Rattle.recording.specs.declared.recording_fault.RecordingFault.TheVariants.{NoValue}
 use Rattle.recording.specs.declared.recording_fault.RecordingFault.TheVariants.{Unreadable}
 use Rattle.explain.specs.declared.run_text_fault.RunTextFault.TheVariants.{Memory}
 use Rattle.xcpread.specs.declared.program_fault.ProgramFault.{ProgramFault}
-use Rattle.xcpread.specs.declared.program_fault.ProgramFault.TheVariants.{Recording, Text}
+use Rattle.xcpread.specs.declared.program_fault.ProgramFault.TheVariants.{Capture, Recording, Text}
+use Rattle.xcpread.specs.declared.program_fault.ProgramFault.TheVariants.{Unprinted}
 
 -- lack of memory before the recording is read
 abbrev pub want_of_memory : ProgramFault
@@ -18,6 +20,9 @@ status_of_fault (Text Memory) = 1
 status_of_fault (Recording NoValue) = 2
 status_of_fault (Recording Unreadable) = 2
 status_of_fault (Recording fault) = 1
+status_of_fault (Capture unread.Unreadable) = 2
+status_of_fault (Capture fault) = 1
+status_of_fault Unprinted = 1
 status_of_fault _ = 2
 
 -- the recording isn't shown, for a fault of which this is so

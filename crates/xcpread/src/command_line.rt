@@ -13,6 +13,7 @@ use measured_values::{Tick, tick_of};
 use program_input::asks_version;
 use recording::{Mode, View};
 use std::alloc::{AllocError, Global};
+use std::net::IpAddr;
 
 /// What the command line asks for.
 #[derive(Drop)]
@@ -23,6 +24,8 @@ pub enum CommandLine<'a> {
     Version,
     /// A recording.
     Recording(Options<'a>),
+    /// A capture.
+    Capture(CaptureOptions<'a>),
 }
 
 /// Which recording is read, and how it is shown.
@@ -40,6 +43,26 @@ pub struct Options<'a> {
     pub a2l: Option<&'a str>,
 }
 
+/// Which capture is read, and how it is shown.
+#[derive(Clone, Copy)]
+pub struct CaptureOptions<'a> {
+    /// The file.
+    pub path: &'a str,
+    /// How it is shown.
+    pub mode: Mode,
+    /// The A2L file that says which values are shown, if there is one.
+    pub a2l: Option<&'a str>,
+    /// The measurements that are shown, with commas between them, if not all are.
+    pub only: Option<&'a str>,
+    /// The port of the slave.
+    pub port: u16,
+    /// The address of the slave, if it is said.
+    pub slave: Option<IpAddr>,
+}
+
+/// The port of slaves where none is said (ASAM MCD-1 XCP, transport layer for Ethernet).
+const PORT: u16 = 5555;
+
 /// Reads the arguments, without the program's name.
 pub fn read_command_line<'a>(
     alloc: Global,
@@ -56,7 +79,7 @@ pub fn read_command_line<'a>(
         return Ok(CommandLine::Version);
     }
     match command(alloc)?.try_get_matches_from(words) {
-        Ok(matches) => recording_of(&matches, why),
+        Ok(matches) => file_of(&matches, why),
         Err(error) => match error.kind() {
             ErrorKind::DisplayHelp => Ok(CommandLine::Help(error)),
             ErrorKind::OutOfMemory => Err(ProgramFault::MEMORY),
@@ -80,7 +103,7 @@ struct Choice<'a> {
 }
 
 /// The options: the ways to show samples, what is shown by name, and whether progress is told.
-const CHOICES: [Choice; 10] = [
+const CHOICES: [Choice; 12] = [
     Choice {
         name: "summary",
         value: None,
@@ -130,6 +153,18 @@ const CHOICES: [Choice; 10] = [
         help: "Only with --csv: print a row for each element, in spite of --a2l",
     },
     Choice {
+        name: "port",
+        value: Some("N"),
+        without: &[],
+        help: "Of a capture: the port of the slave [default: 5555]",
+    },
+    Choice {
+        name: "slave",
+        value: Some("ADDRESS"),
+        without: &[],
+        help: "Of a capture: the address of the slave, if there are several",
+    },
+    Choice {
         name: "progress",
         value: None,
         without: &[],
@@ -147,15 +182,15 @@ const CHOICES: [Choice; 10] = [
 /// The arguments that the program takes.
 fn command<'a>(alloc: Global) -> Result<Command<'a>, AllocError> {
     let mut command = Command::new(alloc, "xcpread")
-        .about("Reads a recording back, and prints its samples")
+        .about("Reads a recording or a capture back, and prints its samples")
         .no_binary_name(true);
     for choice in CHOICES {
         command = with_choice(alloc, command, choice)?;
     }
-    let run = "The run file that the recording was made of";
-    let command = with_file(alloc, command, "run", "RUN", run)?;
+    let run = "A capture (pcap, pcapng), or the run file that a recording was made of";
+    let command = with_file(alloc, command, "run", "FILE", run, true)?;
     let frames = "The recording, as xcpdaq --out wrote it";
-    with_file(alloc, command, "frames", "FRAMES", frames)
+    with_file(alloc, command, "frames", "FRAMES", frames, false)
 }
 
 /// A command that also takes an option.
@@ -175,36 +210,120 @@ fn with_choice<'a>(
     command.arg(option)
 }
 
-/// A command that also takes a file, which has to be named.
+/// A command that also takes a file, which may have to be named.
 fn with_file<'a>(
     alloc: Global,
     command: Command<'a>,
     name: &'a str,
     value: &'a str,
     help: &'a str,
+    is_wanted: bool,
 ) -> Result<Command<'a>, AllocError> {
     let file = Arg::new(alloc, name)
         .value_name(value)
-        .required(true)
+        .required(is_wanted)
         .action(ArgAction::Set)
         .help(help);
     command.arg(file)
 }
 
-/// What matched.
-fn recording_of<'a>(
+/// What matched: a recording, or, if one file alone is named, a capture.
+fn file_of<'a>(matches: &ArgMatches<'a>, why: &mut Why) -> Result<CommandLine<'a>, ProgramFault>
+    ensures fault { IfErr result (λ f. f ≡ fault.CommandLine) }
+    ensures other { result ≢ Ok line.Version }
+{
+    let Some(file) = matches.get_str("run") else {
+        return Err(ProgramFault::CommandLine);
+    };
+    match matches.get_str("frames") {
+        Some(frames) => recording_of(matches, file, frames, why),
+        None => capture_of(matches, file, why),
+    }
+}
+
+/// The capture that is meant.
+fn capture_of<'a>(
     matches: &ArgMatches<'a>,
+    path: &'a str,
     why: &mut Why,
 ) -> Result<CommandLine<'a>, ProgramFault>
     ensures fault { IfErr result (λ f. f ≡ fault.CommandLine) }
     ensures other { result ≢ Ok line.Version }
 {
-    let Some(run) = matches.get_str("run") else {
+    if matches.get_flag("explain") || matches.get_str("tick").is_some() {
+        why.tell_words("--explain and --tick want FRAMES\n");
         return Err(ProgramFault::CommandLine);
-    };
-    let Some(frames) = matches.get_str("frames") else {
+    }
+    let a2l = a2l_of(matches, why)?;
+    let mode = mode_of(matches);
+    if a2l.is_none() && is_picture(mode) {
+        why.tell_words("--svg of a capture wants --a2l\n");
         return Err(ProgramFault::CommandLine);
+    }
+    Ok(CommandLine::Capture(CaptureOptions {
+        path,
+        mode,
+        a2l,
+        only: matches.get_str("only"),
+        port: port_in(matches, why)?,
+        slave: slave_in(matches, why)?,
+    }))
+}
+
+/// Whether a picture is asked for.
+fn is_picture(mode: Mode) -> bool {
+    match mode {
+        Mode::Svg => true,
+        _ => false,
+    }
+}
+
+/// The port of the slave.
+fn port_in(matches: &ArgMatches<'_>, why: &mut Why) -> Result<u16, ProgramFault>
+    ensures { IfErr result (λ f. f ≡ fault.CommandLine) }
+{
+    let Some(text) = matches.get_str("port") else {
+        return Ok(PORT);
     };
+    match text.parse::<u16>() {
+        Ok(port) => Ok(port),
+        Err(_) => {
+            why.tell_words("--port wants a number from 0 to 65535\n");
+            Err(ProgramFault::CommandLine)
+        }
+    }
+}
+
+/// The address of the slave, if it is said.
+fn slave_in(matches: &ArgMatches<'_>, why: &mut Why) -> Result<Option<IpAddr>, ProgramFault>
+    ensures { IfErr result (λ f. f ≡ fault.CommandLine) }
+{
+    let Some(text) = matches.get_str("slave") else {
+        return Ok(None);
+    };
+    match IpAddr::parse_ascii(text.as_bytes()) {
+        Ok(address) => Ok(Some(address)),
+        Err(_) => {
+            why.tell_words("--slave wants an address, such as 192.168.0.1 or fe80::1\n");
+            Err(ProgramFault::CommandLine)
+        }
+    }
+}
+
+/// The recording that is meant.
+fn recording_of<'a>(
+    matches: &ArgMatches<'a>,
+    run: &'a str,
+    frames: &'a str,
+    why: &mut Why,
+) -> Result<CommandLine<'a>, ProgramFault>
+    ensures fault { IfErr result (λ f. f ≡ fault.CommandLine) }
+    ensures other { result ≢ Ok line.Version }
+{
+    if matches.get_str("port").is_some() || matches.get_str("slave").is_some() {
+        why.tell_words("--port and --slave want a capture\n");
+        return Err(ProgramFault::CommandLine);
+    }
     let a2l = a2l_of(matches, why)?;
     let view = View {
         mode: mode_of(matches),

@@ -8,6 +8,7 @@ use recording::Messages;
 use std::alloc::Global;
 use std::fmt::Display;
 use std::io::Write;
+use std::net::IpAddr;
 
 /// So many bytes of a recording are read between two notes of its progress.
 const STEP: u64 = 10_000_000;
@@ -41,6 +42,18 @@ impl<E: Write + Drop> ErrMessages<E> {
     /// for it is refused, it doesn't.
     pub fn detail<D: Display + Drop>(&mut self, detail: D) {
         let _ = write!(self.detail, ": {detail}");
+    }
+
+    /// Tells so many of something, in a line of its own, if there are any.
+    pub fn tell_count(&mut self, count: u64, what: &str) {
+        if count > 0 {
+            let _ = writeln!(self.err, "xcpread: capture: {count} {what}");
+        }
+    }
+
+    /// Tells of a slave, in a line of its own.
+    pub fn tell_slave(&mut self, address: IpAddr) {
+        let _ = writeln!(self.err, "xcpread: slave {address}");
     }
 
     /// From now on progress is told.

@@ -2,6 +2,8 @@
 //! prints its samples.
 #![tactic(auto)]
 
+mod capture_program;
+mod capture_views;
 mod command_line;
 mod err_messages;
 mod no_text;

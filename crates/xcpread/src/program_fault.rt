@@ -1,4 +1,5 @@
 //! Why `xcpread` stops: the line that it prints, and its status.
+use capture_recording::CaptureReadFault;
 use explain::RunTextFault;
 use recording::RecordingFault;
 use std::alloc::AllocError;
@@ -22,6 +23,18 @@ pub enum ProgramFault {
     /// The recording isn't shown.
     #[error("xcpread: {0}")]
     Recording(RecordingFault),
+    /// The capture isn't shown, or no further.
+    #[error("xcpread: {0}")]
+    Capture(CaptureReadFault),
+    /// Nobody in the capture is the slave.
+    #[error("xcpread: no slave in the capture")]
+    NoSlave,
+    /// Several are.
+    #[error("xcpread: several slaves in the capture: say which one with --slave")]
+    SeveralSlaves,
+    /// The output can't be printed.
+    #[error("xcpread: cannot print")]
+    Unprinted,
 }
 
 impl ProgramFault {
@@ -40,6 +53,9 @@ impl ProgramFault {
             ProgramFault::Recording(RecordingFault::NoValue) => 2,
             ProgramFault::Recording(RecordingFault::Unreadable) => 2,
             ProgramFault::Recording(_) => 1,
+            ProgramFault::Capture(CaptureReadFault::Unreadable) => 2,
+            ProgramFault::Capture(_) => 1,
+            ProgramFault::Unprinted => 1,
             _ => 2,
         }
     }

@@ -9,6 +9,7 @@ ghost use Rattle.recording.specs.Files.{IsReadFile, ShowsFile};
 ghost use Rattle.xcpread.specs.Faults.{IsOfRecording};
 ghost use Rattle.xcpread.specs.Files.{ShowsNamed, ShowsRun, ShowsSomeRun};
 
+use crate::capture_program::show_capture;
 use crate::command_line::{CommandLine, Options, read_command_line};
 use crate::err_messages::ErrMessages;
 use crate::no_text::no_text;
@@ -72,6 +73,7 @@ fn answer<R: Files, W: Write + Drop, E: Write + Drop>(
             Ok(print_version(&mut out, "xcpread"))
         }
         CommandLine::Recording(options) => show(rt, alloc, options, out, messages),
+        CommandLine::Capture(options) => show_capture(rt, alloc, options, out, messages),
     }
 }
 
@@ -184,7 +186,7 @@ fn show_recorded<R: Files, W: Write + Drop, E: Write + Drop>(
 }
 
 /// What the A2L file says, if there is one.
-fn description_of<R: Files, E: Write + Drop>(
+pub fn description_of<R: Files, E: Write + Drop>(
     rt: &R,
     alloc: Global,
     path: Option<&str>,

@@ -6,7 +6,7 @@ use thiserror::Error;
 
 /// Why a capture is read no further.
 #[derive(Clone, Copy, Debug, PartialEq, Eq, Error)]
-pub enum RecordingFault {
+pub enum CaptureReadFault {
     /// It can't be read.
     #[error("cannot read capture")]
     Unreadable,
