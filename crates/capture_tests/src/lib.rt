@@ -8,6 +8,8 @@ mod frames;
 #[cfg(test)]
 mod packets;
 #[cfg(test)]
+mod parts;
+#[cfg(test)]
 mod same;
 #[cfg(test)]
 mod shown;

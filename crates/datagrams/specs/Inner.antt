@@ -1,6 +1,13 @@
--- What no public clause cites: how far the headers of an IP packet of version 6 were read.
-use Rattle.std.specs.Prelude.{ℕ, ◌≤◌, List, drop, length}
+-- What no public clause cites: how far the headers of an IP packet of version 6 were read, and what
+-- a part changes of one datagram that waits.
+use Rattle.std.specs.Prelude.{◌≡◌, ℕ, ◌+◌, ◌-◌, ◌^◌, ◌<◌, ◌≤◌, min, true, false, List, [], ◌∷◌, ◌++◌}
+use Rattle.std.specs.Prelude.{drop, length, get_or, slice_get, Option, Some, None}
+use Rattle.std.specs.Option.{option_or}
 use Rattle.datagrams.specs.Ipv6.{CarriedOf, IsChain}
+use Rattle.datagrams.specs.Parts.{KeyOf, PieceOf, byte_in, same_key}
+use Rattle.datagrams.specs.Waiting.{KeptOf, PartsOf}
+use Rattle.datagrams.specs.declared.limits.TheConstants.{MAX_WAITING}
+use Rattle.datagrams.specs.declared.piece.Piece.{Piece}
 
 -- extensions were read up to a place, and this is the kind of what stands there: whatever stands in
 -- the bytes, behind those stands the rest of it
@@ -12,3 +19,44 @@ pub record HasWalked (first : ℕ) (bytes : List ℕ) (next at : ℕ) : Type 0 w
   pub rest :
       (all : List ℕ) (c : CarriedOf) → IsChain first bytes all c
       → (lens : List ℕ) × IsChain next (drop at bytes) lens c
+
+abbrev pub piece_shown : Piece → PieceOf
+piece_shown p = record { at = p.at; bytes = p.bytes.now; end = p.end }
+
+-- these bytes came up to an end, if a piece comes last
+pub record IsJoined (slots : List (Option ℕ)) (p : PieceOf) (end : ℕ) (bytes : List ℕ)
+    : Type 0 where
+  pub many : end ≡ length bytes
+  pub each :
+      (i : ℕ) → i < length bytes → option_or (get_or slots i None) (byte_in p i) ≡ slice_get bytes i
+
+-- a datagram of which this is kept is whole with a piece, and carries these bytes
+pub record IsWholeWith (k : KeptOf) (p : PieceOf) (bytes : List ℕ) : Type 0 where
+  pub end : option_or k.end p.end ≡ Some (length bytes)
+  pub each :
+      (i : ℕ) → i < length bytes → option_or (get_or k.slots i None) (byte_in p i) ≡ slice_get bytes i
+
+-- a piece came
+pub record GainsPiece (old new : KeptOf) (p : PieceOf) : Type 0 where
+  pub key : new.key ≡ old.key
+  pub each : (i : ℕ) → get_or new.slots i None ≡ option_or (get_or old.slots i None) (byte_in p i)
+  pub end : new.end ≡ option_or old.end p.end
+
+-- of those of which this is kept, the first under a key stands at this place
+pub record IsFirst (key : KeyOf) (kept : List KeptOf) (i : ℕ) : Type 0 where
+  -- fixed by `at`
+  pub here : KeptOf
+  pub at : slice_get kept i ≡ Some here
+  pub same : same_key key here.key ≡ true
+  pub before : (j : ℕ) (k : KeptOf) → j < i → slice_get kept j ≡ Some k → same_key key k.key ≡ false
+
+-- none is of that key
+abbrev pub IsNew : KeyOf → List KeptOf → Type 0
+IsNew key kept = (j : ℕ) (k : KeptOf) → slice_get kept j ≡ Some k → same_key key k.key ≡ false
+
+-- one more begins to wait
+pub record BeginsToWait (k : KeptOf) (old new : PartsOf) : Type 0 where
+  pub waiting :
+      new.waiting ≡ drop (length (old.waiting ++ k ∷ []) - MAX_WAITING) (old.waiting ++ k ∷ [])
+  pub dropped :
+      new.dropped ≡ min (old.dropped + (length (old.waiting ++ k ∷ []) - MAX_WAITING)) (2 ^ 64 - 1)

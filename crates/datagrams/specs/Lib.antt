@@ -5,4 +5,7 @@ pub mod Ipv6
 pub mod Versions
 pub mod Udp
 pub mod Tcp
+pub mod Parts
+pub mod Waiting
+pub mod Whole
 pub mod Inner
