@@ -13,3 +13,5 @@ mod parts;
 mod same;
 #[cfg(test)]
 mod shown;
+#[cfg(test)]
+mod streams;

@@ -1,10 +1,11 @@
 -- What no public clause cites: how far the headers of an IP packet of version 6 were read, and what
--- a part changes of one datagram that waits.
-use Rattle.std.specs.Prelude.{◌≡◌, ℕ, ◌+◌, ◌-◌, ◌^◌, ◌<◌, ◌≤◌, min, true, false, List, [], ◌∷◌, ◌++◌}
+-- a part changes of one datagram that waits; what came of a connection.
+use Rattle.std.specs.Prelude.{◌≡◌, ℕ, ◌+◌, ◌-◌, ◌%◌, ◌^◌, ◌<◌, ◌≤◌, min, true, false, List, [], ◌∷◌, ◌++◌}
 use Rattle.std.specs.Prelude.{drop, length, get_or, slice_get, Option, Some, None}
 use Rattle.std.specs.Option.{option_or}
 use Rattle.datagrams.specs.Ipv6.{CarriedOf, IsChain}
 use Rattle.datagrams.specs.Parts.{KeyOf, PieceOf, byte_in, same_key}
+use Rattle.datagrams.specs.TcpStreams.{CameOf, ahead_of, byte_numbered, byte_of}
 use Rattle.datagrams.specs.Waiting.{KeptOf, PartsOf}
 use Rattle.datagrams.specs.declared.limits.TheConstants.{MAX_WAITING}
 use Rattle.datagrams.specs.declared.piece.Piece.{Piece}
@@ -60,3 +61,35 @@ pub record BeginsToWait (k : KeptOf) (old new : PartsOf) : Type 0 where
       new.waiting ≡ drop (length (old.waiting ++ k ∷ []) - MAX_WAITING) (old.waiting ++ k ∷ [])
   pub dropped :
       new.dropped ≡ min (old.dropped + (length (old.waiting ++ k ∷ []) - MAX_WAITING)) (2 ^ 64 - 1)
+
+-- of bytes that came, none before a place has the byte of a number
+abbrev pub HasNone : List CameOf → ℕ → ℕ → Type 0
+HasNone came i n = (j : ℕ) (c : CameOf) → j < i → slice_get came j ≡ Some c → byte_of c n ≡ None
+
+-- the first that has it stands at a place
+pub record HasFirst (came : List CameOf) (n : ℕ) (i : ℕ) : Type 0 where
+  -- fixed by `at`
+  pub here : CameOf
+  pub at : slice_get came i ≡ Some here
+  pub within : ahead_of here.number n < length here.bytes
+  pub before : HasNone came i n
+
+-- so many bytes were appended: from a number on, each is that of the first that came
+pub record IsRun (came : List CameOf) (n : ℕ) (before after : List ℕ) (len : ℕ) : Type 0 where
+  -- fixed by `handed`
+  pub run : List ℕ
+  pub handed : after ≡ before ++ run
+  pub many : length run ≡ len
+  pub some : 0 < len
+  pub each : (k : ℕ) → k < len → byte_numbered came ((n + k) % 2 ^ 32) ≡ slice_get run k
+
+-- of those before a place, none is nearer to a number than one of them
+pub record IsNearestOf (came : List CameOf) (i next n : ℕ) : Type 0 where
+  -- fixed by `at`
+  pub place : ℕ
+  pub here : CameOf
+  pub at : slice_get came place ≡ Some here
+  pub is : here.number ≡ n
+  pub least :
+      (j : ℕ) (c : CameOf) → j < i → slice_get came j ≡ Some c
+      → ahead_of next n ≤ ahead_of next c.number

@@ -8,4 +8,5 @@ pub mod Tcp
 pub mod Parts
 pub mod Waiting
 pub mod Whole
+pub mod TcpStreams
 pub mod Inner
