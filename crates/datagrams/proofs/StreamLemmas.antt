@@ -6,10 +6,10 @@ use Rattle.std.proofs.lemmas.List.Edits.{get_or-between, length-between}
 use Rattle.std.proofs.lemmas.Option.{none-some, same_Some, slice_get-get_or}
 use Rattle.datagrams.specs.Inner.{HasFirst, HasNone, IsRun}
 use Rattle.datagrams.specs.Tcp.{SegmentOf}
-use Rattle.datagrams.specs.TcpStreams.{CameOf, StreamOf, ahead_of, byte_numbered, byte_of, first_number, reaches, with_segment}
+use Rattle.datagrams.specs.TcpStreams.{StretchOf, StreamOf, ahead_of, byte_numbered, byte_of, first_number, reaches, with_segment}
 
 -- none has the byte of a number
-pub numbered-none : (cs : List CameOf) (i n : ℕ) → HasNone cs i n → length cs ≤ i → byte_numbered cs n ≡ None
+pub numbered-none : (cs : List StretchOf) (i n : ℕ) → HasNone cs i n → length cs ≤ i → byte_numbered cs n ≡ None
 numbered-none [] i n none all = refl
 numbered-none (c ∷ cs) zero n none all = absurd (omega (arith, all))
 numbered-none (c ∷ cs) (suc i) n none all =
@@ -17,10 +17,10 @@ numbered-none (c ∷ cs) (suc i) n none all =
     ∙ numbered-none cs i n (λ j d l at. none (suc j) d (omega (arith, l)) at) (omega (arith, all))
 
 -- the first that has it gives it
-numbered-first : (cs : List CameOf) (i n b : ℕ) (c : CameOf) → HasNone cs i n → slice_get cs i ≡ Some c → byte_of c n ≡ Some b → byte_numbered cs n ≡ Some b
+numbered-first : (cs : List StretchOf) (i n b : ℕ) (c : StretchOf) → HasNone cs i n → slice_get cs i ≡ Some c → byte_of c n ≡ Some b → byte_numbered cs n ≡ Some b
 numbered-first [] i n b c none at has = absurd (none-some c at)
 numbered-first (d ∷ cs) zero n b c none at has =
-    ap (λ o. option_or o (byte_numbered cs n)) (ap (λ (x : CameOf). byte_of x n) (same_Some d c at) ∙ has)
+    ap (λ o. option_or o (byte_numbered cs n)) (ap (λ (x : StretchOf). byte_of x n) (same_Some d c at) ∙ has)
 numbered-first (d ∷ cs) (suc i) n b c none at has =
     ap (λ o. option_or o (byte_numbered cs n)) (none 0 d (omega arith) refl)
     ∙ numbered-first cs i n b c (λ j e l there. none (suc j) e (omega (arith, l)) there) at has
@@ -38,7 +38,7 @@ get-range xs from len k within l =
     ∙ sym (slice_get-get_or xs (from + k) 0 (omega (arith, within, l)))
 
 -- bytes of the first that has one of them, as far as none before it has one
-pub is-run : (cs : List CameOf) (place n len : ℕ) (before after : List ℕ) (f : HasFirst cs n place) → ahead_of f.here.number n + len ≤ length f.here.bytes
+pub is-run : (cs : List StretchOf) (place n len : ℕ) (before after : List ℕ) (f : HasFirst cs n place) → ahead_of f.here.number n + len ≤ length f.here.bytes
     → length f.here.bytes ≤ 16777216 → 0 < len → ((k : ℕ) → k < len → HasNone cs place ((n + k) % 2 ^ 32))
     → after ≡ before ++ slice_range f.here.bytes (ahead_of f.here.number n) (ahead_of f.here.number n + len) → IsRun cs n before after len
 is-run cs place n len before after f within few some none is =
@@ -59,7 +59,7 @@ is-run cs place n len before after f within few some none is =
     }
 
 -- one that is let go of changes nothing of what is kept
-pub filter-remove : (test : CameOf → Bool) (cs : List CameOf) (i : ℕ) (c : CameOf) → slice_get cs i ≡ Some c → test c ≡ false
+pub filter-remove : (test : StretchOf → Bool) (cs : List StretchOf) (i : ℕ) (c : StretchOf) → slice_get cs i ≡ Some c → test c ≡ false
     → filter test (remove cs i) ≡ filter test cs
 filter-remove test [] i c at out = absurd (none-some c at)
 filter-remove test (d ∷ cs) zero c at out =
@@ -68,7 +68,7 @@ filter-remove test (d ∷ cs) (suc i) c at out =
     ap (λ ds. if test d then d ∷ ds else ds) (filter-remove test cs i c at out)
 
 -- where all stay, nothing changes
-pub filter-all : (test : CameOf → Bool) (cs : List CameOf) (i : ℕ) → ((j : ℕ) (c : CameOf) → j < i → slice_get cs j ≡ Some c → test c ≡ true) → length cs ≤ i
+pub filter-all : (test : StretchOf → Bool) (cs : List StretchOf) (i : ℕ) → ((j : ℕ) (c : StretchOf) → j < i → slice_get cs j ≡ Some c → test c ≡ true) → length cs ≤ i
     → filter test cs ≡ cs
 filter-all test [] i stay all = refl
 filter-all test (c ∷ cs) zero stay all = absurd (omega (arith, all))
@@ -77,7 +77,7 @@ filter-all test (c ∷ cs) (suc i) stay all =
     ∙ ap (λ ds. c ∷ ds) (filter-all test cs i (λ j d l at. stay (suc j) d (omega (arith, l)) at) (omega (arith, all)))
 
 -- before the place nothing changes
-pub get-remove : (cs : List CameOf) (i j : ℕ) → j < i → slice_get (remove cs i) j ≡ slice_get cs j
+pub get-remove : (cs : List StretchOf) (i j : ℕ) → j < i → slice_get (remove cs i) j ≡ slice_get cs j
 get-remove [] zero j l = refl
 get-remove [] (suc i) j l = refl
 get-remove (c ∷ cs) zero j l = absurd (omega (arith, l))
@@ -85,7 +85,7 @@ get-remove (c ∷ cs) (suc i) zero l = refl
 get-remove (c ∷ cs) (suc i) (suc j) l = get-remove cs i j (omega (arith, l))
 
 -- what is known behind a segment
-pub with-segment : (old : StreamOf) (s : SegmentOf) (number next first : ℕ) (bytes : List ℕ) (came : List CameOf) (end : Option ℕ) → number ≡ first_number s
+pub with-segment : (old : StreamOf) (s : SegmentOf) (number next first : ℕ) (bytes : List ℕ) (came : List StretchOf) (end : Option ℕ) → number ≡ first_number s
     → bytes ≡ take 16777216 s.payload → next ≡ (if is_some old.first then old.next else number) → first ≡ unwrap_or old.first number
     → came ≡ (if reaches number (length bytes) next then old.came ++ record { number = number; bytes = bytes } ∷ [] else old.came)
     → end ≡ (if s.ends then Some ((number + length bytes) % 2 ^ 32) else old.end)

@@ -5,7 +5,7 @@ use Rattle.std.specs.Prelude.{drop, length, get_or, slice_get, Option, Some, Non
 use Rattle.std.specs.Option.{option_or}
 use Rattle.datagrams.specs.Ipv6.{CarriedOf, IsChain}
 use Rattle.datagrams.specs.Parts.{KeyOf, PieceOf, byte_in, same_key}
-use Rattle.datagrams.specs.TcpStreams.{CameOf, ahead_of, byte_numbered, byte_of}
+use Rattle.datagrams.specs.TcpStreams.{StretchOf, ahead_of, byte_numbered, byte_of}
 use Rattle.datagrams.specs.Waiting.{KeptOf, PartsOf}
 use Rattle.datagrams.specs.declared.limits.TheConstants.{MAX_WAITING}
 use Rattle.datagrams.specs.declared.piece.Piece.{Piece}
@@ -63,19 +63,19 @@ pub record BeginsToWait (k : KeptOf) (old new : PartsOf) : Type 0 where
       new.dropped ≡ min (old.dropped + (length (old.waiting ++ k ∷ []) - MAX_WAITING)) (2 ^ 64 - 1)
 
 -- of bytes that came, none before a place has the byte of a number
-abbrev pub HasNone : List CameOf → ℕ → ℕ → Type 0
-HasNone came i n = (j : ℕ) (c : CameOf) → j < i → slice_get came j ≡ Some c → byte_of c n ≡ None
+abbrev pub HasNone : List StretchOf → ℕ → ℕ → Type 0
+HasNone came i n = (j : ℕ) (c : StretchOf) → j < i → slice_get came j ≡ Some c → byte_of c n ≡ None
 
 -- the first that has it stands at a place
-pub record HasFirst (came : List CameOf) (n : ℕ) (i : ℕ) : Type 0 where
+pub record HasFirst (came : List StretchOf) (n : ℕ) (i : ℕ) : Type 0 where
   -- fixed by `at`
-  pub here : CameOf
+  pub here : StretchOf
   pub at : slice_get came i ≡ Some here
   pub within : ahead_of here.number n < length here.bytes
   pub before : HasNone came i n
 
 -- so many bytes were appended: from a number on, each is that of the first that came
-pub record IsRun (came : List CameOf) (n : ℕ) (before after : List ℕ) (len : ℕ) : Type 0 where
+pub record IsRun (came : List StretchOf) (n : ℕ) (before after : List ℕ) (len : ℕ) : Type 0 where
   -- fixed by `handed`
   pub run : List ℕ
   pub handed : after ≡ before ++ run
@@ -84,12 +84,12 @@ pub record IsRun (came : List CameOf) (n : ℕ) (before after : List ℕ) (len :
   pub each : (k : ℕ) → k < len → byte_numbered came ((n + k) % 2 ^ 32) ≡ slice_get run k
 
 -- of those before a place, none is nearer to a number than one of them
-pub record IsNearestOf (came : List CameOf) (i next n : ℕ) : Type 0 where
+pub record IsNearestOf (came : List StretchOf) (i next n : ℕ) : Type 0 where
   -- fixed by `at`
   pub place : ℕ
-  pub here : CameOf
+  pub here : StretchOf
   pub at : slice_get came place ≡ Some here
   pub is : here.number ≡ n
   pub least :
-      (j : ℕ) (c : CameOf) → j < i → slice_get came j ≡ Some c
+      (j : ℕ) (c : StretchOf) → j < i → slice_get came j ≡ Some c
       → ahead_of next n ≤ ahead_of next c.number

@@ -14,16 +14,16 @@ abbrev pub ahead_of : ℕ → ℕ → ℕ
 ahead_of number other = (other + (2 ^ 32 - number)) % 2 ^ 32
 
 -- bytes that came, by the number of the first
-pub record CameOf : Type 0 where
+pub record StretchOf : Type 0 where
   pub number : ℕ
   pub bytes : List ℕ
 
 -- the byte of a number, if one of them has it
-abbrev pub byte_of : CameOf → ℕ → Option ℕ
+abbrev pub byte_of : StretchOf → ℕ → Option ℕ
 byte_of c n = slice_get c.bytes (ahead_of c.number n)
 
 -- that of the first that came
-abbrev pub byte_numbered : List CameOf → ℕ → Option ℕ
+abbrev pub byte_numbered : List StretchOf → ℕ → Option ℕ
 byte_numbered [] n = None
 byte_numbered (c ∷ cs) n = option_or (byte_of c n) (byte_numbered cs n)
 
@@ -33,7 +33,7 @@ abbrev pub reaches : ℕ → ℕ → ℕ → Bool
 reaches first len n =
     nat_lt 0 len && (nat_le (2 ^ 31) (ahead_of first n) || nat_lt (ahead_of first n) len)
 
-abbrev pub goes_beyond : ℕ → CameOf → Bool
+abbrev pub goes_beyond : ℕ → StretchOf → Bool
 goes_beyond n c = reaches c.number (length c.bytes) n
 
 -- what is known of a stream: the number of its first byte, once a segment came; that of the byte
@@ -42,7 +42,7 @@ goes_beyond n c = reaches c.number (length c.bytes) n
 pub record StreamOf : Type 0 where
   pub first : Option ℕ
   pub next : ℕ
-  pub came : List CameOf
+  pub came : List StretchOf
   pub end : Option ℕ
   pub gives_up : Bool
 
@@ -51,7 +51,7 @@ abbrev pub first_number : SegmentOf → ℕ
 first_number s = (s.number + (if s.begins then 1 else 0)) % 2 ^ 32
 
 -- its bytes, as far as they are taken
-abbrev pub bytes_taken : SegmentOf → CameOf
+abbrev pub bytes_taken : SegmentOf → StretchOf
 bytes_taken s = record { number = first_number s; bytes = take MAX_SEGMENT s.payload }
 
 -- the byte that comes next: the first segment tells it
@@ -82,7 +82,7 @@ IsOver k =
     (k.end ≡ Some k.next) ⊎ ((k.end ≡ None) × (k.gives_up ≡ true) × (k.came ≡ []))
 
 -- how many bytes wait
-abbrev pub held : List CameOf → ℕ
+abbrev pub held : List StretchOf → ℕ
 held came = sum (map (λ c. length c.bytes) came)
 
 -- nothing waits, or not too much behind a hole that is waited for
@@ -119,14 +119,14 @@ pub record Waits (old new : StreamOf) (before after : List ℕ) : Type 0 where
   pub same : new ≡ old
 
 -- this number is that of the first byte of bytes that came, and none is nearer to the next
-pub record IsNearest (came : List CameOf) (next n : ℕ) : Type 0 where
+pub record IsNearest (came : List StretchOf) (next n : ℕ) : Type 0 where
   -- fixed by `at`
   pub i : ℕ
-  pub here : CameOf
+  pub here : StretchOf
   pub at : slice_get came i ≡ Some here
   pub is : here.number ≡ n
   pub least :
-      (j : ℕ) (c : CameOf) → slice_get came j ≡ Some c → ahead_of next n ≤ ahead_of next c.number
+      (j : ℕ) (c : StretchOf) → slice_get came j ≡ Some c → ahead_of next n ≤ ahead_of next c.number
 
 -- it isn't waited for any longer: what comes next is the nearest that came
 pub record GivesUp (old new : StreamOf) (before after : List ℕ) : Type 0 where

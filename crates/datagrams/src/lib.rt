@@ -1,7 +1,6 @@
 //! What captured packets carry: IP packets, and UDP datagrams and TCP segments in them.
 #![tactic(auto)]
 
-mod came;
 mod datagram;
 mod ip;
 mod ip_packet;
@@ -11,14 +10,15 @@ mod limits;
 mod link;
 mod link_frame;
 mod next_bytes;
+mod partial_datagram;
 mod parts;
 mod piece;
 mod segment;
 mod slots;
+mod stretch;
 mod tcp;
 mod tcp_stream;
 mod udp;
-mod waiting;
 mod whole_datagram;
 
 pub use datagram::Datagram;

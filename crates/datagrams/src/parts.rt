@@ -2,8 +2,8 @@
 
 use crate::ip_packet::{IpPacket, Part};
 use crate::limits::{MAX_DATAGRAM, MAX_WAITING};
+use crate::partial_datagram::PartialDatagram;
 use crate::piece::Piece;
-use crate::waiting::Waiting;
 use crate::whole_datagram::WholeDatagram;
 use std::alloc::{AllocError, Global};
 use std::marker::Model;
@@ -12,7 +12,7 @@ use std::marker::Model;
 #[derive(Drop)]
 pub struct Parts {
     alloc: Global,
-    waiting: Vec<Waiting>,
+    waiting: Vec<PartialDatagram>,
     dropped: u64,
 }
 
@@ -117,7 +117,7 @@ impl Parts {
             (handed_out d) self.old self.new) }
         ensures err { OnErr result (self.new ≡ self.old) }
     {
-        let mut waiting = Waiting::begin(self.alloc, packet, part)?;
+        let mut waiting = PartialDatagram::begin(self.alloc, packet, part)?;
         let payload = waiting.whole_with(self.alloc, piece)?;
         if let Some(payload) = payload {
             return Ok(Some(waiting.into_whole(payload)));
@@ -128,7 +128,7 @@ impl Parts {
     }
 
     /// One more waits, and if those are too many, the oldest is let go of.
-    fn wait(&mut self, waiting: Waiting) -> Result<(), AllocError>
+    fn wait(&mut self, waiting: PartialDatagram) -> Result<(), AllocError>
         ensures ok { OnOk result (BeginsToWait waiting self.old self.new) }
         ensures err { OnErr result (self.new ≡ self.old) }
     {
@@ -147,7 +147,7 @@ ghost use Rattle.datagrams.specs.Ip.{ip_of};
 ghost use Rattle.datagrams.specs.Parts.{key_of};
 
 /// Where the datagram stands that a packet is a part of.
-fn place_of(waiting: &[Waiting], packet: &IpPacket<'_>, part: Part) -> Option<usize>
+fn place_of(waiting: &[PartialDatagram], packet: &IpPacket<'_>, part: Part) -> Option<usize>
     ensures some { IfSome result (IsFirst (key_of (ip_of packet.now) part) waiting.now) }
     ensures none { IsNone result → IsNew (key_of (ip_of packet.now) part) waiting.now }
 {

@@ -1,9 +1,9 @@
 //! One direction of a TCP connection.
 
-use crate::came::{Came, reaches};
 use crate::limits::{MAX_CAME, MAX_HELD, MAX_SEGMENT};
 use crate::next_bytes::NextBytes;
 use crate::segment::Segment;
+use crate::stretch::{Stretch, reaches};
 use std::alloc::{AllocError, Global};
 use std::marker::Model;
 
@@ -16,7 +16,7 @@ pub struct TcpStream {
     /// That of the byte that comes next.
     next: u32,
     /// What waits, in the order in which it came.
-    came: Vec<Came>,
+    came: Vec<Stretch>,
     /// The number behind the last byte, once that is told.
     end: Option<u32>,
     /// Whether holes are waited for no longer.
@@ -205,7 +205,7 @@ fn end_with(end: Option<u32>, ends: bool, number: u32, len: usize) -> Option<u32
 /// Keeps bytes that came, unless all of them stand before the next.
 fn keep(
     alloc: Global,
-    came: &mut Vec<Came>,
+    came: &mut Vec<Stretch>,
     number: u32,
     bytes: &[u8],
     next: u32,
@@ -220,12 +220,12 @@ fn keep(
     if !reaches(number, bytes.len(), next) {
         return Ok(());
     }
-    came.push(Came::from(alloc, number, bytes)?)?;
+    came.push(Stretch::from(alloc, number, bytes)?)?;
     Ok(())
 }
 
 /// Where the first stands that has the byte of a number.
-fn place_with(came: &[Came], number: u32) -> Option<usize>
+fn place_with(came: &[Stretch], number: u32) -> Option<usize>
     ensures some { IfSome result (HasFirst came.now number) }
     ensures none { IsNone result → byte_numbered came.now number ≡ None }
 {
@@ -240,7 +240,7 @@ fn place_with(came: &[Came], number: u32) -> Option<usize>
 /// Appends bytes from a number on, of those at a place: as many as none before them has. That is how
 /// many.
 fn hand_out(
-    came: &[Came],
+    came: &[Stretch],
     place: usize,
     number: u32,
     out: &mut Vec<u8>,
@@ -259,7 +259,7 @@ fn hand_out(
 
 /// How many bytes stand before the first of those before a place that is ahead of a number, and at
 /// most so many.
-fn len_before(came: &[Came], place: usize, number: u32, most: usize) -> usize
+fn len_before(came: &[Stretch], place: usize, number: u32, most: usize) -> usize
     requires within { place ≤ length came.now }
     requires some { 0 < most }
     requires none { HasNone came.now place number }
@@ -278,7 +278,7 @@ fn len_before(came: &[Came], place: usize, number: u32, most: usize) -> usize
 }
 
 /// How many bytes there are.
-fn held(came: &[Came]) -> usize
+fn held(came: &[Stretch]) -> usize
     ensures { result ≡ min (held_of came.now) (2 ^ 64 - 1) }
 {
     let mut held: usize = 0;
@@ -289,7 +289,7 @@ fn held(came: &[Came]) -> usize
 }
 
 /// The number of the first byte that comes behind a number.
-fn nearest(came: &[Came], number: u32) -> u32
+fn nearest(came: &[Stretch], number: u32) -> u32
     requires { 0 < length came.now }
     ensures { IsNearest came.now number result }
 {
@@ -301,7 +301,7 @@ fn nearest(came: &[Came], number: u32) -> u32
 }
 
 /// Lets go of what stands before a number.
-fn drop_before(came: &mut Vec<Came>, number: u32)
+fn drop_before(came: &mut Vec<Stretch>, number: u32)
     ensures { came.new.items ≡ filter (goes_beyond number) came.old.items }
 {
     let mut i = 0;

@@ -1,7 +1,7 @@
 use Rattle.std.proofs.Common.{◌≡◌, ◌+◌, ◌<◌, ◌++◌, Some, sym, ap, subst, ◌∙◌, length, slice_range, arith}
 use Rattle.std.proofs.lemmas.Option.{get_or_from_slice_get}
 use Rattle.datagrams.specs.Inner.{HasFirst}
-use Rattle.datagrams.specs.TcpStreams.{CameOf, ahead_of}
+use Rattle.datagrams.specs.TcpStreams.{StretchOf, ahead_of}
 use Rattle.datagrams.proofs.StreamLemmas.{is-run}
 use Rattle.datagrams.proofs.tcp_stream.hand_out.Goals as goal
 
@@ -15,7 +15,7 @@ returns-clause-ok c =
     let first : HasFirst came number c.args.place = record {
       here = here;
       at = c.requires.at ∙ ap Some (sym same);
-      within = subst (λ (x : CameOf). ahead_of x.number number < length x.bytes) (sym same) c.requires.within;
+      within = subst (λ (x : StretchOf). ahead_of x.number number < length x.bytes) (sym same) c.requires.within;
       before = c.requires.before;
     } in
     is-run came c.args.place number c.len_before-len.result c.args.out.now.items c.append_to.new.out.items first

@@ -6,34 +6,34 @@ use std::marker::Model;
 
 /// Bytes of a connection that came, by the sequence number of the first.
 #[derive(Drop)]
-pub struct Came {
+pub struct Stretch {
     number: u32,
     bytes: Vec<u8>,
 }
 
-impl Model for Came {
+impl Model for Stretch {
     ghost use Rattle.std.specs.Prelude.{◌≤◌, ◌<◌, ◌^◌, length};
-    ghost use Rattle.datagrams.specs.TcpStreams.{CameOf};
+    ghost use Rattle.datagrams.specs.TcpStreams.{StretchOf};
     ghost use Rattle.datagrams.specs.declared.limits.TheConstants.{MAX_SEGMENT};
 
-    ghost Value = { CameOf };
+    ghost Value = { StretchOf };
 
     ghost view = { λ a. record { number = a.number; bytes = a.bytes.items } };
 
     ghost invariant = { λ a. (a.number < 2 ^ 32) × (length a.bytes.items ≤ MAX_SEGMENT) };
 }
 
-impl Came {
+impl Stretch {
     ghost use Rattle.std.specs.Prelude.{◌≡◌, ◌+◌, ◌≤◌, ◌<◌, ◌^◌, ◌++◌, length, slice_range};
     ghost use Rattle.std.specs.Prelude.{IfOk, OnErr, OnOk, if◌then◌else◌, nat_lt};
     ghost use Rattle.datagrams.specs.TcpStreams.{ahead_of, goes_beyond};
 
     /// These bytes, from this number on.
-    pub fn from(alloc: Global, number: u32, bytes: &[u8]) -> Result<Came, AllocError>
+    pub fn from(alloc: Global, number: u32, bytes: &[u8]) -> Result<Stretch, AllocError>
         requires { length bytes.now ≤ MAX_SEGMENT }
         ensures { IfOk result (λ it. it ≡ record { number = number; bytes = bytes.now }) }
     {
-        Ok(Came {
+        Ok(Stretch {
             number,
             bytes: Vec::from_slice(alloc, bytes)?,
         })

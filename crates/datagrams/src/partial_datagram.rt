@@ -10,7 +10,7 @@ use std::marker::Model;
 
 /// A datagram that waits for parts: what came first at each place, and where it ends.
 #[derive(Drop)]
-pub struct Waiting {
+pub struct PartialDatagram {
     from: Vec<u8>,
     to: Vec<u8>,
     protocol: u8,
@@ -19,7 +19,7 @@ pub struct Waiting {
     end: Option<usize>,
 }
 
-impl Model for Waiting {
+impl Model for PartialDatagram {
     ghost use Rattle.datagrams.specs.Waiting.{KeptOf};
 
     ghost Value = { KeptOf };
@@ -31,7 +31,7 @@ impl Model for Waiting {
     } };
 }
 
-impl Waiting {
+impl PartialDatagram {
     ghost use Rattle.std.specs.Prelude.{◌≡◌, ◌+◌, ◌≤◌, ◌^◌, ℕ, List, [], None, length};
     ghost use Rattle.std.specs.Prelude.{IfOk, IfSome, IsNone, OnErr, OnOk};
     ghost use Rattle.datagrams.specs.Inner.{GainsPiece, IsWholeWith, piece_shown};
@@ -40,14 +40,18 @@ impl Waiting {
     ghost use Rattle.datagrams.specs.Whole.{whole_of};
 
     /// The datagram that a packet is a part of; none came yet.
-    pub fn begin(alloc: Global, packet: &IpPacket<'_>, part: Part) -> Result<Waiting, AllocError>
+    pub fn begin(
+        alloc: Global,
+        packet: &IpPacket<'_>,
+        part: Part,
+    ) -> Result<PartialDatagram, AllocError>
         ensures { IfOk result (λ it. it ≡ record {
           key = key_of (ip_of packet.now) part;
           slots = [];
           end = None;
         }) }
     {
-        Ok(Waiting {
+        Ok(PartialDatagram {
             from: Vec::from_slice(alloc, packet.from)?,
             to: Vec::from_slice(alloc, packet.to)?,
             protocol: packet.protocol,
