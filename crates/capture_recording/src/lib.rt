@@ -3,11 +3,13 @@
 
 mod capture_read_fault;
 mod capture_sink;
+mod carried;
+mod connection;
+mod flow;
 mod nanoseconds;
 mod reading;
 mod slave;
 mod slaves;
-mod talk;
 mod talks;
 
 pub use capture_read_fault::CaptureReadFault;

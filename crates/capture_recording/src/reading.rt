@@ -31,7 +31,10 @@ pub fn read_capture<I: Read, K: Sinks + Drop>(
         }
         match is_read_to_end(input, &mut chunk, &mut held) {
             Ok(false) => {}
-            Ok(true) => return ended(&held),
+            Ok(true) => {
+                slaves.end()?;
+                return ended(&held);
+            }
             Err(TextFault::Memory) => return Err(CaptureReadFault::Memory),
             Err(TextFault::Unreadable) => return Err(CaptureReadFault::Unreadable),
         }

@@ -1,10 +1,18 @@
 //! A slave of a capture.
 
 use crate::capture_sink::CaptureSink;
+use crate::carried::Carried;
+use crate::connection::Connection;
+use crate::talks::Talk;
 use captured_samples::SlaveSamples;
 use captured_session::SessionFault;
+use datagrams::{Segment, tcp_in, udp_in};
 use frame_writer::next_frame;
-use std::net::IpAddr;
+use std::alloc::Global;
+use std::net::{IpAddr, SocketAddr};
+
+/// The most connections whose bytes are kept.
+const MAX_CONNECTIONS: usize = 16;
 
 /// A slave of a capture, and who is handed its samples.
 #[derive(Drop)]
@@ -15,21 +23,134 @@ pub struct Slave<S: CaptureSink + Drop> {
     pub samples: SlaveSamples,
     /// Who is handed them.
     pub sink: S,
+    alloc: Global,
+    connections: Vec<Connection>,
 }
 
 impl<S: CaptureSink + Drop> Slave<S> {
-    /// The frames of a datagram, in their order, as far as they are whole (ASAM MCD-1 XCP, transport
-    /// layer for Ethernet, header).
-    pub fn hear(&mut self, is_of_master: bool, payload: &[u8]) -> Result<(), SessionFault> {
-        let mut rest = payload;
-        for _ in 0..payload.len() {
+    /// Nothing was heard of it.
+    pub fn new(alloc: Global, address: IpAddr, samples: SlaveSamples, sink: S) -> Slave<S> {
+        Slave {
+            address,
+            samples,
+            sink,
+            alloc,
+            connections: Vec::new(alloc),
+        }
+    }
+
+    /// What it and a master say to one another.
+    pub fn hear(&mut self, talk: Talk, carried: &Carried<'_>) -> Result<(), SessionFault> {
+        if carried.is_segment() {
+            return match tcp_in(carried.payload) {
+                Some(segment) => self.hear_segment(talk, &segment),
+                None => Ok(()),
+            };
+        }
+        if let Some(datagram) = udp_in(carried.payload) {
+            self.hear_frames(talk.is_of_master, datagram.payload)?;
+        }
+        Ok(())
+    }
+
+    /// What waits behind holes in connections, at the end of the capture.
+    pub fn give_up_holes(&mut self) -> Result<(), SessionFault> {
+        for place in 0..self.connections.len() {
+            for is_of_master in [true, false] {
+                if let Some(connection) = self.connections.get_mut(place) {
+                    connection.flow(is_of_master).give_up_holes();
+                }
+                self.hear_flow(place, is_of_master)?;
+            }
+        }
+        Ok(())
+    }
+
+    /// A segment.
+    fn hear_segment(&mut self, talk: Talk, segment: &Segment<'_>) -> Result<(), SessionFault> {
+        let place = self.place_of(talk, segment)?;
+        if let Some(connection) = self.connections.get_mut(place) {
+            let flow = connection.flow(talk.is_of_master);
+            if flow.take(segment).is_err() {
+                return Err(SessionFault::Memory);
+            }
+        }
+        self.hear_flow(place, talk.is_of_master)
+    }
+
+    /// The place of a connection, which may be a new one. The slave counts anew in it.
+    fn place_of(&mut self, talk: Talk, segment: &Segment<'_>) -> Result<usize, SessionFault> {
+        let known = position_of(&self.connections, talk.master);
+        if let Some(place) = known {
+            if let Some(connection) = self.connections.get_mut(place) {
+                if connection.flow(talk.is_of_master).may_have(segment) {
+                    return Ok(place);
+                }
+                *connection = Connection::new(self.alloc, talk.master);
+                self.samples.begin_anew();
+                return Ok(place);
+            }
+        }
+        if self.connections.len() >= MAX_CONNECTIONS {
+            self.connections.clear();
+        }
+        self.samples.begin_anew();
+        let place = self.connections.len();
+        match self
+            .connections
+            .push(Connection::new(self.alloc, talk.master))
+        {
+            Ok(()) => Ok(place),
+            Err(_) => Err(SessionFault::Memory),
+        }
+    }
+
+    /// What came in one direction of a connection.
+    fn hear_flow(&mut self, place: usize, is_of_master: bool) -> Result<(), SessionFault> {
+        for _ in 0..u64::MAX {
+            if !self.fetch(place, is_of_master)? {
+                break;
+            }
+        }
+        Ok(())
+    }
+
+    /// Bytes that came next in it; `false` if none came yet.
+    fn fetch(&mut self, place: usize, is_of_master: bool) -> Result<bool, SessionFault> {
+        let Some(connection) = self.connections.get_mut(place) else {
+            return Ok(false);
+        };
+        let flow = connection.flow(is_of_master);
+        match flow.fetch() {
+            Ok(true) => {}
+            Ok(false) => return Ok(false),
+            Err(_) => return Err(SessionFault::Memory),
+        }
+        if !flow.find_step() {
+            return Ok(true);
+        }
+        let bytes = std::mem::replace(&mut flow.bytes, Vec::new(self.alloc));
+        let taken = self.hear_frames(is_of_master, &bytes)?;
+        if let Some(connection) = self.connections.get_mut(place) {
+            let flow = connection.flow(is_of_master);
+            flow.bytes = bytes;
+            flow.drop_front(taken);
+        }
+        Ok(true)
+    }
+
+    /// Frames in their order, as far as they are whole (ASAM MCD-1 XCP, transport layer for
+    /// Ethernet, header). Returns how many bytes they are.
+    fn hear_frames(&mut self, is_of_master: bool, bytes: &[u8]) -> Result<usize, SessionFault> {
+        let mut rest = bytes;
+        for _ in 0..bytes.len() {
             let Some((counter, packet, behind)) = next_frame(rest) else {
                 break;
             };
             self.hear_packet(is_of_master, counter, packet)?;
             rest = behind;
         }
-        Ok(())
+        Ok(bytes.len().saturating_sub(rest.len()))
     }
 
     /// The packet of a frame.
@@ -44,4 +165,11 @@ impl<S: CaptureSink + Drop> Slave<S> {
         }
         self.samples.hear_slave(counter, packet, &mut self.sink)
     }
+}
+
+/// The place of the connection of a master.
+fn position_of(connections: &[Connection], master: SocketAddr) -> Option<usize> {
+    connections
+        .iter()
+        .position(|connection| connection.master == master)
 }

@@ -2,13 +2,14 @@
 
 use crate::capture_read_fault::CaptureReadFault;
 use crate::capture_sink::CaptureSink;
+use crate::carried::Carried;
 use crate::nanoseconds::nanoseconds_of;
 use crate::slave::Slave;
-use crate::talk::Talk;
-use crate::talks::talk_in;
+use crate::talks::{Talk, talk_of};
 use capture::Captured;
 use captured_samples::SlaveSamples;
 use captured_session::Form;
+use datagrams::{Link, Parts, ip_in, packet_in};
 use std::alloc::Global;
 use std::net::IpAddr;
 
@@ -32,6 +33,7 @@ pub struct Slaves<K: Sinks + Drop> {
     form: Form,
     sinks: K,
     slaves: Vec<Slave<K::Sink>>,
+    parts: Parts,
 }
 
 impl<K: Sinks + Drop> Slaves<K> {
@@ -43,6 +45,7 @@ impl<K: Sinks + Drop> Slaves<K> {
             form,
             sinks,
             slaves: Vec::new(alloc),
+            parts: Parts::new(alloc),
         }
     }
 
@@ -58,25 +61,53 @@ impl<K: Sinks + Drop> Slaves<K> {
 
     /// The next captured packet.
     pub fn take(&mut self, captured: &Captured<'_>) -> Result<(), CaptureReadFault> {
-        let Some(talk) = talk_in(captured, self.port) else {
+        let time = captured.time.and_then(nanoseconds_of);
+        let Some(bytes) = ip_in(Link::of(captured.link), captured.bytes) else {
             return Ok(());
         };
-        let Some(place) = self.place_of(&talk)? else {
+        let Some(packet) = packet_in(bytes) else {
+            return Ok(());
+        };
+        if packet.part.is_none() {
+            return self.hear(time, &Carried::by_packet(&packet));
+        }
+        match self.parts.take(&packet) {
+            Ok(Some(whole)) => self.hear(time, &Carried::by_parts(&whole)),
+            Ok(None) => Ok(()),
+            Err(_) => Err(CaptureReadFault::Memory),
+        }
+    }
+
+    /// The end of the capture: what waits in connections is taken.
+    pub fn end(&mut self) -> Result<(), CaptureReadFault> {
+        for slave in self.slaves.iter_mut() {
+            if let Err(fault) = slave.give_up_holes() {
+                return Err(CaptureReadFault::Session(fault));
+            }
+        }
+        Ok(())
+    }
+
+    /// What was carried, at this time.
+    fn hear(&mut self, time: Option<i64>, carried: &Carried<'_>) -> Result<(), CaptureReadFault> {
+        let Some(talk) = talk_of(carried, self.port) else {
+            return Ok(());
+        };
+        let Some(place) = self.place_of(talk)? else {
             return Ok(());
         };
         let Some(slave) = self.slaves.get_mut(place) else {
             return Ok(());
         };
-        let time = captured.time.and_then(nanoseconds_of);
         slave.sink.set_time(time);
-        match slave.hear(talk.is_of_master, talk.payload) {
+        match slave.hear(talk, carried) {
             Ok(()) => Ok(()),
             Err(fault) => Err(CaptureReadFault::Session(fault)),
         }
     }
 
     /// The place of a slave, which may be met for the first time; `None` if it isn't read.
-    fn place_of(&mut self, talk: &Talk<'_>) -> Result<Option<usize>, CaptureReadFault> {
+    fn place_of(&mut self, talk: Talk) -> Result<Option<usize>, CaptureReadFault> {
         let known = self
             .slaves
             .iter()
@@ -96,11 +127,8 @@ impl<K: Sinks + Drop> Slaves<K> {
         if place >= MAX_SLAVES {
             return Err(CaptureReadFault::ManySlaves);
         }
-        let slave = Slave {
-            address,
-            samples: SlaveSamples::new(self.alloc, self.form),
-            sink,
-        };
+        let samples = SlaveSamples::new(self.alloc, self.form);
+        let slave = Slave::new(self.alloc, address, samples, sink);
         match self.slaves.push(slave) {
             Ok(()) => Ok(Some(place)),
             Err(_) => Err(CaptureReadFault::Memory),

@@ -1,0 +1,75 @@
+//! What IP packets carry.
+
+use datagrams::{IpPacket, WholeDatagram, tcp_in, udp_in};
+use std::net::{IpAddr, Ipv4Addr, Ipv6Addr};
+
+/// The protocol numbers of TCP and UDP.
+const TCP: u8 = 6;
+
+const UDP: u8 = 17;
+
+/// What IP packets carry, whole or put together.
+#[derive(Clone, Copy)]
+pub struct Carried<'b> {
+    /// The address of the sender.
+    pub from: &'b [u8],
+    /// That of the receiver.
+    pub to: &'b [u8],
+    /// The protocol.
+    pub protocol: u8,
+    /// What is carried.
+    pub payload: &'b [u8],
+}
+
+impl<'b> Carried<'b> {
+    /// By a packet that is whole.
+    pub fn by_packet(packet: &IpPacket<'b>) -> Carried<'b> {
+        Carried {
+            from: packet.from,
+            to: packet.to,
+            protocol: packet.protocol,
+            payload: packet.payload,
+        }
+    }
+
+    /// By the parts of a datagram.
+    pub fn by_parts(whole: &'b WholeDatagram) -> Carried<'b> {
+        Carried {
+            from: &whole.from,
+            to: &whole.to,
+            protocol: whole.protocol,
+            payload: &whole.payload,
+        }
+    }
+
+    /// Its ports, of the sender and of the receiver, if it is a datagram of UDP or a segment of TCP.
+    pub fn ports(&self) -> Option<(u16, u16)> {
+        match self.protocol {
+            UDP => {
+                let datagram = udp_in(self.payload)?;
+                Some((datagram.from_port, datagram.to_port))
+            }
+            TCP => {
+                let segment = tcp_in(self.payload)?;
+                Some((segment.from_port, segment.to_port))
+            }
+            _ => None,
+        }
+    }
+
+    /// Whether it is a segment of TCP.
+    pub fn is_segment(&self) -> bool {
+        self.protocol == TCP
+    }
+}
+
+/// An address of 4 bytes or 16.
+pub fn address_of(bytes: &[u8]) -> Option<IpAddr> {
+    if let Some(octets) = bytes.first_chunk::<4>() {
+        if bytes.len() == 4 {
+            return Some(IpAddr::V4(Ipv4Addr::from_octets(*octets)));
+        }
+    }
+    let octets = bytes.first_chunk::<16>()?;
+    Some(IpAddr::V6(Ipv6Addr::from_octets(*octets)))
+}
