@@ -1,7 +1,8 @@
 -- What no public clause cites: how far the headers of an IP packet of version 6 were read, and what
 -- a part changes of one datagram that waits; what came of a connection.
-use Rattle.std.specs.Prelude.{◌≡◌, ℕ, ◌+◌, ◌-◌, ◌%◌, ◌^◌, ◌<◌, ◌≤◌, min, true, false, List, [], ◌∷◌, ◌++◌}
-use Rattle.std.specs.Prelude.{drop, length, get_or, slice_get, Option, Some, None}
+use Rattle.std.specs.Prelude.{◌≡◌, ℕ, ◌+◌, ◌-◌, ◌%◌, ◌^◌, ◌<◌, ◌≤◌, min, true, false}
+use Rattle.std.specs.Prelude.{List, [], ◌∷◌, ◌++◌, drop, length, get_or, slice_get}
+use Rattle.std.specs.Prelude.{Option, Some, None}
 use Rattle.std.specs.Option.{option_or}
 use Rattle.datagrams.specs.Ipv6.{CarriedOf, IsChain}
 use Rattle.datagrams.specs.Parts.{KeyOf, PieceOf, byte_in, same_key}
@@ -29,13 +30,15 @@ pub record IsJoined (slots : List (Option ℕ)) (p : PieceOf) (end : ℕ) (bytes
     : Type 0 where
   pub many : end ≡ length bytes
   pub each :
-      (i : ℕ) → i < length bytes → option_or (get_or slots i None) (byte_in p i) ≡ slice_get bytes i
+      (i : ℕ) → i < length bytes
+      → option_or (get_or slots i None) (byte_in p i) ≡ slice_get bytes i
 
 -- a datagram of which this is kept is whole with a piece, and carries these bytes
 pub record IsWholeWith (k : KeptOf) (p : PieceOf) (bytes : List ℕ) : Type 0 where
   pub end : option_or k.end p.end ≡ Some (length bytes)
   pub each :
-      (i : ℕ) → i < length bytes → option_or (get_or k.slots i None) (byte_in p i) ≡ slice_get bytes i
+      (i : ℕ) → i < length bytes
+      → option_or (get_or k.slots i None) (byte_in p i) ≡ slice_get bytes i
 
 -- a piece came
 pub record GainsPiece (old new : KeptOf) (p : PieceOf) : Type 0 where

@@ -42,8 +42,8 @@ piece_of p part = record {
 -- is none
 abbrev pub part_within : IpOf → Option Part
 part_within p =
-    option_and_then (λ part. if nat_le (part.at + length p.payload) MAX_DATAGRAM then Some part else None)
-    p.part
+    option_and_then
+    (λ part. if nat_le (part.at + length p.payload) MAX_DATAGRAM then Some part else None) p.part
 
 -- the byte of the datagram's at a place, if a part has it
 abbrev pub byte_in : PieceOf → ℕ → Option ℕ

@@ -1,7 +1,8 @@
 -- One direction of a TCP connection, put in order by the sequence numbers (RFC 9293).
-use Rattle.std.specs.Prelude.{◌≡◌, ◌⊎◌, ℕ, ◌+◌, ◌-◌, ◌%◌, ◌^◌, ◌<◌, ◌≤◌, Bool, ◌&&◌, ◌||◌, true, false}
-use Rattle.std.specs.Prelude.{if◌then◌else◌, nat_le, nat_lt, sum, List, [], ◌∷◌, ◌++◌, take, map}
-use Rattle.std.specs.Prelude.{length, slice_get, Option, Some, None, is_some, unwrap_or}
+use Rattle.std.specs.Prelude.{◌≡◌, ◌⊎◌, ℕ, ◌+◌, ◌-◌, ◌%◌, ◌^◌, ◌<◌, ◌≤◌, Bool, ◌&&◌, ◌||◌}
+use Rattle.std.specs.Prelude.{true, false, if◌then◌else◌, nat_le, nat_lt, sum, List, [], ◌∷◌}
+use Rattle.std.specs.Prelude.{◌++◌, take, map, length, slice_get, Option, Some, None, is_some}
+use Rattle.std.specs.Prelude.{unwrap_or}
 use Rattle.std.specs.List.{filter}
 use Rattle.std.specs.Option.{option_or}
 use Rattle.datagrams.specs.Tcp.{SegmentOf}
@@ -27,8 +28,8 @@ abbrev pub byte_numbered : List StretchOf → ℕ → Option ℕ
 byte_numbered [] n = None
 byte_numbered (c ∷ cs) n = option_or (byte_of c n) (byte_numbered cs n)
 
--- of so many bytes, from a number on, one doesn't stand before another number. What is farther ahead
--- than half of all numbers is behind
+-- of so many bytes, from a number on, one doesn't stand before another number: before a number
+-- stand those that it is ahead of by less than half of all numbers
 abbrev pub reaches : ℕ → ℕ → ℕ → Bool
 reaches first len n =
     nat_lt 0 len && (nat_le (2 ^ 31) (ahead_of first n) || nat_lt (ahead_of first n) len)
@@ -37,8 +38,8 @@ abbrev pub goes_beyond : ℕ → StretchOf → Bool
 goes_beyond n c = reaches c.number (length c.bytes) n
 
 -- what is known of a stream: the number of its first byte, once a segment came; that of the byte
--- which comes next; what waits, in the order in which it came; the number behind the last byte, once
--- that was told; and whether holes are waited for no longer
+-- which comes next; what waits, in the order in which it came; the number behind the last byte,
+-- once that was told; and whether holes are waited for no longer
 pub record StreamOf : Type 0 where
   pub first : Option ℕ
   pub next : ℕ
@@ -64,7 +65,8 @@ with_segment old s = record {
   first = Some (unwrap_or old.first (first_number s));
   next = next_number old s;
   came =
-      if goes_beyond (next_number old s) (bytes_taken s) then old.came ++ bytes_taken s ∷ [] else old.came;
+      if goes_beyond (next_number old s) (bytes_taken s) then old.came ++ bytes_taken s ∷ []
+      else old.came;
   end =
       if s.ends then Some ((first_number s + length (bytes_taken s).bytes) % 2 ^ 32) else old.end;
   gives_up = s.breaks_off;

@@ -22,7 +22,8 @@ impl<'b> Piece<'b> {
 
     /// That of a packet that is this part, if it ends within the longest datagram.
     pub fn of(packet: &IpPacket<'b>, part: Part) -> Option<Piece<'b>>
-        ensures some { IfSome result (λ piece. piece_shown piece ≡ piece_of (ip_of packet.now) part) }
+        ensures some { IfSome result (λ piece.
+            piece_shown piece ≡ piece_of (ip_of packet.now) part) }
         ensures within { IfSome result (λ _.
             part.at + length packet.now.payload.now ≤ MAX_DATAGRAM) }
         ensures none { IsNone result → MAX_DATAGRAM < part.at + length packet.now.payload.now }

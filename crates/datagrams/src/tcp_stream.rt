@@ -123,8 +123,8 @@ impl TcpStream {
         self.gives_up = true;
     }
 
-    /// Whether no more comes: all up to FIN was handed out, or all that came, where holes are waited
-    /// for no longer.
+    /// Whether no more comes: all up to FIN was handed out, or all that came, once holes were given
+    /// up.
     pub fn is_over(&self) -> bool
         ensures { IsTrue result ↔ IsOver self.now }
     {
@@ -177,7 +177,8 @@ impl TcpStream {
 }
 
 ghost use Rattle.std.specs.Prelude.{◌≡◌, ◌+◌, ◌%◌, ◌^◌, ◌≤◌, ◌<◌, ℕ, length, None, Some};
-ghost use Rattle.std.specs.Prelude.{◌-◌, ◌∷◌, ◌++◌, [], IfOk, IfSome, IsNone, OnErr, OnOk, min, if◌then◌else◌};
+ghost use Rattle.std.specs.Prelude.{◌-◌, ◌∷◌, ◌++◌, [], IfOk, IfSome, IsNone, OnErr, OnOk, min};
+ghost use Rattle.std.specs.Prelude.{if◌then◌else◌};
 ghost use Rattle.std.specs.List.{filter};
 ghost use Rattle.datagrams.specs.Inner.{HasFirst, HasNone, IsRun};
 ghost use Rattle.datagrams.specs.Tcp.{segment_of};
@@ -237,8 +238,8 @@ fn place_with(came: &[Stretch], number: u32) -> Option<usize>
     None
 }
 
-/// Appends bytes from a number on, of those at a place: as many as none before them has. That is how
-/// many.
+/// Appends bytes from a number on, of those at a place, as far as none before them has one. Returns
+/// how many.
 fn hand_out(
     came: &[Stretch],
     place: usize,
