@@ -60,21 +60,32 @@ impl Flow {
 
     /// Goes to where frames begin, and tells whether that is known.
     pub fn find_step(&mut self) -> bool {
-        if self.is_in_step && !is_lost(&self.bytes) {
+        if self.is_at_frame() {
             return true;
         }
         self.is_in_step = false;
-        match step_in(&self.bytes) {
+        match self.step() {
             Some(at) => {
                 self.drop_front(at);
                 self.is_in_step = true;
                 true
             }
             None => {
-                self.drop_front(self.bytes.len().saturating_sub(MAX_SEARCHED));
+                let len = self.bytes.len();
+                self.drop_front(len.saturating_sub(MAX_SEARCHED));
                 false
             }
         }
+    }
+
+    /// Whether it is known that a frame begins here.
+    fn is_at_frame(&self) -> bool {
+        self.is_in_step && !is_lost(&self.bytes)
+    }
+
+    /// Where frames begin, if four do.
+    fn step(&self) -> Option<usize> {
+        step_in(&self.bytes)
     }
 
     /// Drops the first `n` bytes, or all.
