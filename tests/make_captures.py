@@ -46,7 +46,7 @@ OVERLOAD_NONE, OVERLOAD_PID, OVERLOAD_EVENT = 0, 1, 2
 # (address extension, address, bytes), of each ODT
 FORMS = {
     "a": Form("<", 1, OVERLOAD_PID, 4),
-    "b": Form(">", 3, OVERLOAD_NONE, 2, fixed=True, granularity=2, fill=3, many=True),
+    "b": Form(">", 3, OVERLOAD_NONE, 2, fixed=True, fill=3, many=True),
     "c": Form("<", 2, OVERLOAD_EVENT, 0),
     "d": Form(">", 0, OVERLOAD_PID, 1),
     "e": Form("<", 0, OVERLOAD_EVENT, 2, first=3),

@@ -40,6 +40,11 @@ impl Flow {
         self.stream.take(segment)
     }
 
+    /// Whether bytes before this number are still to come.
+    pub fn is_short_of(&self, number: u32) -> bool {
+        self.stream.is_short_of(number)
+    }
+
     /// What is missing isn't waited for any longer.
     pub fn give_up_holes(&mut self) {
         self.stream.give_up_holes();

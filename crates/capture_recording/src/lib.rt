@@ -3,9 +3,9 @@
 
 mod capture_read_fault;
 mod capture_sink;
-mod carried;
 mod connection;
 mod flow;
+mod ip_data;
 mod nanoseconds;
 mod reading;
 mod slave;

@@ -1,8 +1,8 @@
 //! A slave of a capture.
 
 use crate::capture_sink::CaptureSink;
-use crate::carried::Carried;
 use crate::connection::Connection;
+use crate::ip_data::IpData;
 use crate::talks::Talk;
 use captured_samples::SlaveSamples;
 use captured_session::SessionFault;
@@ -40,7 +40,7 @@ impl<S: CaptureSink + Drop> Slave<S> {
     }
 
     /// What it and a master say to one another.
-    pub fn hear(&mut self, talk: Talk, carried: &Carried<'_>) -> Result<(), SessionFault> {
+    pub fn hear(&mut self, talk: Talk, carried: &IpData<'_>) -> Result<(), SessionFault> {
         if carried.is_segment() {
             return match tcp_in(carried.payload) {
                 Some(segment) => self.hear_segment(talk, &segment),
@@ -69,6 +69,9 @@ impl<S: CaptureSink + Drop> Slave<S> {
     /// A segment.
     fn hear_segment(&mut self, talk: Talk, segment: &Segment<'_>) -> Result<(), SessionFault> {
         let place = self.place_of(talk, segment)?;
+        if let Some(number) = segment.acknowledged {
+            self.hear_acknowledged(place, !talk.is_of_master, number)?;
+        }
         if let Some(connection) = self.connections.get_mut(place) {
             let flow = connection.flow(talk.is_of_master);
             if flow.take(segment).is_err() {
@@ -76,6 +79,25 @@ impl<S: CaptureSink + Drop> Slave<S> {
             }
         }
         self.hear_flow(place, talk.is_of_master)
+    }
+
+    /// Bytes before this number came to the receiver: those that the capture doesn't have aren't
+    /// waited for any longer.
+    fn hear_acknowledged(
+        &mut self,
+        place: usize,
+        is_of_master: bool,
+        number: u32,
+    ) -> Result<(), SessionFault> {
+        let Some(connection) = self.connections.get_mut(place) else {
+            return Ok(());
+        };
+        let flow = connection.flow(is_of_master);
+        if !flow.is_short_of(number) {
+            return Ok(());
+        }
+        flow.give_up_holes();
+        self.hear_flow(place, is_of_master)
     }
 
     /// The place of a connection, which may be a new one. The slave counts anew in it.

@@ -2,7 +2,7 @@
 
 use crate::capture_read_fault::CaptureReadFault;
 use crate::capture_sink::CaptureSink;
-use crate::carried::Carried;
+use crate::ip_data::IpData;
 use crate::nanoseconds::nanoseconds_of;
 use crate::slave::Slave;
 use crate::talks::{Talk, talk_of};
@@ -69,10 +69,10 @@ impl<K: Sinks + Drop> Slaves<K> {
             return Ok(());
         };
         if packet.part.is_none() {
-            return self.hear(time, &Carried::by_packet(&packet));
+            return self.hear(time, &IpData::by_packet(&packet));
         }
         match self.parts.take(&packet) {
-            Ok(Some(whole)) => self.hear(time, &Carried::by_parts(&whole)),
+            Ok(Some(whole)) => self.hear(time, &IpData::by_parts(&whole)),
             Ok(None) => Ok(()),
             Err(_) => Err(CaptureReadFault::Memory),
         }
@@ -89,7 +89,7 @@ impl<K: Sinks + Drop> Slaves<K> {
     }
 
     /// What was carried, at this time.
-    fn hear(&mut self, time: Option<i64>, carried: &Carried<'_>) -> Result<(), CaptureReadFault> {
+    fn hear(&mut self, time: Option<i64>, carried: &IpData<'_>) -> Result<(), CaptureReadFault> {
         let Some(talk) = talk_of(carried, self.port) else {
             return Ok(());
         };

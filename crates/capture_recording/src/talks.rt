@@ -1,6 +1,6 @@
 //! Who talks to whom.
 
-use crate::carried::{Carried, address_of};
+use crate::ip_data::{IpData, address_of};
 use std::net::{IpAddr, SocketAddr};
 
 /// A master and a slave that talk.
@@ -16,7 +16,7 @@ pub struct Talk {
 
 /// Who talks, of whom the slave has this port: who sends to it is a master. What is sent to several
 /// receivers takes no part.
-pub fn talk_of(carried: &Carried<'_>, port: u16) -> Option<Talk> {
+pub fn talk_of(carried: &IpData<'_>, port: u16) -> Option<Talk> {
     let (from_port, to_port) = carried.ports()?;
     let from = address_of(carried.from)?;
     let to = address_of(carried.to)?;

@@ -69,7 +69,7 @@ impl CaptureClock {
         let now = self.now?;
         let first = *self.first_captured.get_or_insert(now);
         Some(SampleTime {
-            at: now as i128 - first as i128,
+            at: (now as i128).checked_sub(first as i128)?,
             tick: NANOSECOND,
         })
     }
@@ -110,7 +110,8 @@ impl CaptureClock {
         if whole <= LONG_WRAP {
             return None;
         }
-        let passed = (self.now? as i128 - last.captured? as i128).checked_mul(1000)?;
+        let passed = (self.now? as i128).checked_sub(last.captured? as i128)?;
+        let passed = passed.checked_mul(1000)?;
         let rest = passed
             .checked_sub(ahead.checked_mul(tick)?)?
             .checked_add(whole / 2)?;

@@ -48,7 +48,7 @@ pub fn holds(entry: &Element, address: u32, size: usize) -> bool
     entry.extension == 0
         && entry.bit == 0xFF
         && entry.address <= address
-        && address as usize + size <= entry.address as usize + entry.size as usize
+        && (address as usize).saturating_add(size) <= entry.address as usize + entry.size as usize
 }
 
 /// The raw value of a column, which stands at a place in the bytes of a sample.

@@ -14,6 +14,7 @@ fn segment(number: u32, payload: &[u8]) -> Segment<'_> {
         from_port: 5555,
         to_port: 1234,
         number,
+        acknowledged: None,
         begins: false,
         ends: false,
         breaks_off: false,

@@ -1,15 +1,18 @@
 -- A TCP segment.
-use Rattle.std.specs.Prelude.{ℕ, ◌*◌, ◌/◌, ◌%◌, ◌≤◌, Bool, nat_eq, List, drop, length, slice_index}
+use Rattle.std.specs.Prelude.{ℕ, ◌*◌, ◌/◌, ◌%◌, ◌≤◌, Bool, nat_eq, if◌then◌else◌, List, drop, length}
+use Rattle.std.specs.Prelude.{Option, Some, None, slice_index}
 use Rattle.measured_values.specs.declared.byte_order.ByteOrder.TheVariants.{MsbFirst}
 use Rattle.capture.specs.Numbers.{field}
 use Rattle.datagrams.specs.declared.segment.Segment.{Segment}
 
--- its ports, the number of its first byte, whether it begins a connection (SYN), ends one (FIN) or
+-- its ports, the number of its first byte, that of the byte its sender waits for, if it tells one
+-- (ACK), whether it begins a connection (SYN), ends one (FIN) or
 -- breaks it off (RST), and what it carries
 pub record SegmentOf : Type 0 where
   pub from_port : ℕ
   pub to_port : ℕ
   pub number : ℕ
+  pub acknowledged : Option ℕ
   pub begins : Bool
   pub ends : Bool
   pub breaks_off : Bool
@@ -20,6 +23,7 @@ segment_of s = record {
   from_port = s.from_port;
   to_port = s.to_port;
   number = s.number;
+  acknowledged = s.acknowledged;
   begins = s.begins;
   ends = s.ends;
   breaks_off = s.breaks_off;
@@ -45,6 +49,7 @@ tcp_segment b = record {
   from_port = field MsbFirst 2 0 b;
   to_port = field MsbFirst 2 2 b;
   number = field MsbFirst 4 4 b;
+  acknowledged = if has_flag 16 b then Some (field MsbFirst 4 8 b) else None;
   begins = has_flag 2 b;
   ends = has_flag 1 b;
   breaks_off = has_flag 4 b;

@@ -47,6 +47,11 @@ pub record StreamOf : Type 0 where
   pub end : Option ℕ
   pub gives_up : Bool
 
+-- bytes before a number are still to come: it is ahead of the next one by less than half of all
+abbrev pub is_short_of : StreamOf → ℕ → Bool
+is_short_of old n =
+    is_some old.first && nat_lt 0 (ahead_of old.next n) && nat_lt (ahead_of old.next n) (2 ^ 31)
+
 -- the number of the first byte of a segment: that behind SYN, if it has that
 abbrev pub first_number : SegmentOf → ℕ
 first_number s = (s.number + (if s.begins then 1 else 0)) % 2 ^ 32

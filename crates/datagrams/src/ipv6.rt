@@ -18,8 +18,11 @@ const FRAGMENT: u8 = 44;
 /// What is carried behind the headers that extend that of a packet.
 #[derive(Clone, Copy)]
 pub struct Carried<'b> {
+    /// The protocol of what is carried.
     pub protocol: u8,
+    /// Which part of a datagram that is, if it isn't a whole one.
     pub part: Option<Part>,
+    /// What is carried, as far as it was captured.
     pub payload: &'b [u8],
 }
 
@@ -59,8 +62,9 @@ fn end_behind(told: usize, len: usize) -> usize
     }
 }
 
-/// What is carried behind the headers in front of these bytes, of which the first is of this kind.
-fn carried_in(first: u8, bytes: &[u8]) -> Option<Carried<'_>>
+/// What is carried behind the headers in front of these bytes, of which the first is of this kind
+/// (RFC 8200): it is itself carried if this is no kind of such headers.
+pub fn carried_in(first: u8, bytes: &[u8]) -> Option<Carried<'_>>
     ensures some { IfSome result (λ carried. (lens : List ℕ)
         × IsChain first bytes.now lens (carried_of carried)) }
     ensures none { IsNone result → (lens : List ℕ) (carried : CarriedOf)

@@ -25,7 +25,7 @@ pub use datagram::Datagram;
 pub use ip::packet_in;
 pub use ip_packet::{IpPacket, Part};
 pub use ipv4::ipv4_in;
-pub use ipv6::ipv6_in;
+pub use ipv6::{Carried, carried_in, ipv6_in};
 pub use limits::{MAX_CAME, MAX_DATAGRAM, MAX_HELD, MAX_SEGMENT, MAX_WAITING};
 pub use link::Link;
 pub use link_frame::ip_in;

@@ -9,6 +9,8 @@ pub struct Segment<'b> {
     pub to_port: u16,
     /// The sequence number of its first byte, or of SYN.
     pub number: u32,
+    /// ACK: the number of the byte that its sender waits for; those before came.
+    pub acknowledged: Option<u32>,
     /// SYN: it begins a connection.
     pub begins: bool,
     /// FIN: its sender sends no more.

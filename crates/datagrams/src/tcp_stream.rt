@@ -43,7 +43,8 @@ impl TcpStream {
     ghost use Rattle.std.specs.Prelude.{if◌then◌else◌};
     ghost use Rattle.datagrams.specs.Tcp.{segment_of};
     ghost use Rattle.datagrams.specs.TcpStreams.{HandsOut, IsOver, MayHave, MayWait};
-    ghost use Rattle.datagrams.specs.TcpStreams.{byte_numbered, moved_to, with_segment};
+    ghost use Rattle.datagrams.specs.TcpStreams.{byte_numbered, is_short_of, moved_to};
+    ghost use Rattle.datagrams.specs.TcpStreams.{with_segment};
 
     /// None of its segments came yet.
     pub fn new(alloc: Global) -> TcpStream
@@ -121,6 +122,14 @@ impl TcpStream {
         } }
     {
         self.gives_up = true;
+    }
+
+    /// Whether bytes before this number are still to come.
+    pub fn is_short_of(&self, number: u32) -> bool
+        ensures { result ≡ is_short_of self.now number }
+    {
+        let ahead = number.wrapping_sub(self.next);
+        self.first.is_some() && ahead != 0 && ahead < 0x8000_0000
     }
 
     /// Whether no more comes: all up to FIN was handed out, or all that came, once holes were given

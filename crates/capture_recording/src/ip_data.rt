@@ -1,6 +1,6 @@
 //! What IP packets carry.
 
-use datagrams::{IpPacket, WholeDatagram, tcp_in, udp_in};
+use datagrams::{IpPacket, WholeDatagram, carried_in, tcp_in, udp_in};
 use std::net::{IpAddr, Ipv4Addr, Ipv6Addr};
 
 /// The protocol numbers of TCP and UDP.
@@ -10,7 +10,7 @@ const UDP: u8 = 17;
 
 /// What IP packets carry, whole or put together.
 #[derive(Clone, Copy)]
-pub struct Carried<'b> {
+pub struct IpData<'b> {
     /// The address of the sender.
     pub from: &'b [u8],
     /// That of the receiver.
@@ -21,24 +21,42 @@ pub struct Carried<'b> {
     pub payload: &'b [u8],
 }
 
-impl<'b> Carried<'b> {
+impl<'b> IpData<'b> {
     /// By a packet that is whole.
-    pub fn by_packet(packet: &IpPacket<'b>) -> Carried<'b> {
-        Carried {
+    pub fn by_packet(packet: &IpPacket<'b>) -> IpData<'b> {
+        IpData {
             from: packet.from,
             to: packet.to,
             protocol: packet.protocol,
             payload: packet.payload,
         }
+        .behind_extensions()
     }
 
     /// By the parts of a datagram.
-    pub fn by_parts(whole: &'b WholeDatagram) -> Carried<'b> {
-        Carried {
+    pub fn by_parts(whole: &'b WholeDatagram) -> IpData<'b> {
+        IpData {
             from: &whole.from,
             to: &whole.to,
             protocol: whole.protocol,
             payload: &whole.payload,
+        }
+        .behind_extensions()
+    }
+
+    /// What stands behind the headers of version 6 that extend others, which a part of a datagram may
+    /// begin with.
+    fn behind_extensions(self) -> IpData<'b> {
+        if self.from.len() != 16 {
+            return self;
+        }
+        match carried_in(self.protocol, self.payload) {
+            Some(carried) if carried.part.is_none() => IpData {
+                protocol: carried.protocol,
+                payload: carried.payload,
+                ..self
+            },
+            _ => self,
         }
     }
 
