@@ -10,7 +10,10 @@ pub enum CaptureReadFault {
     /// It can't be read.
     #[error("cannot read capture")]
     Unreadable,
-    /// It isn't a capture, or no further.
+    /// It isn't a capture.
+    #[error("no capture of pcap 2.4 or pcapng 1")]
+    NoCapture,
+    /// It isn't one any further.
     #[error("bad capture: {0}")]
     Capture(CaptureFault),
     /// Its last record or block isn't whole.

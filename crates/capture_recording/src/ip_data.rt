@@ -22,6 +22,9 @@ pub struct IpData<'b> {
 }
 
 impl<'b> IpData<'b> {
+    ghost use Rattle.std.specs.Prelude.{IfSome};
+    ghost use Rattle.capture_recording.specs.Talks.{HasPorts};
+
     /// By a packet that is whole.
     pub fn by_packet(packet: &IpPacket<'b>) -> IpData<'b> {
         IpData {
@@ -61,7 +64,9 @@ impl<'b> IpData<'b> {
     }
 
     /// Its ports, of the sender and of the receiver, if it is a datagram of UDP or a segment of TCP.
-    pub fn ports(&self) -> Option<(u16, u16)> {
+    pub fn ports(&self) -> Option<(u16, u16)>
+        ensures { IfSome result (λ ports. HasPorts self.now (ports.0, ports.1)) }
+    {
         match self.protocol {
             UDP => {
                 let datagram = udp_in(self.payload)?;

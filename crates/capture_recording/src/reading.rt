@@ -88,6 +88,7 @@ fn take_unit<K: Sinks + Drop>(
         Ok(Step::Passed(len)) => Ok(len),
         Ok(Step::Wants(_)) => Ok(0),
         Err(CaptureFault::Memory) => Err(CaptureReadFault::Memory),
+        Err(CaptureFault::NoCapture) => Err(CaptureReadFault::NoCapture),
         Err(fault) => Err(CaptureReadFault::Capture(fault)),
     }
 }

@@ -1,4 +1,6 @@
 //! Who talks to whom.
+ghost use Rattle.std.specs.Prelude.{IfSome};
+ghost use Rattle.capture_recording.specs.Talks.{IsTalk};
 
 use crate::ip_data::{IpData, address_of};
 use std::net::{IpAddr, SocketAddr};
@@ -16,7 +18,9 @@ pub struct Talk {
 
 /// Who talks, of whom the slave has this port: who sends to it is a master. What is sent to several
 /// receivers takes no part.
-pub fn talk_of(carried: &IpData<'_>, port: u16) -> Option<Talk> {
+pub fn talk_of(carried: &IpData<'_>, port: u16) -> Option<Talk>
+    ensures { IfSome result (λ talk. IsTalk port carried.now talk) }
+{
     let (from_port, to_port) = carried.ports()?;
     let from = address_of(carried.from)?;
     let to = address_of(carried.to)?;

@@ -1,4 +1,5 @@
 pub mod Places
 pub mod Samples
 pub mod Counters
+pub mod Gaps
 pub mod Inner

@@ -1,5 +1,6 @@
 //! The samples of a slave.
-ghost use Rattle.std.specs.Prelude.{◌<◌, IfSome, length};
+ghost use Rattle.std.specs.Prelude.{◌<◌, ℕ, IfSome, length, slice_get};
+ghost use Rattle.captured_samples.specs.Gaps.{IsMarked};
 
 use crate::counter_steps::{CounterStep, counter_step};
 use crate::last_command::LastCommand;
@@ -95,7 +96,7 @@ impl SlaveSamples {
 
     /// How a frame's counter goes on: behind CONNECT the slave counts anew.
     fn step_of(&mut self, counter: u16, packet: &[u8]) -> CounterStep {
-        if is_sample_packet(packet) || !self.waits_for_connect() {
+        if !is_connect_reply(packet) || !self.waits_for_connect() {
             return counter_step(self.counter, counter);
         }
         self.begin_anew();
@@ -113,10 +114,7 @@ impl SlaveSamples {
     /// Frames are missing.
     fn meet_gap(&mut self) {
         self.tallies.gaps = self.tallies.gaps.saturating_add(1);
-        for list in self.lists.iter_mut() {
-            list.samples.break_off();
-            list.gap = true;
-        }
+        mark_all(&mut self.lists);
     }
 
     /// A reply, or another packet that isn't one of a sample.
@@ -184,9 +182,31 @@ impl SlaveSamples {
     }
 }
 
+/// Frames are missing: each list's next sample is marked, and none goes on from before.
+fn mark_all(lists: &mut [ListState])
+    ensures { (k : ℕ) → IfSome (slice_get lists.new k) IsMarked }
+{
+    for i in 0..lists.len() {
+        mark(&mut lists[i]);
+    }
+}
+
+/// The next sample of a list is marked, and none goes on from before.
+fn mark(list: &mut ListState)
+    ensures { IsMarked list.new }
+{
+    list.samples.break_off();
+    list.gap = true;
+}
+
 /// Whether a packet of a slave is one of a sample.
 fn is_sample_packet(packet: &[u8]) -> bool {
     matches!(packet, [0x00..=0xFB, ..])
+}
+
+/// Whether a packet may be the reply to CONNECT.
+fn is_connect_reply(packet: &[u8]) -> bool {
+    matches!(packet, [0xFF, _, _, _, _, _, _, _, ..])
 }
 
 /// The numbers of the lists that facts speak of, each once.

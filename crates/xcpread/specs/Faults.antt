@@ -21,6 +21,7 @@ status_of_fault (Recording NoValue) = 2
 status_of_fault (Recording Unreadable) = 2
 status_of_fault (Recording fault) = 1
 status_of_fault (Capture unread.Unreadable) = 2
+status_of_fault (Capture unread.NoCapture) = 2
 status_of_fault (Capture fault) = 1
 status_of_fault Unprinted = 1
 status_of_fault _ = 2

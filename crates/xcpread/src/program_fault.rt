@@ -54,6 +54,7 @@ impl ProgramFault {
             ProgramFault::Recording(RecordingFault::Unreadable) => 2,
             ProgramFault::Recording(_) => 1,
             ProgramFault::Capture(CaptureReadFault::Unreadable) => 2,
+            ProgramFault::Capture(CaptureReadFault::NoCapture) => 2,
             ProgramFault::Capture(_) => 1,
             ProgramFault::Unprinted => 1,
             _ => 2,
