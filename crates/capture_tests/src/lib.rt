@@ -6,12 +6,20 @@ mod faults;
 #[cfg(test)]
 mod frames;
 #[cfg(test)]
+mod kept;
+#[cfg(test)]
 mod packets;
 #[cfg(test)]
 mod parts;
 #[cfg(test)]
 mod same;
 #[cfg(test)]
+mod samples;
+#[cfg(test)]
+mod sessions;
+#[cfg(test)]
 mod shown;
 #[cfg(test)]
 mod streams;
+#[cfg(test)]
+mod talk;

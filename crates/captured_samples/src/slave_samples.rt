@@ -21,6 +21,7 @@ pub struct SlaveSamples {
     lists: Vec<ListState>,
     numbers: usize,
     is_changed: bool,
+    is_behind_gap: bool,
     counter: Option<u16>,
     command: LastCommand,
     tallies: Tallies,
@@ -35,6 +36,7 @@ impl SlaveSamples {
             lists: Vec::new(alloc),
             numbers: 0,
             is_changed: false,
+            is_behind_gap: false,
             counter: None,
             command: LastCommand::new(alloc),
             tallies: Tallies::NONE,
@@ -56,7 +58,7 @@ impl SlaveSamples {
         if self.command.is_copy(counter, packet) {
             return Ok(());
         }
-        self.session.hear(Side::Master, packet)?;
+        self.hear(Side::Master, packet)?;
         if self.command.note(counter, packet).is_err() {
             return Err(SessionFault::Memory);
         }
@@ -83,7 +85,7 @@ impl SlaveSamples {
         if is_sample_packet(packet) {
             return self.take(packet, sink);
         }
-        self.hear_reply(packet)
+        self.hear(Side::Slave, packet)
     }
 
     /// A new connection: the slave counts anew.
@@ -114,17 +116,20 @@ impl SlaveSamples {
     /// Frames are missing.
     fn meet_gap(&mut self) {
         self.tallies.gaps = self.tallies.gaps.saturating_add(1);
+        self.is_behind_gap = true;
         mark_all(&mut self.lists);
     }
 
-    /// A reply, or another packet that isn't one of a sample.
-    fn hear_reply(&mut self, packet: &[u8]) -> Result<(), SessionFault> {
+    /// A packet of the session. The set-up may change with a reply, and with a command too, if the one
+    /// before has none.
+    fn hear(&mut self, side: Side, packet: &[u8]) -> Result<(), SessionFault> {
         let before = self.session.set_up().facts().len();
         let form = self.session.set_up().form();
-        self.session.hear(Side::Slave, packet)?;
+        self.session.hear(side, packet)?;
         let set_up = self.session.set_up();
         if set_up.facts().len() != before || set_up.form() != form {
             self.is_changed = true;
+            self.is_behind_gap = false;
         }
         Ok(())
     }
@@ -177,7 +182,7 @@ impl SlaveSamples {
         Ok(Some(ListState {
             number,
             samples: ListSamples::new(self.alloc, found),
-            gap: false,
+            gap: self.is_behind_gap,
         }))
     }
 }
