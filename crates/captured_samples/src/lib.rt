@@ -3,6 +3,7 @@
 
 mod counter_steps;
 mod last_command;
+pub mod laws;
 mod list_samples;
 mod list_state;
 mod mark;
