@@ -1,6 +1,6 @@
 -- The samples of a DAQ list, in its packets.
 use Rattle.std.specs.Prelude.{ℕ, ◌+◌, ◌==◌, ◌&&◌, ◌||◌, Bool, if◌then◌else◌, List, [], ◌∷◌, ◌++◌}
-use Rattle.std.specs.Prelude.{drop, length, Option, Some, None}
+use Rattle.std.specs.Prelude.{drop, length, nat_lt, Option, Some, None}
 use Rattle.std.specs.List.{list_any}
 use Rattle.measured_values.specs.declared.byte_order.ByteOrder.{ByteOrder}
 use Rattle.captured_session.specs.Commands.{dword, word}
@@ -77,3 +77,7 @@ shown_of l packets = record {
   ticks = ticks_of l packets;
   bytes = bytes_from l 0 packets;
 }
+
+-- whether some packets of a sample came, but not all
+abbrev pub is_begun : ShownOf → Bool
+is_begun shown = nat_lt 0 shown.packets && nat_lt shown.packets (length shown.list.odts)

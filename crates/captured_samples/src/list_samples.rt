@@ -40,7 +40,7 @@ impl ListSamples {
     ghost use Rattle.captured_session.specs.Lists.{ListOf};
     ghost use Rattle.captured_samples.specs.Places.{fits, odt_in};
     ghost use Rattle.captured_samples.specs.Inner.{taken_as, ticks_with, with_packet};
-    ghost use Rattle.captured_samples.specs.Samples.{behind, shown_of, ticks_in};
+    ghost use Rattle.captured_samples.specs.Samples.{behind, is_begun, shown_of, ticks_in};
 
     /// Before the first packet of the list.
     pub fn new(alloc: Global, list: CapturedList) -> ListSamples
@@ -85,9 +85,10 @@ impl ListSamples {
 
     /// A gap: the packets of no sample stand on both its sides. Tells whether one was under way.
     pub fn break_off(&mut self) -> bool
-        ensures { self.new ≡ shown_of self.old.list [] }
+        ensures none { self.new ≡ shown_of self.old.list [] }
+        ensures told { result ≡ is_begun self.old }
     {
-        let was_under_way = self.packets > 0 && self.packets < self.list.odts();
+        let was_under_way = self.is_begun();
         self.clear();
         was_under_way
     }
@@ -133,6 +134,13 @@ impl ListSamples {
         ensures { result ≡ fits self.now.list odt packet.now }
     {
         head_len(&self.list, odt) + body_len(&self.list, odt) <= packet.len()
+    }
+
+    /// Whether some packets of a sample came, but not all.
+    fn is_begun(&self) -> bool
+        ensures { result ≡ is_begun self.now }
+    {
+        self.packets > 0 && self.packets < self.list.odts()
     }
 
     /// No packet of a sample.

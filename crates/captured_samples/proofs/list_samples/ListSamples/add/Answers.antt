@@ -1,4 +1,4 @@
-use Rattle.std.proofs.Common.{◌≡◌, ap, ◌∙◌}
+use Rattle.std.proofs.Common.{ap, ◌∙◌}
 use Rattle.captured_samples.specs.Inner.{with_packet}
 use Rattle.captured_samples.proofs.ShownLemmas.{shown-behind}
 use Rattle.captured_samples.proofs.list_samples.ListSamples.add.Goals as goal

@@ -1,4 +1,4 @@
-use Rattle.std.proofs.Common.{◌≡◌, ◌∙◌, ◌==◌, ◌++◌, ◌∷◌, [], ap, sym, subst, refl, true, if◌then◌else◌, OnOk}
+use Rattle.std.proofs.Common.{◌≡◌, ◌∙◌, ◌==◌, ◌++◌, ◌∷◌, [], ap, sym, subst, true, if◌then◌else◌, OnOk}
 use Rattle.captured_samples.specs.Samples.{shown_of}
 use Rattle.captured_samples.proofs.list_samples.ListSamples.go_on.Goals as goal
 
