@@ -1,6 +1,6 @@
 -- What a master and a slave said to one another, with the newest in front: which command was
 -- answered by which reply.
-use Rattle.std.specs.Prelude.{ℕ, Bool, false, if◌then◌else◌, nat_le, ◌==◌, ◌||◌, List, [], ◌∷◌, ◌++◌}
+use Rattle.std.specs.Prelude.{ℕ, Bool, false, if◌then◌else◌, nat_le, List, [], ◌∷◌, ◌++◌}
 use Rattle.std.specs.Prelude.{Option, Some, None}
 use Rattle.captured_session.specs.declared.side.Side.{Side}
 use Rattle.captured_session.specs.declared.side.Side.TheVariants.{Master, Slave}

@@ -9,7 +9,7 @@ use Rattle.captured_session.specs.Exchanges.{Exchange, Heard, exchanges, waiting
 use Rattle.captured_session.specs.declared.command.Command.{Command}
 use Rattle.captured_session.specs.declared.command.Command.TheVariants.{AllocDaq, AllocOdt}
 use Rattle.captured_session.specs.declared.command.Command.TheVariants.{AllocOdtEntry, ClearDaqList}
-use Rattle.captured_session.specs.declared.command.Command.TheVariants.{Connect, FreeDaq, Other}
+use Rattle.captured_session.specs.declared.command.Command.TheVariants.{Connect, FreeDaq}
 use Rattle.captured_session.specs.declared.command.Command.TheVariants.{ProcessorInfo}
 use Rattle.captured_session.specs.declared.command.Command.TheVariants.{ResolutionInfo, SetDaqPtr}
 use Rattle.captured_session.specs.declared.command.Command.TheVariants.{SetDaqListMode}

@@ -1,4 +1,4 @@
-use Rattle.std.proofs.Common.{◌≡◌, ap, sym, ◌∙◌, refl, arith, map, option_map, [], ◌∷◌, None, Some}
+use Rattle.std.proofs.Common.{ap, sym, ◌∙◌, refl, arith, map, option_map, [], ◌∷◌, None, Some}
 use Rattle.std.proofs.lemmas.Grind.{common_steps}
 use Rattle.std.proofs.lemmas.List.{map-append}
 use Rattle.captured_session.specs.Lists.{odt_at}

@@ -1,4 +1,4 @@
-use Rattle.std.proofs.Common.{◌≡◌, ap, ◌∙◌, arith, None, Ok, Some}
+use Rattle.std.proofs.Common.{ap, ◌∙◌, arith, None, Ok, Some}
 use Rattle.captured_session.specs.Lists.{entry_at}
 use Rattle.captured_session.proofs.ListLemmas.{never-written, next-written}
 use Rattle.captured_session.proofs.lists.written_in.Goals as goal
