@@ -29,3 +29,13 @@ pub enum CaptureReadFault {
     #[error("out of memory")]
     Memory,
 }
+
+impl CaptureReadFault {
+    /// Why a capture is read no further, by what is wrong with a session in it.
+    pub fn of_session(fault: SessionFault) -> CaptureReadFault {
+        match fault {
+            SessionFault::Memory => CaptureReadFault::Memory,
+            SessionFault::ManyFacts => CaptureReadFault::Session(fault),
+        }
+    }
+}

@@ -82,7 +82,7 @@ impl<K: Sinks + Drop> Slaves<K> {
     pub fn end(&mut self) -> Result<(), CaptureReadFault> {
         for slave in self.slaves.iter_mut() {
             if let Err(fault) = slave.give_up_holes() {
-                return Err(CaptureReadFault::Session(fault));
+                return Err(CaptureReadFault::of_session(fault));
             }
         }
         Ok(())
@@ -102,7 +102,7 @@ impl<K: Sinks + Drop> Slaves<K> {
         slave.sink.set_time(time);
         match slave.hear(talk, carried) {
             Ok(()) => Ok(()),
-            Err(fault) => Err(CaptureReadFault::Session(fault)),
+            Err(fault) => Err(CaptureReadFault::of_session(fault)),
         }
     }
 

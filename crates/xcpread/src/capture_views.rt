@@ -6,7 +6,7 @@ use crate::program_fault::ProgramFault;
 use capture_recording::CaptureReadFault;
 use capture_tables::{CaptureRows, ElementRows, ListTable, TallyTable, ValuePicture};
 use std::alloc::Global;
-use std::io::{self, Write};
+use std::io::{self, ErrorKind, Write};
 use std::rt::Files;
 use value_tables::Column;
 
@@ -89,7 +89,18 @@ pub fn show_picture<R: Files, W: Write + Drop, E: Write + Drop>(
 
 /// What was printed, or that it wasn't.
 fn printed<T: Drop>(printing: io::Result<T>) -> Result<T, ProgramFault> {
-    printing.map_err(|_| ProgramFault::Unprinted)
+    match printing {
+        Ok(printed) => Ok(printed),
+        Err(error) => Err(fault_of(&error)),
+    }
+}
+
+/// Why it wasn't.
+fn fault_of(error: &io::Error) -> ProgramFault {
+    match error.kind() {
+        ErrorKind::OutOfMemory => ProgramFault::MEMORY,
+        _ => ProgramFault::Unprinted,
+    }
 }
 
 /// The fault that broke a capture off, if one did.
