@@ -7,7 +7,8 @@ always the same ones.
 Beside each NAME.pcap or NAME.pcapng stands NAME.expected: the lines of the samples that a right reader shows, in the form that
 tests/wire_reader.py tells. They follow from what was sent: a sample is shown if no frame of the slave, from its first to its last one, was
 lost or came late; it has a gap before it if that happened since the last one of its list that is shown. NAME.times has the time of each
-in nanoseconds, NAME.counts how many samples and gaps there are, and NAME.words what is said on the command line."""
+in nanoseconds, and that of its last packet, NAME.counts how many samples and gaps there are, NAME.words what is said on the command line,
+and NAME.stamp how many bytes timestamps of 1 us have."""
 
 import itertools
 import pathlib
@@ -780,7 +781,9 @@ class Folder:
             shown.sort(key=lambda it: it[0])
         (self.path / f"{name}.{ending}").write_bytes(data)
         (self.path / f"{name}.expected").write_text("".join(line_of(sample, mark) + "\n" for _, _, sample, mark in shown))
-        (self.path / f"{name}.times").write_text("".join(f"{sample['frames'][0].time}\n" for _, _, sample, _ in shown))
+        times = [f"{sample['frames'][0].time} {sample['frames'][-1].time}\n" for _, _, sample, _ in shown]
+        (self.path / f"{name}.times").write_text("".join(times))
+        (self.path / f"{name}.stamp").write_text(f"{sessions[0].form.stamp}\n")
         numbers = [sample["list"] for _, _, sample, _ in shown]
         lines = [f"list {it} samples {numbers.count(it)}" for it in sorted(set(numbers))] + [f"gaps {sum(it.gaps() for it in sessions)}"]
         (self.path / f"{name}.counts").write_text("\n".join(lines) + "\n")

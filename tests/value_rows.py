@@ -184,6 +184,25 @@ MODULES = [
      "line 2, column 43: expected a text in quotes"),
     ("a table of ranges alone",
      '/begin COMPU_VTAB_RANGE t "" 1 0 9 "x" DEFAULT_VALUE "y" /end COMPU_VTAB_RANGE', NONE),
+    # IF_DATA
+    ("ticks that are none",
+     "/begin IF_DATA XCP /begin DAQ DYNAMIC /begin TIMESTAMP_SUPPORTED 0 SIZE_WORD UNIT_1S "
+     "/end TIMESTAMP_SUPPORTED /end DAQ /end IF_DATA",
+     "line 2, column 66: expected a number of ticks from 1 to 65535"),
+    ("the unit of a timestamp, in no DAQ",
+     "/begin IF_DATA XCP /begin TIMESTAMP_SUPPORTED 1 SIZE_WORD UNIT_2S "
+     "/end TIMESTAMP_SUPPORTED /end IF_DATA",
+     "line 2, column 59: expected the unit of a timestamp, such as UNIT_1US"),
+    ("words of IF_DATA that aren't known",
+     "/begin IF_DATA XCP /begin PROTOCOL_LAYER BYTE_ORDER_OF_MINE /begin X /end X "
+     "/end PROTOCOL_LAYER /begin DAQ IDENTIFICATION_FIELD_TYPE_OF_MINE /begin X 1 /end X "
+     "/end DAQ /end IF_DATA /begin IF_DATA XCPplus /begin DAQ /begin TIMESTAMP_SUPPORTED 0 "
+     "/end TIMESTAMP_SUPPORTED /end DAQ /end IF_DATA " + measurement("UBYTE"), {"a": "100"}),
+    ("ticks behind the first that are read",
+     "/begin IF_DATA XCP /begin DAQ /begin TIMESTAMP_SUPPORTED 1 SIZE_WORD UNIT_1S "
+     "/end TIMESTAMP_SUPPORTED /begin TIMESTAMP_SUPPORTED 0 /end TIMESTAMP_SUPPORTED /end DAQ "
+     "/begin DAQ /begin TIMESTAMP_SUPPORTED X /end TIMESTAMP_SUPPORTED /end DAQ "
+     "/end IF_DATA " + measurement("UBYTE"), {"a": "100"}),
     # blocks
     ("a block that ends by another name", "/begin A /begin B /end A",
      "line 2, column 24: expected /end B"),

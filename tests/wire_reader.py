@@ -6,9 +6,9 @@ from what ASAM MCD-1 XCP and the formats of captures say.
     tests/wire_reader.py [--port N] --summary FILE      counts them
 
 A line is: the number of the list, its mark (1 the overload bit, 2 a gap before it, 3 both, else 0), the slave's ticks or -, and for each
-entry address extension:address:bytes, the latter two in hexadecimal. With --times the time of the capture stands in front, in
-nanoseconds, or - where it has none: that of the captured packet in which the last byte of the sample's first packet first came, or with
-which its fragments were all there.
+entry address extension:address:bytes, the latter two in hexadecimal. With --times two times of the capture stand in front, in
+nanoseconds, or - where it has none: those of the captured packets in which the last byte of the sample's first packet, and of its last
+one, first came, or with which its fragments were all there.
 
 FILE is of libpcap or pcapng. Who sends to port N (5555) is a master. What it sets up is learned from commands and their replies."""
 
@@ -381,7 +381,7 @@ class Session:
                 and not (it.mode & TIMESTAMP and self.stamp_bytes is None) and (self.id != 0 or it.first_pid is not None))
 
     def from_slave(self, time, counter, packet):
-        """A sample that is whole now, if any: (time, ticks or None, list, mark, [(address extension, address, bytes)])."""
+        """A sample that is whole now, if any: (times, ticks or None, list, mark, [(address extension, address, bytes)])."""
         connects = self.command is not None and self.command[0] == 0xFF and packet[0] == 0xFF and len(packet) >= 8
         if connects:
             self.last = None
@@ -454,11 +454,11 @@ class Session:
         if at > len(packet):
             self.leave_out(number, it)
         elif it.part[3] == len(it.odts):
-            time, ticks, overload, _, values = it.part
+            begun, ticks, overload, _, values = it.part
             mark = overload | it.gap << 1
             it.part, it.gap = None, False
             self.counts["samples", number] += 1
-            return time, ticks, number, mark, values
+            return (begun, time), ticks, number, mark, values
         return None
 
 
@@ -536,8 +536,8 @@ class Reader:
 
 
 def line_of(sample, with_time):
-    time, ticks, number, mark, values = sample
-    words = ["-" if time is None else str(time)] if with_time else []
+    times, ticks, number, mark, values = sample
+    words = ["-" if time is None else str(time) for time in times] if with_time else []
     words += [str(number), str(mark), "-" if ticks is None else str(ticks)]
     return " ".join(words + [f"{extension}:{address:08x}:{data.hex()}" for extension, address, data in values])
 

@@ -40,6 +40,9 @@ with_part part.Defaults ws told = do
   order ← default_said ws
   Some (record told { order = option_or told.order order })
 with_part part.Measurement ws told = Some told
+with_part part.Protocol ws told = Some told
+with_part part.Daq ws told = Some told
+with_part part.PlusDaq ws told = Some told
 with_part part.Instance ws told = Some told
 with_part part.Method ws told = do
   converted ← method_said ws

@@ -3,7 +3,7 @@ ghost use Rattle.std.specs.Prelude.{◌≡◌, map};
 ghost use Rattle.a2l.specs.Units.{unit_at};
 ghost use Rattle.a2l.specs.Resolved.{described_method};
 
-use a2l_entries::Layout;
+use a2l_entries::{Layout, PacketForm};
 use measured_values::{Conversion, Encoding, Tick};
 
 /// What an A2L file says of what can be measured.
@@ -20,6 +20,8 @@ pub struct Description {
     pub left_out: Vec<String>,
     /// How long a tick of a timestamp is (ASAM MCD-1 XCP, TIMESTAMP_SUPPORTED).
     pub tick: Option<Tick>,
+    /// How packets look, as all IF_DATA of XCP and XCPplus tell it.
+    pub form: PacketForm,
 }
 
 /// A value that can be measured, or an array of such values (ASAM MCD-2 MC, MEASUREMENT).

@@ -1,10 +1,11 @@
 //! What has been read of an A2L file so far, MODULE by MODULE.
-ghost use Rattle.std.specs.Prelude.{◌≡◌, ◌++◌, OnOk, map, string_bytes};
+ghost use Rattle.std.specs.Prelude.{◌≡◌, ◌++◌, OnOk, map, option_map, string_bytes};
 ghost use Rattle.a2l_entries.specs.Gives.{Gives};
 ghost use Rattle.a2l_entries.specs.Said.{tokens_of};
 ghost use Rattle.a2l.specs.Drafts.{draft_seen};
 ghost use Rattle.a2l.specs.Described.{after_part, nothing, description_seen, with_module};
-ghost use Rattle.a2l.specs.Described.{with_instance, with_measurement, with_tick};
+ghost use Rattle.a2l.specs.Described.{daq_tick, first_tick, with_daq, with_form, with_instance};
+ghost use Rattle.a2l.specs.Described.{with_measurement, with_tick};
 ghost use Rattle.a2l.specs.Resolved.{name_if_left};
 ghost use Rattle.a2l_entries.specs.MeasurementSaid.{measurement_seen};
 ghost use Rattle.a2l.specs.ModuleSaid.{module_seen, no_parts};
@@ -12,9 +13,12 @@ ghost use Rattle.a2l.specs.ModuleSaid.{module_seen, no_parts};
 use crate::description::Description;
 use crate::module_parts::ModuleParts;
 use crate::resolving::{add_measurements, add_methods, address_of};
-use a2l_entries::{EntryFault, Left, MeasurementBlock, instance_of, measurement_of, tick_of};
+use a2l_entries::{
+    EntryFault, Left, MeasurementBlock, PacketForm, behind_keyword, form_with, instance_of,
+    measurement_of, stamps_in, tick_of,
+};
 use a2l_text::Part;
-use measured_values::ByteOrder;
+use measured_values::{ByteOrder, Tick};
 use std::alloc::{AllocError, Global};
 use std::mem;
 
@@ -42,6 +46,7 @@ impl Draft {
             methods: Vec::new(alloc),
             left_out: Vec::new(alloc),
             tick: None,
+            form: PacketForm::nothing(),
         };
         Draft {
             parts: ModuleParts::new(alloc),
@@ -61,6 +66,11 @@ impl Draft {
                 add_module(alloc, &mut self.description, &module, &mut self.room)
             }
             Part::Timestamp => note_tick(&mut self.description, words),
+            Part::Daq => note_daq(&mut self.description, words),
+            Part::Protocol | Part::PlusDaq => {
+                note_form(&mut self.description, words);
+                Ok(())
+            }
             Part::Instance => note_instance(alloc, &mut self.description, words),
             Part::Measurement => self.take_measurement(alloc, words),
             _ => self.parts.take(alloc, part, words),
@@ -139,15 +149,57 @@ fn add_module(
     )
 }
 
-/// Keeps the first tick.
+/// Keeps what a TIMESTAMP_SUPPORTED tells, and the first tick.
 #[tactic(auto, unfolding(crate::specs::Described::with_tick))]
 fn note_tick(description: &mut Description, words: Left<'_, '_>) -> Result<(), EntryFault>
     ensures { Gives (λ _. description_seen description.new) result
         (with_tick (tokens_of words.entry) (description_seen description.old)) }
 {
-    if description.tick.is_none() {
-        let tick = tick_of(words)?;
-        description.tick = Some(tick);
-    }
+    let tick = first_tick(description.tick, words)?;
+    description.tick = Some(tick);
+    description.form = description.form.and(stamps_in(words));
     Ok(())
+}
+
+/// Keeps what a DAQ tells, and the first tick.
+#[tactic(auto, unfolding(crate::specs::Described::with_daq))]
+fn note_daq(description: &mut Description, words: Left<'_, '_>) -> Result<(), EntryFault>
+    ensures { Gives (λ _. description_seen description.new) result
+        (with_daq (tokens_of words.entry) (description_seen description.old)) }
+{
+    let tick = daq_tick(
+        description.tick,
+        behind_keyword(words, "TIMESTAMP_SUPPORTED"),
+    )?;
+    description.tick = tick;
+    description.form = form_with(description.form, words);
+    Ok(())
+}
+
+/// Keeps what a PROTOCOL_LAYER tells, or a DAQ of XCPplus.
+fn note_form(description: &mut Description, words: Left<'_, '_>)
+    ensures { description_seen description.new
+        ≡ with_form (tokens_of words.entry) (description_seen description.old) }
+{
+    description.form = form_with(description.form, words);
+}
+
+/// The tick, if there is one, or that of a DAQ, by the words behind TIMESTAMP_SUPPORTED in it.
+fn daq_tick(known: Option<Tick>, words: Option<Left<'_, '_>>) -> Result<Option<Tick>, EntryFault>
+    ensures { Gives (λ x. x) result (daq_tick known (option_map (λ x. tokens_of x) words.entry)) }
+{
+    match words {
+        None => Ok(known),
+        Some(words) => Ok(Some(first_tick(known, words)?)),
+    }
+}
+
+/// The tick, if there is one, or that of the words of a TIMESTAMP_SUPPORTED.
+fn first_tick(known: Option<Tick>, words: Left<'_, '_>) -> Result<Tick, EntryFault>
+    ensures { Gives (λ x. x) result (first_tick known (tokens_of words.entry)) }
+{
+    match known {
+        Some(tick) => Ok(tick),
+        None => tick_of(words),
+    }
 }

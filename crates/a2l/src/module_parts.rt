@@ -47,7 +47,8 @@ impl ModuleParts {
             Part::Table => self.tables.push(table_of(alloc, words)?)?,
             Part::Ranges => self.tables.push(ranges_of(alloc, words)?)?,
             Part::Defaults => self.order = self.order.or(default_order(words)?),
-            Part::Measurement | Part::Instance | Part::Timestamp | Part::Module => {}
+            Part::Measurement | Part::Instance | Part::Module => {}
+            Part::Protocol | Part::Daq | Part::PlusDaq | Part::Timestamp => {}
         }
         Ok(())
     }

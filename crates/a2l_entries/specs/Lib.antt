@@ -7,3 +7,4 @@ pub mod MeasurementSaid
 pub mod MethodSaid
 pub mod TableSaid
 pub mod TickSaid
+pub mod FormSaid

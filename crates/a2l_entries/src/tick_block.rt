@@ -1,8 +1,8 @@
 //! The words of a TIMESTAMP_SUPPORTED are read: how long a tick is.
-ghost use Rattle.std.specs.Prelude.{◌≤◌, IfOk};
+ghost use Rattle.std.specs.Prelude.{◌≡◌, ◌≤◌, IfOk};
 ghost use Rattle.a2l_entries.specs.Gives.{Gives};
 ghost use Rattle.a2l_entries.specs.Said.{token_at, tokens_of};
-ghost use Rattle.a2l_entries.specs.TickSaid.{tick_said, tick_with, ticks_said, unit_said};
+ghost use Rattle.a2l_entries.specs.TickSaid.{tick_said, tick_with, ticks_of, ticks_said, unit_said};
 
 use crate::awaited::Awaited;
 use crate::entry_fault::EntryFault;
@@ -35,11 +35,20 @@ fn ticks_in(word: Located<'_>) -> Result<u32, EntryFault>
     ensures value { Gives (λ x. x) result (ticks_said (token_at word.entry)) }
     ensures limit { IfOk result (λ x. x ≤ 65535) }
 {
-    let ticks = integer_in(word)?;
-    if ticks == 0 || ticks > MAX_TICKS {
-        return Err(EntryFault::Awaited(word.at, Awaited::Ticks));
+    match ticks_of(integer_in(word)?) {
+        Some(ticks) => Ok(ticks as u32),
+        None => Err(EntryFault::Awaited(word.at, Awaited::Ticks)),
     }
-    Ok(ticks as u32)
+}
+
+/// A number of ticks, if it has 16 bits and isn't 0.
+pub fn ticks_of(number: u64) -> Option<u16>
+    ensures { result ≡ ticks_of number }
+{
+    if number == 0 || number > MAX_TICKS {
+        return None;
+    }
+    Some(number as u16)
 }
 
 /// The unit that a word names: so many times 10 to the power of an exponent, in seconds.

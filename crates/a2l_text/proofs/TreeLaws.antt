@@ -7,14 +7,14 @@ use Rattle.std.proofs.lemmas.List.{append-nil}
 use Rattle.a2l_text.specs.Keywords.{meaning}
 use Rattle.a2l_text.specs.Tokens.{Token, end, plain, quoted}
 use Rattle.a2l_text.specs.Trees.{Elements, none, word, text, include, block, printed_before, IsWithin, direct}
-use Rattle.a2l_text.specs.Roles.{inside, inside_part, module_block, module_blocks, after_plain, after_text, may_include, part_of}
+use Rattle.a2l_text.specs.Roles.{inside, inside_part, module_block, module_blocks, xcp_blocks, plus_blocks, after_plain, after_text, may_include, part_of}
 use Rattle.a2l_text.specs.Parts.{joined, whole, words_in, parts}
 use Rattle.a2l_text.specs.Ahead.{Open, begun_with, in_front, ended, sections_from, gathered_with}
 use Rattle.a2l_text.specs.Reading.{ReadsAll}
 use Rattle.a2l_text.specs.declared.part.Part.{Part}
 use Rattle.a2l_text.specs.declared.part.Part.TheVariants as part
 use Rattle.a2l_text.specs.declared.role.Role.{Role}
-use Rattle.a2l_text.specs.declared.role.Role.TheVariants.{File, Project, Module, Data, Xcp, Gathered, Grammar, Joined, Passed}
+use Rattle.a2l_text.specs.declared.role.Role.TheVariants.{File, Project, Module, Data, Xcp, XcpPlus, Gathered, Grammar, Joined, Passed}
 use Rattle.a2l_text.proofs.Steps.{opens, closes, in_front-nil, in_front-append}
 
 -- a block that is passed over, and all in it
@@ -84,6 +84,7 @@ IsInner Project = ⊥
 IsInner Module = ⊥
 IsInner Data = ⊥
 IsInner Xcp = ⊥
+IsInner XcpPlus = ⊥
 IsInner (Gathered p) = ⊥
 IsInner Joined = Unit {0}
 IsInner Grammar = ⊥
@@ -96,6 +97,9 @@ inner_part part.Instance n = tt
 inner_part part.Method n = tt
 inner_part part.Table n = tt
 inner_part part.Ranges n = tt
+inner_part part.Protocol n = tt
+inner_part part.Daq n = either IsInner (bytes_eq n (codes "TIMESTAMP_SUPPORTED")) Joined Passed tt tt
+inner_part part.PlusDaq n = either IsInner (bytes_eq n (codes "TIMESTAMP_SUPPORTED")) Joined Passed tt tt
 inner_part part.Timestamp n = tt
 inner_part part.Module n = tt
 
@@ -107,6 +111,7 @@ inner_block Project f room o os g ws i within r = absurd i
 inner_block Module f room o os g ws i within r = absurd i
 inner_block Data f room o os g ws i within r = absurd i
 inner_block Xcp f room o os g ws i within r = absurd i
+inner_block XcpPlus f room o os g ws i within r = absurd i
 inner_block (Gathered p) f room o os g ws i within r = absurd i
 inner_block Joined f room o os g ws i within r =
     joins f room (o ∷ os) (g ++ plain o.name ∷ []) (end ∷ plain o.name ∷ ws) within r
@@ -155,6 +160,7 @@ IsSimple Project = Unit {0}
 IsSimple Module = Unit {0}
 IsSimple Data = Unit {0}
 IsSimple Xcp = Unit {0}
+IsSimple XcpPlus = Unit {0}
 IsSimple (Gathered p) = ⊥
 IsSimple Joined = ⊥
 IsSimple Grammar = ⊥
@@ -164,8 +170,11 @@ simple_after_plain : (role : Role) (b : List ℕ) → IsSimple role → IsSimple
 simple_after_plain File b s = tt
 simple_after_plain Project b s = tt
 simple_after_plain Module b s = tt
-simple_after_plain Data b s = elim (bytes_eq b (codes "XCP")) as (λ t. IsSimple (cond t Xcp Passed)) [ true ↦ tt | false ↦ tt ]
+simple_after_plain Data b s =
+    either IsSimple (bytes_eq b (codes "XCP")) Xcp (cond (bytes_eq b (codes "XCPplus")) XcpPlus Passed) tt
+    (either IsSimple (bytes_eq b (codes "XCPplus")) XcpPlus Passed tt tt)
 simple_after_plain Xcp b s = tt
+simple_after_plain XcpPlus b s = tt
 simple_after_plain (Gathered p) b s = s
 simple_after_plain Joined b s = s
 simple_after_plain Grammar b s = s
@@ -177,6 +186,7 @@ simple_after_text Project s = tt
 simple_after_text Module s = tt
 simple_after_text Data s = tt
 simple_after_text Xcp s = tt
+simple_after_text XcpPlus s = tt
 simple_after_text (Gathered p) s = s
 simple_after_text Joined s = s
 simple_after_text Grammar s = s
@@ -188,6 +198,7 @@ none_gathered Project w g s = refl
 none_gathered Module w g s = refl
 none_gathered Data w g s = refl
 none_gathered Xcp w g s = refl
+none_gathered XcpPlus w g s = refl
 none_gathered (Gathered p) w g s = absurd s
 none_gathered Joined w g s = absurd s
 none_gathered Grammar w g s = absurd s
@@ -197,8 +208,11 @@ part_after_plain : (role : Role) (b : List ℕ) → part_of (after_plain role b)
 part_after_plain File b = refl
 part_after_plain Project b = refl
 part_after_plain Module b = refl
-part_after_plain Data b = elim (bytes_eq b (codes "XCP")) as (λ t. part_of (cond t Xcp Passed) ≡ None) [ true ↦ refl | false ↦ refl ]
+part_after_plain Data b =
+    either (λ r. part_of r ≡ None) (bytes_eq b (codes "XCP")) Xcp (cond (bytes_eq b (codes "XCPplus")) XcpPlus Passed) refl
+    (either (λ r. part_of r ≡ None) (bytes_eq b (codes "XCPplus")) XcpPlus Passed refl refl)
 part_after_plain Xcp b = refl
+part_after_plain XcpPlus b = refl
 part_after_plain (Gathered p) b = refl
 part_after_plain Joined b = refl
 part_after_plain Grammar b = refl
@@ -210,6 +224,7 @@ part_after_text Project = refl
 part_after_text Module = refl
 part_after_text Data = refl
 part_after_text Xcp = refl
+part_after_text XcpPlus = refl
 part_after_text (Gathered p) = refl
 part_after_text Joined = refl
 part_after_text Grammar = refl
@@ -247,6 +262,7 @@ IsApart Project = Unit {0}
 IsApart Module = Unit {0}
 IsApart Data = Unit {0}
 IsApart Xcp = Unit {0}
+IsApart XcpPlus = Unit {0}
 IsApart (Gathered p) = Unit {0}
 IsApart Joined = ⊥
 IsApart Grammar = Unit {0}
@@ -257,19 +273,20 @@ abbrev AreApart : List (List ℕ × Role) → Type 0
 AreApart [] = Unit {0}
 AreApart (row ∷ rows) = IsApart row.1 × AreApart rows
 
-apart_in : (rows : List (List ℕ × Role)) (n : List ℕ) → AreApart rows → IsApart (unwrap_or (meaning rows n) Passed)
-apart_in [] n h = tt
-apart_in (row ∷ rows) n h = either (λ m. IsApart (unwrap_or m Passed)) (bytes_eq n row.0) (Some row.1) (meaning rows n) h.0 (apart_in rows n h.1)
+apart_in : (rows : List (List ℕ × Role)) (other : Role) (n : List ℕ) → AreApart rows → IsApart other → IsApart (unwrap_or (meaning rows n) other)
+apart_in [] other n h a = a
+apart_in (row ∷ rows) other n h a = either (λ m. IsApart (unwrap_or m other)) (bytes_eq n row.0) (Some row.1) (meaning rows n) h.0 (apart_in rows other n h.1 a)
 
 apart_in_module : (n : List ℕ) → IsApart (module_block n)
-apart_in_module n = apart_in module_blocks n (tt, (tt, (tt, (tt, (tt, (tt, (tt, (tt, tt))))))))
+apart_in_module n = apart_in module_blocks Passed n (tt, (tt, (tt, (tt, (tt, (tt, (tt, (tt, tt)))))))) tt
 
 apart_inside : (role : Role) (n : List ℕ) → IsSimple role → IsApart (inside role n)
 apart_inside File n s = either IsApart (bytes_eq n (codes "PROJECT")) Project Passed tt tt
 apart_inside Project n s = either IsApart (bytes_eq n (codes "MODULE")) Module Passed tt tt
 apart_inside Module n s = apart_in_module n
 apart_inside Data n s = tt
-apart_inside Xcp n s = either IsApart (bytes_eq n (codes "TIMESTAMP_SUPPORTED")) (Gathered part.Timestamp) Xcp tt tt
+apart_inside Xcp n s = apart_in xcp_blocks Xcp n (tt, (tt, (tt, tt))) tt
+apart_inside XcpPlus n s = apart_in plus_blocks XcpPlus n (tt, (tt, tt)) tt
 apart_inside (Gathered p) n s = absurd s
 apart_inside Joined n s = absurd s
 apart_inside Grammar n s = absurd s
@@ -282,6 +299,7 @@ begins_apart Project n g a = refl
 begins_apart Module n g a = refl
 begins_apart Data n g a = refl
 begins_apart Xcp n g a = refl
+begins_apart XcpPlus n g a = refl
 begins_apart (Gathered p) n g a = refl
 begins_apart Joined n g a = absurd a
 begins_apart Grammar n g a = refl
@@ -298,6 +316,7 @@ reads_block Module f room o os ws a within r h =
     ∙ in_front-append (parts Module f) (record { part = part.Module; words = [] } ∷ []) (sections_from o.outer os [] ws)
 reads_block Data f room o os ws a within r h = h tt ∙ ap (in_front (parts Data f)) (ended_simply Data f o os ws refl)
 reads_block Xcp f room o os ws a within r h = h tt ∙ ap (in_front (parts Xcp f)) (ended_simply Xcp f o os ws refl)
+reads_block XcpPlus f room o os ws a within r h = h tt ∙ ap (in_front (parts XcpPlus f)) (ended_simply XcpPlus f o os ws refl)
 reads_block (Gathered p) f room o os ws a within r h =
     gathers p f room (o ∷ os) [] (end ∷ plain o.name ∷ ws) within r ∙ closes (Gathered p) o os (words_in (Gathered p) f) o.name ws refl
 reads_block Joined f room o os ws a within r h = absurd a
@@ -314,6 +333,7 @@ includes_none Project s = refl
 includes_none Module s = refl
 includes_none Data s = refl
 includes_none Xcp s = refl
+includes_none XcpPlus s = refl
 includes_none (Gathered p) s = absurd s
 includes_none Joined s = absurd s
 includes_none Grammar s = absurd s

@@ -7,7 +7,7 @@ use Rattle.a2l_text.specs.Parts.{Section}
 use Rattle.a2l_text.specs.declared.part.Part.{Part}
 use Rattle.a2l_text.specs.declared.role.Role.{Role}
 use Rattle.a2l_text.specs.declared.role.Role.TheVariants.{File, Project, Module, Data, Xcp}
-use Rattle.a2l_text.specs.declared.role.Role.TheVariants.{Gathered, Grammar, Joined, Passed}
+use Rattle.a2l_text.specs.declared.role.Role.TheVariants.{XcpPlus, Gathered, Grammar, Joined, Passed}
 
 -- an open block: its name, and the role of what it stands in
 pub record Open : Type 0 where
@@ -21,6 +21,7 @@ gathered_with Project w gathered = gathered
 gathered_with Module w gathered = gathered
 gathered_with Data w gathered = gathered
 gathered_with Xcp w gathered = gathered
+gathered_with XcpPlus w gathered = gathered
 gathered_with (Gathered p) w gathered = gathered ++ w ∷ []
 gathered_with Joined w gathered = gathered ++ w ∷ []
 gathered_with Grammar w gathered = gathered
@@ -34,6 +35,7 @@ begun_with Project name gathered = gathered
 begun_with Module name gathered = gathered
 begun_with Data name gathered = gathered
 begun_with Xcp name gathered = gathered
+begun_with XcpPlus name gathered = gathered
 begun_with (Gathered p) name gathered = gathered
 begun_with Joined name gathered = gathered ++ plain name ∷ []
 begun_with Grammar name gathered = gathered

@@ -7,7 +7,7 @@ use Rattle.a2l_text.specs.declared.part.Part.{Part}
 use Rattle.a2l_text.specs.declared.part.Part.TheVariants as part
 use Rattle.a2l_text.specs.declared.role.Role.{Role}
 use Rattle.a2l_text.specs.declared.role.Role.TheVariants.{File, Project, Module, Data, Xcp}
-use Rattle.a2l_text.specs.declared.role.Role.TheVariants.{Gathered, Grammar, Joined, Passed}
+use Rattle.a2l_text.specs.declared.role.Role.TheVariants.{XcpPlus, Gathered, Grammar, Joined, Passed}
 
 -- a part, and the words directly in it; behind its name those of each block that has options of it
 pub record Section : Type 0 where
@@ -21,6 +21,7 @@ joined Project name words = []
 joined Module name words = []
 joined Data name words = []
 joined Xcp name words = []
+joined XcpPlus name words = []
 joined (Gathered p) name words = []
 joined Joined name words = plain name ∷ words
 joined Grammar name words = []
@@ -42,6 +43,7 @@ whole Project words inner = inner
 whole Module words inner = inner ++ record { part = part.Module; words = [] } ∷ []
 whole Data words inner = inner
 whole Xcp words inner = inner
+whole XcpPlus words inner = inner
 whole (Gathered p) words inner = record { part = p; words = words } ∷ []
 whole Joined words inner = []
 whole Grammar words inner = []

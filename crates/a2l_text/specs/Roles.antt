@@ -7,7 +7,7 @@ use Rattle.a2l_text.specs.declared.part.Part.{Part}
 use Rattle.a2l_text.specs.declared.part.Part.TheVariants as part
 use Rattle.a2l_text.specs.declared.role.Role.{Role}
 use Rattle.a2l_text.specs.declared.role.Role.TheVariants.{File, Project, Module, Data, Xcp}
-use Rattle.a2l_text.specs.declared.role.Role.TheVariants.{Gathered, Grammar, Joined, Passed}
+use Rattle.a2l_text.specs.declared.role.Role.TheVariants.{XcpPlus, Gathered, Grammar, Joined, Passed}
 
 abbrev pub module_blocks : List (List ℕ × Role)
 module_blocks =
@@ -25,7 +25,29 @@ module_blocks =
 abbrev pub module_block : List ℕ → Role
 module_block name = unwrap_or (meaning module_blocks name) Passed
 
--- a block directly in a part: a MEASUREMENT has options in BIT_OPERATION
+abbrev pub xcp_blocks : List (List ℕ × Role)
+xcp_blocks =
+    (codes "PROTOCOL_LAYER", Gathered part.Protocol)
+    ∷ (codes "DAQ", Gathered part.Daq)
+    ∷ (codes "TIMESTAMP_SUPPORTED", Gathered part.Timestamp)
+    ∷ []
+
+-- a block in an IF_DATA of XCP
+abbrev pub xcp_block : List ℕ → Role
+xcp_block name = unwrap_or (meaning xcp_blocks name) Xcp
+
+abbrev pub plus_blocks : List (List ℕ × Role)
+plus_blocks =
+    (codes "PROTOCOL_LAYER", Gathered part.Protocol)
+    ∷ (codes "DAQ", Gathered part.PlusDaq)
+    ∷ []
+
+-- a block in an IF_DATA of XCPplus
+abbrev pub plus_block : List ℕ → Role
+plus_block name = unwrap_or (meaning plus_blocks name) XcpPlus
+
+-- a block directly in a part: a MEASUREMENT has options in BIT_OPERATION, and DAQ in
+-- TIMESTAMP_SUPPORTED
 abbrev pub inside_part : Part → List ℕ → Role
 inside_part part.Defaults name = Passed
 inside_part part.Measurement name =
@@ -34,6 +56,11 @@ inside_part part.Instance name = Passed
 inside_part part.Method name = Passed
 inside_part part.Table name = Passed
 inside_part part.Ranges name = Passed
+inside_part part.Protocol name = Passed
+inside_part part.Daq name =
+    if bytes_eq name (codes "TIMESTAMP_SUPPORTED") then Joined else Passed
+inside_part part.PlusDaq name =
+    if bytes_eq name (codes "TIMESTAMP_SUPPORTED") then Joined else Passed
 inside_part part.Timestamp name = Passed
 inside_part part.Module name = Passed
 
@@ -43,8 +70,8 @@ inside File name = if bytes_eq name (codes "PROJECT") then Project else Passed
 inside Project name = if bytes_eq name (codes "MODULE") then Module else Passed
 inside Module name = module_block name
 inside Data name = Passed
-inside Xcp name =
-    if bytes_eq name (codes "TIMESTAMP_SUPPORTED") then Gathered part.Timestamp else Xcp
+inside Xcp name = xcp_block name
+inside XcpPlus name = plus_block name
 inside (Gathered p) name = inside_part p name
 inside Joined name = Passed
 inside Grammar name = Grammar
@@ -55,8 +82,11 @@ abbrev pub after_plain : Role → List ℕ → Role
 after_plain File word = File
 after_plain Project word = Project
 after_plain Module word = Module
-after_plain Data word = if bytes_eq word (codes "XCP") then Xcp else Passed
+after_plain Data word =
+    if bytes_eq word (codes "XCP") then Xcp
+    else (if bytes_eq word (codes "XCPplus") then XcpPlus else Passed)
 after_plain Xcp word = Xcp
+after_plain XcpPlus word = XcpPlus
 after_plain (Gathered p) word = Gathered p
 after_plain Joined word = Joined
 after_plain Grammar word = Grammar
@@ -68,6 +98,7 @@ after_text Project = Project
 after_text Module = Module
 after_text Data = Passed
 after_text Xcp = Xcp
+after_text XcpPlus = XcpPlus
 after_text (Gathered p) = Gathered p
 after_text Joined = Joined
 after_text Grammar = Grammar
@@ -80,6 +111,7 @@ may_include Project = false
 may_include Module = false
 may_include Data = false
 may_include Xcp = false
+may_include XcpPlus = false
 may_include (Gathered p) = false
 may_include Joined = false
 may_include Grammar = true
@@ -92,6 +124,7 @@ part_of Project = None
 part_of Module = Some part.Module
 part_of Data = None
 part_of Xcp = None
+part_of XcpPlus = None
 part_of (Gathered p) = Some p
 part_of Joined = None
 part_of Grammar = None

@@ -14,7 +14,13 @@ pub enum Part {
     Table,
     /// COMPU_VTAB_RANGE.
     Ranges,
-    /// TIMESTAMP_SUPPORTED, anywhere in an IF_DATA of XCP.
+    /// PROTOCOL_LAYER, anywhere in an IF_DATA of XCP or XCPplus.
+    Protocol,
+    /// DAQ, anywhere in an IF_DATA of XCP.
+    Daq,
+    /// DAQ, anywhere in an IF_DATA of XCPplus.
+    PlusDaq,
+    /// TIMESTAMP_SUPPORTED, anywhere in an IF_DATA of XCP but in DAQ.
     Timestamp,
     /// MODULE, behind all parts that stand in it.
     Module,

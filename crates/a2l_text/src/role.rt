@@ -1,7 +1,7 @@
 //! Which blocks are read and which are passed over, by their names and where they stand.
 ghost use Rattle.std.specs.Prelude.{◌≡◌};
-ghost use Rattle.a2l_text.specs.Roles.{inside, inside_part, module_block, after_plain};
-ghost use Rattle.a2l_text.specs.Roles.{after_text, may_include, part_of};
+ghost use Rattle.a2l_text.specs.Roles.{inside, inside_part, module_block, xcp_block, plus_block};
+ghost use Rattle.a2l_text.specs.Roles.{after_plain, after_text, may_include, part_of};
 
 use crate::part::Part;
 use crate::{is, meaning};
@@ -17,6 +17,8 @@ pub enum Role {
     Data,
     /// In an IF_DATA of XCP.
     Xcp,
+    /// In an IF_DATA of XCPplus.
+    XcpPlus,
     /// Its words are gathered.
     Gathered(Part),
     /// Its name and its words are gathered with those of the part that it stands in.
@@ -36,8 +38,8 @@ impl Role {
             Role::File if is(name, "PROJECT") => Role::Project,
             Role::Project if is(name, "MODULE") => Role::Module,
             Role::Module => module_block(name),
-            Role::Xcp if is(name, "TIMESTAMP_SUPPORTED") => Role::Gathered(Part::Timestamp),
-            Role::Xcp => Role::Xcp,
+            Role::Xcp => xcp_block(name),
+            Role::XcpPlus => plus_block(name),
             Role::Gathered(part) => inside_part(part, name),
             Role::Grammar => Role::Grammar,
             _ => Role::Passed,
@@ -50,6 +52,7 @@ impl Role {
     {
         match self {
             Role::Data if is(word, "XCP") => Role::Xcp,
+            Role::Data if is(word, "XCPplus") => Role::XcpPlus,
             Role::Data => Role::Passed,
             _ => self,
         }
@@ -90,6 +93,7 @@ fn inside_part(part: Part, name: &[u8]) -> Role
 {
     match part {
         Part::Measurement if is(name, "BIT_OPERATION") => Role::Joined,
+        Part::Daq | Part::PlusDaq if is(name, "TIMESTAMP_SUPPORTED") => Role::Joined,
         _ => Role::Passed,
     }
 }
@@ -111,4 +115,31 @@ const MODULE_BLOCKS: [(&str, Role); 8] = [
     ("MOD_COMMON", Role::Gathered(Part::Defaults)),
     ("IF_DATA", Role::Data),
     ("A2ML", Role::Grammar),
+];
+
+/// The role of a block of this name in an IF_DATA of XCP.
+fn xcp_block(name: &[u8]) -> Role
+    ensures { result ≡ xcp_block name.now }
+{
+    meaning(name, &XCP_BLOCKS).unwrap_or(Role::Xcp)
+}
+
+/// The blocks in an IF_DATA of XCP that are parts.
+const XCP_BLOCKS: [(&str, Role); 3] = [
+    ("PROTOCOL_LAYER", Role::Gathered(Part::Protocol)),
+    ("DAQ", Role::Gathered(Part::Daq)),
+    ("TIMESTAMP_SUPPORTED", Role::Gathered(Part::Timestamp)),
+];
+
+/// The role of a block of this name in an IF_DATA of XCPplus.
+fn plus_block(name: &[u8]) -> Role
+    ensures { result ≡ plus_block name.now }
+{
+    meaning(name, &PLUS_BLOCKS).unwrap_or(Role::XcpPlus)
+}
+
+/// The blocks in an IF_DATA of XCPplus that are parts.
+const PLUS_BLOCKS: [(&str, Role); 2] = [
+    ("PROTOCOL_LAYER", Role::Gathered(Part::Protocol)),
+    ("DAQ", Role::Gathered(Part::PlusDaq)),
 ];

@@ -7,8 +7,8 @@ use std::alloc::{AllocError, Global};
 /// The bytes of four frames at their longest: as many say for sure where frames begin.
 const MAX_SEARCHED: usize = 4 * 65_539;
 
-/// One direction of a TCP connection: its bytes in order, and whether it is known where frames begin
-/// in them.
+/// One direction of a TCP connection: its bytes in order, and whether it is known where frames
+/// begin in them.
 #[derive(Drop)]
 pub struct Flow {
     stream: TcpStream,

@@ -1,4 +1,7 @@
 //! What IP packets carry.
+ghost use Rattle.std.specs.Prelude.{◌≡◌, length, IfSome, IsNone, IsSomeAnd};
+ghost use Rattle.std.specs.declared.net.ip_addr.IpAddr.{IpAddr};
+ghost use Rattle.capture_recording.specs.Talks.{IsAddress};
 
 use datagrams::{IpPacket, WholeDatagram, carried_in, tcp_in, udp_in};
 use std::net::{IpAddr, Ipv4Addr, Ipv6Addr};
@@ -22,7 +25,7 @@ pub struct IpData<'b> {
 }
 
 impl<'b> IpData<'b> {
-    ghost use Rattle.std.specs.Prelude.{IfSome};
+    ghost use Rattle.std.specs.Prelude.{◌≡◌, ◌↔◌, ℕ, IfSome, IsNone, IsTrue};
     ghost use Rattle.capture_recording.specs.Talks.{HasPorts};
 
     /// By a packet that is whole.
@@ -47,8 +50,8 @@ impl<'b> IpData<'b> {
         .behind_extensions()
     }
 
-    /// What stands behind the headers of version 6 that extend others, which a part of a datagram may
-    /// begin with.
+    /// What stands behind the headers of version 6 that extend others, which a part of a datagram
+    /// may begin with.
     fn behind_extensions(self) -> IpData<'b> {
         if self.from.len() != 16 {
             return self;
@@ -63,9 +66,11 @@ impl<'b> IpData<'b> {
         }
     }
 
-    /// Its ports, of the sender and of the receiver, if it is a datagram of UDP or a segment of TCP.
+    /// Its ports, of the sender and of the receiver, if it is a datagram of UDP or a segment of
+    /// TCP.
     pub fn ports(&self) -> Option<(u16, u16)>
-        ensures { IfSome result (λ ports. HasPorts self.now (ports.0, ports.1)) }
+        ensures some { IfSome result (λ ports. HasPorts self.now (ports.0, ports.1)) }
+        ensures none { IsNone result → (ports : ℕ × ℕ) → HasPorts self.now ports → ⊥ }
     {
         match self.protocol {
             UDP => {
@@ -81,18 +86,39 @@ impl<'b> IpData<'b> {
     }
 
     /// Whether it is a segment of TCP.
-    pub fn is_segment(&self) -> bool {
+    pub fn is_segment(&self) -> bool
+        ensures { IsTrue result ↔ (self.now.protocol ≡ 6) }
+    {
         self.protocol == TCP
     }
 }
 
 /// An address of 4 bytes or 16.
-pub fn address_of(bytes: &[u8]) -> Option<IpAddr> {
-    if let Some(octets) = bytes.first_chunk::<4>() {
-        if bytes.len() == 4 {
-            return Some(IpAddr::V4(Ipv4Addr::from_octets(*octets)));
-        }
+pub fn address_of(bytes: &[u8]) -> Option<IpAddr>
+    ensures some { IfSome result (IsAddress bytes.now) }
+    ensures none { IsNone result → (a : IpAddr) → IsAddress bytes.now a → ⊥ }
+{
+    match bytes.len() {
+        4 => v4_of(bytes),
+        16 => v6_of(bytes),
+        _ => None,
     }
+}
+
+/// An address of version 4.
+fn v4_of(bytes: &[u8]) -> Option<IpAddr>
+    requires { length bytes.now ≡ 4 }
+    ensures { IsSomeAnd result (IsAddress bytes.now) }
+{
+    let octets = bytes.first_chunk::<4>()?;
+    Some(IpAddr::V4(Ipv4Addr::from_octets(*octets)))
+}
+
+/// An address of version 6.
+fn v6_of(bytes: &[u8]) -> Option<IpAddr>
+    requires { length bytes.now ≡ 16 }
+    ensures { IsSomeAnd result (IsAddress bytes.now) }
+{
     let octets = bytes.first_chunk::<16>()?;
     Some(IpAddr::V6(Ipv6Addr::from_octets(*octets)))
 }

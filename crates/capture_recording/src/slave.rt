@@ -28,8 +28,15 @@ pub struct Slave<S: CaptureSink + Drop> {
 }
 
 impl<S: CaptureSink + Drop> Slave<S> {
+    ghost use Rattle.std.specs.Prelude.{◌≡◌, ◌≢◌, ◌+◌, ◌∷◌, [], ℕ, List, length, IfOk, OnOk};
+    ghost use Rattle.capture_recording.specs.Heard.{AreFrames, HearsDatagram, HearsFrames};
+
     /// Nothing was heard of it.
-    pub fn new(alloc: Global, address: IpAddr, samples: SlaveSamples, sink: S) -> Slave<S> {
+    pub fn new(alloc: Global, address: IpAddr, samples: SlaveSamples, sink: S) -> Slave<S>
+        ensures address { result.address ≡ address }
+        ensures samples { result.samples ≡ samples }
+        ensures sink { result.sink ≡ sink }
+    {
         Slave {
             address,
             samples,
@@ -39,17 +46,31 @@ impl<S: CaptureSink + Drop> Slave<S> {
         }
     }
 
-    /// What it and a master say to one another.
-    pub fn hear(&mut self, talk: Talk, carried: &IpData<'_>) -> Result<(), SessionFault> {
-        if carried.is_segment() {
-            return match tcp_in(carried.payload) {
-                Some(segment) => self.hear_segment(talk, &segment),
-                None => Ok(()),
-            };
+    /// What it and a master say to one another: the frames of a datagram of UDP, or of the bytes
+    /// that come next with a segment of TCP.
+    pub fn hear(&mut self, talk: Talk, carried: &IpData<'_>) -> Result<(), SessionFault>
+        ensures datagram { carried.now.protocol ≢ 6
+            → OnOk result (HearsDatagram talk.is_of_master carried.now.payload.now
+            self.old.samples self.new.samples (S.told self.old.sink) (S.told self.new.sink)) }
+    {
+        if !carried.is_segment() {
+            return self.hear_datagram(talk.is_of_master, carried.payload);
         }
-        if let Some(datagram) = udp_in(carried.payload) {
-            self.hear_frames(talk.is_of_master, datagram.payload)?;
+        match tcp_in(carried.payload) {
+            Some(segment) => self.hear_segment(talk, &segment),
+            None => Ok(()),
         }
+    }
+
+    /// A datagram of UDP, if these bytes are one.
+    fn hear_datagram(&mut self, is_of_master: bool, bytes: &[u8]) -> Result<(), SessionFault>
+        ensures { OnOk result (HearsDatagram is_of_master bytes.now
+            self.old.samples self.new.samples (S.told self.old.sink) (S.told self.new.sink)) }
+    {
+        let Some(datagram) = udp_in(bytes) else {
+            return Ok(());
+        };
+        self.hear_frames(is_of_master, datagram.payload)?;
         Ok(())
     }
 
@@ -163,11 +184,16 @@ impl<S: CaptureSink + Drop> Slave<S> {
 
     /// Frames in their order, as far as they are whole (ASAM MCD-1 XCP, transport layer for
     /// Ethernet, header). Returns how many bytes they are.
-    fn hear_frames(&mut self, is_of_master: bool, bytes: &[u8]) -> Result<usize, SessionFault> {
+    fn hear_frames(&mut self, is_of_master: bool, bytes: &[u8]) -> Result<usize, SessionFault>
+        ensures { IfOk result (λ taken. (fs : List (ℕ × List ℕ)) × (rest : List ℕ)
+            × AreFrames bytes.now fs rest × (taken + length rest ≡ length bytes.now)
+            × HearsFrames is_of_master fs self.old.samples self.new.samples
+            (S.told self.old.sink) (S.told self.new.sink)) }
+    {
         let mut rest = bytes;
-        for _ in 0..bytes.len() {
+        'frames: for _ in 0..bytes.len() {
             let Some((counter, packet, behind)) = next_frame(rest) else {
-                break;
+                return Ok(bytes.len().saturating_sub(rest.len()));
             };
             self.hear_packet(is_of_master, counter, packet)?;
             rest = behind;
@@ -181,7 +207,11 @@ impl<S: CaptureSink + Drop> Slave<S> {
         is_of_master: bool,
         counter: u16,
         packet: &[u8],
-    ) -> Result<(), SessionFault> {
+    ) -> Result<(), SessionFault>
+        ensures { OnOk result (HearsFrames is_of_master ((counter, packet.now) ∷ [])
+            self.old.samples self.new.samples (S.told self.old.sink) (S.told self.new.sink)) }
+    {
+        self.sink.frame(is_of_master, counter, packet);
         if is_of_master {
             return self.samples.hear_master(counter, packet);
         }

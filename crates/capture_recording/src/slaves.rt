@@ -9,7 +9,7 @@ use crate::talks::{Talk, talk_of};
 use capture::Captured;
 use captured_samples::SlaveSamples;
 use captured_session::Form;
-use datagrams::{Link, Parts, ip_in, packet_in};
+use datagrams::{IpPacket, Link, Parts, ip_in, packet_in};
 use std::alloc::Global;
 use std::net::IpAddr;
 
@@ -34,6 +34,7 @@ pub struct Slaves<K: Sinks + Drop> {
     sinks: K,
     slaves: Vec<Slave<K::Sink>>,
     parts: Parts,
+    cut: u64,
 }
 
 impl<K: Sinks + Drop> Slaves<K> {
@@ -46,7 +47,18 @@ impl<K: Sinks + Drop> Slaves<K> {
             sinks,
             slaves: Vec::new(alloc),
             parts: Parts::new(alloc),
+            cut: 0,
         }
+    }
+
+    /// How many packets between masters and slaves weren't captured whole.
+    pub fn cut(&self) -> u64 {
+        self.cut
+    }
+
+    /// How many datagrams that came in parts were let go of, since too many waited for others.
+    pub fn let_go(&self) -> u64 {
+        self.parts.dropped()
     }
 
     /// The slaves that were met.
@@ -69,7 +81,7 @@ impl<K: Sinks + Drop> Slaves<K> {
             return Ok(());
         };
         if packet.part.is_none() {
-            return self.hear(time, &IpData::by_packet(&packet));
+            return self.hear_packet(time, &packet);
         }
         match self.parts.take(&packet) {
             Ok(Some(whole)) => self.hear(time, &IpData::by_parts(&whole)),
@@ -86,6 +98,19 @@ impl<K: Sinks + Drop> Slaves<K> {
             }
         }
         Ok(())
+    }
+
+    /// What a packet carries that is whole, or was cut.
+    fn hear_packet(
+        &mut self,
+        time: Option<i64>,
+        packet: &IpPacket<'_>,
+    ) -> Result<(), CaptureReadFault> {
+        let carried = IpData::by_packet(packet);
+        if packet.is_cut && talk_of(&carried, self.port).is_some() {
+            self.cut = self.cut.saturating_add(1);
+        }
+        self.hear(time, &carried)
     }
 
     /// What was carried, at this time.

@@ -33,15 +33,16 @@ impl<'a> CaptureColumns<'a> {
     pub fn add(&mut self, list: &CapturedList) -> Result<(), AllocError> {
         let mut places = Vec::new(self.alloc);
         for column in &self.columns {
-            places.push(place_in(list, column))?;
+            places.push(place_in(list, column.address, column.encoding.data_type))?;
         }
         self.places.push(places)?;
         Ok(())
     }
 
-    /// The raw value of a column in the bytes of a sample of the list of this number, if it has one.
+    /// The raw value of a column in the bytes of a sample of the list of this number, if it has
+    /// one.
     pub fn raw(&self, number: usize, column: usize, bytes: &[u8]) -> Option<Raw> {
         let place = *self.places.get(number)?.get(column)?;
-        raw_at(bytes, place, self.columns.get(column)?)
+        raw_at(bytes, place, self.columns.get(column)?.encoding)
     }
 }

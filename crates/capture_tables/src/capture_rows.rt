@@ -2,6 +2,8 @@
 
 use crate::capture_clock::CaptureClock;
 use crate::capture_column::CaptureColumns;
+use crate::capture_sheet::CaptureSheet;
+use crate::clocks::Clocks;
 use crate::row_text::{RowText, failure_of};
 use capture_recording::CaptureSink;
 use captured_samples::{ListSamples, Mark, SampleSink};
@@ -11,7 +13,8 @@ use std::io::{self, ErrorKind, Write};
 use value_tables::Column;
 
 /// Writes each sample that it is handed as a row of CSV: its time in seconds since the first one,
-/// its list, its mark, and the physical value of each column; nothing if the sample doesn't have it.
+/// its list, its mark, and the physical value of each column; nothing if the sample doesn't have
+/// it.
 ///
 /// The text is that of RFC 4180. After the first row that can't be written there is no more.
 #[derive(Drop)]
@@ -24,24 +27,19 @@ pub struct CaptureRows<'a, W: Write + Drop> {
 
 impl<'a, W: Write + Drop> CaptureRows<'a, W> {
     /// Writes the names of the columns.
-    pub fn new(alloc: Global, columns: Vec<Column<'a>>, out: W) -> CaptureRows<'a, W> {
-        let mut text = RowText::new(alloc, out);
+    pub fn new(
+        alloc: Global,
+        columns: Vec<Column<'a>>,
+        clocks: Clocks,
+        out: W,
+    ) -> CaptureRows<'a, W> {
+        let mut text = RowText::new(alloc, clocks, out);
         let failed = failure_of(write_heads(&mut text, &columns));
         CaptureRows {
             columns: CaptureColumns::new(alloc, columns),
             clock: CaptureClock::new(),
             text,
             failed,
-        }
-    }
-
-    /// Writes out what is left, and gives the writer back; refused if that, or a row, can't be
-    /// written.
-    pub fn finish(self) -> io::Result<W> {
-        let CaptureRows { text, failed, .. } = self;
-        match failed {
-            Some(kind) => Err(io::Error::from(kind)),
-            None => text.finish(),
         }
     }
 
@@ -53,7 +51,7 @@ impl<'a, W: Write + Drop> CaptureRows<'a, W> {
         mark: Mark,
     ) -> Result<(), ErrorKind> {
         let time = self.clock.next(sample);
-        self.text.put_time(time)?;
+        self.text.put_times(time, &self.clock)?;
         self.text.put_number(sample.list().list() as u64)?;
         self.text.put_number(mark.number() as u64)?;
         for (c, column) in self.columns.columns().iter().enumerate() {
@@ -69,7 +67,7 @@ fn write_heads<W: Write + Drop>(
     text: &mut RowText<W>,
     columns: &[Column<'_>],
 ) -> Result<(), ErrorKind> {
-    text.put("time [s]")?;
+    text.put_time_heads()?;
     text.put("list")?;
     text.put("overload")?;
     for column in columns {
@@ -93,5 +91,17 @@ impl<'a, W: Write + Drop> SampleSink for CaptureRows<'a, W> {
 impl<'a, W: Write + Drop> CaptureSink for CaptureRows<'a, W> {
     fn set_time(&mut self, nanoseconds: Option<i64>) {
         self.clock.set(nanoseconds);
+    }
+
+    fn frame(&mut self, _is_of_master: bool, _counter: u16, _packet: &[u8]) {}
+}
+
+impl<'a, W: Write + Drop> CaptureSheet for CaptureRows<'a, W> {
+    fn print(self) -> io::Result<()> {
+        let CaptureRows { text, failed, .. } = self;
+        match failed {
+            Some(kind) => Err(io::Error::from(kind)),
+            None => text.finish(),
+        }
     }
 }

@@ -1,6 +1,9 @@
 //! The elements of samples as CSV, one row for each element.
+ghost use Rattle.std.specs.Prelude.{◌≤◌, length};
 
 use crate::capture_clock::CaptureClock;
+use crate::capture_sheet::CaptureSheet;
+use crate::clocks::Clocks;
 use crate::row_text::{RowText, failure_of};
 use capture_recording::CaptureSink;
 use captured_samples::{ListSamples, Mark, SampleSink};
@@ -17,9 +20,8 @@ pub struct ElementRows<W: Write + Drop> {
     failed: Option<ErrorKind>,
 }
 
-/// The names of the columns.
-const HEADS: [&str; 11] = [
-    "time [s]",
+/// The names of the columns behind the times.
+const HEADS: [&str; 10] = [
     "ticks",
     "list",
     "odt",
@@ -43,24 +45,14 @@ struct Front {
 
 impl<W: Write + Drop> ElementRows<W> {
     /// Writes the names of the columns.
-    pub fn new(alloc: Global, out: W) -> ElementRows<W> {
-        let mut text = RowText::new(alloc, out);
+    pub fn new(alloc: Global, clocks: Clocks, out: W) -> ElementRows<W> {
+        let mut text = RowText::new(alloc, clocks, out);
         let failed = failure_of(write_heads(&mut text));
         ElementRows {
             samples: Vec::new(alloc),
             clock: CaptureClock::new(),
             text,
             failed,
-        }
-    }
-
-    /// Writes out what is left, and gives the writer back; refused if that, or a row, can't be
-    /// written.
-    pub fn finish(self) -> io::Result<W> {
-        let ElementRows { text, failed, .. } = self;
-        match failed {
-            Some(kind) => Err(io::Error::from(kind)),
-            None => text.finish(),
         }
     }
 
@@ -82,7 +74,7 @@ impl<W: Write + Drop> ElementRows<W> {
         for odt in 0..list.odts() {
             for (e, element) in list.entries(odt).iter().enumerate() {
                 let (bytes, behind) = split_at(rest, element.size as usize);
-                self.text.put_time(time)?;
+                self.text.put_times(time, &self.clock)?;
                 write_place(&mut self.text, front, odt, e, element)?;
                 self.text.put_hex(bytes)?;
                 self.text.put_number(front.mark as u64)?;
@@ -95,7 +87,9 @@ impl<W: Write + Drop> ElementRows<W> {
 }
 
 /// So many bytes, and those behind them.
-fn split_at(bytes: &[u8], n: usize) -> (&[u8], &[u8]) {
+fn split_at(bytes: &[u8], n: usize) -> (&[u8], &[u8])
+    ensures { length result.0.now ≤ n }
+{
     if n <= bytes.len() {
         return bytes.split_at(n);
     }
@@ -104,6 +98,7 @@ fn split_at(bytes: &[u8], n: usize) -> (&[u8], &[u8]) {
 
 /// The row of the names of the columns.
 fn write_heads<W: Write + Drop>(text: &mut RowText<W>) -> Result<(), ErrorKind> {
+    text.put_time_heads()?;
     for head in HEADS {
         text.put(head)?;
     }
@@ -150,5 +145,17 @@ impl<W: Write + Drop> SampleSink for ElementRows<W> {
 impl<W: Write + Drop> CaptureSink for ElementRows<W> {
     fn set_time(&mut self, nanoseconds: Option<i64>) {
         self.clock.set(nanoseconds);
+    }
+
+    fn frame(&mut self, _is_of_master: bool, _counter: u16, _packet: &[u8]) {}
+}
+
+impl<W: Write + Drop> CaptureSheet for ElementRows<W> {
+    fn print(self) -> io::Result<()> {
+        let ElementRows { text, failed, .. } = self;
+        match failed {
+            Some(kind) => Err(io::Error::from(kind)),
+            None => text.finish(),
+        }
     }
 }

@@ -1,11 +1,16 @@
 //! What a capture has: the entries of its lists.
+ghost use Rattle.capture_tables.specs.Places.{entries_hold};
 
+use crate::values_at::holds;
 use capture_recording::CaptureSink;
 use captured_samples::{ListSamples, Mark, SampleSink};
 use captured_session::{CapturedList, Element};
+use measured_values::DataType;
 use std::alloc::{AllocError, Global};
+use value_tables::Holder;
 
-/// Gathers the entries of each list of a slave.
+/// Gathers the entries of each list of a slave, those of a later set-up of a list behind those
+/// before.
 #[derive(Drop)]
 pub struct ElementSurvey {
     entries: Vec<Element>,
@@ -18,10 +23,16 @@ impl ElementSurvey {
             entries: Vec::new(alloc),
         }
     }
+}
 
-    /// The entries, those of a later set-up of a list behind those before.
-    pub fn entries(&self) -> &[Element] {
-        &self.entries
+impl Holder for ElementSurvey {
+    ghost held = { λ survey. entries_hold survey.entries.items };
+
+    /// Whether some entry has them.
+    fn holds(&self, address: u32, data_type: DataType) -> bool {
+        self.entries
+            .iter()
+            .any(|entry| holds(entry, address, data_type))
     }
 }
 
@@ -38,4 +49,6 @@ impl SampleSink for ElementSurvey {
 
 impl CaptureSink for ElementSurvey {
     fn set_time(&mut self, _nanoseconds: Option<i64>) {}
+
+    fn frame(&mut self, _is_of_master: bool, _counter: u16, _packet: &[u8]) {}
 }

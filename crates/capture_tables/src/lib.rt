@@ -4,18 +4,22 @@
 mod capture_clock;
 mod capture_column;
 mod capture_rows;
-mod columns;
+mod capture_sheet;
+mod clocks;
 mod element_rows;
 mod element_survey;
 mod list_table;
+mod passed;
 mod row_text;
 mod sample_time;
 mod tally_table;
+mod unwound;
 mod value_picture;
 mod values_at;
 
 pub use capture_rows::CaptureRows;
-pub use columns::{captured_columns, unknown_in};
+pub use capture_sheet::CaptureSheet;
+pub use clocks::Clocks;
 pub use element_rows::ElementRows;
 pub use element_survey::ElementSurvey;
 pub use list_table::ListTable;

@@ -1,94 +1,70 @@
 //! The samples of lists in a table, one line for each list.
 
+use crate::capture_sheet::CaptureSheet;
 use capture_recording::CaptureSink;
 use captured_samples::{ListSamples, Mark, SampleSink};
 use captured_session::CapturedList;
+use sample_tables::{Tally, print_head, print_tally};
 use std::alloc::{AllocError, Global};
 use std::io::{self, Write};
 
-/// What there is of a list.
+/// A set-up of a list, and what there is of its samples.
 #[derive(Clone, Copy)]
 struct Line {
     list: u16,
     channel: u16,
-    samples: u64,
-    overloads: u64,
-    first: Option<u32>,
-    last: Option<u32>,
+    tally: Tally,
 }
 
 /// Counts the samples of each set-up of a list.
 #[derive(Drop)]
-pub struct ListTable {
+pub struct ListTable<W: Write + Drop> {
     lines: Vec<Line>,
+    out: W,
 }
 
-impl ListTable {
+impl<W: Write + Drop> ListTable<W> {
     /// No samples.
-    pub fn new(alloc: Global) -> ListTable {
+    pub fn new(alloc: Global, out: W) -> ListTable<W> {
         ListTable {
             lines: Vec::new(alloc),
+            out,
         }
     }
+}
 
+impl<W: Write + Drop> CaptureSheet for ListTable<W> {
     /// Prints the head of the table, and a line for each set-up of a list.
-    pub fn print<W: Write>(&self, out: &mut W) -> io::Result<()> {
-        writeln!(
-            out,
-            "list channel      samples    overloads      first       last"
-        )?;
-        for line in &self.lines {
-            print_line(out, line)?;
+    fn print(self) -> io::Result<()> {
+        let ListTable { lines, out } = self;
+        let mut out = out;
+        print_head(&mut out)?;
+        for line in &lines {
+            print_tally(&mut out, line.list, line.channel, line.tally)?;
         }
         out.flush()
     }
 }
 
-/// Prints a line.
-fn print_line<W: Write>(out: &mut W, line: &Line) -> io::Result<()> {
-    write!(out, "{:>4} {:>7}", line.list, line.channel)?;
-    write!(out, " {:>12} {:>12}", line.samples, line.overloads)?;
-    print_ticks(out, line.first)?;
-    print_ticks(out, line.last)?;
-    writeln!(out)
-}
-
-/// Prints ticks, or `-` if there are none.
-fn print_ticks<W: Write>(out: &mut W, ticks: Option<u32>) -> io::Result<()> {
-    match ticks {
-        Some(ticks) => write!(out, " {ticks:>10}"),
-        None => write!(out, "          -"),
-    }
-}
-
-impl SampleSink for ListTable {
+impl<W: Write + Drop> SampleSink for ListTable<W> {
     fn begin(&mut self, _number: usize, list: &CapturedList) -> Result<(), AllocError> {
         self.lines.push(Line {
             list: list.list(),
             channel: list.mode().channel,
-            samples: 0,
-            overloads: 0,
-            first: None,
-            last: None,
+            tally: Tally::NONE,
         })?;
         Ok(())
     }
 
     fn hand(&mut self, number: usize, sample: &ListSamples, mark: Mark) {
-        let Some(line) = self.lines.get_mut(number) else {
-            return;
-        };
-        if line.samples == 0 {
-            line.first = sample.ticks();
-        }
-        line.last = sample.ticks();
-        line.samples = line.samples.saturating_add(1);
-        if mark.number() > 0 {
-            line.overloads = line.overloads.saturating_add(1);
+        if let Some(line) = self.lines.get_mut(number) {
+            line.tally = line.tally.with(mark.number() > 0, sample.ticks());
         }
     }
 }
 
-impl CaptureSink for ListTable {
+impl<W: Write + Drop> CaptureSink for ListTable<W> {
     fn set_time(&mut self, _nanoseconds: Option<i64>) {}
+
+    fn frame(&mut self, _is_of_master: bool, _counter: u16, _packet: &[u8]) {}
 }

@@ -1,28 +1,33 @@
 //! Rows of CSV, field by field.
+ghost use Rattle.std.specs.Prelude.{◌≤◌, length};
 
-use crate::capture_clock::SampleTime;
+use crate::capture_clock::{CaptureClock, SampleTime};
+use crate::clocks::Clocks;
 use csv::{Terminator, Writer, WriterBuilder};
 use itoa::Buffer;
 use measured_values::{Raw, push_seconds};
+use sample_tables::{MAX_SIZE, hexadecimal};
 use std::alloc::{AllocError, Global};
 use std::io::{self, ErrorKind, Write};
 use value_tables::{Column, write_head, write_value};
 
-/// A writer of rows, with the text of a field.
+/// A writer of rows, with the text of a field, and which times rows have.
 #[derive(Drop)]
 pub struct RowText<W: Write + Drop> {
     rows: Writer<W>,
     cell: String,
+    clocks: Clocks,
 }
 
 impl<W: Write + Drop> RowText<W> {
     /// No row yet.
-    pub fn new(alloc: Global, out: W) -> RowText<W> {
+    pub fn new(alloc: Global, clocks: Clocks, out: W) -> RowText<W> {
         RowText {
             rows: WriterBuilder::new()
                 .terminator(Terminator::CRLF)
                 .from_writer(out),
             cell: String::new(alloc),
+            clocks,
         }
     }
 
@@ -46,8 +51,30 @@ impl<W: Write + Drop> RowText<W> {
         }
     }
 
+    /// The names of the times.
+    pub fn put_time_heads(&mut self) -> Result<(), ErrorKind> {
+        self.put("time [s]")?;
+        match self.clocks {
+            Clocks::Slave => Ok(()),
+            Clocks::SlaveAndCapture => self.put("capture [s]"),
+        }
+    }
+
+    /// The times of a sample that was captured last, of which this is the slave's.
+    pub fn put_times(
+        &mut self,
+        time: Option<SampleTime>,
+        clock: &CaptureClock,
+    ) -> Result<(), ErrorKind> {
+        self.put_time(time)?;
+        match self.clocks {
+            Clocks::Slave => Ok(()),
+            Clocks::SlaveAndCapture => self.put_time(clock.captured()),
+        }
+    }
+
     /// A time in seconds; nothing if there is none.
-    pub fn put_time(&mut self, time: Option<SampleTime>) -> Result<(), ErrorKind> {
+    fn put_time(&mut self, time: Option<SampleTime>) -> Result<(), ErrorKind> {
         self.cell.clear();
         if let Some(time) = time {
             push_time(&mut self.cell, time).map_err(|_| ErrorKind::OutOfMemory)?;
@@ -68,12 +95,13 @@ impl<W: Write + Drop> RowText<W> {
     }
 
     /// Bytes in hexadecimal digits.
-    pub fn put_hex(&mut self, bytes: &[u8]) -> Result<(), ErrorKind> {
-        self.cell.clear();
-        for byte in bytes {
-            push_hex(&mut self.cell, *byte).map_err(|_| ErrorKind::OutOfMemory)?;
-        }
-        self.put_cell()
+    pub fn put_hex(&mut self, bytes: &[u8]) -> Result<(), ErrorKind>
+        requires { length bytes.now ≤ 255 }
+    {
+        let mut digits = [0; 2 * MAX_SIZE];
+        self.rows
+            .write_field(hexadecimal(&mut digits, bytes))
+            .map_err(|_| ErrorKind::Other)
     }
 
     /// Ends a row.
@@ -81,10 +109,13 @@ impl<W: Write + Drop> RowText<W> {
         self.rows.end_record().map_err(|_| ErrorKind::Other)
     }
 
-    /// Writes out what is left, and gives the writer back.
-    pub fn finish(self) -> io::Result<W> {
+    /// Writes out what is left.
+    pub fn finish(self) -> io::Result<()> {
         match self.rows.into_inner() {
-            Ok(out) => Ok(out),
+            Ok(out) => {
+                let mut out = out;
+                out.flush()
+            }
             Err(_) => Err(io::Error::from(ErrorKind::Other)),
         }
     }
@@ -97,26 +128,15 @@ impl<W: Write + Drop> RowText<W> {
     }
 }
 
-/// Appends a time in seconds.
+/// Appends a time in seconds; nothing if it is 2^64 ticks or more.
 fn push_time(text: &mut String, time: SampleTime) -> Result<(), AllocError> {
+    let Ok(at) = u64::try_from(time.at.unsigned_abs()) else {
+        return Ok(());
+    };
     if time.at < 0 {
         text.push_str("-")?;
     }
-    match u64::try_from(time.at.unsigned_abs()) {
-        Ok(at) => push_seconds(text, at, time.tick),
-        Err(_) => Ok(()),
-    }
-}
-
-/// The hexadecimal digits.
-const DIGITS: [&str; 16] = [
-    "0", "1", "2", "3", "4", "5", "6", "7", "8", "9", "a", "b", "c", "d", "e", "f",
-];
-
-/// Appends the two digits of a byte.
-fn push_hex(text: &mut String, byte: u8) -> Result<(), AllocError> {
-    text.push_str(DIGITS[(byte / 16) as usize])?;
-    text.push_str(DIGITS[(byte % 16) as usize])
+    push_seconds(text, at, time.tick)
 }
 
 /// What failed.

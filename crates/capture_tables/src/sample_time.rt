@@ -1,50 +1,59 @@
-//! The time of a sample.
+//! How the timestamps of a slave count.
+ghost use Rattle.std.specs.Prelude.{◌≡◌, ◌^◌, ◌<◌, ◌≤◌, IfSome};
+ghost use Rattle.capture_tables.specs.Clocks.{picoseconds_of, power_of, tick_of};
 
-use captured_samples::ListSamples;
 use captured_session::Form;
 use measured_values::Tick;
 
-/// The length of a tick of the slave's clock, in seconds, if it tells one (ASAM MCD-1 XCP, protocol
-/// layer, GET_DAQ_RESOLUTION_INFO: TIMESTAMP_MODE and TIMESTAMP_TICKS).
-pub fn tick_of(form: Form) -> Option<Tick> {
-    let exponent = match form.stamp / 16 {
-        0 => -9,
-        1 => -8,
-        2 => -7,
-        3 => -6,
-        4 => -5,
-        5 => -4,
-        6 => -3,
-        7 => -2,
-        8 => -1,
-        9 => 0,
-        10 => -12,
-        11 => -11,
-        12 => -10,
-        _ => return None,
-    };
+/// How long a tick of the slave's clock is, if it tells that.
+pub fn tick_of(form: Form) -> Option<Tick>
+    ensures { result ≡ tick_of form }
+{
+    let power = power_of(form)?;
     if form.ticks == 0 {
         return None;
     }
     Some(Tick {
         mantissa: form.ticks as u32,
-        exponent,
+        exponent: power as i8 - 12,
     })
 }
 
-/// How many ticks the timestamps of a list count before they wrap.
-pub fn wrap_of(sample: &ListSamples) -> i128 {
-    match sample.list().stamp_len() {
+/// The same in picoseconds.
+pub fn picoseconds_of(form: Form) -> Option<u64>
+    ensures value { result ≡ picoseconds_of form }
+    ensures some { IfSome result (λ picoseconds. 0 < picoseconds) }
+{
+    let power = power_of(form)?;
+    if form.ticks == 0 {
+        return None;
+    }
+    Some(form.ticks as u64 * 10u64.pow(power as u32))
+}
+
+/// Which power of ten of picoseconds its unit is, if it tells that.
+fn power_of(form: Form) -> Option<u8>
+    ensures value { result ≡ power_of form }
+    ensures few { IfSome result (λ power. power ≤ 12) }
+{
+    match form.stamp / 16 {
+        unit @ 0..=9 => Some(unit + 3),
+        unit @ 10..=12 => Some(unit - 10),
+        _ => None,
+    }
+}
+
+/// How many ticks timestamps of so many bytes count before they wrap.
+pub fn wrap_of(len: usize) -> u64
+    ensures byte { len ≡ 1 → result ≡ 2 ^ 8 }
+    ensures word { len ≡ 2 → result ≡ 2 ^ 16 }
+    ensures dword { len ≡ 4 → result ≡ 2 ^ 32 }
+    ensures some { 0 < result }
+    ensures limit { result ≤ 2 ^ 32 }
+{
+    match len {
         1 => 256,
         2 => 65_536,
         _ => 4_294_967_296,
     }
-}
-
-/// How many picoseconds a tick is.
-pub fn picoseconds_of(tick: Tick) -> Option<i128> {
-    let places = u32::try_from(tick.exponent as i32 + 12).ok()?;
-    10i128
-        .checked_pow(places)?
-        .checked_mul(tick.mantissa as i128)
 }

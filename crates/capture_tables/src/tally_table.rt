@@ -1,6 +1,7 @@
 //! The values of samples in a table, one line for each column.
 
 use crate::capture_column::CaptureColumns;
+use crate::capture_sheet::CaptureSheet;
 use capture_recording::CaptureSink;
 use captured_samples::{ListSamples, Mark, SampleSink};
 use captured_session::CapturedList;
@@ -11,14 +12,20 @@ use value_tables::{Column, physical_in, print_tally, print_tally_head};
 
 /// Counts the values of each column in the samples that it is handed.
 #[derive(Drop)]
-pub struct TallyTable<'a> {
+pub struct TallyTable<'a, W: Write + Drop> {
     columns: CaptureColumns<'a>,
     tallies: Vec<Tally>,
+    text: String,
+    out: W,
 }
 
-impl<'a> TallyTable<'a> {
+impl<'a, W: Write + Drop> TallyTable<'a, W> {
     /// No values of these columns.
-    pub fn new(alloc: Global, columns: Vec<Column<'a>>) -> Result<TallyTable<'a>, AllocError> {
+    pub fn new(
+        alloc: Global,
+        columns: Vec<Column<'a>>,
+        out: W,
+    ) -> Result<TallyTable<'a, W>, AllocError> {
         let mut tallies = Vec::new(alloc);
         for _ in 0..columns.len() {
             tallies.push(Tally::new())?;
@@ -26,21 +33,32 @@ impl<'a> TallyTable<'a> {
         Ok(TallyTable {
             columns: CaptureColumns::new(alloc, columns),
             tallies,
+            text: String::new(alloc),
+            out,
         })
     }
+}
 
+impl<'a, W: Write + Drop> CaptureSheet for TallyTable<'a, W> {
     /// Prints the head of the table, and a line for each column.
-    pub fn print<W: Write>(&self, alloc: Global, out: &mut W) -> io::Result<()> {
-        print_tally_head(out)?;
-        let mut text = String::new(alloc);
-        for (column, tally) in self.columns.columns().iter().zip(self.tallies.iter()) {
-            print_tally(out, &mut text, column, tally)?;
+    fn print(self) -> io::Result<()> {
+        let TallyTable {
+            columns,
+            tallies,
+            text,
+            out,
+        } = self;
+        let mut text = text;
+        let mut out = out;
+        print_tally_head(&mut out)?;
+        for (column, tally) in columns.columns().iter().zip(tallies.iter()) {
+            print_tally(&mut out, &mut text, column, tally)?;
         }
         out.flush()
     }
 }
 
-impl<'a> SampleSink for TallyTable<'a> {
+impl<'a, W: Write + Drop> SampleSink for TallyTable<'a, W> {
     fn begin(&mut self, _number: usize, list: &CapturedList) -> Result<(), AllocError> {
         self.columns.add(list)
     }
@@ -56,6 +74,8 @@ impl<'a> SampleSink for TallyTable<'a> {
     }
 }
 
-impl<'a> CaptureSink for TallyTable<'a> {
+impl<'a, W: Write + Drop> CaptureSink for TallyTable<'a, W> {
     fn set_time(&mut self, _nanoseconds: Option<i64>) {}
+
+    fn frame(&mut self, _is_of_master: bool, _counter: u16, _packet: &[u8]) {}
 }

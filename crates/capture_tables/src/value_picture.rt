@@ -2,6 +2,7 @@
 
 use crate::capture_clock::CaptureClock;
 use crate::capture_column::CaptureColumns;
+use crate::capture_sheet::CaptureSheet;
 use capture_recording::CaptureSink;
 use captured_samples::{ListSamples, Mark, SampleSink};
 use captured_session::CapturedList;
@@ -14,17 +15,22 @@ use value_tables::{Column, physical_in};
 /// Draws the values of each column in the samples that it is handed, over the time since the first
 /// of them.
 #[derive(Drop)]
-pub struct ValuePicture<'a> {
+pub struct ValuePicture<'a, W: Write + Drop> {
     columns: CaptureColumns<'a>,
     tables: Vec<Option<&'a TextTable>>,
     clock: CaptureClock,
     tick: Option<Tick>,
     picture: CurvePicture,
+    out: W,
 }
 
-impl<'a> ValuePicture<'a> {
+impl<'a, W: Write + Drop> ValuePicture<'a, W> {
     /// No values of these columns.
-    pub fn new(alloc: Global, columns: Vec<Column<'a>>) -> Result<ValuePicture<'a>, AllocError> {
+    pub fn new(
+        alloc: Global,
+        columns: Vec<Column<'a>>,
+        out: W,
+    ) -> Result<ValuePicture<'a, W>, AllocError> {
         let mut picture = CurvePicture::new(alloc);
         let mut tables = Vec::new(alloc);
         for column in &columns {
@@ -37,16 +43,27 @@ impl<'a> ValuePicture<'a> {
             clock: CaptureClock::new(),
             tick: None,
             picture,
+            out,
         })
     }
+}
 
+impl<'a, W: Write + Drop> CaptureSheet for ValuePicture<'a, W> {
     /// Writes the picture as SVG.
-    pub fn print<W: Write>(&self, out: &mut W) -> io::Result<()> {
-        let axis = match self.tick {
+    fn print(self) -> io::Result<()> {
+        let ValuePicture {
+            tables,
+            tick,
+            picture,
+            out,
+            ..
+        } = self;
+        let axis = match tick {
             Some(tick) => CurveAxis::Seconds(tick),
             None => CurveAxis::Ticks,
         };
-        self.picture.print(out, &self.tables, axis)?;
+        let mut out = out;
+        picture.print(&mut out, &tables, axis)?;
         out.flush()
     }
 }
@@ -59,7 +76,7 @@ fn table_of<'a>(column: &Column<'a>) -> Option<&'a TextTable> {
     }
 }
 
-impl<'a> SampleSink for ValuePicture<'a> {
+impl<'a, W: Write + Drop> SampleSink for ValuePicture<'a, W> {
     fn begin(&mut self, _number: usize, list: &CapturedList) -> Result<(), AllocError> {
         self.columns.add(list)
     }
@@ -81,8 +98,10 @@ impl<'a> SampleSink for ValuePicture<'a> {
     }
 }
 
-impl<'a> CaptureSink for ValuePicture<'a> {
+impl<'a, W: Write + Drop> CaptureSink for ValuePicture<'a, W> {
     fn set_time(&mut self, nanoseconds: Option<i64>) {
         self.clock.set(nanoseconds);
     }
+
+    fn frame(&mut self, _is_of_master: bool, _counter: u16, _packet: &[u8]) {}
 }

@@ -1,59 +1,63 @@
-//! Where the value of a column stands in the samples of a list.
-ghost use Rattle.std.specs.Prelude.{◌≡◌, ◌≤◌, true};
+//! Where values stand in the samples of a list.
+ghost use Rattle.std.specs.Prelude.{◌≡◌, ◌^◌, ◌<◌, ◌≤◌, IfErr, IfOk, OnErr, false, length};
+ghost use Rattle.captured_samples.specs.Places.{size_of as size_of_entries};
+ghost use Rattle.measured_values.specs.Encodings.{size_of};
+ghost use Rattle.capture_tables.specs.Places.{IsPlace, IsPlaceIn, entries_hold, holds, raw_in};
 
 use captured_session::{CapturedList, Element};
-use measured_values::{Raw, raw_of};
-use value_tables::Column;
+use measured_values::{DataType, Encoding, Raw, raw_of};
 
-/// Where the bytes of a column stand in the samples of a list: in the first entry that has all of
-/// them, of address extension 0; `None` if there is none. An entry that is one bit has no bytes of a
-/// value.
-pub fn place_in(list: &CapturedList, column: &Column<'_>) -> Option<usize> {
+/// Where the bytes of a value at an address stand in the samples of a list: in the first entry that
+/// has all of them; `None` if there is none.
+pub fn place_in(list: &CapturedList, address: u32, data_type: DataType) -> Option<usize>
+    ensures { IsPlaceIn list.now address (size_of data_type) result }
+{
     let mut before = 0usize;
     for odt in 0..list.odts() {
-        let entries = list.entries(odt);
-        if let Some(place) = place_among(entries, column) {
-            return before.checked_add(place);
+        match place_among(list.entries(odt), address, data_type) {
+            Ok(place) => return Some(before + place),
+            Err(len) => before += len,
         }
-        before = before.saturating_add(len_of(entries));
     }
     None
 }
 
-/// The same, in the entries of an ODT.
-fn place_among(entries: &[Element], column: &Column<'_>) -> Option<usize> {
+/// The same, in entries; if there is none, how many bytes they have.
+fn place_among(entries: &[Element], address: u32, data_type: DataType) -> Result<usize, usize>
+    requires { length entries.now ≤ 255 }
+    ensures place { IfOk result (λ place. IsPlace entries.now address (size_of data_type) place) }
+    ensures near { IfOk result (λ place. place < 2 ^ 33) }
+    ensures none { OnErr result
+        (entries_hold entries.now address (size_of data_type) ≡ false) }
+    ensures len { IfErr result (λ len. len ≡ size_of_entries entries.now) }
+    ensures few { IfErr result (λ len. len ≤ 65025) }
+{
     let mut before = 0usize;
     for entry in entries {
-        if holds(entry, column.address, column.encoding.data_type.size()) {
-            return before.checked_add((column.address - entry.address) as usize);
+        if holds(entry, address, data_type) {
+            return Ok(before + (address - entry.address) as usize);
         }
-        before = before.saturating_add(entry.size as usize);
+        before += entry.size as usize;
     }
-    None
+    Err(before)
 }
 
-/// How many bytes entries have.
-fn len_of(entries: &[Element]) -> usize {
-    let mut len = 0usize;
-    for entry in entries {
-        len = len.saturating_add(entry.size as usize);
-    }
-    len
-}
-
-/// Whether an entry has all of so many bytes at an address.
-pub fn holds(entry: &Element, address: u32, size: usize) -> bool
-    ensures { result ≡ true → entry.now.address ≤ address }
+/// Whether an entry has all bytes of a value at an address. One that is one bit has none.
+pub fn holds(entry: &Element, address: u32, data_type: DataType) -> bool
+    ensures { result ≡ holds address (size_of data_type) entry.now }
 {
+    let size = data_type.size();
     entry.extension == 0
         && entry.bit == 0xFF
         && entry.address <= address
-        && (address as usize).saturating_add(size) <= entry.address as usize + entry.size as usize
+        && address as usize + size <= entry.address as usize + entry.size as usize
 }
 
-/// The raw value of a column, which stands at a place in the bytes of a sample.
-pub fn raw_at(bytes: &[u8], place: Option<usize>, column: &Column<'_>) -> Option<Raw> {
+/// The raw value that stands at a place in the bytes of a sample, if its bytes are there.
+pub fn raw_at(bytes: &[u8], place: Option<usize>, encoding: Encoding) -> Option<Raw>
+    ensures { result ≡ raw_in encoding place bytes.now }
+{
     let place = place?;
-    let end = place.checked_add(column.encoding.data_type.size())?;
-    raw_of(column.encoding, bytes.get(place..end)?)
+    let end = place.checked_add(encoding.data_type.size())?;
+    raw_of(encoding, bytes.get(place..end)?)
 }

@@ -12,8 +12,8 @@ const REFUSED: &[u8] = &[0xFE, 0x22];
 /// No reply.
 const NONE: &[u8] = &[];
 
-/// How a slave with Intel's byte order, the overload indication and timestamps of 4 bytes replies to
-/// CONNECT, GET_DAQ_PROCESSOR_INFO and GET_DAQ_RESOLUTION_INFO.
+/// How a slave with Intel's byte order, the overload indication and timestamps of 4 bytes replies
+/// to CONNECT, GET_DAQ_PROCESSOR_INFO and GET_DAQ_RESOLUTION_INFO.
 const OPENING: [Exchange<'static>; 3] = [
     (&[0xFF, 0], &[0xFF, 4, 0, 8, 0, 8, 1, 1]),
     (&[0xDA], &[0xFF, 0x51, 2, 0, 1, 0, 0, 0]),

@@ -124,6 +124,7 @@ impl Talk {
     /// unknown ones.
     pub fn counts(&self, rt: &impl Abort, wanted: [u64; 4], row: &str) {
         let Tallies {
+            frames: _,
             samples,
             gaps,
             behind,

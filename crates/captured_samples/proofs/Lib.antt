@@ -1,2 +1,7 @@
 pub mod ShownLemmas
 pub mod TurnLemmas
+pub mod ListsLemmas
+pub mod ReadLemmas
+pub mod HeardLemmas
+pub mod StreamLemmas
+pub mod AlikeLemmas

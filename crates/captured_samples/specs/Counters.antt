@@ -1,8 +1,10 @@
 -- How the counter of a slave's frame goes on from the last one that counted (ASAM MCD-1 XCP,
 -- transport layer for Ethernet, CTR): it rises by one with each frame, and wraps after 65535.
-use Rattle.std.specs.Prelude.{ℕ, ◌+◌, ◌-◌, ◌%◌, ◌==◌, ◌||◌, if◌then◌else◌, nat_le, Option, Some, None}
+use Rattle.std.specs.Prelude.{ℕ, ◌+◌, ◌-◌, ◌%◌, ◌==◌, ◌||◌, if◌then◌else◌, nat_le, Option, Some}
+use Rattle.std.specs.Prelude.{None}
 use Rattle.captured_samples.specs.declared.counter_steps.CounterStep.{CounterStep}
-use Rattle.captured_samples.specs.declared.counter_steps.CounterStep.TheVariants.{Behind, First, Jump}
+use Rattle.captured_samples.specs.declared.counter_steps.CounterStep.TheVariants.{Behind, First}
+use Rattle.captured_samples.specs.declared.counter_steps.CounterStep.TheVariants.{Jump}
 use Rattle.captured_samples.specs.declared.counter_steps.CounterStep.TheVariants.{Next}
 
 -- how far one is ahead of another, modulo 65536

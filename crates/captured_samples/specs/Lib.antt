@@ -2,5 +2,8 @@ pub mod Places
 pub mod Samples
 pub mod Turns
 pub mod Counters
-pub mod Gaps
+pub mod Frames
+pub mod Standing
+pub mod Slaves
+pub mod Stream
 pub mod Inner

@@ -1,7 +1,8 @@
--- Of which ODT of a DAQ list a packet is, and where its bytes stand (ASAM MCD-1 XCP, protocol layer,
--- identification field).
+-- Of which ODT of a DAQ list a packet is, and where its bytes stand (ASAM MCD-1 XCP, protocol
+-- layer, identification field).
 use Rattle.std.specs.Prelude.{ℕ, ◌+◌, ◌-◌, ◌%◌, ◌==◌, ◌&&◌, nat_le, nat_lt, Bool, false, suc, zero}
-use Rattle.std.specs.Prelude.{if◌then◌else◌, List, [], ◌∷◌, drop, length, slice_index_or, sum_by, take}
+use Rattle.std.specs.Prelude.{if◌then◌else◌, List, [], ◌∷◌, drop, length, slice_index_or, sum_by}
+use Rattle.std.specs.Prelude.{take}
 use Rattle.std.specs.Prelude.{Option, Some, None}
 use Rattle.captured_session.specs.Commands.{word}
 use Rattle.captured_session.specs.Lists.{ListOf, stamp_len}

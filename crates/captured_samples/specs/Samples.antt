@@ -61,7 +61,8 @@ bytes_from l k [] = []
 bytes_from l k (packet ∷ later) = body_of l k packet ++ bytes_from l (k + 1) later
 
 -- what packets from ODT 0 on show: how many they are, whether one has the overload indication, the
--- timestamp, the bytes of the entries. They are a whole sample if they are as many as there are ODTs
+-- timestamp, the bytes of the entries. They are a whole sample if they are as many as there are
+-- ODTs
 pub record ShownOf : Type 0 where
   pub list : ListOf
   pub packets : ℕ

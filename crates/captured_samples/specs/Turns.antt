@@ -30,8 +30,8 @@ UnderWayIsLast =
     (l : ListOf) (h : List (Option (List ℕ)))
     → (front : List (List ℕ)) × (front ++ under_way l h ≡ behind_gap l h)
 
--- the last ones of the list behind the last gap are under way, if they are of ODT 0, of ODT 1 and so
--- on
+-- the last ones of the list behind the last gap are under way, if they are of ODT 0, of ODT 1 and
+-- so on
 abbrev pub LastIsUnderWay : Type 0
 LastIsUnderWay =
     (l : ListOf) (h : List (Option (List ℕ))) (front later : List (List ℕ)) (packet : List ℕ)

@@ -6,6 +6,7 @@ mod last_command;
 pub mod laws;
 mod list_samples;
 mod list_state;
+mod list_states;
 mod mark;
 mod places;
 mod sample_sink;

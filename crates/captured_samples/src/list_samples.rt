@@ -35,7 +35,8 @@ impl Model for ListSamples {
 }
 
 impl ListSamples {
-    ghost use Rattle.std.specs.Prelude.{◌≡◌, ◌<◌, ◌+◌, ◌++◌, ◌∷◌, [], ℕ, List, IfOk, OnOk, length, true};
+    ghost use Rattle.std.specs.Prelude.{◌≡◌, ◌<◌, ◌+◌, ◌++◌, ◌∷◌, [], ℕ, List, IfOk, OnOk, length};
+    ghost use Rattle.std.specs.Prelude.{true};
     ghost use Rattle.std.specs.Prelude.{◌==◌, ◌||◌, Some, if◌then◌else◌};
     ghost use Rattle.captured_session.specs.Lists.{ListOf};
     ghost use Rattle.captured_samples.specs.Places.{fits, odt_in};

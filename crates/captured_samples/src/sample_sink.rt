@@ -7,10 +7,20 @@ use std::alloc::AllocError;
 
 /// What is handed the samples of a slave. Each set-up of a list has a number of its own, from 0 on.
 pub trait SampleSink {
+    ghost use Rattle.std.specs.Prelude.{◌∷◌, [], List, None, OnOk, Option};
+    ghost use Rattle.captured_samples.specs.Slaves.{Tells};
+    ghost use Rattle.captured_samples.specs.Standing.{Told, began, handed};
+
+    /// What it was told, with the oldest in front; `None` says nothing of that.
+    ghost told: { Self → Option (List Told) } = { λ _. None };
+
     /// A list was set up, or set up anew.
-    fn begin(&mut self, number: usize, list: &CapturedList) -> Result<(), AllocError>;
+    fn begin(&mut self, number: usize, list: &CapturedList) -> Result<(), AllocError>
+        ensures { OnOk result
+            (Tells (told self.old) (told self.new) (began number list.now ∷ [])) };
 
     /// Is handed a whole sample, with what its mark says. Who can't write it keeps the fault for
     /// later.
-    fn hand(&mut self, number: usize, sample: &ListSamples, mark: Mark);
+    fn hand(&mut self, number: usize, sample: &ListSamples, mark: Mark)
+        ensures { Tells (told self.old) (told self.new) (handed number sample.now mark ∷ []) };
 }

@@ -1,42 +1,70 @@
 //! The samples of a slave.
-ghost use Rattle.std.specs.Prelude.{◌<◌, ℕ, IfSome, length, slice_get};
-ghost use Rattle.captured_samples.specs.Gaps.{IsMarked};
+ghost use Rattle.std.specs.Prelude.{◌≡◌, length, true};
+ghost use Rattle.std.specs.Option.{option_copied};
+ghost use Rattle.captured_samples.specs.Frames.{is_connect, is_connected, is_sample};
 
 use crate::counter_steps::{CounterStep, counter_step};
 use crate::last_command::LastCommand;
-use crate::list_samples::ListSamples;
-use crate::list_state::ListState;
-use crate::mark::Mark;
+use crate::list_states::ListStates;
 use crate::sample_sink::SampleSink;
 use crate::taken::Taken;
 use crate::tallies::Tallies;
-use captured_session::{CapturedList, CapturedSession, Fact, Form, SessionFault, Side, list_in};
+use captured_session::{CapturedSession, Form, SessionFault, SetUp, Side, is_same_form};
 use std::alloc::{AllocError, Global};
+use std::marker::Model;
 
 /// Reads the samples of a slave off the frames that it and its master send.
 #[derive(Drop)]
 pub struct SlaveSamples {
-    alloc: Global,
     session: CapturedSession,
-    lists: Vec<ListState>,
-    numbers: usize,
+    lists: ListStates,
     is_changed: bool,
-    is_behind_gap: bool,
     counter: Option<u16>,
     command: LastCommand,
     tallies: Tallies,
 }
 
+impl Model for SlaveSamples {
+    ghost use Rattle.captured_samples.specs.Slaves.{SlaveOf};
+
+    ghost Value = { SlaveOf };
+
+    ghost view = { λ a. record {
+      session = a.session;
+      lists = a.lists;
+      is_changed = a.is_changed;
+      counter = a.counter;
+      command = a.command;
+      tallies = a.tallies;
+    } };
+}
+
 impl SlaveSamples {
+    ghost use Rattle.std.specs.Prelude.{◌≡◌, ◌≢◌, ◌∷◌, ◌++◌, [], List, OnOk};
+    ghost use Rattle.captured_session.specs.Exchanges.{Heard, waiting};
+    ghost use Rattle.captured_samples.specs.Frames.{Came, ReadOf, anew, heard_with, of_master};
+    ghost use Rattle.captured_samples.specs.Frames.{of_slave};
+    ghost use Rattle.captured_samples.specs.Frames.{read_of, step_of, with_frame};
+    ghost use Rattle.captured_samples.specs.Inner.{SameCounters};
+    ghost use Rattle.captured_samples.specs.Slaves.{AllRead, Keeps, StandsAfter, StandsBy, Tells};
+    ghost use Rattle.captured_samples.specs.Slaves.{lists_in};
+    ghost use Rattle.captured_samples.specs.Standing.{ListsIn, Start, begins_anew, come_to};
+    ghost use Rattle.captured_samples.specs.Standing.{for_each, hands};
+    ghost use Rattle.captured_samples.specs.Standing.{lists_of, marked, read_anew, set_up_by};
+    ghost use Rattle.captured_samples.specs.Standing.{set_up_of};
+    ghost use Rattle.captured_samples.specs.Standing.{told_at_gap, told_by, told_of_packet};
+    ghost use Rattle.captured_samples.specs.Standing.{with_any};
+    ghost use Rattle.captured_samples.specs.Standing.{with_packet, with_slave};
+    ghost use Rattle.captured_samples.specs.declared.counter_steps.CounterStep.TheVariants.{Behind};
+
     /// Nothing was heard. Packets look like this until the slave says otherwise.
-    pub fn new(alloc: Global, form: Form) -> SlaveSamples {
+    pub fn new(alloc: Global, form: Form) -> SlaveSamples
+        ensures { (start : Start) → start.given ≡ form → StandsAfter start [] result }
+    {
         SlaveSamples {
-            alloc,
             session: CapturedSession::new(alloc, form),
-            lists: Vec::new(alloc),
-            numbers: 0,
+            lists: ListStates::new(alloc),
             is_changed: false,
-            is_behind_gap: false,
             counter: None,
             command: LastCommand::new(alloc),
             tallies: Tallies::NONE,
@@ -44,228 +72,259 @@ impl SlaveSamples {
     }
 
     /// What became of the frames of the slave.
-    pub fn tallies(&self) -> Tallies {
+    pub fn tallies(&self) -> Tallies
+        ensures { result ≡ self.now.tallies }
+    {
         self.tallies
     }
 
     /// How the slave's packets look.
-    pub fn form(&self) -> Form {
+    pub fn form(&self) -> Form
+        ensures { result ≡ self.now.session.set_up.form }
+    {
         self.session.set_up().form()
     }
 
     /// The master's next frame. A copy of its last one changes nothing.
-    pub fn hear_master(&mut self, counter: u16, packet: &[u8]) -> Result<(), SessionFault> {
+    pub fn hear_master(&mut self, counter: u16, packet: &[u8]) -> Result<(), SessionFault>
+        ensures { (start : Start) (h : List Came) → StandsAfter start h self.old
+            → OnOk result (StandsAfter start (of_master counter packet.now ∷ h) self.new) }
+    {
         if self.command.is_copy(counter, packet) {
             return Ok(());
         }
         self.hear(Side::Master, packet)?;
-        if self.command.note(counter, packet).is_err() {
+        let Ok(()) = self.command.note(counter, packet) else {
             return Err(SessionFault::Memory);
-        }
+        };
         Ok(())
     }
 
-    /// The slave's next frame: a reply, or a packet of a sample. One that is late, or a copy, changes
-    /// nothing; behind missing ones each list's next sample is marked.
+    /// The slave's next frame: a reply, or a packet of a sample. One that is late, or a copy,
+    /// changes nothing; behind missing ones each list's next sample is marked.
     pub fn hear_slave<S: SampleSink>(
         &mut self,
         counter: u16,
         packet: &[u8],
         sink: &mut S,
-    ) -> Result<(), SessionFault> {
+    ) -> Result<(), SessionFault>
+        ensures stands { (start : Start) (h : List Came) → StandsAfter start h self.old
+            → OnOk result (StandsAfter start (of_slave counter packet.now ∷ h) self.new) }
+        ensures told { (start : Start) (h : List Came) → StandsAfter start h self.old
+            → OnOk result (Tells (S.told sink.old) (S.told sink.new)
+            (told_by start (set_up_of start h) (step_of (read_of h) counter packet.now) packet.now
+            (lists_of start h))) }
+    {
         match self.step_of(counter, packet) {
             CounterStep::Behind => {
                 self.tallies.behind = self.tallies.behind.saturating_add(1);
-                return Ok(());
+                Ok(())
             }
-            CounterStep::Jump => self.meet_gap(),
-            CounterStep::First | CounterStep::Next => {}
+            step => self.hear_next(step, counter, packet, sink),
         }
+    }
+
+    /// A new connection: the slave counts anew.
+    pub fn begin_anew(&mut self)
+        ensures { (start : Start) (h : List Came) → StandsAfter start h self.old
+            → StandsAfter start (anew ∷ h) self.new }
+    {
+        self.counter = None;
+        self.lists.break_all();
+    }
+
+    /// How a frame's counter goes on: behind CONNECT the slave counts anew.
+    fn step_of(&self, counter: u16, packet: &[u8]) -> CounterStep
+        ensures { (r : ReadOf) → self.now.counter ≡ r.counter
+            → self.now.session.waiting ≡ waiting r.heard
+            → result ≡ step_of r counter packet.now }
+    {
+        if is_connected(packet) && is_connect(self.session.waiting()) {
+            return CounterStep::First;
+        }
+        counter_step(self.counter, counter)
+    }
+
+    /// The slave's next frame, which isn't behind.
+    fn hear_next<S: SampleSink>(
+        &mut self,
+        step: CounterStep,
+        counter: u16,
+        packet: &[u8],
+        sink: &mut S,
+    ) -> Result<(), SessionFault>
+        requires { step ≢ Behind }
+        ensures stands { (start : Start) (r : ReadOf) (ls : ListsIn) → StandsBy start r ls self.old
+            → OnOk result (StandsBy start (with_frame r counter packet.now step)
+            (with_slave start (set_up_by start r.heard) step packet.now ls) self.new) }
+        ensures told { (start : Start) (r : ReadOf) (ls : ListsIn) → StandsBy start r ls self.old
+            → OnOk result (Tells (S.told sink.old) (S.told sink.new)
+            (told_by start (set_up_by start r.heard) step packet.now ls)) }
+    {
+        let Ok(()) = self.come_to(step, sink) else {
+            return Err(SessionFault::Memory);
+        };
         self.counter = Some(counter);
-        if is_sample_packet(packet) {
+        self.tallies.frames = self.tallies.frames.saturating_add(1);
+        self.look_at(packet, sink)
+    }
+
+    /// The packet of the slave's next frame.
+    fn look_at<S: SampleSink>(&mut self, packet: &[u8], sink: &mut S) -> Result<(), SessionFault>
+        ensures stands { (start : Start) (heard : List Heard) (ls : ListsIn)
+            → Keeps start heard ls self.old
+            → OnOk result (Keeps start (heard_with packet.now heard)
+            (with_any start (set_up_by start heard) packet.now ls) self.new) }
+        ensures stays { OnOk result (SameCounters self.old self.new) }
+        ensures told { (start : Start) (heard : List Heard) (ls : ListsIn)
+            → Keeps start heard ls self.old
+            → OnOk result (Tells (S.told sink.old) (S.told sink.new)
+            (told_of_packet start (set_up_by start heard) packet.now ls)) }
+    {
+        if is_sample(packet) {
             return self.take(packet, sink);
         }
         self.hear(Side::Slave, packet)
     }
 
-    /// A new connection: the slave counts anew.
-    pub fn begin_anew(&mut self) {
-        self.counter = None;
-        for list in self.lists.iter_mut() {
-            list.samples.break_off();
-        }
-    }
-
-    /// How a frame's counter goes on: behind CONNECT the slave counts anew.
-    fn step_of(&mut self, counter: u16, packet: &[u8]) -> CounterStep {
-        if !is_connect_reply(packet) || !self.waits_for_connect() {
-            return counter_step(self.counter, counter);
-        }
-        self.begin_anew();
-        CounterStep::First
-    }
-
-    /// Whether the command that waits for its reply is CONNECT.
-    fn waits_for_connect(&self) -> bool {
-        match self.session.waiting() {
-            Some([0xFF, ..]) => true,
-            _ => false,
+    /// Goes on to the next frame of the slave, before its packet is looked at.
+    fn come_to<S: SampleSink>(&mut self, step: CounterStep, sink: &mut S) -> Result<(), AllocError>
+        ensures stands { (start : Start) (heard : List Heard) (ls : ListsIn)
+            → Keeps start heard ls self.old
+            → OnOk result (Keeps start heard (come_to start (set_up_by start heard) step ls)
+            self.new) }
+        ensures stays { OnOk result (SameCounters self.old self.new) }
+        ensures told { (start : Start) (heard : List Heard) (ls : ListsIn)
+            → Keeps start heard ls self.old
+            → OnOk result (Tells (S.told sink.old) (S.told sink.new)
+            (told_at_gap start (set_up_by start heard) step ls)) }
+    {
+        match step {
+            CounterStep::First => {
+                self.lists.break_all();
+                Ok(())
+            }
+            CounterStep::Jump => self.meet_gap(sink),
+            CounterStep::Next | CounterStep::Behind => Ok(()),
         }
     }
 
     /// Frames are missing.
-    fn meet_gap(&mut self) {
+    fn meet_gap<S: SampleSink>(&mut self, sink: &mut S) -> Result<(), AllocError>
+        ensures stands { (start : Start) (heard : List Heard) (ls : ListsIn)
+            → Keeps start heard ls self.old
+            → OnOk result (Keeps start heard
+            (for_each marked (read_anew start (set_up_by start heard) ls)) self.new) }
+        ensures stays { OnOk result (SameCounters self.old self.new) }
+        ensures told { (start : Start) (heard : List Heard) (ls : ListsIn)
+            → Keeps start heard ls self.old
+            → OnOk result (Tells (S.told sink.old) (S.told sink.new)
+            (begins_anew start (set_up_by start heard) ls)) }
+    {
+        self.read_lists(sink)?;
+        self.lists.mark_all();
         self.tallies.gaps = self.tallies.gaps.saturating_add(1);
-        self.is_behind_gap = true;
-        mark_all(&mut self.lists);
+        Ok(())
     }
 
-    /// A packet of the session. The set-up may change with a reply, and with a command too, if the one
-    /// before has none.
-    fn hear(&mut self, side: Side, packet: &[u8]) -> Result<(), SessionFault> {
-        let before = self.session.set_up().facts().len();
+    /// A packet of the session. The set-up may change with a reply, and with a command too, if the
+    /// one before has none.
+    fn hear(&mut self, side: Side, packet: &[u8]) -> Result<(), SessionFault>
+        ensures stands { (start : Start) (heard : List Heard) (ls : ListsIn)
+            → Keeps start heard ls self.old
+            → OnOk result (Keeps start ((side, packet.now) ∷ heard) ls self.new) }
+        ensures stays { OnOk result (SameCounters self.old self.new) }
+    {
+        let many = self.session.set_up().facts().len();
         let form = self.session.set_up().form();
         self.session.hear(side, packet)?;
-        let set_up = self.session.set_up();
-        if set_up.facts().len() != before || set_up.form() != form {
+        if !is_alike(self.session.set_up(), many, form) {
             self.is_changed = true;
-            self.is_behind_gap = false;
         }
         Ok(())
     }
 
     /// A packet of a sample.
-    fn take<S: SampleSink>(&mut self, packet: &[u8], sink: &mut S) -> Result<(), SessionFault> {
-        if self.is_changed && self.read_lists(sink).is_err() {
+    fn take<S: SampleSink>(&mut self, packet: &[u8], sink: &mut S) -> Result<(), SessionFault>
+        ensures stands { (start : Start) (heard : List Heard) (ls : ListsIn)
+            → Keeps start heard ls self.old
+            → OnOk result (Keeps start heard
+            (with_packet start (set_up_by start heard) packet.now ls) self.new) }
+        ensures stays { OnOk result (SameCounters self.old self.new) }
+        ensures told { (start : Start) (heard : List Heard) (ls : ListsIn)
+            → Keeps start heard ls self.old
+            → OnOk result (Tells (S.told sink.old) (S.told sink.new)
+            (begins_anew start (set_up_by start heard) ls
+            ++ hands packet.now (read_anew start (set_up_by start heard) ls).lists)) }
+    {
+        let Ok(()) = self.read_lists(sink) else {
             return Err(SessionFault::Memory);
-        }
-        match take_in(&mut self.lists, packet, sink) {
-            Ok(Taken::Whole) => self.tallies.samples = self.tallies.samples.saturating_add(1),
-            Ok(Taken::Part) => {}
-            Ok(Taken::LeftOut) => {
-                self.tallies.left_out = self.tallies.left_out.saturating_add(1);
+        };
+        match self.lists.take(packet, sink) {
+            Ok(taken) => {
+                self.tallies = self.tallies.with(taken);
+                Ok(())
             }
-            Ok(Taken::Other) => self.tallies.unknown = self.tallies.unknown.saturating_add(1),
-            Err(_) => return Err(SessionFault::Memory),
+            Err(_) => Err(SessionFault::Memory),
         }
-        Ok(())
     }
 
-    /// Reads the lists of the set-up as it stands. One that stays as it was goes on.
-    fn read_lists<S: SampleSink>(&mut self, sink: &mut S) -> Result<(), AllocError> {
-        let mut lists = Vec::new(self.alloc);
-        for number in numbers_of(self.alloc, self.session.set_up().facts())? {
-            if let Some(list) = self.state_of(number, sink)? {
-                lists.push(list)?;
-            }
+    /// Reads the lists of the set-up as it stands, if it may have changed.
+    fn read_lists<S: SampleSink>(&mut self, sink: &mut S) -> Result<(), AllocError>
+        ensures stands { (start : Start) (heard : List Heard) (ls : ListsIn)
+            → Keeps start heard ls self.old
+            → OnOk result (Keeps start heard
+            (read_anew start (set_up_by start heard) ls) self.new) }
+        ensures read { (start : Start) (heard : List Heard) (ls : ListsIn)
+            → Keeps start heard ls self.old
+            → OnOk result (AllRead start (set_up_by start heard)
+            (lists_in (read_anew start (set_up_by start heard) ls))) }
+        ensures stays { OnOk result (SameCounters self.old self.new) }
+        ensures told { (start : Start) (heard : List Heard) (ls : ListsIn)
+            → Keeps start heard ls self.old
+            → OnOk result (Tells (S.told sink.old) (S.told sink.new)
+            (begins_anew start (set_up_by start heard) ls)) }
+    {
+        if !self.is_changed {
+            return Ok(());
         }
-        self.lists = lists;
+        self.lists.read(self.session.set_up(), sink)?;
         self.is_changed = false;
         Ok(())
     }
-
-    /// A list of the set-up as it stands, if its packets can be read.
-    fn state_of<S: SampleSink>(
-        &mut self,
-        list: u16,
-        sink: &mut S,
-    ) -> Result<Option<ListState>, AllocError> {
-        let Some(found) = list_in(self.alloc, self.session.set_up(), list)? else {
-            return Ok(None);
-        };
-        if let Some(at) = place_of(&self.lists, &found) {
-            return Ok(Some(self.lists.swap_remove(at)));
-        }
-        let number = self.numbers;
-        self.numbers = number.saturating_add(1);
-        sink.begin(number, &found)?;
-        Ok(Some(ListState {
-            number,
-            samples: ListSamples::new(self.alloc, found),
-            gap: self.is_behind_gap,
-        }))
-    }
 }
 
-/// Frames are missing: each list's next sample is marked, and none goes on from before.
-fn mark_all(lists: &mut [ListState])
-    ensures { (k : ℕ) → IfSome (slice_get lists.new k) IsMarked }
+/// Whether a set-up has so many facts and this form.
+fn is_alike(set_up: &SetUp, many: usize, form: Form) -> bool
+    ensures many { result ≡ true → length set_up.now.facts ≡ many }
+    ensures form { result ≡ true → set_up.now.form ≡ form }
 {
-    for i in 0..lists.len() {
-        mark(&mut lists[i]);
-    }
-}
-
-/// The next sample of a list is marked, and none goes on from before.
-fn mark(list: &mut ListState)
-    ensures { IsMarked list.new }
-{
-    list.samples.break_off();
-    list.gap = true;
+    set_up.facts().len() == many && is_same_form(set_up.form(), form)
 }
 
 /// Whether a packet of a slave is one of a sample.
-fn is_sample_packet(packet: &[u8]) -> bool {
+fn is_sample(packet: &[u8]) -> bool
+    ensures { result ≡ is_sample packet.now }
+{
     matches!(packet, [0x00..=0xFB, ..])
 }
 
 /// Whether a packet may be the reply to CONNECT.
-fn is_connect_reply(packet: &[u8]) -> bool {
-    matches!(packet, [0xFF, _, _, _, _, _, _, _, ..])
-}
-
-/// The numbers of the lists that facts speak of, each once.
-fn numbers_of(alloc: Global, facts: &[Fact]) -> Result<Vec<u16>, AllocError> {
-    let mut numbers = Vec::new(alloc);
-    for fact in facts {
-        if let Fact::Odts { list, .. } = fact {
-            push_new(&mut numbers, *list)?;
-        }
-    }
-    Ok(numbers)
-}
-
-/// Appends a number that isn't there yet.
-fn push_new(numbers: &mut Vec<u16>, number: u16) -> Result<(), AllocError> {
-    if !numbers.contains(&number) {
-        numbers.push(number)?;
-    }
-    Ok(())
-}
-
-/// The place of a list that was set up just so.
-fn place_of(lists: &[ListState], found: &CapturedList) -> Option<usize>
-    ensures { IfSome result (λ at. at < length lists.now) }
+fn is_connected(packet: &[u8]) -> bool
+    ensures { result ≡ is_connected packet.now }
 {
-    lists
-        .iter()
-        .position(|list| list.samples.list().is_same(found))
-}
-
-/// Takes a packet of a sample by the list that it is of, and hands a whole sample over.
-fn take_in<S: SampleSink>(
-    lists: &mut [ListState],
-    packet: &[u8],
-    sink: &mut S,
-) -> Result<Taken, AllocError> {
-    for list in lists.iter_mut() {
-        let taken = list.samples.take(packet)?;
-        if taken == Taken::Whole {
-            hand_over(list, sink);
-        }
-        if taken != Taken::Other {
-            return Ok(taken);
-        }
+    match packet {
+        [code, rest @ ..] => *code == 0xFF && rest.len() >= 7,
+        [] => false,
     }
-    Ok(Taken::Other)
 }
 
-/// Hands the whole sample of a list over.
-fn hand_over<S: SampleSink>(list: &mut ListState, sink: &mut S) {
-    let mark = Mark {
-        overload: list.samples.overload(),
-        gap: list.gap,
-    };
-    list.gap = false;
-    sink.hand(list.number, &list.samples, mark);
+/// Whether the command that waits for its reply is CONNECT.
+fn is_connect(waiting: Option<&[u8]>) -> bool
+    ensures { result ≡ is_connect (option_copied waiting.entry) }
+{
+    match waiting {
+        Some([code, ..]) => *code == 0xFF,
+        _ => false,
+    }
 }

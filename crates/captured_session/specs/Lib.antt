@@ -3,3 +3,10 @@ pub mod Exchanges
 pub mod SetUps
 pub mod Lists
 pub mod Inner
+pub mod Alike
+pub mod LawsOfExchanges
+pub mod Codes
+pub mod LawsOfForms
+pub mod LawsOfSetUps
+pub mod LawsOfPointers
+pub mod LawsOfEntries

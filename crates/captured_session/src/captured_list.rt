@@ -1,4 +1,6 @@
 //! A DAQ list of a captured session.
+ghost use Rattle.std.specs.Prelude.{◌≡◌, ◌↔◌, IsTrue, map};
+ghost use Rattle.captured_session.specs.Alike.{SamePids};
 
 use crate::element::Element;
 use crate::form::Form;
@@ -37,7 +39,8 @@ impl Model for CapturedList {
 }
 
 impl CapturedList {
-    ghost use Rattle.std.specs.Prelude.{◌≡◌, ◌<◌, ◌≤◌, length, slice_index_or, []};
+    ghost use Rattle.std.specs.Prelude.{◌≡◌, ◌<◌, ◌≤◌, ◌↔◌, IsTrue, length, slice_index_or, []};
+    ghost use Rattle.captured_session.specs.Alike.{ReadsAlike};
     ghost use Rattle.captured_session.specs.Lists.{stamp_len};
 
     /// The number of the list.
@@ -95,11 +98,44 @@ impl CapturedList {
 
     /// Whether packets are read in the same way by another one. Where packets name their list, it
     /// doesn't matter with which PID those of the list begin.
-    pub fn is_same(&self, other: &CapturedList) -> bool {
+    pub fn is_same(&self, other: &CapturedList) -> bool
+        ensures { IsTrue result ↔ ReadsAlike self.now other.now }
+    {
         self.list == other.list
-            && self.form == other.form
-            && self.mode == other.mode
-            && (self.first_pid == other.first_pid || self.form.field != IdField::Absolute)
-            && self.odts == other.odts
+            && is_same_form(self.form, other.form)
+            && is_same_mode(self.mode, other.mode)
+            && has_same_pids(self.form.field, self.first_pid, other.first_pid)
+            && has_same_odts(&self.odts, &other.odts)
     }
+}
+
+/// Whether the packets of two slaves look the same.
+pub fn is_same_form(a: Form, b: Form) -> bool
+    ensures { IsTrue result ↔ (a ≡ b) }
+{
+    a == b
+}
+
+/// Whether two modes are the same.
+fn is_same_mode(a: ListMode, b: ListMode) -> bool
+    ensures { IsTrue result ↔ (a ≡ b) }
+{
+    a == b
+}
+
+/// Whether the PIDs of two lists begin with the same one, or packets name their list.
+fn has_same_pids(field: IdField, a: Option<u8>, b: Option<u8>) -> bool
+    ensures { IsTrue result ↔ SamePids field a b }
+{
+    match field {
+        IdField::Absolute => a == b,
+        _ => true,
+    }
+}
+
+/// Whether the ODTs of two lists have the same entries.
+fn has_same_odts(a: &[Vec<Element>], b: &[Vec<Element>]) -> bool
+    ensures { IsTrue result ↔ (map (λ v. v.items) a.now ≡ map (λ v. v.items) b.now) }
+{
+    a == b
 }

@@ -10,6 +10,7 @@ mod fact;
 mod facts;
 mod form;
 mod id_field;
+pub mod laws;
 mod limits;
 mod list_mode;
 mod lists;
@@ -25,7 +26,7 @@ mod side;
 mod stamps;
 mod told_forms;
 
-pub use captured_list::CapturedList;
+pub use captured_list::{CapturedList, is_same_form};
 pub use captured_session::CapturedSession;
 pub use command::{Command, command_in, dword, word};
 pub use element::Element;

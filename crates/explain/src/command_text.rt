@@ -1,4 +1,5 @@
 //! Command packets are written in words, by the standard's names.
+use crate::names::command_name;
 use daq_store::command::{self, Command};
 use std::fmt::{self, Display};
 use xcp_base::ErrCode;
@@ -13,24 +14,35 @@ pub struct CommandText<'a> {
 impl<'a> Display for CommandText<'a> {
     fn fmt<W: fmt::Write>(&self, f: &mut fmt::Formatter<W>) -> fmt::Result {
         match command::read(self.packet) {
-            Ok(command) => write_command(f, command),
+            Ok(command) => {
+                write_name(f, self.packet)?;
+                write_fields(f, command)
+            }
             Err(ErrCode::CmdUnknown) => f.write_str("no command that is offered"),
             Err(_) => f.write_str("too short for its command"),
         }
     }
 }
 
-/// Writes a command.
-fn write_command<W: fmt::Write>(f: &mut fmt::Formatter<W>, command: Command) -> fmt::Result {
+/// Writes the name of the command that a packet begins with.
+pub fn write_name<W: fmt::Write>(f: &mut fmt::Formatter<W>, packet: &[u8]) -> fmt::Result {
+    match packet.first().and_then(|code| command_name(*code)) {
+        Some(name) => f.write_str(name),
+        None => f.write_str("no command that is offered"),
+    }
+}
+
+/// Writes the fields of a command.
+fn write_fields<W: fmt::Write>(f: &mut fmt::Formatter<W>, command: Command) -> fmt::Result {
     match command {
-        Command::FreeDaq => f.write_str("FREE_DAQ"),
-        Command::AllocDaq { count } => write!(f, "ALLOC_DAQ count {count}"),
-        Command::AllocOdt { list, count } => write!(f, "ALLOC_ODT list {list}, count {count}"),
+        Command::FreeDaq | Command::ReadDaq => Ok(()),
+        Command::AllocDaq { count } => write!(f, " count {count}"),
+        Command::AllocOdt { list, count } => write!(f, " list {list}, count {count}"),
         Command::AllocOdtEntry { list, odt, count } => {
-            write!(f, "ALLOC_ODT_ENTRY list {list}, ODT {odt}, count {count}")
+            write!(f, " list {list}, ODT {odt}, count {count}")
         }
         Command::SetDaqPtr { list, odt, entry } => {
-            write!(f, "SET_DAQ_PTR list {list}, ODT {odt}, entry {entry}")
+            write!(f, " list {list}, ODT {odt}, entry {entry}")
         }
         Command::WriteDaq {
             bit,
@@ -39,7 +51,7 @@ fn write_command<W: fmt::Write>(f: &mut fmt::Formatter<W>, command: Command) -> 
             addr,
         } => write!(
             f,
-            "WRITE_DAQ bit offset {bit}, size {size}, extension {ext}, address 0x{addr:04x}"
+            " bit offset {bit}, size {size}, extension {ext}, address 0x{addr:04x}"
         ),
         Command::SetDaqListMode {
             mode,
@@ -48,17 +60,11 @@ fn write_command<W: fmt::Write>(f: &mut fmt::Formatter<W>, command: Command) -> 
             prescaler,
             priority,
         } => {
-            write!(f, "SET_DAQ_LIST_MODE mode 0x{mode:02x}, list {list}, ")?;
-            write!(
-                f,
-                "channel {channel}, prescaler {prescaler}, priority {priority}"
-            )
+            write!(f, " mode 0x{mode:02x}, list {list}, channel {channel}, ")?;
+            write!(f, "prescaler {prescaler}, priority {priority}")
         }
-        Command::StartStopDaqList { mode, list } => {
-            write!(f, "START_STOP_DAQ_LIST mode {mode}, list {list}")
-        }
-        Command::StartStopSynch { mode } => write!(f, "START_STOP_SYNCH mode {mode}"),
-        Command::ClearDaqList { list } => write!(f, "CLEAR_DAQ_LIST list {list}"),
-        Command::ReadDaq => f.write_str("READ_DAQ"),
+        Command::StartStopDaqList { mode, list } => write!(f, " mode {mode}, list {list}"),
+        Command::StartStopSynch { mode } => write!(f, " mode {mode}"),
+        Command::ClearDaqList { list } => write!(f, " list {list}"),
     }
 }

@@ -3,6 +3,7 @@ ghost use Rattle.std.specs.Prelude.{◌≡◌, ◌∷◌, [], IfSome};
 ghost use Rattle.xcp_base.specs.ErrorCodes.{error_byte};
 ghost use Rattle.daq_store.specs.Replies.{reply_bytes};
 
+use crate::names::error_name;
 use daq_store::Reply;
 use std::fmt::{self, Display};
 use xcp_base::ErrCode;
@@ -67,16 +68,5 @@ fn code_of(byte: u8) -> Option<ErrCode>
 
 /// The standard's name of an error.
 fn name_of(code: ErrCode) -> &'static str {
-    match code {
-        ErrCode::CmdSynch => "ERR_CMD_SYNCH",
-        ErrCode::CmdBusy => "ERR_CMD_BUSY",
-        ErrCode::DaqActive => "ERR_DAQ_ACTIVE",
-        ErrCode::CmdUnknown => "ERR_CMD_UNKNOWN",
-        ErrCode::CmdSyntax => "ERR_CMD_SYNTAX",
-        ErrCode::OutOfRange => "ERR_OUT_OF_RANGE",
-        ErrCode::ModeNotValid => "ERR_MODE_NOT_VALID",
-        ErrCode::Sequence => "ERR_SEQUENCE",
-        ErrCode::DaqConfig => "ERR_DAQ_CONFIG",
-        ErrCode::MemoryOverflow => "ERR_MEMORY_OVERFLOW",
-    }
+    error_name(code.byte()).unwrap_or("no reply")
 }

@@ -6,6 +6,7 @@ use Rattle.copy_plan.specs.Config.{ListPlan}
 use Rattle.daq_reader.specs.Lists.{plans_of}
 use Rattle.daq_reader.specs.Reading.{Reading}
 use Rattle.value_tables.specs.Columns.{AreColumns, HasChosen}
+use Rattle.value_tables.specs.Holders.{lists_hold}
 use Rattle.value_tables.specs.declared.column.Column.{Column}
 use Rattle.recording.specs.ByName.{IsByName, IsFaultOfValues, ShowsByName}
 use Rattle.recording.specs.Shown.{ShowsBy}
@@ -21,8 +22,8 @@ pub by_name : (values : Values) (mode : Mode) (plans : List ListPlan) (lists : L
     (input rest : Option (List ℕ)) (first last : Piece) (before after : Option (List ℕ))
     (columns : List Column)
     → plans ≡ plans_of lists
-    → AreColumns values.description.now plans (option_copied values.only) columns
-    → HasChosen values.description.now plans (option_copied values.only) → mode ≡ values.mode
+    → AreColumns values.description.now (lists_hold plans) (option_copied values.only) columns
+    → HasChosen values.description.now (lists_hold plans) (option_copied values.only) → mode ≡ values.mode
     → ShowsBy (IsByName mode values.tick columns before after) lists input rest first last
     → ShowsByName values lists input rest first last before after
 by_name values mode plans lists input rest first last before after cs of are chosen asked shows =
@@ -32,20 +33,20 @@ by_name values mode plans lists input rest first last before after cs of are cho
     let Shows = λ (m : Mode). ShowsBy (Is m) lists input rest first last in
     record {
       columns = cs;
-      are = subst (λ (ps : List ListPlan). AreColumns d ps only cs) of are;
-      chosen = subst (λ (ps : List ListPlan). HasChosen d ps only) of chosen;
+      are = subst (λ (ps : List ListPlan). AreColumns d (lists_hold ps) only cs) of are;
+      chosen = subst (λ (ps : List ListPlan). HasChosen d (lists_hold ps) only) of chosen;
       shows = subst Shows asked shows;
     }
 
 -- where what is chosen isn't there, no columns are
 pub has_chosen : (values : Values) (plans : List ListPlan) (lists : List Reading) {P : Type 0}
     → plans ≡ plans_of lists
-    → HasChosen values.description.now plans (option_copied values.only)
-    → ¬ HasChosen values.description.now (plans_of lists) (option_copied values.only) → P
+    → HasChosen values.description.now (lists_hold plans) (option_copied values.only)
+    → ¬ HasChosen values.description.now (lists_hold (plans_of lists)) (option_copied values.only) → P
 has_chosen values plans lists of chosen lacks =
     let d = values.description.now in
     let only = option_copied values.only in
-    absurd (lacks (subst (λ (ps : List ListPlan). HasChosen d ps only) of chosen))
+    absurd (lacks (subst (λ (ps : List ListPlan). HasChosen d (lists_hold ps) only) of chosen))
 
 -- without columns, no measurement is shown
 pub none_of : {A B : Type 0} (R : A → B → Type 0) (xs : List A) (ys : List B)
@@ -58,14 +59,14 @@ none_of R (x ∷ xs) (y ∷ ys) all none = absurd (omega (arith, none))
 pub no_columns : (values : Values) (plans : List ListPlan) (lists : List Reading)
     (input rest : Option (List ℕ)) (first last : Piece) (fault : RecordingFault)
     → plans ≡ plans_of lists → (fault ≡ NoValue) ⊎ (fault ≡ Memory)
-    → (fault ≡ NoValue → ¬ HasChosen values.description.now plans (option_copied values.only))
+    → (fault ≡ NoValue → ¬ HasChosen values.description.now (lists_hold plans) (option_copied values.only))
     → IsFaultOfValues values lists input rest first last fault
 no_columns values plans lists input rest first last fault of one lacks =
     let d = values.description.now in
     let only = option_copied values.only in
     let IsSo = λ (f : RecordingFault). IsFaultOfValues values lists input rest first last f in
     elim one [
-      | inl none ↦ subst IsSo (sym none) (subst (λ (ps : List ListPlan). ¬ HasChosen d ps only) of (lacks none))
+      | inl none ↦ subst IsSo (sym none) (subst (λ (ps : List ListPlan). ¬ HasChosen d (lists_hold ps) only) of (lacks none))
       | inr memory ↦ subst IsSo (sym memory) tt
     ]
 

@@ -19,6 +19,7 @@ use Rattle.recording.specs.declared.recording_fault.RecordingFault.{RecordingFau
 use Rattle.recording.specs.declared.recording_fault.RecordingFault.TheVariants.{NoValue}
 use Rattle.recording.specs.declared.values.Values.{Values}
 use Rattle.value_tables.specs.Columns.{AreColumns, HasChosen}
+use Rattle.value_tables.specs.Holders.{lists_hold}
 use Rattle.value_tables.specs.TallyText.{IsTable}
 use Rattle.value_tables.specs.ValueRows.{IsCsv}
 use Rattle.value_tables.specs.declared.column.Column.{Column}
@@ -45,8 +46,11 @@ pub record ShowsByName (values : Values) (lists : List Reading) (input rest : Op
     : Type 0 where
   -- fixed by `are`
   pub columns : List Column
-  pub are : AreColumns values.description.now (plans_of lists) (option_copied values.only) columns
-  pub chosen : HasChosen values.description.now (plans_of lists) (option_copied values.only)
+  pub are :
+      AreColumns values.description.now (lists_hold (plans_of lists)) (option_copied values.only)
+      columns
+  pub chosen :
+      HasChosen values.description.now (lists_hold (plans_of lists)) (option_copied values.only)
   pub shows :
       ShowsBy (IsByName values.mode values.tick columns before after) lists input rest first last
 
@@ -64,6 +68,6 @@ abbrev pub IsFaultOfValues :
     Values → List Reading → Option (List ℕ) → Option (List ℕ) → Piece → Piece → RecordingFault
     → Type 0
 IsFaultOfValues values lists input rest first last NoValue =
-    ¬ HasChosen values.description.now (plans_of lists) (option_copied values.only)
+    ¬ HasChosen values.description.now (lists_hold (plans_of lists)) (option_copied values.only)
 IsFaultOfValues values lists input rest first last fault =
     IsFaultOfSamples lists input rest first last fault

@@ -10,6 +10,7 @@ ghost use Rattle.recording.specs.Stops.{IsFaultOfSamples};
 ghost use Rattle.recording.specs.declared.mode.Mode.TheVariants as mode;
 ghost use Rattle.recording.specs.declared.recording_fault.RecordingFault.TheVariants.{NoValue};
 ghost use Rattle.value_tables.specs.Columns.{AreColumns, HasChosen};
+ghost use Rattle.value_tables.specs.Holders.{lists_hold};
 
 use crate::curve_sheet::CurveSheet;
 use crate::messages::Messages;
@@ -21,14 +22,14 @@ use crate::source::Source;
 use crate::tally_sheet::TallySheet;
 use crate::view::View;
 use a2l::Description;
-use daq_reader::{ListShape, shapes_of};
+use daq_reader::shapes_of;
 use daq_store::Store;
 use measured_values::Tick;
 use std::alloc::Global;
 use std::io::{Read, Write};
-use value_tables::{Column, ValueRows, columns_of, unknown_name};
+use value_tables::{Column, Holder, ValueRows, columns_of, unknown_name};
 
-/// Which values of a recording are shown, and how.
+/// Which values of a recording or a capture are shown, and how.
 #[derive(Clone, Copy)]
 pub struct Values<'a> {
     /// What an A2L file says.
@@ -76,8 +77,8 @@ pub fn show_values<I: Read + Drop, W: Write + Drop, M: Messages>(
         (I.remaining from.new.input) from.old.piece from.new.piece) }
     ensures fault { IfErr result (IsFaultOfValues values.entry (ready_lists store.now)
         (I.remaining from.old.input) (I.remaining from.new.input) from.old.piece from.new.piece) }
-    ensures no_value { ¬ HasChosen values.entry.description.now (plans_of (ready_lists store.now))
-        (option_copied values.entry.only)
+    ensures no_value { ¬ HasChosen values.entry.description.now
+        (lists_hold (plans_of (ready_lists store.now))) (option_copied values.entry.only)
         → (result ≡ Err NoValue) ⊎ (result ≡ Err Memory) }
 {
     let shapes = shapes_of(alloc, store)?;
@@ -94,27 +95,27 @@ pub fn show_values<I: Read + Drop, W: Write + Drop, M: Messages>(
     }
 }
 
-/// The columns of the values that are chosen. A name that no measurement in these lists has is a
-/// fault, whose line goes on with the name; and so is it if there is no column.
-fn chosen_columns<'a, M: Messages>(
+/// The columns of the values that are chosen. A name that no measurement has whose bytes are there
+/// is a fault, whose line goes on with the name; and so is it if there is no column.
+pub fn chosen_columns<'a, H: Holder, M: Messages>(
     alloc: Global,
     values: Values<'a>,
-    shapes: &[ListShape],
+    holder: &H,
     messages: &mut M,
 ) -> Result<Vec<Column<'a>>, RecordingFault>
-    ensures are { IfOk result (λ columns. AreColumns values.entry.description.now shapes.now
-        (option_copied values.entry.only) columns.items) }
-    ensures chosen { IfOk result (λ _. HasChosen values.entry.description.now shapes.now
+    ensures are { IfOk result (λ columns. AreColumns values.entry.description.now
+        (H.held holder.now) (option_copied values.entry.only) columns.items) }
+    ensures chosen { IfOk result (λ _. HasChosen values.entry.description.now (H.held holder.now)
         (option_copied values.entry.only)) }
     ensures err { IfErr result (λ fault. (fault ≡ NoValue) ⊎ (fault ≡ Memory)) }
-    ensures no_value { IsErrOf result NoValue → ¬ HasChosen values.entry.description.now shapes.now
-        (option_copied values.entry.only) }
+    ensures no_value { IsErrOf result NoValue → ¬ HasChosen values.entry.description.now
+        (H.held holder.now) (option_copied values.entry.only) }
 {
-    if let Some(name) = unknown_name(values.description, shapes, values.only) {
+    if let Some(name) = unknown_name(values.description, holder, values.only) {
         messages.tell_unknown(name);
         return Err(RecordingFault::NoValue);
     }
-    let columns = columns_of(alloc, values.description, shapes, values.only)?;
+    let columns = columns_of(alloc, values.description, holder, values.only)?;
     if columns.is_empty() {
         return Err(RecordingFault::NoValue);
     }

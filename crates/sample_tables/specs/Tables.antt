@@ -29,10 +29,13 @@ ticks_text None = codes "          -"
 ticks_text (Some ticks) = column 10 ticks
 
 -- the line of a DAQ list: its number, its event channel, and what its tally counts
-abbrev pub tally_line : ListPlan → Tally → List ℕ
-tally_line plan t = right_aligned 4 (decimal plan.list) ++ column 7 plan.channel
+abbrev pub tally_text : ℕ → ℕ → Tally → List ℕ
+tally_text list channel t = right_aligned 4 (decimal list) ++ column 7 channel
     ++ column 12 t.samples ++ column 12 t.overloads
     ++ ticks_text t.first ++ ticks_text t.last ++ line_feed
+
+abbrev pub tally_line : ListPlan → Tally → List ℕ
+tally_line plan t = tally_text plan.list plan.channel t
 
 -- the line of the DAQ list at a place: it tells of the samples that were given back for it
 abbrev pub list_line : List (ℕ × Recorded) → ℕ × ListPlan → List ℕ

@@ -13,10 +13,10 @@ mod tally;
 mod times;
 
 pub use places::Places;
-pub use row::{decimal, one_or_zero};
+pub use row::{MAX_SIZE, decimal, hexadecimal, one_or_zero};
 pub use sample_rows::SampleRows;
 pub use spot::Spot;
 pub use spots::Spots;
 pub use summary::Summary;
-pub use summary_text::print_summary;
+pub use summary_text::{print_head, print_summary, print_tally};
 pub use tally::Tally;

@@ -14,7 +14,7 @@ use itoa::Buffer;
 use std::io::Write;
 
 /// No element has more bytes.
-const MAX_SIZE: usize = 255;
+pub const MAX_SIZE: usize = 255;
 
 /// One element of a sample: the bytes of an entry, and where they come from.
 #[derive(Clone, Copy)]
@@ -121,7 +121,7 @@ fn widened(number: Option<u32>) -> Option<u64>
 }
 
 /// Bytes in lower-case hexadecimal.
-fn hexadecimal<'b>(buffer: &'b mut [u8], bytes: &[u8]) -> &'b [u8]
+pub fn hexadecimal<'b>(buffer: &'b mut [u8], bytes: &[u8]) -> &'b [u8]
     requires { 2 * length bytes.now ≤ length buffer.old }
     ensures { result.now ≡ encode_lower bytes.now }
 {

@@ -3,7 +3,7 @@ ghost use Rattle.std.specs.Prelude.{◌≤◌, OnOk, length};
 ghost use Rattle.std.specs.Fmt.{decimal};
 ghost use Rattle.std.specs.Io.KnownBytes.{Appends};
 ghost use Rattle.sample_tables.specs.Tables.{column, head_line, right_aligned, table_text};
-ghost use Rattle.sample_tables.specs.Tables.{tally_line, ticks_text};
+ghost use Rattle.sample_tables.specs.Tables.{tally_line, tally_text, ticks_text};
 
 use crate::summary::Summary;
 use crate::tally::Tally;
@@ -28,7 +28,7 @@ pub fn print_summary<W: Write>(
 }
 
 /// Prints the head of the table.
-fn print_head<W: Write>(out: &mut W) -> io::Result<()>
+pub fn print_head<W: Write>(out: &mut W) -> io::Result<()>
     ensures { OnOk result (Appends (W.contents out.old) (W.contents out.new) head_line) }
 {
     writeln!(
@@ -42,8 +42,16 @@ fn print_list<W: Write>(out: &mut W, shape: &ListShape, tally: Tally) -> io::Res
     ensures { OnOk result (Appends (W.contents out.old) (W.contents out.new)
         (tally_line shape.now tally)) }
 {
-    print_number(out, shape.list())?;
-    print_channel(out, shape.channel())?;
+    print_tally(out, shape.list() as u16, shape.channel() as u16, tally)
+}
+
+/// Prints the line of a DAQ list of this number and event channel.
+pub fn print_tally<W: Write>(out: &mut W, list: u16, channel: u16, tally: Tally) -> io::Result<()>
+    ensures { OnOk result (Appends (W.contents out.old) (W.contents out.new)
+        (tally_text list channel tally)) }
+{
+    print_number(out, list)?;
+    print_channel(out, channel)?;
     print_count(out, tally.samples)?;
     print_count(out, tally.overloads)?;
     print_ticks(out, tally.first)?;
@@ -52,7 +60,7 @@ fn print_list<W: Write>(out: &mut W, shape: &ListShape, tally: Tally) -> io::Res
 }
 
 /// Prints the number of a DAQ list.
-fn print_number<W: Write>(out: &mut W, list: u8) -> io::Result<()>
+fn print_number<W: Write>(out: &mut W, list: u16) -> io::Result<()>
     ensures { OnOk result (Appends (W.contents out.old) (W.contents out.new)
         (right_aligned 4 (decimal list))) }
 {
@@ -60,7 +68,7 @@ fn print_number<W: Write>(out: &mut W, list: u8) -> io::Result<()>
 }
 
 /// Prints the number of an event channel.
-fn print_channel<W: Write>(out: &mut W, channel: u8) -> io::Result<()>
+fn print_channel<W: Write>(out: &mut W, channel: u16) -> io::Result<()>
     ensures { OnOk result (Appends (W.contents out.old) (W.contents out.new)
         (column 7 channel)) }
 {

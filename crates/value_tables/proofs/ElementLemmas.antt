@@ -1,25 +1,24 @@
 -- The elements of an array, one after another.
-use Rattle.std.proofs.Common.{◌≡◌, ℕ, ◌+◌, List, ◌++◌, sym, ap, ◌∙◌, add-one}
+use Rattle.std.proofs.Common.{◌≡◌, ℕ, Bool, ◌+◌, List, ◌++◌, sym, ap, ◌∙◌, add-one}
 use Rattle.std.proofs.Common.{append-nil, append_assoc}
-use Rattle.copy_plan.specs.Config.{ListPlan}
 use Rattle.a2l.specs.Elements.{element_address}
 use Rattle.a2l.specs.Resolved.{Value}
 use Rattle.value_tables.specs.Elements.{element_if, elements_below}
 
 -- before the first element there is none
-pub elements_begin : (plans : List ListPlan) (v : Value) (base : List Value)
-    → base ≡ base ++ elements_below plans v 0
+pub elements_begin : (held : ℕ → ℕ → Bool) (v : Value) (base : List Value)
+    → base ≡ base ++ elements_below held v 0
 unfolding elements_below
-elements_begin plans v base = sym (append-nil base)
+elements_begin held v base = sym (append-nil base)
 
 -- an element more
 pub elements_go_on :
-    (plans : List ListPlan) (v : Value) (base old new : List Value) (k : ℕ)
-    → new ≡ old ++ element_if plans v k (element_address v k)
-    → old ≡ base ++ elements_below plans v k → new ≡ base ++ elements_below plans v (k + 1)
+    (held : ℕ → ℕ → Bool) (v : Value) (base old new : List Value) (k : ℕ)
+    → new ≡ old ++ element_if held v k (element_address v k)
+    → old ≡ base ++ elements_below held v k → new ≡ base ++ elements_below held v (k + 1)
 unfolding elements_below
-elements_go_on plans v base old new k step so_far =
-    let one = element_if plans v k (element_address v k) in
+elements_go_on held v base old new k step so_far =
+    let one = element_if held v k (element_address v k) in
     step ∙ ap (λ (xs : List Value). xs ++ one) so_far
-    ∙ append_assoc base (elements_below plans v k) one
-    ∙ ap (λ (n : ℕ). base ++ elements_below plans v n) (sym (add-one k))
+    ∙ append_assoc base (elements_below held v k) one
+    ∙ ap (λ (n : ℕ). base ++ elements_below held v n) (sym (add-one k))

@@ -1,6 +1,6 @@
 -- Which measurements of a description are shown.
 use Rattle.std.specs.Prelude.{◌≡◌, ◌≢◌, ◌&&◌, ◌==◌, ℕ, Bool, true, not, List, [], slice_get, filter}
-use Rattle.std.specs.Prelude.{Option, None, Some, option_map, bytes_eq, codes, is_some}
+use Rattle.std.specs.Prelude.{Option, None, Some, option_map, bytes_eq, codes}
 use Rattle.std.specs.Prelude.{string_bytes}
 use Rattle.std.specs.List.{AllZip, find, list_any, slice_split}
 use Rattle.std.specs.Option.{option_copied}
@@ -10,13 +10,11 @@ use Rattle.a2l.specs.Units.{unit_of}
 use Rattle.a2l.specs.declared.description.Description.{Description}
 use Rattle.a2l.specs.declared.description.Measurement.{Measurement}
 use Rattle.a2l.specs.declared.description.Method.{Method}
-use Rattle.copy_plan.specs.Config.{ListPlan}
 use Rattle.measured_values.specs.Encodings.{size_of}
 use Rattle.measured_values.specs.declared.conversion.Conversion.{Conversion}
 use Rattle.measured_values.specs.declared.conversion.Conversion.TheVariants.{Identical, Linear}
 use Rattle.measured_values.specs.declared.conversion.Conversion.TheVariants.{Other}
 use Rattle.measured_values.specs.declared.conversion.Conversion.TheVariants.{Rational, Texts}
-use Rattle.value_tables.specs.Sources.{source_of}
 use Rattle.value_tables.specs.declared.column.Column.{Column}
 
 -- the method at a place, if there is one
@@ -50,12 +48,9 @@ pub record IsColumnOf (d : Description) (m : Measurement) (column : Column) : Ty
   pub address : column.address ≡ m.address
   pub conversion : option_copied column.conversion ≡ conversion_in d m
 
--- a list has all bytes of a measurement
-abbrev pub has_bytes : Measurement → ListPlan → Bool
-has_bytes m plan = is_some (source_of plan m.address (size_of m.encoding.data_type))
-
-abbrev pub is_recorded : List ListPlan → Measurement → Bool
-is_recorded plans m = list_any (has_bytes m) plans
+-- who has these bytes has all of a measurement
+abbrev pub is_held : (ℕ → ℕ → Bool) → Measurement → Bool
+is_held held m = held m.address (size_of m.encoding.data_type)
 
 -- the names of a text that has commas, 44, between them
 abbrev pub names_in : List ℕ → List (List ℕ)
@@ -66,29 +61,31 @@ abbrev pub is_chosen : Option (List ℕ) → List ℕ → Bool
 is_chosen None name = true
 is_chosen (Some text) name = list_any (λ word. bytes_eq word name) (names_in text)
 
--- whether a measurement is shown: it is chosen, and some list has its bytes
-abbrev pub is_shown : Option (List ℕ) → List ListPlan → Measurement → Bool
-is_shown only plans m = is_chosen only (string_bytes m.name) && is_recorded plans m
+-- whether a measurement is shown of who has these bytes: it is chosen, and all of it is there
+abbrev pub is_shown : Option (List ℕ) → (ℕ → ℕ → Bool) → Measurement → Bool
+is_shown only held m = is_chosen only (string_bytes m.name) && is_held held m
 
 -- the measurements that are shown, in the order of the description
-abbrev pub shown_of : Description → List ListPlan → Option (List ℕ) → List Measurement
-shown_of d plans only = filter (is_shown only plans) d.measurements.items
+abbrev pub shown_of : Description → (ℕ → ℕ → Bool) → Option (List ℕ) → List Measurement
+shown_of d held only = filter (is_shown only held) d.measurements.items
 
 -- the columns are those of the measurements that are shown, one for each
-abbrev pub AreColumns : Description → List ListPlan → Option (List ℕ) → List Column → Type 0
-AreColumns d plans only columns = AllZip (IsColumnOf d) (shown_of d plans only) columns
+abbrev pub AreColumns :
+    Description → (ℕ → ℕ → Bool) → Option (List ℕ) → List Column → Type 0
+AreColumns d held only columns = AllZip (IsColumnOf d) (shown_of d held only) columns
 
--- whether a measurement of this name has its bytes in some list
-abbrev pub is_known : Description → List ListPlan → List ℕ → Bool
-is_known d plans name =
-    list_any (λ (m : Measurement). bytes_eq (string_bytes m.name) name && is_recorded plans m)
+-- whether all of a measurement of this name is there
+abbrev pub is_known : Description → (ℕ → ℕ → Bool) → List ℕ → Bool
+is_known d held name =
+    list_any (λ (m : Measurement). bytes_eq (string_bytes m.name) name && is_held held m)
     d.measurements.items
 
 -- the first of the names with commas between them that isn't known
-abbrev pub unknown_in : Description → List ListPlan → Option (List ℕ) → Option (List ℕ)
-unknown_in d plans None = None
-unknown_in d plans (Some text) = find (λ name. not (is_known d plans name)) (names_in text)
+abbrev pub unknown_in :
+    Description → (ℕ → ℕ → Bool) → Option (List ℕ) → Option (List ℕ)
+unknown_in d held None = None
+unknown_in d held (Some text) = find (λ name. not (is_known d held name)) (names_in text)
 
 -- each name is known, and some measurement is shown
-abbrev pub HasChosen : Description → List ListPlan → Option (List ℕ) → Type 0
-HasChosen d plans only = (unknown_in d plans only ≡ None) × (shown_of d plans only ≢ [])
+abbrev pub HasChosen : Description → (ℕ → ℕ → Bool) → Option (List ℕ) → Type 0
+HasChosen d held only = (unknown_in d held only ≡ None) × (shown_of d held only ≢ [])

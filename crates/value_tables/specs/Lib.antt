@@ -1,6 +1,7 @@
 pub mod Columns
 pub mod Elements
 pub mod Fields
+pub mod Holders
 pub mod Lists
 pub mod Sources
 pub mod TallyText

@@ -1,33 +1,32 @@
 //! Which measurements of a description are shown.
 ghost use Rattle.std.specs.Prelude.{◌≡◌, ◌&&◌, IfOk, bytes_eq, string_bytes};
 ghost use Rattle.std.specs.Option.{option_copied};
-ghost use Rattle.value_tables.specs.Columns.{AreColumns, IsColumnOf, conversion_in, has_bytes};
-ghost use Rattle.value_tables.specs.Columns.{is_chosen, is_known, is_recorded, is_shown, method_at};
-ghost use Rattle.value_tables.specs.Columns.{unit_shown, unknown_in};
+ghost use Rattle.value_tables.specs.Columns.{AreColumns, IsColumnOf, conversion_in, is_chosen};
+ghost use Rattle.value_tables.specs.Columns.{is_held, is_known, is_shown, method_at, unit_shown};
+ghost use Rattle.value_tables.specs.Columns.{unknown_in};
 
 use crate::column::Column;
-use crate::source::source_of;
+use crate::holder::Holder;
 use a2l::{Description, Measurement, Method};
-use daq_reader::ListShape;
 use measured_values::Conversion;
 use std::alloc::{AllocError, Global};
 
-/// The measurements of a description that are shown of samples of DAQ lists of these shapes, in its
-/// order: those whose bytes some list has, and of these, if `only` has names with commas between
-/// them, those that are named. Lack of memory is the only fault.
-pub fn columns_of<'a>(
+/// The measurements of a description that are shown, in its order: those whose bytes are there, and
+/// of these, if `only` has names with commas between them, those that are named. Lack of memory is
+/// the only fault.
+pub fn columns_of<'a, H: Holder>(
     alloc: Global,
     description: &'a Description,
-    shapes: &[ListShape],
+    holder: &H,
     only: Option<&str>,
 ) -> Result<Vec<Column<'a>>, AllocError>
-    ensures all { IfOk result (λ columns. AreColumns description.now shapes.now
+    ensures all { IfOk result (λ columns. AreColumns description.now (H.held holder.now)
         (option_copied only.entry) columns.items) }
 {
     let mut columns = Vec::new(alloc);
     for i in 0..description.measurements.len() {
         let measurement = &description.measurements[i];
-        if is_shown(measurement, shapes, only) {
+        if is_shown(measurement, holder, only) {
             columns.push(column_of(description, measurement))?;
         }
     }
@@ -35,42 +34,42 @@ pub fn columns_of<'a>(
 }
 
 /// The first of the names with commas between them, if there are any, that no measurement has whose
-/// bytes some list has.
-pub fn unknown_name<'a>(
+/// bytes are there.
+pub fn unknown_name<'a, H: Holder>(
     description: &Description,
-    shapes: &[ListShape],
+    holder: &H,
     only: Option<&'a str>,
 ) -> Option<&'a str>
     ensures { option_copied result
-        ≡ unknown_in description.now shapes.now (option_copied only.entry) }
+        ≡ unknown_in description.now (H.held holder.now) (option_copied only.entry) }
 {
     let mut names = only?.split(',');
-    names.find(|name| !is_known(description, shapes, name))
+    names.find(|name| !is_known(description, holder, name))
 }
 
-/// Whether a measurement of this name has its bytes in some list.
-fn is_known(description: &Description, shapes: &[ListShape], name: &str) -> bool
-    ensures { result ≡ is_known description.now shapes.now name.now }
+/// Whether a measurement of this name has its bytes there.
+fn is_known<H: Holder>(description: &Description, holder: &H, name: &str) -> bool
+    ensures { result ≡ is_known description.now (H.held holder.now) name.now }
 {
     description
         .measurements
         .iter()
-        .any(|measurement| is_known_by(measurement, shapes, name))
+        .any(|measurement| is_known_by(measurement, holder, name))
 }
 
-/// Whether a measurement has this name, and its bytes in some list.
-fn is_known_by(measurement: &Measurement, shapes: &[ListShape], name: &str) -> bool
+/// Whether a measurement has this name, and its bytes are there.
+fn is_known_by<H: Holder>(measurement: &Measurement, holder: &H, name: &str) -> bool
     ensures { result ≡ (bytes_eq (string_bytes measurement.now.name) name.now
-        && is_recorded shapes.now measurement.now) }
+        && is_held (H.held holder.now) measurement.now) }
 {
     if measurement.name.as_str() != name {
         return false;
     }
-    is_recorded(measurement, shapes)
+    is_held(measurement, holder)
 }
 
 /// The column of a measurement.
-pub fn column_of<'a>(description: &'a Description, measurement: &'a Measurement) -> Column<'a>
+fn column_of<'a>(description: &'a Description, measurement: &'a Measurement) -> Column<'a>
     ensures { IsColumnOf description.now measurement.now result }
 {
     Column {
@@ -111,17 +110,17 @@ fn method_at(methods: &[Method], place: Option<usize>) -> Option<&Method>
 }
 
 /// Whether a measurement is shown.
-fn is_shown(measurement: &Measurement, shapes: &[ListShape], only: Option<&str>) -> bool
-    ensures { result ≡ is_shown (option_copied only.entry) shapes.now measurement.now }
+fn is_shown<H: Holder>(measurement: &Measurement, holder: &H, only: Option<&str>) -> bool
+    ensures { result ≡ is_shown (option_copied only.entry) (H.held holder.now) measurement.now }
 {
     if !is_chosen(&measurement.name, only) {
         return false;
     }
-    is_recorded(measurement, shapes)
+    is_held(measurement, holder)
 }
 
 /// Whether a name is among those with commas between them, if there are any.
-pub fn is_chosen(name: &str, only: Option<&str>) -> bool
+fn is_chosen(name: &str, only: Option<&str>) -> bool
     ensures { result ≡ is_chosen (option_copied only.entry) name.now }
 {
     match only {
@@ -130,21 +129,9 @@ pub fn is_chosen(name: &str, only: Option<&str>) -> bool
     }
 }
 
-/// Whether some list has the bytes of a measurement.
-pub fn is_recorded(measurement: &Measurement, shapes: &[ListShape]) -> bool
-    ensures { result ≡ is_recorded shapes.now measurement.now }
+/// Whether all bytes of a measurement are there.
+pub fn is_held<H: Holder>(measurement: &Measurement, holder: &H) -> bool
+    ensures { result ≡ is_held (H.held holder.now) measurement.now }
 {
-    for shape in shapes {
-        if has_bytes(measurement, shape) {
-            return true;
-        }
-    }
-    false
-}
-
-/// Whether a list has all bytes of a measurement.
-fn has_bytes(measurement: &Measurement, shape: &ListShape) -> bool
-    ensures { result ≡ has_bytes measurement.now shape.now }
-{
-    source_of(shape, measurement.address, measurement.encoding.data_type).is_some()
+    holder.holds(measurement.address, measurement.encoding.data_type)
 }

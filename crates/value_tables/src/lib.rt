@@ -1,11 +1,12 @@
-//! The values of what an A2L file describes, read off the samples of a recording: as CSV, counted,
-//! and as curves.
+//! The values of what an A2L file describes: which of them there are in a recording or a capture;
+//! and read off the samples of a recording, as CSV, counted, and as curves.
 #![tactic(auto)]
 
 mod column;
 mod columns;
 mod elements;
 mod fields;
+mod holder;
 mod list_columns;
 mod row_writer;
 mod source;
@@ -16,8 +17,9 @@ mod value_rows;
 mod value_tallies;
 
 pub use column::Column;
-pub use columns::{column_of, columns_of, is_chosen, is_recorded, unknown_name};
+pub use columns::{columns_of, is_held, unknown_name};
 pub use elements::with_elements;
+pub use holder::Holder;
 pub use row_writer::write_head;
 pub use tally_text::{print_head as print_tally_head, print_line as print_tally, print_tallies};
 pub use value::{physical_in, write_value};

@@ -7,7 +7,7 @@ use Rattle.recording.specs.declared.recording_fault.RecordingFault.TheVariants.{
 use Rattle.explain.specs.declared.run_text_fault.RunTextFault.TheVariants.{Memory}
 use Rattle.xcpread.specs.declared.program_fault.ProgramFault.{ProgramFault}
 use Rattle.xcpread.specs.declared.program_fault.ProgramFault.TheVariants.{Capture, Recording, Text}
-use Rattle.xcpread.specs.declared.program_fault.ProgramFault.TheVariants.{Unprinted}
+use Rattle.xcpread.specs.declared.program_fault.ProgramFault.TheVariants.{LongInput, Unprinted}
 
 -- lack of memory before the recording is read
 abbrev pub want_of_memory : ProgramFault
@@ -23,6 +23,7 @@ status_of_fault (Recording fault) = 1
 status_of_fault (Capture unread.Unreadable) = 2
 status_of_fault (Capture unread.NoCapture) = 2
 status_of_fault (Capture fault) = 1
+status_of_fault LongInput = 1
 status_of_fault Unprinted = 1
 status_of_fault _ = 2
 

@@ -1,33 +1,38 @@
 //! Captures: from their file to what is shown.
 ghost use Rattle.std.specs.Prelude.{◌≤◌, IfOk};
 
-use crate::capture_views::{show_elements, show_lists, show_picture, show_table, show_values};
+use crate::capture_bytes::CaptureBytes;
+use crate::capture_views::{show_columns, show_lists, show_story};
 use crate::command_line::CaptureOptions;
 use crate::err_messages::ErrMessages;
+use crate::held_capture::held_from;
 use crate::program_fault::ProgramFault;
+use crate::told_form::form_by;
 use crate::whole_program::description_of;
 use a2l::Description;
 use capture_recording::{CaptureReadFault, CaptureSink, Sinks, Slave, Slaves, read_capture};
-use capture_tables::{ElementSurvey, captured_columns, unknown_in};
+use capture_tables::ElementSurvey;
 use captured_samples::Tallies;
-use captured_session::{Element, Form};
-use recording::{Mode, RecordingFault};
+use captured_session::Form;
+use recording::{Values, chosen_columns, tell_not_shown};
 use std::alloc::Global;
 use std::fs;
-use std::io::Write;
+use std::io::{Read, Write};
 use std::net::IpAddr;
 use std::rt::Files;
-use value_tables::Column;
+use value_tables::{Column, with_elements};
 
 /// A capture that is read, and how.
 #[derive(Clone, Copy)]
 pub struct CaptureSource<'a> {
-    /// Its file.
-    pub path: &'a str,
+    /// Its bytes.
+    pub bytes: CaptureBytes<'a>,
     /// The port of the slave.
     pub port: u16,
     /// The slave's address.
     pub slave: IpAddr,
+    /// How its packets look until it says so itself.
+    pub form: Form,
 }
 
 /// The sink of one slave.
@@ -66,58 +71,88 @@ impl Sinks for Surveys {
     }
 }
 
-/// Reads the capture that the arguments name, and prints the samples of its slave. It reads the file
-/// twice: first what there is, then the samples.
-pub fn show_capture<R: Files, W: Write + Drop, E: Write + Drop>(
+/// The name of standard input.
+const INPUT: &str = "-";
+
+/// Reads the capture that the arguments name, and prints the samples of its slave. It reads the
+/// capture twice: first what there is, then the samples.
+pub fn show_capture<R: Files, I: Read + Drop, W: Write + Drop, E: Write + Drop>(
     rt: &R,
     alloc: Global,
     options: CaptureOptions<'_>,
+    input: I,
     out: W,
     messages: &mut ErrMessages<E>,
 ) -> Result<u8, ProgramFault>
     ensures { IfOk result (λ status. status ≤ 1) }
 {
     let description = description_of(rt, alloc, options.a2l, messages)?;
-    let slave = survey(rt, alloc, options, messages)?;
+    let held = held_if_named(alloc, options.path, input)?;
+    let bytes = match &held {
+        Some(held) => CaptureBytes::Held(held),
+        None => CaptureBytes::File(options.path),
+    };
+    let form = form_of(description.as_ref());
+    let slave = survey(rt, alloc, options, form, bytes, messages)?;
     let source = CaptureSource {
-        path: options.path,
+        bytes,
         port: options.port,
         slave: slave.address,
+        form,
     };
-    let entries = slave.sink.entries();
-    match &description {
+    if options.explain {
+        show_story(rt, alloc, source, out, messages)?;
+        return Ok(0);
+    }
+    let values = if options.long { None } else { description };
+    match values {
         Some(description) => {
-            let columns = columns_of(alloc, description, entries, options, messages)?;
-            match options.mode {
-                Mode::Summary => show_table(rt, alloc, source, columns, out, messages)?,
-                Mode::Csv => show_values(rt, alloc, source, columns, out, messages)?,
-                Mode::Svg => show_picture(rt, alloc, source, columns, out, messages)?,
-            }
+            let description = with_elements(alloc, description, &slave.sink)?;
+            let columns = columns_of(alloc, &description, &slave.sink, options, messages)?;
+            show_columns(rt, alloc, source, options, columns, out, messages)?;
         }
-        None => match options.mode {
-            Mode::Csv => show_elements(rt, alloc, source, out, messages)?,
-            _ => show_lists(rt, alloc, source, out, messages)?,
-        },
+        None => show_lists(rt, alloc, source, options, out, messages)?,
     }
     Ok(0)
 }
 
-/// The columns that are shown.
+/// How packets look until their slave says so itself.
+fn form_of(description: Option<&Description>) -> Form {
+    match description {
+        Some(description) => form_by(description.form),
+        None => Form::UNTOLD,
+    }
+}
+
+/// What standard input has, if it is named in place of a file.
+fn held_if_named<I: Read + Drop>(
+    alloc: Global,
+    path: &str,
+    input: I,
+) -> Result<Option<Vec<u8>>, ProgramFault> {
+    if path != INPUT {
+        return Ok(None);
+    }
+    let mut input = input;
+    Ok(Some(held_from(alloc, &mut input)?))
+}
+
+/// The columns that are shown; what isn't is told.
 fn columns_of<'a, E: Write + Drop>(
     alloc: Global,
     description: &'a Description,
-    entries: &[Element],
-    options: CaptureOptions<'_>,
+    survey: &ElementSurvey,
+    options: CaptureOptions<'a>,
     messages: &mut ErrMessages<E>,
 ) -> Result<Vec<Column<'a>>, ProgramFault> {
-    if let Some(name) = unknown_in(description, entries, options.only) {
-        messages.detail(name);
-        return Err(ProgramFault::Recording(RecordingFault::NoValue));
-    }
-    let columns = captured_columns(alloc, description, entries, options.only)?;
-    if columns.is_empty() {
-        return Err(ProgramFault::Recording(RecordingFault::NoValue));
-    }
+    let values = Values {
+        description,
+        only: options.only,
+        tick: None,
+        mode: options.mode,
+    };
+    let columns = chosen_columns(alloc, values, survey, messages)?;
+    tell_not_shown(values, survey, messages);
     Ok(columns)
 }
 
@@ -126,15 +161,17 @@ fn survey<R: Files, E: Write + Drop>(
     rt: &R,
     alloc: Global,
     options: CaptureOptions<'_>,
+    form: Form,
+    bytes: CaptureBytes<'_>,
     messages: &mut ErrMessages<E>,
 ) -> Result<Slave<ElementSurvey>, ProgramFault> {
     let surveys = Surveys {
         alloc,
         chosen: options.slave,
     };
-    let mut slaves = Slaves::new(alloc, options.port, Form::UNTOLD, surveys);
+    let mut slaves = Slaves::new(alloc, options.port, form, surveys);
     // what breaks the capture off is told when its samples are read
-    let _ = read_file(rt, alloc, options.path, &mut slaves, messages)?;
+    let _ = read_bytes(rt, alloc, bytes, &mut slaves, messages)?;
     let mut met = slaves.into_met();
     if met.len() > 1 {
         for slave in &met {
@@ -161,8 +198,9 @@ pub fn read_samples<R: Files, S: CaptureSink + Drop, E: Write + Drop>(
         slave: source.slave,
         sink: Some(sink),
     };
-    let mut slaves = Slaves::new(alloc, source.port, Form::UNTOLD, one);
-    let broken = read_file(rt, alloc, source.path, &mut slaves, messages)?;
+    let mut slaves = Slaves::new(alloc, source.port, source.form, one);
+    let broken = read_bytes(rt, alloc, source.bytes, &mut slaves, messages)?;
+    tell_captured(&slaves, messages);
     let Some(slave) = slaves.into_met().pop() else {
         return Err(ProgramFault::NoSlave);
     };
@@ -170,22 +208,37 @@ pub fn read_samples<R: Files, S: CaptureSink + Drop, E: Write + Drop>(
     Ok((slave.sink, broken))
 }
 
-/// Reads the file of a capture. A fault in it is given back, since what stands before it was read.
-fn read_file<R: Files, K: Sinks + Drop, E: Write + Drop>(
+/// Reads a capture. A fault in it is given back, since what stands before it was read.
+fn read_bytes<R: Files, K: Sinks + Drop, E: Write + Drop>(
     rt: &R,
     alloc: Global,
-    path: &str,
+    bytes: CaptureBytes<'_>,
     slaves: &mut Slaves<K>,
     messages: &mut ErrMessages<E>,
 ) -> Result<Option<CaptureReadFault>, ProgramFault> {
-    let mut file = match fs::open(rt, path) {
-        Ok(file) => file,
+    let path = match bytes {
+        CaptureBytes::Held(held) => {
+            let mut rest = held;
+            return read_to_end(alloc, &mut rest, slaves);
+        }
+        CaptureBytes::File(path) => path,
+    };
+    match fs::open(rt, path) {
+        Ok(mut file) => read_to_end(alloc, &mut file, slaves),
         Err(error) => {
             messages.why.tell_file(path, error);
-            return Err(ProgramFault::Capture(CaptureReadFault::Unreadable));
+            Err(ProgramFault::Capture(CaptureReadFault::Unreadable))
         }
-    };
-    match read_capture(alloc, &mut file, slaves) {
+    }
+}
+
+/// The same, of bytes that are there.
+fn read_to_end<I: Read, K: Sinks + Drop>(
+    alloc: Global,
+    input: &mut I,
+    slaves: &mut Slaves<K>,
+) -> Result<Option<CaptureReadFault>, ProgramFault> {
+    match read_capture(alloc, input, slaves) {
         Ok(()) => Ok(None),
         Err(CaptureReadFault::Memory) => Err(ProgramFault::MEMORY),
         Err(fault) if slaves.met().is_empty() => Err(ProgramFault::Capture(fault)),
@@ -193,8 +246,26 @@ fn read_file<R: Files, K: Sinks + Drop, E: Write + Drop>(
     }
 }
 
+/// Tells of packets that weren't captured whole, and of datagrams that weren't put together.
+fn tell_captured<K: Sinks + Drop, E: Write + Drop>(
+    slaves: &Slaves<K>,
+    messages: &mut ErrMessages<E>,
+) {
+    messages.tell_count(slaves.cut(), "packets that weren't captured whole");
+    messages.tell_count(
+        slaves.let_go(),
+        "datagrams in parts, of which too many waited for others",
+    );
+}
+
 /// Tells what became of the frames that aren't shown.
 fn tell_tallies<E: Write + Drop>(tallies: Tallies, messages: &mut ErrMessages<E>) {
+    if tallies.counts_otherwise() {
+        messages.tell_count(
+            tallies.frames,
+            "frames of a slave that doesn't count them one by one (CTR)",
+        );
+    }
     messages.tell_count(tallies.gaps, "gaps, behind which samples are marked");
     messages.tell_count(tallies.behind, "frames that are late, or copies");
     messages.tell_count(tallies.left_out, "packets of samples that aren't whole");

@@ -1,101 +1,94 @@
-//! The ways to show a capture.
+//! Shows a capture.
 
 use crate::capture_program::{CaptureSource, read_samples};
+use crate::command_line::CaptureOptions;
 use crate::err_messages::ErrMessages;
 use crate::program_fault::ProgramFault;
 use capture_recording::CaptureReadFault;
-use capture_tables::{CaptureRows, ElementRows, ListTable, TallyTable, ValuePicture};
+use capture_story::Story;
+use capture_tables::{CaptureRows, CaptureSheet, ElementRows, ListTable, TallyTable, ValuePicture};
+use recording::Mode;
 use std::alloc::Global;
 use std::io::{self, ErrorKind, Write};
 use std::rt::Files;
 use value_tables::Column;
 
-/// Prints the values of columns as CSV.
-pub fn show_values<R: Files, W: Write + Drop, E: Write + Drop>(
+/// Shows columns as the options say.
+pub fn show_columns<R: Files, W: Write + Drop, E: Write + Drop>(
     rt: &R,
     alloc: Global,
     source: CaptureSource<'_>,
+    options: CaptureOptions<'_>,
     columns: Vec<Column<'_>>,
     out: W,
     messages: &mut ErrMessages<E>,
 ) -> Result<(), ProgramFault> {
-    let rows = CaptureRows::new(alloc, columns, out);
-    let (rows, broken) = read_samples(rt, alloc, source, rows, messages)?;
-    let mut out = printed(rows.finish())?;
-    printed(out.flush())?;
-    end_by(broken)
+    match options.mode {
+        Mode::Summary => {
+            let table = TallyTable::new(alloc, columns, out)?;
+            show_on(rt, alloc, source, table, messages)
+        }
+        Mode::Csv => {
+            let rows = CaptureRows::new(alloc, columns, options.clocks, out);
+            show_on(rt, alloc, source, rows, messages)
+        }
+        Mode::Svg => {
+            let picture = ValuePicture::new(alloc, columns, out)?;
+            show_on(rt, alloc, source, picture, messages)
+        }
+    }
 }
 
-/// Prints each element as CSV.
-pub fn show_elements<R: Files, W: Write + Drop, E: Write + Drop>(
-    rt: &R,
-    alloc: Global,
-    source: CaptureSource<'_>,
-    out: W,
-    messages: &mut ErrMessages<E>,
-) -> Result<(), ProgramFault> {
-    let rows = ElementRows::new(alloc, out);
-    let (rows, broken) = read_samples(rt, alloc, source, rows, messages)?;
-    let mut out = printed(rows.finish())?;
-    printed(out.flush())?;
-    end_by(broken)
-}
-
-/// Prints a table with a line for each column.
-pub fn show_table<R: Files, W: Write + Drop, E: Write + Drop>(
-    rt: &R,
-    alloc: Global,
-    source: CaptureSource<'_>,
-    columns: Vec<Column<'_>>,
-    out: W,
-    messages: &mut ErrMessages<E>,
-) -> Result<(), ProgramFault> {
-    let table = TallyTable::new(alloc, columns)?;
-    let (table, broken) = read_samples(rt, alloc, source, table, messages)?;
-    let mut out = out;
-    printed(table.print(alloc, &mut out))?;
-    end_by(broken)
-}
-
-/// Prints a table with a line for each list.
+/// Shows lists: their elements as CSV, or a table with a line for each of them.
 pub fn show_lists<R: Files, W: Write + Drop, E: Write + Drop>(
     rt: &R,
     alloc: Global,
     source: CaptureSource<'_>,
+    options: CaptureOptions<'_>,
     out: W,
     messages: &mut ErrMessages<E>,
 ) -> Result<(), ProgramFault> {
-    let (table, broken) = read_samples(rt, alloc, source, ListTable::new(alloc), messages)?;
-    let mut out = out;
-    printed(table.print(&mut out))?;
-    end_by(broken)
+    match options.mode {
+        Mode::Csv => {
+            let rows = ElementRows::new(alloc, options.clocks, out);
+            show_on(rt, alloc, source, rows, messages)
+        }
+        _ => show_on(rt, alloc, source, ListTable::new(alloc, out), messages),
+    }
 }
 
-/// Prints a picture with a row for each column.
-pub fn show_picture<R: Files, W: Write + Drop, E: Write + Drop>(
+/// Tells the session in words.
+pub fn show_story<R: Files, W: Write + Drop, E: Write + Drop>(
     rt: &R,
     alloc: Global,
     source: CaptureSource<'_>,
-    columns: Vec<Column<'_>>,
     out: W,
     messages: &mut ErrMessages<E>,
 ) -> Result<(), ProgramFault> {
-    let picture = ValuePicture::new(alloc, columns)?;
-    let (picture, broken) = read_samples(rt, alloc, source, picture, messages)?;
-    let mut out = out;
-    printed(picture.print(&mut out))?;
-    end_by(broken)
-}
-
-/// What was printed, or that it wasn't.
-fn printed<T: Drop>(printing: io::Result<T>) -> Result<T, ProgramFault> {
-    match printing {
-        Ok(printed) => Ok(printed),
+    let story = Story::new(alloc, source.form, out);
+    let (story, broken) = read_samples(rt, alloc, source, story, messages)?;
+    match story.finish() {
+        Ok(_out) => end_by(broken),
         Err(error) => Err(fault_of(&error)),
     }
 }
 
-/// Why it wasn't.
+/// Shows the samples of a capture on a sheet.
+fn show_on<R: Files, S: CaptureSheet + Drop, E: Write + Drop>(
+    rt: &R,
+    alloc: Global,
+    source: CaptureSource<'_>,
+    sheet: S,
+    messages: &mut ErrMessages<E>,
+) -> Result<(), ProgramFault> {
+    let (sheet, broken) = read_samples(rt, alloc, source, sheet, messages)?;
+    match sheet.print() {
+        Ok(()) => end_by(broken),
+        Err(error) => Err(fault_of(&error)),
+    }
+}
+
+/// Why it isn't printed.
 fn fault_of(error: &io::Error) -> ProgramFault {
     match error.kind() {
         ErrorKind::OutOfMemory => ProgramFault::MEMORY,

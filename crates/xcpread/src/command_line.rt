@@ -6,6 +6,7 @@ ghost use Rattle.xcpread.specs.declared.command_line.CommandLine.TheVariants as 
 ghost use Rattle.xcpread.specs.declared.program_fault.ProgramFault.TheVariants as fault;
 
 use crate::program_fault::ProgramFault;
+use capture_tables::Clocks;
 use clap::error::ErrorKind;
 use clap::{Arg, ArgAction, ArgMatches, Command, Error};
 use explain::Why;
@@ -46,18 +47,24 @@ pub struct Options<'a> {
 /// Which capture is read, and how it is shown.
 #[derive(Clone, Copy)]
 pub struct CaptureOptions<'a> {
-    /// The file.
+    /// The file; `-` is standard input.
     pub path: &'a str,
     /// How it is shown.
     pub mode: Mode,
-    /// The A2L file that says which values are shown, if there is one.
+    /// The A2L file that says which values are shown, and how packets look, if there is one.
     pub a2l: Option<&'a str>,
+    /// Whether elements are shown, and not values.
+    pub long: bool,
+    /// Whether the session is told in words, and no samples are shown.
+    pub explain: bool,
     /// The measurements that are shown, with commas between them, if not all are.
     pub only: Option<&'a str>,
     /// The port of the slave.
     pub port: u16,
     /// The address of the slave, if it is said.
     pub slave: Option<IpAddr>,
+    /// Which times rows have.
+    pub clocks: Clocks,
 }
 
 /// The port of slaves where none is said (ASAM MCD-1 XCP, transport layer for Ethernet).
@@ -103,7 +110,7 @@ struct Choice<'a> {
 }
 
 /// The options: the ways to show samples, what is shown by name, and whether progress is told.
-const CHOICES: [Choice; 12] = [
+const CHOICES: [Choice; 13] = [
     Choice {
         name: "summary",
         value: None,
@@ -126,7 +133,7 @@ const CHOICES: [Choice; 12] = [
         name: "explain",
         value: None,
         without: &["summary", "csv", "svg"],
-        help: "Print each reply and frame in words, then a table, and the reason behind a fault",
+        help: "Print each reply and frame in words, then a table; of a capture the session in words",
     },
     Choice {
         name: "a2l",
@@ -165,6 +172,12 @@ const CHOICES: [Choice; 12] = [
         help: "Of a capture: the address of the slave, if there are several",
     },
     Choice {
+        name: "clock",
+        value: Some("CLOCK"),
+        without: &[],
+        help: "Of a capture, with --csv: capture adds a column with the times of the capture",
+    },
+    Choice {
         name: "progress",
         value: None,
         without: &[],
@@ -187,7 +200,7 @@ fn command<'a>(alloc: Global) -> Result<Command<'a>, AllocError> {
     for choice in CHOICES {
         command = with_choice(alloc, command, choice)?;
     }
-    let run = "A capture (pcap, pcapng), or the run file that a recording was made of";
+    let run = "A capture (pcap, pcapng; - is standard input), or the run file of a recording";
     let command = with_file(alloc, command, "run", "FILE", run, true)?;
     let frames = "The recording, as xcpdaq --out wrote it";
     with_file(alloc, command, "frames", "FRAMES", frames, false)
@@ -250,8 +263,8 @@ fn capture_of<'a>(
     ensures fault { IfErr result (λ f. f ≡ fault.CommandLine) }
     ensures other { result ≢ Ok line.Version }
 {
-    if matches.get_flag("explain") || matches.get_str("tick").is_some() {
-        why.tell_words("--explain and --tick want FRAMES\n");
+    if matches.get_str("tick").is_some() {
+        why.tell_words("--tick wants FRAMES\n");
         return Err(ProgramFault::CommandLine);
     }
     let a2l = a2l_of(matches, why)?;
@@ -263,10 +276,13 @@ fn capture_of<'a>(
     Ok(CommandLine::Capture(CaptureOptions {
         path,
         mode,
-        a2l,
+        a2l: matches.get_str("a2l"),
+        long: matches.get_flag("long"),
+        explain: matches.get_flag("explain"),
         only: matches.get_str("only"),
         port: port_in(matches, why)?,
         slave: slave_in(matches, why)?,
+        clocks: clocks_in(matches, mode, why)?,
     }))
 }
 
@@ -310,6 +326,26 @@ fn slave_in(matches: &ArgMatches<'_>, why: &mut Why) -> Result<Option<IpAddr>, P
     }
 }
 
+/// Which times rows have.
+fn clocks_in(matches: &ArgMatches<'_>, mode: Mode, why: &mut Why) -> Result<Clocks, ProgramFault>
+    ensures { IfErr result (λ f. f ≡ fault.CommandLine) }
+{
+    let Some(clock) = matches.get_str("clock") else {
+        return Ok(Clocks::Slave);
+    };
+    if clock != "capture" {
+        why.tell_words("--clock wants capture\n");
+        return Err(ProgramFault::CommandLine);
+    }
+    match mode {
+        Mode::Csv => Ok(Clocks::SlaveAndCapture),
+        _ => {
+            why.tell_words("--clock wants --csv\n");
+            Err(ProgramFault::CommandLine)
+        }
+    }
+}
+
 /// The recording that is meant.
 fn recording_of<'a>(
     matches: &ArgMatches<'a>,
@@ -320,8 +356,8 @@ fn recording_of<'a>(
     ensures fault { IfErr result (λ f. f ≡ fault.CommandLine) }
     ensures other { result ≢ Ok line.Version }
 {
-    if matches.get_str("port").is_some() || matches.get_str("slave").is_some() {
-        why.tell_words("--port and --slave want a capture\n");
+    if is_of_capture(matches) {
+        why.tell_words("--port, --slave and --clock want a capture\n");
         return Err(ProgramFault::CommandLine);
     }
     let a2l = a2l_of(matches, why)?;
@@ -357,6 +393,12 @@ fn a2l_of<'a>(matches: &ArgMatches<'a>, why: &mut Why) -> Result<Option<&'a str>
         return Err(ProgramFault::CommandLine);
     }
     Ok(None)
+}
+
+/// Whether an option stands there that speaks of captures.
+fn is_of_capture(matches: &ArgMatches<'_>) -> bool {
+    let mut names = ["port", "slave", "clock"].iter();
+    names.any(|name| matches.get_str(name).is_some())
 }
 
 /// Whether an option stands there that speaks of values.

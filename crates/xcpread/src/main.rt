@@ -1,13 +1,16 @@
-//! The program `xcpread`: it reads a recording back, by the run file that it was made of, and
-//! prints its samples.
+//! The program `xcpread`: it reads a recording back, by the run file that it was made of, or a
+//! capture, and prints its samples.
 #![tactic(auto)]
 
+mod capture_bytes;
 mod capture_program;
 mod capture_views;
 mod command_line;
 mod err_messages;
+mod held_capture;
 mod no_text;
 mod program_fault;
+mod told_form;
 mod whole_program;
 mod why_unread;
 
@@ -23,6 +26,13 @@ fn main(rt: HostRuntime) -> ExitCode {
             return ExitCode::from(fault.status());
         }
     };
-    let status = program(&rt, rt.alloc(), &words, rt.stdout(), rt.stderr());
+    let status = program(
+        &rt,
+        rt.alloc(),
+        &words,
+        rt.stdin(),
+        rt.stdout(),
+        rt.stderr(),
+    );
     ExitCode::from(status)
 }

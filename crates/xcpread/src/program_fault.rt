@@ -26,6 +26,9 @@ pub enum ProgramFault {
     /// The capture isn't shown, or no further.
     #[error("xcpread: {0}")]
     Capture(CaptureReadFault),
+    /// The capture on standard input is too long to be held.
+    #[error("xcpread: capture of over 256 MiB on standard input: write it to a file")]
+    LongInput,
     /// Nobody in the capture is the slave.
     #[error("xcpread: no slave in the capture")]
     NoSlave,
@@ -56,6 +59,7 @@ impl ProgramFault {
             ProgramFault::Capture(CaptureReadFault::Unreadable) => 2,
             ProgramFault::Capture(CaptureReadFault::NoCapture) => 2,
             ProgramFault::Capture(_) => 1,
+            ProgramFault::LongInput => 1,
             ProgramFault::Unprinted => 1,
             _ => 2,
         }
@@ -70,6 +74,17 @@ impl From<RunTextFault> for ProgramFault {
 
     fn from(fault: RunTextFault) -> ProgramFault {
         ProgramFault::Text(fault)
+    }
+}
+
+impl From<RecordingFault> for ProgramFault {
+    ghost use Rattle.std.specs.Prelude.{◌≡◌};
+    ghost use Rattle.xcpread.specs.declared.program_fault.ProgramFault.TheVariants.{Recording};
+
+    ghost from_gives = { λ recording fault. fault ≡ Recording recording };
+
+    fn from(fault: RecordingFault) -> ProgramFault {
+        ProgramFault::Recording(fault)
     }
 }
 

@@ -30,12 +30,13 @@ use std::io::{BufWriter, Read, Write};
 use std::rt::Files;
 use value_tables::with_elements;
 
-/// The program over its arguments, without its name, its standard output and standard error. It
-/// returns its status.
-pub fn program<R: Files, W: Write + Drop, E: Write + Drop>(
+/// The program over its arguments, without its name, its standard input, standard output and
+/// standard error. It returns its status.
+pub fn program<R: Files, I: Read + Drop, W: Write + Drop, E: Write + Drop>(
     rt: &R,
     alloc: Global,
     words: &[String],
+    input: I,
     out: W,
     err: E,
 ) -> u8
@@ -43,7 +44,7 @@ pub fn program<R: Files, W: Write + Drop, E: Write + Drop>(
 {
     let mut messages = ErrMessages::new(alloc, err, Why::new(alloc, words));
     let answer = match BufWriter::new(alloc, out) {
-        Ok(out) => answer(rt, alloc, words, out, &mut messages),
+        Ok(out) => answer(rt, alloc, words, input, out, &mut messages),
         Err(_) => Err(ProgramFault::MEMORY),
     };
     match answer {
@@ -56,10 +57,11 @@ pub fn program<R: Files, W: Write + Drop, E: Write + Drop>(
 }
 
 /// What the arguments ask for: the status once that is printed, or the fault that is still to be.
-fn answer<R: Files, W: Write + Drop, E: Write + Drop>(
+fn answer<R: Files, I: Read + Drop, W: Write + Drop, E: Write + Drop>(
     rt: &R,
     alloc: Global,
     words: &[String],
+    input: I,
     out: W,
     messages: &mut ErrMessages<E>,
 ) -> Result<u8, ProgramFault>
@@ -73,7 +75,7 @@ fn answer<R: Files, W: Write + Drop, E: Write + Drop>(
             Ok(print_version(&mut out, "xcpread"))
         }
         CommandLine::Recording(options) => show(rt, alloc, options, out, messages),
-        CommandLine::Capture(options) => show_capture(rt, alloc, options, out, messages),
+        CommandLine::Capture(options) => show_capture(rt, alloc, options, input, out, messages),
     }
 }
 

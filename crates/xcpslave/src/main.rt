@@ -3,7 +3,6 @@
 
 mod command_line;
 mod expected;
-mod request_text;
 mod session_fault;
 mod session_text;
 mod session_words;

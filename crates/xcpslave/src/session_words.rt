@@ -1,6 +1,5 @@
 //! A session in words: its lines, and the frames that were sent.
-use crate::request_text::RequestText;
-use explain::{ByteText, ReplyText};
+use explain::{ByteText, ReplyText, RequestText};
 use session_file::{Line, Played};
 use std::alloc::{AllocError, Global};
 

@@ -13,9 +13,9 @@ use Rattle.value_tables.proofs.columns.columns_of.Goals as goal
 
 -- the column of the measurement stands behind those before, if it is shown
 pub loop-i-preserved : goal.loop-i-preserved
-loop-i-preserved c =
+loop-i-preserved g c =
     let d = c.args.description.now in
-    let p = is_shown (option_copied c.args.only) c.args.shapes.now in
+    let p = is_shown (option_copied c.args.only) (g.H.Holder.held c.args.holder.now) in
     let ms = d.measurements.items in
     let m = c.index-measurement.result.now in
     let within : c.loop-i.i < length ms = omega (arith, c.loop-i-test.true, c.len-i-end.ensures) in

@@ -7,7 +7,7 @@ use Rattle.value_tables.specs.Columns.{IsColumnOf, is_shown}
 use Rattle.value_tables.proofs.columns.columns_of.Given as goal
 
 abbrev pub invariant-loop-i : goal.invariant-loop-i
-invariant-loop-i l =
+invariant-loop-i g l =
     AllZip (IsColumnOf l.description)
-    (filter (is_shown (option_copied l.only) l.shapes) (take l.i l.description.measurements.items))
+    (filter (is_shown (option_copied l.only) (g.H.Holder.held l.holder)) (take l.i l.description.measurements.items))
     l.columns.items

@@ -9,13 +9,13 @@ use Rattle.value_tables.proofs.columns.unknown_name.Goals as goal
 
 -- the names are asked one after another
 pub returns : goal.returns
-returns c =
+returns g c =
     let d = c.args.description.now in
-    let plans = c.args.shapes.now in
+    let held = g.H.Holder.held c.args.holder.now in
     let text = c.in_ok-only.field-0.now in
     let cut = c.split-names.ensures in
-    let first : option_copied c.find.result ≡ find (λ n. not (is_known d plans n)) (names_in text) =
-    find_from_yields_List (λ n. not (is_known d plans n)) _ _ _ c.find.ensures.ran
+    let first : option_copied c.find.result ≡ find (λ n. not (is_known d held n)) (names_in text) =
+    find_from_yields_List (λ n. not (is_known d held n)) _ _ _ c.find.ensures.ran
     (YieldsList-from_str_split 44 text (lit< tt) cut.text cut.has_more cut.pattern)
     (λ x b q k. search (rules, tests)) in
-    first ∙ sym (ap (λ o. unknown_in d plans (option_copied o)) c.in_ok-only.was)
+    first ∙ sym (ap (λ o. unknown_in d held (option_copied o)) c.in_ok-only.was)

@@ -7,9 +7,9 @@ use Rattle.value_tables.specs.Elements.{name_if_none, parts_of}
 use Rattle.value_tables.proofs.elements.with_elements.Given as goal
 
 abbrev pub invariant-loop-measurement : goal.invariant-loop-measurement
-invariant-loop-measurement l =
+invariant-loop-measurement g l =
     (map described_measurement l.parts.items
-    ≡ flat_map (parts_of l.shapes) (map described_measurement l.yielded))
+    ≡ flat_map (parts_of (g.H.Holder.held l.holder)) (map described_measurement l.yielded))
     × (map (λ s. string_bytes s) l.left_out.items
     ≡ map (λ s. string_bytes s) l.fn.description.left_out.items
-    ++ flat_map (name_if_none l.shapes) (map described_measurement l.yielded))
+    ++ flat_map (name_if_none (g.H.Holder.held l.holder)) (map described_measurement l.yielded))

@@ -1,0 +1,106 @@
+//! The commands of a master are written in words.
+
+use crate::event_words::write_bytes;
+use crate::intel_order::IntelOrder;
+use captured_session::{Form, dword};
+use explain::{RequestText, command_name};
+use measured_values::ByteOrder;
+use std::fmt::{self, Display};
+
+/// A command by its name (ASAM MCD-1 XCP, protocol layer), with its parameters: as bytes, if it
+/// isn't known in which order those of a number stand.
+#[derive(Clone, Copy)]
+pub struct CommandWords<'a> {
+    /// How packets look.
+    pub form: Form,
+    pub packet: &'a [u8],
+}
+
+impl<'a> Display for CommandWords<'a> {
+    fn fmt<W: fmt::Write>(&self, f: &mut fmt::Formatter<W>) -> fmt::Result {
+        let order = self.form.order;
+        match self.packet {
+            [0xF4 | 0xF6 | 0xC7..=0xE3, bytes @ ..] if !self.form.has_order => {
+                write_name(f, self.packet)?;
+                write_bytes(f, bytes)
+            }
+            [code, bytes @ ..] if self.packet.len() < least_len(*code, bytes) => {
+                write_name(f, self.packet)?;
+                f.write_str(", too short")?;
+                write_bytes(f, bytes)
+            }
+            [0xC7, _, entries @ ..] => write_multiple(f, order, self.packet, entries),
+            [0xF5 | 0xFA..=0xFF | 0xD3..=0xE3, ..] => {
+                let packet = IntelOrder::of(order, self.packet);
+                let words = RequestText {
+                    packet: packet.bytes(),
+                };
+                write!(f, "{words}")
+            }
+            [0xF6, _, _, extension, a, b, c, d, ..] => {
+                write_name(f, self.packet)?;
+                write_place(f, *extension, dword(order, *a, *b, *c, *d))
+            }
+            [0xF4, count, _, extension, a, b, c, d, ..] => {
+                write_name(f, self.packet)?;
+                write!(f, " count {count},")?;
+                write_place(f, *extension, dword(order, *a, *b, *c, *d))
+            }
+            [_, bytes @ ..] => {
+                write_name(f, self.packet)?;
+                write_bytes(f, bytes)
+            }
+            [] => f.write_str("an empty command"),
+        }
+    }
+}
+
+/// How many bytes a command has at least, by its code and the bytes behind it.
+fn least_len(code: u8, bytes: &[u8]) -> usize {
+    match code {
+        0xF4 | 0xF6 | 0xE0 | 0xE1 => 8,
+        0xD3 | 0xE2 => 6,
+        0xD4 => 5,
+        0xD5 | 0xD7 | 0xD8 | 0xDE | 0xDF | 0xE3 => 4,
+        0xC7 => 2 + 8 * bytes.first().copied().unwrap_or(0) as usize,
+        0xF5 | 0xFA | 0xFF | 0xDD => 2,
+        _ => 1,
+    }
+}
+
+/// Writes the name of a command, or its code.
+fn write_name<W: fmt::Write>(f: &mut fmt::Formatter<W>, packet: &[u8]) -> fmt::Result {
+    let Some(code) = packet.first() else {
+        return Ok(());
+    };
+    match command_name(*code) {
+        Some(name) => f.write_str(name),
+        None => write!(f, "command 0x{code:02x}"),
+    }
+}
+
+/// Writes an address.
+fn write_place<W: fmt::Write>(
+    f: &mut fmt::Formatter<W>,
+    extension: u8,
+    address: u32,
+) -> fmt::Result {
+    write!(f, " extension {extension}, address 0x{address:04x}")
+}
+
+/// Writes WRITE_DAQ_MULTIPLE, with these entries of eight bytes each.
+fn write_multiple<W: fmt::Write>(
+    f: &mut fmt::Formatter<W>,
+    order: ByteOrder,
+    packet: &[u8],
+    entries: &[u8],
+) -> fmt::Result {
+    write!(f, "{}", RequestText { packet })?;
+    for entry in entries.chunks_exact(8) {
+        if let [bit, size, a, b, c, d, extension, _] = entry {
+            write!(f, "; bit offset {bit}, size {size},")?;
+            write_place(f, *extension, dword(order, *a, *b, *c, *d))?;
+        }
+    }
+    Ok(())
+}

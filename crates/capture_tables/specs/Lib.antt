@@ -1,0 +1,3 @@
+pub mod CaptureTimes
+pub mod Clocks
+pub mod Places

@@ -1,0 +1,10 @@
+//! What the capture's clock says of two timestamps.
+
+/// What the capture's clock says of two timestamps.
+#[derive(Clone, Copy, Debug, PartialEq, Eq)]
+pub struct Passed {
+    /// How many picoseconds a tick is.
+    pub tick: u64,
+    /// How many are between the captures.
+    pub picoseconds: u128,
+}

@@ -1,0 +1,30 @@
+use Rattle.std.proofs.Common.{ap, subst, sym, ◌∙◌}
+use Rattle.captured_samples.specs.Slaves.{Keeps, SlaveOf}
+use Rattle.captured_samples.specs.Standing.{come_to, set_up_by}
+use Rattle.captured_samples.proofs.HeardLemmas.{is_next, on_both, stands-of, tells-of}
+use Rattle.captured_samples.proofs.ListsLemmas.{on_ok, tells-both}
+use Rattle.captured_samples.proofs.slave_samples.SlaveSamples.hear_next.Goals as goal
+
+pub returns-clause-stands : goal.returns-clause-stands
+returns-clause-stands g c start r ls k =
+    let met = come_to start (set_up_by start r.heard) c.args.step ls in
+    let v = subst (Keeps start r.heard met) (sym c.self.view_is) (c.in-Ok.ensures.stands start r.heard ls k.keeps) in
+    let next = is_next start r ls c.args.step c.args.counter c.args.packet.now c.requires in
+    on_both c.look_at.result
+    (λ keeps stays. stands-of start _ _ _ _ _ next.frame next.slave
+    (record {
+      keeps = keeps;
+      counter = stays.counter;
+      command = stays.command ∙ ap (λ (x : SlaveOf). x.command) c.self.view_is ∙ c.in-Ok.ensures.stays.command ∙ k.command;
+    }))
+    (c.look_at.ensures.stands start r.heard met (record { session = v.session; lists = v.lists; read = v.read }))
+    c.look_at.ensures.stays
+
+pub returns-clause-told : goal.returns-clause-told
+returns-clause-told g c start r ls k =
+    let met = come_to start (set_up_by start r.heard) c.args.step ls in
+    let v = subst (Keeps start r.heard met) (sym c.self.view_is) (c.in-Ok.ensures.stands start r.heard ls k.keeps) in
+    let next = is_next start r ls c.args.step c.args.counter c.args.packet.now c.requires in
+    on_ok c.look_at.result
+    (λ more. tells-of _ _ _ _ next.told (tells-both _ _ _ _ _ (c.in-Ok.ensures.told start r.heard ls k.keeps) more))
+    (c.look_at.ensures.told start r.heard met (record { session = v.session; lists = v.lists; read = v.read }))

@@ -1,0 +1,59 @@
+#!/usr/bin/env bash
+# Records the captures of this folder anew, as root, with tcpdump on this machine's loopback: examples/c/xcp_server.c on port 5555, as
+# ./live leaves it in out/live, with a short session of examples/c/xcp_master.c by UDP and by TCP, and one of Scapy's master (Debian's
+# python3-scapy) by UDP, in which it sets lists up twice.
+#
+#   tests/captures_kept/keep.sh
+set -u
+cd "$(dirname "$0")/../.." || exit 3
+kept=tests/captures_kept
+live=out/live
+server=
+dump=
+trap 'kill $server $dump 2>/dev/null' EXIT
+
+# records what goes over the port while a command runs, into NAME.pcap: keep NAME FILTER COMMAND..
+keep() {
+  local name=$1 filter=$2 status
+  shift 2
+  tcpdump -Z root --immediate-mode -i lo -U -w "$kept/$name.pcap" "$filter port 5555" 2>/dev/null &
+  dump=$!
+  until [ "$(stat -c %s "$kept/$name.pcap" 2>/dev/null || echo 0)" -ge 24 ]; do sleep 0.1; done
+  sleep 0.5
+  "$@" >/dev/null
+  status=$?
+  sleep 1.5
+  kill -INT "$dump"
+  wait "$dump"
+  dump=
+  echo "$kept/$name.pcap: $(stat -c %s "$kept/$name.pcap") bytes"
+  return "$status"
+}
+
+# a session of Scapy's master, by what bench/live_scapy.py has but for its length
+scapy() {
+  /usr/bin/python3 - bench/live_scapy.py <<'END'
+import sys
+
+exec(open(sys.argv[1]).read().rsplit("\nmain()", 1)[0])
+line = Line(socket.SOCK_DGRAM, 5555)
+conf.contribs["XCP"]["byte_order"] = 0
+tell("CONNECT", line.ask(Connect()))
+read_all(line)
+set_up(line, [(0, FAST), (1, SLOW)])
+measure(line, 2, 200)
+set_up(line, [(1, SLOW)])
+measure(line, 1, 10)
+line.ask(Disconnect())
+END
+}
+
+"$live/xcp_server" --udp 5555 --tcp 5555 >/dev/null &
+server=$!
+sleep 0.5
+rm -f "$kept"/*.pcap
+keep master_by_udp udp "$live/xcp_master" --udp 5555 --samples 300 || exit 1
+keep master_by_tcp tcp "$live/xcp_master" --tcp 5555 --samples 300 || exit 1
+keep scapy_by_udp udp scapy || exit 1
+kill -INT "$server"
+wait "$server"

@@ -1,0 +1,38 @@
+#!/usr/bin/env python3
+"""Compares what ./xcpread --a2l A2L --csv prints of a capture, on standard input, with the rows that tests/captured_rows.py made of what
+tests/wire_reader.py read of it: the times since the first row, lists, marks and values. Texts of the A2L file stand for their numbers.
+
+    ./xcpread --a2l A2L --csv FILE | tests/value_cells.py A2L ROWS      prints what differs, and ends with status 1 if anything does"""
+
+import csv
+import re
+import sys
+from decimal import Decimal
+
+a2l, rows = (open(it, encoding="utf-8").read() for it in sys.argv[1:])
+numbers = {text: Decimal(number) for number, text in re.findall(r'^ *(\d+) "(\w+)"$', a2l, re.M)}
+names = re.findall(r"/begin MEASUREMENT (\w+)", a2l)
+
+
+def number_of(cell):
+    """The number of a cell, or nothing if it is empty."""
+    return None if not cell else numbers[cell] if cell in numbers else Decimal(cell)
+
+
+head, *shown = csv.reader(sys.stdin)
+wanted = list(csv.reader(rows.splitlines()))
+# a measurement that no list has isn't shown
+there = [at for at in range(len(names)) if any(row[3 + at] for row in wanted)]
+faults = []
+if [it.split(" [")[0] for it in head] != ["time", "list", "overload", *(names[at] for at in there)] or head[0] != "time [s]":
+    faults.append(f"the first row is {head}")
+if len(shown) != len(wanted):
+    faults.append(f"{len(shown)} rows, where {len(wanted)} are wanted")
+begin = Decimal(wanted[0][0])
+for at, (row, (seconds, event, mark, *cells)) in enumerate(zip(shown, wanted)):
+    values = [mark, *(cells[it] for it in there)]
+    numbered = [Decimal(seconds) - begin, Decimal(("1 ms", "10 ms").index(event)), *map(number_of, values)]
+    if [number_of(it) for it in row] != numbered:
+        faults.append(f"row {at}: {row} where {numbered} is wanted")
+print("\n".join(faults[:10]), end="\n" if faults else "")
+sys.exit(1 if faults else 0)
