@@ -8,7 +8,7 @@ use Rattle.a2l_text.specs.Tokens.{Token, begin, end, plain, quoted}
 use Rattle.a2l_text.specs.Trees.{Elements, none, word, text, include, block, printed_before, printed, IsWithin}
 use Rattle.a2l_text.specs.Roles.{inside, after_plain, after_text, may_include, part_of}
 use Rattle.a2l_text.specs.Parts.{Section}
-use Rattle.a2l_text.specs.Ahead.{Open, begun_with, in_front, ended, gathered_with, sections_from}
+use Rattle.a2l_text.specs.Ahead.{Open, gathered_at_begin, in_front, sections_at_block_end, gathered_with, sections_from}
 use Rattle.a2l_text.specs.Reading.{ReadsElements, sections_of}
 use Rattle.a2l_text.specs.declared.part.Part.{Part}
 use Rattle.a2l_text.specs.declared.role.Role.{Role}
@@ -53,7 +53,7 @@ front ss None ts e = absurd cc
 
 -- the end of a block goes well if what comes behind it does
 end_goes : (p : Option Part) (g : List Token) (fresh kept : Option (List Section)) (ss : List Section) (P : Type 0)
-    → ((ts : List Section) → fresh ≡ Some ts → P) → ((ts : List Section) → kept ≡ Some ts → P) → ended p g fresh kept ≡ Some ss → P
+    → ((ts : List Section) → fresh ≡ Some ts → P) → ((ts : List Section) → kept ≡ Some ts → P) → sections_at_block_end p g fresh kept ≡ Some ss → P
 end_goes None g fresh kept ss P hf hk e = hk ss e
 end_goes (Some p) g fresh kept ss P hf hk e = let x = front (record { part = p; words = g } ∷ []) fresh ss e in hf x.0 x.1
 
@@ -70,14 +70,14 @@ completes (token.include ∷ ws) role os g ss room r e =
     let h = guard (may_include role) (sections_from role os g ws) ss e in
     with_include room role os ws h.0 (completes ws role os g ss room r h.1)
 completes (begin ∷ plain n ∷ ws) role os g ss zero r e =
-    let h = guard (ltb (length os) 64) (sections_from (inside role n) (record { name = n; outer = role } ∷ os) (begun_with (inside role n) n g) ws) ss e in
+    let h = guard (ltb (length os) 64) (sections_from (inside role n) (record { name = n; outer = role } ∷ os) (gathered_at_begin (inside role n) n g) ws) ss e in
     let no_room : ltb (length os) 64 ≡ false = le-ltb (length os) 64 (omega arith) in
     absurd cc
 completes (begin ∷ plain n ∷ ws) role os g ss (suc room) r e =
-    let h = guard (ltb (length os) 64) (sections_from (inside role n) (record { name = n; outer = role } ∷ os) (begun_with (inside role n) n g) ws) ss e in
-    with_block room role os n ws (completes ws (inside role n) (record { name = n; outer = role } ∷ os) (begun_with (inside role n) n g) ss room (omega arith) h.1)
+    let h = guard (ltb (length os) 64) (sections_from (inside role n) (record { name = n; outer = role } ∷ os) (gathered_at_begin (inside role n) n g) ws) ss e in
+    with_block room role os n ws (completes ws (inside role n) (record { name = n; outer = role } ∷ os) (gathered_at_begin (inside role n) n g) ss room (omega arith) h.1)
 completes (end ∷ plain n ∷ ws) role (o ∷ os) g ss room r e =
-    let h = guard (bytes_eq n o.name) (ended (part_of role) g (sections_from o.outer os [] ws) (sections_from o.outer os g ws)) ss e in
+    let h = guard (bytes_eq n o.name) (sections_at_block_end (part_of role) g (sections_from o.outer os [] ws) (sections_from o.outer os g ws)) ss e in
     let same : n ≡ o.name = (bytes_eq-Decides n o.name).0 h.0 in
     let left : Completes (suc room) o.outer os ws = end_goes (part_of role) g (sections_from o.outer os [] ws) (sections_from o.outer os g ws) ss (Completes (suc room) o.outer os ws)
     (λ ts t. completes ws o.outer os [] ts (suc room) (omega arith) t)

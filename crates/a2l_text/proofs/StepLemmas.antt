@@ -14,7 +14,7 @@ use Rattle.a2l_text.specs.declared.word.Word.{Word}
 use Rattle.a2l_text.proofs.LawLemmas.{one_word_is_next, no_word_at_the_end, no_word_at_a_fault, no_end_at_a_fault}
 use Rattle.a2l_text.specs.Roles.{inside, after_plain, after_text, may_include, part_of}
 use Rattle.a2l_text.specs.Parts.{Section}
-use Rattle.a2l_text.specs.Ahead.{Open, begun_with, ended, gathered_with, sections_from}
+use Rattle.a2l_text.specs.Ahead.{Open, gathered_at_begin, sections_at_block_end, gathered_with, sections_from}
 use Rattle.a2l_text.specs.Steps.{State, plain_bytes, WordIs, TakesWord, HasNoMore, Reaches, ReachesPart, Ends, StepIs, StopsAt, UnlessMemory, HasNoWords, HasNoName, coming, coming_behind}
 use Rattle.a2l_text.specs.States.{open_of}
 use Rattle.a2l_text.specs.declared.blocks.OpenBlock.{OpenBlock}
@@ -152,7 +152,7 @@ text_step role os g ahead b h e = record {
 
 -- a block begins
 pub begin_step : (role : Role) (os : List Open) (g : List Token) (old new : List ℕ) (n : List ℕ) → TakesWord (plain n) old new → length os < 64
-    → Reaches old (λ words. sections_from role os g (begin ∷ words)) (record { role = inside role n; around = record { name = n; outer = role } ∷ os; gathered = begun_with (inside role n) n g; ahead = new })
+    → Reaches old (λ words. sections_from role os g (begin ∷ words)) (record { role = inside role n; around = record { name = n; outer = role } ∷ os; gathered = gathered_at_begin (inside role n) n g; ahead = new })
 begin_step role os g old new n takes lt = record {
   there = λ words a.
       let t = takes.there words a in
@@ -179,7 +179,7 @@ end_step role o os g old new n takes e p = record {
         t.0,
         t.2,
         ap (λ (x : List Token). sections_from role (o ∷ os) g (end ∷ x)) t.1 ∙ closes role o os g n t.0 e
-            ∙ ap (λ (q : Option Part). ended q g (sections_from o.outer os [] t.0) (sections_from o.outer os g t.0)) p,
+            ∙ ap (λ (q : Option Part). sections_at_block_end q g (sections_from o.outer os [] t.0) (sections_from o.outer os g t.0)) p,
       );
   back = λ rest a. (plain n ∷ rest, takes.back rest a);
 }
@@ -193,7 +193,7 @@ part_step role part o os g old new n takes e p = record {
         t.0,
         t.2,
         ap (λ (x : List Token). sections_from role (o ∷ os) g (end ∷ x)) t.1 ∙ closes role o os g n t.0 e
-            ∙ ap (λ (q : Option Part). ended q g (sections_from o.outer os [] t.0) (sections_from o.outer os g t.0)) p,
+            ∙ ap (λ (q : Option Part). sections_at_block_end q g (sections_from o.outer os [] t.0) (sections_from o.outer os g t.0)) p,
       );
   back = λ rest a. (plain n ∷ rest, takes.back rest a);
 }
@@ -311,7 +311,7 @@ pub depth : (items : List OpenBlock) → length (reverse (map open_of items)) �
 depth items = length-reverse (map open_of items) ∙ length-map items open_of
 
 pub begin_done : (role role' : Role) (os os' : List Open) (g h : List Token) (old new n : List ℕ) → TakesWord (plain n) old new → length os < 64
-    → role' ≡ inside role n → os' ≡ record { name = n; outer = role } ∷ os → h ≡ begun_with role' n g
+    → role' ≡ inside role n → os' ≡ record { name = n; outer = role } ∷ os → h ≡ gathered_at_begin role' n g
     → Reaches old (λ words. sections_from role os g (begin ∷ words)) (record { role = role'; around = os'; gathered = h; ahead = new })
 begin_done role role' os os' g h old new n takes lt e f k = rw (k, e, f) (begin_step role os g old new n takes lt)
 

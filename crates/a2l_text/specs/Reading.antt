@@ -1,4 +1,5 @@
--- The words of a text are those of elements, and its parts are the elements' parts.
+-- The words of a text are those of a tree of elements, and the parts that are read of the text are
+-- those of the tree.
 use Rattle.std.specs.Prelude.{◌≡◌, List, [], Option, Some}
 use Rattle.a2l_text.specs.Tokens.{Token}
 use Rattle.a2l_text.specs.Trees.{Elements, IsWithin, printed}
@@ -18,7 +19,7 @@ pub record HaveParts (words : List Token) (sections : List Section) : Type 0 whe
   pub words_are : words ≡ printed elements
   pub parts_are : sections ≡ parts File elements
 
--- what is read of words is what elements have whose words they are
+-- what is read of words are the parts of elements whose words they are
 abbrev pub ReadsElements : Type 0
 ReadsElements =
     (words : List Token) (sections : List Section) → sections_of words ≡ Some sections

@@ -1,11 +1,11 @@
-//! The blocks of an A2L text are read part by part; those that aren't wanted are passed over.
+//! An A2L text is read part by part; blocks that are no parts are passed over.
 ghost use Rattle.std.specs.Prelude.{◌≡◌, bytes_eq, ◌<◌, ◌≤◌, [], length, map, option_copied};
 ghost use Rattle.std.specs.Prelude.{IfOk, OnOk, IfErr, IsSome};
 ghost use Rattle.a2l_text.specs.Words.{without_mark};
 ghost use Rattle.a2l_text.specs.TokenOf.{token_of};
 ghost use Rattle.a2l_text.specs.Tokens.{begin, end, include};
 ghost use Rattle.a2l_text.specs.State.{rest_of};
-ghost use Rattle.a2l_text.specs.Ahead.{begun_with, gathered_with};
+ghost use Rattle.a2l_text.specs.Ahead.{gathered_at_begin, gathered_with};
 ghost use Rattle.a2l_text.specs.Steps.{WordIs, NameIs, HasNoWords, HasNoName, plain_bytes};
 ghost use Rattle.a2l_text.specs.Steps.{token_at, Reaches, StepIs, StopsAt, NextIs, coming};
 ghost use Rattle.a2l_text.specs.Steps.{coming_behind, cleared};
@@ -29,8 +29,8 @@ pub struct OpenBlock<'a> {
     pub outer: Role,
 }
 
-/// The blocks of a text that say what is measured, one after another. Every other block is passed
-/// over by its `/begin` and `/end`, but for one that has options of a part.
+/// Hands on the parts of a text, one after another: `Part` says which blocks these are. Every other
+/// block is passed over by its `/begin` and `/end`, but for one that has options of a part.
 #[derive(Drop)]
 pub struct Blocks<'a> {
     words: Words<'a>,
@@ -257,7 +257,7 @@ fn gather_name<'a>(
     at: usize,
 ) -> Result<(), AllocError>
     ensures { OnOk result (map token_at gathered.new.items
-        ≡ begun_with role name.now (map token_at gathered.old.items)) }
+        ≡ gathered_at_begin role name.now (map token_at gathered.old.items)) }
 {
     if let Role::Joined = role {
         let word = Word::Plain(name);

@@ -3,7 +3,7 @@ ghost use Rattle.std.specs.Prelude.{◌≡◌, ◌≤◌, take, drop, length, If
 ghost use Rattle.a2l_text.specs.Fronts.{IsUpTo, NeverEnds, ends_plain, ends_line, ends_block};
 
 use crate::kind::{Kind, kind_at};
-use crate::parts::behind;
+use crate::split::behind;
 
 /// Whether no byte of a plain word stands at the front.
 #[inline(always)]

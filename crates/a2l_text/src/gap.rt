@@ -8,7 +8,7 @@ ghost use Rattle.a2l_text.specs.Faults.{IsFault, Stalls};
 use crate::fault::WordFault;
 use crate::fronts::{block_len, line_len};
 use crate::kind::{Kind, kind_at};
-use crate::parts::behind;
+use crate::split::behind;
 
 /// How many bytes the blank or the comment at the front has, or 0 if there is neither. `None`: the
 /// comment there has no end.

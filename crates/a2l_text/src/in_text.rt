@@ -5,7 +5,7 @@ ghost use Rattle.a2l_text.specs.Letters.{letter_of};
 ghost use Rattle.a2l_text.specs.Tokens.{IsInText, begins_with_quote};
 ghost use Rattle.a2l_text.specs.Faults.{IsOpenText};
 
-use crate::parts::behind;
+use crate::split::behind;
 
 /// What stands at a place between two quotes.
 #[derive(Clone, Copy, PartialEq, Eq)]

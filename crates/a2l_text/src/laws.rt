@@ -18,8 +18,8 @@ pub fn one_list_of_words()
     ensures { OneListOfWords }
 {}
 
-/// What is read of words is what elements have whose words they are, and the parts of elements are
-/// read of their words.
+/// Reading words gives the parts of a tree of elements whose words they are; and of the words of
+/// each such tree its parts are read.
 pub fn parts_are_those_of_elements()
     ensures elements { ReadsElements }
     ensures all { ReadsAll }

@@ -4,7 +4,7 @@ ghost use Rattle.std.specs.Option.{SomeIff};
 ghost use Rattle.std.specs.Str.Parse.{IsNumeral, digits_value};
 ghost use Rattle.a2l_text.specs.Numbers.{is_hexadecimal, IsInteger, integer_value, SaysNumber};
 
-use crate::parts::behind;
+use crate::split::behind;
 use std::num::nearest_u64_to_f64;
 
 /// The value of digits, if it is below 2^64.

@@ -3,7 +3,7 @@ ghost use Rattle.std.specs.Prelude.{◌≡◌, length};
 ghost use Rattle.std.specs.List.{after_last};
 ghost use Rattle.a2l_text.specs.Places.{place_at, is_line_feed};
 
-use crate::parts::before;
+use crate::split::before;
 
 /// Where something begins in a text.
 #[derive(Clone, Copy, Debug, PartialEq, Eq)]

@@ -6,27 +6,45 @@ ghost use Rattle.a2l_text.specs.Roles.{after_plain, after_text, may_include, par
 use crate::part::Part;
 use crate::{is, meaning};
 
-/// What an open block is to the reader of a text.
+/// What an open block is to the reader: whether it is a part (`Part`), may have parts in it, or is
+/// passed over. It follows from the block's name and the role of the block around it. In
+///
+/// ```text
+/// /begin PROJECT engine ""
+///   /begin MODULE engine ""
+///     /begin IF_DATA XCP
+///       /begin DAQ STATIC 1 2 0 /begin DAQ_LIST 0 /end DAQ_LIST /end DAQ
+///     /end IF_DATA
+///   /end MODULE
+/// /end PROJECT
+/// ```
+///
+/// PROJECT is `Project` and MODULE `Module`. IF_DATA is `IfData` up to its word `XCP`, and `Xcp`
+/// from there on. DAQ in it is `Gathered(Part::Daq)`, and DAQ_LIST in that is `PassedOver`.
 #[derive(Clone, Copy, Debug, PartialEq, Eq)]
 pub enum Role {
     /// No block: the text itself.
     File,
+    /// PROJECT, which isn't handed on, but the MODULEs in it are.
     Project,
+    /// MODULE: a part in which others stand.
     Module,
-    /// An IF_DATA whose first word isn't read yet.
-    Data,
-    /// In an IF_DATA of XCP.
+    /// An IF_DATA whose first word isn't read yet: it says whose data these are.
+    IfData,
+    /// An IF_DATA of XCP, or a block in it that is no part.
     Xcp,
-    /// In an IF_DATA of XCPplus.
+    /// An IF_DATA of XCPplus, or a block in it that is no part.
     XcpPlus,
-    /// Its words are gathered.
+    /// A part of this kind: the words directly in it are gathered, and are handed on with it.
     Gathered(Part),
-    /// Its name and its words are gathered with those of the part that it stands in.
+    /// A block with options of the part that it stands in, as BIT_OPERATION in a MEASUREMENT: its
+    /// name and its words are gathered with those of the part.
     Joined,
-    /// In A2ML, the grammar of IF_DATA: it is passed over, and may name other files to include.
+    /// A2ML, the grammar of IF_DATA, or a block in it: it is passed over, and may name other files
+    /// to include.
     Grammar,
     /// It is passed over, with all that stands in it.
-    Passed,
+    PassedOver,
 }
 
 impl Role {
@@ -42,18 +60,19 @@ impl Role {
             Role::XcpPlus => plus_block(name),
             Role::Gathered(part) => inside_part(part, name),
             Role::Grammar => Role::Grammar,
-            _ => Role::Passed,
+            _ => Role::PassedOver,
         }
     }
 
-    /// The role behind a word that stands directly in the block.
+    /// The role behind a plain word that stands directly in the block. It changes only behind the
+    /// first word of an IF_DATA.
     pub fn after_plain(self, word: &[u8]) -> Role
         ensures { result ≡ after_plain self word.now }
     {
         match self {
-            Role::Data if is(word, "XCP") => Role::Xcp,
-            Role::Data if is(word, "XCPplus") => Role::XcpPlus,
-            Role::Data => Role::Passed,
+            Role::IfData if is(word, "XCP") => Role::Xcp,
+            Role::IfData if is(word, "XCPplus") => Role::XcpPlus,
+            Role::IfData => Role::PassedOver,
             _ => self,
         }
     }
@@ -63,7 +82,7 @@ impl Role {
         ensures { result ≡ after_text self }
     {
         match self {
-            Role::Data => Role::Passed,
+            Role::IfData => Role::PassedOver,
             _ => self,
         }
     }
@@ -75,7 +94,7 @@ impl Role {
         matches!(self, Role::Grammar)
     }
 
-    /// What the block is, if it is a part.
+    /// The kind of the block, if it is a part.
     pub fn part(self) -> Option<Part>
         ensures { result ≡ part_of self }
     {
@@ -94,7 +113,7 @@ fn inside_part(part: Part, name: &[u8]) -> Role
     match part {
         Part::Measurement if is(name, "BIT_OPERATION") => Role::Joined,
         Part::Daq | Part::PlusDaq if is(name, "TIMESTAMP_SUPPORTED") => Role::Joined,
-        _ => Role::Passed,
+        _ => Role::PassedOver,
     }
 }
 
@@ -102,7 +121,7 @@ fn inside_part(part: Part, name: &[u8]) -> Role
 fn module_block(name: &[u8]) -> Role
     ensures { result ≡ module_block name.now }
 {
-    meaning(name, &MODULE_BLOCKS).unwrap_or(Role::Passed)
+    meaning(name, &MODULE_BLOCKS).unwrap_or(Role::PassedOver)
 }
 
 /// The blocks directly in a MODULE that aren't passed over.
@@ -113,7 +132,7 @@ const MODULE_BLOCKS: [(&str, Role); 8] = [
     ("COMPU_VTAB", Role::Gathered(Part::Table)),
     ("COMPU_VTAB_RANGE", Role::Gathered(Part::Ranges)),
     ("MOD_COMMON", Role::Gathered(Part::Defaults)),
-    ("IF_DATA", Role::Data),
+    ("IF_DATA", Role::IfData),
     ("A2ML", Role::Grammar),
 ];
 

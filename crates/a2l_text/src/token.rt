@@ -10,7 +10,7 @@ ghost use Rattle.a2l_text.specs.declared.kind.Kind.TheVariants.{Plain as PlainKi
 use crate::fault::WordFault;
 use crate::fronts::plain_len;
 use crate::in_text::in_text_len;
-use crate::parts::{before, behind};
+use crate::split::{before, behind};
 use crate::word::Word;
 
 /// A word, and how many bytes it has in its text.

@@ -10,7 +10,7 @@ ghost use Rattle.a2l_text.specs.State.{rest_of, from_of};
 use crate::fault::WordFault;
 use crate::gap::gap_len;
 use crate::kind::{Kind, kind_at};
-use crate::parts::behind;
+use crate::split::behind;
 use crate::token::{plain_word, quoted_word};
 use crate::word::Word;
 use std::marker::Model;

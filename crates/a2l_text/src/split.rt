@@ -1,4 +1,4 @@
-//! A text is split at an offset.
+//! What stands before an offset of a text, and what stands behind it.
 ghost use Rattle.std.specs.Prelude.{◌≡◌, ◌≤◌, take, drop, length};
 
 /// The bytes before an offset.
