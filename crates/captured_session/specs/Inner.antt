@@ -47,6 +47,7 @@ entry_behind (Some xs) Unwritten = Some xs
 entry_behind (Some xs) (Is x) = Some (xs ++ x ∷ [])
 
 -- behind ODTs of which these are known
-abbrev pub odt_behind : Option (List (List Element)) → Option (List Element) → Option (List (List Element))
+abbrev pub odt_behind :
+    Option (List (List Element)) → Option (List Element) → Option (List (List Element))
 odt_behind (Some odts) (Some odt) = Some (odts ++ odt ∷ [])
 odt_behind _ _ = None

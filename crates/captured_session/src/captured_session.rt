@@ -38,7 +38,9 @@ impl CapturedSession {
     ghost use Rattle.captured_session.specs.SetUps.{session_after};
     ghost use Rattle.captured_session.specs.declared.form.Form.{Form};
     ghost use Rattle.captured_session.specs.declared.limits.TheConstants.{MAX_FACTS};
-    ghost use Rattle.captured_session.specs.declared.session_fault.SessionFault.TheVariants.{ManyFacts};
+    ghost use Rattle.captured_session.specs.declared.session_fault.SessionFault.TheVariants.{
+      ManyFacts,
+    };
 
     /// Nothing was heard. Packets look like this until the slave says otherwise.
     pub fn new(alloc: Global, form: Form) -> CapturedSession

@@ -1,7 +1,8 @@
 //! What commands tell of DAQ lists.
 ghost use Rattle.std.specs.Prelude.{◌≡◌, ◌++◌, ℕ, List, OnOk, None};
 ghost use Rattle.captured_session.specs.SetUps.{element_at, element_of, fact_of, facts_of};
-ghost use Rattle.captured_session.specs.SetUps.{first_pid_in, frees, in_list, write_at, writes_from};
+ghost use Rattle.captured_session.specs.SetUps.{first_pid_in, frees, in_list, write_at};
+ghost use Rattle.captured_session.specs.SetUps.{writes_from};
 ghost use Rattle.captured_session.specs.declared.fact.Fact.{Fact};
 
 use crate::command::{Command, dword};

@@ -1,8 +1,10 @@
 //! The DAQ lists of a set-up.
-ghost use Rattle.std.specs.Prelude.{◌≡◌, ◌+◌, ◌≤◌, All, IfOk, IfSome, length, Ok, None, Some, false, map, option_map, true};
+ghost use Rattle.std.specs.Prelude.{◌≡◌, ◌+◌, ◌≤◌, All, IfOk, IfSome, length, Ok, None, Some};
+ghost use Rattle.std.specs.Prelude.{false, map, option_map, true};
 ghost use Rattle.std.specs.List.{range_with_len};
 ghost use Rattle.captured_session.specs.Inner.{entry_behind};
-ghost use Rattle.captured_session.specs.Lists.{all_of, entry_at, list_at, list_of, odt_at, odts_at, written};
+ghost use Rattle.captured_session.specs.Lists.{all_of, entry_at, list_at, list_of, odt_at};
+ghost use Rattle.captured_session.specs.Lists.{odts_at, written};
 
 use crate::captured_list::CapturedList;
 use crate::element::Element;

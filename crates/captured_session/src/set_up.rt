@@ -35,15 +35,17 @@ impl Model for SetUp {
 }
 
 impl SetUp {
-    ghost use Rattle.std.specs.Prelude.{◌≡◌, ◌∷◌, ◌++◌, [], ◌+◌, ◌<◌, List, Err, OnErr, OnOk, length};
-    ghost use Rattle.std.specs.Prelude.{if◌then◌else◌};
+    ghost use Rattle.std.specs.Prelude.{◌≡◌, ◌∷◌, ◌++◌, [], ◌+◌, ◌<◌, List, Err, OnErr, OnOk};
+    ghost use Rattle.std.specs.Prelude.{length, if◌then◌else◌};
     ghost use Rattle.std.specs.Option.{option_copied};
     ghost use Rattle.captured_session.specs.Exchanges.{Exchange};
     ghost use Rattle.captured_session.specs.Inner.{behind};
     ghost use Rattle.captured_session.specs.SetUps.{facts_of, frees, set_up_after};
     ghost use Rattle.captured_session.specs.declared.form.Form.{Form};
     ghost use Rattle.captured_session.specs.declared.limits.TheConstants.{MAX_FACTS};
-    ghost use Rattle.captured_session.specs.declared.session_fault.SessionFault.TheVariants.{ManyFacts};
+    ghost use Rattle.captured_session.specs.declared.session_fault.SessionFault.TheVariants.{
+      ManyFacts,
+    };
 
     /// Nothing is known but how packets look.
     pub fn new(alloc: Global, form: Form) -> SetUp

@@ -1,13 +1,13 @@
 -- A TCP segment.
-use Rattle.std.specs.Prelude.{ℕ, ◌*◌, ◌/◌, ◌%◌, ◌≤◌, Bool, nat_eq, if◌then◌else◌, List, drop, length}
-use Rattle.std.specs.Prelude.{Option, Some, None, slice_index}
+use Rattle.std.specs.Prelude.{ℕ, ◌*◌, ◌/◌, ◌%◌, ◌≤◌, Bool, nat_eq, if◌then◌else◌, List, drop}
+use Rattle.std.specs.Prelude.{length, Option, Some, None, slice_index}
 use Rattle.measured_values.specs.declared.byte_order.ByteOrder.TheVariants.{MsbFirst}
 use Rattle.capture.specs.Numbers.{field}
 use Rattle.datagrams.specs.declared.segment.Segment.{Segment}
 
 -- its ports, the number of its first byte, that of the byte its sender waits for, if it tells one
--- (ACK), whether it begins a connection (SYN), ends one (FIN) or
--- breaks it off (RST), and what it carries
+-- (ACK), whether it begins a connection (SYN), ends one (FIN) or breaks it off (RST), and what it
+-- carries
 pub record SegmentOf : Type 0 where
   pub from_port : ℕ
   pub to_port : ℕ
