@@ -13,7 +13,8 @@ use crate::left::Left;
 use crate::said::{Reference, name_in};
 use std::alloc::Global;
 
-/// The six coefficients of a RAT_FUNC (ASAM MCD-2 MC, COEFFS).
+/// The six coefficients of a RAT_FUNC (ASAM MCD-2 MC, COEFFS): of a physical value `x` the raw
+/// value is `(a * x * x + b * x + c) / (d * x * x + e * x + f)`.
 #[derive(Clone, Copy)]
 pub struct Coefficients {
     pub a: f64,
@@ -24,7 +25,8 @@ pub struct Coefficients {
     pub f: f64,
 }
 
-/// The two coefficients of a LINEAR (ASAM MCD-2 MC, COEFFS_LINEAR).
+/// The two coefficients of a LINEAR (ASAM MCD-2 MC, COEFFS_LINEAR): of a raw value `x` the physical
+/// value is `factor * x + offset`.
 #[derive(Clone, Copy)]
 pub struct Line {
     pub factor: f64,
@@ -34,12 +36,16 @@ pub struct Line {
 /// What the options of a COMPU_METHOD say (ASAM MCD-2 MC, COMPU_METHOD).
 #[derive(Drop)]
 pub struct MethodOptions {
+    /// COEFFS.
     pub coefficients: Option<Coefficients>,
+    /// COEFFS_LINEAR.
     pub line: Option<Line>,
+    /// COMPU_TAB_REF: the name of a table of texts.
     pub table: Option<Reference>,
 }
 
 impl MethodOptions {
+    /// No option is given.
     fn none() -> MethodOptions
         ensures { method_options_seen result ≡ no_method_options }
     {
@@ -119,7 +125,7 @@ fn option_of(
     }
 }
 
-/// The six numbers that come first.
+/// The coefficients that the first six words say, from `a` to `f`.
 #[tactic(auto, unfolding(crate::specs::MethodSaid::coefficients_said))]
 fn coefficients_in(left: Left<'_, '_>) -> Result<Coefficients, EntryFault>
     ensures { Gives (λ x. x) result (coefficients_said (tokens_of left.entry)) }

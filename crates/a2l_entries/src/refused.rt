@@ -2,18 +2,29 @@
 use std::error::Error;
 use std::fmt::{self, Display};
 
-/// What is refused at a place of a text.
+/// What is refused at a place of a text. Where something else was expected there, `Awaited` says
+/// what.
 #[derive(Clone, Copy, Debug, PartialEq, Eq)]
 pub enum Refused {
+    /// The whole text is longer than 64 MiB.
     TooLarge,
+    /// `/include`, but in A2ML: other files aren't read.
     Include,
+    /// More than 64 blocks stand in one another.
     TooDeep,
+    /// A name or a text is longer than 1,024 bytes.
     TooLong,
+    /// LITTLE_ENDIAN or BIG_ENDIAN as a byte order.
     OldByteOrder,
+    /// A MEASUREMENT names a COMPU_METHOD that its MODULE doesn't have.
     NoMethod,
+    /// A COMPU_METHOD names a table of texts that its MODULE doesn't have.
     NoTable,
+    /// `/end`, and no block is open.
     StrayEnd,
+    /// A text has no closing quote.
     OpenText,
+    /// A comment that begins with `/*` has no `*/`.
     OpenComment,
 }
 

@@ -1,8 +1,12 @@
-//! What blocks of an A2L file tell of one thing, by its number in the standard.
+//! What blocks of an A2L file tell of one property of a slave's packets, such as the byte order: a
+//! number, nothing, or numbers that contradict one another.
 ghost use Rattle.std.specs.Prelude.{◌≡◌};
 ghost use Rattle.a2l_entries.specs.FormSaid.{number_told, told_and};
 
-/// What blocks tell of one thing, by its number (ASAM MCD-1 XCP, protocol layer).
+/// What a block, or several together, tell of one property of a slave's packets. The number is the
+/// one that the slave itself answers for it (ASAM MCD-1 XCP, protocol layer); the fields of
+/// `PacketForm` say what it means. For example, a PROTOCOL_LAYER with BYTE_ORDER_MSB_LAST tells
+/// `Number(0)` of the byte order.
 #[derive(Clone, Copy, Debug, PartialEq, Eq)]
 pub enum Told {
     /// Nothing.
@@ -14,7 +18,8 @@ pub enum Told {
 }
 
 impl Told {
-    /// What two blocks tell together.
+    /// What two blocks tell together: the number that one of them tells, if the other tells the
+    /// same or nothing.
     pub fn and(self, other: Told) -> Told
         ensures { result ≡ told_and self other }
     {

@@ -1,5 +1,6 @@
 //! A picture of what was measured: a curve for each measurement, gathered in one pass and in
-//! bounded memory, and written as SVG.
+//! bounded memory, and written as SVG. `CurvePicture` keeps a row for each measurement, in which
+//! the axis is divided into bins; what a bin keeps of its values is a stretch of the curve.
 #![tactic(auto)]
 
 mod axis;
