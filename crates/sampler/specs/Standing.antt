@@ -1,4 +1,7 @@
--- A sampler stands after a past.
+-- How a sampler is joined to its past. A past is what its event channel was opened with, the events
+-- that were accepted since, and for each list that was due whether its sample was accepted (Past).
+-- A sampler stands after a past if all that it keeps is as this past says. It keeps no past itself:
+-- contracts speak of every past that it stands after.
 use Rattle.std.specs.Prelude.{◌≡◌, ℕ, ◌+◌, ◌<◌, Bool, false, ◌&&◌, ◌||◌, Some, slice_get}
 use Rattle.std.specs.Prelude.{List, [], ◌∷◌, ◌++◌, length, map, take, count_by}
 use Rattle.xcp_base.specs.declared.item.Item.{Item}
@@ -35,7 +38,9 @@ DropsOnlyWhenFull capacity cost past =
     (items o (before ++ Trigger image stamp ∷ []) (take j d))
     (sample o past.history d j plan image stamp)
 
--- a sampler stands after a past
+-- a sampler stands after a past: its channel and its plans are those of the opening, there is a
+-- decision for each list that was due, the items of the past were sent and no others, its tracks
+-- and its counts are those of the past, and samples were dropped only when the ring was full
 pub record StandsAfter
     {S E : Type 0} (send : SendGhosts S E) (ring : EndGhosts E) (s : SamplerState S) (past : Past)
     : Type 0 where
@@ -49,7 +54,7 @@ pub record StandsAfter
   pub accepted : s.accepted ≡ accepted_in past.decisions
   pub drops : DropsOnlyWhenFull (send.capacity s.end) ring.cost past
 
--- what is left of a sampler stands after what the sampler stood after
+-- the same of what is left of a sampler that was finished: it has counts in place of tracks
 pub record EndStandsAfter (s : JoinedEnd) (past : Past) : Type 0 where
   pub channel : s.channel ≡ past.opening.channel
   pub plans : s.plans ≡ past.opening.plans
@@ -60,8 +65,8 @@ pub record EndStandsAfter (s : JoinedEnd) (past : Past) : Type 0 where
       s.counts ≡ map (λ (plan : ListPlan). counts_of (pairs_of plan.list pairs)) past.opening.plans
   pub drops : DropsOnlyWhenFull s.capacity s.cost past
 
--- whatever the one stands after, the other stands after that with this event more, for which
--- nothing is decided
+-- an event for which nothing is decided, as a start, leads from one sampler to the other: whatever
+-- past the one stands after, the other stands after that past with this event more
 abbrev pub GoesOn :
     {S E : Type 0} → SendGhosts S E → EndGhosts E → SamplerState S → SamplerState S → Event → Type 0
 GoesOn send ring before after event =
@@ -72,7 +77,8 @@ GoesOn send ring before after event =
 abbrev pub decisions_of : Taken → Past → Event → List Bool
 decisions_of taken past event = are_in taken.accepted (due_next past event)
 
--- the past that a trigger leads to which took the lists so
+-- the past with a trigger of this image and stamp more, at which just the samples of these lists
+-- were accepted
 abbrev pub after_trigger : Taken → Past → List ℕ → ℕ → Past
 after_trigger taken past image stamp =
     one_more past (Trigger image stamp) (decisions_of taken past (Trigger image stamp))

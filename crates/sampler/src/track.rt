@@ -28,13 +28,14 @@ pub struct Track {
     pub running: bool,
     /// The trigger at which it is due next, counted from 0; `NEVER` if it does not run.
     pub next: u64,
-    /// Its last due sample was dropped.
+    /// Its last due sample was dropped, so its next one carries the overload indication.
     pub pending: bool,
+    /// How often it was due so far, and what became of its samples.
     pub counts: ListCounts,
 }
 
 impl Track {
-    /// The same, started when so many triggers were accepted.
+    /// The same, started when so many triggers were accepted: the list is due at the next one.
     pub fn started(self, triggers: u64) -> Track
         ensures { result ≡ record self { running = true; next = triggers } }
     {
@@ -45,7 +46,7 @@ impl Track {
         }
     }
 
-    /// The same, stopped.
+    /// The same, stopped. Whether its last due sample was dropped stays.
     pub fn stopped(self) -> Track
         ensures { result ≡ record self { running = false; next = NEVER } }
     {

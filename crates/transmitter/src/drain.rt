@@ -1,4 +1,5 @@
-//! Looks at what is left in the rings once all send ends were finished, and empties them.
+//! The end of a transmission. Once all send ends were finished, nothing more is sent: the
+//! transmitter looks at each ring, so that all items left in it are known, and empties the rings.
 ghost use Rattle.std.specs.Prelude.{◌≡◌, ◌≢◌, ℕ, ◌<◌, ◌↔◌, IsTrue, true, false};
 ghost use Rattle.std.specs.Prelude.{[], ◌++◌, length, map};
 ghost use Rattle.sampler.specs.State.{joined, sent_by};
@@ -11,7 +12,8 @@ use channel_ring::TakeEnd;
 use frame_writer::Out;
 use sampler::SamplerEnd;
 
-/// Looks at all that was sent to ring `c`, and tells whether an item is left.
+/// Looks at all that was sent to ring `c`, so that each item left in it is known from then on, and
+/// tells whether there is one.
 fn look_at<T: TakeEnd>(takes: &mut Vec<T>, ends: &mut [SamplerEnd<T::End>], c: usize) -> bool
     requires rings { map T.ring takes.old.items ≡ map (λ e. T.End.ring e.end) ends.old }
     requires ring { c < length ends.old }
@@ -29,7 +31,8 @@ fn look_at<T: TakeEnd>(takes: &mut Vec<T>, ends: &mut [SamplerEnd<T::End>], c: u
     end.after(take) > 0
 }
 
-/// Looks at all that was sent, and tells whether an item is left.
+/// Looks at all that was sent to all rings, so that each item left in them is known from then on,
+/// and tells whether there is one.
 fn look<T: TakeEnd>(takes: &mut Vec<T>, ends: &mut [SamplerEnd<T::End>]) -> bool
     requires rings { map T.ring takes.old.items ≡ map (λ e. T.End.ring e.end) ends.old }
     ensures stay { AllStay T.TakeEnd T.End.RingEnd takes.old.items takes.new.items
@@ -81,9 +84,9 @@ impl<O: Out, T: TakeEnd> Transmitter<O, T> {
 
     /// Pumps until every ring is known to be empty.
     ///
-    /// `ends` are those of the rings of event channels 0, 1, .. Refused with `Closed` where the
-    /// writer failed earlier, even where nothing is left; a pump's `Failed` or `Spent` leaves what
-    /// the pumps so far left.
+    /// `ends` are those of the rings of event channels 0, 1, .. Refused with `Closed` if the writer
+    /// failed earlier, even if nothing is left. If a pump is refused with `Failed` or `Spent`, this
+    /// is refused so too, and nothing more is taken.
     pub fn drain(&mut self, ends: &mut [SamplerEnd<T::End>]) -> Result<(), PumpFault>
         requires one_rings { AreOfRings T.End.RingEnd (transmission O.Out T.TakeEnd self.old)
             ends.old }
