@@ -1,2 +1,5 @@
 pub mod Talks
 pub mod Heard
+pub mod Said
+pub mod Slaves
+pub mod Reads

@@ -26,10 +26,15 @@ pub struct IpData<'b> {
 
 impl<'b> IpData<'b> {
     ghost use Rattle.std.specs.Prelude.{◌≡◌, ◌↔◌, ℕ, IfSome, IsNone, IsTrue};
-    ghost use Rattle.capture_recording.specs.Talks.{HasPorts};
+    ghost use Rattle.datagrams.specs.Ip.{ip_of};
+    ghost use Rattle.datagrams.specs.Whole.{whole_of};
+    ghost use Rattle.capture_recording.specs.Said.{IsBehind, data_in};
+    ghost use Rattle.capture_recording.specs.Talks.{HasPorts, data_of};
 
     /// By a packet that is whole.
-    pub fn by_packet(packet: &IpPacket<'b>) -> IpData<'b> {
+    pub fn by_packet(packet: &IpPacket<'b>) -> IpData<'b>
+        ensures { IsBehind (data_in (ip_of packet.now)) (data_of result) }
+    {
         IpData {
             from: packet.from,
             to: packet.to,
@@ -40,7 +45,9 @@ impl<'b> IpData<'b> {
     }
 
     /// By the parts of a datagram.
-    pub fn by_parts(whole: &'b WholeDatagram) -> IpData<'b> {
+    pub fn by_parts(whole: &'b WholeDatagram) -> IpData<'b>
+        ensures { IsBehind (whole_of whole.now) (data_of result) }
+    {
         IpData {
             from: &whole.from,
             to: &whole.to,
@@ -52,25 +59,30 @@ impl<'b> IpData<'b> {
 
     /// What stands behind the headers of version 6 that extend others, which a part of a datagram
     /// may begin with.
-    fn behind_extensions(self) -> IpData<'b> {
+    fn behind_extensions(self) -> IpData<'b>
+        ensures { IsBehind (data_of self.entry) (data_of result) }
+    {
         if self.from.len() != 16 {
             return self;
         }
-        match carried_in(self.protocol, self.payload) {
-            Some(carried) if carried.part.is_none() => IpData {
+        let Some(carried) = carried_in(self.protocol, self.payload) else {
+            return self;
+        };
+        match carried.part {
+            Some(_) => self,
+            None => IpData {
                 protocol: carried.protocol,
                 payload: carried.payload,
                 ..self
             },
-            _ => self,
         }
     }
 
     /// Its ports, of the sender and of the receiver, if it is a datagram of UDP or a segment of
     /// TCP.
     pub fn ports(&self) -> Option<(u16, u16)>
-        ensures some { IfSome result (λ ports. HasPorts self.now (ports.0, ports.1)) }
-        ensures none { IsNone result → (ports : ℕ × ℕ) → HasPorts self.now ports → ⊥ }
+        ensures some { IfSome result (λ ports. HasPorts (data_of self.now) (ports.0, ports.1)) }
+        ensures none { IsNone result → (ports : ℕ × ℕ) → HasPorts (data_of self.now) ports → ⊥ }
     {
         match self.protocol {
             UDP => {

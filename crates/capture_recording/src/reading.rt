@@ -1,8 +1,11 @@
 //! Reads a capture, piece by piece.
-ghost use Rattle.std.specs.Prelude.{◌≡◌, ◌≤◌, IfOk, length};
+ghost use Rattle.std.specs.Prelude.{◌≡◌, ◌≤◌, [], IfOk, OnOk, drop, length, take};
+ghost use Rattle.capture_recording.specs.Reads.{TakesCapture, TakesUnits};
+ghost use Rattle.capture_recording.specs.Slaves.{AllTaken};
 
 use crate::capture_read_fault::CaptureReadFault;
-use crate::slaves::{Sinks, Slaves};
+use crate::sinks::Sinks;
+use crate::slaves::Slaves;
 use capture::{CaptureFault, CaptureReader, Step};
 use program_input::{MAX_TEXT_BYTES, TextFault, is_read_to_end};
 use std::alloc::Global;
@@ -19,11 +22,15 @@ pub fn read_capture<I: Read, K: Sinks + Drop>(
     alloc: Global,
     input: &mut I,
     slaves: &mut Slaves<K>,
-) -> Result<(), CaptureReadFault> {
+) -> Result<(), CaptureReadFault>
+    ensures { (first : K) → AllTaken K.Sink.told K.says K.reads first [] slaves.old
+        → OnOk result (TakesCapture K.Sink.told K.says K.reads first
+        (I.remaining input.old) (I.remaining input.new) slaves.new) }
+{
     let mut chunk = [0; CHUNK];
     let mut held = Vec::new(alloc);
     let mut reader = CaptureReader::new(alloc);
-    for _ in 0..MAX_READS {
+    'pieces: for _ in 0..MAX_READS {
         let taken = take_units(&mut reader, &held, slaves)?;
         drop_front(&mut held, taken);
         if held.len() > MAX_TEXT_BYTES {
@@ -43,7 +50,9 @@ pub fn read_capture<I: Read, K: Sinks + Drop>(
 }
 
 /// What comes of a capture at its end, of which these bytes are left.
-fn ended(held: &[u8]) -> Result<(), CaptureReadFault> {
+fn ended(held: &[u8]) -> Result<(), CaptureReadFault>
+    ensures { OnOk result (held.now ≡ []) }
+{
     if held.is_empty() {
         return Ok(());
     }
@@ -56,20 +65,19 @@ fn take_units<K: Sinks + Drop>(
     held: &[u8],
     slaves: &mut Slaves<K>,
 ) -> Result<usize, CaptureReadFault>
-    ensures { IfOk result (λ taken. taken ≤ length held.now) }
+    ensures within { IfOk result (λ taken. taken ≤ length held.now) }
+    ensures units { IfOk result (λ taken. TakesUnits K.Sink.told K.says K.reads
+        reader.old reader.new slaves.old slaves.new (take taken held.now)) }
 {
     let mut at = 0usize;
-    for _ in 0..held.len() {
-        let Some(bytes) = held.get(at..) else {
-            break;
-        };
-        let taken = take_unit(reader, bytes, slaves)?;
+    'units: for _ in 0..held.len() {
+        let taken = take_unit(reader, &held[at..], slaves)?;
         if taken == 0 {
-            break;
+            return Ok(at);
         }
-        at = at.saturating_add(taken);
+        at += taken;
     }
-    Ok(at.min(held.len()))
+    Ok(at)
 }
 
 /// Takes the next header, record or block, if it is whole, and tells how many bytes it is.
@@ -78,7 +86,9 @@ fn take_unit<K: Sinks + Drop>(
     bytes: &[u8],
     slaves: &mut Slaves<K>,
 ) -> Result<usize, CaptureReadFault>
-    ensures { IfOk result (λ taken. taken ≤ length bytes.now) }
+    ensures within { IfOk result (λ taken. taken ≤ length bytes.now) }
+    ensures units { IfOk result (λ taken. TakesUnits K.Sink.told K.says K.reads
+        reader.old reader.new slaves.old slaves.new (take taken bytes.now)) }
 {
     match reader.next(bytes) {
         Ok(Step::Packet(len, captured)) => {
@@ -96,6 +106,7 @@ fn take_unit<K: Sinks + Drop>(
 /// Drops the first `n` bytes.
 fn drop_front(held: &mut Vec<u8>, n: usize)
     requires { n ≤ length held.old.items }
+    ensures { held.new.items ≡ drop n held.old.items }
 {
     let len = held.len();
     held.as_mut_slice().copy_within(n..len, 0);

@@ -1,5 +1,6 @@
 //! A slave of a capture.
 
+use crate::capture_read_fault::CaptureReadFault;
 use crate::capture_sink::CaptureSink;
 use crate::connection::Connection;
 use crate::ip_data::IpData;
@@ -30,12 +31,15 @@ pub struct Slave<S: CaptureSink + Drop> {
 impl<S: CaptureSink + Drop> Slave<S> {
     ghost use Rattle.std.specs.Prelude.{◌≡◌, ◌≢◌, ◌+◌, ◌∷◌, [], ℕ, List, length, IfOk, OnOk};
     ghost use Rattle.capture_recording.specs.Heard.{AreFrames, HearsDatagram, HearsFrames};
+    ghost use Rattle.capture_recording.specs.Slaves.{Ends, HearsTalk, IsOfDatagrams, IsOneWith};
+    ghost use Rattle.capture_recording.specs.Talks.{data_of};
 
     /// Nothing was heard of it.
     pub fn new(alloc: Global, address: IpAddr, samples: SlaveSamples, sink: S) -> Slave<S>
         ensures address { result.address ≡ address }
         ensures samples { result.samples ≡ samples }
         ensures sink { result.sink ≡ sink }
+        ensures plain { IsOfDatagrams result }
     {
         Slave {
             address,
@@ -46,12 +50,29 @@ impl<S: CaptureSink + Drop> Slave<S> {
         }
     }
 
+    /// What it and a master say to one another, captured at this time: the frames of a datagram of
+    /// UDP, or of the bytes that come next with a segment of TCP.
+    pub fn hear(
+        &mut self,
+        time: Option<i64>,
+        talk: Talk,
+        carried: &IpData<'_>,
+    ) -> Result<(), CaptureReadFault>
+        ensures { OnOk result
+            (HearsTalk S.told (data_of carried.now) talk.is_of_master self.old self.new) }
+    {
+        self.sink.set_time(time);
+        match self.hear_carried(talk, carried) {
+            Ok(()) => Ok(()),
+            Err(fault) => Err(CaptureReadFault::of_session(fault)),
+        }
+    }
+
     /// What it and a master say to one another: the frames of a datagram of UDP, or of the bytes
     /// that come next with a segment of TCP.
-    pub fn hear(&mut self, talk: Talk, carried: &IpData<'_>) -> Result<(), SessionFault>
-        ensures datagram { carried.now.protocol ≢ 6
-            → OnOk result (HearsDatagram talk.is_of_master carried.now.payload.now
-            self.old.samples self.new.samples (S.told self.old.sink) (S.told self.new.sink)) }
+    fn hear_carried(&mut self, talk: Talk, carried: &IpData<'_>) -> Result<(), SessionFault>
+        ensures { OnOk result
+            (HearsTalk S.told (data_of carried.now) talk.is_of_master self.old self.new) }
     {
         if !carried.is_segment() {
             return self.hear_datagram(talk.is_of_master, carried.payload);
@@ -64,8 +85,9 @@ impl<S: CaptureSink + Drop> Slave<S> {
 
     /// A datagram of UDP, if these bytes are one.
     fn hear_datagram(&mut self, is_of_master: bool, bytes: &[u8]) -> Result<(), SessionFault>
-        ensures { OnOk result (HearsDatagram is_of_master bytes.now
+        ensures heard { OnOk result (HearsDatagram is_of_master bytes.now
             self.old.samples self.new.samples (S.told self.old.sink) (S.told self.new.sink)) }
+        ensures stays { OnOk result (IsOneWith self.old self.new) }
     {
         let Some(datagram) = udp_in(bytes) else {
             return Ok(());
@@ -75,20 +97,40 @@ impl<S: CaptureSink + Drop> Slave<S> {
     }
 
     /// What waits behind holes in connections, at the end of the capture.
-    pub fn give_up_holes(&mut self) -> Result<(), SessionFault> {
-        for place in 0..self.connections.len() {
-            for is_of_master in [true, false] {
-                if let Some(connection) = self.connections.get_mut(place) {
-                    connection.flow(is_of_master).give_up_holes();
-                }
-                self.hear_flow(place, is_of_master)?;
+    pub fn give_up_holes(&mut self) -> Result<(), CaptureReadFault>
+        ensures { OnOk result (Ends self.old self.new) }
+    {
+        'connections: for place in 0..self.connections.len() {
+            match self.give_up_in(place) {
+                Ok(()) => {}
+                Err(fault) => return Err(CaptureReadFault::of_session(fault)),
             }
         }
         Ok(())
     }
 
+    /// What waits behind holes in one of them.
+    fn give_up_in(&mut self, place: usize) -> Result<(), SessionFault>
+        ensures { OnOk result (self.new.address ≡ self.old.address) }
+    {
+        self.give_up(place, true)?;
+        self.give_up(place, false)
+    }
+
+    /// What waits in one direction of it.
+    fn give_up(&mut self, place: usize, is_of_master: bool) -> Result<(), SessionFault>
+        ensures { OnOk result (self.new.address ≡ self.old.address) }
+    {
+        if let Some(connection) = self.connections.get_mut(place) {
+            connection.flow(is_of_master).give_up_holes();
+        }
+        self.hear_flow(place, is_of_master)
+    }
+
     /// A segment.
-    fn hear_segment(&mut self, talk: Talk, segment: &Segment<'_>) -> Result<(), SessionFault> {
+    fn hear_segment(&mut self, talk: Talk, segment: &Segment<'_>) -> Result<(), SessionFault>
+        ensures { OnOk result (self.new.address ≡ self.old.address) }
+    {
         let place = self.place_of(talk, segment)?;
         if let Some(number) = segment.acknowledged {
             self.hear_acknowledged(place, !talk.is_of_master, number)?;
@@ -109,7 +151,9 @@ impl<S: CaptureSink + Drop> Slave<S> {
         place: usize,
         is_of_master: bool,
         number: u32,
-    ) -> Result<(), SessionFault> {
+    ) -> Result<(), SessionFault>
+        ensures { OnOk result (self.new.address ≡ self.old.address) }
+    {
         let Some(connection) = self.connections.get_mut(place) else {
             return Ok(());
         };
@@ -122,7 +166,9 @@ impl<S: CaptureSink + Drop> Slave<S> {
     }
 
     /// The place of a connection, which may be a new one. The slave counts anew in it.
-    fn place_of(&mut self, talk: Talk, segment: &Segment<'_>) -> Result<usize, SessionFault> {
+    fn place_of(&mut self, talk: Talk, segment: &Segment<'_>) -> Result<usize, SessionFault>
+        ensures { OnOk result (self.new.address ≡ self.old.address) }
+    {
         let known = position_of(&self.connections, talk.master);
         if let Some(place) = known {
             if let Some(connection) = self.connections.get_mut(place) {
@@ -149,8 +195,10 @@ impl<S: CaptureSink + Drop> Slave<S> {
     }
 
     /// What came in one direction of a connection.
-    fn hear_flow(&mut self, place: usize, is_of_master: bool) -> Result<(), SessionFault> {
-        for _ in 0..u64::MAX {
+    fn hear_flow(&mut self, place: usize, is_of_master: bool) -> Result<(), SessionFault>
+        ensures { OnOk result (self.new.address ≡ self.old.address) }
+    {
+        'fetches: for _ in 0..u64::MAX {
             if !self.fetch(place, is_of_master)? {
                 break;
             }
@@ -159,7 +207,9 @@ impl<S: CaptureSink + Drop> Slave<S> {
     }
 
     /// Bytes that came next in it; `false` if none came yet.
-    fn fetch(&mut self, place: usize, is_of_master: bool) -> Result<bool, SessionFault> {
+    fn fetch(&mut self, place: usize, is_of_master: bool) -> Result<bool, SessionFault>
+        ensures { OnOk result (self.new.address ≡ self.old.address) }
+    {
         let Some(connection) = self.connections.get_mut(place) else {
             return Ok(false);
         };
@@ -185,10 +235,11 @@ impl<S: CaptureSink + Drop> Slave<S> {
     /// Frames in their order, as far as they are whole (ASAM MCD-1 XCP, transport layer for
     /// Ethernet, header). Returns how many bytes they are.
     fn hear_frames(&mut self, is_of_master: bool, bytes: &[u8]) -> Result<usize, SessionFault>
-        ensures { IfOk result (λ taken. (fs : List (ℕ × List ℕ)) × (rest : List ℕ)
+        ensures heard { IfOk result (λ taken. (fs : List (ℕ × List ℕ)) × (rest : List ℕ)
             × AreFrames bytes.now fs rest × (taken + length rest ≡ length bytes.now)
             × HearsFrames is_of_master fs self.old.samples self.new.samples
             (S.told self.old.sink) (S.told self.new.sink)) }
+        ensures stays { OnOk result (IsOneWith self.old self.new) }
     {
         let mut rest = bytes;
         'frames: for _ in 0..bytes.len() {
@@ -208,8 +259,9 @@ impl<S: CaptureSink + Drop> Slave<S> {
         counter: u16,
         packet: &[u8],
     ) -> Result<(), SessionFault>
-        ensures { OnOk result (HearsFrames is_of_master ((counter, packet.now) ∷ [])
+        ensures heard { OnOk result (HearsFrames is_of_master ((counter, packet.now) ∷ [])
             self.old.samples self.new.samples (S.told self.old.sink) (S.told self.new.sink)) }
+        ensures stays { OnOk result (IsOneWith self.old self.new) }
     {
         self.sink.frame(is_of_master, counter, packet);
         if is_of_master {

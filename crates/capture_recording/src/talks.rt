@@ -1,6 +1,6 @@
 //! Who talks to whom.
 ghost use Rattle.std.specs.Prelude.{IfSome, IsNone};
-ghost use Rattle.capture_recording.specs.Talks.{IsTalk};
+ghost use Rattle.capture_recording.specs.Talks.{IsTalk, data_of};
 ghost use Rattle.capture_recording.specs.declared.talks.Talk.{Talk};
 
 use crate::ip_data::{IpData, address_of};
@@ -20,8 +20,8 @@ pub struct Talk {
 /// Who talks, of whom the slave has this port: who sends to it is a master. What is sent to several
 /// receivers takes no part.
 pub fn talk_of(carried: &IpData<'_>, port: u16) -> Option<Talk>
-    ensures some { IfSome result (IsTalk port carried.now) }
-    ensures none { IsNone result → (talk : Talk) → IsTalk port carried.now talk → ⊥ }
+    ensures some { IfSome result (IsTalk port (data_of carried.now)) }
+    ensures none { IsNone result → (talk : Talk) → IsTalk port (data_of carried.now) talk → ⊥ }
 {
     let (from_port, to_port) = carried.ports()?;
     let from = address_of(carried.from)?;

@@ -1,2 +1,1 @@
-mod HeldLemmas
 mod ShownLemmas

@@ -1,5 +1,5 @@
 //! Captures: from their file to what is shown.
-ghost use Rattle.std.specs.Prelude.{◌≤◌, IfOk};
+ghost use Rattle.std.specs.Prelude.{◌≡◌, ◌≤◌, ◌↔◌, ⊤, IfOk, IsTrue, MatchOption};
 
 use crate::capture_bytes::CaptureBytes;
 use crate::capture_views::{show_columns, show_lists, show_story};
@@ -10,7 +10,9 @@ use crate::program_fault::ProgramFault;
 use crate::told_form::form_by;
 use crate::whole_program::description_of;
 use a2l::Description;
-use capture_recording::{CaptureReadFault, CaptureSink, Sinks, Slave, Slaves, read_capture};
+use capture_recording::{
+    CaptureReadFault, CaptureSink, Sinks, Slave, Slaves, is_same_address, read_capture,
+};
 use capture_tables::ElementSurvey;
 use captured_samples::Tallies;
 use captured_session::Form;
@@ -43,10 +45,14 @@ struct OneSink<S: CaptureSink + Drop> {
 }
 
 impl<S: CaptureSink + Drop> Sinks for OneSink<S> {
+    ghost use Rattle.std.specs.Prelude.{◌≡◌, IsSome};
+
     type Sink = S;
 
+    ghost reads = { λ one address. (address ≡ one.slave) × IsSome one.sink };
+
     fn sink_of(&mut self, address: IpAddr) -> Option<S> {
-        if address != self.slave {
+        if !is_same_address(address, self.slave) {
             return None;
         }
         self.sink.take()
@@ -61,13 +67,27 @@ struct Surveys {
 }
 
 impl Sinks for Surveys {
+    ghost use Rattle.std.specs.Prelude.{◌≡◌, ⊤, MatchOption};
+
     type Sink = ElementSurvey;
 
+    ghost reads = { λ all address. MatchOption all.chosen ⊤ (λ chosen. address ≡ chosen) };
+
     fn sink_of(&mut self, address: IpAddr) -> Option<ElementSurvey> {
-        if self.chosen.is_some() && self.chosen != Some(address) {
+        if !is_chosen(self.chosen, address) {
             return None;
         }
         Some(ElementSurvey::new(self.alloc))
+    }
+}
+
+/// Whether the slave at an address is meant.
+fn is_chosen(chosen: Option<IpAddr>, address: IpAddr) -> bool
+    ensures { IsTrue result ↔ MatchOption chosen ⊤ (λ a. address ≡ a) }
+{
+    match chosen {
+        Some(chosen) => is_same_address(address, chosen),
+        None => true,
     }
 }
 

@@ -1,0 +1,9 @@
+use Rattle.std.proofs.Common.{◌≤◌, length, take}
+use Rattle.capture_recording.specs.Reads.{TakesUnits}
+use Rattle.capture_recording.proofs.reading.take_units.Given as goal
+
+-- the bytes before were taken
+abbrev pub invariant-units : goal.invariant-units
+invariant-units g l =
+    (l.at ≤ length l.held)
+    × TakesUnits g.K.Sink.SampleSink.told g.K.Sinks.says g.K.Sinks.reads l.fn.reader l.reader l.fn.slaves l.slaves (take l.at l.held)
