@@ -6,10 +6,7 @@ use Rattle.std.specs.Cmp.{booleans_Decides}
 use Rattle.std.specs.Cmp.Lexicographic.{pointwise}
 use Rattle.std.proofs.lemmas.Bool.Decides.{Decides-and, Decides-eqb, Decides-like}
 use Rattle.std.proofs.lemmas.Slice.Eq.{slice_eq-Decides}
-use denote.Enum.Bare.{sameb, same_true, true_same}
-use Rattle.measured_values.specs.contracts.byte_order.ByteOrder as ByteOrders
-use Rattle.captured_session.specs.contracts.id_field.IdField as IdFields
-use Rattle.measured_values.specs.declared.byte_order.ByteOrder.{ByteOrder}
+use Rattle.captured_session.proofs.SameForms.{has_same, is_same, same_field, same_order}
 use Rattle.captured_session.specs.Alike.{ReadsAlike, SamePids}
 use Rattle.captured_session.specs.Lists.{ListOf}
 use Rattle.captured_session.specs.declared.element.Element.{Element}
@@ -20,62 +17,16 @@ use Rattle.captured_session.specs.declared.list_mode.ListMode.{ListMode}
 use Rattle.captured_samples.specs.Standing.{Start}
 use Rattle.captured_samples.specs.Stream.{AlwaysStarts}
 
-same_order : (a b : ByteOrder) → Decides (sameb ByteOrders.the_type a b) (a ≡ b)
-same_order a b = (same_true ByteOrders.the_type (search rules) a b, true_same ByteOrders.the_type a b)
-
-same_field : (a b : IdField) → Decides (sameb IdFields.the_type a b) (a ≡ b)
-same_field a b = (same_true IdFields.the_type (search rules) a b, true_same IdFields.the_type a b)
-
 -- a test of two values
 record Test {A : Type 0} (a b : A) : Type 0 where
   is : Bool
   tells : Decides is (a ≡ b)
 
 -- how packets look
-abbrev SameForms : Form → Form → Type 0
-SameForms a b =
-    (a.has_order ≡ b.has_order) × ((a.order ≡ b.order) × ((a.granularity ≡ b.granularity)
-    × ((a.has_field ≡ b.has_field) × ((a.field ≡ b.field) × ((a.has_overload ≡ b.has_overload)
-    × ((a.has_stamp ≡ b.has_stamp) × ((a.stamp ≡ b.stamp) × (a.ticks ≡ b.ticks))))))))
-
-same_forms : (a b : Form) → SameForms a b → a ≡ b
-same_forms a b h = λ i. record {
-  has_order = h.0 i;
-  order = h.1.0 i;
-  granularity = h.1.1.0 i;
-  has_field = h.1.1.1.0 i;
-  field = h.1.1.1.1.0 i;
-  has_overload = h.1.1.1.1.1.0 i;
-  has_stamp = h.1.1.1.1.1.1.0 i;
-  stamp = h.1.1.1.1.1.1.1.0 i;
-  ticks = h.1.1.1.1.1.1.1.1 i;
-}
-
-forms_same : (a b : Form) → a ≡ b → SameForms a b
-forms_same a b e = (
-  ap (λ (f : Form). f.has_order) e,
-  (
-    ap (λ (f : Form). f.order) e,
-    (
-      ap (λ (f : Form). f.granularity) e,
-      (
-        ap (λ (f : Form). f.has_field) e,
-        (
-          ap (λ (f : Form). f.field) e,
-          (
-            ap (λ (f : Form). f.has_overload) e,
-            (ap (λ (f : Form). f.has_stamp) e, (ap (λ (f : Form). f.stamp) e, ap (λ (f : Form). f.ticks) e)),
-          ),
-        ),
-      ),
-    ),
-  ),
-)
-
 form_test : (a b : Form) → Test a b
 form_test a b = record {
   is = _;
-  tells = Decides-like _ (same_forms a b) (forms_same a b)
+  tells = Decides-like _ (is_same a b) (has_same a b)
       (Decides-and _ _ (booleans_Decides a.has_order b.has_order) (Decides-and _ _ (same_order a.order b.order)
       (Decides-and _ _ (Decides-eqb a.granularity b.granularity) (Decides-and _ _ (booleans_Decides a.has_field b.has_field)
       (Decides-and _ _ (same_field a.field b.field) (Decides-and _ _ (booleans_Decides a.has_overload b.has_overload)

@@ -7,3 +7,4 @@ pub mod NewestLemmas
 pub mod PointerLemmas
 pub mod SetUpLemmas
 pub mod ListLemmas
+pub mod SameForms

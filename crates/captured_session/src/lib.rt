@@ -40,3 +40,4 @@ pub use pointer::Pointer;
 pub use session_fault::SessionFault;
 pub use set_up::SetUp;
 pub use side::Side;
+pub use told_forms::{field_of, order_of};

@@ -28,7 +28,7 @@ fn connected(form: Form, reply: &[u8]) -> Form
     match reply {
         [_, _, mode, ..] => Form {
             has_order: true,
-            order: order_of(*mode),
+            order: order_of(*mode as u16),
             granularity: *mode / 2 % 4,
             ..form
         },
@@ -43,7 +43,7 @@ fn with_processor(form: Form, reply: &[u8]) -> Form
     match reply {
         [_, properties, _, _, _, _, _, key, ..] => Form {
             has_field: true,
-            field: field_of(*key / 64 % 4),
+            field: field_of((*key / 64 % 4) as u16),
             has_overload: *properties / 64 % 2 == 1,
             ..form
         },
@@ -66,8 +66,8 @@ fn with_resolution(form: Form, reply: &[u8]) -> Form
     }
 }
 
-/// The byte order that COMM_MODE_BASIC tells.
-fn order_of(mode: u8) -> ByteOrder
+/// The byte order that COMM_MODE_BASIC tells (ASAM MCD-1 XCP, CONNECT).
+pub fn order_of(mode: u16) -> ByteOrder
     ensures { result ≡ order_of mode }
 {
     if mode % 2 == 0 {
@@ -77,8 +77,9 @@ fn order_of(mode: u8) -> ByteOrder
     }
 }
 
-/// The identification field that the upper bits of DAQ_KEY_BYTE tell.
-fn field_of(kind: u8) -> IdField
+/// The identification field that the upper bits of DAQ_KEY_BYTE tell, by this number (ASAM MCD-1 XCP,
+/// GET_DAQ_PROCESSOR_INFO).
+pub fn field_of(kind: u16) -> IdField
     ensures { result ≡ field_of kind }
 {
     match kind {

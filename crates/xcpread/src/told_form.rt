@@ -1,11 +1,9 @@
 //! How the packets of a slave look until it says so itself, as an A2L file tells it.
 ghost use Rattle.std.specs.Prelude.{◌≡◌};
-ghost use Rattle.captured_session.specs.SetUps.{field_of, order_of};
 ghost use Rattle.xcpread.specs.Forms.{byte_of, form_by, is_clear, is_number, value_of};
 
 use a2l::{PacketForm, Told};
-use captured_session::{Form, IdField};
-use measured_values::ByteOrder;
+use captured_session::{Form, field_of, order_of};
 
 /// How packets look, as far as an A2L file tells it (ASAM MCD-1 XCP, IF_DATA). The identification
 /// field isn't told if it isn't clear how timestamps look, so that no packet is read wrongly.
@@ -55,27 +53,4 @@ fn byte_of(told: Told) -> u8
         return 0;
     }
     value as u8
-}
-
-/// The byte order of a number.
-fn order_of(number: u16) -> ByteOrder
-    ensures { result ≡ order_of number }
-{
-    if number % 2 == 0 {
-        ByteOrder::MsbLast
-    } else {
-        ByteOrder::MsbFirst
-    }
-}
-
-/// The identification field of a number.
-fn field_of(kind: u16) -> IdField
-    ensures { result ≡ field_of kind }
-{
-    match kind {
-        0 => IdField::Absolute,
-        1 => IdField::RelativeByte,
-        2 => IdField::RelativeWord,
-        _ => IdField::RelativeWordAligned,
-    }
 }
