@@ -1,161 +1,66 @@
--- All that was said was heard: one more of it, one slave more, the end.
-use Rattle.std.proofs.Common.{◌≡◌, ◌≢◌, ◌⊎◌, ⊎_elim, ◌↔◌, inl, inr, ℕ, ◌++◌, ◌∷◌, [], Bool, true, false, List, length, set, slice_get, refl, sym, ap, subst, ◌∙◌, Option, Some, None, option_map}
-use Rattle.std.specs.List.{AllByRecursion}
+-- All that was said was heard, and no other slave is met: one more of it, the end.
+use Rattle.std.proofs.Common.{◌≡◌, ℕ, ◌∷◌, Bool, List, inr, set, slice_get, sym, subst, Option, Some}
 use Rattle.std.specs.declared.net.ip_addr.IpAddr.{IpAddr}
 use Rattle.captured_samples.specs.Standing.{Told}
-use Rattle.captured_samples.specs.Slaves.{StandsAfter}
-use Rattle.captured_samples.specs.Standing.{Start}
-use Rattle.datagrams.specs.Waiting.{WholeOf}
-use Rattle.capture_recording.specs.Slaves.{AllEnd, AllHeard, AreApart, EndsAt, Follows, HearsTalk, IsElse, IsHeard, IsMet, IsOfDatagrams, NoSegments, SlavesOf, address_at}
+use Rattle.datagrams.specs.Waiting.{PartsOf, WholeOf}
+use Rattle.capture_recording.specs.Slaves.{AllEnd, AllHeard, AllTalked, EachHeard, HearsTalk, MeetsOnly, SlavesOf}
 use Rattle.capture_recording.specs.Talks.{IsTalk}
 use Rattle.capture_recording.specs.declared.slave.Slave.{Slave}
 use Rattle.capture_recording.specs.declared.talks.Talk.{Talk}
-use Rattle.capture_recording.proofs.SlavesLemmas.{apart-along, apart-more, at-place, came-nothing, follows-else, follows-more, got-more, got-other, got-same, heard-along, met-along, met-front, met-last, met-more, same-addresses, same-or-other, some-same}
-
-same-at : {S : Type 0} (o p : Option (Slave S)) → EndsAt o p
-    → option_map (λ (t : Slave S). t.address) p ≡ option_map (λ (t : Slave S). t.address) o
-same-at None None e = refl
-same-at None (Some t) e = absurd e
-same-at (Some s) None e = absurd e
-same-at (Some s) (Some t) e = ap Some e.address
-
-iff-both : {A B C : Type 0} → A ↔ B → B ↔ C → A ↔ C
-iff-both one two = (λ a. two.0 (one.0 a), λ c. one.1 (two.1 c))
+use Rattle.capture_recording.proofs.EachHeardLemmas.{heard-end, heard-more, heard-nobody, heard-unread, same-at}
+use Rattle.capture_recording.proofs.SlavesLemmas.{met-along, same-addresses, talked-more}
 
 module _ {K S : Type 0} (told : S → Option (List Told)) (says : K → Bool) (reads : K → IpAddr → Type 0) (first : K) where
-  -- nobody talked of whom samples are read
-  heard-else : (said : List WholeOf) (x : SlavesOf K S) (d : WholeOf) → AllHeard told says reads first said x
-      → IsHeard (reads first) x.port x.slaves d → ((a : IpAddr) → IsMet a x.slaves → IsElse x.port a d)
-      → AllHeard told says reads first (d ∷ said) x
-  heard-else said x d all one others = record {
-    each = λ i s at none. follows-else told (says first) x.form x.port said d s (all.each i s at none.1)
-        (others s.address (i, at-place x.slaves i s at));
-    heard = (one, all.heard);
-    apart = all.apart;
-    read = all.read;
-    left = all.left;
-    says_on = all.says_on;
-  }
-
-  pub heard-nobody : (said : List WholeOf) (x : SlavesOf K S) (d : WholeOf) → AllHeard told says reads first said x
+  pub all-nobody : (said : List WholeOf) (x : SlavesOf K S) (d : WholeOf) → AllHeard told says reads first said x
       → ((talk : Talk) → IsTalk x.port d talk → ⊥) → AllHeard told says reads first (d ∷ said) x
-  heard-nobody said x d all none = heard-else said x d all (inl none) (λ a met. inl none)
-
-  pub heard-unread : (said : List WholeOf) (x : SlavesOf K S) (d : WholeOf) (talk : Talk) → AllHeard told says reads first said x
-      → IsTalk x.port d talk → (reads first talk.slave → ⊥) → AllHeard told says reads first (d ∷ said) x
-  heard-unread said x d talk all is unread =
-      heard-else said x d all (inr (talk, is, inl unread))
-      (λ a met. inr (talk, is, λ e. unread (subst (reads first) (sym e) (all.read a met))))
-
-  -- the slave at a place heard it
-  pub heard-more : (said : List WholeOf) (x : SlavesOf K S) (d : WholeOf) (talk : Talk) (i : ℕ) (was is : Slave S)
-      → AllHeard told says reads first said x → IsTalk x.port d talk → slice_get x.slaves i ≡ Some was
-      → was.address ≡ talk.slave → HearsTalk told d talk.is_of_master was is
-      → AllHeard told says reads first (d ∷ said) (record x { slaves = set x.slaves i is })
-  heard-more said x d talk i was is all talks at own hears =
-      let same : (j : ℕ) → address_at (set x.slaves i is) j ≡ address_at x.slaves j =
-      same-addresses x.slaves i was is at hears.address in
-      let met : (a : IpAddr) → IsMet a x.slaves → IsMet a (set x.slaves i is) =
-      met-along x.slaves (set x.slaves i is) same in
-      let unmet : (a : IpAddr) → IsMet a (set x.slaves i is) → IsMet a x.slaves =
-      met-along (set x.slaves i is) x.slaves (λ j. sym (same j)) in
-      let own-at : address_at x.slaves i ≡ Some talk.slave = at-place x.slaves i was at ∙ ap Some own in
-      record {
-        each = λ j s at_j none.
-            ⊎_elim
-            (λ (e : i ≡ j).
-            let s-is : is ≡ s = some-same is s (sym (got-same x.slaves i was is at)
-            ∙ subst (λ (k : ℕ). slice_get (set x.slaves i is) k ≡ Some s) (sym e) at_j) in
-            let of_s : talk.slave ≡ s.address = sym own ∙ sym hears.address ∙ ap (λ (t : Slave S). t.address) s-is in
-            let of_was : s.address ≡ was.address = sym of_s ∙ sym own in
-            subst (λ (t : Slave S). Follows told (says first) x.form x.port (d ∷ said) t) s-is
-            (follows-more told (says first) x.form x.port said d talk was is
-            (all.each i was at (subst (λ (a : IpAddr). NoSegments x.port a said) of_was none.1))
-            talks own (none.0 talk talks of_s) hears))
-            (λ (n : i ≢ j).
-            let at_x : slice_get x.slaves j ≡ Some s = sym (got-other x.slaves i j is n) ∙ at_j in
-            follows-else told (says first) x.form x.port said d s (all.each j s at_x none.1)
-            (inr (talk, talks, λ e. n (all.apart i j talk.slave own-at (at-place x.slaves j s at_x ∙ ap Some (sym e))))))
-            (same-or-other i j);
-        heard = (
-          inr (talk, talks, inr (met talk.slave (i, own-at))),
-          heard-along (reads first) x.port x.slaves (set x.slaves i is) met said all.heard,
-        );
-        apart = apart-along x.slaves (set x.slaves i is) same all.apart;
-        read = λ a m. all.read a (unmet a m);
-        left = λ a m. all.left a (λ k. m (met a k));
-        says_on = all.says_on;
-      }
-
-  -- a slave is met for the first time
-  pub heard-met : (said : List WholeOf) (x : SlavesOf K S) (s : Slave S) (sinks : K)
-      → AllHeard told says reads first said x → (IsMet s.address x.slaves → ⊥) → reads x.sinks s.address
-      → ((a : IpAddr) → a ≢ s.address → reads sinks a ↔ reads x.sinks a) → says sinks ≡ says x.sinks
-      → ((start : Start) → start.given ≡ x.form → StandsAfter start [] s.samples)
-      → (says x.sinks ≡ true → told s.sink ≡ Some []) → IsOfDatagrams s
-      → AllHeard told says reads first said (record x { sinks = sinks; slaves = x.slaves ++ s ∷ [] })
-  heard-met said x s sinks all unmet read stays says_so stands untold plain =
-      let xs : List (Slave S) = x.slaves in
-      let ys : List (Slave S) = x.slaves ++ s ∷ [] in
-      let read_first : reads first s.address = (all.left s.address unmet).0 read in
-      record {
-        each = λ i t at none.
-            ⊎_elim
-            (λ (e : slice_get xs i ≡ Some t). all.each i t e none)
-            (λ (e : (i ≡ length xs) × (t ≡ s)).
-            subst (λ (u : Slave S). Follows told (says first) x.form x.port said u) (sym e.1)
-            (record {
-              h = [];
-              came = came-nothing (reads first) x.port xs s.address unmet read_first said all.heard;
-              stands = stands;
-              tells = λ so start given. untold (all.says_on ∙ so);
-              plain = plain;
-            }))
-            (got-more xs i t s at);
-        heard = heard-along (reads first) x.port xs ys (met-front xs s) said all.heard;
-        apart = apart-more xs s all.apart unmet;
-        read = λ a m.
-            ⊎_elim (λ (k : IsMet a xs). all.read a k)
-            (λ (e : a ≡ s.address). subst (reads first) (sym e) read_first) (met-more xs s a m);
-        left = λ a m.
-            iff-both (stays a (λ e. m (subst (λ (b : IpAddr). IsMet b ys) (sym e) (met-last xs s))))
-            (all.left a (λ k. m (met-front xs s a k)));
-        says_on = says_so ∙ all.says_on;
-      }
-
-  -- one isn't to be read
-  pub heard-passed : (said : List WholeOf) (x : SlavesOf K S) (sinks : K) → AllHeard told says reads first said x
-      → ((a : IpAddr) → reads sinks a ↔ reads x.sinks a) → says sinks ≡ says x.sinks
-      → AllHeard told says reads first said (record x { sinks = sinks })
-  heard-passed said x sinks all stays says_so = record {
-    each = all.each;
-    heard = all.heard;
-    apart = all.apart;
-    read = all.read;
-    left = λ a m. iff-both (stays a) (all.left a m);
-    says_on = says_so ∙ all.says_on;
+  all-nobody said x d all none = record {
+    each_heard = heard-nobody told says reads first said x d all.each_heard none;
+    talked = λ a met. inr (all.talked a met);
   }
 
-  at-end : (said : List WholeOf) (x : SlavesOf K S) (i : ℕ) (t : Slave S) (o : Option (Slave S)) → slice_get x.slaves i ≡ o
-      → EndsAt o (Some t) → AllHeard told says reads first said x → NoSegments x.port t.address said
-      → Follows told (says first) x.form x.port said t
-  at-end said x i t None at ends all none = absurd ends
-  at-end said x i t (Some s) at ends all none =
-      let f = all.each i s at (subst (λ (a : IpAddr). NoSegments x.port a said) ends.address none) in
-      subst (λ (u : Slave S). Follows told (says first) x.form x.port said u) (sym (ends.plain f.plain)) f
+  module _ (said : List WholeOf) (x y : SlavesOf K S) (d : WholeOf) (talk : Talk) (talked : AllTalked x.port x.slaves said)
+      (each : EachHeard told says reads first said y) (only : MeetsOnly talk.slave x.slaves y.slaves) (same : y.port ≡ x.port)
+      (is : IsTalk y.port d talk) where
+    talked-now : AllTalked y.port y.slaves (d ∷ said)
+    talked-now =
+        talked-more y.port x.slaves y.slaves said d talk
+        (subst (λ (n : ℕ). AllTalked n x.slaves said) (sym same) talked) only is
 
-  -- the capture ended
-  pub heard-end : (said : List WholeOf) (x : SlavesOf K S) (ys : List (Slave S)) → AllHeard told says reads first said x
+    pub all-unread : (reads first talk.slave → ⊥) → AllHeard told says reads first (d ∷ said) y
+    all-unread unread = record {
+      each_heard = heard-unread told says reads first said y d talk each is unread;
+      talked = talked-now;
+    }
+
+    pub all-more : (i : ℕ) (was now : Slave S) → slice_get y.slaves i ≡ Some was → was.address ≡ talk.slave
+        → HearsTalk told d talk.is_of_master was now
+        → AllHeard told says reads first (d ∷ said) (record y { slaves = set y.slaves i now })
+    all-more i was now at own hears = record {
+      each_heard = heard-more told says reads first said y d talk i was now each is at own hears;
+      talked = λ a met. talked-now a
+          (met-along (set y.slaves i now) y.slaves
+          (λ j. sym (same-addresses y.slaves i was now at hears.address j)) a met);
+    }
+
+  pub all-end : (said : List WholeOf) (x : SlavesOf K S) (ys : List (Slave S)) → AllHeard told says reads first said x
       → AllEnd x.slaves ys → AllHeard told says reads first said (record x { slaves = ys })
-  heard-end said x ys all ends =
-      let same : (j : ℕ) → address_at ys j ≡ address_at x.slaves j =
-      λ j. same-at (slice_get x.slaves j) (slice_get ys j) (ends j) in
-      record {
-        each = λ i t at none. at-end said x i t (slice_get x.slaves i) refl
-            (subst (λ (o : Option (Slave S)). EndsAt (slice_get x.slaves i) o) at (ends i)) all none;
-        heard = heard-along (reads first) x.port x.slaves ys (met-along x.slaves ys same) said all.heard;
-        apart = apart-along x.slaves ys same all.apart;
-        read = λ a m. all.read a (met-along ys x.slaves (λ j. sym (same j)) a m);
-        left = λ a m. all.left a (λ k. m (met-along x.slaves ys same a k));
-        says_on = all.says_on;
-      }
+  all-end said x ys all ends = record {
+    each_heard = heard-end told says reads first said x ys all.each_heard ends;
+    talked = λ a met. all.talked a
+        (met-along ys x.slaves (λ j. sym (same-at (slice_get x.slaves j) (slice_get ys j) (ends j))) a met);
+  }
+
+  -- what waits for other parts has no say in it
+  pub all-beside : (said : List WholeOf) (x : SlavesOf K S) (parts : PartsOf) → AllHeard told says reads first said x
+      → AllHeard told says reads first said (record x { parts = parts })
+  all-beside said x parts all = record {
+    each_heard = record {
+      each = all.each_heard.each;
+      heard = all.each_heard.heard;
+      apart = all.each_heard.apart;
+      read = all.each_heard.read;
+      left = all.each_heard.left;
+      says_on = all.each_heard.says_on;
+    };
+    talked = all.talked;
+  }

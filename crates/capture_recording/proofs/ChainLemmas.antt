@@ -1,7 +1,7 @@
 -- What is carried behind the headers of version 6 that extend others is fixed by the bytes.
-use Rattle.std.proofs.Common.{◌≡◌, ◌⊎◌, inl, inr, ℕ, ◌∷◌, [], Bool, true, false, List, drop, nat_eq, eqb-true, slice_index, refl, sym, ap, subst, ◌∙◌, arith}
+use Rattle.std.proofs.Common.{◌≡◌, inl, inr, ℕ, ◌∷◌, [], Bool, true, false, List, drop, nat_eq, eqb-true, slice_index, refl, sym, ap, subst, ◌∙◌, arith}
 use Rattle.std.specs.Prelude.{None}
-use Rattle.datagrams.specs.Ipv6.{CarriedOf, EndsBy, HasExtension, IsChain, IsExtension}
+use Rattle.datagrams.specs.Ipv6.{CarriedOf, EndsBy, IsChain, IsExtension}
 use Rattle.datagrams.specs.Waiting.{WholeOf}
 use Rattle.capture_recording.specs.Said.{IsExtended}
 

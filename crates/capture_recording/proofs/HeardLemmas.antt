@@ -1,12 +1,12 @@
 -- The frames in some bytes, one behind another.
-use Rattle.std.proofs.Common.{◌≡◌, ℕ, ◌+◌, ◌<◌, ◌≤◌, ◌++◌, ◌∷◌, [], All, Bool, List, length, refl, sym, ap, subst, ◌∙◌, arith, Option, Some}
+use Rattle.std.proofs.Common.{◌≡◌, ℕ, ◌<◌, ◌++◌, ◌∷◌, [], Bool, List, length, refl, sym, ap, subst, ◌∙◌, arith, Option, Some}
 use Rattle.std.proofs.lemmas.List.{append_assoc, append-nil, length-append}
 use Rattle.captured_samples.specs.Frames.{Came}
 use Rattle.captured_samples.specs.Slaves.{SlaveOf, StandsAfter}
-use Rattle.captured_samples.specs.Standing.{Start, Told, told_of}
-use Rattle.frame_writer.specs.Frame.{IsFrame, frame}
+use Rattle.captured_samples.specs.Standing.{Told, told_of}
+use Rattle.frame_writer.specs.Frame.{frame}
 use Rattle.frame_writer.specs.Split.{joined_frames}
-use Rattle.capture_recording.specs.Heard.{AreFrames, HearsFrames, came_by, came_with}
+use Rattle.capture_recording.specs.Heard.{HearsFrames, came_by, came_with}
 
 came-behind : (m : Bool) (fs : List (ℕ × List ℕ)) (f : ℕ × List ℕ) (h : List Came)
     → came_with m (fs ++ f ∷ []) h ≡ came_by m f ∷ came_with m fs h

@@ -1,6 +1,8 @@
 pub mod HeardLemmas
 pub mod SlavesLemmas
+pub mod EachHeardLemmas
 pub mod AllHeardLemmas
+pub mod RefusalLemmas
 pub mod ReadsLemmas
 pub mod ChainLemmas
 pub mod CarriesLemmas

@@ -1,17 +1,16 @@
 -- What is read of a capture, unit by unit.
-use Rattle.std.proofs.Common.{◌≡◌, ℕ, zero, suc, ◌+◌, ◌≤◌, ◌++◌, ◌∷◌, [], Bool, List, length, take, drop, reverse, refl, sym, ap, subst, ◌∙◌, arith, Option}
+use Rattle.std.proofs.Common.{◌≡◌, ℕ, zero, suc, ◌+◌, ◌++◌, ◌∷◌, [], Bool, List, take, drop, sym, ap, subst, ◌∙◌, arith, Option}
 use Rattle.std.proofs.KnownBytes.{Consumes-trans, starts_with_rest}
 use Rattle.std.proofs.lemmas.List.{append_assoc, append-nil, take-append-drop}
 use Rattle.std.specs.Io.{StartsWith, appended_bytes}
 use Rattle.std.specs.Io.KnownBytes.{Consumes}
 use lib.Seq.{take-nil}
 use Rattle.std.specs.declared.net.ip_addr.IpAddr.{IpAddr}
-use Rattle.capture.specs.Packets.{PacketOf}
 use Rattle.capture.specs.Standing.{StandsAfter}
 use Rattle.capture.specs.Units.{Known}
 use Rattle.captured_samples.specs.Standing.{Told}
 use Rattle.capture_recording.specs.Reads.{TakesUnits}
-use Rattle.capture_recording.specs.Slaves.{AllTaken, SlavesOf}
+use Rattle.capture_recording.specs.Slaves.{SlavesOf}
 
 module _ {K S : Type 0} (told : S → Option (List Told)) (says : K → Bool) (reads : K → IpAddr → Type 0) where
   pub units-none : (k : Known) (x : SlavesOf K S) → TakesUnits told says reads k k x x []

@@ -1,16 +1,14 @@
 -- What slaves heard of what was said.
-use Rattle.std.proofs.Common.{◌≡◌, ◌≢◌, ◌⊎◌, ⊎_elim, inl, inr, ℕ, zero, suc, ◌+◌, ◌<◌, ◌++◌, ◌∷◌, [], Bool, true, false, List, length, set, slice_get, refl, sym, ap, subst, ◌∙◌, arith, Option, Some, None, option_map, IfSome}
+use Rattle.std.proofs.Common.{◌≡◌, ◌≢◌, ◌⊎◌, ⊎_elim, inl, inr, ℕ, zero, suc, ◌<◌, ◌++◌, ◌∷◌, [], Bool, List, length, set, slice_get, refl, sym, ap, subst, ◌∙◌, arith, Option, Some, None, option_map, IfSome}
 use Rattle.std.proofs.lemmas.List.{length-append}
 use Rattle.std.proofs.lemmas.Option.{none-some}
 use Rattle.std.specs.List.{AllByRecursion}
 use Rattle.std.specs.declared.net.ip_addr.IpAddr.{IpAddr}
 use Rattle.captured_session.specs.declared.form.Form.{Form}
-use Rattle.captured_samples.specs.Frames.{Came}
-use Rattle.captured_samples.specs.Slaves.{StandsAfter}
-use Rattle.captured_samples.specs.Standing.{Start, Told, told_of}
+use Rattle.captured_samples.specs.Standing.{Told}
 use Rattle.datagrams.specs.Waiting.{WholeOf}
 use Rattle.capture_recording.specs.Heard.{came_with}
-use Rattle.capture_recording.specs.Slaves.{AllEnd, AllHeard, AreApart, CameTo, Ends, EndsAt, Follows, HearsTalk, IsAt, IsElse, IsHeard, IsMet, IsNoSegment, IsOfDatagrams, NoSegments, SlavesOf, address_at}
+use Rattle.capture_recording.specs.Slaves.{AllEnd, AllTalked, AreApart, CameTo, Ends, EndsAt, Follows, HearsTalk, IsAt, IsElse, IsHeard, IsMet, IsOfDatagrams, MeetsOnly, address_at}
 use Rattle.capture_recording.specs.Talks.{HasPorts, IsOfUdp, IsTalk}
 use Rattle.capture_recording.specs.declared.slave.Slave.{Slave}
 use Rattle.capture_recording.specs.declared.talks.Talk.{Talk}
@@ -60,7 +58,7 @@ module _ {X : Type 0} where
       ⊎_elim (λ (e : slice_get xs i ≡ Some x). inl e)
       (λ (e : (i ≡ length xs) × (x ≡ y)). inr (ap suc e.0, e.1)) (got-more xs i x y at)
 
-udp-of : (d : WholeOf) (ports : ℕ × ℕ) → HasPorts d ports → d.protocol ≢ 6 → IsOfUdp d
+pub udp-of : (d : WholeOf) (ports : ℕ × ℕ) → HasPorts d ports → d.protocol ≢ 6 → IsOfUdp d
 udp-of d ports (inl has) other = has.0
 udp-of d ports (inr has) other = absurd (other has.0.0)
 
@@ -197,6 +195,17 @@ module _ {S : Type 0} where
     by (inr p) (inl q) = absurd (twice j q p.1)
     by (inr p) (inr q) = p.0 ∙ sym q.0
 
+  pub meets-one : (xs ys : List (Slave S)) (s : Slave S) (own : IpAddr) → ys ≡ xs ++ s ∷ [] → s.address ≡ own → MeetsOnly own xs ys
+  meets-one xs ys s own is same a met =
+      ⊎_elim (λ (m : IsMet a xs). inl m) (λ (e : a ≡ s.address). inr (e ∙ same))
+      (met-more xs s a (subst (λ (zs : List (Slave S)). IsMet a zs) is met))
+
+  -- one is met newly at most, and talks
+  pub talked-more : (port : ℕ) (xs ys : List (Slave S)) (said : List WholeOf) (d : WholeOf) (talk : Talk)
+      → AllTalked port xs said → MeetsOnly talk.slave xs ys → IsTalk port d talk → AllTalked port ys (d ∷ said)
+  talked-more port xs ys said d talk all only is a met =
+      ⊎_elim (λ (m : IsMet a xs). inr (all a m)) (λ (e : a ≡ talk.slave). inl (talk, is, sym e)) (only a met)
+
   pub ends-none : (s : Slave S) → Ends s s
   ends-none s = record { address = refl; plain = λ _. refl }
 
@@ -227,6 +236,17 @@ module _ {S : Type 0} where
       (ends-at-both (slice_get xs i) b c (subst (λ (o : Option (Slave S)). EndsAt (slice_get xs i) o) at (all i)) ends)))
       (λ (n : i ≢ j). subst (λ (o : Option (Slave S)). EndsAt (slice_get xs j) o) (sym (got-other ys i j c n)) (all j))
       (same-or-other i j)
+
+  -- one that keeps connections kept some before
+  kept-at : (o : Option (Slave S)) (s : Slave S) → EndsAt o (Some s) → (IsOfDatagrams s → ⊥)
+      → (was : Slave S) × (o ≡ Some was) × (IsOfDatagrams was → ⊥)
+  kept-at None s ends kept = absurd ends
+  kept-at (Some was) s ends kept = (was, refl, λ plain. kept (subst IsOfDatagrams (sym (ends.plain plain)) plain))
+
+  pub kept-before : (xs ys : List (Slave S)) (i : ℕ) (s : Slave S) → AllEnd xs ys → slice_get ys i ≡ Some s → (IsOfDatagrams s → ⊥)
+      → (was : Slave S) × (slice_get xs i ≡ Some was) × (IsOfDatagrams was → ⊥)
+  kept-before xs ys i s all at kept =
+      kept-at (slice_get xs i) s (subst (λ (o : Option (Slave S)). EndsAt (slice_get xs i) o) at (all i)) kept
 
   -- the slave that was added last
   pub placed : (xs ys : List (Slave S)) (s : Slave S) (a : IpAddr) (place : Option ℕ) → place ≡ Some (length xs)

@@ -1,5 +1,5 @@
 -- One packet more was taken.
-use Rattle.std.proofs.Common.{◌≡◌, inl, inr, ℕ, ◌∷◌, Bool, List, refl, sym, ap, subst, ◌∙◌, Option, Some, None, MatchOption, drop}
+use Rattle.std.proofs.Common.{◌≡◌, inl, inr, ℕ, ◌∷◌, Bool, List, refl, sym, subst, Option, Some, None, MatchOption, drop}
 use Rattle.std.specs.declared.net.ip_addr.IpAddr.{IpAddr}
 use Rattle.capture.specs.Packets.{PacketOf}
 use Rattle.captured_samples.specs.Standing.{Told}
@@ -10,7 +10,7 @@ use Rattle.datagrams.specs.Parts.{WaitOf, key_of, part_within, piece_of, too_man
 use Rattle.datagrams.specs.Versions.{IsIp}
 use Rattle.datagrams.specs.Waiting.{AreWaiting, PartsOf, TakesPacket, TakesPiece, WholeOf}
 use Rattle.datagrams.specs.declared.ip_packet.Part.{Part}
-use Rattle.capture_recording.specs.Said.{HasIp, IsBehind, Joins, JoinsPiece, SaysIp, data_in}
+use Rattle.capture_recording.specs.Said.{AndSaid, HasIp, IsBehind, Joins, JoinsPiece, Said, SaysIp, data_in}
 use Rattle.capture_recording.specs.Slaves.{AllHeard, AllTaken, SlavesOf, TakesPart}
 use Rattle.capture_recording.proofs.CarriesLemmas.{carries-one}
 
@@ -43,19 +43,31 @@ module _ (waits : List WaitOf) (ip : IpOf) (old new : PartsOf) where
       → (later : List WaitOf) × Joins waits ip d later × AreWaiting new later
   joins-of d takes are = joins-by d (part_within ip) takes are
 
-module _ {K S : Type 0} (told : S → Option (List Told)) (says : K → Bool) (reads : K → IpAddr → Type 0) (first : K) where
-  -- what waits for other parts has no say in what was heard
-  pub heard-beside : (said : List WholeOf) (x : SlavesOf K S) (parts : PartsOf) → AllHeard told says reads first said x
-      → AllHeard told says reads first said (record x { parts = parts })
-  heard-beside said x parts all = record {
-    each = all.each;
-    heard = all.heard;
-    apart = all.apart;
-    read = all.read;
-    left = all.left;
-    says_on = all.says_on;
-  }
+-- what packets said, with one more
+pub said-whole : (p : PacketOf) (ps : List PacketOf) (ip : IpOf) (waits : List WaitOf) (said : List WholeOf) (d : WholeOf)
+    → Said ps waits said → HasIp p ip → ip.part ≡ None → IsBehind (data_in ip) d → Said (p ∷ ps) waits (d ∷ said)
+said-whole p ps ip waits said d are has none behind = (
+  waits,
+  said,
+  Some (data_in ip),
+  are,
+  inl (ip, has, subst (λ (o : Option Part). SaysIp o ip waits (Some (data_in ip)) waits) (sym none) (refl, refl)),
+  (d, behind, refl),
+)
 
+pub said-part : (p : PacketOf) (ps : List PacketOf) (ip : IpOf) (part : Part) (waits later : List WaitOf) (said all : List WholeOf)
+    (whole : Option WholeOf) → Said ps waits said → HasIp p ip → ip.part ≡ Some part → Joins waits ip whole later
+    → AndSaid whole said all → Said (p ∷ ps) later all
+said-part p ps ip part waits later said all whole are has some joins and = (
+  waits,
+  said,
+  whole,
+  are,
+  inl (ip, has, subst (λ (o : Option Part). SaysIp o ip waits whole later) (sym some) joins),
+  and,
+)
+
+module _ {K S : Type 0} (told : S → Option (List Told)) (says : K → Bool) (reads : K → IpAddr → Type 0) (first : K) where
   pub taken-none : (p : PacketOf) (ps : List PacketOf) (x : SlavesOf K S) → AllTaken told says reads first ps x
       → ((ip : IpOf) → HasIp p ip → ⊥) → AllTaken told says reads first (p ∷ ps) x
   taken-none p ps x t none = record {
@@ -73,14 +85,7 @@ module _ {K S : Type 0} (told : S → Option (List Told)) (says : K → Bool) (r
   taken-whole p ps ip x y t has none h same = record {
     waits = t.waits;
     said = h.0 ∷ t.said;
-    are = (
-      t.waits,
-      t.said,
-      Some (data_in ip),
-      t.are,
-      inl (ip, has, subst (λ (o : Option Part). SaysIp o ip t.waits (Some (data_in ip)) t.waits) (sym none) (refl, refl)),
-      (h.0, h.1, refl),
-    );
+    are = said-whole p ps ip t.waits t.said h.0 t.are has none h.1;
     waiting = subst (λ (parts : PartsOf). AreWaiting parts t.waits) (sym same) t.waiting;
     heard = h.2;
   }
@@ -91,14 +96,7 @@ module _ {K S : Type 0} (told : S → Option (List Told)) (says : K → Bool) (r
   taken-part p ps ip part x y t has some h = record {
     waits = h.later;
     said = h.all;
-    are = (
-      t.waits,
-      t.said,
-      h.whole,
-      t.are,
-      inl (ip, has, subst (λ (o : Option Part). SaysIp o ip t.waits h.whole h.later) (sym some) h.joins),
-      h.said,
-    );
+    are = said-part p ps ip part t.waits h.later t.said h.all h.whole t.are has some h.joins h.said;
     waiting = h.waiting;
     heard = h.heard;
   }

@@ -2,8 +2,8 @@
 -- another.
 use Rattle.std.specs.Prelude.{◌≡◌, ℕ, ◌++◌, ◌∷◌, [], Bool, true, false, All, List, Option, Some}
 use Rattle.captured_samples.specs.Frames.{Came, of_master, of_slave}
-use Rattle.captured_samples.specs.Slaves.{SlaveOf, StandsAfter}
-use Rattle.captured_samples.specs.Standing.{Start, Told, told_of}
+use Rattle.captured_samples.specs.Slaves.{IsFull, SlaveOf, StandsAfter}
+use Rattle.captured_samples.specs.Standing.{Start, Told, set_up_of, told_of}
 use Rattle.datagrams.specs.Udp.{IsUdp, udp_datagram}
 use Rattle.frame_writer.specs.Frame.{IsFrame, frame}
 use Rattle.frame_writer.specs.Split.{joined_frames}
@@ -45,3 +45,19 @@ pub record HearsDatagram (is_of_master : Bool) (bytes : List ℕ) (old new : Sla
       × AreFrames (udp_datagram bytes).payload fs rest
       × HearsFrames is_of_master fs old new told told_then
   pub none : (IsUdp bytes → ⊥) → HearsFrames is_of_master [] old new told told_then
+
+-- after frames in front of some bytes its set-up may have too many facts with a command more
+pub record FillsUp (is_of_master : Bool) (bytes : List ℕ) (s : SlaveOf) : Type 0 where
+  -- these are fixed by `legal` and `whole`, but for how many they are
+  pub frames : List (ℕ × List ℕ)
+  pub behind : List ℕ
+  pub legal : All IsFrame frames
+  pub whole : bytes ≡ joined_frames frames ++ behind
+  pub full :
+      (start : Start) (h : List Came) → StandsAfter start h s
+      → IsFull (set_up_of start (came_with is_of_master frames h))
+
+-- so it is with frames of a UDP datagram
+abbrev pub FillsUpBy : Bool → List ℕ → SlaveOf → Type 0
+FillsUpBy is_of_master bytes s =
+    IsUdp bytes × FillsUp is_of_master (udp_datagram bytes).payload s

@@ -2,4 +2,5 @@ pub mod Talks
 pub mod Heard
 pub mod Said
 pub mod Slaves
+pub mod Refusals
 pub mod Reads

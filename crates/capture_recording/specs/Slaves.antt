@@ -45,6 +45,14 @@ CameTo port a (d ∷ said) h =
     (before : List Came) × CameTo port a said before
     × (Brings port a d before h ⊎ (IsElse port a d × (h ≡ before)))
 
+-- something that was said is of the slave at an address
+abbrev pub IsTalkOf : ℕ → IpAddr → WholeOf → Type 0
+IsTalkOf port a d = (talk : Talk) × IsTalk port d talk × (talk.slave ≡ a)
+
+abbrev pub HasTalked : ℕ → IpAddr → List WholeOf → Type 0
+HasTalked port a [] = ⊥
+HasTalked port a (d ∷ said) = IsTalkOf port a d ⊎ HasTalked port a said
+
 -- nothing of it is a segment of TCP
 abbrev pub IsNoSegment : ℕ → IpAddr → WholeOf → Type 0
 IsNoSegment port a d = (talk : Talk) → IsTalk port d talk → talk.slave ≡ a → d.protocol ≢ 6
@@ -78,6 +86,14 @@ module _ {S : Type 0} where
   -- no connection of TCP is kept
   abbrev pub IsOfDatagrams : Slave S → Type 0
   IsOfDatagrams s = length s.connections.items ≡ 0
+
+  -- those alone are met that talked
+  abbrev pub AllTalked : ℕ → List (Slave S) → List WholeOf → Type 0
+  AllTalked port slaves said = (a : IpAddr) → IsMet a slaves → HasTalked port a said
+
+  -- no other slave than this one is met newly
+  abbrev pub MeetsOnly : IpAddr → List (Slave S) → List (Slave S) → Type 0
+  MeetsOnly own old new = (a : IpAddr) → IsMet a new → IsMet a old ⊎ (a ≡ own)
 
   -- the same slave, with the same connections
   pub record IsOneWith (old new : Slave S) : Type 0 where
@@ -129,8 +145,9 @@ module _ {S : Type 0} where
       × ((reads talk.slave → ⊥) ⊎ IsMet talk.slave slaves))
 
 module _ {K S : Type 0} where
-  -- all that was said was heard, each by its slave, from when the sinks were these
-  pub record AllHeard (told : S → Option (List Told)) (says : K → Bool)
+  -- each slave that was met follows what was said, and who talks is met, if it is to be read, from
+  -- when the sinks were these
+  pub record EachHeard (told : S → Option (List Told)) (says : K → Bool)
       (reads : K → IpAddr → Type 0) (first : K) (said : List WholeOf) (x : SlavesOf K S)
       : Type 0 where
     pub each :
@@ -142,6 +159,13 @@ module _ {K S : Type 0} where
     pub read : (a : IpAddr) → IsMet a x.slaves → reads first a
     pub left : (a : IpAddr) → (IsMet a x.slaves → ⊥) → reads x.sinks a ↔ reads first a
     pub says_on : says x.sinks ≡ says first
+
+  -- all that was said was heard, each by its slave, and no other is met
+  pub record AllHeard (told : S → Option (List Told)) (says : K → Bool)
+      (reads : K → IpAddr → Type 0) (first : K) (said : List WholeOf) (x : SlavesOf K S)
+      : Type 0 where
+    pub each_heard : EachHeard told says reads first said x
+    pub talked : AllTalked x.port x.slaves said
 
   -- packets, with the newest in front, were taken
   pub record AllTaken (told : S → Option (List Told)) (says : K → Bool)

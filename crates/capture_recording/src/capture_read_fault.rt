@@ -31,8 +31,26 @@ pub enum CaptureReadFault {
 }
 
 impl CaptureReadFault {
+    ghost use Rattle.std.specs.Prelude.{◌≡◌};
+    ghost use Rattle.capture_recording.specs.Refusals.{fault_of_capture, fault_of_session};
+
+    /// Why a capture is read no further, by what is wrong with its form.
+    pub fn of_capture(fault: CaptureFault) -> CaptureReadFault
+        ensures { result ≡ fault_of_capture fault }
+    {
+        match fault {
+            CaptureFault::Memory => CaptureReadFault::Memory,
+            CaptureFault::NoCapture => CaptureReadFault::NoCapture,
+            CaptureFault::Bad | CaptureFault::Long | CaptureFault::ManyInterfaces => {
+                CaptureReadFault::Capture(fault)
+            }
+        }
+    }
+
     /// Why a capture is read no further, by what is wrong with a session in it.
-    pub fn of_session(fault: SessionFault) -> CaptureReadFault {
+    pub fn of_session(fault: SessionFault) -> CaptureReadFault
+        ensures { result ≡ fault_of_session fault }
+    {
         match fault {
             SessionFault::Memory => CaptureReadFault::Memory,
             SessionFault::ManyFacts => CaptureReadFault::Session(fault),

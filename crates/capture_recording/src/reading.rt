@@ -1,12 +1,15 @@
 //! Reads a capture, piece by piece.
-ghost use Rattle.std.specs.Prelude.{◌≡◌, ◌≤◌, [], IfOk, OnOk, drop, length, take};
+ghost use Rattle.std.specs.Prelude.{◌≡◌, ◌≢◌, ◌⊎◌, ◌<◌, ◌≤◌, [], IfErr, IfOk, OnOk, drop, length};
+ghost use Rattle.std.specs.Prelude.{take};
+ghost use Rattle.capture.specs.Units.{NextHas};
 ghost use Rattle.capture_recording.specs.Reads.{TakesCapture, TakesUnits};
+ghost use Rattle.capture_recording.specs.Refusals.{RefusesCapture, RefusesUnits};
 ghost use Rattle.capture_recording.specs.Slaves.{AllTaken};
 
 use crate::capture_read_fault::CaptureReadFault;
 use crate::sinks::Sinks;
 use crate::slaves::Slaves;
-use capture::{CaptureFault, CaptureReader, Step};
+use capture::{CaptureReader, Step};
 use program_input::{MAX_TEXT_BYTES, TextFault, is_read_to_end};
 use std::alloc::Global;
 use std::io::Read;
@@ -23,9 +26,15 @@ pub fn read_capture<I: Read, K: Sinks + Drop>(
     input: &mut I,
     slaves: &mut Slaves<K>,
 ) -> Result<(), CaptureReadFault>
-    ensures { (first : K) → AllTaken K.Sink.told K.says K.reads first [] slaves.old
+    ensures ok { (first : K) → AllTaken K.Sink.told K.says K.reads first [] slaves.old
         → OnOk result (TakesCapture K.Sink.told K.says K.reads first
         (I.remaining input.old) (I.remaining input.new) slaves.new) }
+    ensures form { OnOk result (slaves.new.form ≡ slaves.old.form) }
+    ensures port { OnOk result (slaves.new.port ≡ slaves.old.port) }
+    ensures err { (first : K) → AllTaken K.Sink.told K.says K.reads first [] slaves.old
+        → IfErr result (RefusesCapture (AllTaken K.Sink.told K.says K.reads first) (K.reads first)
+        slaves.old.form slaves.old.port (I.remaining input.old) (I.remaining input.new)
+        slaves.new) }
 {
     let mut chunk = [0; CHUNK];
     let mut held = Vec::new(alloc);
@@ -51,7 +60,8 @@ pub fn read_capture<I: Read, K: Sinks + Drop>(
 
 /// What comes of a capture at its end, of which these bytes are left.
 fn ended(held: &[u8]) -> Result<(), CaptureReadFault>
-    ensures { OnOk result (held.now ≡ []) }
+    ensures ok { OnOk result (held.now ≡ []) }
+    ensures err { IfErr result (λ fault. (fault ≡ CaptureReadFault.Torn) × (held.now ≢ [])) }
 {
     if held.is_empty() {
         return Ok(());
@@ -68,6 +78,13 @@ fn take_units<K: Sinks + Drop>(
     ensures within { IfOk result (λ taken. taken ≤ length held.now) }
     ensures units { IfOk result (λ taken. TakesUnits K.Sink.told K.says K.reads
         reader.old reader.new slaves.old slaves.new (take taken held.now)) }
+    ensures short { IfOk result (λ taken. (drop taken held.now ≡ [])
+        ⊎ NextHas (λ len. length (drop taken held.now) < len) reader.new
+        (drop taken held.now)) }
+    ensures form { OnOk result (slaves.new.form ≡ slaves.old.form) }
+    ensures port { OnOk result (slaves.new.port ≡ slaves.old.port) }
+    ensures err { IfErr result (RefusesUnits K.Sink.told K.says K.reads reader.old slaves.old
+        slaves.new held.now) }
 {
     let mut at = 0usize;
     'units: for _ in 0..held.len() {
@@ -89,6 +106,12 @@ fn take_unit<K: Sinks + Drop>(
     ensures within { IfOk result (λ taken. taken ≤ length bytes.now) }
     ensures units { IfOk result (λ taken. TakesUnits K.Sink.told K.says K.reads
         reader.old reader.new slaves.old slaves.new (take taken bytes.now)) }
+    ensures short { IfOk result (λ taken. taken ≡ 0
+        → NextHas (λ len. length bytes.now < len) reader.new bytes.now) }
+    ensures form { OnOk result (slaves.new.form ≡ slaves.old.form) }
+    ensures port { OnOk result (slaves.new.port ≡ slaves.old.port) }
+    ensures err { IfErr result (RefusesUnits K.Sink.told K.says K.reads reader.old slaves.old
+        slaves.new bytes.now) }
 {
     match reader.next(bytes) {
         Ok(Step::Packet(len, captured)) => {
@@ -97,9 +120,7 @@ fn take_unit<K: Sinks + Drop>(
         }
         Ok(Step::Passed(len)) => Ok(len),
         Ok(Step::Wants(_)) => Ok(0),
-        Err(CaptureFault::Memory) => Err(CaptureReadFault::Memory),
-        Err(CaptureFault::NoCapture) => Err(CaptureReadFault::NoCapture),
-        Err(fault) => Err(CaptureReadFault::Capture(fault)),
+        Err(fault) => Err(CaptureReadFault::of_capture(fault)),
     }
 }
 

@@ -29,9 +29,21 @@ pub struct Slave<S: CaptureSink + Drop> {
 }
 
 impl<S: CaptureSink + Drop> Slave<S> {
-    ghost use Rattle.std.specs.Prelude.{◌≡◌, ◌≢◌, ◌+◌, ◌∷◌, [], ℕ, List, length, IfOk, OnOk};
-    ghost use Rattle.capture_recording.specs.Heard.{AreFrames, HearsDatagram, HearsFrames};
+    ghost use Rattle.std.specs.Prelude.{◌≡◌, ◌≢◌, ◌+◌, ◌∷◌, [], ℕ, List, length, Err, IfErr, IfOk};
+    ghost use Rattle.std.specs.Prelude.{IsOk, OnOk};
+    ghost use Rattle.captured_samples.specs.Frames.{Came};
+    ghost use Rattle.captured_samples.specs.Slaves.{IsFull, StandsAfter};
+    ghost use Rattle.captured_samples.specs.Standing.{Start, set_up_of};
+    ghost use Rattle.captured_session.specs.declared.session_fault.SessionFault.TheVariants.{
+      ManyFacts,
+    };
+    ghost use Rattle.capture_recording.specs.Heard.{AreFrames, FillsUp, FillsUpBy, HearsDatagram};
+    ghost use Rattle.capture_recording.specs.Heard.{HearsFrames};
+    ghost use Rattle.capture_recording.specs.Refusals.{OrMemory};
     ghost use Rattle.capture_recording.specs.Slaves.{Ends, HearsTalk, IsOfDatagrams, IsOneWith};
+    ghost use Rattle.capture_recording.specs.declared.capture_read_fault.CaptureReadFault.TheVariants.{
+      Session,
+    };
     ghost use Rattle.capture_recording.specs.Talks.{data_of};
 
     /// Nothing was heard of it.
@@ -58,8 +70,11 @@ impl<S: CaptureSink + Drop> Slave<S> {
         talk: Talk,
         carried: &IpData<'_>,
     ) -> Result<(), CaptureReadFault>
-        ensures { OnOk result
+        ensures ok { OnOk result
             (HearsTalk S.told (data_of carried.now) talk.is_of_master self.old self.new) }
+        ensures err { IfErr result (OrMemory (λ fault. (fault ≡ Session ManyFacts)
+            × (carried.now.protocol ≢ 6
+            → FillsUpBy talk.is_of_master carried.now.payload.now self.old.samples))) }
     {
         self.sink.set_time(time);
         match self.hear_carried(talk, carried) {
@@ -71,8 +86,10 @@ impl<S: CaptureSink + Drop> Slave<S> {
     /// What it and a master say to one another: the frames of a datagram of UDP, or of the bytes
     /// that come next with a segment of TCP.
     fn hear_carried(&mut self, talk: Talk, carried: &IpData<'_>) -> Result<(), SessionFault>
-        ensures { OnOk result
+        ensures heard { OnOk result
             (HearsTalk S.told (data_of carried.now) talk.is_of_master self.old self.new) }
+        ensures many { result ≡ Err ManyFacts → carried.now.protocol ≢ 6
+            → FillsUpBy talk.is_of_master carried.now.payload.now self.old.samples }
     {
         if !carried.is_segment() {
             return self.hear_datagram(talk.is_of_master, carried.payload);
@@ -88,6 +105,7 @@ impl<S: CaptureSink + Drop> Slave<S> {
         ensures heard { OnOk result (HearsDatagram is_of_master bytes.now
             self.old.samples self.new.samples (S.told self.old.sink) (S.told self.new.sink)) }
         ensures stays { OnOk result (IsOneWith self.old self.new) }
+        ensures many { result ≡ Err ManyFacts → FillsUpBy is_of_master bytes.now self.old.samples }
     {
         let Some(datagram) = udp_in(bytes) else {
             return Ok(());
@@ -98,7 +116,9 @@ impl<S: CaptureSink + Drop> Slave<S> {
 
     /// What waits behind holes in connections, at the end of the capture.
     pub fn give_up_holes(&mut self) -> Result<(), CaptureReadFault>
-        ensures { OnOk result (Ends self.old self.new) }
+        ensures ok { OnOk result (Ends self.old self.new) }
+        ensures err { IfErr result (OrMemory (λ fault. fault ≡ Session ManyFacts)) }
+        ensures none { IsOfDatagrams self.old → IsOk result }
     {
         'connections: for place in 0..self.connections.len() {
             match self.give_up_in(place) {
@@ -240,6 +260,7 @@ impl<S: CaptureSink + Drop> Slave<S> {
             × HearsFrames is_of_master fs self.old.samples self.new.samples
             (S.told self.old.sink) (S.told self.new.sink)) }
         ensures stays { OnOk result (IsOneWith self.old self.new) }
+        ensures many { result ≡ Err ManyFacts → FillsUp is_of_master bytes.now self.old.samples }
     {
         let mut rest = bytes;
         'frames: for _ in 0..bytes.len() {
@@ -262,6 +283,8 @@ impl<S: CaptureSink + Drop> Slave<S> {
         ensures heard { OnOk result (HearsFrames is_of_master ((counter, packet.now) ∷ [])
             self.old.samples self.new.samples (S.told self.old.sink) (S.told self.new.sink)) }
         ensures stays { OnOk result (IsOneWith self.old self.new) }
+        ensures many { (start : Start) (h : List Came) → StandsAfter start h self.old.samples
+            → result ≡ Err ManyFacts → IsFull (set_up_of start h) }
     {
         self.sink.frame(is_of_master, counter, packet);
         if is_of_master {

@@ -1,5 +1,7 @@
 //! The slaves of a capture.
-ghost use Rattle.std.specs.Prelude.{◌≡◌, ◌++◌, ◌∷◌, [], length, IfOk, IfSome, IsNone, OnOk, Some};
+ghost use Rattle.std.specs.Prelude.{◌≡◌, ◌≤◌, ◌++◌, ◌∷◌, [], length, IfErr, IfOk, IfSome, IsNone};
+ghost use Rattle.std.specs.Prelude.{OnOk, Some};
+ghost use Rattle.capture_recording.specs.Refusals.{OrMemory, RefusesConnection};
 ghost use Rattle.capture_recording.specs.Slaves.{AllEnd, IsAt, IsMet};
 
 use crate::capture_read_fault::CaptureReadFault;
@@ -48,14 +50,17 @@ impl<K: Sinks + Drop> Model for Slaves<K> {
 }
 
 impl<K: Sinks + Drop> Slaves<K> {
-    ghost use Rattle.std.specs.Prelude.{◌≡◌, ◌∷◌, [], List, IfOk, IfSome, IsNone, OnOk};
+    ghost use Rattle.std.specs.Prelude.{◌≡◌, ◌∷◌, [], List, IfErr, IfOk, IfSome, IsNone, OnOk};
     ghost use Rattle.capture.specs.Packets.{PacketOf, packet_of};
     ghost use Rattle.datagrams.specs.Ip.{ip_of};
     ghost use Rattle.datagrams.specs.Waiting.{AreWaiting, WholeOf};
     ghost use Rattle.datagrams.specs.Parts.{WaitOf};
+    ghost use Rattle.capture_recording.specs.Refusals.{IsOneTooMany, OrMemory, RefusesCarried};
+    ghost use Rattle.capture_recording.specs.Refusals.{RefusesEnd, RefusesPacket, RefusesPart};
+    ghost use Rattle.capture_recording.specs.Refusals.{RefusesSaid};
     ghost use Rattle.capture_recording.specs.Said.{IsBehind, data_in};
-    ghost use Rattle.capture_recording.specs.Slaves.{AllHeard, AllTaken, IsAt, IsMet, KeepsRest};
-    ghost use Rattle.capture_recording.specs.Slaves.{TakesPart};
+    ghost use Rattle.capture_recording.specs.Slaves.{AllHeard, AllTaken, EachHeard, IsAt, IsMet};
+    ghost use Rattle.capture_recording.specs.Slaves.{KeepsRest, MeetsOnly, TakesPart};
     ghost use Rattle.capture_recording.specs.Talks.{data_of};
 
     /// None yet. They have this port, and their packets look like this until they say otherwise.
@@ -109,6 +114,10 @@ impl<K: Sinks + Drop> Slaves<K> {
             (packet_of captured.now ∷ ps) self.new) }
         ensures port { OnOk result (self.new.port ≡ self.old.port) }
         ensures form { OnOk result (self.new.form ≡ self.old.form) }
+        ensures err { (first : K) (ps : List PacketOf)
+            → AllTaken K.Sink.told K.says K.reads first ps self.old
+            → IfErr result (OrMemory (RefusesPacket (K.reads first) self.old.form self.old.port
+            (packet_of captured.now ∷ ps))) }
     {
         let time = captured.time.and_then(nanoseconds_of);
         let Some(bytes) = ip_in(Link::of(captured.link), captured.bytes) else {
@@ -130,6 +139,9 @@ impl<K: Sinks + Drop> Slaves<K> {
             → OnOk result (AllTaken K.Sink.told K.says K.reads first ps self.new) }
         ensures port { OnOk result (self.new.port ≡ self.old.port) }
         ensures form { OnOk result (self.new.form ≡ self.old.form) }
+        ensures err { (first : K) (ps : List PacketOf)
+            → AllTaken K.Sink.told K.says K.reads first ps self.old
+            → IfErr result (OrMemory (RefusesEnd self.old.port ps)) }
     {
         end_all(&mut self.slaves)
     }
@@ -145,6 +157,10 @@ impl<K: Sinks + Drop> Slaves<K> {
             → OnOk result ((d : WholeOf) × IsBehind (data_in (ip_of packet.now)) d
             × AllHeard K.Sink.told K.says K.reads first (d ∷ said) self.new) }
         ensures stays { OnOk result (KeepsRest self.old self.new) }
+        ensures err { (first : K) (said : List WholeOf)
+            → AllHeard K.Sink.told K.says K.reads first said self.old
+            → IfErr result (OrMemory (RefusesCarried (K.reads first) self.old.form self.old.port
+            (ip_of packet.now) said)) }
     {
         let carried = IpData::by_packet(packet);
         self.note_cut(packet, &carried);
@@ -173,6 +189,11 @@ impl<K: Sinks + Drop> Slaves<K> {
             self.new) }
         ensures port { OnOk result (self.new.port ≡ self.old.port) }
         ensures form { OnOk result (self.new.form ≡ self.old.form) }
+        ensures err { (first : K) (waits : List WaitOf) (said : List WholeOf)
+            → AreWaiting self.old.parts waits
+            → AllHeard K.Sink.told K.says K.reads first said self.old
+            → IfErr result (OrMemory (RefusesPart (K.reads first) self.old.form self.old.port
+            waits (ip_of packet.now) said)) }
     {
         let Ok(whole) = self.parts.take(packet) else {
             return Err(CaptureReadFault::Memory);
@@ -190,6 +211,10 @@ impl<K: Sinks + Drop> Slaves<K> {
             → OnOk result (AllHeard K.Sink.told K.says K.reads first
             (data_of carried.now ∷ said) self.new) }
         ensures stays { OnOk result (KeepsRest self.old self.new) }
+        ensures err { (first : K) (said : List WholeOf)
+            → AllHeard K.Sink.told K.says K.reads first said self.old
+            → IfErr result (OrMemory (RefusesSaid (K.reads first) self.old.form self.old.port
+            (data_of carried.now ∷ said))) }
     {
         let Some(talk) = talk_of(carried, self.port) else {
             return Ok(());
@@ -203,32 +228,21 @@ impl<K: Sinks + Drop> Slaves<K> {
     /// The place of a slave, which may be met for the first time; `None` if it isn't read.
     fn place_of(&mut self, address: IpAddr) -> Result<Option<usize>, CaptureReadFault>
         ensures heard { (first : K) (said : List WholeOf)
-            → AllHeard K.Sink.told K.says K.reads first said self.old
-            → OnOk result (AllHeard K.Sink.told K.says K.reads first said self.new) }
+            → EachHeard K.Sink.told K.says K.reads first said self.old
+            → OnOk result (EachHeard K.Sink.told K.says K.reads first said self.new) }
         ensures some { IfOk result (λ place. IfSome place (IsAt address self.new.slaves)) }
         ensures none { (first : K) (said : List WholeOf)
-            → AllHeard K.Sink.told K.says K.reads first said self.old
+            → EachHeard K.Sink.told K.says K.reads first said self.old
             → IfOk result (λ place. IsNone place → K.reads first address → ⊥) }
         ensures stays { OnOk result (KeepsRest self.old self.new) }
+        ensures only { OnOk result (MeetsOnly address self.old.slaves self.new.slaves) }
+        ensures err { (first : K) (said : List WholeOf)
+            → EachHeard K.Sink.told K.says K.reads first said self.old
+            → IfErr result (OrMemory (IsOneTooMany (K.reads first) address self.old.slaves)) }
     {
-        match place_in(&self.slaves, address) {
-            Some(place) => Ok(Some(place)),
-            None => self.meet(address),
+        if let Some(place) = place_in(&self.slaves, address) {
+            return Ok(Some(place));
         }
-    }
-
-    /// The place of a slave that is met for the first time; `None` if it isn't read.
-    fn meet(&mut self, address: IpAddr) -> Result<Option<usize>, CaptureReadFault>
-        requires { IsMet address self.old.slaves → ⊥ }
-        ensures heard { (first : K) (said : List WholeOf)
-            → AllHeard K.Sink.told K.says K.reads first said self.old
-            → OnOk result (AllHeard K.Sink.told K.says K.reads first said self.new) }
-        ensures some { IfOk result (λ place. IfSome place (IsAt address self.new.slaves)) }
-        ensures none { (first : K) (said : List WholeOf)
-            → AllHeard K.Sink.told K.says K.reads first said self.old
-            → IfOk result (λ place. IsNone place → K.reads first address → ⊥) }
-        ensures stays { OnOk result (KeepsRest self.old self.new) }
-    {
         let Some(sink) = self.sinks.sink_of(address) else {
             return Ok(None);
         };
@@ -245,8 +259,10 @@ fn add<S: CaptureSink + Drop>(
     slaves: &mut Vec<Slave<S>>,
     slave: Slave<S>,
 ) -> Result<Option<usize>, CaptureReadFault>
-    ensures { IfOk result (λ place. (place ≡ Some (length slaves.old.items))
+    ensures ok { IfOk result (λ place. (place ≡ Some (length slaves.old.items))
         × (slaves.new.items ≡ slaves.old.items ++ slave ∷ [])) }
+    ensures err { IfErr result (OrMemory (λ fault. (fault ≡ CaptureReadFault.ManySlaves)
+        × (MAX_SLAVES ≤ length slaves.old.items))) }
 {
     let place = slaves.len();
     if place >= MAX_SLAVES {
@@ -273,7 +289,8 @@ fn place_in<S: CaptureSink + Drop>(slaves: &[Slave<S>], address: IpAddr) -> Opti
 
 /// What waits in the connections of all.
 fn end_all<S: CaptureSink + Drop>(slaves: &mut Vec<Slave<S>>) -> Result<(), CaptureReadFault>
-    ensures { OnOk result (AllEnd slaves.old.items slaves.new.items) }
+    ensures ok { OnOk result (AllEnd slaves.old.items slaves.new.items) }
+    ensures err { IfErr result (OrMemory (RefusesConnection slaves.old.items)) }
 {
     'slaves: for i in 0..slaves.len() {
         slaves[i].give_up_holes()?;

@@ -1,12 +1,13 @@
 -- What is kept of a slave whose samples are read, and what that stands after.
-use Rattle.std.specs.Prelude.{◌≡◌, ◌⊎◌, ◌∷◌, ◌++◌, [], ℕ, ⊤, Bool, false, true, List, map, Option}
-use Rattle.std.specs.Prelude.{Some, None}
+use Rattle.std.specs.Prelude.{◌≡◌, ◌⊎◌, ◌∷◌, ◌++◌, [], ℕ, ◌+◌, ◌<◌, ⊤, Bool, false, true, List}
+use Rattle.std.specs.Prelude.{length, map, Option, Some, None}
 use Rattle.std.specs.List.{list_all}
 use Rattle.captured_session.specs.Exchanges.{Heard}
 use Rattle.captured_session.specs.Lists.{ListOf, list_at}
 use Rattle.captured_session.specs.SetUps.{Session, SetUp, session_after}
 use Rattle.captured_session.specs.declared.fact.Fact.{Fact}
 use Rattle.captured_session.specs.declared.fact.Fact.TheVariants.{Odts}
+use Rattle.captured_session.specs.declared.limits.TheConstants.{MAX_FACTS}
 use Rattle.captured_samples.specs.Frames.{Came, LastOf, ReadOf, last_of, read_of}
 use Rattle.captured_samples.specs.Standing.{ListIn, ListsIn, Start, Told, has_number, lists_of}
 use Rattle.captured_samples.specs.Standing.{set_up_by, shown_in, stands_in}
@@ -65,6 +66,10 @@ pub record StandsBy (start : Start) (r : ReadOf) (ls : ListsIn) (s : SlaveOf) : 
 -- it stands after the frames that came, with the newest in front
 abbrev pub StandsAfter : Start → List Came → SlaveOf → Type 0
 StandsAfter start h s = StandsBy start (read_of h) (lists_of start h) s
+
+-- with a command more there may be too many facts in it
+abbrev pub IsFull : SetUp → Type 0
+IsFull s = MAX_FACTS < length s.facts + 256
 
 -- whoever is handed samples was told more, if it says what it was told
 abbrev pub Tells : Option (List Told) → Option (List Told) → List Told → Type 0

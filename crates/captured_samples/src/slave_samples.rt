@@ -40,14 +40,17 @@ impl Model for SlaveSamples {
 }
 
 impl SlaveSamples {
-    ghost use Rattle.std.specs.Prelude.{◌≡◌, ◌≢◌, ◌∷◌, ◌++◌, [], List, OnOk};
+    ghost use Rattle.std.specs.Prelude.{◌≡◌, ◌≢◌, ◌∷◌, ◌++◌, [], Err, List, OnOk};
     ghost use Rattle.captured_session.specs.Exchanges.{Heard, waiting};
+    ghost use Rattle.captured_session.specs.declared.session_fault.SessionFault.TheVariants.{
+      ManyFacts,
+    };
     ghost use Rattle.captured_samples.specs.Frames.{Came, ReadOf, anew, heard_with, of_master};
     ghost use Rattle.captured_samples.specs.Frames.{of_slave};
     ghost use Rattle.captured_samples.specs.Frames.{read_of, step_of, with_frame};
     ghost use Rattle.captured_samples.specs.Inner.{SameCounters};
-    ghost use Rattle.captured_samples.specs.Slaves.{AllRead, Keeps, StandsAfter, StandsBy, Tells};
-    ghost use Rattle.captured_samples.specs.Slaves.{lists_in};
+    ghost use Rattle.captured_samples.specs.Slaves.{AllRead, IsFull, Keeps, StandsAfter, StandsBy};
+    ghost use Rattle.captured_samples.specs.Slaves.{Tells, lists_in};
     ghost use Rattle.captured_samples.specs.Standing.{ListsIn, Start, begins_anew, come_to};
     ghost use Rattle.captured_samples.specs.Standing.{for_each, hands};
     ghost use Rattle.captured_samples.specs.Standing.{lists_of, marked, read_anew, set_up_by};
@@ -87,8 +90,10 @@ impl SlaveSamples {
 
     /// The master's next frame. A copy of its last one changes nothing.
     pub fn hear_master(&mut self, counter: u16, packet: &[u8]) -> Result<(), SessionFault>
-        ensures { (start : Start) (h : List Came) → StandsAfter start h self.old
+        ensures stands { (start : Start) (h : List Came) → StandsAfter start h self.old
             → OnOk result (StandsAfter start (of_master counter packet.now ∷ h) self.new) }
+        ensures many { (start : Start) (h : List Came) → StandsAfter start h self.old
+            → result ≡ Err ManyFacts → IsFull (set_up_of start h) }
     {
         if self.command.is_copy(counter, packet) {
             return Ok(());
@@ -114,6 +119,8 @@ impl SlaveSamples {
             → OnOk result (Tells (S.told sink.old) (S.told sink.new)
             (told_by start (set_up_of start h) (step_of (read_of h) counter packet.now) packet.now
             (lists_of start h))) }
+        ensures many { (start : Start) (h : List Came) → StandsAfter start h self.old
+            → result ≡ Err ManyFacts → IsFull (set_up_of start h) }
     {
         match self.step_of(counter, packet) {
             CounterStep::Behind => {
@@ -160,6 +167,8 @@ impl SlaveSamples {
         ensures told { (start : Start) (r : ReadOf) (ls : ListsIn) → StandsBy start r ls self.old
             → OnOk result (Tells (S.told sink.old) (S.told sink.new)
             (told_by start (set_up_by start r.heard) step packet.now ls)) }
+        ensures many { (start : Start) (r : ReadOf) (ls : ListsIn) → StandsBy start r ls self.old
+            → result ≡ Err ManyFacts → IsFull (set_up_by start r.heard) }
     {
         let Ok(()) = self.come_to(step, sink) else {
             return Err(SessionFault::Memory);
@@ -180,6 +189,9 @@ impl SlaveSamples {
             → Keeps start heard ls self.old
             → OnOk result (Tells (S.told sink.old) (S.told sink.new)
             (told_of_packet start (set_up_by start heard) packet.now ls)) }
+        ensures many { (start : Start) (heard : List Heard) (ls : ListsIn)
+            → Keeps start heard ls self.old
+            → result ≡ Err ManyFacts → IsFull (set_up_by start heard) }
     {
         if is_sample(packet) {
             return self.take(packet, sink);
@@ -234,6 +246,9 @@ impl SlaveSamples {
             → Keeps start heard ls self.old
             → OnOk result (Keeps start ((side, packet.now) ∷ heard) ls self.new) }
         ensures stays { OnOk result (SameCounters self.old self.new) }
+        ensures many { (start : Start) (heard : List Heard) (ls : ListsIn)
+            → Keeps start heard ls self.old
+            → result ≡ Err ManyFacts → IsFull (set_up_by start heard) }
     {
         let many = self.session.set_up().facts().len();
         let form = self.session.set_up().form();
@@ -256,6 +271,7 @@ impl SlaveSamples {
             → OnOk result (Tells (S.told sink.old) (S.told sink.new)
             (begins_anew start (set_up_by start heard) ls
             ++ hands packet.now (read_anew start (set_up_by start heard) ls).lists)) }
+        ensures few { result ≡ Err ManyFacts → ⊥ }
     {
         let Ok(()) = self.read_lists(sink) else {
             return Err(SessionFault::Memory);

@@ -77,8 +77,8 @@ pub fn order_of(mode: u16) -> ByteOrder
     }
 }
 
-/// The identification field that the upper bits of DAQ_KEY_BYTE tell, by this number (ASAM MCD-1 XCP,
-/// GET_DAQ_PROCESSOR_INFO).
+/// The identification field that the upper bits of DAQ_KEY_BYTE tell, by this number (ASAM MCD-1
+/// XCP, GET_DAQ_PROCESSOR_INFO).
 pub fn field_of(kind: u16) -> IdField
     ensures { result ≡ field_of kind }
 {

@@ -1,6 +1,5 @@
-use Rattle.std.proofs.Common.{◌≡◌, ⊎_elim, ℕ, ◌<◌, ◌≤◌, ◌+◌, length, slice_get, ap, sym, subst, true≢false, arith, ◌∙◌, Some}
+use Rattle.std.proofs.Common.{◌≡◌, ⊎_elim, ℕ, ◌<◌, ◌≤◌, length, slice_get, ap, sym, subst, true≢false, arith, ◌∙◌, Some}
 use Rattle.std.proofs.lemmas.Option.{slice_get-get_or}
-use Rattle.capture_recording.specs.Slaves.{address_at}
 use Rattle.capture_recording.specs.declared.slave.Slave.{Slave}
 use Rattle.capture_recording.proofs.SlavesLemmas.{address-is, at-place, met-within, same-or-other}
 use Rattle.capture_recording.proofs.slaves.place_in.Goals as goal

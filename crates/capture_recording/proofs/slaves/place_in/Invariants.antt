@@ -1,4 +1,4 @@
-use Rattle.std.proofs.Common.{◌≡◌, ℕ, ◌<◌, ◌≤◌, Some, length}
+use Rattle.std.proofs.Common.{◌≡◌, ℕ, ◌<◌, Some}
 use Rattle.capture_recording.specs.Slaves.{address_at}
 use Rattle.capture_recording.proofs.slaves.place_in.Given as goal
 

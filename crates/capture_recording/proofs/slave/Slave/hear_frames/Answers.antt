@@ -1,5 +1,4 @@
-use Rattle.std.proofs.Common.{◌≡◌, ◌+◌, ◌<◌, ◌++◌, ◌∷◌, [], ℕ, List, ap, length, refl, arith, ◌∙◌}
-use Rattle.std.proofs.lemmas.List.{length-append}
+use Rattle.std.proofs.Common.{◌<◌, ◌++◌, ◌∷◌, [], length, refl, arith, ◌∙◌}
 use Rattle.std.proofs.lemmas.List.Elements.{All-push}
 use Rattle.frame_writer.specs.Frame.{IsFrame}
 use Rattle.capture_recording.proofs.HeardLemmas.{hears-more, hears-none, longer, none-left, whole-more}

@@ -28,3 +28,9 @@ returns-clause-told g c start r ls k =
     on_ok c.look_at.result
     (λ more. tells-of _ _ _ _ next.told (tells-both _ _ _ _ _ (c.in-Ok.ensures.told start r.heard ls k.keeps) more))
     (c.look_at.ensures.told start r.heard met (record { session = v.session; lists = v.lists; read = v.read }))
+
+pub returns-clause-many : goal.returns-clause-many
+returns-clause-many g c start r ls k full =
+    let met = come_to start (set_up_by start r.heard) c.args.step ls in
+    let v = subst (Keeps start r.heard met) (sym c.self.view_is) (c.in-Ok.ensures.stands start r.heard ls k.keeps) in
+    c.look_at.ensures.many start r.heard met (record { session = v.session; lists = v.lists; read = v.read }) full
