@@ -1,5 +1,5 @@
 -- The frames in some bytes, one behind another.
-use Rattle.std.proofs.Common.{◌≡◌, ℕ, ◌<◌, ◌++◌, ◌∷◌, [], Bool, List, length, refl, sym, ap, subst, ◌∙◌, arith, Option, Some}
+use Rattle.std.proofs.Common.{◌≡◌, ℕ, ◌<◌, ◌++◌, ◌∷◌, [], Bool, List, length, refl, sym, ap, subst, ◌∙◌, arith}
 use Rattle.std.proofs.lemmas.List.{append_assoc, append-nil, length-append}
 use Rattle.captured_samples.specs.Frames.{Came}
 use Rattle.captured_samples.specs.Slaves.{SlaveOf, StandsAfter}
@@ -19,17 +19,17 @@ joined-behind (g ∷ fs) f =
     ap (λ (bytes : List ℕ). frame g.0 g.1 ++ bytes) (joined-behind fs f)
     ∙ sym (append_assoc (frame g.0 g.1) (joined_frames fs) (frame f.0 f.1))
 
-pub hears-none : (m : Bool) (s : SlaveOf) (t : Option (List Told)) → HearsFrames m [] s s t t
+pub hears-none : (m : Bool) (s : SlaveOf) (t : List Told → Type 0) → HearsFrames m [] s s t t
 hears-none m s t = record { stands = λ start h st. st; tells = λ start h st was. was }
 
 -- one frame more
-pub hears-more : (m : Bool) (fs : List (ℕ × List ℕ)) (f : ℕ × List ℕ) (a b c : SlaveOf) (s t u : Option (List Told))
+pub hears-more : (m : Bool) (fs : List (ℕ × List ℕ)) (f : ℕ × List ℕ) (a b c : SlaveOf) (s t u : List Told → Type 0)
     → HearsFrames m fs a b s t → HearsFrames m (f ∷ []) b c t u → HearsFrames m (fs ++ f ∷ []) a c s u
 hears-more m fs f a b c s t u before own = record {
   stands = λ start h st. subst (λ (k : List Came). StandsAfter start k c) (sym (came-behind m fs f h))
       (own.stands start (came_with m fs h) (before.stands start h st));
-  tells = λ start h st was. own.tells start (came_with m fs h) (before.stands start h st) (before.tells start h st was)
-      ∙ ap (λ (k : List Came). Some (told_of start k)) (sym (came-behind m fs f h));
+  tells = λ start h st was. subst (λ (k : List Came). u (told_of start k)) (sym (came-behind m fs f h))
+      (own.tells start (came_with m fs h) (before.stands start h st) (before.tells start h st was));
 }
 
 pub whole-more : (bytes : List ℕ) (fs : List (ℕ × List ℕ)) (n : ℕ) (p rest behind : List ℕ) → bytes ≡ joined_frames fs ++ rest

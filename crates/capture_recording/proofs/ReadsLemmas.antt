@@ -1,5 +1,5 @@
 -- What is read of a capture, unit by unit.
-use Rattle.std.proofs.Common.{◌≡◌, ℕ, zero, suc, ◌+◌, ◌++◌, ◌∷◌, [], Bool, List, take, drop, sym, ap, subst, ◌∙◌, arith, Option}
+use Rattle.std.proofs.Common.{◌≡◌, ℕ, zero, suc, ◌+◌, ◌++◌, ◌∷◌, [], List, take, drop, sym, ap, subst, ◌∙◌, arith, Option}
 use Rattle.std.proofs.KnownBytes.{Consumes-trans, starts_with_rest}
 use Rattle.std.proofs.lemmas.List.{append_assoc, append-nil, take-append-drop}
 use Rattle.std.specs.Io.{StartsWith, appended_bytes}
@@ -12,13 +12,13 @@ use Rattle.captured_samples.specs.Standing.{Told}
 use Rattle.capture_recording.specs.Reads.{TakesUnits}
 use Rattle.capture_recording.specs.Slaves.{SlavesOf}
 
-module _ {K S : Type 0} (told : S → Option (List Told)) (says : K → Bool) (reads : K → IpAddr → Type 0) where
-  pub units-none : (k : Known) (x : SlavesOf K S) → TakesUnits told says reads k k x x []
+module _ {K S : Type 0} (told : S → List Told → Type 0) (reads : K → IpAddr → Type 0) where
+  pub units-none : (k : Known) (x : SlavesOf K S) → TakesUnits told reads k k x x []
   units-none k x first before packets stands taken =
       (packets, subst (λ (bs : List ℕ). StandsAfter k bs packets) (sym (append-nil before)) stands, taken)
 
-  pub units-both : (a b c : Known) (x y z : SlavesOf K S) (xs ys : List ℕ) → TakesUnits told says reads a b x y xs
-      → TakesUnits told says reads b c y z ys → TakesUnits told says reads a c x z (xs ++ ys)
+  pub units-both : (a b c : Known) (x y z : SlavesOf K S) (xs ys : List ℕ) → TakesUnits told reads a b x y xs
+      → TakesUnits told reads b c y z ys → TakesUnits told reads a c x z (xs ++ ys)
   units-both a b c x y z xs ys one two first before packets stands taken =
       let m = one first before packets stands taken in
       let n = two first (before ++ xs) m.0 m.1 m.2 in

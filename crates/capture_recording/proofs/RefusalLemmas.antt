@@ -1,5 +1,5 @@
 -- Why a capture is read no further.
-use Rattle.std.proofs.Common.{◌≡◌, ◌≢◌, ◌⊎◌, inl, inr, ℕ, ◌≤◌, ◌++◌, ◌∷◌, [], Bool, List, length, map, reverse, slice_get, refl, sym, ap, subst, ◌∙◌, arith, Option, Some, Result, Ok, Err, IfErr}
+use Rattle.std.proofs.Common.{◌≡◌, ◌≢◌, ◌⊎◌, inl, inr, ℕ, ◌≤◌, ◌++◌, ◌∷◌, [], List, length, map, reverse, slice_get, refl, sym, ap, subst, ◌∙◌, arith, Option, Some, Result, Ok, Err, IfErr}
 use Rattle.std.proofs.lemmas.List.{append_assoc, length-append, length-map}
 use Rattle.std.proofs.lemmas.Option.{slice_get-map}
 use Rattle.std.specs.declared.net.ip_addr.IpAddr.{IpAddr}
@@ -66,10 +66,10 @@ module _ {S : Type 0} where
     one i a (inr p) = (subst reads (sym p.1) own, inl (talk, is, sym p.1))
 
   -- the set-up of a slave that follows what was said is nearly full
-  pub full-with : (told : S → Option (List Told)) (says : Bool) (form : Form) (port : ℕ) (said : List WholeOf) (d : WholeOf) (talk : Talk)
-      (s : Slave S) → IsTalk port d talk → s.address ≡ talk.slave → d.protocol ≢ 6 → Follows told says form port said s
+  pub full-with : (told : S → List Told → Type 0) (form : Form) (port : ℕ) (said : List WholeOf) (d : WholeOf) (talk : Talk)
+      (s : Slave S) → IsTalk port d talk → s.address ≡ talk.slave → d.protocol ≢ 6 → Follows told form port said s
       → FillsUpBy talk.is_of_master d.payload s.samples → IsFullWith form port talk d said
-  full-with told says form port said d talk s is own other f fills = record {
+  full-with told form port said d talk s is own other f fills = record {
     h = f.h;
     came = subst (λ (a : IpAddr). CameTo port a said f.h) own f.came;
     udp = udp-of d is.ports is.has other;
@@ -80,16 +80,16 @@ module _ {S : Type 0} where
     full = λ start given. fills.1.full start f.h (f.stands start given);
   }
 
-module _ {K S : Type 0} (told : S → Option (List Told)) (says : K → Bool) (reads : K → IpAddr → Type 0) (first : K) where
+module _ {K S : Type 0} (told : S → List Told → Type 0) (reads : K → IpAddr → Type 0) (first : K) where
   pub refuses-many : (said : List WholeOf) (x : SlavesOf K S) (d : WholeOf) (talk : Talk) (fault : CaptureReadFault)
-      → AllHeard told says reads first said x → IsTalk x.port d talk → IsOneTooMany (reads first) talk.slave x.slaves fault
+      → AllHeard told reads first said x → IsTalk x.port d talk → IsOneTooMany (reads first) talk.slave x.slaves fault
       → RefusesSaid (reads first) x.form x.port (d ∷ said) fault
   refuses-many said x d talk fault all is one =
       subst (λ (f : CaptureReadFault). RefusesSaid (reads first) x.form x.port (d ∷ said) f) (sym one.is)
       (many-talk (reads first) x.port said d x.slaves talk one.many all.each_heard.apart all.each_heard.read all.talked one.unmet one.read is)
 
   pub refuses-session : (said : List WholeOf) (x y : SlavesOf K S) (d : WholeOf) (talk : Talk) (i : ℕ) (was : Slave S) (fault : CaptureReadFault)
-      → EachHeard told says reads first said y → y.form ≡ x.form → y.port ≡ x.port → IsTalk x.port d talk → slice_get y.slaves i ≡ Some was
+      → EachHeard told reads first said y → y.form ≡ x.form → y.port ≡ x.port → IsTalk x.port d talk → slice_get y.slaves i ≡ Some was
       → was.address ≡ talk.slave → fault ≡ Session ManyFacts → (d.protocol ≢ 6 → FillsUpBy talk.is_of_master d.payload was.samples)
       → RefusesSaid (reads first) x.form x.port (d ∷ said) fault
   refuses-session said x y d talk i was fault each form port is at own session fills =
@@ -100,9 +100,9 @@ module _ {K S : Type 0} (told : S → Option (List Told)) (says : K → Bool) (r
           is,
           λ none.
               let other : d.protocol ≢ 6 = none.0 talk is refl in
-              full-with told (says first) x.form x.port said d talk was is own other
-              (subst (λ (n : ℕ). Follows told (says first) x.form n said was) port
-              (subst (λ (f : Form). Follows told (says first) f y.port said was) form
+              full-with told x.form x.port said d talk was is own other
+              (subst (λ (n : ℕ). Follows told x.form n said was) port
+              (subst (λ (f : Form). Follows told f y.port said was) form
               (each.each i was at
               (subst (λ (n : ℕ). NoSegments n was.address said) (sym port)
               (subst (λ (a : IpAddr). NoSegments x.port a said) (sym own) none.1)))))
@@ -112,7 +112,7 @@ module _ {K S : Type 0} (told : S → Option (List Told)) (says : K → Bool) (r
 
   -- at the end a slave keeps a connection
   pub refuses-end : (ps : List PacketOf) (x : SlavesOf K S) (i : ℕ) (s : Slave S) (fault : CaptureReadFault)
-      → AllTaken told says reads first ps x → slice_get x.slaves i ≡ Some s → (IsOfDatagrams s → ⊥) → fault ≡ Session ManyFacts
+      → AllTaken told reads first ps x → slice_get x.slaves i ≡ Some s → (IsOfDatagrams s → ⊥) → fault ≡ Session ManyFacts
       → RefusesEnd x.port ps fault
   refuses-end ps x i s fault t at kept session =
       (session, t.waits, t.said, t.are, s.address, λ none. kept (t.heard.each_heard.each i s at none).plain)
@@ -171,21 +171,21 @@ module _ {K S : Type 0} (Taken : List PacketOf → SlavesOf K S → Type 0) (rea
       subst (λ (f : CaptureReadFault). RefusesCapture Taken reads form port old new slaves f) (sym r.0)
       (before, rest, consumed, inr (end, known, packets, stands, (refl, r.1, r.2, r.3, r.4, r.5)))
 
-module _ {K S : Type 0} (told : S → Option (List Told)) (says : K → Bool) (reads : K → IpAddr → Type 0) where
+module _ {K S : Type 0} (told : S → List Told → Type 0) (reads : K → IpAddr → Type 0) where
   -- a unit behind others isn't taken
   pub units-stop : (a b : Known) (x y z : SlavesOf K S) (front behind : List ℕ) (fault : CaptureReadFault)
-      → TakesUnits told says reads a b x y front → y.form ≡ x.form → y.port ≡ x.port → RefusesUnits told says reads b y z behind fault
-      → RefusesUnits told says reads a x z (front ++ behind) fault
+      → TakesUnits told reads a b x y front → y.form ≡ x.form → y.port ≡ x.port → RefusesUnits told reads b y z behind fault
+      → RefusesUnits told reads a x z (front ++ behind) fault
   units-stop a b x y z front behind fault units form port refuses first before packets stands taken =
       let m = units first before packets stands taken in
-      or-memory (StopsWithin (AllTaken told says reads first) (reads first) y.form y.port (before ++ front) behind z)
-      (StopsWithin (AllTaken told says reads first) (reads first) x.form x.port before (front ++ behind) z) fault
+      or-memory (StopsWithin (AllTaken told reads first) (reads first) y.form y.port (before ++ front) behind z)
+      (StopsWithin (AllTaken told reads first) (reads first) x.form x.port before (front ++ behind) z) fault
       (λ r. (
         front ++ r.0,
         r.1,
         ap (λ (bs : List ℕ). front ++ bs) r.2 ∙ sym (append_assoc front r.0 r.1),
-        subst (λ (bs : List ℕ). StopsAt (AllTaken told says reads first) (reads first) x.form x.port bs r.1 z fault) (append_assoc before front r.0)
-            (subst (λ (n : ℕ). StopsAt (AllTaken told says reads first) (reads first) x.form n ((before ++ front) ++ r.0) r.1 z fault) port
-            (subst (λ (f : Form). StopsAt (AllTaken told says reads first) (reads first) f y.port ((before ++ front) ++ r.0) r.1 z fault) form r.3)),
+        subst (λ (bs : List ℕ). StopsAt (AllTaken told reads first) (reads first) x.form x.port bs r.1 z fault) (append_assoc before front r.0)
+            (subst (λ (n : ℕ). StopsAt (AllTaken told reads first) (reads first) x.form n ((before ++ front) ++ r.0) r.1 z fault) port
+            (subst (λ (f : Form). StopsAt (AllTaken told reads first) (reads first) f y.port ((before ++ front) ++ r.0) r.1 z fault) form r.3)),
       ))
       (refuses first (before ++ front) m.0 m.1 m.2)

@@ -1,5 +1,5 @@
 -- What slaves heard of what was said.
-use Rattle.std.proofs.Common.{◌≡◌, ◌≢◌, ◌⊎◌, ⊎_elim, inl, inr, ℕ, zero, suc, ◌<◌, ◌++◌, ◌∷◌, [], Bool, List, length, set, slice_get, refl, sym, ap, subst, ◌∙◌, arith, Option, Some, None, option_map, IfSome}
+use Rattle.std.proofs.Common.{◌≡◌, ◌≢◌, ◌⊎◌, ⊎_elim, inl, inr, ℕ, zero, suc, ◌<◌, ◌++◌, ◌∷◌, [], List, length, set, slice_get, refl, sym, ap, subst, ◌∙◌, arith, Option, Some, None, option_map, IfSome}
 use Rattle.std.proofs.lemmas.List.{length-append}
 use Rattle.std.proofs.lemmas.Option.{none-some}
 use Rattle.std.specs.List.{AllByRecursion}
@@ -62,11 +62,11 @@ pub udp-of : (d : WholeOf) (ports : ℕ × ℕ) → HasPorts d ports → d.proto
 udp-of d ports (inl has) other = has.0
 udp-of d ports (inr has) other = absurd (other has.0.0)
 
-module _ {S : Type 0} (told : S → Option (List Told)) (says : Bool) (form : Form) (port : ℕ) (said : List WholeOf) (d : WholeOf) where
+module _ {S : Type 0} (told : S → List Told → Type 0) (form : Form) (port : ℕ) (said : List WholeOf) (d : WholeOf) where
   -- a datagram of it and its master came
-  pub follows-more : (talk : Talk) (was is : Slave S) → Follows told says form port said was → IsTalk port d talk
+  pub follows-more : (talk : Talk) (was is : Slave S) → Follows told form port said was → IsTalk port d talk
       → was.address ≡ talk.slave → d.protocol ≢ 6 → HearsTalk told d talk.is_of_master was is
-      → Follows told says form port (d ∷ said) is
+      → Follows told form port (d ∷ said) is
   follows-more talk was is f talks own other hears =
       let udp : IsOfUdp d = udp-of d talks.ports talks.has other in
       let heard = (hears.datagram other).some udp.1 in
@@ -87,13 +87,13 @@ module _ {S : Type 0} (told : S → Option (List Told)) (says : Bool) (form : Fo
           }),
         );
         stands = λ start given. heard.3.stands start f.h (f.stands start given);
-        tells = λ so start given. heard.3.tells start f.h (f.stands start given) (f.tells so start given);
+        tells = λ start given. heard.3.tells start f.h (f.stands start given) (f.tells start given);
         plain = hears.plain other f.plain;
       }
 
   -- somebody else talked, or nobody
-  pub follows-else : (s : Slave S) → Follows told says form port said s → IsElse port s.address d
-      → Follows told says form port (d ∷ said) s
+  pub follows-else : (s : Slave S) → Follows told form port said s → IsElse port s.address d
+      → Follows told form port (d ∷ said) s
   follows-else s f else_ = record {
     h = f.h;
     came = (f.h, f.came, inr (else_, refl));

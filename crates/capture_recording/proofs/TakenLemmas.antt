@@ -1,5 +1,5 @@
 -- One packet more was taken.
-use Rattle.std.proofs.Common.{◌≡◌, inl, inr, ℕ, ◌∷◌, Bool, List, refl, sym, subst, Option, Some, None, MatchOption, drop}
+use Rattle.std.proofs.Common.{◌≡◌, inl, inr, ℕ, ◌∷◌, List, refl, sym, subst, Option, Some, None, MatchOption, drop}
 use Rattle.std.specs.declared.net.ip_addr.IpAddr.{IpAddr}
 use Rattle.capture.specs.Packets.{PacketOf}
 use Rattle.captured_samples.specs.Standing.{Told}
@@ -67,9 +67,9 @@ said-part p ps ip part waits later said all whole are has some joins and = (
   and,
 )
 
-module _ {K S : Type 0} (told : S → Option (List Told)) (says : K → Bool) (reads : K → IpAddr → Type 0) (first : K) where
-  pub taken-none : (p : PacketOf) (ps : List PacketOf) (x : SlavesOf K S) → AllTaken told says reads first ps x
-      → ((ip : IpOf) → HasIp p ip → ⊥) → AllTaken told says reads first (p ∷ ps) x
+module _ {K S : Type 0} (told : S → List Told → Type 0) (reads : K → IpAddr → Type 0) (first : K) where
+  pub taken-none : (p : PacketOf) (ps : List PacketOf) (x : SlavesOf K S) → AllTaken told reads first ps x
+      → ((ip : IpOf) → HasIp p ip → ⊥) → AllTaken told reads first (p ∷ ps) x
   taken-none p ps x t none = record {
     waits = t.waits;
     said = t.said;
@@ -78,10 +78,10 @@ module _ {K S : Type 0} (told : S → Option (List Told)) (says : K → Bool) (r
     heard = t.heard;
   }
 
-  pub taken-whole : (p : PacketOf) (ps : List PacketOf) (ip : IpOf) (x y : SlavesOf K S) (t : AllTaken told says reads first ps x)
+  pub taken-whole : (p : PacketOf) (ps : List PacketOf) (ip : IpOf) (x y : SlavesOf K S) (t : AllTaken told reads first ps x)
       → HasIp p ip → ip.part ≡ None
-      → (d : WholeOf) × IsBehind (data_in ip) d × AllHeard told says reads first (d ∷ t.said) y
-      → y.parts ≡ x.parts → AllTaken told says reads first (p ∷ ps) y
+      → (d : WholeOf) × IsBehind (data_in ip) d × AllHeard told reads first (d ∷ t.said) y
+      → y.parts ≡ x.parts → AllTaken told reads first (p ∷ ps) y
   taken-whole p ps ip x y t has none h same = record {
     waits = t.waits;
     said = h.0 ∷ t.said;
@@ -91,8 +91,8 @@ module _ {K S : Type 0} (told : S → Option (List Told)) (says : K → Bool) (r
   }
 
   pub taken-part : (p : PacketOf) (ps : List PacketOf) (ip : IpOf) (part : Part) (x y : SlavesOf K S)
-      (t : AllTaken told says reads first ps x) → HasIp p ip → ip.part ≡ Some part
-      → TakesPart told says reads first t.waits ip t.said y → AllTaken told says reads first (p ∷ ps) y
+      (t : AllTaken told reads first ps x) → HasIp p ip → ip.part ≡ Some part
+      → TakesPart told reads first t.waits ip t.said y → AllTaken told reads first (p ∷ ps) y
   taken-part p ps ip part x y t has some h = record {
     waits = h.later;
     said = h.all;

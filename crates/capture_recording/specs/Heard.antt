@@ -1,6 +1,6 @@
 -- What a slave and its master said to one another in a datagram: the frames in it, one behind
 -- another.
-use Rattle.std.specs.Prelude.{◌≡◌, ℕ, ◌++◌, ◌∷◌, [], Bool, true, false, All, List, Option, Some}
+use Rattle.std.specs.Prelude.{◌≡◌, ℕ, ◌++◌, ◌∷◌, [], Bool, true, false, All, List}
 use Rattle.captured_samples.specs.Frames.{Came, of_master, of_slave}
 use Rattle.captured_samples.specs.Slaves.{IsFull, SlaveOf, StandsAfter}
 use Rattle.captured_samples.specs.Standing.{Start, Told, set_up_of, told_of}
@@ -24,20 +24,20 @@ came_with is_of_master [] h = h
 came_with is_of_master (f ∷ fs) h = came_with is_of_master fs (came_by is_of_master f ∷ h)
 
 -- a slave heard them: it stands after all that came before and these, and who is handed its samples
--- was told just what that tells
+-- stands after what that tells
 pub record HearsFrames (is_of_master : Bool) (fs : List (ℕ × List ℕ)) (old new : SlaveOf)
-    (told told_then : Option (List Told))
+    (told told_then : List Told → Type 0)
     : Type 0 where
   pub stands :
       (start : Start) (h : List Came) → StandsAfter start h old
       → StandsAfter start (came_with is_of_master fs h) new
   pub tells :
-      (start : Start) (h : List Came) → StandsAfter start h old → told ≡ Some (told_of start h)
-      → told_then ≡ Some (told_of start (came_with is_of_master fs h))
+      (start : Start) (h : List Came) → StandsAfter start h old → told (told_of start h)
+      → told_then (told_of start (came_with is_of_master fs h))
 
 -- the frames of a UDP datagram, if it is one; of other bytes none
 pub record HearsDatagram (is_of_master : Bool) (bytes : List ℕ) (old new : SlaveOf)
-    (told told_then : Option (List Told))
+    (told told_then : List Told → Type 0)
     : Type 0 where
   pub some :
       IsUdp bytes

@@ -1,5 +1,5 @@
 -- What is read of a capture.
-use Rattle.std.specs.Prelude.{ℕ, Bool, List, ◌++◌, Option, reverse}
+use Rattle.std.specs.Prelude.{ℕ, List, ◌++◌, Option, reverse}
 use Rattle.std.specs.Io.KnownBytes.{Consumes, IsAtEnd}
 use Rattle.std.specs.declared.net.ip_addr.IpAddr.{IpAddr}
 use Rattle.capture.specs.Packets.{PacketOf}
@@ -12,16 +12,16 @@ module _ {K S : Type 0} where
   -- bytes of a capture were taken: whatever the reader stood after, it stands after these too, and
   -- the packets in them were taken
   abbrev pub TakesUnits :
-      (S → Option (List Told)) → (K → Bool) → (K → IpAddr → Type 0) → Known → Known
+      (S → List Told → Type 0) → (K → IpAddr → Type 0) → Known → Known
       → SlavesOf K S → SlavesOf K S → List ℕ → Type 0
-  TakesUnits told says reads from to old new bytes =
+  TakesUnits told reads from to old new bytes =
       (first : K) (before : List ℕ) (packets : List PacketOf) → StandsAfter from before packets
-      → AllTaken told says reads first (reverse packets) old
+      → AllTaken told reads first (reverse packets) old
       → (all : List PacketOf) × StandsAfter to (before ++ bytes) all
-      × AllTaken told says reads first (reverse all) new
+      × AllTaken told reads first (reverse all) new
 
   -- a capture was read to its end: its bytes, the packets that stand in them, and all were taken
-  pub record TakesCapture (told : S → Option (List Told)) (says : K → Bool)
+  pub record TakesCapture (told : S → List Told → Type 0)
       (reads : K → IpAddr → Type 0) (first : K) (old new : Option (List ℕ)) (slaves : SlavesOf K S)
       : Type 0 where
     -- fixed by `consumed` and `end`
@@ -32,4 +32,4 @@ module _ {K S : Type 0} where
     pub known : Known
     pub packets : List PacketOf
     pub stand : StandsAfter known bytes packets
-    pub taken : AllTaken told says reads first (reverse packets) slaves
+    pub taken : AllTaken told reads first (reverse packets) slaves

@@ -1,5 +1,5 @@
 -- Why a capture is read no further, by the bytes that were read. Memory may want at any time.
-use Rattle.std.specs.Prelude.{◌≡◌, ◌≢◌, ◌⊎◌, ⊤, ℕ, ◌<◌, ◌≤◌, ◌++◌, ◌∷◌, [], Bool, List, length}
+use Rattle.std.specs.Prelude.{◌≡◌, ◌≢◌, ◌⊎◌, ⊤, ℕ, ◌<◌, ◌≤◌, ◌++◌, ◌∷◌, [], List, length}
 use Rattle.std.specs.Prelude.{reverse, slice_get, All, Option, Some}
 use Rattle.std.specs.Io.KnownBytes.{Consumes, IsAtEnd}
 use Rattle.std.specs.declared.net.ip_addr.IpAddr.{IpAddr}
@@ -175,13 +175,13 @@ module _ {K S : Type 0} where
 
   -- why of bytes of a capture, which go on where those before ended, not all units are taken
   abbrev pub RefusesUnits :
-      (S → Option (List Told)) → (K → Bool) → (K → IpAddr → Type 0) → Known → SlavesOf K S
+      (S → List Told → Type 0) → (K → IpAddr → Type 0) → Known → SlavesOf K S
       → SlavesOf K S → List ℕ → CaptureReadFault → Type 0
-  RefusesUnits told says reads from old new bytes fault =
+  RefusesUnits told reads from old new bytes fault =
       (first : K) (before : List ℕ) (packets : List PacketOf) → StandsAfter from before packets
-      → AllTaken told says reads first (reverse packets) old
+      → AllTaken told reads first (reverse packets) old
       → OrMemory
-      (StopsWithin (AllTaken told says reads first) (reads first) old.form old.port before bytes new)
+      (StopsWithin (AllTaken told reads first) (reads first) old.form old.port before bytes new)
       fault
 
   -- the end stands within a header, a record or a block: these bytes are left, and what is next is

@@ -1,5 +1,5 @@
 -- The slaves of a capture: what came to each of them, of what the packets said.
-use Rattle.std.specs.Prelude.{◌≡◌, ◌≢◌, ◌⊎◌, ◌↔◌, ℕ, ◌<◌, Bool, true, List, [], ◌∷◌, length}
+use Rattle.std.specs.Prelude.{◌≡◌, ◌≢◌, ◌⊎◌, ◌↔◌, ℕ, ◌<◌, Bool, List, [], ◌∷◌, length}
 use Rattle.std.specs.Prelude.{slice_get, ⊤, Option, Some, None}
 use Rattle.std.specs.List.{AllByRecursion}
 use Rattle.std.specs.Option.{option_map}
@@ -114,7 +114,7 @@ module _ {S : Type 0} where
   AllEnd old new = (i : ℕ) → EndsAt (slice_get old i) (slice_get new i)
 
   -- it heard what it and a master said to one another: of a datagram of UDP the frames
-  pub record HearsTalk (told : S → Option (List Told)) (d : WholeOf) (is_of_master : Bool)
+  pub record HearsTalk (told : S → List Told → Type 0) (d : WholeOf) (is_of_master : Bool)
       (old new : Slave S)
       : Type 0 where
     pub address : new.address ≡ old.address
@@ -124,9 +124,8 @@ module _ {S : Type 0} where
         (told new.sink)
     pub plain : d.protocol ≢ 6 → IsOfDatagrams old → IsOfDatagrams new
 
-  -- a slave stands after what came to it, and its sink was told just what that tells, if it says
-  -- what it is told
-  pub record Follows (told : S → Option (List Told)) (says : Bool) (form : Form) (port : ℕ)
+  -- a slave stands after what came to it, and its sink was told just what that tells
+  pub record Follows (told : S → List Told → Type 0) (form : Form) (port : ℕ)
       (said : List WholeOf) (s : Slave S)
       : Type 0 where
     -- fixed by `came`
@@ -134,7 +133,7 @@ module _ {S : Type 0} where
     pub came : CameTo port s.address said h
     pub stands : (start : Start) → start.given ≡ form → StandsAfter start h s.samples
     pub tells :
-        says ≡ true → (start : Start) → start.given ≡ form → told s.sink ≡ Some (told_of start h)
+        (start : Start) → start.given ≡ form → told s.sink (told_of start h)
     pub plain : IsOfDatagrams s
 
   -- who talks is met, if its samples are to be read
@@ -147,28 +146,27 @@ module _ {S : Type 0} where
 module _ {K S : Type 0} where
   -- each slave that was met follows what was said, and who talks is met, if it is to be read, from
   -- when the sinks were these
-  pub record EachHeard (told : S → Option (List Told)) (says : K → Bool)
+  pub record EachHeard (told : S → List Told → Type 0)
       (reads : K → IpAddr → Type 0) (first : K) (said : List WholeOf) (x : SlavesOf K S)
       : Type 0 where
     pub each :
         (i : ℕ) (s : Slave S) → slice_get x.slaves i ≡ Some s
-        → NoSegments x.port s.address said → Follows told (says first) x.form x.port said s
+        → NoSegments x.port s.address said → Follows told x.form x.port said s
     pub heard : AllByRecursion (IsHeard (reads first) x.port x.slaves) said
     pub apart : AreApart x.slaves
     -- those alone are met whose samples are to be read
     pub read : (a : IpAddr) → IsMet a x.slaves → reads first a
     pub left : (a : IpAddr) → (IsMet a x.slaves → ⊥) → reads x.sinks a ↔ reads first a
-    pub says_on : says x.sinks ≡ says first
 
   -- all that was said was heard, each by its slave, and no other is met
-  pub record AllHeard (told : S → Option (List Told)) (says : K → Bool)
+  pub record AllHeard (told : S → List Told → Type 0)
       (reads : K → IpAddr → Type 0) (first : K) (said : List WholeOf) (x : SlavesOf K S)
       : Type 0 where
-    pub each_heard : EachHeard told says reads first said x
+    pub each_heard : EachHeard told reads first said x
     pub talked : AllTalked x.port x.slaves said
 
   -- packets, with the newest in front, were taken
-  pub record AllTaken (told : S → Option (List Told)) (says : K → Bool)
+  pub record AllTaken (told : S → List Told → Type 0)
       (reads : K → IpAddr → Type 0) (first : K) (ps : List PacketOf) (x : SlavesOf K S)
       : Type 0 where
     -- both are fixed by `are`
@@ -176,7 +174,7 @@ module _ {K S : Type 0} where
     pub said : List WholeOf
     pub are : Said ps waits said
     pub waiting : AreWaiting x.parts waits
-    pub heard : AllHeard told says reads first said x
+    pub heard : AllHeard told reads first said x
 
   -- port, form and what waits for other parts stay
   pub record KeepsRest (old new : SlavesOf K S) : Type 0 where
@@ -185,7 +183,7 @@ module _ {K S : Type 0} where
     pub parts : new.parts ≡ old.parts
 
   -- a part of a datagram came, and what is whole with it was heard
-  pub record TakesPart (told : S → Option (List Told)) (says : K → Bool)
+  pub record TakesPart (told : S → List Told → Type 0)
       (reads : K → IpAddr → Type 0) (first : K) (waits : List WaitOf) (ip : IpOf)
       (before : List WholeOf) (new : SlavesOf K S)
       : Type 0 where
@@ -196,4 +194,4 @@ module _ {K S : Type 0} where
     pub joins : Joins waits ip whole later
     pub said : AndSaid whole before all
     pub waiting : AreWaiting new.parts later
-    pub heard : AllHeard told says reads first all new
+    pub heard : AllHeard told reads first all new

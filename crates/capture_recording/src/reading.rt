@@ -26,13 +26,13 @@ pub fn read_capture<I: Read, K: Sinks + Drop>(
     input: &mut I,
     slaves: &mut Slaves<K>,
 ) -> Result<(), CaptureReadFault>
-    ensures ok { (first : K) → AllTaken K.Sink.told K.says K.reads first [] slaves.old
-        → OnOk result (TakesCapture K.Sink.told K.says K.reads first
+    ensures ok { (first : K) → AllTaken K.Sink.told K.reads first [] slaves.old
+        → OnOk result (TakesCapture K.Sink.told K.reads first
         (I.remaining input.old) (I.remaining input.new) slaves.new) }
     ensures form { OnOk result (slaves.new.form ≡ slaves.old.form) }
     ensures port { OnOk result (slaves.new.port ≡ slaves.old.port) }
-    ensures err { (first : K) → AllTaken K.Sink.told K.says K.reads first [] slaves.old
-        → IfErr result (RefusesCapture (AllTaken K.Sink.told K.says K.reads first) (K.reads first)
+    ensures err { (first : K) → AllTaken K.Sink.told K.reads first [] slaves.old
+        → IfErr result (RefusesCapture (AllTaken K.Sink.told K.reads first) (K.reads first)
         slaves.old.form slaves.old.port (I.remaining input.old) (I.remaining input.new)
         slaves.new) }
 {
@@ -76,14 +76,14 @@ fn take_units<K: Sinks + Drop>(
     slaves: &mut Slaves<K>,
 ) -> Result<usize, CaptureReadFault>
     ensures within { IfOk result (λ taken. taken ≤ length held.now) }
-    ensures units { IfOk result (λ taken. TakesUnits K.Sink.told K.says K.reads
+    ensures units { IfOk result (λ taken. TakesUnits K.Sink.told K.reads
         reader.old reader.new slaves.old slaves.new (take taken held.now)) }
     ensures short { IfOk result (λ taken. (drop taken held.now ≡ [])
         ⊎ NextHas (λ len. length (drop taken held.now) < len) reader.new
         (drop taken held.now)) }
     ensures form { OnOk result (slaves.new.form ≡ slaves.old.form) }
     ensures port { OnOk result (slaves.new.port ≡ slaves.old.port) }
-    ensures err { IfErr result (RefusesUnits K.Sink.told K.says K.reads reader.old slaves.old
+    ensures err { IfErr result (RefusesUnits K.Sink.told K.reads reader.old slaves.old
         slaves.new held.now) }
 {
     let mut at = 0usize;
@@ -104,13 +104,13 @@ fn take_unit<K: Sinks + Drop>(
     slaves: &mut Slaves<K>,
 ) -> Result<usize, CaptureReadFault>
     ensures within { IfOk result (λ taken. taken ≤ length bytes.now) }
-    ensures units { IfOk result (λ taken. TakesUnits K.Sink.told K.says K.reads
+    ensures units { IfOk result (λ taken. TakesUnits K.Sink.told K.reads
         reader.old reader.new slaves.old slaves.new (take taken bytes.now)) }
     ensures short { IfOk result (λ taken. taken ≡ 0
         → NextHas (λ len. length bytes.now < len) reader.new bytes.now) }
     ensures form { OnOk result (slaves.new.form ≡ slaves.old.form) }
     ensures port { OnOk result (slaves.new.port ≡ slaves.old.port) }
-    ensures err { IfErr result (RefusesUnits K.Sink.told K.says K.reads reader.old slaves.old
+    ensures err { IfErr result (RefusesUnits K.Sink.told K.reads reader.old slaves.old
         slaves.new bytes.now) }
 {
     match reader.next(bytes) {

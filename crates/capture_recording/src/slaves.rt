@@ -67,7 +67,7 @@ impl<K: Sinks + Drop> Slaves<K> {
     pub fn new(alloc: Global, port: u16, form: Form, sinks: K) -> Slaves<K>
         ensures port { result.port ≡ port }
         ensures form { result.form ≡ form }
-        ensures taken { AllTaken K.Sink.told K.says K.reads sinks [] result }
+        ensures taken { AllTaken K.Sink.told K.reads sinks [] result }
     {
         Slaves {
             alloc,
@@ -109,13 +109,13 @@ impl<K: Sinks + Drop> Slaves<K> {
     /// The next captured packet.
     pub fn take(&mut self, captured: &Captured<'_>) -> Result<(), CaptureReadFault>
         ensures taken { (first : K) (ps : List PacketOf)
-            → AllTaken K.Sink.told K.says K.reads first ps self.old
-            → OnOk result (AllTaken K.Sink.told K.says K.reads first
+            → AllTaken K.Sink.told K.reads first ps self.old
+            → OnOk result (AllTaken K.Sink.told K.reads first
             (packet_of captured.now ∷ ps) self.new) }
         ensures port { OnOk result (self.new.port ≡ self.old.port) }
         ensures form { OnOk result (self.new.form ≡ self.old.form) }
         ensures err { (first : K) (ps : List PacketOf)
-            → AllTaken K.Sink.told K.says K.reads first ps self.old
+            → AllTaken K.Sink.told K.reads first ps self.old
             → IfErr result (OrMemory (RefusesPacket (K.reads first) self.old.form self.old.port
             (packet_of captured.now ∷ ps))) }
     {
@@ -135,12 +135,12 @@ impl<K: Sinks + Drop> Slaves<K> {
     /// The end of the capture: what waits in connections is taken.
     pub fn end(&mut self) -> Result<(), CaptureReadFault>
         ensures taken { (first : K) (ps : List PacketOf)
-            → AllTaken K.Sink.told K.says K.reads first ps self.old
-            → OnOk result (AllTaken K.Sink.told K.says K.reads first ps self.new) }
+            → AllTaken K.Sink.told K.reads first ps self.old
+            → OnOk result (AllTaken K.Sink.told K.reads first ps self.new) }
         ensures port { OnOk result (self.new.port ≡ self.old.port) }
         ensures form { OnOk result (self.new.form ≡ self.old.form) }
         ensures err { (first : K) (ps : List PacketOf)
-            → AllTaken K.Sink.told K.says K.reads first ps self.old
+            → AllTaken K.Sink.told K.reads first ps self.old
             → IfErr result (OrMemory (RefusesEnd self.old.port ps)) }
     {
         end_all(&mut self.slaves)
@@ -153,12 +153,12 @@ impl<K: Sinks + Drop> Slaves<K> {
         packet: &IpPacket<'_>,
     ) -> Result<(), CaptureReadFault>
         ensures heard { (first : K) (said : List WholeOf)
-            → AllHeard K.Sink.told K.says K.reads first said self.old
+            → AllHeard K.Sink.told K.reads first said self.old
             → OnOk result ((d : WholeOf) × IsBehind (data_in (ip_of packet.now)) d
-            × AllHeard K.Sink.told K.says K.reads first (d ∷ said) self.new) }
+            × AllHeard K.Sink.told K.reads first (d ∷ said) self.new) }
         ensures stays { OnOk result (KeepsRest self.old self.new) }
         ensures err { (first : K) (said : List WholeOf)
-            → AllHeard K.Sink.told K.says K.reads first said self.old
+            → AllHeard K.Sink.told K.reads first said self.old
             → IfErr result (OrMemory (RefusesCarried (K.reads first) self.old.form self.old.port
             (ip_of packet.now) said)) }
     {
@@ -184,14 +184,14 @@ impl<K: Sinks + Drop> Slaves<K> {
     ) -> Result<(), CaptureReadFault>
         ensures takes { (first : K) (waits : List WaitOf) (said : List WholeOf)
             → AreWaiting self.old.parts waits
-            → AllHeard K.Sink.told K.says K.reads first said self.old
-            → OnOk result (TakesPart K.Sink.told K.says K.reads first waits (ip_of packet.now) said
+            → AllHeard K.Sink.told K.reads first said self.old
+            → OnOk result (TakesPart K.Sink.told K.reads first waits (ip_of packet.now) said
             self.new) }
         ensures port { OnOk result (self.new.port ≡ self.old.port) }
         ensures form { OnOk result (self.new.form ≡ self.old.form) }
         ensures err { (first : K) (waits : List WaitOf) (said : List WholeOf)
             → AreWaiting self.old.parts waits
-            → AllHeard K.Sink.told K.says K.reads first said self.old
+            → AllHeard K.Sink.told K.reads first said self.old
             → IfErr result (OrMemory (RefusesPart (K.reads first) self.old.form self.old.port
             waits (ip_of packet.now) said)) }
     {
@@ -207,12 +207,12 @@ impl<K: Sinks + Drop> Slaves<K> {
     /// What was carried, at this time.
     fn hear(&mut self, time: Option<i64>, carried: &IpData<'_>) -> Result<(), CaptureReadFault>
         ensures heard { (first : K) (said : List WholeOf)
-            → AllHeard K.Sink.told K.says K.reads first said self.old
-            → OnOk result (AllHeard K.Sink.told K.says K.reads first
+            → AllHeard K.Sink.told K.reads first said self.old
+            → OnOk result (AllHeard K.Sink.told K.reads first
             (data_of carried.now ∷ said) self.new) }
         ensures stays { OnOk result (KeepsRest self.old self.new) }
         ensures err { (first : K) (said : List WholeOf)
-            → AllHeard K.Sink.told K.says K.reads first said self.old
+            → AllHeard K.Sink.told K.reads first said self.old
             → IfErr result (OrMemory (RefusesSaid (K.reads first) self.old.form self.old.port
             (data_of carried.now ∷ said))) }
     {
@@ -228,16 +228,16 @@ impl<K: Sinks + Drop> Slaves<K> {
     /// The place of a slave, which may be met for the first time; `None` if it isn't read.
     fn place_of(&mut self, address: IpAddr) -> Result<Option<usize>, CaptureReadFault>
         ensures heard { (first : K) (said : List WholeOf)
-            → EachHeard K.Sink.told K.says K.reads first said self.old
-            → OnOk result (EachHeard K.Sink.told K.says K.reads first said self.new) }
+            → EachHeard K.Sink.told K.reads first said self.old
+            → OnOk result (EachHeard K.Sink.told K.reads first said self.new) }
         ensures some { IfOk result (λ place. IfSome place (IsAt address self.new.slaves)) }
         ensures none { (first : K) (said : List WholeOf)
-            → EachHeard K.Sink.told K.says K.reads first said self.old
+            → EachHeard K.Sink.told K.reads first said self.old
             → IfOk result (λ place. IsNone place → K.reads first address → ⊥) }
         ensures stays { OnOk result (KeepsRest self.old self.new) }
         ensures only { OnOk result (MeetsOnly address self.old.slaves self.new.slaves) }
         ensures err { (first : K) (said : List WholeOf)
-            → EachHeard K.Sink.told K.says K.reads first said self.old
+            → EachHeard K.Sink.told K.reads first said self.old
             → IfErr result (OrMemory (IsOneTooMany (K.reads first) address self.old.slaves)) }
     {
         if let Some(place) = place_in(&self.slaves, address) {

@@ -6,8 +6,6 @@ mod faults;
 #[cfg(test)]
 mod frames;
 #[cfg(test)]
-mod kept;
-#[cfg(test)]
 mod packets;
 #[cfg(test)]
 mod parts;

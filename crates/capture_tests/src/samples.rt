@@ -1,7 +1,7 @@
 //! The samples of a captured session.
-use crate::kept::Row;
 use crate::same::same;
 use crate::talk::{DONE, Look, Talk};
+use captured_samples::{KeptSample, Mark};
 use std::test::Fail;
 
 /// A slave with Intel's byte order and an absolute ODT number, without timestamps and overload
@@ -11,9 +11,23 @@ const PLAIN: Look = (0, 0x01, 0, 0);
 /// The same, with the overload indication.
 const WITH_OVERLOAD: Look = (0, 0x41, 0, 0);
 
+/// A sample of this set-up of this list, with a mark of this number.
+fn kept(number: usize, list: u16, mark: u8, ticks: Option<u32>) -> KeptSample {
+    let mark = Mark {
+        overload: mark % 2 == 1,
+        gap: mark > 1,
+    };
+    KeptSample {
+        number,
+        list,
+        mark,
+        ticks,
+    }
+}
+
 /// The sample of list 0, set up first, with this mark.
-fn row_of(mark: u8) -> Row {
-    (0, 0, mark, None)
+fn row_of(mark: u8) -> KeptSample {
+    kept(0, 0, mark, None)
 }
 
 #[test]
@@ -54,7 +68,7 @@ fn timestamps_have_one_two_or_four_bytes(rt: HostRuntime) -> Result<(), Fail> {
         talk.connect((order, 0x11, 0, stamp))?;
         talk.set_up([0, 0], [1, 1], mode, 0)?;
         talk.say_all(&[first, &[1, 11]])?;
-        talk.has(&rt, &[(0, 0, 0, ticks)], &[10, 11], row);
+        talk.has(&rt, &[kept(0, 0, 0, ticks)], &[10, 11], row);
     }
     Ok(())
 }
@@ -102,7 +116,7 @@ fn four_identification_fields_are_read(rt: HostRuntime) -> Result<(), Fail> {
         talk.connect(look)?;
         talk.set_up(list, [1, 1], 0, 5)?;
         talk.say_all(&[first, second, &[2, 8, 8, 8, 8]])?;
-        talk.has(&rt, &[(0, number, 0, None)], &[10, 11], row);
+        talk.has(&rt, &[kept(0, number, 0, None)], &[10, 11], row);
         talk.counts(&rt, [0, 0, 0, 1], row);
     }
     Ok(())
@@ -123,7 +137,7 @@ fn behind_a_gap_each_lists_next_sample_is_marked(rt: HostRuntime) -> Result<(), 
     talk.has(&rt, &[row_of(0)], &[10, 11], "a sample across the gap");
     talk.counts(&rt, [1, 0, 1, 0], "a sample across the gap");
     talk.say_all(&[&[0, 12], &[2, 22], &[1, 13], &[3, 23], &[0, 14], &[1, 15]])?;
-    let rows = [row_of(0), row_of(2), (1, 1, 2, None), row_of(0)];
+    let rows = [row_of(0), row_of(2), kept(1, 1, 2, None), row_of(0)];
     let bytes = [10, 11, 12, 13, 22, 23, 14, 15];
     talk.has(&rt, &rows, &bytes, "behind the gap");
     Ok(())
@@ -140,7 +154,7 @@ fn a_gap_in_front_of_a_lists_first_sample_marks_it(rt: HostRuntime) -> Result<()
     talk.set_up([1, 0], [1, 1], 0, 2)?;
     talk.says = talk.says.wrapping_add(32_766);
     talk.say_all(&[&[2, 20], &[3, 21], &[0, 12], &[1, 13]])?;
-    let rows = [row_of(0), (1, 1, 2, None), row_of(2)];
+    let rows = [row_of(0), kept(1, 1, 2, None), row_of(2)];
     talk.has(
         &rt,
         &rows,
@@ -260,7 +274,7 @@ fn a_list_that_is_set_up_anew_has_another_number(rt: HostRuntime) -> Result<(), 
     talk.has(&rt, &[row_of(0), row_of(0)], &[10, 11, 12, 13], "the same");
     talk.exchange(&[(&[0xDE, 2, 0, 0], &[0xFF, 4])])?;
     talk.say_all(&[&[4, 14], &[5, 15], &[0, 16]])?;
-    let rows = [row_of(0), row_of(0), (1, 0, 0, None)];
+    let rows = [row_of(0), row_of(0), kept(1, 0, 0, None)];
     let row = "with another first PID";
     talk.has(&rt, &rows, &[10, 11, 12, 13, 14, 15], row);
     talk.counts(&rt, [0, 0, 0, 1], row);
@@ -300,7 +314,7 @@ fn a_list_that_is_known_no_more_isnt_read(rt: HostRuntime) -> Result<(), Fail> {
     talk.say_all(&[&[0, 14], &[1, 15]])?;
     talk.has(
         &rt,
-        &[row_of(0), (1, 0, 0, None)],
+        &[row_of(0), kept(1, 0, 0, None)],
         &[10, 11, 14, 15],
         "set up again",
     );

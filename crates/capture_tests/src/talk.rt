@@ -1,7 +1,6 @@
 //! A master and a slave that talk, frame by frame.
-use crate::kept::{Kept, Row};
 use crate::same::same;
-use captured_samples::{SlaveSamples, Tallies};
+use captured_samples::{KeptSample, KeptSamples, SlaveSamples, Tallies};
 use captured_session::Form;
 use std::alloc::Global;
 use std::process::Abort;
@@ -22,7 +21,7 @@ pub struct Talk {
     /// What is read.
     pub samples: SlaveSamples,
     /// What is handed over.
-    pub kept: Kept,
+    pub kept: KeptSamples,
     /// The counter of the master's next frame.
     pub asks: u16,
     /// The counter of the slave's next frame.
@@ -34,7 +33,7 @@ impl Talk {
     pub fn new(alloc: Global) -> Talk {
         Talk {
             samples: SlaveSamples::new(alloc, Form::UNTOLD),
-            kept: Kept::new(alloc),
+            kept: KeptSamples::new(alloc),
             asks: 0,
             says: 0,
         }
@@ -114,8 +113,8 @@ impl Talk {
     }
 
     /// Compares what was handed over so far.
-    pub fn has(&self, rt: &impl Abort, rows: &[Row], bytes: &[u8], row: &str) {
-        same(rt, self.kept.rows.as_slice(), rows, row, "samples");
+    pub fn has(&self, rt: &impl Abort, samples: &[KeptSample], bytes: &[u8], row: &str) {
+        same(rt, self.kept.samples.as_slice(), samples, row, "samples");
         same(rt, self.kept.bytes.as_slice(), bytes, row, "bytes");
         same(rt, self.kept.is_short, false, row, "out of memory");
     }
@@ -141,7 +140,7 @@ impl Talk {
         same(
             rt,
             samples,
-            self.kept.rows.len() as u64,
+            self.kept.samples.len() as u64,
             row,
             "samples told",
         );

@@ -1,6 +1,6 @@
 -- A test that tells lists that are read alike from others.
-use Rattle.std.proofs.Common.{◌≡◌, ◌↔◌, ℕ, [], ◌∷◌, List, refl, sym, ap, Bool, true, false, Option, Some, None}
-use Rattle.std.proofs.Common.{IsTrue, ◌&&◌, ◌==◌, rules}
+use Rattle.std.proofs.Common.{◌≡◌, ℕ, List, refl, ap, Bool, true, false, Option, Some, None}
+use Rattle.std.proofs.Common.{◌&&◌, ◌==◌}
 use Rattle.std.specs.Bool.{Decides}
 use Rattle.std.specs.Cmp.{booleans_Decides}
 use Rattle.std.specs.Cmp.Lexicographic.{pointwise}
@@ -14,7 +14,6 @@ use Rattle.captured_session.specs.declared.form.Form.{Form}
 use Rattle.captured_session.specs.declared.id_field.IdField.{IdField}
 use Rattle.captured_session.specs.declared.id_field.IdField.TheVariants.{Absolute, RelativeByte, RelativeWord, RelativeWordAligned}
 use Rattle.captured_session.specs.declared.list_mode.ListMode.{ListMode}
-use Rattle.captured_samples.specs.Standing.{Start}
 use Rattle.captured_samples.specs.Stream.{AlwaysStarts}
 
 -- a test of two values

@@ -93,7 +93,7 @@ pub keeps-of : (start : Start) (heard : List Heard) (a b : ListsIn) (x : SlaveOf
     → Keeps start heard a x
 keeps-of start heard a b x same k = subst (λ (ls : ListsIn). Keeps start heard ls x) (sym same) k
 
-pub tells-of : (a b : Option (List Told)) (ts us : List Told) → ts ≡ us → Tells a b us → Tells a b ts
+pub tells-of : (a b : List Told → Type 0) (ts us : List Told) → ts ≡ us → Tells a b us → Tells a b ts
 tells-of a b ts us same t = subst (λ (vs : List Told). Tells a b vs) (sym same) t
 
 -- what the slave's next frame changes, unless it is behind

@@ -5,3 +5,4 @@ pub mod ReadLemmas
 pub mod HeardLemmas
 pub mod StreamLemmas
 pub mod AlikeLemmas
+pub mod KeptLemmas

@@ -173,13 +173,11 @@ on_ok (Ok t) f a = f a
 on_ok (Err e) f a = a
 
 -- nothing more was told, or in two steps
-pub tells-nothing : (t : Option (List Told)) (ts : List Told) → ts ≡ [] → Tells t t ts
-tells-nothing t ts none before was =
-    was ∙ ap (λ (us : List Told). Some us) (sym (append-nil before) ∙ ap (λ (us : List Told). before ++ us) (sym none))
+pub tells-nothing : (t : List Told → Type 0) (ts : List Told) → ts ≡ [] → Tells t t ts
+tells-nothing t ts none before was = subst t (sym (append-nil before) ∙ ap (λ (us : List Told). before ++ us) (sym none)) was
 
-pub tells-both : (a b c : Option (List Told)) (ts us : List Told) → Tells a b ts → Tells b c us → Tells a c (ts ++ us)
-tells-both a b c ts us first second before was =
-    second (before ++ ts) (first before was) ∙ ap (λ (vs : List Told). Some vs) (append_assoc before ts us)
+pub tells-both : (a b c : List Told → Type 0) (ts us : List Told) → Tells a b ts → Tells b c us → Tells a c (ts ++ us)
+tells-both a b c ts us first second before was = subst c (append_assoc before ts us) (second (before ++ ts) (first before was))
 
 pub if-true : {A : Type 0} (b : Bool) (x y : A) → b ≡ true → (if b then x else y) ≡ x
 if-true true x y is = refl

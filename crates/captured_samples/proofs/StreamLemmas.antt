@@ -1,5 +1,5 @@
 -- What stands between the frames that a slave sent and the samples that are shown of them.
-use Rattle.std.proofs.Common.{◌≡◌, ◌≢◌, ◌⊎◌, ℕ, zero, suc, ◌+◌, ◌<◌, ◌≤◌, ◌++◌, ◌∷◌, [], List, length, map, refl, sym, ap, subst, ◌∙◌, arith, Bool, true, false, Option, Some, None}
+use Rattle.std.proofs.Common.{◌≡◌, ◌≢◌, ◌⊎◌, ℕ, suc, ◌<◌, ◌++◌, ◌∷◌, [], List, length, map, refl, sym, ap, subst, ◌∙◌, arith, Bool, true, false, Option, Some, None}
 use Rattle.std.proofs.Common.{◌||◌, ◌&&◌, ◌==◌, if◌then◌else◌, cond, filter, inl, inr, nat_le, nat_lt}
 use Rattle.std.specs.List.{AllByRecursion}
 use Rattle.std.proofs.lemmas.Bool.{eq-eqb, eqb-true}
@@ -12,13 +12,12 @@ use Rattle.captured_session.specs.declared.fact.Fact.{Fact}
 use Rattle.captured_session.specs.declared.fact.Fact.TheVariants.{Cleared, Entries, Entry, FirstPid, LostAll, LostList, LostOdt, Mode, Odts}
 use Rattle.captured_session.specs.declared.id_field.IdField.{IdField}
 use Rattle.captured_session.specs.declared.id_field.IdField.TheVariants.{Absolute, RelativeByte, RelativeWord, RelativeWordAligned}
-use Rattle.captured_samples.specs.Frames.{Came, anew, is_sample, of_master, of_slave, read_of, step_of}
+use Rattle.captured_samples.specs.Frames.{anew, is_sample, of_master, of_slave, read_of, step_of}
 use Rattle.captured_samples.specs.Places.{below, fits, odt_by_field, odt_by_pid, odt_in, odt_of_list, plain_pid}
 use Rattle.captured_samples.specs.Samples.{ShownOf, behind_at, shown_of, under_way}
-use Rattle.captured_samples.specs.Standing.{ListIn, ListsIn, Start, Told, and_packet, began, broken, come_to, for_each, give, give_if, given_to, hand_if, handed, handed_of, hands}
-use Rattle.captured_samples.specs.Standing.{has_list, is_whole, lists_of, marked, read_anew, set_up_of, shown_in, stands, still, with_any, with_fact, with_facts, with_found, with_list, with_packet, with_slave}
-use Rattle.captured_samples.specs.Stream.{AllCame, AreOf, IsIn, IsShownOf, IsTold, NothingElse, NothingMissing, NothingTwice, if_sample, stream_of, stream_with}
-use Rattle.captured_samples.specs.Turns.{AreFrom, behind_gap}
+use Rattle.captured_samples.specs.Standing.{ListIn, ListsIn, Start, Told, and_packet, began, broken, for_each, give, give_if, given_to, hand_if, handed, handed_of, hands}
+use Rattle.captured_samples.specs.Standing.{has_list, is_whole, lists_of, marked, read_anew, set_up_of, shown_in, stands, still, with_any, with_fact, with_facts, with_found, with_packet, with_slave}
+use Rattle.captured_samples.specs.Stream.{AllCame, AreOf, IsTold, NothingElse, NothingMissing, NothingTwice, if_sample, stream_of, stream_with}
 use Rattle.captured_samples.specs.declared.counter_steps.CounterStep.{CounterStep}
 use Rattle.captured_samples.specs.declared.counter_steps.CounterStep.TheVariants.{Behind, First, Jump, Next}
 use Rattle.captured_samples.proofs.ReadLemmas.{both-true}

@@ -7,3 +7,4 @@ pub mod Standing
 pub mod Slaves
 pub mod Stream
 pub mod Inner
+pub mod Kept

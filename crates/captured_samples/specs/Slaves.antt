@@ -1,6 +1,6 @@
 -- What is kept of a slave whose samples are read, and what that stands after.
 use Rattle.std.specs.Prelude.{◌≡◌, ◌⊎◌, ◌∷◌, ◌++◌, [], ℕ, ◌+◌, ◌<◌, ⊤, Bool, false, true, List}
-use Rattle.std.specs.Prelude.{length, map, Option, Some, None}
+use Rattle.std.specs.Prelude.{length, map, Option, None}
 use Rattle.std.specs.List.{list_all}
 use Rattle.captured_session.specs.Exchanges.{Heard}
 use Rattle.captured_session.specs.Lists.{ListOf, list_at}
@@ -71,6 +71,6 @@ StandsAfter start h s = StandsBy start (read_of h) (lists_of start h) s
 abbrev pub IsFull : SetUp → Type 0
 IsFull s = MAX_FACTS < length s.facts + 256
 
--- whoever is handed samples was told more, if it says what it was told
-abbrev pub Tells : Option (List Told) → Option (List Told) → List Told → Type 0
-Tells old new more = (before : List Told) → old ≡ Some before → new ≡ Some (before ++ more)
+-- whoever is handed samples was told more: it stood after something, and stands after that and these
+abbrev pub Tells : (List Told → Type 0) → (List Told → Type 0) → List Told → Type 0
+Tells old new more = (before : List Told) → old before → new (before ++ more)

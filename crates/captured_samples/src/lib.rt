@@ -2,6 +2,7 @@
 #![tactic(auto)]
 
 mod counter_steps;
+mod kept_samples;
 mod last_command;
 pub mod laws;
 mod list_samples;
@@ -16,6 +17,7 @@ mod taken;
 mod tallies;
 
 pub use counter_steps::{CounterStep, counter_step};
+pub use kept_samples::{KeptSample, KeptSamples};
 pub use list_samples::ListSamples;
 pub use mark::Mark;
 pub use sample_sink::SampleSink;

@@ -7,12 +7,13 @@ use std::alloc::AllocError;
 
 /// What is handed the samples of a slave. Each set-up of a list has a number of its own, from 0 on.
 pub trait SampleSink {
-    ghost use Rattle.std.specs.Prelude.{◌∷◌, [], List, None, OnOk, Option};
+    ghost use Rattle.std.specs.Prelude.{◌∷◌, [], List, OnOk, ⊤};
     ghost use Rattle.captured_samples.specs.Slaves.{Tells};
     ghost use Rattle.captured_samples.specs.Standing.{Told, began, handed};
 
-    /// What it was told, with the oldest in front; `None` says nothing of that.
-    ghost told: { Self → Option (List Told) } = { λ _. None };
+    /// How it may stand after what it was told, with the oldest in front; who says nothing of that
+    /// may stand as it likes.
+    ghost told: { Self → List Told → Type 0 } = { λ _ _. ⊤ };
 
     /// A list was set up, or set up anew.
     fn begin(&mut self, number: usize, list: &CapturedList) -> Result<(), AllocError>

@@ -59,7 +59,7 @@ returns-in-Ok-true-clause-err g c first all =
     IfErr-weaker c.ended.result _ _
     (λ fault r.
     subst
-    (RefusesCapture (AllTaken g.K.Sink.SampleSink.told g.K.Sinks.says g.K.Sinks.reads first) (g.K.Sinks.reads first) c.args.slaves.now.form
+    (RefusesCapture (AllTaken g.K.Sink.SampleSink.told g.K.Sinks.reads first) (g.K.Sinks.reads first) c.args.slaves.now.form
     c.args.slaves.now.port (g.I.Read.remaining c.args.input.now) (g.I.Read.remaining c.is_read_to_end.new.input) c.end.new.self)
     (sym r.0)
     (record {
@@ -94,22 +94,22 @@ returns-in_err-taken-clause-err g c first all =
     let now = g.I.Read.remaining c.pieces.input in
     let slaves = c.take_units.new.slaves in
     handed-on c.from_residual.result
-    (RefusesCapture (AllTaken g.K.Sink.SampleSink.told g.K.Sinks.says g.K.Sinks.reads first) (g.K.Sinks.reads first) c.args.slaves.now.form
+    (RefusesCapture (AllTaken g.K.Sink.SampleSink.told g.K.Sinks.reads first) (g.K.Sinks.reads first) c.args.slaves.now.form
     c.args.slaves.now.port old now slaves)
     fault c.from_residual.ensures.1
     (subst
-    (λ (m : ℕ). RefusesCapture (AllTaken g.K.Sink.SampleSink.told g.K.Sinks.says g.K.Sinks.reads first) (g.K.Sinks.reads first)
+    (λ (m : ℕ). RefusesCapture (AllTaken g.K.Sink.SampleSink.told g.K.Sinks.reads first) (g.K.Sinks.reads first)
     c.args.slaves.now.form m old now slaves fault)
     c.pieces.invariant.2
     (subst
-    (λ (f : Form). RefusesCapture (AllTaken g.K.Sink.SampleSink.told g.K.Sinks.says g.K.Sinks.reads first) (g.K.Sinks.reads first) f port old now
+    (λ (f : Form). RefusesCapture (AllTaken g.K.Sink.SampleSink.told g.K.Sinks.reads first) (g.K.Sinks.reads first) f port old now
     slaves fault)
     c.pieces.invariant.1
-    (refuses-units (AllTaken g.K.Sink.SampleSink.told g.K.Sinks.says g.K.Sinks.reads first) (g.K.Sinks.reads first) form port old now inv.0 held
+    (refuses-units (AllTaken g.K.Sink.SampleSink.told g.K.Sinks.reads first) (g.K.Sinks.reads first) form port old now inv.0 held
     slaves fault inv.2
     (subst
     (λ (bs : List ℕ). OrMemory
-    (StopsWithin (AllTaken g.K.Sink.SampleSink.told g.K.Sinks.says g.K.Sinks.reads first) (g.K.Sinks.reads first) form port inv.0 bs slaves) fault)
+    (StopsWithin (AllTaken g.K.Sink.SampleSink.told g.K.Sinks.reads first) (g.K.Sinks.reads first) form port inv.0 bs slaves) fault)
     c.deref.ensures.value (c.in_err-taken.ensures.err first inv.0 inv.1 inv.3 inv.4)))))
 
 pub returns-in_err-end-in-Ok-true-clause-err : goal.returns-in_err-end-in-Ok-true-clause-err
@@ -124,10 +124,10 @@ returns-in_err-end-in-Ok-true-clause-err g c first all =
     let now = g.I.Read.remaining c.is_read_to_end.new.input in
     let port = c.args.slaves.now.port in
     handed-on c.from_residual-in_err-end-in-Ok-true.result
-    (RefusesCapture (AllTaken g.K.Sink.SampleSink.told g.K.Sinks.says g.K.Sinks.reads first) (g.K.Sinks.reads first) c.args.slaves.now.form port old
+    (RefusesCapture (AllTaken g.K.Sink.SampleSink.told g.K.Sinks.reads first) (g.K.Sinks.reads first) c.args.slaves.now.form port old
     now c.end.new.self)
     fault c.from_residual-in_err-end-in-Ok-true.ensures.1
-    (refuses-at-end (AllTaken g.K.Sink.SampleSink.told g.K.Sinks.says g.K.Sinks.reads first) (g.K.Sinks.reads first) c.args.slaves.now.form port old
+    (refuses-at-end (AllTaken g.K.Sink.SampleSink.told g.K.Sinks.reads first) (g.K.Sinks.reads first) c.args.slaves.now.form port old
     now (inv.0 ++ take n held) read c.end.new.self c.take_units.new.reader units.0 fault
     (consumes-step old (g.I.Read.remaining c.pieces.input) now inv.0 held c.drop_front.new.held.items read n inv.2 c.drop_front.ensures
     c.in-Ok-true.ensures.appends c.in-Ok-true.ensures.taken)

@@ -8,9 +8,9 @@ use Rattle.capture_recording.proofs.reading.read_capture.Given as goal
 -- of the bytes that were read those in front were taken, and the others are held
 abbrev pub invariant-pieces : goal.invariant-pieces
 invariant-pieces g l =
-    ((first : g.row.K.Denot) → AllTaken g.K.Sink.SampleSink.told g.K.Sinks.says g.K.Sinks.reads first [] l.fn.slaves
+    ((first : g.row.K.Denot) → AllTaken g.K.Sink.SampleSink.told g.K.Sinks.reads first [] l.fn.slaves
     → (before : List ℕ) × (packets : List PacketOf)
     × Consumes (g.I.Read.remaining l.fn.input) (g.I.Read.remaining l.input) (before ++ l.held.items)
     × StandsAfter l.reader before packets
-    × AllTaken g.K.Sink.SampleSink.told g.K.Sinks.says g.K.Sinks.reads first (reverse packets) l.slaves)
+    × AllTaken g.K.Sink.SampleSink.told g.K.Sinks.reads first (reverse packets) l.slaves)
     × (l.slaves.form ≡ l.fn.slaves.form) × (l.slaves.port ≡ l.fn.slaves.port)

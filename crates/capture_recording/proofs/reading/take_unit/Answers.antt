@@ -18,18 +18,18 @@ returns-in_err-take-in-Ok-Packet-clause-err g c =
     let bytes = c.args.bytes.now in
     let p = packet_of c.in-Ok-Packet.captured in
     handed-on c.from_residual.result
-    (RefusesUnits g.K.Sink.SampleSink.told g.K.Sinks.says g.K.Sinks.reads c.args.reader.now slaves c.take.new.self bytes) fault
+    (RefusesUnits g.K.Sink.SampleSink.told g.K.Sinks.reads c.args.reader.now slaves c.take.new.self bytes) fault
     c.from_residual.ensures.1
     (λ first before packets stands taken.
     or-memory (RefusesPacket (g.K.Sinks.reads first) slaves.form slaves.port (p ∷ reverse packets))
-    (StopsWithin (AllTaken g.K.Sink.SampleSink.told g.K.Sinks.says g.K.Sinks.reads first) (g.K.Sinks.reads first) slaves.form slaves.port before bytes
+    (StopsWithin (AllTaken g.K.Sink.SampleSink.told g.K.Sinks.reads first) (g.K.Sinks.reads first) slaves.form slaves.port before bytes
     c.take.new.self)
     fault
     (λ r. (
       take n bytes,
       drop n bytes,
       sym (take-append-drop n bytes),
-      stops-packet (AllTaken g.K.Sink.SampleSink.told g.K.Sinks.says g.K.Sinks.reads first) (g.K.Sinks.reads first) slaves.form slaves.port
+      stops-packet (AllTaken g.K.Sink.SampleSink.told g.K.Sinks.reads first) (g.K.Sinks.reads first) slaves.form slaves.port
           (before ++ take n bytes) (drop n bytes) c.take.new.self c.next.new.self (packets ++ p ∷ []) fault
           (subst (λ (step : Step). StandsAfter c.next.new.self (before ++ taken_by step bytes) (packets ++ given_by step)) c.in-Ok-Packet.field-0-is
           (c.in-Ok-Packet.ensures.leads before packets stands))
@@ -44,17 +44,17 @@ returns-in-Err-clause-err g c first before packets stands taken =
     let fault : CaptureReadFault = fault_of_capture c.in-Err.fault in
     subst
     (OrMemory
-    (StopsWithin (AllTaken g.K.Sink.SampleSink.told g.K.Sinks.says g.K.Sinks.reads first) (g.K.Sinks.reads first) slaves.form slaves.port before
+    (StopsWithin (AllTaken g.K.Sink.SampleSink.told g.K.Sinks.reads first) (g.K.Sinks.reads first) slaves.form slaves.port before
     c.args.bytes.now slaves))
     (sym c.of_capture.ensures)
     (or-memory
-    (StopsAt (AllTaken g.K.Sink.SampleSink.told g.K.Sinks.says g.K.Sinks.reads first) (g.K.Sinks.reads first) slaves.form slaves.port (before ++ [])
+    (StopsAt (AllTaken g.K.Sink.SampleSink.told g.K.Sinks.reads first) (g.K.Sinks.reads first) slaves.form slaves.port (before ++ [])
     c.args.bytes.now slaves)
-    (StopsWithin (AllTaken g.K.Sink.SampleSink.told g.K.Sinks.says g.K.Sinks.reads first) (g.K.Sinks.reads first) slaves.form slaves.port before
+    (StopsWithin (AllTaken g.K.Sink.SampleSink.told g.K.Sinks.reads first) (g.K.Sinks.reads first) slaves.form slaves.port before
     c.args.bytes.now slaves)
     fault
     (λ stops. ([], c.args.bytes.now, refl, stops))
-    (stops-format (AllTaken g.K.Sink.SampleSink.told g.K.Sinks.says g.K.Sinks.reads first) (g.K.Sinks.reads first) slaves.form slaves.port (before ++ [])
+    (stops-format (AllTaken g.K.Sink.SampleSink.told g.K.Sinks.reads first) (g.K.Sinks.reads first) slaves.form slaves.port (before ++ [])
     c.args.bytes.now slaves c.args.reader.now c.in-Err.fault
     (record {
       packets = packets;

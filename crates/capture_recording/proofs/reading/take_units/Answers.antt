@@ -11,10 +11,10 @@ use Rattle.capture_recording.proofs.reading.take_units.Goals as goal
 pub returns-then-taken-eq0-clause-units : goal.returns-then-taken-eq0-clause-units
 returns-then-taken-eq0-clause-units g c =
     let front = take c.units.at c.args.held.now in
-    subst (λ (bs : List ℕ). TakesUnits g.K.Sink.SampleSink.told g.K.Sinks.says g.K.Sinks.reads c.args.reader.now c.take_unit.new.reader
+    subst (λ (bs : List ℕ). TakesUnits g.K.Sink.SampleSink.told g.K.Sinks.reads c.args.reader.now c.take_unit.new.reader
     c.args.slaves.now c.take_unit.new.slaves bs)
     (ap (λ (bs : List ℕ). front ++ bs) (take-none _ _ c.if-taken-eq0.true) ∙ append-nil front)
-    (units-both g.K.Sink.SampleSink.told g.K.Sinks.says g.K.Sinks.reads _ _ _ _ _ _ front _ c.units.invariant.1 c.in_ok-taken.ensures.units)
+    (units-both g.K.Sink.SampleSink.told g.K.Sinks.reads _ _ _ _ _ _ front _ c.units.invariant.1 c.in_ok-taken.ensures.units)
 
 pub returns-then-taken-eq0-clause-short : goal.returns-then-taken-eq0-clause-short
 returns-then-taken-eq0-clause-short g c =
@@ -30,12 +30,12 @@ returns-in_err-taken-clause-err g c =
     let fault = c.in_err-taken.field-0.0 in
     let all : take (length held - at) (drop at held) ≡ drop at held = take_all _ (drop at held) (omega (arith, length-drop at held)) in
     handed-on c.from_residual.result
-    (RefusesUnits g.K.Sink.SampleSink.told g.K.Sinks.says g.K.Sinks.reads c.args.reader.now c.args.slaves.now c.take_unit.new.slaves held) fault
+    (RefusesUnits g.K.Sink.SampleSink.told g.K.Sinks.reads c.args.reader.now c.args.slaves.now c.take_unit.new.slaves held) fault
     c.from_residual.ensures.1
-    (subst (λ (bs : List ℕ). RefusesUnits g.K.Sink.SampleSink.told g.K.Sinks.says g.K.Sinks.reads c.args.reader.now c.args.slaves.now
+    (subst (λ (bs : List ℕ). RefusesUnits g.K.Sink.SampleSink.told g.K.Sinks.reads c.args.reader.now c.args.slaves.now
     c.take_unit.new.slaves bs fault)
     (ap (λ (bs : List ℕ). take at held ++ bs) all ∙ take-append-drop at held)
-    (units-stop g.K.Sink.SampleSink.told g.K.Sinks.says g.K.Sinks.reads c.args.reader.now c.units.reader c.args.slaves.now c.units.slaves
+    (units-stop g.K.Sink.SampleSink.told g.K.Sinks.reads c.args.reader.now c.units.reader c.args.slaves.now c.units.slaves
     c.take_unit.new.slaves (take at held) (take (length held - at) (drop at held)) fault c.units.invariant.1 c.units.invariant.2 c.units.invariant.3
     c.in_err-taken.ensures.err))
 
@@ -48,10 +48,10 @@ units-preserved g c =
     let all : take (length held - at) rest ≡ rest = take_all _ rest (omega (arith, length-drop at held)) in
     let within : n ≤ length rest = subst (λ (bs : List ℕ). n ≤ length bs) all c.in_ok-taken.ensures.within in (
       omega (arith, within, c.units.invariant.0, length-drop at held),
-      subst (λ (bs : List ℕ). TakesUnits g.K.Sink.SampleSink.told g.K.Sinks.says g.K.Sinks.reads c.args.reader.now c.take_unit.new.reader
+      subst (λ (bs : List ℕ). TakesUnits g.K.Sink.SampleSink.told g.K.Sinks.reads c.args.reader.now c.take_unit.new.reader
           c.args.slaves.now c.take_unit.new.slaves bs)
           (ap (λ (bs : List ℕ). take at held ++ take n bs) all ∙ sym (take-both held at n))
-          (units-both g.K.Sink.SampleSink.told g.K.Sinks.says g.K.Sinks.reads _ _ _ _ _ _ (take at held) _ c.units.invariant.1 c.in_ok-taken.ensures.units),
+          (units-both g.K.Sink.SampleSink.told g.K.Sinks.reads _ _ _ _ _ _ (take at held) _ c.units.invariant.1 c.in_ok-taken.ensures.units),
       c.in_ok-taken.ensures.form ∙ c.units.invariant.2,
       c.in_ok-taken.ensures.port ∙ c.units.invariant.3,
       omega (arith, c.units.invariant.4, c.if-taken-eq0.false),

@@ -6,5 +6,5 @@ use Rattle.capture_recording.proofs.reading.take_units.Given as goal
 abbrev pub invariant-units : goal.invariant-units
 invariant-units g l =
     (l.at ≤ length l.held)
-    × TakesUnits g.K.Sink.SampleSink.told g.K.Sinks.says g.K.Sinks.reads l.fn.reader l.reader l.fn.slaves l.slaves (take l.at l.held)
+    × TakesUnits g.K.Sink.SampleSink.told g.K.Sinks.reads l.fn.reader l.reader l.fn.slaves l.slaves (take l.at l.held)
     × (l.slaves.form ≡ l.fn.slaves.form) × (l.slaves.port ≡ l.fn.slaves.port) × (l.counter ≤ l.at)

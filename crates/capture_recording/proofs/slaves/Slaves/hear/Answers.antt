@@ -13,13 +13,13 @@ use Rattle.capture_recording.proofs.slaves.Slaves.hear.Goals as goal
 
 pub returns-in_default-clause-heard : goal.returns-in_default-clause-heard
 returns-in_default-clause-heard g c first said all =
-    all-nobody g.K.Sink.SampleSink.told g.K.Sinks.says g.K.Sinks.reads first said c.args.self.now (data_of c.args.carried.now) all
+    all-nobody g.K.Sink.SampleSink.told g.K.Sinks.reads first said c.args.self.now (data_of c.args.carried.now) all
     (λ talk is. c.in_default.ensures.none refl talk
     (subst (λ (v : SlavesOf _ _). IsTalk v.port (data_of c.args.carried.now) talk) (sym c.self.view_is) is))
 
 pub returns-in_default-2-clause-heard : goal.returns-in_default-2-clause-heard
 returns-in_default-2-clause-heard g c first said all =
-    all-unread g.K.Sink.SampleSink.told g.K.Sinks.says g.K.Sinks.reads first said c.args.self.now c.place_of.new.self
+    all-unread g.K.Sink.SampleSink.told g.K.Sinks.reads first said c.args.self.now c.place_of.new.self
     (data_of c.args.carried.now) c.in-Some.talk all.talked (c.in_ok-place.ensures.heard first said all.each_heard)
     c.in_ok-place.ensures.only c.in_ok-place.ensures.stays.port
     (subst (λ (n : ℕ). IsTalk n (data_of c.args.carried.now) c.in-Some.talk)
@@ -37,9 +37,9 @@ returns-clause-heard g c first said all =
     let got = slice_get-get_or xs i was at.0 ∙ ap Some (sym c.index_mut.ensures.value) in
     IfOk-weaker c.hear.result _ _
     (λ _ heard.
-    all-more g.K.Sink.SampleSink.told g.K.Sinks.says g.K.Sinks.reads first said c.args.self.now _ (data_of c.args.carried.now) c.in-Some.talk
+    all-more g.K.Sink.SampleSink.told g.K.Sinks.reads first said c.args.self.now _ (data_of c.args.carried.now) c.in-Some.talk
     all.talked
-    (subst (λ (v : SlavesOf _ _). EachHeard g.K.Sink.SampleSink.told g.K.Sinks.says g.K.Sinks.reads first said v) (sym c.self-2.view_is)
+    (subst (λ (v : SlavesOf _ _). EachHeard g.K.Sink.SampleSink.told g.K.Sinks.reads first said v) (sym c.self-2.view_is)
     (c.in_ok-place.ensures.heard first said all.each_heard))
     (subst (λ (v : SlavesOf _ _). MeetsOnly c.in-Some.talk.slave c.args.self.now.slaves v.slaves) (sym c.self-2.view_is) c.in_ok-place.ensures.only)
     (ap (λ (v : SlavesOf _ _). v.port) c.self-2.view_is ∙ c.in_ok-place.ensures.stays.port)
@@ -56,7 +56,7 @@ returns-in_err-place-clause-err g c first said all =
     RefusesSaid (g.K.Sinks.reads first) c.args.self.now.form c.args.self.now.port (data_of c.args.carried.now ∷ said) in
     handed-on c.from_residual.result (OrMemory Refuses) c.in_err-place.field-0.0 c.from_residual.ensures.1
     (or-memory (IsOneTooMany (g.K.Sinks.reads first) c.in-Some.talk.slave c.args.self.now.slaves) Refuses c.in_err-place.field-0.0
-    (refuses-many g.K.Sink.SampleSink.told g.K.Sinks.says g.K.Sinks.reads first said c.args.self.now (data_of c.args.carried.now) c.in-Some.talk
+    (refuses-many g.K.Sink.SampleSink.told g.K.Sinks.reads first said c.args.self.now (data_of c.args.carried.now) c.in-Some.talk
     c.in_err-place.field-0.0 all
     (subst (λ (v : SlavesOf _ _). IsTalk v.port (data_of c.args.carried.now) c.in-Some.talk) c.self.view_is c.in-Some.ensures.some))
     (c.in_err-place.ensures.err first said all.each_heard))
@@ -72,9 +72,9 @@ returns-clause-err g c first said all =
     let got = slice_get-get_or xs i was at.0 ∙ ap Some (sym c.index_mut.ensures.value) in
     if-err-or c.hear.result _ _
     (λ fault is.
-    refuses-session g.K.Sink.SampleSink.told g.K.Sinks.says g.K.Sinks.reads first said c.args.self.now _ (data_of c.args.carried.now)
+    refuses-session g.K.Sink.SampleSink.told g.K.Sinks.reads first said c.args.self.now _ (data_of c.args.carried.now)
     c.in-Some.talk i was fault
-    (subst (λ (v : SlavesOf _ _). EachHeard g.K.Sink.SampleSink.told g.K.Sinks.says g.K.Sinks.reads first said v) (sym c.self-2.view_is)
+    (subst (λ (v : SlavesOf _ _). EachHeard g.K.Sink.SampleSink.told g.K.Sinks.reads first said v) (sym c.self-2.view_is)
     (c.in_ok-place.ensures.heard first said all.each_heard))
     (ap (λ (v : SlavesOf _ _). v.form) c.self-2.view_is ∙ c.in_ok-place.ensures.stays.form)
     (ap (λ (v : SlavesOf _ _). v.port) c.self-2.view_is ∙ c.in_ok-place.ensures.stays.port)

@@ -22,8 +22,8 @@ returns-in-Some-clause-takes g c first waits said are all =
     (c.in-Ok.ensures.ok waits are-inside) in
     let joins = joins-of waits (ip_of c.args.packet.now) old new _ takes are-inside in
     let heard = c.hear.ensures.heard first said
-    (all-beside g.K.Sink.SampleSink.told g.K.Sinks.says g.K.Sinks.reads first said _ new
-    (subst (λ (v : SlavesOf _ _). AllHeard g.K.Sink.SampleSink.told g.K.Sinks.says g.K.Sinks.reads first said v) (sym c.self.view_is) all)) in
+    (all-beside g.K.Sink.SampleSink.told g.K.Sinks.reads first said _ new
+    (subst (λ (v : SlavesOf _ _). AllHeard g.K.Sink.SampleSink.told g.K.Sinks.reads first said v) (sym c.self.view_is) all)) in
     IfOk-weaker c.hear.result _ _
     (λ _ both. record {
       later = joins.0;
@@ -51,8 +51,8 @@ returns-in-None-clause-takes g c first waits said are all =
       joins = joins.1;
       said = refl;
       waiting = joins.2;
-      heard = all-beside g.K.Sink.SampleSink.told g.K.Sinks.says g.K.Sinks.reads first said _ new
-          (subst (λ (v : SlavesOf _ _). AllHeard g.K.Sink.SampleSink.told g.K.Sinks.says g.K.Sinks.reads first said v) (sym c.self.view_is) all);
+      heard = all-beside g.K.Sink.SampleSink.told g.K.Sinks.reads first said _ new
+          (subst (λ (v : SlavesOf _ _). AllHeard g.K.Sink.SampleSink.told g.K.Sinks.reads first said v) (sym c.self.view_is) all);
     }
 
 pub returns-in-Some-clause-err : goal.returns-in-Some-clause-err
@@ -74,5 +74,5 @@ returns-in-Some-clause-err g c first waits said are all =
       subst (λ (v : SlavesOf _ _). RefusesSaid (g.K.Sinks.reads first) v.form v.port (data_of c.by_parts.result ∷ said) fault) c.self.view_is r,
     ))
     (c.hear.ensures.err first said
-    (all-beside g.K.Sink.SampleSink.told g.K.Sinks.says g.K.Sinks.reads first said _ new
-    (subst (λ (v : SlavesOf _ _). AllHeard g.K.Sink.SampleSink.told g.K.Sinks.says g.K.Sinks.reads first said v) (sym c.self.view_is) all)))
+    (all-beside g.K.Sink.SampleSink.told g.K.Sinks.reads first said _ new
+    (subst (λ (v : SlavesOf _ _). AllHeard g.K.Sink.SampleSink.told g.K.Sinks.reads first said v) (sym c.self.view_is) all)))

@@ -1,4 +1,4 @@
-use Rattle.std.proofs.Common.{inl, [], List, sym, ap, subst, ◌∙◌, refl}
+use Rattle.std.proofs.Common.{inl, [], List, sym, subst, ◌∙◌, refl}
 use Rattle.std.proofs.lemmas.Result.{IfOk-weaker}
 use Rattle.std.specs.declared.net.ip_addr.IpAddr.{IpAddr}
 use Rattle.captured_samples.specs.Slaves.{SlaveOf, StandsAfter}
@@ -12,27 +12,26 @@ use Rattle.capture_recording.proofs.slaves.Slaves.place_of.Goals as goal
 
 pub returns-in_default-sink_of-clause-heard : goal.returns-in_default-sink_of-clause-heard
 returns-in_default-sink_of-clause-heard g c first said all =
-    heard-passed g.K.Sink.SampleSink.told g.K.Sinks.says g.K.Sinks.reads first said _ c.sink_of.new.self
-    (subst (λ (v : SlavesOf _ _). EachHeard g.K.Sink.SampleSink.told g.K.Sinks.says g.K.Sinks.reads first said v) (sym c.self.view_is) all)
-    (c.in_default-sink_of.ensures.unread refl) c.in_default-sink_of.ensures.says
+    heard-passed g.K.Sink.SampleSink.told g.K.Sinks.reads first said _ c.sink_of.new.self
+    (subst (λ (v : SlavesOf _ _). EachHeard g.K.Sink.SampleSink.told g.K.Sinks.reads first said v) (sym c.self.view_is) all)
+    (c.in_default-sink_of.ensures.unread refl)
 
 pub returns-clause-heard : goal.returns-clause-heard
 returns-clause-heard g c first said all =
     let s = c.new.result in
     IfOk-weaker c.add.result _ _
     (λ place e.
-    subst (λ (ys : List (Slave _)). EachHeard g.K.Sink.SampleSink.told g.K.Sinks.says g.K.Sinks.reads first said (record { port = c.self.inside.port; form = c.self.inside.form; sinks = c.sink_of.new.self; slaves = ys; parts = c.self.inside.parts }))
+    subst (λ (ys : List (Slave _)). EachHeard g.K.Sink.SampleSink.told g.K.Sinks.reads first said (record { port = c.self.inside.port; form = c.self.inside.form; sinks = c.sink_of.new.self; slaves = ys; parts = c.self.inside.parts }))
     (sym e.1)
-    (heard-met g.K.Sink.SampleSink.told g.K.Sinks.says g.K.Sinks.reads first said _ s c.sink_of.new.self
-    (subst (λ (v : SlavesOf _ _). EachHeard g.K.Sink.SampleSink.told g.K.Sinks.says g.K.Sinks.reads first said v) (sym c.self.view_is) all)
+    (heard-met g.K.Sink.SampleSink.told g.K.Sinks.reads first said _ s c.sink_of.new.self
+    (subst (λ (v : SlavesOf _ _). EachHeard g.K.Sink.SampleSink.told g.K.Sinks.reads first said v) (sym c.self.view_is) all)
     (λ met. c.in_default.ensures.none refl
     (subst (λ (xs : List (Slave _)). IsMet c.args.address xs) (sym c.deref.ensures.value)
     (subst (λ (a : IpAddr). IsMet a c.self.inside.slaves.items) c.new.ensures.address met)))
     (subst (λ (a : IpAddr). g.K.Sinks.reads c.self.inside.sinks a) (sym c.new.ensures.address) c.in-Some-sink_of.ensures.some)
     (λ a other. c.in-Some-sink_of.ensures.others a (λ e. other (e ∙ sym c.new.ensures.address)))
-    c.in-Some-sink_of.ensures.says
     (λ start given. subst (λ (t : SlaveOf). StandsAfter start [] t) (sym c.new.ensures.samples) (c.new-samples.ensures start given))
-    (λ so. ap g.K.Sink.SampleSink.told c.new.ensures.sink ∙ c.in-Some-sink_of.ensures.untold so)
+    (subst (λ (k : g.row.K-Sink.Denot). g.K.Sink.SampleSink.told k []) (sym c.new.ensures.sink) c.in-Some-sink_of.ensures.untold)
     c.new.ensures.plain))
     c.add.ensures.ok
 
@@ -64,7 +63,7 @@ returns-clause-err g c first said all =
       is = r.0;
       many = r.1;
       unmet = unmet;
-      read = ((subst (λ (v : SlavesOf _ _). EachHeard g.K.Sink.SampleSink.told g.K.Sinks.says g.K.Sinks.reads first said v) (sym c.self.view_is) all).left
+      read = ((subst (λ (v : SlavesOf _ _). EachHeard g.K.Sink.SampleSink.told g.K.Sinks.reads first said v) (sym c.self.view_is) all).left
           c.args.address unmet).0 c.in-Some-sink_of.ensures.some;
     }))
     c.add.ensures.err

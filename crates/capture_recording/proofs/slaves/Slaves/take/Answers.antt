@@ -11,7 +11,7 @@ use Rattle.capture_recording.proofs.slaves.Slaves.take.Goals as goal
 
 pub returns-in_default-packet_in-clause-taken : goal.returns-in_default-packet_in-clause-taken
 returns-in_default-packet_in-clause-taken g c first ps all =
-    taken-none g.K.Sink.SampleSink.told g.K.Sinks.says g.K.Sinks.reads first (packet_of c.args.captured.now) ps c.args.self.now all
+    taken-none g.K.Sink.SampleSink.told g.K.Sinks.reads first (packet_of c.args.captured.now) ps c.args.self.now all
     (no-ip (packet_of c.args.captured.now) c.in-Some.bytes.now
     (subst (λ (l : Link). CarriesIp l c.args.captured.now.bytes.now c.in-Some.bytes.now) c.of.ensures c.in-Some.ensures.some)
     (c.in_default-packet_in.ensures.none refl))
@@ -20,7 +20,7 @@ pub returns-in-None-clause-taken : goal.returns-in-None-clause-taken
 returns-in-None-clause-taken g c first ps all =
     IfOk-weaker c.hear_packet.result _ _
     (λ _ both.
-    taken-whole g.K.Sink.SampleSink.told g.K.Sinks.says g.K.Sinks.reads first (packet_of c.args.captured.now) ps
+    taken-whole g.K.Sink.SampleSink.told g.K.Sinks.reads first (packet_of c.args.captured.now) ps
     (ip_of c.in-Some-packet_in.packet) c.args.self.now c.hear_packet.new.self all
     (record {
       bytes = c.in-Some.bytes.now;
@@ -34,7 +34,7 @@ pub returns-in-Some-part-clause-taken : goal.returns-in-Some-part-clause-taken
 returns-in-Some-part-clause-taken g c first ps all =
     IfOk-weaker c.hear_part.result _ _
     (λ _ takes.
-    taken-part g.K.Sink.SampleSink.told g.K.Sinks.says g.K.Sinks.reads first (packet_of c.args.captured.now) ps
+    taken-part g.K.Sink.SampleSink.told g.K.Sinks.reads first (packet_of c.args.captured.now) ps
     (ip_of c.in-Some-packet_in.packet) c.in-Some-part.field-0 c.args.self.now c.hear_part.new.self all
     (record {
       bytes = c.in-Some.bytes.now;

@@ -1,14 +1,14 @@
-use Rattle.std.proofs.Common.{List, ap, get_or, length, refl, subst, sym, take, ◌<◌, ◌∙◌, ◌≡◌}
+use Rattle.std.proofs.Common.{List, [], ap, get_or, length, refl, subst, sym, take, ◌<◌, ◌∙◌, ◌≡◌}
 use Rattle.std.proofs.lemmas.List.{get_or_default}
 use Rattle.captured_session.specs.declared.fact.Fact.{Fact}
 use Rattle.captured_session.specs.declared.fact.Fact.TheVariants.{Odts}
 use Rattle.captured_samples.specs.Slaves.{Tells, states_of}
-use Rattle.captured_samples.specs.Standing.{Told, told_facts, with_facts}
+use Rattle.captured_samples.specs.Standing.{Told, told_fact, told_facts, with_facts}
 use Rattle.captured_samples.proofs.ListsLemmas.{all-facts, facts-more, tells-both, tells-nothing}
 use Rattle.captured_samples.proofs.list_states.ListStates.add_all.Goals as goal
 
 pub loop-fact-init : goal.loop-fact-init
-loop-fact-init g c ls e = (e, tells-nothing _ _ refl)
+loop-fact-init g c ls e = (e, tells-nothing (g.S.SampleSink.told c.args.sink.now) [] refl)
 
 pub loop-fact-preserved : goal.loop-fact-preserved
 loop-fact-preserved g c ls e =
@@ -22,7 +22,8 @@ loop-fact-preserved g c ls e =
     let was = c.loop-fact.invariant ls e in (
       c.in_ok-add_by.ensures.lists (with_facts s (take i s.facts) ls) was.0 ∙ ap states_of (sym more.0),
       subst (λ (ts : List Told). Tells (g.S.SampleSink.told c.args.sink.now) (g.S.SampleSink.told c.add_by.new.sink) ts) (sym more.1)
-          (tells-both _ _ _ _ _ was.1 (c.in_ok-add_by.ensures.told (with_facts s (take i s.facts) ls) was.0)),
+          (tells-both (g.S.SampleSink.told c.args.sink.now) (g.S.SampleSink.told c.loop-fact.sink) (g.S.SampleSink.told c.add_by.new.sink)
+          (told_facts s (take i s.facts) ls) (told_fact s f (with_facts s (take i s.facts) ls)) was.1 (c.in_ok-add_by.ensures.told (with_facts s (take i s.facts) ls) was.0)),
     )
 
 pub returns-clause-lists : goal.returns-clause-lists

@@ -1,7 +1,7 @@
 use Rattle.std.proofs.Common.{List, ap, subst, sym}
 use Rattle.captured_session.specs.Lists.{ListOf}
 use Rattle.captured_samples.specs.Slaves.{AllRead, Keeps}
-use Rattle.captured_samples.specs.Standing.{broken, come_to, for_each, set_up_by, told_at_gap}
+use Rattle.captured_samples.specs.Standing.{begins_anew, broken, come_to, for_each, set_up_by, told_at_gap}
 use Rattle.captured_samples.specs.declared.counter_steps.CounterStep.{CounterStep}
 use Rattle.captured_samples.proofs.HeardLemmas.{keeps-of, tells-of}
 use Rattle.captured_samples.proofs.ListsLemmas.{on_ok}
@@ -21,5 +21,6 @@ returns-in-First-clause-stands g c start heard ls k =
 pub returns-in-Jump-clause-told : goal.returns-in-Jump-clause-told
 returns-in-Jump-clause-told g c start heard ls k =
     on_ok c.meet_gap.result
-    (tells-of _ _ _ _ (ap (λ (step : CounterStep). told_at_gap start (set_up_by start heard) step ls) c.in-Jump.is))
+    (tells-of (g.S.SampleSink.told c.args.sink.now) (g.S.SampleSink.told c.meet_gap.new.sink) (told_at_gap start (set_up_by start heard) c.args.step ls)
+    (begins_anew start (set_up_by start heard) ls) (ap (λ (step : CounterStep). told_at_gap start (set_up_by start heard) step ls) c.in-Jump.is))
     (c.meet_gap.ensures.told start heard ls k)

@@ -1,6 +1,6 @@
-use Rattle.std.proofs.Common.{ap, subst, sym, ◌∙◌}
+use Rattle.std.proofs.Common.{◌++◌, ap, subst, sym, ◌∙◌}
 use Rattle.captured_samples.specs.Slaves.{Keeps, SlaveOf}
-use Rattle.captured_samples.specs.Standing.{come_to, set_up_by}
+use Rattle.captured_samples.specs.Standing.{come_to, set_up_by, told_at_gap, told_by, told_of_packet}
 use Rattle.captured_samples.proofs.HeardLemmas.{is_next, on_both, stands-of, tells-of}
 use Rattle.captured_samples.proofs.ListsLemmas.{on_ok, tells-both}
 use Rattle.captured_samples.proofs.slave_samples.SlaveSamples.hear_next.Goals as goal
@@ -26,7 +26,15 @@ returns-clause-told g c start r ls k =
     let v = subst (Keeps start r.heard met) (sym c.self.view_is) (c.in-Ok.ensures.stands start r.heard ls k.keeps) in
     let next = is_next start r ls c.args.step c.args.counter c.args.packet.now c.requires in
     on_ok c.look_at.result
-    (λ more. tells-of _ _ _ _ next.told (tells-both _ _ _ _ _ (c.in-Ok.ensures.told start r.heard ls k.keeps) more))
+    (λ more.
+    tells-of (g.S.SampleSink.told c.args.sink.now) (g.S.SampleSink.told c.look_at.new.sink)
+    (told_by start (set_up_by start r.heard) c.args.step c.args.packet.now ls)
+    (told_at_gap start (set_up_by start r.heard) c.args.step ls
+    ++ told_of_packet start (set_up_by start r.heard) c.args.packet.now met)
+    next.told
+    (tells-both (g.S.SampleSink.told c.args.sink.now) (g.S.SampleSink.told c.come_to.new.sink) (g.S.SampleSink.told c.look_at.new.sink)
+    (told_at_gap start (set_up_by start r.heard) c.args.step ls)
+    (told_of_packet start (set_up_by start r.heard) c.args.packet.now met) (c.in-Ok.ensures.told start r.heard ls k.keeps) more))
     (c.look_at.ensures.told start r.heard met (record { session = v.session; lists = v.lists; read = v.read }))
 
 pub returns-clause-many : goal.returns-clause-many

@@ -26,5 +26,7 @@ returns-in_default-clause-told g c start h s =
     c.step_of.ensures r s.counter (ap (λ (t : Session). t.waiting) s.keeps.session) in
     let is : step_of r c.args.counter c.args.packet.now ≡ c.step_of.result = sym told in
     on_ok c.hear_next.result
-    (tells-of _ _ _ _ (ap (λ (step : CounterStep). told_by start (set_up_of start h) step c.args.packet.now (lists_of start h)) is))
+    (tells-of (g.S.SampleSink.told c.args.sink.now) (g.S.SampleSink.told c.hear_next.new.sink)
+    (told_by start (set_up_of start h) (step_of r c.args.counter c.args.packet.now) c.args.packet.now (lists_of start h))
+    (told_by start (set_up_of start h) c.step_of.result c.args.packet.now (lists_of start h)) (ap (λ (step : CounterStep). told_by start (set_up_of start h) step c.args.packet.now (lists_of start h)) is))
     (c.hear_next.ensures.told start r (lists_of start h) s)
