@@ -1,7 +1,7 @@
 -- The faults of the program, and the status of each.
 use Rattle.std.specs.Prelude.{ℕ}
 use Rattle.capture_recording.specs.declared.capture_read_fault.CaptureReadFault.TheVariants
-  as unread
+    as unread
 use Rattle.recording.specs.declared.recording_fault.RecordingFault.{RecordingFault}
 use Rattle.recording.specs.declared.recording_fault.RecordingFault.TheVariants.{NoValue}
 use Rattle.recording.specs.declared.recording_fault.RecordingFault.TheVariants.{Unreadable}

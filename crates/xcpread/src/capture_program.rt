@@ -6,6 +6,7 @@ use crate::capture_views::{show_columns, show_lists, show_story};
 use crate::command_line::CaptureOptions;
 use crate::err_messages::ErrMessages;
 use crate::held_capture::held_from;
+use crate::one_sink::OneSink;
 use crate::program_fault::ProgramFault;
 use crate::told_form::form_by;
 use crate::whole_program::description_of;
@@ -35,28 +36,6 @@ pub struct CaptureSource<'a> {
     pub slave: IpAddr,
     /// How its packets look until it says so itself.
     pub form: Form,
-}
-
-/// The sink of one slave.
-#[derive(Drop)]
-struct OneSink<S: CaptureSink + Drop> {
-    slave: IpAddr,
-    sink: Option<S>,
-}
-
-impl<S: CaptureSink + Drop> Sinks for OneSink<S> {
-    ghost use Rattle.std.specs.Prelude.{◌≡◌, IsSome};
-
-    type Sink = S;
-
-    ghost reads = { λ one address. (address ≡ one.slave) × IsSome one.sink };
-
-    fn sink_of(&mut self, address: IpAddr) -> Option<S> {
-        if !is_same_address(address, self.slave) {
-            return None;
-        }
-        self.sink.take()
-    }
 }
 
 /// A survey of each slave, or of the one that is chosen.
@@ -214,10 +193,7 @@ pub fn read_samples<R: Files, S: CaptureSink + Drop, E: Write + Drop>(
     sink: S,
     messages: &mut ErrMessages<E>,
 ) -> Result<(S, Option<CaptureReadFault>), ProgramFault> {
-    let one = OneSink {
-        slave: source.slave,
-        sink: Some(sink),
-    };
+    let one = OneSink::new(source.slave, sink);
     let mut slaves = Slaves::new(alloc, source.port, source.form, one);
     let broken = read_bytes(rt, alloc, source.bytes, &mut slaves, messages)?;
     tell_captured(&slaves, messages);
@@ -225,7 +201,7 @@ pub fn read_samples<R: Files, S: CaptureSink + Drop, E: Write + Drop>(
         return Err(ProgramFault::NoSlave);
     };
     tell_tallies(slave.samples.tallies(), messages);
-    Ok((slave.sink, broken))
+    Ok((slave.sink.sink, broken))
 }
 
 /// Reads a capture. A fault in it is given back, since what stands before it was read.

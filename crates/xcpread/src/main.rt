@@ -9,6 +9,7 @@ mod command_line;
 mod err_messages;
 mod held_capture;
 mod no_text;
+mod one_sink;
 mod program_fault;
 mod told_form;
 mod whole_program;
