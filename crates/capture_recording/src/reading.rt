@@ -21,6 +21,10 @@ const CHUNK: usize = 65_536;
 const MAX_READS: u64 = 1_099_511_627_776;
 
 /// Reads a capture to its end. What stands before a fault was taken.
+///
+/// Refused at the first bytes that begin no header, record or block, and at a packet that
+/// `Slaves::take` refuses; if the capture ends within a record or block; if it can't be read; and
+/// for want of memory.
 pub fn read_capture<I: Read, K: Sinks + Drop>(
     alloc: Global,
     input: &mut I,

@@ -41,9 +41,6 @@ impl<S: CaptureSink + Drop> Slave<S> {
     ghost use Rattle.capture_recording.specs.Heard.{HearsFrames};
     ghost use Rattle.capture_recording.specs.Refusals.{OrMemory};
     ghost use Rattle.capture_recording.specs.Slaves.{Ends, HearsTalk, IsOfDatagrams, IsOneWith};
-    ghost use Rattle.capture_recording.specs.declared.capture_read_fault.CaptureReadFault.TheVariants.{
-      Session,
-    };
     ghost use Rattle.capture_recording.specs.Talks.{data_of};
 
     /// Nothing was heard of it.
@@ -72,8 +69,8 @@ impl<S: CaptureSink + Drop> Slave<S> {
     ) -> Result<(), CaptureReadFault>
         ensures ok { OnOk result
             (HearsTalk S.told (data_of carried.now) talk.is_of_master self.old self.new) }
-        ensures err { IfErr result (OrMemory (λ fault. (fault ≡ Session ManyFacts)
-            × (carried.now.protocol ≢ 6
+        ensures err { IfErr result (OrMemory (λ fault.
+            (fault ≡ CaptureReadFault.Session ManyFacts) × (carried.now.protocol ≢ 6
             → FillsUpBy talk.is_of_master carried.now.payload.now self.old.samples))) }
     {
         self.sink.set_time(time);
@@ -117,7 +114,8 @@ impl<S: CaptureSink + Drop> Slave<S> {
     /// What waits behind holes in connections, at the end of the capture.
     pub fn give_up_holes(&mut self) -> Result<(), CaptureReadFault>
         ensures ok { OnOk result (Ends self.old self.new) }
-        ensures err { IfErr result (OrMemory (λ fault. fault ≡ Session ManyFacts)) }
+        ensures err { IfErr result (OrMemory (λ fault.
+            fault ≡ CaptureReadFault.Session ManyFacts)) }
         ensures none { IsOfDatagrams self.old → IsOk result }
     {
         'connections: for place in 0..self.connections.len() {

@@ -107,6 +107,9 @@ impl<K: Sinks + Drop> Slaves<K> {
     }
 
     /// The next captured packet.
+    ///
+    /// Refused if with it more than `MAX_SLAVES` slaves talked whose samples are to be read, if the
+    /// commands of one told more than can be kept, and for want of memory.
     pub fn take(&mut self, captured: &Captured<'_>) -> Result<(), CaptureReadFault>
         ensures taken { (first : K) (ps : List PacketOf)
             → AllTaken K.Sink.told K.reads first ps self.old
@@ -132,7 +135,7 @@ impl<K: Sinks + Drop> Slaves<K> {
         }
     }
 
-    /// The end of the capture: what waits in connections is taken.
+    /// The end of the capture: what waits in connections is taken. Refused as `take` is.
     pub fn end(&mut self) -> Result<(), CaptureReadFault>
         ensures taken { (first : K) (ps : List PacketOf)
             → AllTaken K.Sink.told K.reads first ps self.old

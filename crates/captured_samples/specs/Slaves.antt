@@ -71,6 +71,7 @@ StandsAfter start h s = StandsBy start (read_of h) (lists_of start h) s
 abbrev pub IsFull : SetUp → Type 0
 IsFull s = MAX_FACTS < length s.facts + 256
 
--- whoever is handed samples was told more: it stood after something, and stands after that and these
+-- whoever is handed samples was told more: where it stood after something, it stands after that and
+-- these
 abbrev pub Tells : (List Told → Type 0) → (List Told → Type 0) → List Told → Type 0
 Tells old new more = (before : List Told) → old before → new (before ++ more)

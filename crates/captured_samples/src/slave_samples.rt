@@ -89,6 +89,8 @@ impl SlaveSamples {
     }
 
     /// The master's next frame. A copy of its last one changes nothing.
+    ///
+    /// Refused if what the commands told may be more than `MAX_FACTS`, and for want of memory.
     pub fn hear_master(&mut self, counter: u16, packet: &[u8]) -> Result<(), SessionFault>
         ensures stands { (start : Start) (h : List Came) → StandsAfter start h self.old
             → OnOk result (StandsAfter start (of_master counter packet.now ∷ h) self.new) }
@@ -106,7 +108,8 @@ impl SlaveSamples {
     }
 
     /// The slave's next frame: a reply, or a packet of a sample. One that is late, or a copy,
-    /// changes nothing; behind missing ones each list's next sample is marked.
+    /// changes nothing; behind missing ones each list's next sample is marked. Refused as the
+    /// master's are.
     pub fn hear_slave<S: SampleSink>(
         &mut self,
         counter: u16,

@@ -133,7 +133,7 @@ const CHOICES: [Choice; 13] = [
         name: "explain",
         value: None,
         without: &["summary", "csv", "svg"],
-        help: "Print each reply and frame in words, then a table; of a capture the session in words",
+        help: "Print replies and frames in words, then a table; of a capture the session in words",
     },
     Choice {
         name: "a2l",
