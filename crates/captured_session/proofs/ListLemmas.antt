@@ -39,7 +39,7 @@ written-behind (first ∷ entries) entry =
 
 with-none : (first : Entry) (xs ys : Option (List Element)) → (xs ≡ None → ys ≡ None) → with_entry first xs ≡ None → with_entry first ys ≡ None
 with-none Open xs ys go none = refl
-with-none Unwritten xs ys go none = go none
+with-none Unwritten xs ys go none = refl
 with-none (Is x) None ys go none = ap (with_entry (Is x)) (go refl)
 with-none (Is x) (Some xs) ys go none = absurd cc
 

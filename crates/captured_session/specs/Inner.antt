@@ -39,11 +39,11 @@ hears Slave p old =
     if is_reply p then record { set_up = ends_by old.waiting (Some p) old.set_up; waiting = None }
     else old
 
--- behind entries of which these are written
+-- behind entries that are these
 abbrev pub entry_behind : Option (List Element) → KnownEntry → Option (List Element)
 entry_behind None entry = None
 entry_behind (Some xs) Open = None
-entry_behind (Some xs) Unwritten = Some xs
+entry_behind (Some xs) Unwritten = None
 entry_behind (Some xs) (Is x) = Some (xs ++ x ∷ [])
 
 -- behind ODTs of which these are known

@@ -77,10 +77,10 @@ entry_or_open None = Open
 abbrev pub entry_at : List Fact → ℕ → ℕ → ℕ → KnownEntry
 entry_at facts list odt e = entry_or_open (newest (entry_said list odt e) facts)
 
--- the entries that are written, in their order, if each is known
+-- entries in their order, if each is known and written
 abbrev pub with_entry : KnownEntry → Option (List Element) → Option (List Element)
 with_entry Open later = None
-with_entry Unwritten later = later
+with_entry Unwritten later = None
 with_entry (Is x) None = None
 with_entry (Is x) (Some xs) = Some (x ∷ xs)
 
@@ -88,10 +88,11 @@ abbrev pub written : List KnownEntry → Option (List Element)
 written [] = Some []
 written (entry ∷ later) = with_entry entry (written later)
 
--- those of an ODT, by its number of entries
+-- those of an ODT, by its number of entries; of one without entries it isn't known that it has none
 abbrev pub elements_of : List Fact → ℕ → ℕ → Option ℕ → Option (List Element)
 elements_of facts list odt None = None
-elements_of facts list odt (Some n) = written (map (entry_at facts list odt) (range_with_len 0 n))
+elements_of facts list odt (Some n) =
+    if n == 0 then None else written (map (entry_at facts list odt) (range_with_len 0 n))
 
 abbrev pub odt_at : List Fact → ℕ → ℕ → Option (List Element)
 odt_at facts list odt = elements_of facts list odt (known (newest (entries_said list odt) facts))

@@ -7,7 +7,7 @@ use crate::element::Element;
 pub enum Entry {
     /// Nothing.
     Open,
-    /// It isn't written, so it has no bytes.
+    /// It was allocated, and not written.
     Unwritten,
     /// It is this one.
     Is(Element),

@@ -80,7 +80,8 @@ fn all_odts(
     Ok(Some(odts))
 }
 
-/// The entries of an ODT that are written, if each is known.
+/// The entries of an ODT, if it has some and each is known and written: where a command is missing
+/// in a capture, entries are left over that nobody wrote.
 fn odt_in(
     alloc: Global,
     facts: &[Fact],
@@ -92,12 +93,12 @@ fn odt_in(
     ensures few { IfOk result (λ elements. IfSome elements (λ v. length v.items ≤ 255)) }
 {
     match entries_in(facts, list, odt) {
-        Some(count) => written_in(alloc, facts, list, odt, count),
-        None => Ok(None),
+        Some(count) if count > 0 => written_in(alloc, facts, list, odt, count),
+        _ => Ok(None),
     }
 }
 
-/// Of the first so many entries of an ODT those that are written, if each is known.
+/// The first so many entries of an ODT, if each is known and written.
 fn written_in(
     alloc: Global,
     facts: &[Fact],
@@ -118,7 +119,7 @@ fn written_in(
     Ok(Some(elements))
 }
 
-/// Appends an entry, if it is written, and tells whether it is known.
+/// Appends an entry, and tells whether it is known and written.
 fn push_known(elements: &mut Vec<Element>, entry: Entry) -> Result<bool, AllocError>
     ensures known { result ≡ Ok true
         → entry_behind (Some elements.old.items) entry ≡ Some elements.new.items }
@@ -126,8 +127,7 @@ fn push_known(elements: &mut Vec<Element>, entry: Entry) -> Result<bool, AllocEr
     ensures open { result ≡ Ok false → entry_behind (Some elements.old.items) entry ≡ None }
 {
     match entry {
-        Entry::Open => return Ok(false),
-        Entry::Unwritten => {}
+        Entry::Open | Entry::Unwritten => return Ok(false),
         Entry::Is(element) => elements.push(element)?,
     }
     Ok(true)
