@@ -1,7 +1,8 @@
 #!/usr/bin/env python3
 """Prints the rows that examples/c/xcp_master.c prints, of the samples that tests/wire_reader.py read of its capture.
 
-    tests/wire_reader.py FILE | tests/captured_rows.py      without the first row, which has the names"""
+    tests/wire_reader.py FILE | tests/captured_rows.py              without the first row, which has the names
+    tests/wire_reader.py FILE | tests/captured_rows.py --lists      of any master: the number of the list in the place of its event"""
 
 import pathlib
 import re
@@ -21,4 +22,5 @@ for line in sys.stdin:
         assert extension == "0" and len(data) == 2 * size
         value = int.from_bytes(bytes.fromhex(data), "little", signed=signed)
         cells[column] = f"{value / one:g}" if size < 4 else str(value)
-    print(",".join([f"{int(ticks) / 1e6:.6f}", ("1 ms", "10 ms")[int(number)], mark, *cells]))
+    event = number if "--lists" in sys.argv else ("1 ms", "10 ms")[int(number)]
+    print(",".join([f"{int(ticks) / 1e6:.6f}", event, mark, *cells]))

@@ -1,6 +1,6 @@
 #!/usr/bin/env python3
-"""Compares what ./xcpread --a2l A2L --csv prints of a capture, on standard input, with the rows that tests/captured_rows.py made of what
-tests/wire_reader.py read of it: the times since the first row, lists, marks and values. Texts of the A2L file stand for their numbers.
+"""Compares what ./xcpread --a2l A2L --csv prints of a capture, on standard input, with the rows that tests/captured_rows.py --lists made of
+what tests/wire_reader.py read of it: the times since the first row, lists, marks and values. Texts of the A2L file stand for their numbers.
 
     ./xcpread --a2l A2L --csv FILE | tests/value_cells.py A2L ROWS      prints what differs, and ends with status 1 if anything does"""
 
@@ -29,9 +29,9 @@ if [it.split(" [")[0] for it in head] != ["time", "list", "overload", *(names[at
 if len(shown) != len(wanted):
     faults.append(f"{len(shown)} rows, where {len(wanted)} are wanted")
 begin = Decimal(wanted[0][0])
-for at, (row, (seconds, event, mark, *cells)) in enumerate(zip(shown, wanted)):
+for at, (row, (seconds, number, mark, *cells)) in enumerate(zip(shown, wanted)):
     values = [mark, *(cells[it] for it in there)]
-    numbered = [Decimal(seconds) - begin, Decimal(("1 ms", "10 ms").index(event)), *map(number_of, values)]
+    numbered = [Decimal(seconds) - begin, Decimal(number), *map(number_of, values)]
     if [number_of(it) for it in row] != numbered:
         faults.append(f"row {at}: {row} where {numbered} is wanted")
 print("\n".join(faults[:10]), end="\n" if faults else "")

@@ -2,15 +2,16 @@
 """Reads captures of XCP on Ethernet, and prints the samples that DAQ packets carry: a reader of its own, beside those in Rattle, written
 from what ASAM MCD-1 XCP and the formats of captures say.
 
-    tests/wire_reader.py [--port N] [--times] FILE      prints a line for each sample
-    tests/wire_reader.py [--port N] --summary FILE      counts them
+    tests/wire_reader.py [--port N] [--told CODE:REPLY ..] [--times] FILE      prints a line for each sample
+    tests/wire_reader.py [--port N] [--told CODE:REPLY ..] --summary FILE      counts them
 
 A line is: the number of the list, its mark (1 the overload bit, 2 a gap before it, 3 both, else 0), the slave's ticks or -, and for each
 entry address extension:address:bytes, the latter two in hexadecimal. With --times two times of the capture stand in front, in
 nanoseconds, or - where it has none: those of the captured packets in which the last byte of the sample's first packet, and of its last
 one, first came, or with which its fragments were all there.
 
-FILE is of libpcap or pcapng. Who sends to port N (5555) is a master. What it sets up is learned from commands and their replies."""
+FILE is of libpcap or pcapng. Who sends to port N (5555) is a master. What it sets up is learned from commands and their replies. With
+--told slaves are as if they had replied that, in hexadecimal, to the command of this code before the capture began."""
 
 import argparse
 import collections
@@ -289,95 +290,139 @@ class Stream:
 # ---- a session: what a master set up, and what the slave sent
 
 TIMESTAMP, UNREAD_MODES = 0x10, 0x02 | 0x08 | 0x20   # the latter: STIM, DTO_CTR, PID_OFF
+UNKNOWN = "unknown"                                  # an entry of which nothing is known
 
 
 class List:
     def __init__(self):
-        self.odts = []               # of each ODT its entries: (address extension, address, bytes), or nothing where none was written
-        self.mode = self.first_pid = None
+        # of each ODT its entries, if these are known: (address extension, address, bytes), UNKNOWN, or nothing where none was written
+        self.odts = self.mode = self.first_pid = None
         self.gap = False             # whether its next sample has a gap before it
         self.part = None             # a sample that isn't whole yet: [time, ticks, overload, next ODT, values]
         self.passes = False          # whether the rest of a sample is passed over
 
 
 class Session:
-    """One master and one slave. A command is out until a reply, another command or SYNCH comes. CTR of the slave counts all its frames:
-    behind a jump each list that is set up has its next sample marked; a frame from below is passed over. CONNECT's reply counts anew."""
+    """One master and one slave. A command is out until a reply, another command or SYNCH comes. It counts where its reply is positive;
+    without a reply nobody knows what it did. A frame of the master that is just its last one is a copy. CTR of the slave counts all its
+    frames: behind a jump each list that is set up has its next sample marked; a frame from below is passed over. CONNECT's reply counts
+    anew."""
 
-    def __init__(self, counts):
+    def __init__(self, counts, told=()):
         self.counts = counts
-        self.last = self.command = self.pointer = None
-        self.order, self.granularity, self.id, self.overload = "little", 1, None, False
-        self.stamp_bytes, self.stamp_fixed, self.first_list = None, False, 0
-        self.lists = {}
+        self.last = self.last_of_master = self.command = self.pointer = None
+        self.connected, self.order, self.granularity, self.id, self.overload = False, "little", 1, None, False
+        self.stamp_bytes, self.stamp_fixed = None, False
+        self.lists = collections.defaultdict(List)
+        for code, reply in told:
+            self.carry_out(bytes([code]) + bytes(8), reply + bytes(8))
 
     def number(self, data, at, size):
         return int.from_bytes(data[at:at + size], self.order)
 
-    # commands, which count where their positive reply comes
+    # commands, and what they do where their reply is positive, where it isn't, and where there is none
 
-    def from_master(self, packet):
-        if packet[0] == 0xFC:        # SYNCH
-            self.command = None
-        elif packet[0] >= 0xC0:
-            self.command = packet
+    def from_master(self, counter, packet):
+        copy, self.last_of_master = self.last_of_master == (counter, packet), (counter, packet)
+        if packet[0] >= 0xC0 and not copy:
+            if self.command is not None:
+                self.leave_unknown(self.command + bytes(8))
+            self.command = None if packet[0] == 0xFC else packet   # SYNCH
 
     def replied(self, reply):
         command, self.command = self.command, None
+        # a byte that is missing counts as 0
         if command is not None and reply[0] == 0xFF:
-            # a byte that is missing counts as 0
             self.carry_out(command + bytes(8), reply + bytes(8))
+        elif command is not None and command[0] in (0xE2, 0xC7):
+            # the pointer may have moved, and entries may have been written
+            self.leave_unknown(command + bytes(8))
 
     def carry_out(self, command, reply):
         code, number = command[0], self.number(command, 2, 2)
-        # the list that most of them name; one of no use if there is no such list
-        it = self.lists.get(number, List())
         if code == 0xFF:     # CONNECT
-            self.order, self.granularity = "big" if reply[2] & 1 else "little", 1 << (reply[2] >> 1 & 3)
+            self.connected, self.order, self.granularity = True, "big" if reply[2] & 1 else "little", 1 << (reply[2] >> 1 & 3)
         elif code == 0xDA:   # GET_DAQ_PROCESSOR_INFO
-            self.overload, self.first_list, self.id = reply[1] >> 6 == 1, reply[6], reply[7] >> 6
+            self.overload, self.id = reply[1] >> 6 == 1, reply[7] >> 6
         elif code == 0xD9:   # GET_DAQ_RESOLUTION_INFO
             self.stamp_bytes, self.stamp_fixed = reply[5] & 7, bool(reply[5] & 8)
-        elif code == 0xD6:   # FREE_DAQ
-            self.lists, self.pointer = {}, None
-        elif code == 0xD5:   # ALLOC_DAQ
-            self.lists, self.pointer = {self.first_list + i: List() for i in range(number)}, None
+        elif code in (0xD6, 0xD5):   # FREE_DAQ, ALLOC_DAQ
+            self.pointer = None
+            self.lists.clear()
         elif code == 0xD4:   # ALLOC_ODT
+            it = self.lists[number]
             it.odts, it.part, self.pointer = [[] for _ in range(command[4])], None, None
         elif code == 0xD3:   # ALLOC_ODT_ENTRY
-            if command[4] < len(it.odts):
-                it.odts[command[4]] = [None] * command[5]
+            odts = self.lists[number].odts
+            if odts is not None and command[4] < len(odts):
+                odts[command[4]] = [None] * command[5]
             self.pointer = None
         elif code == 0xE2:   # SET_DAQ_PTR
-            self.pointer = it, command[4], command[5]
+            self.pointer = number, command[4], command[5]
         elif code == 0xE1:   # WRITE_DAQ
-            self.write(command[2], command[3], self.number(command, 4, 4))
+            self.write((command[3], self.number(command, 4, 4), command[2] * self.granularity))
         elif code == 0xC7:   # WRITE_DAQ_MULTIPLE
             for at in range(2, min(2 + 8 * command[1], len(command) - 7), 8):
-                self.write(command[at + 1], command[at + 6], self.number(command, at + 2, 4))
+                self.write((command[at + 6], self.number(command, at + 2, 4), command[at + 1] * self.granularity))
         elif code == 0xE0:   # SET_DAQ_LIST_MODE
-            it.mode = command[1]
+            self.lists[number].mode = command[1]
         elif code == 0xE3:   # CLEAR_DAQ_LIST
-            it.odts = [[None] * len(odt) for odt in it.odts]
+            it = self.lists[number]
+            it.odts = it.odts and [odt and [None] * len(odt) for odt in it.odts]
             it.mode = it.part = self.pointer = None
         elif code == 0xDE:   # START_STOP_DAQ_LIST
-            it.first_pid = reply[1]
+            self.lists[number].first_pid = reply[1]
 
-    def write(self, size, extension, address):
-        """The entry at the pointer, which moves to the next one of its ODT."""
-        if self.pointer is not None:
-            it, odt, entry = self.pointer
-            there = odt < len(it.odts) and entry < len(it.odts[odt])
-            if there:
-                it.odts[odt][entry] = extension, address, size * self.granularity
-            self.pointer = (it, odt, entry + 1) if there and entry + 1 < len(it.odts[odt]) else None
+    def leave_unknown(self, command):
+        code, number = command[0], self.number(command, 2, 2)
+        if code in (0xD6, 0xD5):
+            self.lists.clear()
+        elif code in (0xD4, 0xD3):
+            self.lists[number].odts = None
+        elif code == 0xE3:
+            self.lists[number].odts = self.lists[number].mode = None
+        elif code in (0xE1, 0xC7) and self.pointer is not None:
+            # which of its ODT's entries come next is unknown too
+            number, odt, entry = self.pointer
+            many = 1 if code == 0xE1 else command[1]
+            self.set_entries(number, odt, entry, [UNKNOWN] * (256 if entry is None else many))
+            self.pointer = number, odt, None
+        elif code in (0xE1, 0xC7):
+            self.lose_all()
+        elif code == 0xE2:
+            self.pointer = None
+        elif code == 0xE0:
+            self.lists[number].mode = None
+
+    def lose_all(self):
+        for it in self.lists.values():
+            it.odts = None
+
+    def set_entries(self, number, odt, begin, entries):
+        odts = self.lists[number].odts
+        if odts is not None and odt < len(odts) and odts[odt] is not None:
+            begin = begin or 0
+            entries = entries[:max(len(odts[odt]) - begin, 0)]
+            odts[odt][begin:begin + len(entries)] = entries
+
+    def write(self, entry):
+        """The entry at the pointer, which moves to the next one of its ODT. Without a pointer it may be any."""
+        if self.pointer is None:
+            self.lose_all()
+            return
+        number, odt, at = self.pointer
+        if at is None:
+            self.set_entries(number, odt, 0, [UNKNOWN] * 256)
+            return
+        self.set_entries(number, odt, at, [entry])
+        self.pointer = number, odt, at + 1
 
     # what the slave sends
 
     def is_set_up(self, it):
         """Whether all is known of a list that its packets need to be read: the slave's form, each entry, the mode, FIRST_PID."""
-        return (self.id is not None and it.mode is not None and not it.mode & UNREAD_MODES
-                and bool(it.odts) and all(odt and None not in odt for odt in it.odts)
+        return (self.connected and self.id is not None and it.mode is not None and not it.mode & UNREAD_MODES
+                and bool(it.odts) and all(odt and None not in odt and UNKNOWN not in odt for odt in it.odts)
                 and not (it.mode & TIMESTAMP and self.stamp_bytes is None) and (self.id != 0 or it.first_pid is not None))
 
     def from_slave(self, time, counter, packet):
@@ -420,12 +465,12 @@ class Session:
         pid = packet[0] & 0x7F if self.overload else packet[0]
         if self.id == 0:
             for number, it in self.lists.items():
-                if it.first_pid is not None and it.first_pid <= pid < it.first_pid + len(it.odts):
+                if it.odts and it.first_pid is not None and it.first_pid <= pid < it.first_pid + len(it.odts):
                     return number, pid - it.first_pid, 1
             return None, 0, 1
         at, size = {1: (1, 1), 2: (1, 2), 3: (2, 2)}[self.id]
         number = self.number(packet, at, size)
-        fits = len(packet) >= at + size and number in self.lists and pid < len(self.lists[number].odts)
+        fits = len(packet) >= at + size and number in self.lists and pid < len(self.lists[number].odts or [])
         return number if fits else None, pid, at + size
 
     def daq_packet(self, time, packet):
@@ -466,8 +511,8 @@ class Session:
 
 
 class Reader:
-    def __init__(self, port):
-        self.port, self.fragments = port, Fragments()
+    def __init__(self, port, told):
+        self.port, self.told, self.fragments = port, told, Fragments()
         self.sessions, self.streams = {}, {}
         self.counts = collections.Counter()
 
@@ -494,11 +539,11 @@ class Reader:
 
     def frames(self, key, frames):
         if key[:3] not in self.sessions:
-            self.sessions[key[:3]] = Session(self.counts)
+            self.sessions[key[:3]] = Session(self.counts, self.told)
         session = self.sessions[key[:3]]
         for time, counter, packet in frames:
             if key[3]:
-                session.from_master(packet)
+                session.from_master(counter, packet)
             elif sample := session.from_slave(time, counter, packet):
                 yield sample
 
@@ -545,11 +590,13 @@ def line_of(sample, with_time):
 def main():
     words = argparse.ArgumentParser(description=__doc__, formatter_class=argparse.RawDescriptionHelpFormatter)
     words.add_argument("--port", type=int, default=5555)
+    words.add_argument("--told", action="append", default=[])
     words.add_argument("--times", action="store_true")
     words.add_argument("--summary", action="store_true")
     words.add_argument("file")
     given = words.parse_args()
-    reader = Reader(given.port)
+    told = [it.split(":") for it in given.told]
+    reader = Reader(given.port, [(int(code, 16), bytes.fromhex(reply)) for code, reply in told])
     with open(given.file, "rb") as file:
         packets = packets_of(file.read())
     if packets is None:
