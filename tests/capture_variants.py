@@ -2,7 +2,9 @@
 """Makes other captures of one that tests/captures_kept/keep.sh recorded: as if packets had been lost, captured twice or late, as if the
 session had been held once more, and as if the capture had begun in the middle of the first measurement.
 
-    tests/capture_variants.py CAPTURE FOLDER      writes FOLDER/NAME.pcap for each NAME of this table
+    tests/capture_variants.py CAPTURE FOLDER                writes FOLDER/NAME.pcap for each NAME of this table
+    tests/capture_variants.py --without CAPTURE FOLDER      writes FOLDER/N.pcap for each packet N in front of the first measurement, which
+                                                            lacks this one
 
 lost      each ninth packet is missing, from the first measurement on
 copied    each fifth packet stands there twice
@@ -97,6 +99,13 @@ def exchanged(records, each):
     return records
 
 
+def leave_out(capture, folder):
+    header, records = records_of(pathlib.Path(capture).read_bytes())
+    for number in range(measurements_of(records)[0][0]):
+        left = records[:number] + records[number + 1:]
+        (pathlib.Path(folder) / f"{number}.pcap").write_bytes(header + b"".join(left))
+
+
 def main(capture, folder):
     header, records = records_of(pathlib.Path(capture).read_bytes())
     # the first set-up stands in front
@@ -118,4 +127,4 @@ def main(capture, folder):
 
 
 if __name__ == "__main__":
-    main(*sys.argv[1:])
+    leave_out(*sys.argv[2:]) if sys.argv[1] == "--without" else main(*sys.argv[1:])
