@@ -3,6 +3,7 @@ ghost use Rattle.captured_session.specs.LawsOfEntries.{KnownIsWritten, WrittenIs
 ghost use Rattle.captured_session.specs.LawsOfExchanges.{EachCommandOnce, OthersChangeNothing};
 ghost use Rattle.captured_session.specs.LawsOfForms.{FieldIsGiven, FieldIsNewest, OrderIsGiven};
 ghost use Rattle.captured_session.specs.LawsOfForms.{OrderIsNewest, StampIsGiven, StampIsNewest};
+ghost use Rattle.captured_session.specs.LawsOfLosses.{LossForgets};
 ghost use Rattle.captured_session.specs.LawsOfPointers.{PointerMoves};
 ghost use Rattle.captured_session.specs.LawsOfSetUps.{AllocDaqForgets, FreeDaqForgets};
 ghost use Rattle.captured_session.specs.LawsOfSetUps.{NothingIsKnown, RefusedChangesNothing};
@@ -46,6 +47,12 @@ pub fn stamp_is_newest()
 /// SET_DAQ_PTR and WRITE_DAQ_MULTIPLE, nor one that is missing.
 pub fn refused_changes_nothing()
     ensures { RefusedChangesNothing }
+{}
+
+/// Behind a reply that no command waits for, and behind a place where commands may be missing, no
+/// list is known; but for more of an UPLOAD, and the reply to SYNCH.
+pub fn loss_forgets()
+    ensures { LossForgets }
 {}
 
 /// Of what came before a FREE_DAQ that wasn't refused, or a command that is missing, nothing counts
