@@ -61,11 +61,7 @@ fn unanswered<'a>(waiting: Option<&'a [u8]>) -> Option<Exchange<'a>>
 }
 
 /// The command that waits, with this reply; if there is none, one may be missing.
-fn answered<'a>(
-    waiting: Option<&'a [u8]>,
-    to_come: usize,
-    reply: &'a [u8],
-) -> Option<Exchange<'a>>
+fn answered<'a>(waiting: Option<&'a [u8]>, to_come: usize, reply: &'a [u8]) -> Option<Exchange<'a>>
     ensures { told result ≡ answered (option_copied waiting.entry) to_come reply.now }
 {
     match waiting {

@@ -23,7 +23,8 @@ impl Model for LastCommand {
 
 impl LastCommand {
     ghost use Rattle.std.specs.Prelude.{◌≡◌, ◌∷◌, [], ℕ, List, OnOk};
-    ghost use Rattle.captured_samples.specs.Frames.{counts_on, has_counter, is_copy, jumps, last_of};
+    ghost use Rattle.captured_samples.specs.Frames.{counts_on, has_counter, is_copy, jumps};
+    ghost use Rattle.captured_samples.specs.Frames.{last_of};
 
     /// None was heard.
     pub fn new(alloc: Global) -> LastCommand
@@ -44,8 +45,8 @@ impl LastCommand {
         self.counts && self.has_counter(counter) && self.bytes.as_slice() == packet
     }
 
-    /// Whether commands may be missing in front of a packet: its counter isn't one more than that of
-    /// the last one, though that one's was; but with CONNECT a master may count anew.
+    /// Whether commands may be missing in front of a packet: its counter isn't one more than that
+    /// of the last one, though that one's was; but with CONNECT a master may count anew.
     pub fn jumps(&self, counter: u16, packet: &[u8]) -> bool
         ensures { result ≡ jumps self.now counter packet.now }
     {

@@ -88,8 +88,8 @@ impl SlaveSamples {
         self.session.set_up().form()
     }
 
-    /// The master's next frame. A copy of its last one changes nothing. If its counter jumps, commands
-    /// may be missing in front of it, so that no list is known any longer.
+    /// The master's next frame. A copy of its last one changes nothing. If its counter jumps,
+    /// commands may be missing in front of it, so that no list is known any longer.
     ///
     /// Refused if what the commands told may be more than `MAX_FACTS`, and for want of memory.
     pub fn hear_master(&mut self, counter: u16, packet: &[u8]) -> Result<(), SessionFault>

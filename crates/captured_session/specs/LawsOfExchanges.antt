@@ -26,8 +26,8 @@ abbrev pub first_said : List Heard → Option Heard
 first_said heard = slice_get (reverse (filter is_said heard)) 0
 
 -- the exchange of a command behind which this came first: it is without a reply, if that is the
--- next command; there is none, if commands may be missing there, or if neither a command nor a reply
--- came
+-- next command; there is none, if commands may be missing there, or if neither a command nor a
+-- reply came
 abbrev pub exchange_of : List ℕ → Option Heard → List Exchange
 exchange_of c None = []
 exchange_of c (Some (Master, next)) = if is_missing next then [] else (c, None) ∷ []

@@ -21,7 +21,8 @@ abbrev pub entries_written : Exchange → ℕ
 entries_written (c, reply) = if has_positive 1 reply then entries_in c else 0
 
 -- what sets the pointer, or leaves it unknown: a command that is missing; SET_DAQ_PTR; FREE_DAQ,
--- unless it was refused; WRITE_DAQ without a reply; and WRITE_DAQ_MULTIPLE, if it wasn't carried out
+-- unless it was refused; WRITE_DAQ without a reply; and WRITE_DAQ_MULTIPLE, if it wasn't carried
+-- out
 abbrev pub sets_pointer : Exchange → Bool
 sets_pointer (c, reply) =
     is_missing c || is_of 0xE2 6 c || (is_of 0xD6 1 c && not (is_refused reply))

@@ -83,8 +83,10 @@ impl CapturedSession {
 
     /// The next packet, in the order in which they were sent; each once. A reply that no command
     /// waits for is one to a command that is missing, so that no list is known any longer; but not
-    /// if it brings more of an UPLOAD, or is one to SYNCH. Refused if there is no memory, or if more
-    /// than `MAX_FACTS` would be kept; then nothing changes.
+    /// if it brings more of an UPLOAD, or is one to SYNCH.
+    ///
+    /// Refused if there is no memory, or if more than `MAX_FACTS` would be kept; then nothing
+    /// changes.
     pub fn hear(&mut self, side: Side, packet: &[u8]) -> Result<(), SessionFault>
         ensures ok { (given : Form) (before : List Heard) → self.old ≡ session_after given before
             → OnOk result (self.new ≡ session_after given ((side, packet.now) ∷ before)) }
@@ -97,8 +99,8 @@ impl CapturedSession {
         }
     }
 
-    /// Commands may be missing here, with their replies or without: no list is known any longer. The
-    /// same is heard of the master by a packet without bytes.
+    /// Commands may be missing here, with their replies or without: no list is known any longer.
+    /// Of the master a packet without bytes says the same.
     pub fn miss(&mut self)
         ensures { (given : Form) (before : List Heard) → self.old ≡ session_after given before
             → self.new ≡ session_after given ((Side.Master, []) ∷ before) }
