@@ -28,6 +28,14 @@ fn hear(session: &mut CapturedSession, side: Side, packet: &[u8]) -> Result<(), 
     }
 }
 
+/// Packets of the session.
+fn hear_packets(session: &mut CapturedSession, packets: &[(Side, &[u8])]) -> Result<(), Fail> {
+    for (side, packet) in packets {
+        hear(session, *side, packet)?;
+    }
+    Ok(())
+}
+
 /// Commands, each with its reply, if it has one.
 fn hear_all(session: &mut CapturedSession, rows: &[Exchange<'_>]) -> Result<(), Fail> {
     for (command, reply) in rows {
@@ -370,9 +378,7 @@ fn behind_a_command_that_is_missing_no_list_is_known(rt: HostRuntime) -> Result<
         let mut session = CapturedSession::new(rt.alloc(), Form::UNTOLD);
         hear_all(&mut session, &OPENING)?;
         hear_all(&mut session, &SET_UP)?;
-        for (side, packet) in packets {
-            hear(&mut session, *side, packet)?;
-        }
+        hear_packets(&mut session, packets)?;
         let found = list_of(rt.alloc(), &session, 0)?;
         same(&rt, found.is_some(), is_known, row, "known");
         hear_all(&mut session, &SET_UP)?;
