@@ -29,7 +29,8 @@ abbrev pub is_synched : List ℕ → Bool
 is_synched (code ∷ error ∷ _) = code == 0xFE && error == 0
 is_synched _ = false
 
--- the command that waits for its reply: the newest, if no reply came behind it
+-- the command that waits for its reply: the newest, if neither a reply nor a place where commands
+-- may be missing came behind it
 abbrev pub waits_behind : Heard → Option (List ℕ) → Option (List ℕ)
 waits_behind (Master, p) waiting =
     if is_missing p then None else if is_command p then Some p else waiting
