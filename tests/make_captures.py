@@ -10,6 +10,7 @@ lost or came late; it has a gap before it if that happened since the last one of
 in nanoseconds, and that of its last packet, NAME.counts how many samples and gaps there are, NAME.words what is said on the command line,
 and NAME.stamp how many bytes timestamps of 1 us have."""
 
+import copy
 import itertools
 import pathlib
 import random
@@ -233,6 +234,62 @@ class Session:
             if trouble:
                 self.ask(self.entry(extension, address ^ 1, size), b"\xfe\x22")
             self.ask(self.entry(extension, address, size))
+
+    # an entry of the first list that is written anew, of which packets may be missing in the capture
+
+    def lack(self, *places):
+        """The capture lacks these of the last datagrams."""
+        for it in (self.datagrams[at] for at in places):
+            it.fate = "lost"
+            for frame in it.frames:
+                frame.kept = False
+
+    def write_anew(self, entry, missing):
+        self.ask(b"\xe2\0" + self.form.word(self.form.first) + b"\0\0")
+        if missing == "pointer":
+            self.lack(-2)
+        write = self.entry(*entry)
+        if missing == "nothing, but more replies come":
+            self.upload()
+        if missing == "a command behind more replies":
+            self.upload()
+            self.ask(write)
+            self.lack(-2)
+        elif missing == "synch":
+            self.send(True, write)           # no reply comes to it
+            self.send(True, b"\xfc")
+            self.lack(-1)
+            self.send(False, b"\xfe\x00")
+        elif missing == "nothing, but a reply is late":
+            self.send(True, write)
+            self.send(True, b"\xfc")
+            self.send(False, b"\xff")
+            self.send(False, b"\xfe\x00")
+        elif missing == "nothing, but it is sent again":
+            for from_master in (True, True, False, False):
+                self.send(from_master, b"\xff" if not from_master else write)
+        else:
+            self.ask(write)
+            self.lack(*{"command": [-2], "exchange": [-2, -1]}.get(missing, []))
+
+    def upload(self):
+        """UPLOAD of 20 bytes, in a block of three replies."""
+        self.send(True, b"\xf5\x14")
+        for many in (8, 8, 4):
+            self.send(False, b"\xff" + b"\x2a" * many)
+
+    def allocate(self, lists):
+        """A set-up without modes, of whose FREE_DAQ and ALLOC_DAQ no replies come."""
+        word = self.form.word
+        self.send(True, b"\xd6")
+        self.send(True, b"\xd5\0" + word(len(lists)))
+        for number, it in enumerate(lists, self.form.first):
+            self.ask(b"\xd4\0" + word(number) + bytes([len(it.odts)]))
+            for k, odt in enumerate(it.odts):
+                self.ask(b"\xd3\0" + word(number) + bytes([k, len(odt)]))
+            for k, odt in enumerate(it.odts):
+                self.write(number, k, odt, False)
+            self.ask(b"\xde\x02" + word(number), bytes([0xFF, it.first_pid]))
 
     # the measurement
 
@@ -770,6 +827,46 @@ def session_of(name, kind, turns=16):
     return session
 
 
+# what is missing where an entry of the first list is written anew, and whether the lists are known behind it: of a master that counts its
+# frames, and of one that doesn't
+ANEW = {
+    "nothing": "both", "command": "neither", "exchange": "counted", "pointer": "neither", "synch": "counted", "modes": "neither",
+    "nothing, but a reply is late": "first", "nothing, but it is sent again": "neither",
+    "nothing, but more replies come": "both", "a command behind more replies": "neither",
+}
+
+
+def anew_of(name, missing, counts):
+    """A session in which an entry is written anew between two measurements; then all is set up another time."""
+    form, session = FORMS[name], Session(FORMS[name], name + missing)
+    session.connect()
+    session.measure(LISTS[name], 8, session.set_up(LISTS[name]))
+    session.stop()
+    lists = LISTS[name][:]
+    (extension, address, size), *others = lists[0].odts[0]
+    entry = extension, address ^ 0x44, size
+    lists[0] = copy.copy(lists[0])
+    lists[0].odts = [[entry, *others], *lists[0].odts[1:]]
+    if missing == "modes":
+        session.allocate(lists)
+    else:
+        session.write_anew(entry, missing)
+    for _ in range(2):
+        session.ask(b"\xfd", b"\xff\x40\0\0" + form.word(0))
+    session.ask(b"\xdd\x01")
+    begin = len(session.samples)
+    session.measure(lists, 8, len(session.frames()))
+    for sample in session.samples[begin:]:
+        is_first = sample["list"] == form.first
+        sample["shown"] &= {"both": True, "neither": False, "first": not is_first, "counted": not counts and not is_first}[ANEW[missing]]
+    session.stop()
+    session.measure(AGAIN[name], 8, session.set_up(AGAIN[name]))
+    if not counts:
+        for frame in (frame for it in session.datagrams if it.from_master for frame in it.frames):
+            frame.counter = 0
+    return session
+
+
 class Folder:
     def __init__(self, path):
         self.path = path
@@ -801,6 +898,12 @@ def main():
             net = Net(six, room=576 if name == "c" else None, more=kind in ("lost", "twice"))
             packets = by_udp(session, net, spoilt=kind == "lost")
             folder.put(f"{name}_udp{'6' if six else '4'}_{kind}", "pcap", pcap(packets, *next(files)), [session])
+    # an entry is written anew, and packets of that may be missing; where both the command and its reply are, only CTR tells it
+    for name, missing, counts in itertools.product("ad", ANEW, (True, False)):
+        if counts or missing != "exchange":
+            session = anew_of(name, missing, counts)
+            how = f"{missing.replace(',', '').replace(' ', '_')}{'' if counts else '_uncounted'}"
+            folder.put(f"{name}_anew_{how}", "pcap", pcap(by_udp(session, Net()), *next(files)), [session])
     # and by TCP: a connection is one session, but for hole_twice, where a slave counts anew in one
     for name, kind in itertools.product("abcde", ("plain", "copies", "hole", "hole_twice", "twice", "middle")):
         holes = 4 if kind.startswith("hole") else 0

@@ -303,14 +303,17 @@ class List:
 
 
 class Session:
-    """One master and one slave. A command is out until a reply, another command or SYNCH comes. It counts where its reply is positive;
-    without a reply nobody knows what it did. A frame of the master that is just its last one is a copy. CTR of the slave counts all its
-    frames: behind a jump each list that is set up has its next sample marked; a frame from below is passed over. CONNECT's reply counts
-    anew."""
+    """One master and one slave. A command is out until a reply or another command comes. It counts where its reply is positive; without
+    a reply nobody knows what it did, nor where ERR_CMD_SYNCH comes, which answers SYNCH alone. A reply with no command out is one to a
+    command that the capture lacks, which may have been any: nothing is known of any list any longer. So it is where CTR of the master
+    doesn't rise by one, though it did at its last frame; but CONNECT may count anew. UPLOAD may have several replies, until all its
+    bytes came. A frame of a master that counts which is just its last one is a copy. CTR of the slave counts all its frames: behind a
+    jump each list that is set up has its next sample marked; a frame from below is passed over. CONNECT's reply counts anew."""
 
     def __init__(self, counts, told=()):
         self.counts = counts
         self.last = self.last_of_master = self.command = self.pointer = None
+        self.master_counts, self.upload = False, 0      # whether CTR rose by one at its last frame; bytes of UPLOAD that are to come
         self.connected, self.order, self.granularity, self.id, self.overload = False, "little", 1, None, False
         self.stamp_bytes, self.stamp_fixed = None, False
         self.lists = collections.defaultdict(List)
@@ -323,20 +326,34 @@ class Session:
     # commands, and what they do where their reply is positive, where it isn't, and where there is none
 
     def from_master(self, counter, packet):
-        copy, self.last_of_master = self.last_of_master == (counter, packet), (counter, packet)
-        if packet[0] >= 0xC0 and not copy:
+        last, counted = self.last_of_master, self.master_counts
+        if counted and last == (counter, packet):
+            return
+        follows = last is not None and (last[0] + 1) & 0xFFFF == counter
+        self.last_of_master, self.master_counts = (counter, packet), follows
+        if counted and not follows and packet[0] != 0xFF:
+            self.lose_everything()
+            self.command = None
+        if packet[0] >= 0xC0:
             if self.command is not None:
                 self.leave_unknown(self.command + bytes(8))
-            self.command = None if packet[0] == 0xFC else packet   # SYNCH
+            self.command, self.upload = packet, 0
 
     def replied(self, reply):
         command, self.command = self.command, None
+        positive, synched, awaited = reply[0] == 0xFF, reply[:2] == b"\xfe\x00", self.upload
+        if command is not None:
+            awaited = command[1] if command[0] == 0xF5 and len(command) > 1 else 0
         # a byte that is missing counts as 0
-        if command is not None and reply[0] == 0xFF:
+        if command is None:
+            if not synched and not awaited:
+                self.lose_everything()
+        elif positive:
             self.carry_out(command + bytes(8), reply + bytes(8))
-        elif command is not None and command[0] in (0xE2, 0xC7):
+        elif synched or command[0] in (0xE2, 0xC7):
             # the pointer may have moved, and entries may have been written
             self.leave_unknown(command + bytes(8))
+        self.upload = max(awaited - len(reply) + 1, 0) if positive else 0
 
     def carry_out(self, command, reply):
         code, number = command[0], self.number(command, 2, 2)
@@ -376,7 +393,7 @@ class Session:
     def leave_unknown(self, command):
         code, number = command[0], self.number(command, 2, 2)
         if code in (0xD6, 0xD5):
-            self.lists.clear()
+            self.lose_everything()
         elif code in (0xD4, 0xD3):
             self.lists[number].odts = None
         elif code == 0xE3:
@@ -393,6 +410,12 @@ class Session:
             self.pointer = None
         elif code == 0xE0:
             self.lists[number].mode = None
+
+    def lose_everything(self):
+        """Nothing is known of any list, and where the next entry is written."""
+        self.lists.clear()
+        self.pointer = None
+        self.upload = 0
 
     def lose_all(self):
         for it in self.lists.values():

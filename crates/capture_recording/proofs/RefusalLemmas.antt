@@ -75,8 +75,7 @@ module _ {S : Type 0} where
     udp = udp-of d is.ports is.has other;
     frames = fills.1.frames;
     behind = fills.1.behind;
-    legal = fills.1.legal;
-    whole = fills.1.whole;
+    begins = fills.1.begins;
     full = λ start given. fills.1.full start f.h (f.stands start given);
   }
 

@@ -8,10 +8,14 @@ use Rattle.datagrams.specs.Udp.{IsUdp, udp_datagram}
 use Rattle.frame_writer.specs.Frame.{IsFrame, frame}
 use Rattle.frame_writer.specs.Split.{joined_frames}
 
--- bytes begin with these frames, and none begins behind them
-pub record AreFrames (bytes : List ℕ) (fs : List (ℕ × List ℕ)) (rest : List ℕ) : Type 0 where
+-- bytes begin with these frames, and these bytes are behind them
+pub record BeginsWith (bytes : List ℕ) (fs : List (ℕ × List ℕ)) (rest : List ℕ) : Type 0 where
   pub legal : All IsFrame fs
   pub whole : bytes ≡ joined_frames fs ++ rest
+
+-- and none begins behind them
+pub record AreFrames (bytes : List ℕ) (fs : List (ℕ × List ℕ)) (rest : List ℕ) : Type 0 where
+  pub begins : BeginsWith bytes fs rest
   pub none : (n : ℕ) (q more : List ℕ) → IsFrame (n, q) → rest ≡ frame n q ++ more → ⊥
 
 -- what came with them, the newest in front
@@ -48,11 +52,10 @@ pub record HearsDatagram (is_of_master : Bool) (bytes : List ℕ) (old new : Sla
 
 -- after frames in front of some bytes its set-up may have too many facts with a command more
 pub record FillsUp (is_of_master : Bool) (bytes : List ℕ) (s : SlaveOf) : Type 0 where
-  -- these are fixed by `legal` and `whole`, but for how many they are
+  -- these are fixed by `begins`, but for how many they are
   pub frames : List (ℕ × List ℕ)
   pub behind : List ℕ
-  pub legal : All IsFrame frames
-  pub whole : bytes ≡ joined_frames frames ++ behind
+  pub begins : BeginsWith bytes frames behind
   pub full :
       (start : Start) (h : List Came) → StandsAfter start h s
       → IsFull (set_up_of start (came_with is_of_master frames h))

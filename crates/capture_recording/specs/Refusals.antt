@@ -1,6 +1,6 @@
 -- Why a capture is read no further, by the bytes that were read. Memory may want at any time.
 use Rattle.std.specs.Prelude.{◌≡◌, ◌≢◌, ◌⊎◌, ⊤, ℕ, ◌<◌, ◌≤◌, ◌++◌, ◌∷◌, [], List, length}
-use Rattle.std.specs.Prelude.{reverse, slice_get, All, Option, Some}
+use Rattle.std.specs.Prelude.{reverse, slice_get, Option, Some}
 use Rattle.std.specs.Io.KnownBytes.{Consumes, IsAtEnd}
 use Rattle.std.specs.declared.net.ip_addr.IpAddr.{IpAddr}
 use Rattle.capture.specs.Packets.{PacketOf}
@@ -16,9 +16,7 @@ use Rattle.datagrams.specs.Ip.{IpOf}
 use Rattle.datagrams.specs.Parts.{WaitOf}
 use Rattle.datagrams.specs.Udp.{udp_datagram}
 use Rattle.datagrams.specs.Waiting.{WholeOf}
-use Rattle.frame_writer.specs.Frame.{IsFrame}
-use Rattle.frame_writer.specs.Split.{joined_frames}
-use Rattle.capture_recording.specs.Heard.{came_with}
+use Rattle.capture_recording.specs.Heard.{BeginsWith, came_with}
 use Rattle.capture_recording.specs.Said.{AndSaid, IsBehind, Joins, Said, data_in}
 use Rattle.capture_recording.specs.Slaves.{AllTaken, CameTo, HasTalked, IsMet, IsOfDatagrams}
 use Rattle.capture_recording.specs.Slaves.{NoSegments, SlavesOf}
@@ -69,11 +67,10 @@ pub record IsFullWith (form : Form) (port : ℕ) (talk : Talk) (d : WholeOf) (be
   pub h : List Came
   pub came : CameTo port talk.slave before h
   pub udp : IsOfUdp d
-  -- these are fixed by `legal` and `whole`, but for how many they are
+  -- these are fixed by `begins`, but for how many they are
   pub frames : List (ℕ × List ℕ)
   pub behind : List ℕ
-  pub legal : All IsFrame frames
-  pub whole : (udp_datagram d.payload).payload ≡ joined_frames frames ++ behind
+  pub begins : BeginsWith (udp_datagram d.payload).payload frames behind
   pub full :
       (start : Start) → start.given ≡ form
       → IsFull (set_up_of start (came_with talk.is_of_master frames h))

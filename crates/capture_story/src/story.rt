@@ -142,13 +142,12 @@ impl<W: Write + Drop> Story<W> {
     fn tell_alone(&mut self, packet: &[u8]) -> Result<(), AllocError> {
         let at = Seconds::between(self.first, self.now);
         let (samples, stimulations) = self.take_counts();
-        let form = self.session.set_up().form();
         if self.session.waiting().is_some() {
             write_counts(&mut self.behind, samples, stimulations)?;
-            return write_alone(&mut self.behind, form, packet, at);
+            return write_unasked(&mut self.behind, packet, at);
         }
         write_counts(&mut self.lines, samples, stimulations)?;
-        write_alone(&mut self.lines, form, packet, at)
+        write_alone(&mut self.lines, &self.session, packet, at)
     }
 
     /// Tells how many packets of samples and of STIM came since the last line.
@@ -201,21 +200,29 @@ fn write_exchange(
     writeln!(text, "{words}, after {took}")
 }
 
-/// Writes the line of a packet of the slave that answers no command.
+/// Writes the line of a packet of the slave for which no command waits.
 fn write_alone(
     text: &mut String,
-    form: Form,
+    session: &CapturedSession,
     packet: &[u8],
     at: Seconds,
 ) -> Result<(), AllocError> {
-    if let [0xFE..=0xFF, ..] = packet {
-        let words = ReplyWords {
-            form,
-            command: &[],
-            packet,
-        };
-        return writeln!(text, "{at} slave {words}: no command waits");
+    if kind_of(Side::Slave, packet) != FrameKind::Reply {
+        return write_unasked(text, packet, at);
     }
+    let words = ReplyWords {
+        form: session.set_up().form(),
+        command: &[],
+        packet,
+    };
+    if session.to_come() > 0 {
+        return writeln!(text, "{at} slave {words}: more of an UPLOAD");
+    }
+    writeln!(text, "{at} slave {words}: no command waits")
+}
+
+/// Writes the line of an event or a service request.
+fn write_unasked(text: &mut String, packet: &[u8], at: Seconds) -> Result<(), AllocError> {
     let words = EventWords { packet };
     writeln!(text, "{at} slave {words}")
 }

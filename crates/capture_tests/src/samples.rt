@@ -1,6 +1,6 @@
 //! The samples of a captured session.
 use crate::same::same;
-use crate::talk::{DONE, Look, Talk};
+use crate::talk::{DONE, Exchange, Look, Talk};
 use captured_samples::{KeptSample, Mark};
 use std::test::Fail;
 
@@ -213,6 +213,74 @@ fn a_copy_of_a_command_changes_nothing(rt: HostRuntime) -> Result<(), Fail> {
         "WRITE_DAQ twice, without a reply",
     );
     talk.counts(&rt, [0, 0, 0, 2], "WRITE_DAQ twice, without a reply");
+    Ok(())
+}
+
+#[test]
+fn behind_a_jump_of_the_masters_counter_no_list_is_known(rt: HostRuntime) -> Result<(), Fail> {
+    let status: [Exchange<'_>; 1] = [(&[0xFD], &[0xFF, 0x40, 0, 0, 0, 0])];
+    let stim: &[u8] = &[0x05, 1];
+    let connect: [Exchange<'_>; 1] = [(&[0xFF, 0], &[0xFF, 4, 0, 8, 0, 8, 1, 1])];
+    let rows: [(u16, bool, bool, &str); 6] = [
+        (0, false, true, "the next"),
+        (1, false, false, "a frame is missing"),
+        (32_768, false, false, "as many as there may be"),
+        (
+            65_535,
+            false,
+            false,
+            "the last one's counter, of another packet",
+        ),
+        (65_000, false, false, "a counter from before"),
+        (1_000, true, true, "CONNECT"),
+    ];
+    for (step, connects, is_known, row) in rows {
+        let mut talk = Talk::new(rt.alloc());
+        talk.asks = 65_530;
+        talk.connect(PLAIN)?;
+        talk.set_up([0, 0], [1, 1], 0, 0)?;
+        talk.asks = talk.asks.wrapping_add(step);
+        talk.exchange(if connects { &connect } else { &status })?;
+        talk.say_all(&[&[0, 10], &[1, 11]])?;
+        let unknown = if is_known { 0 } else { 2 };
+        talk.counts(&rt, [0, 0, 0, unknown], row);
+        talk.connect(PLAIN)?;
+        talk.set_up([0, 0], [1, 1], 0, 0)?;
+        talk.say_all(&[&[0, 12], &[1, 13]])?;
+        talk.counts(&rt, [0, 0, 0, unknown], row);
+        same(
+            &rt,
+            talk.kept.samples.len(),
+            if is_known { 2 } else { 1 },
+            row,
+            "set up anew",
+        );
+    }
+    let mut talk = Talk::new(rt.alloc());
+    talk.connect(PLAIN)?;
+    talk.set_up([0, 0], [1, 1], 0, 0)?;
+    talk.asks = talk.asks.wrapping_add(1);
+    talk.ask(stim)?;
+    talk.say_all(&[&[0, 10], &[1, 11]])?;
+    talk.counts(&rt, [0, 0, 0, 2], "in front of STIM");
+    Ok(())
+}
+
+#[test]
+fn a_master_that_doesnt_count_has_no_jumps(rt: HostRuntime) -> Result<(), Fail> {
+    let mut talk = Talk::new(rt.alloc());
+    talk.connect(PLAIN)?;
+    talk.set_up([0, 0], [1, 1], 0, 0)?;
+    let last = talk.asks;
+    talk.exchange(&[(&[0xFD], &[0xFF, 0x40, 0, 0, 0, 0])])?;
+    talk.asks = last;
+    talk.exchange(&[(&[0xFF, 0], &[0xFF, 4, 0, 8, 0, 8, 1, 1])])?;
+    for counter in [7, 7, 3, 1_000, 999, 7] {
+        talk.asks = counter;
+        talk.exchange(&[(&[0xFD], &[0xFF, 0x40, 0, 0, 0, 0])])?;
+    }
+    talk.say_all(&[&[0, 10], &[1, 11]])?;
+    talk.has(&rt, &[row_of(0)], &[10, 11], "counters of any kind");
     Ok(())
 }
 

@@ -28,6 +28,14 @@ fn hear(session: &mut CapturedSession, side: Side, packet: &[u8]) -> Result<(), 
     }
 }
 
+/// Packets of the session.
+fn hear_packets(session: &mut CapturedSession, packets: &[(Side, &[u8])]) -> Result<(), Fail> {
+    for (side, packet) in packets {
+        hear(session, *side, packet)?;
+    }
+    Ok(())
+}
+
 /// Commands, each with its reply, if it has one.
 fn hear_all(session: &mut CapturedSession, rows: &[Exchange<'_>]) -> Result<(), Fail> {
     for (command, reply) in rows {
@@ -276,6 +284,148 @@ fn what_the_slave_didnt_tell_isnt_guessed(rt: HostRuntime) -> Result<(), Fail> {
         let found = list_of(rt.alloc(), &session, 0)?;
         same(&rt, found.is_some(), is_known, row, "known");
     }
+    Ok(())
+}
+
+/// List 0, with an entry and a mode.
+const SET_UP: [Exchange<'static>; 8] = [
+    (&[0xD6], DONE),
+    (&[0xD5, 0, 1, 0], DONE),
+    (&[0xD4, 0, 0, 0, 1], DONE),
+    (&[0xD3, 0, 0, 0, 0, 1], DONE),
+    (&[0xE2, 0, 0, 0, 0, 0], DONE),
+    (&[0xE1, 0xFF, 1, 0, 0, 0, 0, 0], DONE),
+    (&[0xE0, 0, 0, 0, 0, 0, 1, 0], DONE),
+    (&[0xDE, 2, 0, 0], &[0xFF, 0]),
+];
+
+#[test]
+fn behind_a_command_that_is_missing_no_list_is_known(rt: HostRuntime) -> Result<(), Fail> {
+    let point: &[u8] = &[0xE2, 0, 0, 0, 0, 0];
+    let write: &[u8] = &[0xE1, 0xFF, 1, 0, 0, 0, 0, 0];
+    let upload: &[u8] = &[0xF5, 10];
+    let four: &[u8] = &[0xFF, 1, 2, 3, 4];
+    let two: &[u8] = &[0xFF, 5, 6];
+    let synch: &[u8] = &[0xFC];
+    let synched: &[u8] = &[0xFE, 0];
+    let (asks, says) = (Side::Master, Side::Slave);
+    let rows: [(&[(Side, &[u8])], bool, &str); 16] = [
+        (&[(says, DONE)], false, "RES"),
+        (&[(says, two)], false, "RES with bytes"),
+        (&[(says, REFUSED)], false, "an error"),
+        (&[(says, &[0xFE])], false, "an error without a code"),
+        (&[(says, synched)], true, "ERR_CMD_SYNCH"),
+        (&[(says, &[0xFD, 5])], true, "an event"),
+        (&[(says, &[0xFC, 0])], true, "a service"),
+        (&[(says, &[0, 1])], true, "a sample"),
+        (&[(asks, &[])], false, "a place where some may be missing"),
+        (
+            &[(asks, upload), (says, four), (says, four), (says, two)],
+            true,
+            "UPLOAD in three replies",
+        ),
+        (
+            &[
+                (asks, upload),
+                (says, four),
+                (says, four),
+                (says, two),
+                (says, DONE),
+            ],
+            false,
+            "a reply behind it",
+        ),
+        (
+            &[(asks, &[0xF5, 4]), (says, four), (says, DONE)],
+            false,
+            "a reply behind UPLOAD in one",
+        ),
+        (
+            &[
+                (asks, upload),
+                (says, four),
+                (asks, &[0xFD]),
+                (says, two),
+                (says, two),
+            ],
+            false,
+            "UPLOAD in part, and another command",
+        ),
+        (
+            &[(asks, point), (says, DONE), (asks, write), (says, synched)],
+            false,
+            "WRITE_DAQ with the reply to SYNCH",
+        ),
+        (
+            &[
+                (asks, point),
+                (says, DONE),
+                (asks, write),
+                (asks, synch),
+                (says, DONE),
+                (says, synched),
+            ],
+            false,
+            "WRITE_DAQ with a late reply",
+        ),
+        (
+            &[(asks, &[0xFD]), (asks, &[0xFD]), (says, DONE), (says, DONE)],
+            false,
+            "GET_STATUS twice",
+        ),
+    ];
+    for (packets, is_known, row) in rows {
+        let mut session = CapturedSession::new(rt.alloc(), Form::UNTOLD);
+        hear_all(&mut session, &OPENING)?;
+        hear_all(&mut session, &SET_UP)?;
+        hear_packets(&mut session, packets)?;
+        let found = list_of(rt.alloc(), &session, 0)?;
+        same(&rt, found.is_some(), is_known, row, "known");
+        hear_all(&mut session, &SET_UP)?;
+        let found = list_of(rt.alloc(), &session, 0)?;
+        same(&rt, found.is_some(), true, row, "known, set up anew");
+    }
+    Ok(())
+}
+
+#[test]
+fn without_replies_to_free_daq_and_alloc_daq_no_mode_is_known(rt: HostRuntime) -> Result<(), Fail> {
+    let mut session = CapturedSession::new(rt.alloc(), Form::UNTOLD);
+    hear_all(&mut session, &OPENING)?;
+    hear_all(&mut session, &SET_UP)?;
+    let mode: Exchange<'_> = (&[0xE0, 0, 0, 0, 0, 0, 1, 0], DONE);
+    let rows: [(&[Exchange<'_>], bool, &str); 5] = [
+        (&[(&[0xD6], NONE)], true, "FREE_DAQ, which waits"),
+        (&[(&[0xD5, 0, 1, 0], NONE)], false, "no reply to FREE_DAQ"),
+        (
+            &[
+                (&[0xD4, 0, 0, 0, 1], DONE),
+                (&[0xD3, 0, 0, 0, 0, 1], DONE),
+                (&[0xE2, 0, 0, 0, 0, 0], DONE),
+                (&[0xE1, 0xFF, 1, 0, 0, 0, 0, 0], DONE),
+            ],
+            false,
+            "the entry is written",
+        ),
+        (&[mode], false, "the first PID isn't known"),
+        (&[(&[0xDE, 2, 0, 0], &[0xFF, 0])], true, "it is told"),
+    ];
+    for (exchanges, is_known, row) in rows {
+        hear_all(&mut session, exchanges)?;
+        let found = list_of(rt.alloc(), &session, 0)?;
+        same(&rt, found.is_some(), is_known, row, "known");
+    }
+    hear_all(&mut session, &SET_UP)?;
+    hear_all(&mut session, &[(&[0xD6], NONE), (&[0xD5, 0, 1, 0], NONE)])?;
+    hear_all(
+        &mut session,
+        &[SET_UP[2], SET_UP[3], SET_UP[4], SET_UP[5], SET_UP[7]],
+    )?;
+    let found = list_of(rt.alloc(), &session, 0)?;
+    same(&rt, found.is_some(), false, "without a mode", "known");
+    hear_all(&mut session, &[mode])?;
+    let found = list_of(rt.alloc(), &session, 0)?;
+    same(&rt, found.is_some(), true, "with one", "known");
     Ok(())
 }
 

@@ -4,15 +4,15 @@ use Rattle.std.proofs.Common.{if◌then◌else◌, OnOk, Result, Ok, Err}
 use Rattle.std.specs.List.{list_all}
 use Rattle.std.proofs.lemmas.List.{append-nil, length-append}
 use Rattle.captured_session.specs.Commands.{command_of}
-use Rattle.captured_session.specs.Exchanges.{Exchange, Heard, ends_with, exchanges, is_command, is_reply, waiting}
+use Rattle.captured_session.specs.Exchanges.{Exchange, Heard, answered, ends_with, exchanges, is_command, is_lone, is_missing, is_reply, to_come, unanswered, waiting}
 use Rattle.captured_session.specs.Lists.{ListOf}
 use Rattle.captured_session.specs.SetUps.{SetUp, facts_after, facts_of, form_after, frees, outcome_of, pointer_after, reply_of}
 use Rattle.captured_session.specs.declared.command.Command.{Command}
-use Rattle.captured_session.specs.declared.command.Command.TheVariants.{AllocDaq, FreeDaq}
+use Rattle.captured_session.specs.declared.command.Command.TheVariants.{AllocDaq, FreeDaq, Missing}
 use Rattle.captured_session.specs.declared.fact.Fact.{Fact}
 use Rattle.captured_session.specs.declared.form.Form.{Form}
 use Rattle.captured_session.specs.declared.outcome.Outcome.{Outcome}
-use Rattle.captured_session.specs.declared.outcome.Outcome.TheVariants.{Done}
+use Rattle.captured_session.specs.declared.outcome.Outcome.TheVariants.{Done, Unanswered}
 use Rattle.captured_session.specs.declared.pointer.Pointer.{Pointer}
 use Rattle.captured_session.specs.declared.side.Side.TheVariants.{Master, Slave}
 use Rattle.measured_values.specs.declared.byte_order.ByteOrder.{ByteOrder}
@@ -35,8 +35,11 @@ more-none old more e =
 same-if : (order : ByteOrder) (p : Pointer) (c reply : List ℕ) (command : Command) (outcome : Outcome) (old : List Fact)
     → length ((if frees command outcome then [] else old) ++ facts_of order p c reply command outcome) ≡ length old
     → (if frees command outcome then [] else old) ++ facts_of order p c reply command outcome ≡ old
+same-if order p c reply Missing outcome old e = sym (none-of old (sym e))
 same-if order p c reply FreeDaq Done old e = sym (none-of old (sym e))
+same-if order p c reply FreeDaq Unanswered old e = sym (none-of old (sym e))
 same-if order p c reply AllocDaq Done old e = sym (none-of old (sym e))
+same-if order p c reply AllocDaq Unanswered old e = sym (none-of old (sym e))
 same-if order p c reply command outcome old e =
     more-none old (facts_of order p c reply command outcome) e
 
@@ -57,25 +60,39 @@ same-ends given (x ∷ y ∷ ends) before e xs is few =
     let many : length (x ∷ y ∷ ends) ≤ 1 = subst (λ (zs : List Exchange). length zs ≤ 1) (sym is) few in
     absurd (omega arith)
 
-few-ends : (x : Heard) (w : Option (List ℕ)) → length (ends_with x w) ≤ 1
-few-ends x None = omega arith
-few-ends (Master, p) (Some c) = few-if (is_command p) (c, None)
-  where
-    few-if : (b : Bool) (x : Exchange) → length (if b then x ∷ [] else []) ≤ 1
-    few-if true x = omega arith
-    few-if false x = omega arith
-few-ends (Slave, p) (Some c) = few-if (is_reply p) (c, Some p)
-  where
-    few-if : (b : Bool) (x : Exchange) → length (if b then x ∷ [] else []) ≤ 1
-    few-if true x = omega arith
-    few-if false x = omega arith
+few-if : (b : Bool) (xs ys : List Exchange) → length xs ≤ 1 → length ys ≤ 1
+    → length (if b then xs else ys) ≤ 1
+few-if true xs ys few others = few
+few-if false xs ys few others = others
+
+few-none : length {A = Exchange} [] ≤ 1
+few-none = omega arith
+
+few-one : (x : Exchange) → length (x ∷ []) ≤ 1
+few-one x = omega arith
+
+few-unanswered : (w : Option (List ℕ)) → length (unanswered w) ≤ 1
+few-unanswered None = omega arith
+few-unanswered (Some c) = omega arith
+
+few-answered : (w : Option (List ℕ)) (n : ℕ) (p : List ℕ) → length (answered w n p) ≤ 1
+few-answered None n p = few-if (is_lone n p) (([], Some p) ∷ []) [] (few-one ([], Some p)) few-none
+few-answered (Some c) n p = omega arith
+
+few-ends : (x : Heard) (w : Option (List ℕ)) (n : ℕ) → length (ends_with x w n) ≤ 1
+few-ends (Master, p) w n =
+    few-if (is_missing p) (([], None) ∷ []) (if is_command p then unanswered w else []) (few-one ([], None))
+    (few-if (is_command p) (unanswered w) [] (few-unanswered w) few-none)
+few-ends (Slave, p) w n =
+    few-if (is_reply p) (answered w n p) [] (few-answered w n p) few-none
 
 -- as many facts behind a packet as before it are those of before
 pub facts-unchanged : (given : Form) (x : Heard) (heard : List Heard)
     → length (facts_after given (exchanges (x ∷ heard))) ≡ length (facts_after given (exchanges heard))
     → facts_after given (exchanges (x ∷ heard)) ≡ facts_after given (exchanges heard)
 facts-unchanged given x heard e =
-    same-ends given (ends_with x (waiting heard)) (exchanges heard) e (ends_with x (waiting heard)) refl (few-ends x (waiting heard))
+    let ends = ends_with x (waiting heard) (to_come heard) in
+    same-ends given ends (exchanges heard) e ends refl (few-ends x (waiting heard) (to_come heard))
 
 -- lists that a set-up tells are told by each one of the same form and facts
 pub all_read-same : (start : Start) (s t : SetUp) (lists : List ListOf) → t.form ≡ s.form → t.facts ≡ s.facts

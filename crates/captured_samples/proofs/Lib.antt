@@ -6,3 +6,4 @@ pub mod HeardLemmas
 pub mod StreamLemmas
 pub mod AlikeLemmas
 pub mod KeptLemmas
+mod LossLemmas

@@ -1,6 +1,6 @@
 -- What is read of the frames of a master and a slave that came, with the newest in front: the
 -- packets that the session hears, each once, and the counter that the next frame goes on from.
-use Rattle.std.specs.Prelude.{ℕ, ◌+◌, ◌%◌, ◌==◌, ◌&&◌, nat_le, Bool, false, if◌then◌else◌}
+use Rattle.std.specs.Prelude.{ℕ, ◌+◌, ◌%◌, ◌==◌, ◌&&◌, not, nat_le, Bool, false, if◌then◌else◌}
 use Rattle.std.specs.Prelude.{List, [], ◌∷◌, length, Option, Some, None}
 use Rattle.std.specs.Str.{bytes_eq}
 use Rattle.captured_session.specs.Exchanges.{Heard, waiting}
@@ -72,10 +72,22 @@ abbrev pub step_of : ReadOf → ℕ → List ℕ → CounterStep
 step_of r n p =
     if is_connected p && is_connect (waiting r.heard) then First else step_behind r.counter n
 
+-- the counter of a master, which rose by one at its last frame, doesn't with this one; but with
+-- CONNECT a master may count anew
+abbrev pub jumps : LastOf → ℕ → List ℕ → Bool
+jumps last n p = last.counts && not (counts_on n last.counter) && not (is_connect (Some p))
+
+-- in front of it commands may be missing, for which an empty packet stands
+abbrev pub with_missing : Bool → List Heard → List Heard
+with_missing jump heard = if jump then (Master, []) ∷ heard else heard
+
 abbrev pub with_command : ReadOf → ℕ → List ℕ → ReadOf
 with_command r n p =
     if is_copy (last_of r.commands) n p then r
-    else record r { commands = (n, p) ∷ r.commands; heard = (Master, p) ∷ r.heard }
+    else record r {
+      commands = (n, p) ∷ r.commands;
+      heard = (Master, p) ∷ with_missing (jumps (last_of r.commands) n p) r.heard;
+    }
 
 -- a late frame or a copy is passed over; of the others those that are of no sample are heard
 abbrev pub heard_with : List ℕ → List Heard → List Heard

@@ -8,3 +8,5 @@ pub mod Slaves
 pub mod Stream
 pub mod Inner
 pub mod Kept
+pub mod Losses
+pub mod Marks

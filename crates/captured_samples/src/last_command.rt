@@ -1,4 +1,6 @@
 //! The last command of a master.
+ghost use Rattle.std.specs.Prelude.{◌≡◌, Some};
+ghost use Rattle.captured_samples.specs.Frames.{is_connect};
 
 use std::alloc::{AllocError, Global};
 use std::marker::Model;
@@ -21,7 +23,8 @@ impl Model for LastCommand {
 
 impl LastCommand {
     ghost use Rattle.std.specs.Prelude.{◌≡◌, ◌∷◌, [], ℕ, List, OnOk};
-    ghost use Rattle.captured_samples.specs.Frames.{counts_on, has_counter, is_copy, last_of};
+    ghost use Rattle.captured_samples.specs.Frames.{counts_on, has_counter, is_copy, jumps};
+    ghost use Rattle.captured_samples.specs.Frames.{last_of};
 
     /// None was heard.
     pub fn new(alloc: Global) -> LastCommand
@@ -40,6 +43,14 @@ impl LastCommand {
         ensures { result ≡ is_copy self.now counter packet.now }
     {
         self.counts && self.has_counter(counter) && self.bytes.as_slice() == packet
+    }
+
+    /// Whether commands may be missing in front of a packet: its counter isn't one more than that
+    /// of the last one, though that one's was; but with CONNECT a master may count anew.
+    pub fn jumps(&self, counter: u16, packet: &[u8]) -> bool
+        ensures { result ≡ jumps self.now counter packet.now }
+    {
+        self.counts && !self.counts_on_to(counter) && !is_connect(packet)
     }
 
     /// The next one.
@@ -73,4 +84,11 @@ impl LastCommand {
             None => false,
         }
     }
+}
+
+/// Whether a packet is CONNECT.
+fn is_connect(packet: &[u8]) -> bool
+    ensures { result ≡ is_connect (Some packet.now) }
+{
+    matches!(packet, [0xFF, ..])
 }

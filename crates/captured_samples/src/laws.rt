@@ -1,4 +1,5 @@
 //! Laws of the definitions: each is the contract of a function that does nothing.
+ghost use Rattle.captured_samples.specs.Losses.{JumpForgets};
 ghost use Rattle.captured_samples.specs.Stream.{AllCame, AlwaysStarts, NothingElse};
 ghost use Rattle.captured_samples.specs.Stream.{NothingMissing, NothingTwice};
 ghost use Rattle.captured_samples.specs.Turns.{LastIsUnderWay, UnderWayInTurn, UnderWayIsLast};
@@ -47,4 +48,9 @@ pub fn nothing_twice()
 /// alike from others, by which reading begins.
 pub fn always_starts()
     ensures { AlwaysStarts }
+{}
+
+/// Behind a frame of a master whose counter jumps no list is known.
+pub fn jump_forgets()
+    ensures { JumpForgets }
 {}

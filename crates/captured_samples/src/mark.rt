@@ -1,5 +1,6 @@
 //! What a sample's mark says.
-ghost use Rattle.std.specs.Prelude.{◌≤◌};
+ghost use Rattle.std.specs.Prelude.{◌≡◌, ◌≤◌};
+ghost use Rattle.captured_samples.specs.Marks.{number_of};
 
 /// What a sample's mark says: whether samples are missing in front of it.
 #[derive(Clone, Copy, Debug, PartialEq, Eq)]
@@ -13,7 +14,8 @@ pub struct Mark {
 impl Mark {
     /// The number that is written: 1 is the overload indication, 2 a gap, 3 both.
     pub fn number(self) -> u8
-        ensures { result ≤ 3 }
+        ensures value { result ≡ number_of self }
+        ensures few { result ≤ 3 }
     {
         match (self.overload, self.gap) {
             (false, false) => 0,

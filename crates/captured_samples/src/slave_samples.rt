@@ -45,8 +45,8 @@ impl SlaveSamples {
     ghost use Rattle.captured_session.specs.declared.session_fault.SessionFault.TheVariants.{
       ManyFacts,
     };
-    ghost use Rattle.captured_samples.specs.Frames.{Came, ReadOf, anew, heard_with, of_master};
-    ghost use Rattle.captured_samples.specs.Frames.{of_slave};
+    ghost use Rattle.captured_samples.specs.Frames.{Came, ReadOf, anew, heard_with, jumps};
+    ghost use Rattle.captured_samples.specs.Frames.{of_master, of_slave, with_missing};
     ghost use Rattle.captured_samples.specs.Frames.{read_of, step_of, with_frame};
     ghost use Rattle.captured_samples.specs.Inner.{SameCounters};
     ghost use Rattle.captured_samples.specs.Slaves.{AllRead, IsFull, Keeps, StandsAfter, StandsBy};
@@ -88,7 +88,8 @@ impl SlaveSamples {
         self.session.set_up().form()
     }
 
-    /// The master's next frame. A copy of its last one changes nothing.
+    /// The master's next frame. A copy of its last one changes nothing. If its counter jumps,
+    /// commands may be missing in front of it, so that no list is known any longer.
     ///
     /// Refused if what the commands told may be more than `MAX_FACTS`, and for want of memory.
     pub fn hear_master(&mut self, counter: u16, packet: &[u8]) -> Result<(), SessionFault>
@@ -100,11 +101,26 @@ impl SlaveSamples {
         if self.command.is_copy(counter, packet) {
             return Ok(());
         }
+        self.miss_commands(counter, packet);
         self.hear(Side::Master, packet)?;
         let Ok(()) = self.command.note(counter, packet) else {
             return Err(SessionFault::Memory);
         };
         Ok(())
+    }
+
+    /// In front of the master's next frame commands may be missing.
+    fn miss_commands(&mut self, counter: u16, packet: &[u8])
+        ensures stands { (start : Start) (heard : List Heard) (ls : ListsIn)
+            → Keeps start heard ls self.old
+            → Keeps start (with_missing (jumps self.old.command counter packet.now) heard) ls
+            self.new }
+        ensures stays { SameCounters self.old self.new }
+    {
+        if self.command.jumps(counter, packet) {
+            self.session.miss();
+            self.is_changed = true;
+        }
     }
 
     /// The slave's next frame: a reply, or a packet of a sample. One that is late, or a copy,

@@ -11,17 +11,20 @@ use Rattle.captured_session.specs.Codes.{has_positive, is_of}
 use Rattle.captured_session.specs.Commands.{alloc_odt, alloc_odt_entry, clear_daq_list, command_by}
 use Rattle.captured_session.specs.Commands.{command_of, set_daq_list_mode, set_daq_ptr}
 use Rattle.captured_session.specs.Commands.{start_stop_daq_list, write_daq, write_daq_multiple}
+use Rattle.captured_session.specs.Exchanges.{is_synched}
 use Rattle.captured_session.specs.SetUps.{outcome_of, reply_of}
 use Rattle.captured_session.specs.declared.command.Command.{Command}
 use Rattle.captured_session.specs.declared.command.Command.TheVariants.{AllocDaq, AllocOdt}
 use Rattle.captured_session.specs.declared.command.Command.TheVariants.{AllocOdtEntry, ClearDaqList}
-use Rattle.captured_session.specs.declared.command.Command.TheVariants.{Connect, FreeDaq, Other}
+use Rattle.captured_session.specs.declared.command.Command.TheVariants.{Connect, FreeDaq, Missing}
+use Rattle.captured_session.specs.declared.command.Command.TheVariants.{Other}
 use Rattle.captured_session.specs.declared.command.Command.TheVariants.{ProcessorInfo}
 use Rattle.captured_session.specs.declared.command.Command.TheVariants.{ResolutionInfo, SetDaqPtr}
 use Rattle.captured_session.specs.declared.command.Command.TheVariants.{SetDaqListMode}
 use Rattle.captured_session.specs.declared.command.Command.TheVariants.{StartStopDaqList, WriteDaq}
 use Rattle.captured_session.specs.declared.command.Command.TheVariants.{WriteDaqMultiple}
-use Rattle.captured_session.specs.declared.outcome.Outcome.TheVariants.{Done, Refused}
+use Rattle.captured_session.specs.declared.outcome.Outcome.{Outcome}
+use Rattle.captured_session.specs.declared.outcome.Outcome.TheVariants.{Done, Refused, Unanswered}
 
 -- a packet of a command has its code and its bytes
 abbrev pub IsCode : Command → List ℕ → Type 0
@@ -38,6 +41,7 @@ IsCode (WriteDaqMultiple n) c = is_of 0xC7 2 c ≡ true
 IsCode (SetDaqListMode list mode) c = is_of 0xE0 7 c ≡ true
 IsCode (ClearDaqList list) c = is_of 0xE3 4 c ≡ true
 IsCode (StartStopDaqList list) c = is_of 0xDE 4 c ≡ true
+IsCode Missing c = c ≡ []
 IsCode Other c = ⊤
 
 pub and-right : (a b : Bool) → (a && b) ≡ true → b ≡ true
@@ -123,7 +127,7 @@ by-code P false x y here other = other
 
 -- the command of a packet is of its code
 pub command-is : (order : ByteOrder) (c : List ℕ) → IsCode (command_of order c) c
-command-is order [] = tt
+command-is order [] = refl
 command-is order (code ∷ fields) =
     let P : Command → Type 0 = λ command. IsCode command (code ∷ fields) in
     let one : (n : ℕ) → (code == n) ≡ true → is_of n 1 (code ∷ fields) ≡ true =
@@ -158,31 +162,32 @@ coded order n k (code ∷ fields) is =
     and-right (nat_le (suc k) (length (code ∷ fields))) (code == n) is in
     ap (λ (m : ℕ). command_by order m fields) (eqb-true code n here)
 
+-- what came of a command, by whether its reply is positive, or that to SYNCH
+abbrev pub came_by : Bool → Bool → Outcome
+came_by positive synched =
+    if positive then Done else (if synched then Unanswered else Refused)
+
 -- a positive reply
-done-if : (b : Bool) → (if b then Done else Refused) ≡ Done → b ≡ true
-done-if true is = refl
-done-if false is = absurd cc
+done-if : (b s : Bool) → came_by b s ≡ Done → b ≡ true
+done-if true s is = refl
+done-if false true is = absurd cc
+done-if false false is = absurd cc
 
 pub done-positive : (n : ℕ) (reply : Option (List ℕ)) → outcome_of reply ≡ Done
     → n ≤ length (reply_of reply) → has_positive n reply ≡ true
 done-positive n None is within = absurd cc
 done-positive n (Some []) is within = absurd cc
 done-positive n (Some (code ∷ rest)) is within =
-    is-of code 0xFF n rest (done-if (code == 0xFF) is) within
+    is-of code 0xFF n rest (done-if (code == 0xFF) (is_synched (code ∷ rest)) is) within
 
 pub positive-done : (n : ℕ) (reply : List ℕ) → is_of 0xFF (suc n) reply ≡ true
     → outcome_of (Some reply) ≡ Done
 positive-done n [] is = absurd (none-of 0xFF n is)
 positive-done n (code ∷ rest) is =
-    ap (λ (b : Bool). if b then Done else Refused)
+    ap (λ (b : Bool). came_by b (is_synched (code ∷ rest)))
     (and-right (nat_le (suc n) (length (code ∷ rest))) (code == 0xFF) is)
 
 pub has-done : (n : ℕ) (reply : Option (List ℕ)) → has_positive (suc n) reply ≡ true
     → outcome_of reply ≡ Done
 has-done n None is = absurd (false≢true is)
 has-done n (Some reply) is = positive-done n reply is
-
-pub done-one : (reply : Option (List ℕ)) → outcome_of reply ≡ Done → has_positive 1 reply ≡ true
-done-one None is = absurd cc
-done-one (Some []) is = absurd cc
-done-one (Some (code ∷ rest)) is = done-positive 1 (Some (code ∷ rest)) is (omega arith)

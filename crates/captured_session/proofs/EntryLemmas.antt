@@ -19,7 +19,7 @@ use Rattle.captured_session.specs.SetUps.{pointer_after, reply_of, write_at}
 use Rattle.captured_session.specs.declared.command.Command.{Command}
 use Rattle.captured_session.specs.declared.command.Command.TheVariants.{AllocDaq, AllocOdt}
 use Rattle.captured_session.specs.declared.command.Command.TheVariants.{AllocOdtEntry, ClearDaqList}
-use Rattle.captured_session.specs.declared.command.Command.TheVariants.{FreeDaq}
+use Rattle.captured_session.specs.declared.command.Command.TheVariants.{FreeDaq, Missing}
 use Rattle.captured_session.specs.declared.command.Command.TheVariants.{StartStopDaqList, WriteDaq}
 use Rattle.captured_session.specs.declared.command.Command.TheVariants.{WriteDaqMultiple}
 use Rattle.captured_session.specs.declared.element.Element.{Element}
@@ -235,12 +235,13 @@ module _ (list odt e : ℕ) where
       writes-none p (λ i. None) n 0 none i (omega arith) (omega arith)
   silent-if order p c reply (WriteDaqMultiple n) Unanswered none free = λ i few.
       writes-none p (λ i. None) n 0 none i (omega arith) (omega arith)
+  silent-if order p c reply Missing outcome none free = absurd (false≢true (sym free))
   silent-if order p c reply FreeDaq Done none free = absurd (false≢true (sym free))
   silent-if order p c reply FreeDaq Refused none free = tt
-  silent-if order p c reply FreeDaq Unanswered none free = absurd (nothing-not Open (sym none))
+  silent-if order p c reply FreeDaq Unanswered none free = absurd (false≢true (sym free))
   silent-if order p c reply AllocDaq Done none free = absurd (false≢true (sym free))
   silent-if order p c reply AllocDaq Refused none free = tt
-  silent-if order p c reply AllocDaq Unanswered none free = absurd (nothing-not Open (sym none))
+  silent-if order p c reply AllocDaq Unanswered none free = absurd (false≢true (sym free))
   silent-if order p c reply (AllocOdt l n) Done none free = if-none (l == list) Unwritten none
   silent-if order p c reply (AllocOdt l n) Refused none free = tt
   silent-if order p c reply (AllocOdt l n) Unanswered none free = if-none (l == list) Open none
@@ -268,6 +269,7 @@ module _ (list odt e : ℕ) where
       none-writes p (λ i. None) n 0 (λ j from below. silent j (omega arith))
   silent-said order p c reply (WriteDaqMultiple n) Unanswered silent =
       none-writes p (λ i. None) n 0 (λ j from below. silent j (omega arith))
+  silent-said order p c reply Missing outcome silent = absurd silent
   silent-said order p c reply FreeDaq Done silent = absurd silent
   silent-said order p c reply FreeDaq Refused silent = refl
   silent-said order p c reply FreeDaq Unanswered silent = absurd silent
@@ -296,12 +298,13 @@ module _ (list odt e : ℕ) where
 
   silent-frees : (p : Pointer) (command : Command) (outcome : Outcome)
       → IsSilent list odt e p command outcome → frees command outcome ≡ false
+  silent-frees p Missing outcome silent = absurd silent
   silent-frees p FreeDaq Done silent = absurd silent
   silent-frees p FreeDaq Refused silent = refl
-  silent-frees p FreeDaq Unanswered silent = refl
+  silent-frees p FreeDaq Unanswered silent = absurd silent
   silent-frees p AllocDaq Done silent = absurd silent
   silent-frees p AllocDaq Refused silent = refl
-  silent-frees p AllocDaq Unanswered silent = refl
+  silent-frees p AllocDaq Unanswered silent = absurd silent
   silent-frees p _ outcome silent = refl
 
   said-writes : (x : Element) (order : ByteOrder) (p : Pointer) (c reply : List ℕ)
@@ -326,12 +329,6 @@ module _ (list odt e : ℕ) where
   said-writes x order p c reply (WriteDaq y) Refused says = absurd (nothing-not (Is x) says)
   said-writes x order p c reply (WriteDaq y) Unanswered says =
       absurd (nothing-not x (write-is p None x says).is)
-  said-writes x order p c reply FreeDaq Unanswered says =
-      absurd (open-not x (same_Some Open (Is x) says))
-  said-writes x order p c reply FreeDaq _ says = absurd (nothing-not (Is x) says)
-  said-writes x order p c reply AllocDaq Unanswered says =
-      absurd (open-not x (same_Some Open (Is x) says))
-  said-writes x order p c reply AllocDaq _ says = absurd (nothing-not (Is x) says)
   said-writes x order p c reply (AllocOdt l n) Done says =
       absurd (unwritten-not x (is-if (l == list) Unwritten (Is x) says).is)
   said-writes x order p c reply (AllocOdt l n) Refused says = absurd (nothing-not (Is x) says)

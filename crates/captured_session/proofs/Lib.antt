@@ -8,3 +8,4 @@ pub mod PointerLemmas
 pub mod SetUpLemmas
 pub mod ListLemmas
 pub mod SameForms
+mod LossLemmas

@@ -1,7 +1,7 @@
 -- Where the next entry is written behind some exchanges.
 use Rattle.std.proofs.Common.{◌≡◌, ℕ, ◌+◌, ◌<◌, Bool, true, false, not, ◌&&◌, ◌||◌, nat_le, List}
 use Rattle.std.proofs.Common.{[], ◌∷◌, ◌++◌, refl, sym, ap}
-use Rattle.std.proofs.Common.{◌∙◌, subst, arith, if◌then◌else◌, Option, Some, None, All, is_some}
+use Rattle.std.proofs.Common.{◌∙◌, subst, arith, if◌then◌else◌, Option, Some, None, All}
 use Rattle.std.proofs.Common.{slice_index, add-zero, zero-add}
 use Rattle.std.proofs.lemmas.Bool.{false≢true}
 use Rattle.std.proofs.lemmas.Bool.Decides.{nat_tests}
@@ -11,12 +11,13 @@ use Rattle.std.specs.List.{sum_by}
 use Rattle.measured_values.specs.declared.byte_order.ByteOrder.{ByteOrder}
 use Rattle.captured_session.specs.Codes.{has_positive, is_of}
 use Rattle.captured_session.specs.Commands.{command_of, word}
-use Rattle.captured_session.specs.Exchanges.{Exchange}
+use Rattle.captured_session.specs.Exchanges.{Exchange, is_missing, is_synched}
 use Rattle.captured_session.specs.LawsOfPointers.{PointerMoves, entries_written, sets_pointer}
+use Rattle.captured_session.specs.LawsOfSetUps.{is_open, is_refused}
 use Rattle.captured_session.specs.SetUps.{form_after, moved, outcome_of, pointer_after}
 use Rattle.captured_session.specs.SetUps.{pointer_behind}
 use Rattle.captured_session.specs.declared.command.Command.{Command}
-use Rattle.captured_session.specs.declared.command.Command.TheVariants.{FreeDaq, SetDaqPtr}
+use Rattle.captured_session.specs.declared.command.Command.TheVariants.{FreeDaq, Missing, SetDaqPtr}
 use Rattle.captured_session.specs.declared.command.Command.TheVariants.{WriteDaq, WriteDaqMultiple}
 use Rattle.captured_session.specs.declared.element.Element.{Element}
 use Rattle.captured_session.specs.declared.form.Form.{Form}
@@ -25,7 +26,7 @@ use Rattle.captured_session.specs.declared.outcome.Outcome.TheVariants.{Done, Re
 use Rattle.captured_session.specs.declared.pointer.Pointer.{Pointer}
 use Rattle.captured_session.specs.declared.pointer.Pointer.TheVariants.{At, Within}
 use Rattle.captured_session.proofs.CodeLemmas.{IsCode, and-both, coded, command-is, not-code}
-use Rattle.captured_session.proofs.CodeLemmas.{done-one, has-done, or-false}
+use Rattle.captured_session.proofs.CodeLemmas.{has-done, or-false}
 use Rattle.captured_session.proofs.SetUpLemmas.{refused-is}
 
 -- so many entries on, and so many more
@@ -81,34 +82,44 @@ behind-by command outcome is came p = λ i. pointer_behind (is i) (came i) p
 pointer-other : (command : Command) (outcome : Outcome) (p : Pointer)
     → ((list odt entry : ℕ) → command ≡ SetDaqPtr list odt entry → ⊥)
     → ((x : Element) → command ≡ WriteDaq x → ⊥)
-    → ((n : ℕ) → command ≡ WriteDaqMultiple n → ⊥)
-    → (command ≡ FreeDaq → outcome ≡ Done → ⊥) → pointer_behind command outcome p ≡ p
-pointer-other FreeDaq Done p ptr one more free = absurd (free refl refl)
-pointer-other FreeDaq _ p ptr one more free = refl
-pointer-other (SetDaqPtr list odt entry) outcome p ptr one more free =
+    → ((n : ℕ) → command ≡ WriteDaqMultiple n → ⊥) → (command ≡ Missing → ⊥)
+    → (command ≡ FreeDaq → outcome ≡ Refused) → pointer_behind command outcome p ≡ p
+pointer-other FreeDaq outcome p ptr one more missing free =
+    ap (λ (o : Outcome). pointer_behind FreeDaq o p) (free refl)
+pointer-other (SetDaqPtr list odt entry) outcome p ptr one more missing free =
     absurd (ptr list odt entry refl)
-pointer-other (WriteDaq x) outcome p ptr one more free = absurd (one x refl)
-pointer-other (WriteDaqMultiple n) outcome p ptr one more free = absurd (more n refl)
-pointer-other _ outcome p ptr one more free = refl
+pointer-other (WriteDaq x) outcome p ptr one more missing free = absurd (one x refl)
+pointer-other (WriteDaqMultiple n) outcome p ptr one more missing free = absurd (more n refl)
+pointer-other Missing outcome p ptr one more missing free = absurd (missing refl)
+pointer-other _ outcome p ptr one more missing free = refl
 
 -- an exchange that doesn't set the pointer
 record LeavesPointer (c : List ℕ) (reply : Option (List ℕ)) : Type 0 where
+  missing : is_missing c ≡ false
   ptr : is_of 0xE2 6 c ≡ false
-  free : (is_of 0xD6 1 c && has_positive 1 reply) ≡ false
-  one : (is_of 0xE1 8 c && not (is_some reply)) ≡ false
+  free : (is_of 0xD6 1 c && not (is_refused reply)) ≡ false
+  one : (is_of 0xE1 8 c && is_open reply) ≡ false
   more : (is_of 0xC7 2 c && not (has_positive 1 reply)) ≡ false
 
 leaves-pointer : (c : List ℕ) (reply : Option (List ℕ)) → sets_pointer (c, reply) ≡ false
     → LeavesPointer c reply
 leaves-pointer c reply none =
-    let free = is_of 0xD6 1 c && has_positive 1 reply in
-    let one = is_of 0xE1 8 c && not (is_some reply) in
+    let free = is_of 0xD6 1 c && not (is_refused reply) in
+    let one = is_of 0xE1 8 c && is_open reply in
     let more = is_of 0xC7 2 c && not (has_positive 1 reply) in
     let ptr = is_of 0xE2 6 c in
-    let first = or-false (ptr || free || one) more none in
-    let second = or-false (ptr || free) one first.left in
-    let third = or-false ptr free second.left in
-    record { ptr = third.left; free = third.right; one = second.right; more = first.right }
+    let missing = is_missing c in
+    let first = or-false (missing || ptr || free || one) more none in
+    let second = or-false (missing || ptr || free) one first.left in
+    let third = or-false (missing || ptr) free second.left in
+    let fourth = or-false missing ptr third.left in
+    record {
+      missing = fourth.left;
+      ptr = fourth.right;
+      free = third.right;
+      one = second.right;
+      more = first.right;
+    }
 
 -- how many entries it wrote, by the tests that are made of it
 abbrev written_by : List ℕ → Bool → Bool → Bool → ℕ
@@ -118,11 +129,19 @@ written_by c positive one more =
 not-both : (a b : Bool) → (a && b) ≡ false → a ≡ true → b ≡ true → ⊥
 not-both a b none here there = false≢true (sym none ∙ and-both a b here there)
 
--- WRITE_DAQ that has a reply which isn't positive
-refused : (reply : Option (List ℕ)) → (true && not (is_some reply)) ≡ false
+-- WRITE_DAQ that has a reply which is neither positive nor that to SYNCH
+refused : (reply : Option (List ℕ)) → (true && is_open reply) ≡ false
     → has_positive 1 reply ≡ false → outcome_of reply ≡ Refused
 refused None some positive = absurd (false≢true (sym some))
-refused (Some reply) some positive = refused-is (Some reply) (ap not positive)
+refused (Some reply) some positive =
+    refused-is (Some reply)
+    (and-both (not (is_of 0xFF 1 reply)) (not (is_synched reply)) (ap not positive) (ap not some))
+
+-- FREE_DAQ that doesn't set it
+not-free : (c : List ℕ) (reply : Option (List ℕ)) (b : Bool) → is_refused reply ≡ b
+    → is_of 0xD6 1 c ≡ true → (is_of 0xD6 1 c && not b) ≡ false → outcome_of reply ≡ Refused
+not-free c reply true is here none = refused-is reply is
+not-free c reply false is here none = absurd (not-both (is_of 0xD6 1 c) true none here refl)
 
 -- any other exchange
 step-other : (c : List ℕ) (reply : Option (List ℕ)) (order : ByteOrder) (p : Pointer)
@@ -136,8 +155,8 @@ step-other c reply order p leaves one more =
     (λ list odt entry here. not-code 0xE2 6 c leaves.ptr (code (SetDaqPtr list odt entry) here))
     (λ x here. not-code 0xE1 8 c one (code (WriteDaq x) here))
     (λ n here. not-code 0xC7 2 c more (code (WriteDaqMultiple n) here))
-    (λ here done. not-both (is_of 0xD6 1 c) (has_positive 1 reply) leaves.free (code FreeDaq here)
-    (done-one reply done))
+    (λ here. false≢true (sym leaves.missing ∙ ap is_missing (code Missing here)))
+    (λ here. not-free c reply (is_refused reply) refl (code FreeDaq here) leaves.free)
 
 step-by : (c : List ℕ) (reply : Option (List ℕ)) (order : ByteOrder) (n list odt entry : ℕ)
     → LeavesPointer c reply → (positive one more : Bool) → has_positive 1 reply ≡ positive
@@ -150,8 +169,8 @@ step-by c reply order n list odt entry leaves true true more hp ho hm =
     ∙ moved-more 1 n list odt entry
 step-by c reply order n list odt entry leaves false true more hp ho hm =
     let (x, is) = write-daq order c ho in
-    let some : (true && not (is_some reply)) ≡ false =
-    ap (λ (v : Bool). v && not (is_some reply)) (sym ho) ∙ leaves.one in
+    let some : (true && is_open reply) ≡ false =
+    ap (λ (v : Bool). v && is_open reply) (sym ho) ∙ leaves.one in
     behind-by (WriteDaq x) Refused is (refused reply some hp) (moved n (At list odt entry))
     ∙ ap (λ (k : ℕ). moved k (At list odt entry)) (sym (zero-add n))
 step-by c reply order n list odt entry leaves true false true hp ho hm =

@@ -1,13 +1,14 @@
 -- The commands of a master that tell of DAQ lists (ASAM MCD-1 XCP, protocol layer): the code of a
 -- command, and what follows it. A longer packet is one of the command too; a packet that is too
--- short is of none.
+-- short is of none. One without bytes stands for a command that is missing in the capture.
 use Rattle.std.specs.Prelude.{ℕ, ◌+◌, ◌*◌, ◌==◌, if◌then◌else◌, List, [], ◌∷◌}
 use Rattle.measured_values.specs.declared.byte_order.ByteOrder.{ByteOrder}
 use Rattle.measured_values.specs.declared.byte_order.ByteOrder.TheVariants.{MsbFirst, MsbLast}
 use Rattle.captured_session.specs.declared.command.Command.{Command}
 use Rattle.captured_session.specs.declared.command.Command.TheVariants.{AllocDaq, AllocOdt}
 use Rattle.captured_session.specs.declared.command.Command.TheVariants.{AllocOdtEntry, ClearDaqList}
-use Rattle.captured_session.specs.declared.command.Command.TheVariants.{Connect, FreeDaq, Other}
+use Rattle.captured_session.specs.declared.command.Command.TheVariants.{Connect, FreeDaq, Missing}
+use Rattle.captured_session.specs.declared.command.Command.TheVariants.{Other}
 use Rattle.captured_session.specs.declared.command.Command.TheVariants.{ProcessorInfo}
 use Rattle.captured_session.specs.declared.command.Command.TheVariants.{ResolutionInfo, SetDaqPtr}
 use Rattle.captured_session.specs.declared.command.Command.TheVariants.{SetDaqListMode}
@@ -79,5 +80,5 @@ command_by order code fields =
     else Other
 
 abbrev pub command_of : ByteOrder → List ℕ → Command
-command_of order [] = Other
+command_of order [] = Missing
 command_of order (code ∷ fields) = command_by order code fields

@@ -11,7 +11,7 @@ use Rattle.captured_session.specs.SetUps.{pointer_after}
 use Rattle.captured_session.specs.declared.command.Command.{Command}
 use Rattle.captured_session.specs.declared.command.Command.TheVariants.{AllocDaq, AllocOdt}
 use Rattle.captured_session.specs.declared.command.Command.TheVariants.{AllocOdtEntry, ClearDaqList}
-use Rattle.captured_session.specs.declared.command.Command.TheVariants.{FreeDaq, WriteDaq}
+use Rattle.captured_session.specs.declared.command.Command.TheVariants.{FreeDaq, Missing, WriteDaq}
 use Rattle.captured_session.specs.declared.command.Command.TheVariants.{WriteDaqMultiple}
 use Rattle.captured_session.specs.declared.element.Element.{Element}
 use Rattle.captured_session.specs.declared.entry.Entry.TheVariants.{Is}
@@ -29,10 +29,11 @@ may_be list odt e (At l o i) = l == list && o == odt && i == e
 
 -- a command says nothing of the entry, if the pointer was this: it was refused, or speaks of other
 -- lists or ODTs, or nothing that it wrote may be the entry. A WRITE_DAQ_MULTIPLE that was refused
--- may have written as well.
+-- may have written as well, and one that is missing may be any.
 abbrev pub IsSilent : ℕ → ℕ → ℕ → Pointer → Command → Outcome → Type 0
 IsSilent list odt e p (WriteDaqMultiple n) outcome =
     (i : ℕ) → i < n → may_be list odt e (moved i p) ≡ false
+IsSilent list odt e p Missing outcome = ⊥
 IsSilent list odt e p command Refused = ⊤
 IsSilent list odt e p FreeDaq outcome = ⊥
 IsSilent list odt e p AllocDaq outcome = ⊥

@@ -10,3 +10,4 @@ pub mod LawsOfForms
 pub mod LawsOfSetUps
 pub mod LawsOfPointers
 pub mod LawsOfEntries
+pub mod LawsOfLosses

@@ -114,7 +114,7 @@ odts_of facts list (Some n) = all_of (map (odt_at facts list) (range_with_len 0 
 abbrev pub odts_at : List Fact → ℕ → Option (List (List Element))
 odts_at facts list = odts_of facts list (known (newest (odts_said list) facts))
 
--- a DAQ list whose packets can be read: the numbers of its set-up, and the entries that are written
+-- a DAQ list whose packets can be read: the numbers of its set-up, and its entries
 pub record ListOf : Type 0 where
   pub list : ℕ
   pub form : Form

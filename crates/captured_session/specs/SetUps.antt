@@ -5,11 +5,12 @@ use Rattle.std.specs.List.{range_with_len}
 use Rattle.measured_values.specs.declared.byte_order.ByteOrder.{ByteOrder}
 use Rattle.measured_values.specs.declared.byte_order.ByteOrder.TheVariants.{MsbFirst, MsbLast}
 use Rattle.captured_session.specs.Commands.{command_of, dword, word}
-use Rattle.captured_session.specs.Exchanges.{Exchange, Heard, exchanges, waiting}
+use Rattle.captured_session.specs.Exchanges.{Exchange, Heard, exchanges, is_synched, to_come}
+use Rattle.captured_session.specs.Exchanges.{waiting}
 use Rattle.captured_session.specs.declared.command.Command.{Command}
 use Rattle.captured_session.specs.declared.command.Command.TheVariants.{AllocDaq, AllocOdt}
 use Rattle.captured_session.specs.declared.command.Command.TheVariants.{AllocOdtEntry, ClearDaqList}
-use Rattle.captured_session.specs.declared.command.Command.TheVariants.{Connect, FreeDaq}
+use Rattle.captured_session.specs.declared.command.Command.TheVariants.{Connect, FreeDaq, Missing}
 use Rattle.captured_session.specs.declared.command.Command.TheVariants.{ProcessorInfo}
 use Rattle.captured_session.specs.declared.command.Command.TheVariants.{ResolutionInfo, SetDaqPtr}
 use Rattle.captured_session.specs.declared.command.Command.TheVariants.{SetDaqListMode}
@@ -30,11 +31,14 @@ use Rattle.captured_session.specs.declared.outcome.Outcome.TheVariants.{Done, Re
 use Rattle.captured_session.specs.declared.pointer.Pointer.{Pointer}
 use Rattle.captured_session.specs.declared.pointer.Pointer.TheVariants.{At, Unknown, Within}
 
--- what came of a command: its positive reply begins with 0xFF
+-- what came of a command: its positive reply begins with 0xFF; it has none if that to SYNCH came
 abbrev pub outcome_of : Option (List ℕ) → Outcome
 outcome_of None = Unanswered
 outcome_of (Some []) = Refused
-outcome_of (Some (code ∷ _)) = if code == 0xFF then Done else Refused
+outcome_of (Some (code ∷ rest)) =
+    if code == 0xFF then Done
+    else if is_synched (code ∷ rest) then Unanswered
+    else Refused
 
 -- the bytes of a reply; without one there are none
 abbrev pub reply_of : Option (List ℕ) → List ℕ
@@ -94,7 +98,9 @@ astray (At list odt entry) = Within list odt
 astray p = p
 
 abbrev pub pointer_behind : Command → Outcome → Pointer → Pointer
-pointer_behind FreeDaq Done p = Unknown
+pointer_behind Missing _ p = Unknown
+pointer_behind FreeDaq Refused p = p
+pointer_behind FreeDaq _ p = Unknown
 pointer_behind (SetDaqPtr list odt entry) Done p = At list odt entry
 pointer_behind (SetDaqPtr list odt entry) _ p = Unknown
 pointer_behind (WriteDaq x) Done p = moved 1 p
@@ -139,8 +145,6 @@ fact_of p reply (AllocOdt list n) Done = Some (Odts list n)
 fact_of p reply (AllocOdt list n) Unanswered = Some (LostList list)
 fact_of p reply (AllocOdtEntry list odt n) Done = Some (Entries list odt n)
 fact_of p reply (AllocOdtEntry list odt n) Unanswered = Some (LostList list)
-fact_of p reply FreeDaq Unanswered = Some LostAll
-fact_of p reply AllocDaq Unanswered = Some LostAll
 fact_of p reply (WriteDaq x) Done = Some (write_at p (Some x))
 fact_of p reply (WriteDaq x) Unanswered = Some (write_at p None)
 fact_of p reply (SetDaqListMode list mode) Done = Some (Mode list (Some mode))
@@ -160,10 +164,14 @@ facts_of order p c reply (WriteDaqMultiple n) Done = writes_from p n (element_at
 facts_of order p c reply (WriteDaqMultiple n) _ = writes_from p n (λ i. None)
 facts_of order p c reply command outcome = in_list (fact_of p reply command outcome)
 
--- FREE_DAQ and ALLOC_DAQ begin a set-up anew
+-- behind these nothing is known of any list, modes and PIDs included: FREE_DAQ and ALLOC_DAQ begin
+-- a set-up anew, or may have; a command that is missing may be any
 abbrev pub frees : Command → Outcome → Bool
-frees FreeDaq Done = true
-frees AllocDaq Done = true
+frees Missing _ = true
+frees FreeDaq Refused = false
+frees FreeDaq _ = true
+frees AllocDaq Refused = false
+frees AllocDaq _ = true
 frees _ _ = false
 
 -- the facts of a set-up, with the newest at the end
@@ -189,14 +197,17 @@ set_up_after given xs = record {
   facts = facts_after given xs;
 }
 
--- of a session also the command that waits for its reply
+-- of a session also the command that waits for its reply, and the bytes of an UPLOAD that are still
+-- to come
 pub record Session : Type 0 where
   pub set_up : SetUp
   pub waiting : Option (List ℕ)
+  pub to_come : ℕ
 
 -- what is known after some packets, with the newest in front
 abbrev pub session_after : Form → List Heard → Session
 session_after given heard = record {
   set_up = set_up_after given (exchanges heard);
   waiting = waiting heard;
+  to_come = to_come heard;
 }

@@ -9,8 +9,8 @@ use crate::list_mode::ListMode;
 use crate::stamps::stamp_len;
 use std::marker::Model;
 
-/// A DAQ list of a captured session whose packets can be read: its mode, and the entries that are
-/// written, ODT by ODT.
+/// A DAQ list of a captured session whose packets can be read: its mode, and its entries, which are
+/// all known, ODT by ODT.
 #[derive(Drop)]
 pub struct CapturedList {
     pub(crate) list: u16,
@@ -87,7 +87,7 @@ impl CapturedList {
         self.odts.len()
     }
 
-    /// The entries of an ODT that are written, in their order.
+    /// The entries of an ODT, in their order.
     pub fn entries(&self, odt: usize) -> &[Element]
         requires { odt < length self.now.odts }
         ensures value { result.now ≡ slice_index_or self.now.odts odt [] }

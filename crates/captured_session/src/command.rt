@@ -35,15 +35,19 @@ pub enum Command {
     ClearDaqList { list: u16 },
     /// START_STOP_DAQ_LIST.
     StartStopDaqList { list: u16 },
+    /// One that is missing in the capture: it may be any.
+    Missing,
     /// Another one, or none.
     Other,
 }
 
-/// The command of a packet, whose numbers stand in this byte order.
+/// The command of a packet, whose numbers stand in this byte order. One that is missing in the
+/// capture has no bytes.
 pub fn command_in(order: ByteOrder, packet: &[u8]) -> Command
     ensures { result ≡ command_of order packet.now }
 {
     match packet {
+        [] => Command::Missing,
         [0xFF, ..] => Command::Connect,
         [0xDA, ..] => Command::ProcessorInfo,
         [0xD9, ..] => Command::ResolutionInfo,

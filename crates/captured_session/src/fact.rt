@@ -48,6 +48,6 @@ pub enum Fact {
     LostList {
         list: u16,
     },
-    /// Nothing is known of any list.
+    /// It isn't known which ODTs and entries any list has.
     LostAll,
 }

@@ -112,7 +112,6 @@ fn fact_unanswered(pointer: Pointer, command: Command) -> Option<Fact>
     ensures { (reply : List ℕ) → result ≡ fact_of pointer reply command Outcome.Unanswered }
 {
     match command {
-        Command::FreeDaq | Command::AllocDaq => Some(Fact::LostAll),
         Command::AllocOdt { list, .. }
         | Command::AllocOdtEntry { list, .. }
         | Command::ClearDaqList { list } => Some(Fact::LostList { list }),
@@ -170,12 +169,14 @@ fn element_of(order: ByteOrder, bytes: &[u8]) -> Option<Element>
     }
 }
 
-/// Whether a command begins a set-up anew.
+/// Whether nothing is known of any list behind a command: it begins a set-up anew, or may have.
 pub fn frees(command: Command, outcome: Outcome) -> bool
     ensures { result ≡ frees command outcome }
 {
-    matches!(
-        (command, outcome),
-        (Command::FreeDaq | Command::AllocDaq, Outcome::Done)
-    )
+    match (command, outcome) {
+        (Command::Missing, _) => true,
+        (Command::FreeDaq | Command::AllocDaq, Outcome::Refused) => false,
+        (Command::FreeDaq | Command::AllocDaq, _) => true,
+        _ => false,
+    }
 }

@@ -3,6 +3,7 @@ ghost use Rattle.captured_session.specs.LawsOfEntries.{KnownIsWritten, WrittenIs
 ghost use Rattle.captured_session.specs.LawsOfExchanges.{EachCommandOnce, OthersChangeNothing};
 ghost use Rattle.captured_session.specs.LawsOfForms.{FieldIsGiven, FieldIsNewest, OrderIsGiven};
 ghost use Rattle.captured_session.specs.LawsOfForms.{OrderIsNewest, StampIsGiven, StampIsNewest};
+ghost use Rattle.captured_session.specs.LawsOfLosses.{LossForgets};
 ghost use Rattle.captured_session.specs.LawsOfPointers.{PointerMoves};
 ghost use Rattle.captured_session.specs.LawsOfSetUps.{AllocDaqForgets, FreeDaqForgets};
 ghost use Rattle.captured_session.specs.LawsOfSetUps.{NothingIsKnown, RefusedChangesNothing};
@@ -14,7 +15,9 @@ pub fn others_change_nothing()
 {}
 
 /// Each command that was heard, and behind which another command or a reply came, is in just one
-/// exchange: with the reply, if that came first, and else without one. Nothing else is in one.
+/// exchange: with the reply, if that came first, and else without one. So is each reply that no
+/// command waits for, and each place where commands may be missing, as those of a command that is
+/// missing. Nothing else is in one.
 pub fn each_command_once()
     ensures { EachCommandOnce }
 {}
@@ -41,13 +44,20 @@ pub fn stamp_is_newest()
 {}
 
 /// Whatever came before and behind it, a refused command changes nothing of what is known; but not
-/// SET_DAQ_PTR and WRITE_DAQ_MULTIPLE.
+/// SET_DAQ_PTR and WRITE_DAQ_MULTIPLE, nor one that is missing.
 pub fn refused_changes_nothing()
     ensures { RefusedChangesNothing }
 {}
 
-/// Of what came before a FREE_DAQ that was carried out nothing counts but how packets look, and of
-/// what came before an ALLOC_DAQ nothing but that and where the next entry is written.
+/// Behind a reply that no command waits for, and behind a place where commands may be missing, no
+/// list is known; but for more of an UPLOAD, and the reply to SYNCH.
+pub fn loss_forgets()
+    ensures { LossForgets }
+{}
+
+/// Of what came before a FREE_DAQ that wasn't refused, or a command that is missing, nothing counts
+/// but how packets look, and of what came before an ALLOC_DAQ nothing but that and where the next
+/// entry is written: neither lists nor their modes are known.
 pub fn forgets_before()
     ensures free { FreeDaqForgets }
     ensures alloc { AllocDaqForgets }

@@ -27,7 +27,7 @@ mod stamps;
 mod told_forms;
 
 pub use captured_list::{CapturedList, is_same_form};
-pub use captured_session::CapturedSession;
+pub use captured_session::{CapturedSession, is_lone};
 pub use command::{Command, command_in, dword, word};
 pub use element::Element;
 pub use fact::Fact;

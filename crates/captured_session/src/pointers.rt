@@ -11,7 +11,8 @@ pub fn pointer_behind(command: Command, outcome: Outcome, pointer: Pointer) -> P
     ensures { result ≡ pointer_behind command outcome pointer }
 {
     match (command, outcome) {
-        (Command::FreeDaq, Outcome::Done) => Pointer::Unknown,
+        (Command::Missing, _) => Pointer::Unknown,
+        (Command::FreeDaq, Outcome::Done | Outcome::Unanswered) => Pointer::Unknown,
         (Command::SetDaqPtr { list, odt, entry }, Outcome::Done) => {
             Pointer::At { list, odt, entry }
         }

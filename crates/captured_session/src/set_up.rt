@@ -35,8 +35,8 @@ impl Model for SetUp {
 }
 
 impl SetUp {
-    ghost use Rattle.std.specs.Prelude.{◌≡◌, ◌∷◌, ◌++◌, [], ◌+◌, ◌<◌, List, Err, OnErr, OnOk};
-    ghost use Rattle.std.specs.Prelude.{length, if◌then◌else◌};
+    ghost use Rattle.std.specs.Prelude.{◌≡◌, ◌∷◌, ◌++◌, [], ℕ, ◌+◌, ◌<◌, List, Err, OnErr, OnOk};
+    ghost use Rattle.std.specs.Prelude.{length, if◌then◌else◌, Option};
     ghost use Rattle.std.specs.Option.{option_copied};
     ghost use Rattle.captured_session.specs.Exchanges.{Exchange};
     ghost use Rattle.captured_session.specs.Inner.{behind};
@@ -98,6 +98,14 @@ impl SetUp {
         self.pointer = pointer_behind(command, outcome, self.pointer);
         self.form = form_behind(command, outcome, told, self.form);
         Ok(())
+    }
+
+    /// Commands may be missing in the capture: nothing is known but how packets look.
+    pub(crate) fn forget(&mut self)
+        ensures { self.new ≡ behind self.old [] None }
+    {
+        self.pointer = Pointer::Unknown;
+        self.facts.clear();
     }
 
     /// What a command tells of the DAQ lists.

@@ -13,7 +13,7 @@ returns-in_default-clause-heard g c =
     let inv = c.frames.invariant in (
       inv.0,
       c.frames.rest.now,
-      record { legal = inv.1; whole = inv.2; none = λ n q more legal is. c.in_default.ensures.found n q more legal is },
+      record { begins = record { legal = inv.1; whole = inv.2 }; none = λ n q more legal is. c.in_default.ensures.found n q more legal is },
       omega (arith, inv.3, c.saturating_sub.ensures),
       inv.4,
     )
@@ -43,8 +43,7 @@ returns-clause-heard g c =
       inv.0,
       c.frames.rest.now,
       record {
-        legal = inv.1;
-        whole = inv.2;
+        begins = record { legal = inv.1; whole = inv.2 };
         none = λ n q more legal is. none-left n q c.frames.rest.now more is (omega (arith, inv.3, c.frames-test.false));
       },
       omega (arith, inv.3, c.saturating_sub-2.ensures),
