@@ -10,6 +10,8 @@ mod first_path;
 #[cfg(test)]
 mod list_end;
 #[cfg(test)]
+mod memory_in_segments;
+#[cfg(test)]
 mod no_end;
 #[cfg(test)]
 mod orders;
