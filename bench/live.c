@@ -16,6 +16,10 @@
 #include <time.h>
 #include <unistd.h>
 
+/* No image is there to be read without a DAQ list; no A2L file. */
+#define NO_MEMORY (const uint8_t *)"", 0
+#define NO_A2L (const uint8_t *)"", 0
+
 #define PLACES 64u
 #define MEASUREMENTS 5
 
@@ -42,7 +46,7 @@ static void command(ng_slave *slave, const uint8_t *packet, uint8_t len) {
     uint8_t frame[16] = {len, 0, 0, 0}, reply[NG_PEEK_BYTES];
     size_t taken = 0, replied = 0;
     memcpy(frame + 4, packet, len);
-    want(ng_slave_datagram(slave, frame, 4u + len, 0, &taken) == NG_OK, "a datagram");
+    want(ng_slave_datagram(slave, frame, 4u + len, 0, NO_MEMORY, &taken) == NG_OK, "a datagram");
     want(ng_slave_peek(slave, reply, sizeof reply, &replied) == NG_OK, "peek");
     want(replied >= 5 && reply[4] == 0xFF, "a command is accepted");
     want(ng_slave_sent(slave) == NG_OK, "sent");
@@ -130,7 +134,7 @@ static void measure_set(const set *set, int out) {
     ng_slave slave = NG_SLAVE_INIT;
     ng_task task = NG_TASK_INIT;
     cost sent = {1e9, 1e9}, kept = {1e9, 1e9};
-    want(ng_slave_open(&profile, &event, 1, &slave) == NG_OK, "open");
+    want(ng_slave_open(&profile, &event, 1, NO_A2L, &slave) == NG_OK, "open");
     want(ng_slave_task(&slave, 0, &task) == NG_OK, "task");
     set_up(&slave, set);
     for (int m = 0; m < MEASUREMENTS; m++) {

@@ -80,9 +80,9 @@
 
 /* The version of this header and its library. */
 #define NG_VERSION_MAJOR 0
-#define NG_VERSION_MINOR 2
+#define NG_VERSION_MINOR 3
 #define NG_VERSION_PATCH 0
-#define NG_VERSION "0.2.0"
+#define NG_VERSION "0.3.0"
 
 #ifdef __cplusplus
 extern "C" {
@@ -195,6 +195,8 @@ typedef struct {
     uint8_t unit;               /* of a timestamp: 0 to 9, for 1 ns, 10 ns, .. 1 s */
     uint8_t stamp_size;         /* bytes of a timestamp: 1, 2 or 4 */
     char name[NG_MAX_NAME + 1]; /* as that of an event channel */
+    char a2l_name[NG_MAX_NAME + 1]; /* of its A2L file, without path and extension; the same */
+    char epk[NG_MAX_NAME + 1];  /* which program it is; the same */
 } ng_profile;
 
 /* What a trigger did: the lists that were due; of these, the lists whose sample went into the ring,
@@ -488,14 +490,17 @@ ng_status ng_sampler_free(ng_sampler *sampler);
  * what tasks gave back is found before. docs/PROVED.md says what is proved of the parts of a
  * slave. */
 
-/* Opens a slave with a profile, and with so many event channels: events[c] is event channel c. No
- * master is connected, there is no DAQ list, and nothing waits. Its CTR begins at 0.
+/* Opens a slave with a profile, and with so many event channels: events[c] is event channel c. a2l
+ * is its A2L file, a2l_len bytes, for a master that fetches it; 0 bytes, there is none. It is
+ * copied, as all is. No master is connected, there is no DAQ list, and nothing waits. Its CTR
+ * begins at 0.
  *
  *   NG_IN_USE      *slave isn't empty
  *   NG_BAD_LIMITS  channels is 0 or over NG_MAX_CHANNELS; or one of these is out of its limits: of
- *                  the profile image_len, base with image_len, id, ring, ticks, unit, stamp_size or
- *                  name; of an event channel capacity, for this kind of rings, name or cycle_unit.
- *                  cycle and priority have any value
+ *                  the profile image_len, base with image_len, id, ring, ticks, unit,
+ *                  stamp_size, name, a2l_name or epk; of an event channel capacity, for this kind
+ *                  of rings, name or cycle_unit; a2l_len is 2^32 or more. cycle and priority have
+ *                  any value
  *   NG_MEMORY      malloc failed
  *   NG_OK          *slave holds the new slave
  *
@@ -503,7 +508,7 @@ ng_status ng_sampler_free(ng_sampler *sampler);
  * unchanged. Proved: all of this, but not that malloc failed if NG_MEMORY is returned, nor that the
  * rings have their capacities, which is only tested. Calls malloc, realloc and free. */
 ng_status ng_slave_open(const ng_profile *profile, const ng_event *events, size_t channels,
-                        ng_slave *slave);
+                        const uint8_t *a2l, size_t a2l_len, ng_slave *slave);
 
 /* Hands out the task of an event channel, once. It may then move to a thread of its own.
  *
@@ -521,6 +526,10 @@ ng_status ng_slave_task(ng_slave *slave, uint16_t channel, ng_task *task);
 
 /* Takes bytes of a master's stream, as TCP has it, in whatever pieces they come. Each packet that
  * is whole is answered: its reply waits to be sent. The clock is the one that GET_DAQ_CLOCK tells.
+ * SHORT_UPLOAD, and UPLOAD behind SET_MTA, read variables without a DAQ list, off memory: the image
+ * as it is now, memory_len bytes. Unless these are the profile's image_len, the image isn't there,
+ * and what reads it is answered by ERR_ACCESS_DENIED. Nobody writes it during the call: where you
+ * can't keep that, pass a copy, or 0 bytes.
  *
  *   NG_EMPTY      *slave is empty
  *   NG_SPENT      the slave is spent; nothing changes
@@ -537,7 +546,7 @@ ng_status ng_slave_task(ng_slave *slave, uint16_t channel, ng_task *task);
  * reply is ERR_MEMORY_OVERFLOW. Calls malloc, realloc and free, for allocations, and where
  * measurements begin and end. */
 ng_status ng_slave_receive(ng_slave *slave, const uint8_t *bytes, size_t len, uint32_t clock,
-                           size_t *taken);
+                           const uint8_t *memory, size_t memory_len, size_t *taken);
 
 /* The same of one datagram, as UDP has it, which holds whole frames. A part of a frame at the end,
  * or a frame with LEN 0 or over 64, drops what is left of the datagram, and nothing else. *taken is
@@ -547,7 +556,7 @@ ng_status ng_slave_receive(ng_slave *slave, const uint8_t *bytes, size_t len, ui
  * NG_SPENT if the slave is spent; then *taken is unchanged. Proved and only tested: as for
  * ng_slave_receive. */
 ng_status ng_slave_datagram(ng_slave *slave, const uint8_t *bytes, size_t len, uint32_t clock,
-                            size_t *taken);
+                            const uint8_t *memory, size_t memory_len, size_t *taken);
 
 /* The transport was lost: all DAQ lists stop and are freed, and no master is connected, as after
  * DISCONNECT; but nothing is replied. While no master is connected, the lists are as they are. What

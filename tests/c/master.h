@@ -10,6 +10,10 @@
 #include <stdlib.h>
 #include <string.h>
 
+/* No image is there to be read without a DAQ list; no A2L file. */
+#define NO_MEMORY (const uint8_t *)"", 0
+#define NO_A2L (const uint8_t *)"", 0
+
 #define PAGE 1400
 #define ALL 0xFFFFu
 
@@ -143,7 +147,7 @@ static void ask(ng_slave *slave, const uint8_t *packet, uint8_t len, int kind, u
     size_t taken = 0;
     memcpy(frame + 4, packet, len);
     for (unsigned k = 0; k < LOOKS && taken == 0; k++) {
-        want(ng_slave_receive(slave, frame, 4u + len, clock_now, &taken) == NG_OK, "receive");
+        want(ng_slave_receive(slave, frame, 4u + len, clock_now, NO_MEMORY, &taken) == NG_OK, "receive");
         if (taken == 0) send(slave);
     }
     want(taken == 4u + len, "a command finds room");
@@ -201,7 +205,7 @@ static void open_with(ng_ring ring, size_t cap, size_t other, ng_slave *slave) {
     profile.ring = ring;
     events[0].capacity = cap;
     events[1].capacity = other;
-    want(ng_slave_open(&profile, events, 2, slave) == NG_OK, "open");
+    want(ng_slave_open(&profile, events, 2, NO_A2L, slave) == NG_OK, "open");
     counter = 0;
     waiting = running = 0;
     shown = 0;

@@ -7,6 +7,10 @@
 #include <stdlib.h>
 #include <string.h>
 
+/* No image is there to be read without a DAQ list; no A2L file. */
+#define NO_MEMORY (const uint8_t *)"", 0
+#define NO_A2L (const uint8_t *)"", 0
+
 #define UNWRITTEN 0xA5u
 #define CLOCK 0x01020304u
 #define LEN(table) (sizeof(table) / sizeof(table)[0])
@@ -61,7 +65,7 @@ static ng_slave open_slave(size_t channels) {
     ng_profile profile = profile_of();
     ng_event events[2] = {event_of("e0"), event_of("e1")};
     ng_slave slave = NG_SLAVE_INIT;
-    want(ng_slave_open(&profile, events, channels, &slave) == NG_OK, "open");
+    want(ng_slave_open(&profile, events, channels, NO_A2L, &slave) == NG_OK, "open");
     return slave;
 }
 
@@ -77,21 +81,25 @@ static enum { STREAM, PIECES, DATAGRAMS } way = STREAM;
 /* The bytes of a piece. */
 static size_t piece = 1;
 
-static void hear(ng_slave *slave, const char *frames) {
+/* With so many bytes of an image, to be read without a DAQ list. */
+static void hear_with(ng_slave *slave, const char *frames, const uint8_t *image, size_t image_len) {
     static uint8_t bytes[1024];
     size_t len = unhex(frames, bytes), taken = 77, step;
     if (way == DATAGRAMS) {
-        want(ng_slave_datagram(slave, bytes, len, CLOCK, &taken) == NG_OK, frames);
+        want(ng_slave_datagram(slave, bytes, len, CLOCK, image, image_len, &taken) == NG_OK, frames);
         want(taken == len, frames);
         return;
     }
     for (size_t at = 0; at < len; at += step) {
         step = way == PIECES && piece < len - at ? piece : len - at;
         taken = 77;
-        want(ng_slave_receive(slave, bytes + at, step, CLOCK, &taken) == NG_OK, frames);
+        want(ng_slave_receive(slave, bytes + at, step, CLOCK, image, image_len, &taken) == NG_OK,
+             frames);
         want(taken == step, frames);
     }
 }
+
+static void hear(ng_slave *slave, const char *frames) { hear_with(slave, frames, NO_MEMORY); }
 
 static uint8_t buffer[1400];
 
@@ -174,7 +182,7 @@ static void openings(void) {
     ng_slave slave = NG_SLAVE_INIT;
     begin("openings");
     for (size_t c = 1; c < 9; c++) events[c] = event_of("e1");
-    for (unsigned k = 0; k < 20; k++) {
+    for (unsigned k = 0; k < 23; k++) {
         ng_profile p = good;
         ng_event e = event_of("e0");
         if (k == 0) p.image_len = 0;
@@ -197,17 +205,22 @@ static void openings(void) {
         if (k == 17) e.cycle_unit = 10;
         if (k == 18) e.capacity = ring == NG_RING_BYTES ? NG_MIN_BYTE_RING - 1 : NG_MAX_RING + 1;
         if (k == 19) p.id = UINT32_MAX;
+        if (k == 20) memset(p.a2l_name, 'n', sizeof p.a2l_name);
+        if (k == 21) memset(p.epk, 'n', sizeof p.epk);
+        if (k == 22) p.epk[0] = 0x7F;
         events[1] = e;
-        want(ng_slave_open(&p, events, 2, &slave) == NG_BAD_LIMITS, "out of a limit");
+        want(ng_slave_open(&p, events, 2, NO_A2L, &slave) == NG_BAD_LIMITS, "out of a limit");
         want(!slave.full, "nothing is made");
     }
     events[1] = event_of("");
-    want(ng_slave_open(&good, events, 0, &slave) == NG_BAD_LIMITS, "no event channel");
-    want(ng_slave_open(&good, events, 9, &slave) == NG_BAD_LIMITS, "nine event channels");
+    want(ng_slave_open(&good, events, 0, NO_A2L, &slave) == NG_BAD_LIMITS, "no event channel");
+    want(ng_slave_open(&good, events, 9, NO_A2L, &slave) == NG_BAD_LIMITS, "nine event channels");
     good.base = 0xFFFFFFFEu;
     memset(good.name, 'n', NG_MAX_NAME);
-    want(ng_slave_open(&good, events, 8, &slave) == NG_OK, "eight");
-    want(ng_slave_open(&good, events, 9, &slave) == NG_IN_USE, "it is in use");
+    memset(good.a2l_name, 'a', NG_MAX_NAME);
+    memset(good.epk, 'e', NG_MAX_NAME);
+    want(ng_slave_open(&good, events, 8, NO_A2L, &slave) == NG_OK, "eight");
+    want(ng_slave_open(&good, events, 9, NO_A2L, &slave) == NG_IN_USE, "it is in use");
     close_with(&slave, NULL, 0);
     end();
 }
@@ -221,8 +234,8 @@ static void empty_handles(void) {
     ng_slave_state state = {true, true, 77};
     begin("empty handles");
     want(ng_slave_task(&slave, 0, &task) == NG_EMPTY, "task");
-    want(ng_slave_receive(&slave, buffer, 0, 0, &len) == NG_EMPTY, "receive");
-    want(ng_slave_datagram(&slave, buffer, 0, 0, &len) == NG_EMPTY, "datagram");
+    want(ng_slave_receive(&slave, buffer, 0, 0, NO_MEMORY, &len) == NG_EMPTY, "receive");
+    want(ng_slave_datagram(&slave, buffer, 0, 0, NO_MEMORY, &len) == NG_EMPTY, "datagram");
     want(ng_slave_hang_up(&slave) == NG_EMPTY, "hang_up");
     want(ng_slave_peek(&slave, buffer, 0, &len) == NG_EMPTY, "peek");
     want(ng_slave_sent(&slave) == NG_EMPTY, "sent");
@@ -300,6 +313,52 @@ static void session(void) {
     trigger(&task, "3344", 0, 0);
     finish(&task);
     close_with(&slave, account, 1);
+}
+
+/* A master that reads without a DAQ list: memory as it is handed in with each packet, and texts. */
+static void reading(void) {
+    static const uint8_t first[3] = {0xAB, 0xCD, 0xEF}, second[2] = {0x12, 0x34};
+    static const char told[] = "an A2L file, of more bytes than one reply has, which are sixty-three";
+    ng_profile profile = profile_of();
+    ng_event event = event_of("e0");
+    ng_slave slave = NG_SLAVE_INIT;
+    char a2l[sizeof told];
+    begin("reading without a DAQ list");
+    memcpy(a2l, told, sizeof told);
+    memcpy(profile.a2l_name, "file", 4);
+    memcpy(profile.epk, "v1", 2);
+    want(ng_slave_open(&profile, &event, 1, (const uint8_t *)a2l, sizeof a2l, &slave) == NG_OK, "open");
+    memset(a2l, 0, sizeof a2l); /* the slave has a copy */
+    hear(&slave, "02000000ff00" "02000000fa01" "02000000f504" "02000000fa05" "02000000f502");
+    sends(&slave, "08000000ff04804040000101" "08000100ff00000004000000" "05000200ff66696c65"
+                  "08000300ff00000002000000" "03000400ff7631");
+    hear(&slave, "02000000fa04" "02000000f53f" "02000000f506");
+    sends(&slave, "08000500ff00000045000000"
+                  "40000600ff616e2041324c2066696c652c206f66206d6f726520627974657320"
+                  "7468616e206f6e65207265706c79206861732c20776869636820617265207369"
+                  "7874792d"
+                  "07000700ff746872656500");
+    /* each packet reads what was handed in with it; of another length, or none, it isn't there */
+    hear_with(&slave, "08000000f402000000000000", first, 2);
+    hear_with(&slave, "08000000f600000000000000" "02000000f501", first, 2);
+    hear_with(&slave, "02000000f501", second, 2);
+    hear_with(&slave, "02000000f501", second, 2);
+    sends(&slave, "03000800ffabcd" "01000900ff" "02000a00ffab" "02000b00ff34" "02000c00fe22");
+    hear_with(&slave, "08000000f401000000000000", first, 3);
+    hear_with(&slave, "08000000f401000000000000", first, 1);
+    hear(&slave, "08000000f401000000000000" "01000000fe");
+    sends(&slave, "02000d00fe24" "02000e00fe24" "02000f00fe24" "01001000ff");
+    close_with(&slave, NULL, 0);
+    end();
+}
+
+static void readings(void) {
+    reading();
+    way = PIECES;
+    reading();
+    way = DATAGRAMS;
+    reading();
+    way = STREAM;
 }
 
 static void sessions(void) {
@@ -424,18 +483,18 @@ static void bad_frames(void) {
         uint8_t bytes[64];
         size_t taken = 77, len = unhex("02000000ff00", bytes);
         len += unhex(bad[k], bytes + len);
-        want(ng_slave_receive(&slave, bytes, len, 0, &taken) == NG_BAD_FRAME, "a bad LEN");
+        want(ng_slave_receive(&slave, bytes, len, 0, NO_MEMORY, &taken) == NG_BAD_FRAME, "a bad LEN");
         want(taken == 77, "nothing is told");
         sends(&slave, "08000000ff04804040000101");
-        want(ng_slave_receive(&slave, bytes, 6, 0, &taken) == NG_BAD_FRAME, "it stays closed");
-        want(ng_slave_receive(&slave, bytes, 0, 0, &taken) == NG_BAD_FRAME, "it stays closed");
+        want(ng_slave_receive(&slave, bytes, 6, 0, NO_MEMORY, &taken) == NG_BAD_FRAME, "it stays closed");
+        want(ng_slave_receive(&slave, bytes, 0, 0, NO_MEMORY, &taken) == NG_BAD_FRAME, "it stays closed");
         sends(&slave, "");
         way = DATAGRAMS;
         hear(&slave, "01000000fd");
         sends(&slave, "");
-        want(ng_slave_datagram(&slave, bytes, len, 0, &taken) == NG_OK && taken == len, "datagram");
+        want(ng_slave_datagram(&slave, bytes, len, 0, NO_MEMORY, &taken) == NG_OK && taken == len, "datagram");
         sends(&slave, "08000100ff04804040000101");
-        want(ng_slave_receive(&slave, bytes, 6, 0, &taken) == NG_BAD_FRAME, "it stays closed");
+        want(ng_slave_receive(&slave, bytes, 6, 0, NO_MEMORY, &taken) == NG_BAD_FRAME, "it stays closed");
         hear(&slave, "01000000fd");
         sends(&slave, "06000200ff0000000000");
         way = STREAM;
@@ -447,8 +506,8 @@ static void bad_frames(void) {
         want(ng_slave_hang_up(&slave) == NG_OK, "what is held of a frame is dropped");
         hear(&slave, "02000000ff00");
         sends(&slave, "08000400ff04804040000101");
-        want(ng_slave_receive(&slave, bytes + 6, 1, 0, &taken) == NG_OK && taken == 1, "half");
-        want(ng_slave_receive(&slave, bytes + 7, 1, 0, &taken) == NG_BAD_FRAME, "the other half");
+        want(ng_slave_receive(&slave, bytes + 6, 1, 0, NO_MEMORY, &taken) == NG_OK && taken == 1, "half");
+        want(ng_slave_receive(&slave, bytes + 7, 1, 0, NO_MEMORY, &taken) == NG_BAD_FRAME, "the other half");
         hear_nothing(&slave);
         close_with(&slave, NULL, 0);
     }
@@ -462,19 +521,19 @@ static void many_replies(void) {
     size_t len = unhex("02000000ff00", bytes), taken = 77;
     begin("where sixteen replies wait, no more bytes are taken");
     for (unsigned k = 0; k < 20; k++) len += unhex("01000000fc", bytes + len);
-    want(ng_slave_receive(&slave, bytes, len, 0, &taken) == NG_OK && taken == 6 + 15 * 5, "16");
-    want(ng_slave_datagram(&slave, bytes + taken, 5, 0, &len) == NG_OK && len == 0, "no more");
-    want(ng_slave_receive(&slave, bytes + taken, 5, 0, &len) == NG_OK && len == 0, "no more");
+    want(ng_slave_receive(&slave, bytes, len, 0, NO_MEMORY, &taken) == NG_OK && taken == 6 + 15 * 5, "16");
+    want(ng_slave_datagram(&slave, bytes + taken, 5, 0, NO_MEMORY, &len) == NG_OK && len == 0, "no more");
+    want(ng_slave_receive(&slave, bytes + taken, 5, 0, NO_MEMORY, &len) == NG_OK && len == 0, "no more");
     want(ng_slave_peek(&slave, buffer, sizeof buffer, &len) == NG_OK && len == 12 + 15 * 6, "16");
     want(ng_slave_sent(&slave) == NG_OK, "sent");
-    want(ng_slave_receive(&slave, bytes + taken, 25, 0, &len) == NG_OK && len == 25, "the others");
+    want(ng_slave_receive(&slave, bytes + taken, 25, 0, NO_MEMORY, &len) == NG_OK && len == 25, "the others");
     want(ng_slave_peek(&slave, buffer, sizeof buffer, &len) == NG_OK && len == 5 * 6, "5");
     want(ng_slave_sent(&slave) == NG_OK, "sent");
-    want(ng_slave_datagram(&slave, bytes, 106, 0, &taken) == NG_OK && taken == 6 + 15 * 5, "16");
-    want(ng_slave_datagram(&slave, bytes + taken, 5, 0, &len) == NG_OK && len == 0, "no more");
+    want(ng_slave_datagram(&slave, bytes, 106, 0, NO_MEMORY, &taken) == NG_OK && taken == 6 + 15 * 5, "16");
+    want(ng_slave_datagram(&slave, bytes + taken, 5, 0, NO_MEMORY, &len) == NG_OK && len == 0, "no more");
     want(ng_slave_peek(&slave, buffer, sizeof buffer, &len) == NG_OK && len == 12 + 15 * 6, "16");
     want(ng_slave_sent(&slave) == NG_OK, "sent");
-    want(ng_slave_datagram(&slave, bytes + taken, 25, 0, &len) == NG_OK && len == 25, "the others");
+    want(ng_slave_datagram(&slave, bytes + taken, 25, 0, NO_MEMORY, &len) == NG_OK && len == 25, "the others");
     close_with(&slave, NULL, 0);
     end();
 }
@@ -484,7 +543,7 @@ static void ask(ng_slave *slave, const char *packet) {
     uint8_t frame[68];
     size_t len = unhex(packet, frame + 4), taken = 77;
     memcpy(frame, (uint8_t[]){(uint8_t)len, 0, 0, 0}, 4);
-    want(ng_slave_datagram(slave, frame, 4 + len, 0, &taken) == NG_OK && taken == 4 + len, packet);
+    want(ng_slave_datagram(slave, frame, 4 + len, 0, NO_MEMORY, &taken) == NG_OK && taken == 4 + len, packet);
     want(ng_slave_peek(slave, buffer, sizeof buffer, &len) == NG_OK && len > 4, packet);
     want(buffer[4] == 0xFF && ng_slave_sent(slave) == NG_OK, packet);
 }
@@ -563,7 +622,7 @@ static void heap_of(const struct load *load) {
         events[c] = events[0];
         events[c].capacity = capacity;
     }
-    want(ng_slave_open(&profile, events, n, &slave) == NG_OK, "open");
+    want(ng_slave_open(&profile, events, n, NO_A2L, &slave) == NG_OK, "open");
     for (unsigned c = 0; c < n; c++) tasks[c] = task_of(&slave, (uint16_t)c);
     unsigned long opened = memory_bytes;
     within(0, opened - before, of_slave, "of a slave");
@@ -660,7 +719,7 @@ static void behind_a_bad_frame(void) {
     hear(&slave, "01000000fd");
     shows(&slave, "06000800ff4000000000" "0300090000aabb");
     trigger(&task, "ccdd", 1, 1);
-    want(ng_slave_receive(&slave, bytes, len, CLOCK, &taken) == NG_BAD_FRAME, "a bad LEN");
+    want(ng_slave_receive(&slave, bytes, len, CLOCK, NO_MEMORY, &taken) == NG_BAD_FRAME, "a bad LEN");
     sends(&slave, "06000800ff4000000000" "0300090000aabb" "08000a00ff00000004030201");
     trigger(&task, "eeff", 0, 0);
     hear_nothing(&slave);
@@ -745,7 +804,7 @@ static void full_buffers(void) {
     begin("a buffer that one sample fills");
     profile.image_len = sizeof image;
     if (ring == NG_RING_BYTES) event.capacity = 3 * NG_MIN_BYTE_RING;
-    want(ng_slave_open(&profile, &event, 1, &slave) == NG_OK, "open");
+    want(ng_slave_open(&profile, &event, 1, NO_A2L, &slave) == NG_OK, "open");
     ng_task task = task_of(&slave, 0);
     hear(&slave, "02000000ff00" "04000000d5000100" "05000000d400000008");
     skip(&slave);
@@ -870,7 +929,7 @@ static void no_memory(void) {
         ng_task task = NG_TASK_INIT;
         unsigned long held = memory_held;
         memory_refuse_behind(k);
-        ng_status opened = ng_slave_open(&profile, events, 2, &slave);
+        ng_status opened = ng_slave_open(&profile, events, 2, NO_A2L, &slave);
         if (opened == NG_MEMORY) want(held == memory_held, "what was had is given back");
         unsigned long before = memory_held;
         ng_status lent = opened == NG_OK ? ng_slave_task(&slave, 1, &task) : NG_OK;
@@ -878,7 +937,7 @@ static void no_memory(void) {
         bool refused = memory_refused();
         unsigned long lacking = (opened == NG_MEMORY) + (lent == NG_MEMORY);
         want(lacking <= (refused ? 1u : 0u), "want of memory is answered where it was met");
-        if (opened == NG_MEMORY) want(ng_slave_open(&profile, events, 2, &slave) == NG_OK, "again");
+        if (opened == NG_MEMORY) want(ng_slave_open(&profile, events, 2, NO_A2L, &slave) == NG_OK, "again");
         if (!task.full) task = task_of(&slave, 1);
         finish(&task);
         close_with(&slave, NULL, 0);
@@ -925,6 +984,7 @@ int main(void) {
     for (ring = NG_RING_ITEMS; ring <= NG_RING_BYTES; ring++) {
         openings();
         sessions();
+        readings();
         two_channels();
         pieces();
         datagrams();

@@ -10,6 +10,10 @@
 #include <stdlib.h>
 #include <string.h>
 
+/* No image is there to be read without a DAQ list; no A2L file. */
+#define NO_MEMORY (const uint8_t *)"", 0
+#define NO_A2L (const uint8_t *)"", 0
+
 #define CHANNELS 2
 #define TRIGGERS 400u
 #define TURNS 150
@@ -60,7 +64,7 @@ static void hear(ng_slave *slave, const uint8_t *packet, uint8_t len, struct com
     uint8_t frame[16] = {len, 0, 0, 0};
     size_t taken = 77;
     memcpy(frame + 4, packet, len);
-    want(ng_slave_receive(slave, frame, 4u + len, 0, &taken) == NG_OK, "receive");
+    want(ng_slave_receive(slave, frame, 4u + len, 0, NO_MEMORY, &taken) == NG_OK, "receive");
     want(taken == 4u + len, "the whole frame is taken");
     asked[waiting++] = command;
 }
@@ -141,7 +145,7 @@ static void open_slave(ng_ring ring, size_t cap, ng_slave *slave, struct samplin
     ng_event events[CHANNELS] = {{.name = "e0"}, {.name = "e1"}};
     profile.ring = ring;
     for (unsigned c = 0; c < CHANNELS; c++) events[c].capacity = cap;
-    want(ng_slave_open(&profile, events, CHANNELS, slave) == NG_OK, "open");
+    want(ng_slave_open(&profile, events, CHANNELS, NO_A2L, slave) == NG_OK, "open");
     counter = 0;
     for (unsigned c = 0; c < CHANNELS; c++) {
         struct sampling none = {NG_TASK_INIT, 0, 0, false};

@@ -1,6 +1,6 @@
 -- What the calls by which a slave hears its master, and is shown and sent what waits, answer and
 -- leave, by their status.
-use Rattle.std.specs.Prelude.{◌≡◌, ℕ, ◌<◌, ◌≤◌, false, true, List, length, Option}
+use Rattle.std.specs.Prelude.{◌≡◌, ℕ, ◌<◌, ◌≤◌, false, true, List, [], ◌∷◌, length, Option}
 use Rattle.channel_ring.specs.declared.ends.TakeEnd.{Ghosts as TakeGhosts}
 use Rattle.c_engine.specs.States.{Bytes, Items}
 use Rattle.c_slave.specs.declared.content.Content.{Content}
@@ -10,8 +10,13 @@ use Rattle.slave.specs.Hearing.{is_spent}
 use Rattle.slave_lending.specs.Bytes.{HangsUp, HearsBytes, RefusesBytes, TakesBytes}
 use Rattle.slave_lending.specs.Sending.{Peeks, Sends}
 use Rattle.slave_lending.specs.States.{LendingSlaveState}
+use Rattle.session.specs.Past.{Given}
 use Rattle.c_slave.specs.OnHandles.{OnSlave}
 use Rattle.c_slave.specs.declared.sending_calls.TheConstants.{PEEK_BYTES}
+
+-- what was handed in: a clock, and the image, which isn't there if it has another length
+abbrev pub given_with : ℕ → List ℕ → Given
+given_with clock image = record { clock = clock; memory = image ∷ [] }
 
 -- the buffer of what is shown, and how many bytes of it that takes up
 pub record ShownRoom : Type 0 where
@@ -21,23 +26,23 @@ pub record ShownRoom : Type 0 where
 module _ {S T F : Type 0} (take : TakeGhosts T F) where
   -- what a slave does with bytes of a stream, if it isn't spent; how many it took is told
   abbrev pub ReceivesBytes
-      : LendingSlaveState S T → LendingSlaveState S T → List ℕ → ℕ → ℕ → ℕ → Status → Type 0
-  ReceivesBytes s t bytes clock before after status.Ok =
-      (is_spent s.slave ≡ false) × TakesBytes take s t clock bytes after
-  ReceivesBytes s t bytes clock before after status.BadFrame =
-      (is_spent s.slave ≡ false) × RefusesBytes take s t clock bytes × (after ≡ before)
-  ReceivesBytes s t bytes clock before after status.Spent =
+      : LendingSlaveState S T → LendingSlaveState S T → List ℕ → Given → ℕ → ℕ → Status → Type 0
+  ReceivesBytes s t bytes given before after status.Ok =
+      (is_spent s.slave ≡ false) × TakesBytes take s t given bytes after
+  ReceivesBytes s t bytes given before after status.BadFrame =
+      (is_spent s.slave ≡ false) × RefusesBytes take s t given bytes × (after ≡ before)
+  ReceivesBytes s t bytes given before after status.Spent =
       (is_spent s.slave ≡ true) × (t ≡ s) × (after ≡ before)
-  ReceivesBytes s t bytes clock before after _ = ⊥
+  ReceivesBytes s t bytes given before after _ = ⊥
 
   -- what it does with a datagram
   abbrev pub ReceivesDatagram
-      : LendingSlaveState S T → LendingSlaveState S T → List ℕ → ℕ → ℕ → ℕ → Status → Type 0
-  ReceivesDatagram s t bytes clock before after status.Ok =
-      (is_spent s.slave ≡ false) × HearsBytes take s t clock bytes after
-  ReceivesDatagram s t bytes clock before after status.Spent =
+      : LendingSlaveState S T → LendingSlaveState S T → List ℕ → Given → ℕ → ℕ → Status → Type 0
+  ReceivesDatagram s t bytes given before after status.Ok =
+      (is_spent s.slave ≡ false) × HearsBytes take s t given bytes after
+  ReceivesDatagram s t bytes given before after status.Spent =
       (is_spent s.slave ≡ true) × (t ≡ s) × (after ≡ before)
-  ReceivesDatagram s t bytes clock before after _ = ⊥
+  ReceivesDatagram s t bytes given before after _ = ⊥
 
   -- what it shows of what waits
   abbrev pub ShowsWaiting
@@ -51,19 +56,19 @@ module _ {S T F : Type 0} (take : TakeGhosts T F) where
 module _ (items : Items) (bytes : Bytes) where
   -- what ng_slave_receive does to a handle
   abbrev pub Receives
-      : Option Content → Option Content → List ℕ → ℕ → ℕ → ℕ → Status → Type 0
-  Receives old new packets clock before after result =
+      : Option Content → Option Content → List ℕ → Given → ℕ → ℕ → Status → Type 0
+  Receives old new packets given before after result =
       OnSlave old new result (after ≡ before)
-      (λ s t. ReceivesBytes items.give s t packets clock before after result)
-      (λ s t. ReceivesBytes bytes.give s t packets clock before after result)
+      (λ s t. ReceivesBytes items.give s t packets given before after result)
+      (λ s t. ReceivesBytes bytes.give s t packets given before after result)
 
   -- what ng_slave_datagram does to a handle
   abbrev pub HearsDatagrams
-      : Option Content → Option Content → List ℕ → ℕ → ℕ → ℕ → Status → Type 0
-  HearsDatagrams old new packets clock before after result =
+      : Option Content → Option Content → List ℕ → Given → ℕ → ℕ → Status → Type 0
+  HearsDatagrams old new packets given before after result =
       OnSlave old new result (after ≡ before)
-      (λ s t. ReceivesDatagram items.give s t packets clock before after result)
-      (λ s t. ReceivesDatagram bytes.give s t packets clock before after result)
+      (λ s t. ReceivesDatagram items.give s t packets given before after result)
+      (λ s t. ReceivesDatagram bytes.give s t packets given before after result)
 
   -- what ng_slave_hang_up does to a handle
   abbrev pub HangsUpSlave : Option Content → Option Content → Status → Type 0

@@ -1,5 +1,5 @@
 -- What ng_slave_open does to a handle.
-use Rattle.std.specs.Prelude.{◌≡◌, List, Option, Some, None, IsSome}
+use Rattle.std.specs.Prelude.{◌≡◌, ℕ, List, Option, Some, None, IsSome}
 use Rattle.c_engine.specs.States.{Bytes, Items}
 use Rattle.c_slave.specs.declared.content.Content.{Content}
 use Rattle.c_slave.specs.declared.content.Content.TheVariants as held
@@ -21,18 +21,19 @@ module _ (items : Items) (bytes : Bytes) where
   IsSlaveOf kind d _ = ⊥
 
   -- the same, with the profile that was asked for, over its kind of rings
-  pub record SlaveOf (p : ProfileIn) (events : List EventIn) (it : Content) : Type 0 where
+  pub record SlaveOf (p : ProfileIn) (events : List EventIn) (a2l : List ℕ) (it : Content)
+      : Type 0 where
     pub profile : Profile
-    pub good : IsGoodProfileOf p events profile
+    pub good : IsGoodProfileOf p events a2l profile
     pub opened : IsSlaveOf profile.ring profile it
 
   -- what ng_slave_open does to a handle
   abbrev pub OpensSlave
-      : Option Content → Option Content → ProfileIn → List EventIn → Status → Type 0
-  OpensSlave old new p events status.Ok =
-      (old ≡ None) × ((it : Content) × (new ≡ Some it) × SlaveOf p events it)
-  OpensSlave old new p events status.InUse = IsSome old × (new ≡ old)
-  OpensSlave old new p events status.BadLimits =
-      (old ≡ None) × (new ≡ old) × IsOutOfLimits p events
-  OpensSlave old new p events status.Memory = (old ≡ None) × (new ≡ old)
-  OpensSlave old new p events _ = ⊥
+      : Option Content → Option Content → ProfileIn → List EventIn → List ℕ → Status → Type 0
+  OpensSlave old new p events a2l status.Ok =
+      (old ≡ None) × ((it : Content) × (new ≡ Some it) × SlaveOf p events a2l it)
+  OpensSlave old new p events a2l status.InUse = IsSome old × (new ≡ old)
+  OpensSlave old new p events a2l status.BadLimits =
+      (old ≡ None) × (new ≡ old) × IsOutOfLimits p events a2l
+  OpensSlave old new p events a2l status.Memory = (old ≡ None) × (new ≡ old)
+  OpensSlave old new p events a2l _ = ⊥

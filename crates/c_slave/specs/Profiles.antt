@@ -43,7 +43,8 @@ told_of e = record {
 }
 
 -- this is the profile that is asked for
-pub record IsProfileOf (p : ProfileIn) (events : List EventIn) (d : Profile) : Type 0 where
+pub record IsProfileOf (p : ProfileIn) (events : List EventIn) (a2l : List ℕ) (d : Profile)
+    : Type 0 where
   pub image_len : d.image_len ≡ p.image_len
   pub id : kind_of p.id ≡ Some d.id
   pub stamp_size : d.stamp_size ≡ p.stamp_size
@@ -53,22 +54,26 @@ pub record IsProfileOf (p : ProfileIn) (events : List EventIn) (d : Profile) : T
   pub rings : ring_of p.ring ≡ Some d.ring
   pub name : d.name.items ≡ text_of p.name
   pub channels : map told_of d.events.items ≡ map told_in events
+  pub a2l_name : d.a2l_name.items ≡ text_of p.a2l_name
+  pub epk : d.epk.items ≡ text_of p.epk
+  pub a2l_is : d.a2l.items ≡ a2l
 
 -- the same, and it is within its limits
-pub record IsGoodProfileOf (p : ProfileIn) (events : List EventIn) (d : Profile) : Type 0 where
-  pub is : IsProfileOf p events d
+pub record IsGoodProfileOf (p : ProfileIn) (events : List EventIn) (a2l : List ℕ) (d : Profile)
+    : Type 0 where
+  pub is : IsProfileOf p events a2l d
   pub within : profile_fault d ≡ None
 
 -- there is no such identification field, or no such kind of rings; or else the profile is out of a
 -- limit
-abbrev pub IsOutOfLimits : ProfileIn → List EventIn → Type 0
-IsOutOfLimits p events =
+abbrev pub IsOutOfLimits : ProfileIn → List EventIn → List ℕ → Type 0
+IsOutOfLimits p events a2l =
     (kind_of p.id ≡ None)
     ⊎ ((ring_of p.ring ≡ None)
-    ⊎ ((d : Profile) × IsProfileOf p events d × (profile_fault d ≢ None)))
+    ⊎ ((d : Profile) × IsProfileOf p events a2l d × (profile_fault d ≢ None)))
 
 -- why there is no profile
-abbrev pub RefusesProfile : ProfileIn → List EventIn → Status → Type 0
-RefusesProfile p events status.BadLimits = IsOutOfLimits p events
-RefusesProfile p events status.Memory = Unit {0}
-RefusesProfile p events _ = ⊥
+abbrev pub RefusesProfile : ProfileIn → List EventIn → List ℕ → Status → Type 0
+RefusesProfile p events a2l status.BadLimits = IsOutOfLimits p events a2l
+RefusesProfile p events a2l status.Memory = Unit {0}
+RefusesProfile p events a2l _ = ⊥

@@ -2,7 +2,7 @@
 
 ghost use Rattle.std.specs.Prelude.{Some};
 ghost use Rattle.c_slave.specs.Bytes.{HangsUpSlave, HearsDatagrams, Receives, ReceivesBytes};
-ghost use Rattle.c_slave.specs.Bytes.{ReceivesDatagram};
+ghost use Rattle.c_slave.specs.Bytes.{ReceivesDatagram, given_with};
 
 use crate::content::Content;
 use crate::handle::Handle;
@@ -19,15 +19,16 @@ fn receive<R: Ring>(
     slave: &mut LendingSlave<R>,
     bytes: &[u8],
     clock: u32,
+    memory: &[u8],
     taken: &mut usize,
 ) -> Status
-    ensures { ReceivesBytes R.Take.TakeEnd slave.old slave.new bytes.now clock
-        taken.old taken.new result }
+    ensures { ReceivesBytes R.Take.TakeEnd slave.old slave.new bytes.now
+        (given_with clock memory.now) taken.old taken.new result }
 {
     if slave.is_spent() {
         return Status::Spent;
     }
-    match slave.receive(alloc, bytes, clock) {
+    match slave.receive(alloc, bytes, clock, &[memory]) {
         Ok(count) => {
             *taken = count;
             Status::Ok
@@ -42,14 +43,16 @@ fn receive_in(
     content: &mut Content,
     bytes: &[u8],
     clock: u32,
+    memory: &[u8],
     taken: &mut usize,
 ) -> Status
     ensures { Receives ⟦<SampleRing as HeldRing>⟧.rings ⟦<ByteRing as HeldRing>⟧.rings
-        (Some content.old) (Some content.new) bytes.now clock taken.old taken.new result }
+        (Some content.old) (Some content.new) bytes.now (given_with clock memory.now)
+        taken.old taken.new result }
 {
     match content {
-        Content::Slave(slave) => receive(alloc, slave, bytes, clock, taken),
-        Content::ByteSlave(slave) => receive(alloc, slave, bytes, clock, taken),
+        Content::Slave(slave) => receive(alloc, slave, bytes, clock, memory, taken),
+        Content::ByteSlave(slave) => receive(alloc, slave, bytes, clock, memory, taken),
         _ => Status::Empty,
     }
 }
@@ -60,15 +63,17 @@ pub fn receive_by(
     handle: &mut Handle,
     bytes: &[u8],
     clock: u32,
+    memory: &[u8],
     taken: &mut usize,
 ) -> Status
     ensures { Receives ⟦<SampleRing as HeldRing>⟧.rings ⟦<ByteRing as HeldRing>⟧.rings
-        handle.old.held handle.new.held bytes.now clock taken.old taken.new result }
+        handle.old.held handle.new.held bytes.now (given_with clock memory.now)
+        taken.old taken.new result }
 {
     let Some(mut held) = handle.take(alloc) else {
         return Status::Empty;
     };
-    let status = receive_in(alloc, held.as_mut(), bytes, clock, taken);
+    let status = receive_in(alloc, held.as_mut(), bytes, clock, memory, taken);
     handle.put(alloc, held);
     status
 }
@@ -79,15 +84,16 @@ fn hear<R: Ring>(
     slave: &mut LendingSlave<R>,
     bytes: &[u8],
     clock: u32,
+    memory: &[u8],
     taken: &mut usize,
 ) -> Status
-    ensures { ReceivesDatagram R.Take.TakeEnd slave.old slave.new bytes.now clock
-        taken.old taken.new result }
+    ensures { ReceivesDatagram R.Take.TakeEnd slave.old slave.new bytes.now
+        (given_with clock memory.now) taken.old taken.new result }
 {
     if slave.is_spent() {
         return Status::Spent;
     }
-    *taken = slave.datagram(alloc, bytes, clock);
+    *taken = slave.datagram(alloc, bytes, clock, &[memory]);
     Status::Ok
 }
 
@@ -97,14 +103,16 @@ fn datagram_in(
     content: &mut Content,
     bytes: &[u8],
     clock: u32,
+    memory: &[u8],
     taken: &mut usize,
 ) -> Status
     ensures { HearsDatagrams ⟦<SampleRing as HeldRing>⟧.rings ⟦<ByteRing as HeldRing>⟧.rings
-        (Some content.old) (Some content.new) bytes.now clock taken.old taken.new result }
+        (Some content.old) (Some content.new) bytes.now (given_with clock memory.now)
+        taken.old taken.new result }
 {
     match content {
-        Content::Slave(slave) => hear(alloc, slave, bytes, clock, taken),
-        Content::ByteSlave(slave) => hear(alloc, slave, bytes, clock, taken),
+        Content::Slave(slave) => hear(alloc, slave, bytes, clock, memory, taken),
+        Content::ByteSlave(slave) => hear(alloc, slave, bytes, clock, memory, taken),
         _ => Status::Empty,
     }
 }
@@ -115,15 +123,17 @@ pub fn datagram_by(
     handle: &mut Handle,
     bytes: &[u8],
     clock: u32,
+    memory: &[u8],
     taken: &mut usize,
 ) -> Status
     ensures { HearsDatagrams ⟦<SampleRing as HeldRing>⟧.rings ⟦<ByteRing as HeldRing>⟧.rings
-        handle.old.held handle.new.held bytes.now clock taken.old taken.new result }
+        handle.old.held handle.new.held bytes.now (given_with clock memory.now)
+        taken.old taken.new result }
 {
     let Some(mut held) = handle.take(alloc) else {
         return Status::Empty;
     };
-    let status = datagram_in(alloc, held.as_mut(), bytes, clock, taken);
+    let status = datagram_in(alloc, held.as_mut(), bytes, clock, memory, taken);
     handle.put(alloc, held);
     status
 }

@@ -39,13 +39,14 @@ fn opened_on_heap(
     alloc: Global,
     asked: &ProfileIn,
     events: &[EventIn],
+    a2l: &[u8],
 ) -> Result<Box<Content>, Status>
     ensures ok { IfOk result (λ it.
         SlaveOf ⟦<SampleRing as HeldRing>⟧.rings ⟦<ByteRing as HeldRing>⟧.rings
-        asked.now events.now it.value) }
-    ensures err { IfErr result (RefusesProfile asked.now events.now) }
+        asked.now events.now a2l.now it.value) }
+    ensures err { IfErr result (RefusesProfile asked.now events.now a2l.now) }
 {
-    let profile = good_profile(alloc, asked, events)?;
+    let profile = good_profile(alloc, asked, events, a2l)?;
     let content = opened_as(alloc, profile)?;
     content.boxed(alloc)
 }
@@ -55,16 +56,17 @@ pub fn open_slave(
     alloc: Global,
     asked: &ProfileIn,
     events: &[EventIn],
+    a2l: &[u8],
     slave: &mut Handle,
 ) -> Status
     ensures { OpensSlave ⟦<SampleRing as HeldRing>⟧.rings ⟦<ByteRing as HeldRing>⟧.rings
-        slave.old.held slave.new.held asked.now events.now result }
+        slave.old.held slave.new.held asked.now events.now a2l.now result }
 {
     if let Some(held) = slave.take(alloc) {
         slave.put(alloc, held);
         return Status::InUse;
     }
-    match opened_on_heap(alloc, asked, events) {
+    match opened_on_heap(alloc, asked, events, a2l) {
         Ok(content) => {
             slave.put(alloc, content);
             Status::Ok

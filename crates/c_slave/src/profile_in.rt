@@ -38,4 +38,8 @@ pub struct ProfileIn {
     pub stamp_size: u8,
     /// The name of the slave, up to the first zero byte.
     pub name: [u8; NAME_PLACES],
+    /// The name of its A2L file, up to the first zero byte.
+    pub a2l_name: [u8; NAME_PLACES],
+    /// The EPK, up to the first zero byte.
+    pub epk: [u8; NAME_PLACES],
 }

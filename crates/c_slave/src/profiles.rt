@@ -48,10 +48,39 @@ fn events_of(alloc: Global, events: &[EventIn]) -> Result<Vec<EventChannel>, All
     Ok(made)
 }
 
+/// A copy of bytes.
+fn copy_of(alloc: Global, bytes: &[u8]) -> Result<Vec<u8>, AllocError>
+    ensures { IfOk result (λ made. made.items ≡ bytes.now) }
+{
+    let mut made = Vec::new(alloc);
+    made.extend_from_slice(bytes)?;
+    Ok(made)
+}
+
+/// The texts of identification that are asked for: the name of the A2L file, the EPK, and the A2L
+/// file.
+fn texts_of(
+    alloc: Global,
+    asked: &ProfileIn,
+    a2l: &[u8],
+) -> Result<(Vec<u8>, Vec<u8>, Vec<u8>), AllocError>
+    ensures { IfOk result (λ made. (made.0.items ≡ text_of asked.now.a2l_name)
+        × (made.1.items ≡ text_of asked.now.epk) × (made.2.items ≡ a2l.now)) }
+{
+    let a2l_name = text_of(alloc, &asked.a2l_name)?;
+    let epk = text_of(alloc, &asked.epk)?;
+    Ok((a2l_name, epk, copy_of(alloc, a2l)?))
+}
+
 /// The profile that is asked for, if there are such an identification field and such rings.
-fn profile_of(alloc: Global, asked: &ProfileIn, events: &[EventIn]) -> Result<Profile, Status>
-    ensures ok { IfOk result (IsProfileOf asked.now events.now) }
-    ensures err { IfErr result (RefusesProfile asked.now events.now) }
+fn profile_of(
+    alloc: Global,
+    asked: &ProfileIn,
+    events: &[EventIn],
+    a2l: &[u8],
+) -> Result<Profile, Status>
+    ensures ok { IfOk result (IsProfileOf asked.now events.now a2l.now) }
+    ensures err { IfErr result (RefusesProfile asked.now events.now a2l.now) }
 {
     let Some(id) = kind_numbered(asked.id) else {
         return Err(Status::BadLimits);
@@ -65,6 +94,9 @@ fn profile_of(alloc: Global, asked: &ProfileIn, events: &[EventIn]) -> Result<Pr
     let Ok(events) = events_of(alloc, events) else {
         return Err(Status::Memory);
     };
+    let Ok((a2l_name, epk, a2l)) = texts_of(alloc, asked, a2l) else {
+        return Err(Status::Memory);
+    };
     Ok(Profile {
         image_len: asked.image_len,
         id,
@@ -75,15 +107,23 @@ fn profile_of(alloc: Global, asked: &ProfileIn, events: &[EventIn]) -> Result<Pr
         ring,
         name,
         events,
+        a2l_name,
+        epk,
+        a2l,
     })
 }
 
 /// The profile that is asked for, if it is within its limits.
-pub fn good_profile(alloc: Global, asked: &ProfileIn, events: &[EventIn]) -> Result<Profile, Status>
-    ensures ok { IfOk result (IsGoodProfileOf asked.now events.now) }
-    ensures err { IfErr result (RefusesProfile asked.now events.now) }
+pub fn good_profile(
+    alloc: Global,
+    asked: &ProfileIn,
+    events: &[EventIn],
+    a2l: &[u8],
+) -> Result<Profile, Status>
+    ensures ok { IfOk result (IsGoodProfileOf asked.now events.now a2l.now) }
+    ensures err { IfErr result (RefusesProfile asked.now events.now a2l.now) }
 {
-    let profile = profile_of(alloc, asked, events)?;
+    let profile = profile_of(alloc, asked, events, a2l)?;
     match profile.fault() {
         None => Ok(profile),
         Some(_) => Err(Status::BadLimits),

@@ -58,6 +58,7 @@ fn code_of(byte: u8) -> Option<ErrCode>
         0x20 => Some(ErrCode::CmdUnknown),
         0x21 => Some(ErrCode::CmdSyntax),
         0x22 => Some(ErrCode::OutOfRange),
+        0x24 => Some(ErrCode::AccessDenied),
         0x27 => Some(ErrCode::ModeNotValid),
         0x29 => Some(ErrCode::Sequence),
         0x2A => Some(ErrCode::DaqConfig),

@@ -16,6 +16,15 @@ impl<'a> Display for RequestText<'a> {
             [0xFA, kind, ..] => write_number(f, self.packet, "kind", *kind as u16),
             [0xF5, count, ..] => write_number(f, self.packet, "count", *count as u16),
             [0xFB..=0xFE | 0xD9..=0xDC, ..] => write_name(f, self.packet),
+            [0xF6, _, _, extension, a, b, c, d, ..] => {
+                write_name(f, self.packet)?;
+                write_place(f, *extension, [*a, *b, *c, *d])
+            }
+            [0xF4, count, _, extension, a, b, c, d, ..] => {
+                write_number(f, self.packet, "count", *count as u16)?;
+                f.write_str(",")?;
+                write_place(f, *extension, [*a, *b, *c, *d])
+            }
             [0xC7, count, entries @ ..] => write_multiple(f, *count, entries.len()),
             _ => write_of_list(f, self.packet),
         }
@@ -50,11 +59,22 @@ fn write_of_list<W: fmt::Write>(f: &mut fmt::Formatter<W>, packet: &[u8]) -> fmt
     match packet {
         [0xE3 | 0xDF | 0xD8, _, a, b, ..] => write_number(f, packet, "list", word(*a, *b)),
         [0xD7, _, a, b, ..] => write_number(f, packet, "channel", word(*a, *b)),
-        [0xFF | 0xFA | 0xF5 | 0xE3 | 0xDF | 0xD8 | 0xD7 | 0xC7, ..] => f.write_str(
-            "too short for its command",
-        ),
+        [
+            0xFF | 0xFA | 0xF6 | 0xF5 | 0xF4 | 0xE3 | 0xDF | 0xD8 | 0xD7 | 0xC7,
+            ..
+        ] => f.write_str("too short for its command"),
         _ => write!(f, "{}", CommandText { packet }),
     }
+}
+
+/// Writes an address extension and an address.
+fn write_place<W: fmt::Write>(
+    f: &mut fmt::Formatter<W>,
+    extension: u8,
+    address: [u8; 4],
+) -> fmt::Result {
+    let address = u32::from_le_bytes(address);
+    write!(f, " extension {extension}, address 0x{address:04x}")
 }
 
 /// The WORD that stands in two bytes.

@@ -23,6 +23,9 @@ pub fn profile(alloc: Global) -> Result<Profile, AllocError> {
         ring: RingKind::Samples,
         name: Vec::from_slice(alloc, b"engine")?,
         events: vec![in alloc; event]?,
+        a2l_name: Vec::new(alloc),
+        epk: Vec::from_slice(alloc, b"v1")?,
+        a2l: Vec::new(alloc),
     })
 }
 

@@ -8,7 +8,7 @@ ghost use Rattle.slave_channels.specs.Calls.{rings_of};
 mod commands;
 mod engine;
 
-use crate::commands::{CONNECT, DISCONNECT, SET_UP};
+use crate::commands::{CONNECT, DISCONNECT, READ_SPEED, SET_UP};
 use crate::engine::{image, profile};
 use anyhow::{Result, bail};
 use channel_ring::{SampleRing, SendHalf};
@@ -46,9 +46,19 @@ fn serve(alloc: Global, slave: &mut Slave<SampleRing>, task: &mut Task<SendHalf>
     let mut sent = String::new(alloc);
 
     // each reply waits until it is sent
-    hear(alloc, slave, &mut master, CONNECT, 0)?;
+    hear(alloc, slave, &mut master, CONNECT, 0, &[])?;
     send(slave, &mut sent)?;
-    hear(alloc, slave, &mut master, SET_UP, 0)?;
+    // what is read without a DAQ list is read off the memory that is handed in
+    hear(
+        alloc,
+        slave,
+        &mut master,
+        READ_SPEED,
+        0,
+        &[&image(1990, 85)],
+    )?;
+    send(slave, &mut sent)?;
+    hear(alloc, slave, &mut master, SET_UP, 0, &[])?;
     send(slave, &mut sent)?;
 
     // the ring has room for two samples: the third is dropped, and the one behind it says so
@@ -60,7 +70,7 @@ fn serve(alloc: Global, slave: &mut Slave<SampleRing>, task: &mut Task<SendHalf>
     send(slave, &mut sent)?;
 
     // all lists stop; the reply is still sent
-    hear(alloc, slave, &mut master, DISCONNECT, 400)?;
+    hear(alloc, slave, &mut master, DISCONNECT, 400, &[])?;
     send(slave, &mut sent)?;
     Ok(sent)
 }
@@ -79,17 +89,18 @@ fn open(alloc: Global) -> Result<(Slave<SampleRing>, Task<SendHalf>)>
     Ok((slave, task))
 }
 
-/// The slave hears what came over the master's stream.
+/// The slave hears what came over the master's stream, with the memory as it is then.
 fn hear(
     alloc: Global,
     slave: &mut Slave<SampleRing>,
     master: &mut MasterStream,
     bytes: &[u8],
     clock: u32,
+    memory: &[&[u8]],
 ) -> Result<()>
     ensures lines { OnOk result (KeepsLines slave.old slave.new) }
 {
-    let taken = master.receive(slave, alloc, bytes, clock)?;
+    let taken = master.receive(slave, alloc, bytes, clock, memory)?;
     if taken < bytes.len() {
         bail!("there is no room for the replies");
     }

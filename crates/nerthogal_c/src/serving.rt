@@ -4,7 +4,7 @@ ghost use Rattle.std.specs.Prelude.{◌≡◌};
 ghost use Rattle.c_engine.specs.Statuses.{number_of};
 ghost use Rattle.c_engine.specs.declared.status.Status.{Status as StatusOf};
 ghost use Rattle.c_slave.specs.Bytes.{HangsUpSlave, HearsDatagrams, PeeksSlave, Receives};
-ghost use Rattle.c_slave.specs.Bytes.{SendsSlave};
+ghost use Rattle.c_slave.specs.Bytes.{SendsSlave, given_with};
 ghost use Rattle.c_slave.specs.Ends.{ClosesSlaveOf};
 ghost use Rattle.c_slave.specs.Openings.{OpensSlave};
 ghost use Rattle.c_slave.specs.States.{TellsState};
@@ -20,7 +20,8 @@ use channel_ring::SampleRing;
 use daq_engine::ListReport;
 use std::alloc::Global;
 
-/// Opens a slave with the profile and the event channels that are asked for, in an empty handle.
+/// Opens a slave with the profile, the event channels and the A2L file that are asked for, in an
+/// empty handle. All are copied.
 ///
 /// Refused first if the handle isn't empty; then if the profile is out of a limit or for lack of
 /// memory, in either order.
@@ -29,13 +30,14 @@ pub extern "C" fn ng_slave_open(
     alloc: Global,
     profile: &ProfileIn,
     events: &[EventIn],
+    a2l: &[u8],
     slave: &mut Handle,
 ) -> u32
     ensures { (status : StatusOf) × (result ≡ number_of status)
         × OpensSlave ⟦<SampleRing as HeldRing>⟧.rings ⟦<ByteRing as HeldRing>⟧.rings
-        slave.old.held slave.new.held profile.now events.now status }
+        slave.old.held slave.new.held profile.now events.now a2l.now status }
 {
-    open_slave(alloc, profile, events, slave).number()
+    open_slave(alloc, profile, events, a2l, slave).number()
 }
 
 /// Hands the task of event channel `channel` out, into an empty handle.
@@ -55,7 +57,9 @@ pub extern "C" fn ng_slave_task(
     give_task(alloc, slave, channel, task).number()
 }
 
-/// Takes bytes of a master's stream, and answers each packet; how many it took is told.
+/// Takes bytes of a master's stream, and answers each packet; how many it took is told. What reads
+/// memory without a DAQ list reads it off `memory`, the image as it is now; with another length it
+/// isn't there.
 ///
 /// Refused in this order: no slave, a frame whose LEN is 0 or over 64, in these bytes or earlier.
 #[unsafe(no_mangle)]
@@ -64,16 +68,19 @@ pub extern "C" fn ng_slave_receive(
     slave: &mut Handle,
     bytes: &[u8],
     clock: u32,
+    memory: &[u8],
     taken: &mut usize,
 ) -> u32
     ensures { (status : StatusOf) × (result ≡ number_of status)
         × Receives ⟦<SampleRing as HeldRing>⟧.rings ⟦<ByteRing as HeldRing>⟧.rings
-        slave.old.held slave.new.held bytes.now clock taken.old taken.new status }
+        slave.old.held slave.new.held bytes.now (given_with clock memory.now)
+        taken.old taken.new status }
 {
-    receive_by(alloc, slave, bytes, clock, taken).number()
+    receive_by(alloc, slave, bytes, clock, memory, taken).number()
 }
 
-/// Takes the frames of a datagram, and answers each packet; how many bytes it took is told.
+/// Takes the frames of a datagram, and answers each packet; how many bytes it took is told. Of
+/// `memory` it is as with a stream.
 ///
 /// Refused if there is no slave.
 #[unsafe(no_mangle)]
@@ -82,13 +89,15 @@ pub extern "C" fn ng_slave_datagram(
     slave: &mut Handle,
     bytes: &[u8],
     clock: u32,
+    memory: &[u8],
     taken: &mut usize,
 ) -> u32
     ensures { (status : StatusOf) × (result ≡ number_of status)
         × HearsDatagrams ⟦<SampleRing as HeldRing>⟧.rings ⟦<ByteRing as HeldRing>⟧.rings
-        slave.old.held slave.new.held bytes.now clock taken.old taken.new status }
+        slave.old.held slave.new.held bytes.now (given_with clock memory.now)
+        taken.old taken.new status }
 {
-    datagram_by(alloc, slave, bytes, clock, taken).number()
+    datagram_by(alloc, slave, bytes, clock, memory, taken).number()
 }
 
 /// The transport was lost: all lists stop, no master is connected, and what waits is thrown away.

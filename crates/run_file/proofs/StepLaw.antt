@@ -73,7 +73,7 @@ eqb_above [] h = cc h
 eqb_above (b ∷ word) h = omega arith
 
 -- an image has a byte, since a word with digits decodes to half as many
-IsImage-image_of : (word image : List ℕ) → image_of word ≡ Some image → IsImage word image
+pub IsImage-image_of : (word image : List ℕ) → image_of word ≡ Some image → IsImage word image
 IsImage-image_of word image h =
     let parts = else_some (length word == 0) (bytes_of word) image h in
     let read = decoded-some (decode_of word) image parts.1 in

@@ -73,7 +73,7 @@ image_one_word word image i k d l =
     let digits = (decode_of-ok word image i.digits).1 in
     not_hex_space (slice_index_or word k d) (digits k d l)
 
-image_of-image : (word image : List ℕ) → IsImage word image → image_of word ≡ Some image
+pub image_of-image : (word image : List ℕ) → IsImage word image → image_of word ≡ Some image
 image_of-image word image i =
     let long : length word ≡ 2 * length image = (decode_of-ok word image i.digits).2 in
     let some : (length word == 0) ≡ false = ne_eqb (length word) 0 (λ e. omega (arith, e, long, i.some)) in

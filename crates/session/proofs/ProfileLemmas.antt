@@ -10,7 +10,8 @@ use Rattle.xcp_base.specs.declared.packet_form.PacketForm.{PacketForm}
 use Rattle.session.specs.declared.profile.Profile.{Profile}
 use Rattle.session.specs.declared.event_channel.EventChannel.{EventChannel}
 use Rattle.session.specs.declared.profile.ProfileFault.{ProfileFault}
-use Rattle.session.specs.Profiles.{profile_fault, numbers_fault, names_fault, event_fault, events_fault, or_else, is_bad_name, is_unprintable, IsProfile, HasShortName, lists_of}
+use Rattle.session.specs.Profiles.{profile_fault, numbers_fault, names_fault, event_fault, events_fault, or_else, is_bad_name, is_unprintable, IsProfile, HasShortName, lists_of, texts_fault}
+use Rattle.session.specs.declared.profile.TheConstants.{MAX_TEXT}
 
 -- a test that names no fault
 not_named : {X : Type 0} (b : Bool) (x : X) (next : Option X) → (if b then Some x else next) ≡ None → (b ≡ false) × (next ≡ None)
@@ -55,7 +56,7 @@ pub record HasNumbers (d : Profile) : Type 0 where
 
 pub numbers_within : (d : Profile) → profile_fault d ≡ None → HasNumbers d
 numbers_within d h =
-    let numbers = (neither (numbers_fault d) (names_fault d) h).0 in
+    let numbers = (neither (numbers_fault d) (or_else (names_fault d) (texts_fault d)) h).0 in
     let channels = not_named (length d.events.items == 0 || nat_lt 8 (length d.events.items)) _ _ numbers in
     let image = not_named (d.image_len == 0 || nat_lt 4096 d.image_len) _ _ channels.1 in
     let stamp = not_named (is_none (size_of d.stamp_size)) _ _ image.1 in
@@ -74,13 +75,20 @@ numbers_within d h =
 pub profile_within : (d : Profile) → profile_fault d ≡ None → IsProfile d
 profile_within d h =
     let n = numbers_within d h in
-    let names = (neither (numbers_fault d) (names_fault d) h).1 in
+    let named = neither (names_fault d) (texts_fault d) (neither (numbers_fault d) (or_else (names_fault d) (texts_fault d)) h).1 in
+    let names = named.0 in
+    let a2l_name = not_named (is_bad_name d.a2l_name.items) _ _ named.1 in
+    let epk = not_named (is_bad_name d.epk.items) _ _ a2l_name.1 in
+    let a2l = not_named (nat_lt MAX_TEXT (length d.a2l.items)) _ _ epk.1 in
     let name = not_named (is_bad_name d.name.items) _ _ names in
     record {
       channels = n.channels;
       unit = n.unit;
       stamp = small_size d.stamp_size n.stamp;
       name = short_name d.name.items name.0;
+      a2l_name = short_name d.a2l_name.items a2l_name.0;
+      epk = short_name d.epk.items epk.0;
+      a2l = at_most MAX_TEXT (length d.a2l.items) a2l.0;
       names = short_names d.events.items name.1;
     }
 

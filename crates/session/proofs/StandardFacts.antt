@@ -1,12 +1,13 @@
 -- Worked replies of a slave with one event channel, an absolute ODT number, timestamps of 4 bytes in
 -- microseconds, its name `ng`, and `e0` its channel's.
-use Rattle.std.proofs.Common.{◌≡◌, [], ◌∷◌, Some, None, Ok, Err, false, refl}
+use Rattle.std.proofs.Common.{◌≡◌, [], ◌∷◌, Ok, Err, false, refl}
 use Rattle.xcp_base.specs.declared.err_code.ErrCode.TheVariants.{CmdSynch, CmdSyntax, CmdUnknown, OutOfRange}
 use Rattle.daq_store.specs.declared.command.Command.TheVariants.{AllocDaq, ReadDaq, SetDaqListMode, StartStopDaqList, WriteDaq}
 use Rattle.daq_store.specs.declared.reply.Reply.TheVariants.{Read}
-use Rattle.session.specs.declared.request.Request.TheVariants.{Lists, WriteDaqMultiple}
+use Rattle.session.specs.declared.request.Request.TheVariants.{Lists, SetMta, ShortUpload, WriteDaqMultiple}
 use Rattle.session.specs.Fields.{packet_of}
-use Rattle.session.specs.Replies.{clock_fields, comm_mode_fields, connect_reply, id_reply, list_mode_reply, status_fields, store_reply, upload_reply}
+use Rattle.session.specs.Replies.{clock_fields, comm_mode_fields, connect_reply, id_fields, list_mode_reply, status_fields, store_reply}
+use Rattle.session.specs.Sources.{text_reply}
 use Rattle.session.specs.Requests.{request}
 
 connect : packet_of (connect_reply 0) ≡ 0xFF ∷ 0x04 ∷ 0x80 ∷ 0x40 ∷ 0x40 ∷ 0x00 ∷ 0x01 ∷ 0x01 ∷ []
@@ -25,17 +26,14 @@ synch = refl
 comm_mode : comm_mode_fields ≡ 0 ∷ 0 ∷ 0 ∷ 0 ∷ 0 ∷ 0 ∷ 0x10 ∷ []
 comm_mode = refl
 
-id : packet_of (id_reply (0x6E ∷ 0x67 ∷ []) 0) ≡ 0xFF ∷ 0x01 ∷ 0 ∷ 0 ∷ 2 ∷ 0 ∷ 0 ∷ 0 ∷ 0x6E ∷ 0x67 ∷ []
+id : packet_of (Ok (id_fields 1 2 (0x6E ∷ 0x67 ∷ []))) ≡ 0xFF ∷ 0x01 ∷ 0 ∷ 0 ∷ 2 ∷ 0 ∷ 0 ∷ 0 ∷ 0x6E ∷ 0x67 ∷ []
 id = refl
 
-upload : packet_of (upload_reply 2 (Some (0x65 ∷ 0x30 ∷ []))) ≡ 0xFF ∷ 0x65 ∷ 0x30 ∷ []
+upload : packet_of (text_reply 2 (0x65 ∷ 0x30 ∷ [])) ≡ 0xFF ∷ 0x65 ∷ 0x30 ∷ []
 upload = refl
 
-upload_of_no_more : packet_of (upload_reply 1 (Some [])) ≡ 0xFE ∷ 0x22 ∷ []
+upload_of_no_more : packet_of (text_reply 1 []) ≡ 0xFE ∷ 0x22 ∷ []
 upload_of_no_more = refl
-
-upload_without_text : packet_of (upload_reply 1 None) ≡ 0xFE ∷ 0x29 ∷ []
-upload_without_text = refl
 
 clock : clock_fields 0x01020304 ≡ 0 ∷ 0 ∷ 0 ∷ 4 ∷ 3 ∷ 2 ∷ 1 ∷ []
 clock = refl
@@ -63,6 +61,13 @@ write_below : request 0x1000 (0xE1 ∷ 0xFF ∷ 1 ∷ 0 ∷ 0xFF ∷ 0x0F ∷ 0 
 write_below = refl
 
 -- packets of no known code, too short, with no entry, with the entries of one byte too few
+-- SET_MTA, and SHORT_UPLOAD of four bytes, at 0x1004
+mta : request 0x1000 (0xF6 ∷ 0 ∷ 0 ∷ 0 ∷ 0x04 ∷ 0x10 ∷ 0 ∷ 0 ∷ []) ≡ Ok (SetMta 0 0x1004)
+mta = refl
+
+short_upload : request 0x1000 (0xF4 ∷ 4 ∷ 0 ∷ 0 ∷ 0x04 ∷ 0x10 ∷ 0 ∷ 0 ∷ []) ≡ Ok (ShortUpload 4 0 0x1004)
+short_upload = refl
+
 read : request 0 (0xDB ∷ []) ≡ Ok (Lists ReadDaq)
 read = refl
 

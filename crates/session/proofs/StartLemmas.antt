@@ -1,5 +1,5 @@
 -- Which DAQ lists a packet starts, request by request and command by command.
-use Rattle.std.proofs.Common.{◌≡◌, ◌≢◌, ◌<◌, ◌+◌, get_or, zero-add, ℕ, zero, suc, ◌==◌, Bool, true, false, not, ◌&&◌, ◌||◌, if◌then◌else◌, List, [], ◌∷◌, ◌++◌, take, drop, nat_lt, Ok, is_some, refl, ap, ◌∙◌, arith}
+use Rattle.std.proofs.Common.{Result, Err, ◌≡◌, ◌≢◌, ◌<◌, ◌+◌, get_or, zero-add, ℕ, zero, suc, ◌==◌, Bool, true, false, not, ◌&&◌, ◌||◌, if◌then◌else◌, List, [], ◌∷◌, ◌++◌, take, drop, nat_lt, Ok, is_some, refl, ap, ◌∙◌, arith}
 use Rattle.std.specs.List.{list_any, range_with_len}
 use Rattle.std.proofs.lemmas.List.Folds.{list_any-append, list_any_at}
 use Rattle.std.proofs.lemmas.List.FromFn.{get_or-range_with_len, length-range_with_len}
@@ -11,9 +11,10 @@ use Rattle.daq_store.specs.Running.{is_active, is_running}
 use Rattle.daq_store.specs.Shape.{is_list}
 use Rattle.session.specs.declared.profile.Profile.{Profile}
 use Rattle.session.specs.declared.request.Request.{Request}
-use Rattle.session.specs.declared.request.Request.TheVariants.{Connect, Disconnect, GetStatus, Synch, GetCommModeInfo, GetId, Upload, GetDaqListMode, GetDaqClock, GetDaqProcessorInfo, GetDaqResolutionInfo, GetDaqListInfo, GetDaqEventInfo, Lists, WriteDaqMultiple}
-use Rattle.session.specs.Exchanges.{calls_after_writes, is_greeting, past_after, past_after_greeting, past_after_read}
-use Rattle.session.specs.Past.{Past}
+use Rattle.session.specs.declared.request.Request.TheVariants.{Connect, Disconnect, GetStatus, Synch, GetCommModeInfo, GetId, SetMta, ShortUpload, Upload, GetDaqListMode, GetDaqClock, GetDaqProcessorInfo, GetDaqResolutionInfo, GetDaqListInfo, GetDaqEventInfo, Lists, WriteDaqMultiple}
+use Rattle.session.specs.Exchanges.{calls_after_writes, is_greeting, past_after, past_after_greeting, past_after_packet, past_after_read}
+use Rattle.xcp_base.specs.declared.err_code.ErrCode.{ErrCode}
+use Rattle.session.specs.Past.{Given, Past, none_given}
 use Rattle.session.specs.Profiles.{lists_of}
 use Rattle.session.specs.Replies.{is_error}
 use Rattle.session.specs.Requests.{request, write_of, writes}
@@ -124,14 +125,16 @@ writes_kept lists base (suc n) bytes calls l =
 
 -- a request that is no command to the store starts nothing
 other_request : (d : Profile) (past : Past) (packet : List ℕ) (asked : Request) (l : ℕ) → ((call : Command) → asked ≢ Lists call)
-    → gains past.calls (past_after d past packet asked).calls l ≡ false
+    → gains past.calls (past_after d past none_given packet asked).calls l ≡ false
 other_request d past packet (Connect mode) l h = not-and (is_active past.calls l)
 other_request d past packet Disconnect l h = and-none (is_active past.calls l) (is_list [] l)
 other_request d past packet GetStatus l h = not-and (is_active past.calls l)
 other_request d past packet Synch l h = not-and (is_active past.calls l)
 other_request d past packet GetCommModeInfo l h = not-and (is_active past.calls l)
 other_request d past packet (GetId kind) l h = not-and (is_active past.calls l)
+other_request d past packet (SetMta ext addr) l h = not-and (is_active past.calls l)
 other_request d past packet (Upload n) l h = not-and (is_active past.calls l)
+other_request d past packet (ShortUpload n ext addr) l h = not-and (is_active past.calls l)
 other_request d past packet (GetDaqListMode m) l h = not-and (is_active past.calls l)
 other_request d past packet GetDaqClock l h = not-and (is_active past.calls l)
 other_request d past packet GetDaqProcessorInfo l h = not-and (is_active past.calls l)
@@ -144,11 +147,11 @@ other_request d past packet (Lists call) l h = absurd (h call refl)
 -- while a master is connected, a packet starts what its request starts
 connected_packet : (d : Profile) (past : Past) (packet : List ℕ) (asked : Request) (l : ℕ) → past.connected ≡ true
     → request d.base packet ≡ Ok asked
-    → starts d past packet l ≡ gains past.calls (past_after d past packet asked).calls l
+    → starts d past packet l ≡ gains past.calls (past_after d past none_given packet asked).calls l
 connected_packet d past packet asked l is reads =
     let read = request d.base packet in
-    ap (λ b. gains past.calls (if b then past_after_read d past packet read else past_after_greeting past read).calls l) is
-    ∙ ap (λ r. gains past.calls (past_after_read d past packet r).calls l) reads
+    ap (λ b. gains past.calls (if b then past_after_read d past none_given packet read else past_after_greeting past read).calls l) is
+    ∙ ap (λ r. gains past.calls (past_after_read d past none_given packet r).calls l) reads
 
 pub other_packet : (d : Profile) (past : Past) (packet : List ℕ) (asked : Request) (l : ℕ) → past.connected ≡ true
     → request d.base packet ≡ Ok asked → ((call : Command) → asked ≢ Lists call) → starts d past packet l ≡ false
@@ -165,8 +168,39 @@ pub unconnected_packet : (d : Profile) (past : Past) (packet : List ℕ) (l : �
     → starts d past packet l ≡ false
 unconnected_packet d past packet l is =
     let read = request d.base packet in
-    ap (λ b. gains past.calls (if b then past_after_read d past packet read else past_after_greeting past read).calls l) is
+    ap (λ b. gains past.calls (if b then past_after_read d past none_given packet read else past_after_greeting past read).calls l) is
     ∙ greeting_kept past (is_greeting read) l
+
+-- the calls behind a packet, whatever came with it
+same-asked : (d : Profile) (past : Past) (g h : Given) (packet : List ℕ) (asked : Request) → (past_after d past g packet asked).calls ≡ (past_after d past h packet asked).calls
+same-asked d past g h packet (Connect mode) = refl
+same-asked d past g h packet Disconnect = refl
+same-asked d past g h packet GetStatus = refl
+same-asked d past g h packet Synch = refl
+same-asked d past g h packet GetCommModeInfo = refl
+same-asked d past g h packet (GetId kind) = refl
+same-asked d past g h packet (SetMta ext addr) = refl
+same-asked d past g h packet (Upload n) = refl
+same-asked d past g h packet (ShortUpload n ext addr) = refl
+same-asked d past g h packet (GetDaqListMode m) = refl
+same-asked d past g h packet GetDaqClock = refl
+same-asked d past g h packet GetDaqProcessorInfo = refl
+same-asked d past g h packet GetDaqResolutionInfo = refl
+same-asked d past g h packet (GetDaqListInfo m) = refl
+same-asked d past g h packet (GetDaqEventInfo c) = refl
+same-asked d past g h packet (WriteDaqMultiple n) = refl
+same-asked d past g h packet (Lists call) = refl
+
+same-read : (d : Profile) (past : Past) (g h : Given) (packet : List ℕ) (read : Result Request ErrCode) → (past_after_read d past g packet read).calls ≡ (past_after_read d past h packet read).calls
+same-read d past g h packet (Ok asked) = same-asked d past g h packet asked
+same-read d past g h packet (Err code) = refl
+
+pub same_calls : (d : Profile) (past : Past) (g h : Given) (packet : List ℕ) → (past_after_packet d past g packet).calls ≡ (past_after_packet d past h packet).calls
+same_calls d past g h packet = by past.connected
+  where
+    by : (b : Bool) → (if b then past_after_read d past g packet (request d.base packet) else past_after_greeting past (request d.base packet)).calls ≡ (if b then past_after_read d past h packet (request d.base packet) else past_after_greeting past (request d.base packet)).calls
+    by true = same-read d past g h packet (request d.base packet)
+    by false = refl
 
 -- one number more at the end
 range-next : (a n : ℕ) → range_with_len a (suc n) ≡ range_with_len a n ++ (a + n) ∷ []

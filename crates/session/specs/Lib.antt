@@ -7,4 +7,5 @@ pub mod Exchanges
 pub mod Standing
 pub mod Starts
 pub mod SetUps
+pub mod Sources
 pub mod Laws

@@ -2,13 +2,15 @@
 use Rattle.std.specs.Prelude.{ℕ, ◌+◌, ◌≤◌, ◌==◌, ◌||◌, nat_lt, Bool, if◌then◌else◌, All}
 use Rattle.std.specs.Prelude.{List, [], ◌∷◌, length, Option, Some, None, is_none, unwrap_or}
 use Rattle.std.specs.List.{list_any}
-use Rattle.xcp_base.specs.declared.limits.TheConstants.{MAX_BYTE_RING, MAX_CHANNELS, MAX_IMAGE_LEN}
+use Rattle.xcp_base.specs.declared.limits.TheConstants.{ADDRESS_EXTENSION, MAX_BYTE_RING}
+use Rattle.xcp_base.specs.declared.limits.TheConstants.{MAX_CHANNELS, MAX_IMAGE_LEN}
 use Rattle.xcp_base.specs.declared.limits.TheConstants.{MAX_NAME, MAX_SAMPLE_RING, MAX_UNIT}
 use Rattle.xcp_base.specs.declared.limits.TheConstants.{MIN_BYTE_RING}
 use Rattle.xcp_base.specs.Forms.{form_of, size_of, usual_form}
 use Rattle.daq_store.specs.Calls.{Profile as ListsProfile}
 use Rattle.session.specs.declared.profile.Profile.{Profile}
-use Rattle.session.specs.declared.profile.TheConstants.{ADDRESSES}
+use Rattle.segments.specs.declared.segment.Segment.{Segment}
+use Rattle.session.specs.declared.profile.TheConstants.{ADDRESSES, ALL_EVENTS, MAX_TEXT}
 use Rattle.session.specs.declared.event_channel.EventChannel.{EventChannel}
 use Rattle.xcp_base.specs.declared.ring_kind.RingKind.{RingKind}
 use Rattle.xcp_base.specs.declared.ring_kind.RingKind.TheVariants as ring
@@ -60,9 +62,16 @@ abbrev pub names_fault : Profile → Option ProfileFault
 names_fault d =
     if is_bad_name d.name.items then Some fault.Name else events_fault d.events.items
 
+-- the first limit that its texts of identification are out of
+abbrev pub texts_fault : Profile → Option ProfileFault
+texts_fault d =
+    if is_bad_name d.a2l_name.items then Some fault.A2lName
+    else if is_bad_name d.epk.items then Some fault.Epk
+    else if nat_lt MAX_TEXT (length d.a2l.items) then Some fault.A2l else None
+
 -- the first limit that a profile is out of
 abbrev pub profile_fault : Profile → Option ProfileFault
-profile_fault d = or_else (numbers_fault d) (names_fault d)
+profile_fault d = or_else (numbers_fault d) (or_else (names_fault d) (texts_fault d))
 
 -- what its store is made for
 abbrev pub lists_of : Profile → ListsProfile
@@ -72,6 +81,20 @@ lists_of d =
       image_len = d.image_len;
       form = unwrap_or (form_of d.id d.stamp_size) usual_form;
     }
+
+-- its memory: one segment, of the one address extension, that all event channels may read
+abbrev pub segments_of : Profile → List Segment
+segments_of d =
+    record { extension = ADDRESS_EXTENSION; base = d.base; len = d.image_len; events = ALL_EVENTS }
+    ∷ []
+
+-- the text of GET_ID that UPLOAD reads
+abbrev pub id_text : Profile → ℕ → Option (List ℕ)
+id_text d kind =
+    if kind == 1 then Some d.a2l_name.items
+    else if kind == 4 then Some d.a2l.items
+    else if kind == 5 then Some d.epk.items
+    else None
 
 -- the name of an event channel is short enough
 abbrev pub HasShortName : EventChannel → Type 0
@@ -83,4 +106,7 @@ pub record IsProfile (d : Profile) : Type 0 where
   pub unit : d.unit ≤ MAX_UNIT
   pub stamp : d.stamp_size ≤ 4
   pub name : length d.name.items ≤ MAX_NAME
+  pub a2l_name : length d.a2l_name.items ≤ MAX_NAME
+  pub epk : length d.epk.items ≤ MAX_NAME
+  pub a2l : length d.a2l.items ≤ MAX_TEXT
   pub names : All HasShortName d.events.items

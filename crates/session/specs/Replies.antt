@@ -1,11 +1,11 @@
 -- What stands in each reply to a connected master, field by field with its name in the standard
 -- (ASAM MCD-1 XCP, protocol layer, at the command of each). A field that is
 -- kept for later versions is reserved, and 0.
-use Rattle.std.specs.Prelude.{ℕ, ◌+◌, ◌*◌, ◌==◌, ◌||◌, nat_lt, nat_le, max, Bool, true, false}
-use Rattle.std.specs.Prelude.{if◌then◌else◌, List, [], ◌∷◌, ◌++◌, length, map, take, drop}
-use Rattle.std.specs.Prelude.{Option, Some, None, Result, Ok, Err}
+use Rattle.std.specs.Prelude.{ℕ, ◌+◌, ◌*◌, ◌==◌, nat_lt, max, Bool, true, false}
+use Rattle.std.specs.Prelude.{if◌then◌else◌, List, [], ◌∷◌, ◌++◌, length, map}
+use Rattle.std.specs.Prelude.{Option, Some, None, Result, Ok, Err, unwrap_or}
 use Rattle.xcp_base.specs.declared.err_code.ErrCode.{ErrCode}
-use Rattle.xcp_base.specs.declared.err_code.ErrCode.TheVariants.{OutOfRange, Sequence}
+use Rattle.xcp_base.specs.declared.err_code.ErrCode.TheVariants.{OutOfRange}
 use Rattle.xcp_base.specs.declared.id_kind.IdKind.{IdKind}
 use Rattle.xcp_base.specs.declared.id_kind.IdKind.TheVariants.{Absolute, RelativeByte, RelativeWord}
 use Rattle.xcp_base.specs.declared.limits.TheConstants.{MAX_CTO, MAX_DTO, MAX_ENTRY_SIZE, MAX_LISTS}
@@ -22,7 +22,7 @@ use Rattle.daq_store.specs.Shape.{is_list, list_count}
 use Rattle.session.specs.declared.event_channel.EventChannel.{EventChannel}
 use Rattle.session.specs.declared.profile.Profile.{Profile}
 use Rattle.session.specs.Fields.{BYTE, DWORD, WORD, packet_of}
-use Rattle.session.specs.Profiles.{lists_of}
+use Rattle.session.specs.Profiles.{id_text, lists_of}
 
 -- CONNECT of mode 0, NORMAL; there is no other
 abbrev pub connect_fields : List ℕ
@@ -56,31 +56,20 @@ comm_mode_fields =
     ++ BYTE 0  -- QUEUE_SIZE
     ++ BYTE 0x10  -- XCP driver version 1.0
 
--- GET_ID: a text of type 0 stands in the reply, the types 1 to 4 have none
-abbrev pub id_fields : List ℕ → List ℕ
-id_fields text =
-    BYTE 1  -- mode: the text stands here
+-- GET_ID: the text of type 0 stands in the reply, those of the types 1, 4 and 5 are read by UPLOAD,
+-- and the types 2 and 3 have none
+abbrev pub id_fields : ℕ → ℕ → List ℕ → List ℕ
+id_fields mode len text =
+    BYTE mode  -- mode: 1, the text stands here; 0, UPLOAD reads it
     ++ WORD 0  -- reserved
-    ++ DWORD (length text)  -- length
+    ++ DWORD len  -- length
     ++ text  -- identification
 
-abbrev pub id_reply : List ℕ → ℕ → Result (List ℕ) ErrCode
-id_reply name kind =
-    if kind == 0 then Ok (id_fields name)
-    else if nat_lt 4 kind then Err OutOfRange else Ok (id_fields [])
-
--- UPLOAD of n bytes of what is left of a text: none, more than a reply has, more than are left
-abbrev pub is_bad_count : ℕ → List ℕ → Bool
-is_bad_count n text = n == 0 || nat_le MAX_CTO n || nat_lt (length text) n
-
-abbrev pub upload_reply : ℕ → Option (List ℕ) → Result (List ℕ) ErrCode
-upload_reply n None = Err Sequence
-upload_reply n (Some text) = if is_bad_count n text then Err OutOfRange else Ok (take n text)
-
--- and what is left of the text then
-abbrev pub text_after_upload : ℕ → Option (List ℕ) → Option (List ℕ)
-text_after_upload n None = None
-text_after_upload n (Some text) = Some (if is_bad_count n text then text else drop n text)
+abbrev pub id_reply : Profile → ℕ → Result (List ℕ) ErrCode
+id_reply d kind =
+    if kind == 0 then Ok (id_fields 1 (length d.name.items) d.name.items)
+    else if nat_lt 5 kind then Err OutOfRange
+    else Ok (id_fields 0 (length (unwrap_or (id_text d kind) [])) [])
 
 -- GET_DAQ_LIST_MODE; a list without a mode has all but SELECTED zero
 abbrev pub mode_bits : Bool → Bool → Bool → ℕ
@@ -154,7 +143,7 @@ list_info_reply d calls l =
     then Ok (list_info_fields (configuration (lists_of d).form calls l))
     else Err OutOfRange
 
--- GET_DAQ_EVENT_INFO, and the text that UPLOAD reads then
+-- GET_DAQ_EVENT_INFO
 abbrev pub event_fields : EventChannel → List ℕ
 event_fields e =
     BYTE 0x44  -- DAQ_EVENT_PROPERTIES: DAQ, CONSISTENCY DAQ
@@ -167,10 +156,6 @@ event_fields e =
 abbrev pub event_reply : Option EventChannel → Result (List ℕ) ErrCode
 event_reply None = Err OutOfRange
 event_reply (Some e) = Ok (event_fields e)
-
-abbrev pub text_after_event : Option EventChannel → Option (List ℕ) → Option (List ℕ)
-text_after_event None text = text
-text_after_event (Some e) text = Some e.name.items
 
 -- READ_DAQ, in a store whose image begins at `base`; an unwritten entry has size and address 0
 abbrev pub read_fields : ℕ → ℕ → ℕ → List ℕ

@@ -12,7 +12,7 @@ use Rattle.daq_store.specs.Commands.{command, dword, word}
 use Rattle.session.specs.declared.request.Request.{Request}
 use Rattle.session.specs.declared.request.Request.TheVariants.{Connect, Disconnect, GetStatus}
 use Rattle.session.specs.declared.request.Request.TheVariants.{Synch, GetCommModeInfo, GetId}
-use Rattle.session.specs.declared.request.Request.TheVariants.{Upload}
+use Rattle.session.specs.declared.request.Request.TheVariants.{SetMta, ShortUpload, Upload}
 use Rattle.session.specs.declared.request.Request.TheVariants.{GetDaqListMode, GetDaqClock}
 use Rattle.session.specs.declared.request.Request.TheVariants.{GetDaqProcessorInfo}
 use Rattle.session.specs.declared.request.Request.TheVariants.{GetDaqResolutionInfo, GetDaqListInfo}
@@ -56,6 +56,15 @@ abbrev pub writes : ℕ → ℕ → List ℕ → List Command
 writes base zero bytes = []
 writes base (suc n) bytes = write_of base (take 8 bytes) ∷ writes base n (drop 8 bytes)
 
+-- SET_MTA, and SHORT_UPLOAD of so many bytes: address extension and address
+abbrev pub set_mta : List ℕ → Result Request ErrCode
+set_mta (_ ∷ _ ∷ ext ∷ a ∷ b ∷ c ∷ d ∷ _) = Ok (SetMta ext (dword a b c d))
+set_mta _ = Err CmdSyntax
+
+abbrev pub short_upload : List ℕ → Result Request ErrCode
+short_upload (n ∷ _ ∷ ext ∷ a ∷ b ∷ c ∷ d ∷ _) = Ok (ShortUpload n ext (dword a b c d))
+short_upload _ = Err CmdSyntax
+
 -- one of the nine commands that set lists up, or the error of a packet that is none of these
 abbrev pub of_lists : ℕ → Result Command ErrCode → Result Request ErrCode
 of_lists base (Ok call) = Ok (Lists (from_base base call))
@@ -76,7 +85,9 @@ request base (code ∷ more) =
     else if code == 0xFC then Ok Synch
     else if code == 0xFB then Ok GetCommModeInfo
     else if code == 0xFA then with_byte GetId more  -- type
+    else if code == 0xF6 then set_mta more  -- address extension, address
     else if code == 0xF5 then with_byte Upload more  -- number of bytes
+    else if code == 0xF4 then short_upload more  -- number of bytes, address extension, address
     else if code == 0xE3 then with_word clear_list more  -- DAQ list
     else if code == 0xDF then with_word GetDaqListMode more  -- DAQ list
     else if code == 0xDC then Ok GetDaqClock

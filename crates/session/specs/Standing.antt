@@ -1,6 +1,8 @@
 -- What a session shows, and when it stands after a past.
-use Rattle.std.specs.Prelude.{◌≡◌, ℕ, Bool, true, List, [], Option, Some, None, Result}
-use Rattle.arrayvec.specs.ArrayVec.{ArrayVec}
+use Rattle.std.specs.Prelude.{◌≡◌, ℕ, Bool, true, List, [], Option, None, Result, drop}
+use Rattle.std.specs.Prelude.{option_map, slice_get, unwrap_or}
+use Rattle.std.specs.Borrow.{Bor}
+use Rattle.segments.specs.Memory.{parts}
 use Rattle.xcp_base.specs.declared.err_code.ErrCode.{ErrCode}
 use Rattle.daq_store.specs.declared.command.Command.{Command}
 use Rattle.daq_store.specs.declared.reply.Reply.{Reply}
@@ -10,7 +12,12 @@ use Rattle.daq_store.specs.Standing.{StoreStandsAfter, StoreState}
 use Rattle.session.specs.declared.profile.Profile.{Profile}
 use Rattle.session.specs.declared.request.Request.{Request}
 use Rattle.session.specs.declared.request.Request.TheVariants.{Lists}
-use Rattle.session.specs.Past.{Past}
+use Rattle.session.specs.Past.{Given, Memory, Nothing, Past, Source, Text, none_given}
+use Rattle.session.specs.declared.event_channel.EventChannel.{EventChannel}
+use Rattle.session.specs.declared.source.Source.{Source as HeldSource}
+use Rattle.session.specs.declared.source.Source.TheVariants as held
+use Rattle.session.specs.declared.source.TextOf.{TextOf}
+use Rattle.session.specs.declared.source.TextOf.TheVariants as of_text
 use Rattle.session.specs.Profiles.{IsProfile, lists_of}
 use Rattle.session.specs.Replies.{store_reply}
 use Rattle.session.specs.Exchanges.{Exchange, MayBeOut, calls_after_writes}
@@ -22,18 +29,27 @@ use Rattle.session.specs.Exchanges.{reply_in, request_reply, writes_reply}
 pub record SessionState : Type 0 where
   pub profile : Profile
   pub connected : Bool
-  pub text : Option (List ℕ)
+  pub source : Source
   pub store : StoreState
 
--- a text as it is held
-abbrev pub text_held : Option (ArrayVec ℕ) → Option (List ℕ)
-text_held None = None
-text_held (Some text) = Some text.items
+-- a text of a profile
+abbrev pub text_in : Profile → TextOf → List ℕ
+text_in d (of_text.Event c) =
+    unwrap_or (option_map (λ (e : EventChannel). e.name.items) (slice_get d.events.items c)) []
+text_in d of_text.A2lName = d.a2l_name.items
+text_in d of_text.A2l = d.a2l.items
+text_in d of_text.Epk = d.epk.items
+
+-- what UPLOAD reads, as it is held: of a text, how much of it was read
+abbrev pub source_held : Profile → HeldSource → Source
+source_held d held.Nothing = Nothing
+source_held d (held.Text text read) = Text (drop read (text_in d text))
+source_held d (held.Memory extension address) = Memory extension address
 
 -- the session shows what the past says
 pub record SessionStandsAfter (s : SessionState) (past : Past) : Type 0 where
   pub connected : s.connected ≡ past.connected
-  pub text : s.text ≡ past.text
+  pub source : s.source ≡ past.source
   pub store : StoreStandsAfter s.store past.calls
 
 -- what every session keeps to
@@ -41,13 +57,18 @@ pub record IsSession (s : SessionState) : Type 0 where
   pub within : IsProfile s.profile
   pub lists : s.store.profile ≡ lists_of s.profile
 
+-- what was handed in: a clock, and slices of memory
+abbrev pub given_by : ℕ → List (Bor (List ℕ)) → Given
+given_by clock memory = record { clock = clock; memory = parts memory }
+
 -- after each past that the old session stands after, this is the reply to the request, and the new
 -- session stands after what it leaves
-abbrev pub AnswersRequest : SessionState → SessionState → ℕ → List ℕ → Request → List ℕ → Type 0
-AnswersRequest old new clock packet asked bytes =
+abbrev pub AnswersRequest
+    : SessionState → SessionState → Given → List ℕ → Request → List ℕ → Type 0
+AnswersRequest old new given packet asked bytes =
     (past : Past) → SessionStandsAfter old past
-    → (bytes ≡ request_reply old.profile past clock packet asked)
-    × SessionStandsAfter new (past_after old.profile past packet asked)
+    → (bytes ≡ request_reply old.profile past given packet asked)
+    × SessionStandsAfter new (past_after old.profile past given packet asked)
 
 -- the same of one write
 abbrev pub WritesOne : SessionState → SessionState → Command → Reply → Type 0
@@ -66,9 +87,10 @@ WritesAll old new calls bytes =
     (record past { calls = calls_after_writes (lists_of old.profile) past.calls calls })
 
 -- the same of a request that only looks
-abbrev pub Looks : SessionState → ℕ → Request → List ℕ → Type 0
-Looks s clock asked bytes =
-    (past : Past) → SessionStandsAfter s past → bytes ≡ request_reply s.profile past clock [] asked
+abbrev pub Looks : SessionState → Request → List ℕ → Type 0
+Looks s asked bytes =
+    (past : Past) → SessionStandsAfter s past
+    → bytes ≡ request_reply s.profile past none_given [] asked
 
 -- the same of what was read where no master is connected
 abbrev pub Greets : SessionState → SessionState → Result Request ErrCode → Option (List ℕ) → Type 0
@@ -77,11 +99,12 @@ Greets old new read reply =
     → (reply ≡ greeting_reply read) × SessionStandsAfter new (past_after_greeting past read)
 
 -- the same of a packet
-abbrev pub AnswersMaster : SessionState → SessionState → ℕ → List ℕ → Option (List ℕ) → Type 0
-AnswersMaster old new clock packet reply =
+abbrev pub AnswersMaster
+    : SessionState → SessionState → Given → List ℕ → Option (List ℕ) → Type 0
+AnswersMaster old new given packet reply =
     (past : Past) → SessionStandsAfter old past
-    → (reply ≡ master_reply old.profile past clock packet)
-    × SessionStandsAfter new (past_after_packet old.profile past packet)
+    → (reply ≡ master_reply old.profile past given packet)
+    × SessionStandsAfter new (past_after_packet old.profile past given packet)
 
 -- there may be no memory for the request: it is an allocation, and after each past that the session
 -- stands after, every check of it passes
@@ -105,10 +128,10 @@ IsExchange old new x reply =
     × SessionStandsAfter new (past_behind old.profile past x)
 
 pub record Exchanges
-    (old new : SessionState) (packet : List ℕ) (clock : ℕ) (reply : Option (List ℕ))
+    (old new : SessionState) (packet : List ℕ) (given : Given) (reply : Option (List ℕ))
     : Type 0 where
   pub out_of_memory : Bool
   pub only_where : out_of_memory ≡ true → PacketMayRunOut old packet
   pub answers :
       IsExchange old new
-      (record { packet = packet; clock = clock; out_of_memory = out_of_memory }) reply
+      (record { packet = packet; given = given; out_of_memory = out_of_memory }) reply

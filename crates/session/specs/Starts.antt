@@ -10,20 +10,20 @@ use Rattle.daq_store.specs.Shape.{is_list}
 use Rattle.daq_store.specs.Standing.{StoreState, conf_of}
 use Rattle.session.specs.declared.profile.Profile.{Profile}
 use Rattle.session.specs.Exchanges.{past_after_packet}
-use Rattle.session.specs.Past.{Past}
+use Rattle.session.specs.Past.{Past, none_given}
 use Rattle.session.specs.Profiles.{lists_of}
 
 -- list l is there and runs
 abbrev pub runs : Past → ℕ → Bool
 runs past l = is_active past.calls l
 
--- list l runs behind the packet, but not before it
+-- list l runs behind the packet, but not before it; what comes with the packet has no part in this
 abbrev pub starts : Profile → Past → List ℕ → ℕ → Bool
-starts d past packet l = not (runs past l) && runs (past_after_packet d past packet) l
+starts d past packet l = not (runs past l) && runs (past_after_packet d past none_given packet) l
 
 -- list l runs before the packet, but not behind it
 abbrev pub stops : Profile → Past → List ℕ → ℕ → Bool
-stops d past packet l = runs past l && not (runs (past_after_packet d past packet) l)
+stops d past packet l = runs past l && not (runs (past_after_packet d past none_given packet) l)
 
 -- list l runs behind a call to the store, but not before it
 abbrev pub call_starts : ListsProfile → List Command → Command → ℕ → Bool

@@ -7,7 +7,7 @@ ghost use Rattle.session.specs.Replies.{key_byte, mode_bits, store_reply};
 use arrayvec::ArrayVec;
 use daq_store::Reply;
 use std::marker::Model;
-use xcp_base::limits::{MAX_CTO, MAX_NAME};
+use xcp_base::limits::MAX_CTO;
 use xcp_base::{ErrCode, IdKind};
 
 /// The packet of a reply: RES, FF and the bytes behind it, or ERR, FE and an error code; 1 to
@@ -93,16 +93,6 @@ fn shown_address(size: u8, addr: u32, base: u32) -> u32
     } else {
         base.wrapping_add(addr)
     }
-}
-
-/// A text.
-pub fn text_of(bytes: &[u8]) -> ArrayVec<u8, MAX_NAME>
-    requires { length bytes.now ≤ MAX_NAME }
-    ensures { result.items ≡ bytes.now }
-{
-    let mut text = ArrayVec::new();
-    let _ = text.try_extend_from_slice(bytes);
-    text
 }
 
 /// A bit, if it is set.

@@ -14,7 +14,9 @@ mod readers;
 mod request;
 mod session;
 mod set_up;
+mod source;
 mod starts;
+mod uploads;
 mod writes;
 
 pub use cto::Cto;

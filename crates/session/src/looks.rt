@@ -13,7 +13,7 @@ use xcp_base::limits::MAX_ENTRY_SIZE;
 impl Session {
     /// GET_DAQ_LIST_INFO: the ODTs of the list, and the most entries of one of them.
     pub(crate) fn list_info(&self, list: u16) -> Cto
-        ensures { Looks self.now 0 (Request.GetDaqListInfo list) result }
+        ensures { Looks self.now (Request.GetDaqListInfo list) result }
     {
         let Some(conf) = self.store.conf(list) else {
             return Cto::error(ErrCode::OutOfRange);
@@ -23,7 +23,7 @@ impl Session {
 
     /// CONNECT while a master is connected already: nothing changes.
     pub(crate) fn connect_again(&self, mode: u8) -> Cto
-        ensures { Looks self.now 0 (Request.Connect mode) result }
+        ensures { Looks self.now (Request.Connect mode) result }
     {
         if mode != 0 {
             return Cto::error(ErrCode::OutOfRange);
@@ -33,30 +33,15 @@ impl Session {
 
     /// GET_STATUS: whether a list runs.
     pub(crate) fn status(&self) -> Cto
-        ensures { Looks self.now 0 Request.GetStatus result }
+        ensures { Looks self.now Request.GetStatus result }
     {
         let runs = bit(self.store.any_running(), 0x40);
         Cto::positive(&[runs, 0, 0, 0, 0])
     }
 
-    /// GET_ID: the slave's name stands in the reply itself.
-    pub(crate) fn id(&self, kind: u8) -> Cto
-        ensures { Looks self.now 0 (Request.GetId kind) result }
-    {
-        if kind > 4 {
-            return Cto::error(ErrCode::OutOfRange);
-        }
-        if kind > 0 {
-            return Cto::positive(&[1, 0, 0, 0, 0, 0, 0]);
-        }
-        let name = self.profile.name.as_slice();
-        let [a, b, c, d] = (name.len() as u32).to_le_bytes();
-        Cto::with_text(&[1, 0, 0, a, b, c, d], name)
-    }
-
     /// GET_DAQ_LIST_MODE: the bits of the mode, the event channel, the prescaler and the priority.
     pub(crate) fn list_mode(&self, list: u16) -> Cto
-        ensures { Looks self.now 0 (Request.GetDaqListMode list) result }
+        ensures { Looks self.now (Request.GetDaqListMode list) result }
     {
         let Some(conf) = self.store.conf(list) else {
             return Cto::error(ErrCode::OutOfRange);
@@ -71,7 +56,7 @@ impl Session {
     /// GET_DAQ_PROCESSOR_INFO: the numbers of lists and event channels, and the identification
     /// field.
     pub(crate) fn processor_info(&self) -> Cto
-        ensures { Looks self.now 0 Request.GetDaqProcessorInfo result }
+        ensures { Looks self.now Request.GetDaqProcessorInfo result }
     {
         let [a, b] = self.store.lists().to_le_bytes();
         let [c, d] = (self.profile.events.len() as u16).to_le_bytes();
@@ -80,7 +65,7 @@ impl Session {
 
     /// GET_DAQ_RESOLUTION_INFO: the sizes of entries, and the timestamp's size, unit and ticks.
     pub(crate) fn resolution_info(&self) -> Cto
-        ensures { Looks self.now 0 Request.GetDaqResolutionInfo result }
+        ensures { Looks self.now Request.GetDaqResolutionInfo result }
     {
         let mode = self.profile.stamp_size + 16 * self.profile.unit;
         let [low, high] = self.profile.ticks.to_le_bytes();

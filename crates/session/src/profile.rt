@@ -1,13 +1,18 @@
 //! The profile of a slave, and the check of its limits, one after another.
-ghost use Rattle.std.specs.Prelude.{◌≡◌, ◌≤◌, ◌+◌, nat_lt};
+ghost use Rattle.std.specs.Prelude.{◌≡◌, ◌≤◌, ◌+◌, ◌∷◌, [], nat_lt};
 ghost use Rattle.std.specs.List.{list_any};
 ghost use Rattle.session.specs.Profiles.{profile_fault, numbers_fault, names_fault};
+ghost use Rattle.session.specs.Profiles.{segments_of, texts_fault};
+ghost use Rattle.session.specs.Standing.{text_in};
 ghost use Rattle.session.specs.Profiles.{is_bad_capacity};
 
 use crate::event_channel::{EventChannel, events_fault, is_bad_name};
+use crate::source::TextOf;
+use segments::Segment;
 use thiserror::Error;
 use xcp_base::limits::{
-    MAX_BYTE_RING, MAX_CHANNELS, MAX_IMAGE_LEN, MAX_SAMPLE_RING, MAX_UNIT, MIN_BYTE_RING,
+    ADDRESS_EXTENSION, MAX_BYTE_RING, MAX_CHANNELS, MAX_IMAGE_LEN, MAX_SAMPLE_RING, MAX_UNIT,
+    MIN_BYTE_RING,
 };
 use xcp_base::{IdKind, RingKind, StampSize};
 
@@ -31,6 +36,12 @@ pub struct Profile {
     pub name: Vec<u8>,
     /// The event channels, 1 to 8.
     pub events: Vec<EventChannel>,
+    /// The name of its A2L file, without path and extension: bytes as in its name.
+    pub a2l_name: Vec<u8>,
+    /// The EPK: which program it is. Bytes as in its name.
+    pub epk: Vec<u8>,
+    /// The A2L file itself, if a master is to fetch it: any bytes.
+    pub a2l: Vec<u8>,
 }
 
 /// Which limit a profile is out of. The variants stand in the order of the checks.
@@ -56,6 +67,12 @@ pub enum ProfileFault {
     EventName,
     #[error("the unit of a cycle is over 9")]
     CycleUnit,
+    #[error("the name of the A2L file is too long, or not of printable ASCII")]
+    A2lName,
+    #[error("the EPK is too long, or not of printable ASCII")]
+    Epk,
+    #[error("the A2L file has 2^32 bytes or more")]
+    A2l,
 }
 
 impl Profile {
@@ -66,7 +83,10 @@ impl Profile {
         if let Some(fault) = self.numbers_fault() {
             return Some(fault);
         }
-        self.names_fault()
+        if let Some(fault) = self.names_fault() {
+            return Some(fault);
+        }
+        self.texts_fault()
     }
 
     /// The first limit that its numbers are out of.
@@ -106,7 +126,56 @@ impl Profile {
         }
         events_fault(&self.events)
     }
+
+    /// The first limit that its texts of identification are out of.
+    fn texts_fault(&self) -> Option<ProfileFault>
+        ensures { result ≡ texts_fault self.now }
+    {
+        if is_bad_name(&self.a2l_name) {
+            return Some(ProfileFault::A2lName);
+        }
+        if is_bad_name(&self.epk) {
+            return Some(ProfileFault::Epk);
+        }
+        if self.a2l.len() > MAX_TEXT {
+            return Some(ProfileFault::A2l);
+        }
+        None
+    }
+
+    /// Its memory: one segment, that all event channels may read.
+    pub(crate) fn segment(&self) -> Segment
+        ensures { result ∷ [] ≡ segments_of self.now }
+    {
+        Segment {
+            extension: ADDRESS_EXTENSION,
+            base: self.base,
+            len: self.image_len,
+            events: ALL_EVENTS,
+        }
+    }
+
+    /// One of its texts.
+    pub(crate) fn text(&self, of: TextOf) -> &[u8]
+        ensures { result.now ≡ text_in self.now of }
+    {
+        match of {
+            TextOf::Event(channel) => match self.events.get(channel as usize) {
+                Some(event) => event.name.as_slice(),
+                None => &[],
+            },
+            TextOf::A2lName => self.a2l_name.as_slice(),
+            TextOf::A2l => self.a2l.as_slice(),
+            TextOf::Epk => self.epk.as_slice(),
+        }
+    }
 }
+
+/// Every event channel may read the memory.
+pub(crate) const ALL_EVENTS: u16 = 0xFFFF;
+
+/// The most bytes of a text that UPLOAD reads: its length has four bytes.
+const MAX_TEXT: usize = 0xFFFF_FFFF;
 
 /// So many addresses there are.
 const ADDRESSES: usize = 0x1_0000_0000;

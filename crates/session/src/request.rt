@@ -1,7 +1,8 @@
 //! The commands of a session, and how they are read from packets.
 ghost use Rattle.std.specs.Prelude.{◌≡◌, ◌∷◌, ◌==◌, ◌||◌, nat_lt};
-ghost use Rattle.daq_store.specs.Commands.{word};
-ghost use Rattle.session.specs.Requests.{from_base, place_of, request, with_entries};
+ghost use Rattle.daq_store.specs.Commands.{dword, word};
+ghost use Rattle.session.specs.Requests.{from_base, place_of, request, set_mta, short_upload};
+ghost use Rattle.session.specs.Requests.{with_entries};
 
 use daq_store::command::{self, Command};
 use xcp_base::ErrCode;
@@ -11,7 +12,9 @@ use xcp_base::limits::MAX_IMAGE_LEN;
 #[derive(Clone, Copy, Debug, PartialEq, Eq)]
 pub enum Request {
     /// CONNECT.
-    Connect { mode: u8 },
+    Connect {
+        mode: u8,
+    },
     /// DISCONNECT.
     Disconnect,
     /// GET_STATUS.
@@ -21,11 +24,28 @@ pub enum Request {
     /// GET_COMM_MODE_INFO.
     GetCommModeInfo,
     /// GET_ID.
-    GetId { kind: u8 },
+    GetId {
+        kind: u8,
+    },
+    /// SET_MTA.
+    SetMta {
+        extension: u8,
+        address: u32,
+    },
     /// UPLOAD.
-    Upload { count: u8 },
+    Upload {
+        count: u8,
+    },
+    /// SHORT_UPLOAD.
+    ShortUpload {
+        count: u8,
+        extension: u8,
+        address: u32,
+    },
     /// GET_DAQ_LIST_MODE.
-    GetDaqListMode { list: u16 },
+    GetDaqListMode {
+        list: u16,
+    },
     /// GET_DAQ_CLOCK.
     GetDaqClock,
     /// GET_DAQ_PROCESSOR_INFO.
@@ -33,11 +53,17 @@ pub enum Request {
     /// GET_DAQ_RESOLUTION_INFO.
     GetDaqResolutionInfo,
     /// GET_DAQ_LIST_INFO.
-    GetDaqListInfo { list: u16 },
+    GetDaqListInfo {
+        list: u16,
+    },
     /// GET_DAQ_EVENT_INFO.
-    GetDaqEventInfo { channel: u16 },
+    GetDaqEventInfo {
+        channel: u16,
+    },
     /// WRITE_DAQ_MULTIPLE: so many entries, which stand in the packet.
-    WriteDaqMultiple { count: u8 },
+    WriteDaqMultiple {
+        count: u8,
+    },
     /// One of the commands that set DAQ lists; an address in it is a place in the image.
     Lists(Command),
 }
@@ -57,7 +83,9 @@ pub fn read(packet: &[u8], base: u32) -> Result<Request, ErrCode>
         [0xFC, ..] => Ok(Request::Synch),
         [0xFB, ..] => Ok(Request::GetCommModeInfo),
         [0xFA, kind, ..] => Ok(Request::GetId { kind: *kind }),
+        [0xF6, fields @ ..] => set_mta(fields),
         [0xF5, count, ..] => Ok(Request::Upload { count: *count }),
+        [0xF4, fields @ ..] => short_upload(fields),
         [0xE3, _, a, b, ..] => Ok(Request::Lists(Command::ClearDaqList { list: word(a, b) })),
         [0xDF, _, a, b, ..] => Ok(Request::GetDaqListMode { list: word(a, b) }),
         [0xDC, ..] => Ok(Request::GetDaqClock),
@@ -110,6 +138,40 @@ fn word(low: &u8, high: &u8) -> u16
     ensures { result ≡ word low.now high.now }
 {
     u16::from_le_bytes([*low, *high])
+}
+
+/// SET_MTA: address extension and address, behind reserved bytes.
+fn set_mta(fields: &[u8]) -> Result<Request, ErrCode>
+    ensures { result ≡ set_mta fields.now }
+{
+    match fields {
+        [_, _, extension, a, b, c, d, ..] => Ok(Request::SetMta {
+            extension: *extension,
+            address: dword(a, b, c, d),
+        }),
+        _ => Err(ErrCode::CmdSyntax),
+    }
+}
+
+/// SHORT_UPLOAD: the number of bytes, and behind a reserved byte address extension and address.
+fn short_upload(fields: &[u8]) -> Result<Request, ErrCode>
+    ensures { result ≡ short_upload fields.now }
+{
+    match fields {
+        [count, _, extension, a, b, c, d, ..] => Ok(Request::ShortUpload {
+            count: *count,
+            extension: *extension,
+            address: dword(a, b, c, d),
+        }),
+        _ => Err(ErrCode::CmdSyntax),
+    }
+}
+
+/// The DWORD that stands in four bytes.
+fn dword(a: &u8, b: &u8, c: &u8, d: &u8) -> u32
+    ensures { result ≡ dword a.now b.now c.now d.now }
+{
+    u32::from_le_bytes([*a, *b, *c, *d])
 }
 
 /// WRITE_DAQ_MULTIPLE of so many entries, and the bytes of them.

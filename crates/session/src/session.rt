@@ -1,52 +1,56 @@
 //! The session, from CONNECT to DISCONNECT: each packet of the master is answered.
 ghost use Rattle.std.specs.Prelude.{◌≡◌, [], IfErr, IfOk, IfSome, OnErr, OnOk, Some};
 ghost use Rattle.session.specs.Fields.{IsReplyPacket};
-ghost use Rattle.session.specs.Past.{new_past};
+ghost use Rattle.session.specs.Past.{new_past, none_given};
 ghost use Rattle.session.specs.Profiles.{profile_fault};
 ghost use Rattle.session.specs.Requests.{request};
-ghost use Rattle.session.specs.Replies.{is_bad_count};
 ghost use Rattle.session.specs.Standing.{AnswersMaster, AnswersRequest, Exchanges, Greets};
-ghost use Rattle.session.specs.Standing.{MayRunOut, PacketMayRunOut, SessionStandsAfter};
+ghost use Rattle.session.specs.Standing.{MayRunOut, PacketMayRunOut, SessionStandsAfter, given_by};
 
-use crate::cto::{Cto, text_of};
+use crate::cto::Cto;
 use crate::profile::{Profile, ProfileFault};
 use crate::request::{self, Request};
-use arrayvec::ArrayVec;
+use crate::source::{Source, TextOf};
 use daq_store::command::{self, Command};
 use daq_store::{NoMemory, Store};
+use segments::Segments;
+use segments::limits::MAX_READERS;
 use std::alloc::Global;
 use std::marker::Model;
 use xcp_base::ErrCode;
-use xcp_base::limits::{MAX_CTO, MAX_LISTS, MAX_NAME};
+use xcp_base::limits::MAX_LISTS;
 
-/// The session of a slave with its master: whether one is connected, the text that UPLOAD reads,
-/// and the DAQ lists.
+/// The session of a slave with its master: whether one is connected, what UPLOAD reads, and the DAQ
+/// lists.
 ///
 /// Contracts speak of a session by its past: it *stands after* it.
 #[derive(Drop)]
 pub struct Session {
     pub(crate) profile: Profile,
     pub(crate) connected: bool,
-    text: Option<ArrayVec<u8, MAX_NAME>>,
+    pub(crate) source: Source,
+    pub(crate) segments: Segments,
     pub(crate) store: Store,
 }
 
 impl Model for Session {
-    ghost use Rattle.session.specs.Standing.{SessionState, IsSession, text_held};
+    ghost use Rattle.std.specs.Prelude.{◌≡◌};
+    ghost use Rattle.session.specs.Profiles.{segments_of};
+    ghost use Rattle.session.specs.Standing.{SessionState, IsSession, source_held};
 
     ghost Value = { SessionState };
 
     ghost view = { λ a. record {
       profile = a.profile;
       connected = a.connected;
-      text = text_held a.text;
+      source = source_held a.profile a.source;
       store = a.store;
     } };
 
-    ghost invariant = { λ a. IsSession (record {
+    ghost invariant = { λ a. (a.segments ≡ segments_of a.profile) × IsSession (record {
       profile = a.profile;
       connected = a.connected;
-      text = text_held a.text;
+      source = source_held a.profile a.source;
       store = a.store;
     }) };
 }
@@ -74,22 +78,31 @@ impl Session {
         ) else {
             unreachable!()
         };
+        let Ok(segments) = Segments::new(&[profile.segment()], MAX_READERS) else {
+            unreachable!()
+        };
         Ok(Session {
             profile,
             connected: false,
-            text: None,
+            source: Source::Nothing,
+            segments,
             store,
         })
     }
 
-    /// Answers a packet of the master, which came at this clock: at most one reply. An allocation
-    /// that runs out of memory isn't carried out, and is answered by ERR_MEMORY_OVERFLOW.
-    pub fn answer(&mut self, packet: &[u8], clock: u32) -> Option<Cto>
-        ensures reply { Exchanges self.old self.new packet.now clock result }
+    /// Answers a packet of the master, which came at this clock, with memory as it is then: at most
+    /// one reply. An allocation that runs out of memory isn't carried out, and is answered by
+    /// ERR_MEMORY_OVERFLOW.
+    ///
+    /// Of the image `memory` has one slice; with another length, or where there is none, it isn't
+    /// there, and what reads it is answered by ERR_ACCESS_DENIED.
+    pub fn answer(&mut self, packet: &[u8], clock: u32, memory: &[&[u8]]) -> Option<Cto>
+        ensures reply { Exchanges self.old self.new packet.now (given_by clock memory.now)
+            result }
         ensures starts { IfSome result IsReplyPacket }
         ensures profile_stays { self.new.profile ≡ self.old.profile }
     {
-        match self.carry_packet(packet, clock) {
+        match self.carry_packet(packet, clock, memory) {
             Ok(reply) => reply,
             Err(NoMemory) => Some(Cto::error(ErrCode::MemoryOverflow)),
         }
@@ -102,20 +115,26 @@ impl Session {
         self.connected
     }
 
-    /// The transport was lost: all DAQ lists are given up as by FREE_DAQ, the text is forgotten,
-    /// and no master is connected. So it is after DISCONNECT, but nothing is replied.
+    /// The transport was lost: all DAQ lists are given up as by FREE_DAQ, what UPLOAD reads is
+    /// forgotten, and no master is connected. So it is after DISCONNECT, but nothing is replied.
     pub fn hang_up(&mut self)
         ensures fresh { SessionStandsAfter self.new new_past }
         ensures profile_stays { self.new.profile ≡ self.old.profile }
     {
         self.store.free_daq();
-        self.text = None;
+        self.source = Source::Nothing;
         self.connected = false;
     }
 
     /// Carries a packet out, and answers it, if it doesn't run out of memory.
-    fn carry_packet(&mut self, packet: &[u8], clock: u32) -> Result<Option<Cto>, NoMemory>
-        ensures ok { IfOk result (AnswersMaster self.old self.new clock packet.now) }
+    fn carry_packet(
+        &mut self,
+        packet: &[u8],
+        clock: u32,
+        memory: &[&[u8]],
+    ) -> Result<Option<Cto>, NoMemory>
+        ensures ok { IfOk result
+            (AnswersMaster self.old self.new (given_by clock memory.now) packet.now) }
         ensures no_memory { OnErr result (PacketMayRunOut self.old packet.now) }
         ensures unchanged { OnErr result (self.new ≡ self.old) }
         ensures profile_stays { self.new.profile ≡ self.old.profile }
@@ -126,7 +145,7 @@ impl Session {
         }
         match read {
             Ok(asked) => {
-                let reply = self.carry_out(asked, packet, clock)?;
+                let reply = self.carry_out(asked, packet, clock, memory)?;
                 Ok(Some(reply))
             }
             Err(code) => Ok(Some(Cto::error(code))),
@@ -149,9 +168,16 @@ impl Session {
     }
 
     /// Carries a request out, and answers it.
-    fn carry_out(&mut self, asked: Request, packet: &[u8], clock: u32) -> Result<Cto, NoMemory>
+    fn carry_out(
+        &mut self,
+        asked: Request,
+        packet: &[u8],
+        clock: u32,
+        memory: &[&[u8]],
+    ) -> Result<Cto, NoMemory>
         requires { request self.old.profile.base packet.now ≡ Ok asked }
-        ensures ok { IfOk result (AnswersRequest self.old self.new clock packet.now asked) }
+        ensures ok { IfOk result
+            (AnswersRequest self.old self.new (given_by clock memory.now) packet.now asked) }
         ensures no_memory { OnErr result (MayRunOut self.old asked) }
         ensures unchanged { OnErr result (self.new ≡ self.old) }
         ensures profile_stays { self.new.profile ≡ self.old.profile }
@@ -163,7 +189,13 @@ impl Session {
             Request::Synch => Ok(Cto::error(ErrCode::CmdSynch)),
             Request::GetCommModeInfo => Ok(Cto::positive(&[0, 0, 0, 0, 0, 0, 0x10])),
             Request::GetId { kind } => Ok(self.id(kind)),
-            Request::Upload { count } => Ok(self.upload(count)),
+            Request::SetMta { extension, address } => Ok(self.set_mta(extension, address)),
+            Request::Upload { count } => Ok(self.upload(count, memory)),
+            Request::ShortUpload {
+                count,
+                extension,
+                address,
+            } => Ok(self.short_upload(count, extension, address, memory)),
             Request::GetDaqListMode { list } => Ok(self.list_mode(list)),
             Request::GetDaqClock => {
                 let [a, b, c, d] = clock.to_le_bytes();
@@ -178,52 +210,34 @@ impl Session {
         }
     }
 
-    /// UPLOAD: the next bytes of the text.
-    fn upload(&mut self, count: u8) -> Cto
-        ensures reply { AnswersRequest self.old self.new 0 [] (Request.Upload count) result }
-        ensures profile_stays { self.new.profile ≡ self.old.profile }
-    {
-        let Some(text) = &self.text else {
-            return Cto::error(ErrCode::Sequence);
-        };
-        let left = text.as_slice();
-        if is_bad_count(count, left) {
-            return Cto::error(ErrCode::OutOfRange);
-        }
-        let (given, rest) = left.split_at(count as usize);
-        let reply = Cto::positive(given);
-        let rest = text_of(rest);
-        self.text = Some(rest);
-        reply
-    }
-
     /// GET_DAQ_EVENT_INFO: the name's length, the cycle and the priority; UPLOAD reads the name.
     fn event_info(&mut self, channel: u16) -> Cto
-        ensures reply { AnswersRequest self.old self.new 0 []
+        ensures reply { AnswersRequest self.old self.new none_given []
             (Request.GetDaqEventInfo channel) result }
         ensures profile_stays { self.new.profile ≡ self.old.profile }
     {
         let Some(event) = self.profile.events.get(channel as usize) else {
             return Cto::error(ErrCode::OutOfRange);
         };
-        let name = event.name.as_slice();
-        let len = name.len() as u8;
         let reply = Cto::positive(&[
             0x44,
             MAX_LISTS as u8,
-            len,
+            event.name.len() as u8,
             event.cycle,
             event.cycle_unit,
             event.priority,
         ]);
-        let text = text_of(name);
-        self.text = Some(text);
+        self.source = Source::Text {
+            text: TextOf::Event(channel),
+            read: 0,
+        };
         reply
     }
 
     /// One of the commands that set DAQ lists.
     fn set_lists(&mut self, command: Command) -> Result<Cto, NoMemory>
-        ensures ok { IfOk result (AnswersRequest self.old self.new 0 [] (Request.Lists command)) }
+        ensures ok { IfOk result
+            (AnswersRequest self.old self.new none_given [] (Request.Lists command)) }
         ensures no_memory { OnErr result (MayRunOut self.old (Request.Lists command)) }
         ensures unchanged { OnErr result (self.new ≡ self.old) }
         ensures profile_stays { self.new.profile ≡ self.old.profile }
@@ -234,7 +248,7 @@ impl Session {
 
     /// DISCONNECT: the session is as it was when it was opened.
     fn disconnect(&mut self) -> Cto
-        ensures reply { AnswersRequest self.old self.new 0 [] Request.Disconnect result }
+        ensures reply { AnswersRequest self.old self.new none_given [] Request.Disconnect result }
         ensures profile_stays { self.new.profile ≡ self.old.profile }
     {
         self.hang_up();
@@ -245,10 +259,3 @@ impl Session {
 /// What stands behind FF in the reply to CONNECT: RESOURCE, COMM_MODE_BASIC, MAX_CTO, MAX_DTO, and
 /// the versions of the protocol layer and the transport layer.
 pub(crate) const CONNECTED: [u8; 7] = [0x04, 0x80, 0x40, 0x40, 0x00, 0x01, 0x01];
-
-/// Whether UPLOAD asks for no byte, for more than a reply has, or for more than are left.
-fn is_bad_count(count: u8, left: &[u8]) -> bool
-    ensures { result ≡ is_bad_count count left.now }
-{
-    count == 0 || count as usize >= MAX_CTO || count as usize > left.len()
-}

@@ -1,5 +1,5 @@
 -- The grammar of a script and the function that computes it agree.
-use Rattle.std.proofs.Common.{◌≡◌, ◌<◌, ◌*◌, ◌==◌, ◌&&◌, not, ℕ, Bool, true, false, if◌then◌else◌, List, [], ◌∷◌, length, codes, Option, Some, None, option_map, refl, ap, ◌∙◌, subst, arith, ne_eqb}
+use Rattle.std.proofs.Common.{◌≡◌, ◌<◌, ◌*◌, ◌==◌, ◌&&◌, not, ℕ, Bool, true, false, if◌then◌else◌, List, [], ◌∷◌, length, codes, Option, Some, None, option_map, refl, sym, ap, ◌∙◌, subst, arith, ne_eqb}
 use Rattle.std.specs.Prelude.{option_and_then}
 use Rattle.std.specs.List.{All}
 use Rattle.std.proofs.lemmas.Bool.{and_parts}
@@ -9,15 +9,15 @@ use Rattle.std.proofs.lemmas.Option.{same_Some}
 use Rattle.hex.proofs.HexLemmas.{decode_of-ok}
 use Rattle.run_file.specs.Reading.{HasNone}
 use Rattle.run_file.specs.RunFile.{IsPacketText}
-use Rattle.run_file.specs.StepOf.{is_space, is_verb, packet_of, step_of, step_of_words, with_image, words_of}
+use Rattle.run_file.specs.StepOf.{image_of, is_space, is_verb, packet_of, step_of, step_of_words, with_image, words_of}
 use Rattle.run_file.specs.Steps.{IsImage, StepData, spaced, start, stop, pump}
 use Rattle.run_file.specs.Steps.{trigger as trigger_step}
 use Rattle.run_file.proofs.RunLemmas.{packet_of-IsPacketText, packet_read, some_is_none}
-use Rattle.run_file.proofs.StepLaw.{IsStepText-step_of_words, if_then, map-some, same_verb, spaced-words_of}
+use Rattle.run_file.proofs.StepLaw.{IsImage-image_of, IsStepText-step_of_words, if_then, map-some, same_verb, spaced-words_of}
 use Rattle.run_file.proofs.WordLemmas.{has_word}
-use Rattle.run_file.proofs.StepWhole.{image_one_word, step_of-trigger}
-use Rattle.session_file.specs.Lines.{IsLineText, IsMaster, LineData, master, trigger, send, lose, hang_up}
-use Rattle.session_file.specs.LineOf.{line_of, line_of_words, master_line, trigger_line, word_line}
+use Rattle.run_file.proofs.StepWhole.{image_of-image, image_one_word, step_of-trigger}
+use Rattle.session_file.specs.Lines.{IsLineText, IsMaster, IsMemory, LineData, master, memory, trigger, send, lose, hang_up}
+use Rattle.session_file.specs.LineOf.{line_of, line_of_words, master_line, memory_line, trigger_line, two_word_line, word_line}
 
 -- what is read of one word is a line of the grammar
 word_read : (verb : List ℕ) (line : LineData) → word_line verb ≡ Some line → IsLineText verb line
@@ -53,6 +53,31 @@ master_read verb digits line h =
     subst (IsLineText (spaced (verb ∷ digits ∷ []))) read.2
     (in_words verb digits read.0 (same_verb verb (codes "master") tested.0) (packet_read digits read.0 read.1) (some_digits digits tested.1))
 
+-- digits are those of an image
+in_memory : (digits image : List ℕ) → IsImage digits image → IsMemory (spaced (codes "memory" ∷ digits ∷ [])) image
+in_memory digits [] is = absurd (let long = (decode_of-ok digits [] is.digits).2 in let some = is.some in omega (arith, long, some))
+in_memory digits (b ∷ image) is = (digits, refl, is)
+
+memory_read : (digits : List ℕ) (line : LineData) → memory_line digits ≡ Some line → IsLineText (spaced (codes "memory" ∷ digits ∷ [])) line
+memory_read digits line h = by_dash (is_verb digits (codes "-")) refl h
+  where
+    by_dash : (b : Bool) → is_verb digits (codes "-") ≡ b → (if b then Some (memory []) else option_map memory (image_of digits)) ≡ Some line
+        → IsLineText (spaced (codes "memory" ∷ digits ∷ [])) line
+    by_dash true e h =
+        subst (IsLineText (spaced (codes "memory" ∷ digits ∷ []))) (same_Some (memory []) line h)
+        (ap (λ w. spaced (codes "memory" ∷ w ∷ [])) (same_verb digits (codes "-") e))
+    by_dash false e h =
+        let read = map-some memory (image_of digits) line h in
+        subst (IsLineText (spaced (codes "memory" ∷ digits ∷ []))) read.2 (in_memory digits read.0 (IsImage-image_of digits read.0 read.1))
+
+two_words_read : (verb digits : List ℕ) (line : LineData) → two_word_line verb digits ≡ Some line → IsLineText (spaced (verb ∷ digits ∷ [])) line
+two_words_read verb digits line h = by_verb (is_verb verb (codes "memory")) refl h
+  where
+    by_verb : (b : Bool) → is_verb verb (codes "memory") ≡ b → (if b then memory_line digits else master_line verb digits) ≡ Some line
+        → IsLineText (spaced (verb ∷ digits ∷ [])) line
+    by_verb true e h = subst (λ v. IsLineText (spaced (v ∷ digits ∷ [])) line) (sym (same_verb verb (codes "memory") e)) (memory_read digits line h)
+    by_verb false e h = master_read verb digits line h
+
 trigger_read : (words : List (List ℕ)) (line : LineData) → trigger_line (step_of_words 255 words) ≡ Some line → IsLineText (spaced words) line
 trigger_read words line h = by_step (step_of_words 255 words) refl h
   where
@@ -67,7 +92,7 @@ trigger_read words line h = by_step (step_of_words 255 words) refl h
 IsLineText-line_of_words : (words : List (List ℕ)) (line : LineData) → line_of_words words ≡ Some line → IsLineText (spaced words) line
 IsLineText-line_of_words [] line h = cc h
 IsLineText-line_of_words (verb ∷ []) line h = word_read verb line h
-IsLineText-line_of_words (verb ∷ digits ∷ []) line h = master_read verb digits line h
+IsLineText-line_of_words (verb ∷ digits ∷ []) line h = two_words_read verb digits line h
 IsLineText-line_of_words (a ∷ b ∷ c ∷ words) line h = trigger_read (a ∷ b ∷ c ∷ words) line h
 
 -- a text of which the function gives a line is the text of that one
@@ -90,6 +115,29 @@ line_of-master text b packet is =
     let read : packet_of word ≡ Some (b ∷ packet) = packet_of-IsPacketText word (b ∷ packet) is.2 in
     rw (words, some, read) refl
 
+no_space_in_memory : All (λ b. is_space b ≡ false) (codes "memory")
+no_space_in_memory = All-from_recursion (λ b. is_space b ≡ false) (codes "memory") (refl, (refl, (refl, (refl, (refl, (refl, tt))))))
+
+no_dash : (word : List ℕ) (b : ℕ) (image : List ℕ) → IsImage word (b ∷ image) → is_verb word (codes "-") ≡ false
+no_dash word b image is =
+    let long : length word ≡ 2 * length (b ∷ image) = (decode_of-ok word (b ∷ image) is.digits).2 in
+    by_test (is_verb word (codes "-")) refl long
+  where
+    by_test : (t : Bool) → is_verb word (codes "-") ≡ t → length word ≡ 2 * length (b ∷ image) → t ≡ false
+    by_test true e long =
+        let one : length word ≡ 1 = ap length (same_verb word (codes "-") e) in
+        absurd (omega (arith, one, long))
+    by_test false e long = refl
+
+line_of-memory : (text : List ℕ) (b : ℕ) (image : List ℕ) → IsMemory text (b ∷ image) → line_of text ≡ Some (memory (b ∷ image))
+line_of-memory text b image is =
+    let word = is.0 in
+    let words : words_of text ≡ codes "memory" ∷ word ∷ [] =
+    ap words_of is.1 ∙ slice_split_at is_space (codes "memory") 32 word no_space_in_memory refl
+    ∙ ap (λ ws. codes "memory" ∷ ws) (slice_split_none is_space word (image_one_word word (b ∷ image) is.2)) in
+    let read : image_of word ≡ Some (b ∷ image) = image_of-image word (b ∷ image) is.2 in
+    rw (words, no_dash word b image is.2, read) refl
+
 no_pump : (t : Bool) (c s : ℕ) (image : List ℕ) → option_and_then with_image (if t then Some pump else None) ≡ Some (trigger_step c s image) → ⊥
 no_pump true c s image h = cc h
 no_pump false c s image h = cc h
@@ -105,6 +153,8 @@ line_of-IsLineText : (text : List ℕ) (line : LineData) → IsLineText text lin
 line_of-IsLineText text (master []) is = ap line_of is
 line_of-IsLineText text (master (b ∷ packet)) is = line_of-master text b packet is
 line_of-IsLineText text (trigger c s image) is = line_of-step (words_of text) c s image (step_of-trigger 255 text c s image is)
+line_of-IsLineText text (memory []) is = ap line_of is
+line_of-IsLineText text (memory (b ∷ image)) is = line_of-memory text b image is
 line_of-IsLineText text send is = ap line_of is
 line_of-IsLineText text lose is = ap line_of is
 line_of-IsLineText text hang_up is = ap line_of is

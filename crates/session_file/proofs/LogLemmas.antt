@@ -4,11 +4,12 @@ use Rattle.std.specs.List.{list_all}
 use Rattle.std.proofs.lemmas.Bool.{false≢true}
 use Rattle.slave_outbox.specs.Outboxes.{packets_in}
 use Rattle.frame_writer.specs.Frame.{text}
+use Rattle.session.specs.Past.{Given}
 use Rattle.session.specs.declared.profile.Profile.{Profile}
 use Rattle.slave.specs.Hearing.{IsHearing, MayOpen, is_before, most_before}
 use Rattle.slave.specs.Log.{Act, CameBack, Discarded, Heard, HungUp, Opened, Refused, Sent, Took, sent_units}
 use Rattle.slave.specs.Taking.{is_take}
-use Rattle.session_file.specs.Lines.{LineData, master, trigger, send, lose, hang_up}
+use Rattle.session_file.specs.Lines.{LineData, master, memory, trigger, send, lose, hang_up}
 use Rattle.slave.specs.Session.{sent_text}
 use Rattle.session_file.specs.Playing.{heard_by, masters}
 use Rattle.slave.proofs.ThinnedLemmas.{assoc}
@@ -18,6 +19,7 @@ pub masters-append : (xs ys : List LineData) → masters (xs ++ ys) ≡ masters 
 masters-append [] ys = refl
 masters-append (master packet ∷ xs) ys = ap (λ ps. packet ∷ ps) (masters-append xs ys)
 masters-append (trigger c stamp image ∷ xs) ys = masters-append xs ys
+masters-append (memory image ∷ xs) ys = masters-append xs ys
 masters-append (send ∷ xs) ys = masters-append xs ys
 masters-append (lose ∷ xs) ys = masters-append xs ys
 masters-append (hang_up ∷ xs) ys = masters-append xs ys
@@ -85,14 +87,14 @@ before-nothing (HungUp ∷ acts) are = absurd (false≢true are)
 before-nothing (Discarded ∷ acts) are = absurd (false≢true are)
 
 -- a packet that was heard is one, and nothing is sent
-pub heard-one : (act : Act) (opening : List Act) (packet : List ℕ) (clock : ℕ) → IsHearing packet clock act → MayOpen most_before opening
+pub heard-one : (act : Act) (opening : List Act) (packet : List ℕ) (given : Given) → IsHearing packet given act → MayOpen most_before opening
     → (heard_by (act ∷ opening) ≡ packet ∷ []) × (list_all is_silent (act ∷ opening) ≡ true)
-heard-one act opening packet clock is may = by_act is
+heard-one act opening packet given is may = by_act is
   where
     none : (heard_by opening ≡ []) × (list_all is_silent opening ≡ true)
     none = before-nothing opening may.are
 
-    by_act : IsHearing packet clock act → (heard_by (act ∷ opening) ≡ packet ∷ []) × (list_all is_silent (act ∷ opening) ≡ true)
+    by_act : IsHearing packet given act → (heard_by (act ∷ opening) ≡ packet ∷ []) × (list_all is_silent (act ∷ opening) ≡ true)
     by_act (inl w) = (
       ap (λ a. heard_by (a ∷ opening)) w.1 ∙ ap (λ xs. xs ++ w.0.packet ∷ []) none.0 ∙ ap (λ p. p ∷ []) w.2,
       ap (λ a. list_all is_silent (a ∷ opening)) w.1 ∙ none.1,

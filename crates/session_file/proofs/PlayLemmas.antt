@@ -6,6 +6,7 @@ use Rattle.channel_ring.specs.declared.ends.TakeEnd.{Ghosts as TakeGhosts}
 use Rattle.slave_outbox.specs.Outboxes.{has_waiting, packets_in, unit_of}
 use Rattle.slave_outbox.proofs.LaidLemmas.{whole_text}
 use Rattle.frame_writer.specs.Frame.{text}
+use Rattle.session.specs.Past.{Given}
 use Rattle.session.specs.declared.profile.Profile.{Profile}
 use Rattle.slave.specs.Hearing.{GoesBy, Hears, most_before}
 use Rattle.slave.specs.Finishing.{GivesBack}
@@ -37,6 +38,11 @@ pub on_ok : {A E : Type 0} (r : Result A E) {P Q : Type 0} → (P → Q) → OnO
 on_ok (Ok a) f p = f p
 on_ok (Err e) f p = tt
 
+-- what holds anyway holds where a call succeeds
+pub on-any : {A E : Type 0} (r : Result A E) {P : Type 0} → P → OnOk r P
+on-any (Ok a) p = p
+on-any (Err e) p = tt
+
 pub if_ok : {A E : Type 0} (r : Result A E) {P Q : A → Type 0} → ((x : A) → P x → Q x) → IfOk r P → IfOk r Q
 if_ok (Ok a) f p = f a p
 if_ok (Err e) f p = tt
@@ -67,9 +73,9 @@ module _ {S T F : Type 0} (take : TakeGhosts T F) where
   pub nothing : (a : SlaveState S T) (sent : List ℕ) → Advances take 0 (sending a sent) (sending a sent) []
   nothing a sent = record { lines = refl; acts = []; few = omega arith; heard = refl; goes = λ d log before. before }
 
-  pub hears : (a b : SlaveState S T) (sent packet : List ℕ) (clock : ℕ) → Hears take a b packet clock → Advances take (1 + most_before) (sending a sent) (sending b sent) (packet ∷ [])
-  hears a b sent packet clock h =
-      let one = heard-one h.act h.opening packet clock h.is h.may_open in
+  pub hears : (a b : SlaveState S T) (sent packet : List ℕ) (given : Given) → Hears take a b packet given → Advances take (1 + most_before) (sending a sent) (sending b sent) (packet ∷ [])
+  hears a b sent packet given h =
+      let one = heard-one h.act h.opening packet given h.is h.may_open in
       let few = h.may_open.few in
       silent (1 + most_before) a b (h.act ∷ h.opening) sent (packet ∷ []) (omega (arith, few)) h.goes one.0 one.1
 

@@ -22,6 +22,9 @@ pub record IsProfileOf (v : KeyValues) (p : Profile) : Type 0 where
   pub base_is : p.base ≡ v.base
   pub ring_is : p.ring ≡ v.ring
   pub name_is : p.name.items ≡ v.name
+  pub a2l_name_is : p.a2l_name.items ≡ v.a2l_name
+  pub epk_is : p.epk.items ≡ v.epk
+  pub a2l_is : p.a2l.items ≡ v.a2l
   pub events_are : all_of event_in v.events ≡ Some (map event_data p.events.items)
 
 -- the text is a document with these values of the keys

@@ -6,12 +6,13 @@ use Rattle.session_file.specs.declared.line.Line.{Line}
 use Rattle.session_file.specs.declared.line.Line.TheVariants as held
 use Rattle.session_file.specs.declared.values.Values.{Values}
 use Rattle.session_file.specs.Keys.{KeyValues}
-use Rattle.session_file.specs.Lines.{LineData, master, trigger, send, lose, hang_up}
+use Rattle.session_file.specs.Lines.{LineData, master, memory, trigger, send, lose, hang_up}
 
 -- what a line does
 abbrev pub line_data : Line → LineData
 line_data (held.Master packet) = master packet.items
 line_data (held.Trigger c s image) = trigger c s image.items
+line_data (held.Memory image) = memory image.items
 line_data held.Send = send
 line_data held.Lose = lose
 line_data held.HangUp = hang_up
@@ -27,6 +28,9 @@ values_data v = record {
   ticks = v.ticks;
   base = v.base;
   name = v.name.now;
+  a2l_name = v.a2l_name.now;
+  epk = v.epk.now;
+  a2l = v.a2l.now;
   events = items_view v.events.now;
   script = map text_in v.script.now;
 }

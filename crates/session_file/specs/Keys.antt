@@ -14,7 +14,8 @@ use Rattle.session_file.specs.declared.limits.TheConstants.{MAX_LINES}
 abbrev pub keys : List (List ℕ)
 keys =
     codes "image_len" ∷ codes "id" ∷ codes "stamp_size" ∷ codes "ring" ∷ codes "unit"
-    ∷ codes "ticks" ∷ codes "base" ∷ codes "name" ∷ codes "events" ∷ codes "script" ∷ []
+    ∷ codes "ticks" ∷ codes "base" ∷ codes "name" ∷ codes "a2l_name" ∷ codes "epk" ∷ codes "a2l"
+    ∷ codes "events" ∷ codes "script" ∷ []
 
 abbrev pub event_keys : List (List ℕ)
 event_keys =
@@ -51,6 +52,9 @@ pub record KeyValues : Type 0 where
   pub ticks : ℕ
   pub base : ℕ
   pub name : List ℕ
+  pub a2l_name : List ℕ
+  pub epk : List ℕ
+  pub a2l : List ℕ
   pub events : Items
   pub script : List (List ℕ)
 
@@ -65,6 +69,9 @@ pub record AreKeyValues (ms : Members) (v : KeyValues) : Type 0 where
   pub ticks_are : at_key (number_in 1 65535) (codes "ticks") ms ≡ Some v.ticks
   pub base_is : number_or_0 4294967295 (codes "base") ms ≡ Some v.base
   pub name_is : text_or_empty (codes "name") ms ≡ Some v.name
+  pub a2l_name_is : text_or_empty (codes "a2l_name") ms ≡ Some v.a2l_name
+  pub epk_is : text_or_empty (codes "epk") ms ≡ Some v.epk
+  pub a2l_is : text_or_empty (codes "a2l") ms ≡ Some v.a2l
   pub events_are : at_key as_array (codes "events") ms ≡ Some v.events
   pub script_is : texts_at MAX_LINES (codes "script") ms ≡ Some v.script
 

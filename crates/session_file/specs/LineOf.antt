@@ -1,10 +1,10 @@
 -- The line that a text is, computed from it.
 use Rattle.std.specs.Prelude.{ℕ, ◌==◌, ◌&&◌, not, if◌then◌else◌, List, [], ◌∷◌, length, codes}
 use Rattle.std.specs.Prelude.{Option, Some, None, option_map}
-use Rattle.run_file.specs.StepOf.{is_verb, packet_of, step_of_words, words_of}
+use Rattle.run_file.specs.StepOf.{image_of, is_verb, packet_of, step_of_words, words_of}
 use Rattle.run_file.specs.Steps.{StepData, start, stop, pump}
 use Rattle.run_file.specs.Steps.{trigger as trigger_step}
-use Rattle.session_file.specs.Lines.{LineData, master, trigger, send, lose, hang_up}
+use Rattle.session_file.specs.Lines.{LineData, master, memory, trigger, send, lose, hang_up}
 
 -- the line of one word
 abbrev pub word_line : List ℕ → Option LineData
@@ -19,6 +19,16 @@ abbrev pub master_line : List ℕ → List ℕ → Option LineData
 master_line verb digits =
     if is_verb verb (codes "master") && not (length digits == 0)
     then option_map master (packet_of digits) else None
+
+-- the line of the words of memory that is there or not
+abbrev pub memory_line : List ℕ → Option LineData
+memory_line digits =
+    if is_verb digits (codes "-") then Some (memory []) else option_map memory (image_of digits)
+
+-- the line of two words
+abbrev pub two_word_line : List ℕ → List ℕ → Option LineData
+two_word_line verb digits =
+    if is_verb verb (codes "memory") then memory_line digits else master_line verb digits
 
 -- a trigger of a run file, as a line
 abbrev pub trigger_line : Option StepData → Option LineData
@@ -35,7 +45,7 @@ trigger_with c s image = option_map (λ bytes. trigger c s bytes) image
 abbrev pub line_of_words : List (List ℕ) → Option LineData
 line_of_words [] = None
 line_of_words (verb ∷ []) = word_line verb
-line_of_words (verb ∷ digits ∷ []) = master_line verb digits
+line_of_words (verb ∷ digits ∷ []) = two_word_line verb digits
 line_of_words (a ∷ b ∷ c ∷ words) = trigger_line (step_of_words 255 (a ∷ b ∷ c ∷ words))
 
 -- the line of a text

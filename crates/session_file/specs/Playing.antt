@@ -10,7 +10,7 @@ use Rattle.slave.specs.Log.{Act, CameBack, Discarded, Heard, HungUp, Opened, Ref
 use Rattle.slave.specs.Session.{SessionLaw, sent_text}
 use Rattle.slave.specs.Standing.{IsLog, SlaveStandsAfter, SlaveState}
 use Rattle.slave.specs.Taking.{most_taken}
-use Rattle.session_file.specs.Lines.{LineData, master, trigger, send, lose, hang_up}
+use Rattle.session_file.specs.Lines.{LineData, master, memory, trigger, send, lose, hang_up}
 use Rattle.slave.specs.Thinned.{IsWithout}
 
 -- the packets of the lines that are packets of the master
@@ -18,6 +18,7 @@ abbrev pub masters : List LineData → List (List ℕ)
 masters [] = []
 masters (master packet ∷ lines) = packet ∷ masters lines
 masters (trigger c stamp image ∷ lines) = masters lines
+masters (memory image ∷ lines) = masters lines
 masters (send ∷ lines) = masters lines
 masters (lose ∷ lines) = masters lines
 masters (hang_up ∷ lines) = masters lines

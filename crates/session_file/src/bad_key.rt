@@ -22,6 +22,9 @@ pub enum BadKey {
     Ticks,
     Base,
     Name,
+    A2lName,
+    Epk,
+    A2l,
     Events,
     Script,
 }
@@ -58,6 +61,15 @@ impl BadKey {
         };
         let Some(_) = text_or_empty(table, "name") else {
             return Some(BadKey::Name);
+        };
+        let Some(_) = text_or_empty(table, "a2l_name") else {
+            return Some(BadKey::A2lName);
+        };
+        let Some(_) = text_or_empty(table, "epk") else {
+            return Some(BadKey::Epk);
+        };
+        let Some(_) = text_or_empty(table, "a2l") else {
+            return Some(BadKey::A2l);
         };
         let Some(_) = array_at(table, "events") else {
             return Some(BadKey::Events);

@@ -90,5 +90,8 @@ fn profile_of(
         ring: values.ring,
         name: bytes_in(alloc, values.name)?,
         events,
+        a2l_name: bytes_in(alloc, values.a2l_name)?,
+        epk: bytes_in(alloc, values.epk)?,
+        a2l: bytes_in(alloc, values.a2l)?,
     })
 }

@@ -27,6 +27,9 @@ pub fn is_file_key(word: &str) -> bool
         || word == "ticks"
         || word == "base"
         || word == "name"
+        || word == "a2l_name"
+        || word == "epk"
+        || word == "a2l"
         || word == "events"
         || word == "script"
 }

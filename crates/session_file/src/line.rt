@@ -10,6 +10,8 @@ pub enum Line {
         stamp: u32,
         image: Vec<u8>,
     },
+    /// What the next packets read without a DAQ list: the image, or none if it has no byte.
+    Memory(Vec<u8>),
     /// Items are taken off the rings, and all that waits is sent.
     Send,
     /// The same is shown, and the transport refuses it.

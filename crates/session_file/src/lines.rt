@@ -4,8 +4,8 @@ ghost use Rattle.run_file.specs.Inner.{text_in};
 ghost use Rattle.run_file.specs.Reading.{AreTextsOf, IsFirstBad};
 ghost use Rattle.run_file.specs.StepOf.{image_of, step_of, packet_of};
 ghost use Rattle.session_file.specs.declared.file_fault.FileFault.TheVariants.{BadLine, Memory};
-ghost use Rattle.session_file.specs.LineOf.{line_of, master_line, trigger_line, trigger_with};
-ghost use Rattle.session_file.specs.LineOf.{word_line};
+ghost use Rattle.session_file.specs.LineOf.{line_of, master_line, memory_line, trigger_line};
+ghost use Rattle.session_file.specs.LineOf.{trigger_with, two_word_line, word_line};
 ghost use Rattle.session_file.specs.Lines.{IsLineText};
 ghost use Rattle.session_file.specs.Inner.{line_data};
 
@@ -47,7 +47,7 @@ fn line_of(alloc: Global, text: &str) -> Result<Option<Line>, AllocError>
         return Ok(word_line(alloc, text));
     };
     let Some(_) = cut(rest) else {
-        return master_line(alloc, verb, rest);
+        return two_word_line(alloc, verb, rest);
     };
     trigger_line(alloc, text)
 }
@@ -69,6 +69,32 @@ fn word_line(alloc: Global, verb: &str) -> Option<Line>
         return Some(Line::Master(Vec::new(alloc)));
     }
     None
+}
+
+/// The line of two words.
+fn two_word_line(alloc: Global, verb: &str, digits: &str) -> Result<Option<Line>, AllocError>
+    ensures { IfOk result (λ line. option_map line_data line ≡ two_word_line verb.now digits.now) }
+{
+    if verb == "memory" {
+        return memory_line(alloc, digits);
+    }
+    master_line(alloc, verb, digits)
+}
+
+/// The line of memory that is there, in hexadecimal, or isn't.
+fn memory_line(alloc: Global, digits: &str) -> Result<Option<Line>, AllocError>
+    ensures { IfOk result (λ line. option_map line_data line ≡ memory_line digits.now) }
+{
+    if digits == "-" {
+        return Ok(Some(Line::Memory(Vec::new(alloc))));
+    }
+    if digits.is_empty() {
+        return Ok(None);
+    }
+    match bytes_of(alloc, digits)? {
+        Some(image) => Ok(Some(Line::Memory(image))),
+        None => Ok(None),
+    }
 }
 
 /// The line of a verb and the digits of a packet.

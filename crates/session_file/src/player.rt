@@ -26,6 +26,7 @@ pub struct Player<R: Ring> {
     pub(crate) tasks: Vec<Task<R::Send>>,
     pub(crate) image_len: usize,
     pub(crate) clock: u32,
+    pub(crate) memory: Vec<u8>,
     pub(crate) out: VecOut,
     pub(crate) ends: Vec<usize>,
     pub(crate) parts: Parts,
@@ -82,6 +83,7 @@ impl<R: Ring> Player<R> {
                 self.trigger(*channel, *stamp, image);
                 Ok(())
             }
+            Line::Memory(image) => self.put_memory(image),
             Line::Send => self.send(),
             Line::Lose => {
                 self.lose();
@@ -94,7 +96,8 @@ impl<R: Ring> Player<R> {
         }
     }
 
-    /// A packet of the master comes at the clock of the last trigger. What came back is collected
+    /// A packet of the master comes at the clock of the last trigger, with the memory of the last
+    /// line of memory. What came back is collected
     /// before it, for the lines of each measurement.
     fn master(&mut self, alloc: Global, packet: &[u8]) -> Result<(), AllocError>
         requires few { self.old.refused < 0xFFFFFFFFFFFFFFFF }
@@ -105,11 +108,23 @@ impl<R: Ring> Player<R> {
         ensures tasks_stay { self.new.tasks ≡ self.old.tasks }
     {
         collect(&mut self.slave, &mut self.parts)?;
-        if self.slave.hear(alloc, packet, self.clock) {
+        let memory = [self.memory.as_slice()];
+        if self.slave.hear(alloc, packet, self.clock, &memory) {
             return Ok(());
         }
         self.refused += 1;
         Ok(())
+    }
+
+    /// The next packets read this memory.
+    fn put_memory(&mut self, image: &[u8]) -> Result<(), AllocError>
+        ensures slave_stays { self.new.slave ≡ self.old.slave }
+        ensures out_stays { self.new.out ≡ self.old.out }
+        ensures refused_stays { self.new.refused ≡ self.old.refused }
+        ensures tasks_stay { self.new.tasks ≡ self.old.tasks }
+    {
+        self.memory.clear();
+        self.memory.extend_from_slice(image)
     }
 
     /// A task takes a trigger. One that isn't taken is refused, and changes nothing.
@@ -185,6 +200,7 @@ impl<R: Ring> Player<R> {
             tasks,
             image_len: _,
             clock: _,
+            memory: _,
             out,
             ends,
             mut parts,

@@ -65,6 +65,7 @@ fn open<R: Ring>(alloc: Global, profile: Profile) -> Result<Player<R>, PlayFault
             tasks,
             image_len,
             clock: 0,
+            memory: Vec::new(alloc),
             out: VecOut::new(alloc),
             ends: Vec::new(alloc),
             parts: Parts::new(alloc),

@@ -25,6 +25,9 @@ pub struct Values<'a> {
     pub(crate) ticks: u16,
     pub(crate) base: u32,
     pub(crate) name: &'a str,
+    pub(crate) a2l_name: &'a str,
+    pub(crate) epk: &'a str,
+    pub(crate) a2l: &'a str,
     pub(crate) events: &'a [Value],
     pub(crate) script: &'a [Value],
 }
@@ -61,6 +64,15 @@ pub fn values_of(table: &Table) -> Result<Values<'_>, FileFault>
     let Some(name) = text_or_empty(table, "name") else {
         return Err(FileFault::BadKey);
     };
+    let Some(a2l_name) = text_or_empty(table, "a2l_name") else {
+        return Err(FileFault::BadKey);
+    };
+    let Some(epk) = text_or_empty(table, "epk") else {
+        return Err(FileFault::BadKey);
+    };
+    let Some(a2l) = text_or_empty(table, "a2l") else {
+        return Err(FileFault::BadKey);
+    };
     let Some(events) = array_at(table, "events") else {
         return Err(FileFault::BadKey);
     };
@@ -76,6 +88,9 @@ pub fn values_of(table: &Table) -> Result<Values<'_>, FileFault>
         ticks: ticks as u16,
         base: base as u32,
         name,
+        a2l_name,
+        epk,
+        a2l,
         events,
         script,
     })

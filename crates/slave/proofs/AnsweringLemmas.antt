@@ -1,4 +1,5 @@
 -- What a slave stands after once a packet was heard, or the master was lost.
+use Rattle.daq_store.specs.Running.{is_active}
 use Rattle.std.proofs.Common.{◌≡◌, ℕ, ◌<◌, Bool, true, false, ◌&&◌, not, if◌then◌else◌, List, [], ◌∷◌, ◌++◌, append-nil, refl, sym, ap, ◌∙◌, subst, arith}
 use Rattle.std.specs.Prelude.{Option, Some, None}
 use Rattle.xcp_base.specs.Lists.{has_list}
@@ -8,9 +9,9 @@ use Rattle.daq_store.specs.Replies.{Allocates}
 use Rattle.daq_store.specs.declared.command.Command.{Command}
 use Rattle.daq_store.specs.declared.command.Command.TheVariants.{FreeDaq, AllocDaq, AllocOdt, AllocOdtEntry, SetDaqPtr, WriteDaq, SetDaqListMode, StartStopDaqList, StartStopSynch, ClearDaqList, ReadDaq}
 use Rattle.session.proofs.ListSetLemmas.{empty_has_none}
-use Rattle.session.proofs.StartLemmas.{StartsNoList, other_call}
+use Rattle.session.proofs.StartLemmas.{StartsNoList, other_call, same_calls}
 use Rattle.session.specs.Exchanges.{Exchange, MayBeOut, past_after_greeting, past_after_packet, past_after_read, past_behind}
-use Rattle.session.specs.Past.{Past, new_past}
+use Rattle.session.specs.Past.{Given, Past, new_past, none_given}
 use Rattle.session.specs.Profiles.{lists_of}
 use Rattle.session.specs.Requests.{request}
 use Rattle.session.specs.Standing.{Exchanges, SessionStandsAfter, SessionState}
@@ -42,8 +43,8 @@ allocates-plain ReadDaq h = elim h [ ]
 
 out-starts-none : (d : Profile) (past : Past) (packet : List ℕ) (l : ℕ) → MayBeOut d past packet → starts d past packet l ≡ false
 out-starts-none d past packet l out =
-    ap (λ b. not (runs past l) && runs (if b then past_after_read d past packet (request d.base packet) else past_after_greeting past (request d.base packet)) l) out.connected
-    ∙ ap (λ r. not (runs past l) && runs (past_after_read d past packet r) l) out.read
+    ap (λ b. not (runs past l) && runs (if b then past_after_read d past none_given packet (request d.base packet) else past_after_greeting past (request d.base packet)) l) out.connected
+    ∙ ap (λ r. not (runs past l) && runs (past_after_read d past none_given packet r) l) out.read
     ∙ other_call (lists_of d) past.calls out.call l (allocates-plain out.call out.allocates)
 
 not-and : (a : Bool) → (not a && a) ≡ false
@@ -58,8 +59,10 @@ and_false false = refl
 exchange-starts : (d : Profile) (past : Past) (x : Exchange) (b : Bool) → x.out_of_memory ≡ b → (b ≡ true → MayBeOut d past x.packet) → (l : ℕ)
     → (not (runs past l) && runs (past_behind d past x) l) ≡ starts d past x.packet l
 exchange-starts d past x true is out l =
-    ap (λ b. not (runs past l) && runs (if b then past else past_after_packet d past x.packet) l) is ∙ not-and (runs past l) ∙ sym (out-starts-none d past x.packet l (out refl))
-exchange-starts d past x false is out l = ap (λ b. not (runs past l) && runs (if b then past else past_after_packet d past x.packet) l) is
+    ap (λ b. not (runs past l) && runs (if b then past else past_after_packet d past x.given x.packet) l) is ∙ not-and (runs past l) ∙ sym (out-starts-none d past x.packet l (out refl))
+exchange-starts d past x false is out l =
+    ap (λ b. not (runs past l) && runs (if b then past else past_after_packet d past x.given x.packet) l) is
+    ∙ ap (λ calls. not (runs past l) && is_active calls l) (same_calls d past x.given none_given x.packet)
 
 -- a reply stands behind all that waited
 pub reply-laid : (o p : OutboxState) (reply : Option (List ℕ)) (sent wait : List Laid) → LaysReply o p reply
@@ -70,19 +73,19 @@ reply-laid o p (Some packet) sent wait lays stands = lays sent wait stands
 
 module _ {S T F : Type 0} (take : TakeGhosts T F) where
   -- a packet was answered
-  pub answered : (a b : SlaveState S T) (packet : List ℕ) (clock before now : ℕ) (reply : Option (List ℕ))
-      → Exchanges a.session b.session packet clock reply → b.session.profile ≡ a.session.profile
+  pub answered : (a b : SlaveState S T) (packet : List ℕ) (given : Given) (before now : ℕ) (reply : Option (List ℕ))
+      → Exchanges a.session b.session packet given reply → b.session.profile ≡ a.session.profile
       → ((past : Past) → SessionStandsAfter a.session past → (l : ℕ) → l < MAX_LISTS → has_list before l ≡ runs past l)
       → ((past : Past) → SessionStandsAfter b.session past → (l : ℕ) → l < MAX_LISTS → has_list now l ≡ runs past l)
       → Settles take a.channels b.channels before now → LaysReply a.outbox b.outbox reply → b.plan ≡ a.plan → b.account ≡ a.account → b.number ≡ a.number
-      → Answers take a b packet clock
-  answered a b packet clock before now reply exchanges profile was is settles lays plan account number =
-      let x : Exchange = record { packet = packet; clock = clock; out_of_memory = exchanges.out_of_memory } in
+      → Answers take a b packet given
+  answered a b packet given before now reply exchanges profile was is settles lays plan account number =
+      let x : Exchange = record { packet = packet; given = given; out_of_memory = exchanges.out_of_memory } in
       let d = a.session.profile in
       record {
         exchange = x;
         packet_is = refl;
-        clock_is = refl;
+        given_is = refl;
         lines = settled-lines take a.channels b.channels before now settles;
         goes = λ log lists few tie well has.
             let past = past_of d log in
@@ -147,21 +150,21 @@ module _ {S T F : Type 0} (take : TakeGhosts T F) where
   )
 
   -- the same, step by step
-  pub answered-by : (v w t b : SlaveState S T) (s : SessionState) (packet : List ℕ) (clock before now : ℕ) (reply : Option (List ℕ)) → w ≡ v
-      → Exchanges w.session s packet clock reply → s.profile ≡ w.session.profile
+  pub answered-by : (v w t b : SlaveState S T) (s : SessionState) (packet : List ℕ) (given : Given) (before now : ℕ) (reply : Option (List ℕ)) → w ≡ v
+      → Exchanges w.session s packet given reply → s.profile ≡ w.session.profile
       → ((past : Past) → SessionStandsAfter w.session past → (l : ℕ) → l < MAX_LISTS → has_list before l ≡ runs past l)
       → ((past : Past) → SessionStandsAfter s past → (l : ℕ) → l < MAX_LISTS → has_list now l ≡ runs past l)
       → Settles take w.channels t.channels before now → t ≡ record w { session = s; channels = t.channels }
-      → LaysReply t.outbox b.outbox reply → b ≡ record t { outbox = b.outbox } → Answers take v b packet clock
-  answered-by v w t b s packet clock before now reply same exchanges profile was is settles rest lays last =
+      → LaysReply t.outbox b.outbox reply → b ≡ record t { outbox = b.outbox } → Answers take v b packet given
+  answered-by v w t b s packet given before now reply same exchanges profile was is settles rest lays last =
       let session : b.session ≡ s = ap (λ (x : SlaveState S T). x.session) last ∙ ap (λ (x : SlaveState S T). x.session) rest in
       let channels : b.channels ≡ t.channels = ap (λ (x : SlaveState S T). x.channels) last in
       let outbox : t.outbox ≡ w.outbox = ap (λ (x : SlaveState S T). x.outbox) rest in
       let plan : b.plan ≡ w.plan = ap (λ (x : SlaveState S T). x.plan) last ∙ ap (λ (x : SlaveState S T). x.plan) rest in
       let account : b.account ≡ w.account = ap (λ (x : SlaveState S T). x.account) last ∙ ap (λ (x : SlaveState S T). x.account) rest in
       let number : b.number ≡ w.number = ap (λ (x : SlaveState S T). x.number) last ∙ ap (λ (x : SlaveState S T). x.number) rest in
-      subst (λ (x : SlaveState S T). Answers take x b packet clock) same
-      (answered w b packet clock before now reply (subst (λ x. Exchanges w.session x packet clock reply) (sym session) exchanges)
+      subst (λ (x : SlaveState S T). Answers take x b packet given) same
+      (answered w b packet given before now reply (subst (λ x. Exchanges w.session x packet given reply) (sym session) exchanges)
       (ap (λ (x : SessionState). x.profile) session ∙ profile) was
       (subst (λ x. (past : Past) → SessionStandsAfter x past → (l : ℕ) → l < MAX_LISTS → has_list now l ≡ runs past l) (sym session) is)
       (subst (λ xs. Settles take w.channels xs before now) (sym channels) settles) (subst (λ o. LaysReply o b.outbox reply) outbox lays) plan account number)

@@ -11,11 +11,11 @@ use Rattle.daq_store.specs.Entries.{pointed}
 use Rattle.daq_store.specs.Running.{is_active}
 use Rattle.session.specs.declared.profile.Profile.{Profile}
 use Rattle.session.specs.declared.request.Request.{Request}
-use Rattle.session.specs.declared.request.Request.TheVariants.{Connect, Disconnect, GetStatus, Synch, GetCommModeInfo, GetId, Upload, GetDaqListMode, GetDaqClock, GetDaqProcessorInfo, GetDaqResolutionInfo, GetDaqListInfo, GetDaqEventInfo, Lists, WriteDaqMultiple}
+use Rattle.session.specs.declared.request.Request.TheVariants.{Connect, Disconnect, GetCommModeInfo, GetDaqClock, GetDaqEventInfo, GetDaqListInfo, GetDaqListMode, GetDaqProcessorInfo, GetDaqResolutionInfo, GetId, GetStatus, Lists, SetMta, ShortUpload, Synch, Upload, WriteDaqMultiple}
 use Rattle.session.specs.Exchanges.{calls_after_writes, greeting_reply, is_greeting, master_reply, past_after, past_after_greeting, past_after_packet, past_after_read, request_reply}
 use Rattle.session.specs.Exchanges.{read_reply as read_reply_of}
 use Rattle.session.specs.Fields.{packet_of}
-use Rattle.session.specs.Past.{Past}
+use Rattle.session.specs.Past.{Given, Past}
 use Rattle.session.specs.Profiles.{lists_of}
 use Rattle.session.specs.Replies.{is_error, store_reply}
 use Rattle.session.specs.Requests.{request, write_of, writes}
@@ -79,15 +79,17 @@ by-fault : (base : ℕ) (lists : ListsProfile) (calls : List Command) (call : Co
 by-fault base lists calls call l None other = accepted-positive base lists calls call
 by-fault base lists calls call l (Some code) other = absurd (other refl)
 
-module _ (d : Profile) (past : Past) (clock : ℕ) (packet : List ℕ) (l : ℕ) where
-  by-request : (asked : Request) → runs (past_after d past packet asked) l ≢ runs past l → is_positive (request_reply d past clock packet asked) ≡ true
+module _ (d : Profile) (past : Past) (given : Given) (packet : List ℕ) (l : ℕ) where
+  by-request : (asked : Request) → runs (past_after d past given packet asked) l ≢ runs past l → is_positive (request_reply d past given packet asked) ≡ true
   by-request (Connect mode) other = absurd (other refl)
   by-request Disconnect other = refl
   by-request GetStatus other = absurd (other refl)
   by-request Synch other = absurd (other refl)
   by-request GetCommModeInfo other = absurd (other refl)
   by-request (GetId kind) other = absurd (other refl)
+  by-request (SetMta ext addr) other = absurd (other refl)
   by-request (Upload n) other = absurd (other refl)
+  by-request (ShortUpload n ext addr) other = absurd (other refl)
   by-request (GetDaqListMode m) other = absurd (other refl)
   by-request GetDaqClock other = absurd (other refl)
   by-request GetDaqProcessorInfo other = absurd (other refl)
@@ -101,18 +103,18 @@ module _ (d : Profile) (past : Past) (clock : ℕ) (packet : List ℕ) (l : ℕ)
   by-greeting true = refl
   by-greeting false = refl
 
-  by-master : (b : Bool) (r : Result Request ErrCode) → runs (if b then past_after_read d past packet r else past_after_greeting past r) l ≢ runs past l
-      → HasPositive (if b then Some (read_reply_of d past clock packet r) else greeting_reply r)
-  by-master true (Ok asked) other = (request_reply d past clock packet asked, refl, by-request asked other)
+  by-master : (b : Bool) (r : Result Request ErrCode) → runs (if b then past_after_read d past given packet r else past_after_greeting past r) l ≢ runs past l
+      → HasPositive (if b then Some (read_reply_of d past given packet r) else greeting_reply r)
+  by-master true (Ok asked) other = (request_reply d past given packet asked, refl, by-request asked other)
   by-master true (Err code) other = absurd (other refl)
   by-master false r other = absurd (other (by-greeting (is_greeting r)))
 
-  by-exchange : (b : Bool) → runs (if b then past else past_after_packet d past packet) l ≢ runs past l → HasPositive (if b then Some (packet_of (Err MemoryOverflow)) else master_reply d past clock packet)
+  by-exchange : (b : Bool) → runs (if b then past else past_after_packet d past given packet) l ≢ runs past l → HasPositive (if b then Some (packet_of (Err MemoryOverflow)) else master_reply d past given packet)
   by-exchange true other = absurd (other refl)
   by-exchange false other = by-master past.connected (request d.base packet) other
 
 pub change-accepted : (d : Profile) (act : Act) (log : List Act) (l : ℕ) → runs (past_of d (act ∷ log)) l ≢ runs (past_of d log) l → IsAccepted d act log
-change-accepted d (Heard x) log l other = by-exchange d (past_of d log) x.clock x.packet l x.out_of_memory other
+change-accepted d (Heard x) log l other = by-exchange d (past_of d log) x.given x.packet l x.out_of_memory other
 change-accepted d (Refused packet code) log l other = absurd (other refl)
 change-accepted d (Opened at) log l other = absurd (other refl)
 change-accepted d (Took m c x) log l other = absurd (other refl)

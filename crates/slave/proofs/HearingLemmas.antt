@@ -6,7 +6,7 @@ use Rattle.xcp_base.specs.declared.err_code.ErrCode.{ErrCode}
 use Rattle.xcp_base.specs.declared.limits.TheConstants.{MAX_LISTS}
 use Rattle.channel_ring.specs.declared.ends.TakeEnd.{Ghosts as TakeGhosts}
 use Rattle.session.specs.Fields.{packet_of}
-use Rattle.session.specs.Past.{Past}
+use Rattle.session.specs.Past.{Given, Past}
 use Rattle.session.specs.Standing.{SessionStandsAfter, SessionState}
 use Rattle.session.specs.Exchanges.{Exchange}
 use Rattle.session.specs.Starts.{is_on, starts}
@@ -91,16 +91,16 @@ module _ {S T F : Type 0} (take : TakeGhosts T F) where
       counted take a (counting b PER_PACKET) (act ∷ opening) fits (omega (arith, few)) (omega (arith, counts, few)) (recounted take a b (act ∷ opening) PER_PACKET goes)
 
   -- a packet whose lists were started was answered
-  pub heard : (a k b : SlaveState S T) (lists : ℕ) (packet : List ℕ) (clock : ℕ) → Prepares take most_before a k lists → k.session ≡ a.session → b.acts ≡ a.acts → a.acts < MOST_ACTS + PER_PACKET
+  pub heard : (a k b : SlaveState S T) (lists : ℕ) (packet : List ℕ) (given : Given) → Prepares take most_before a k lists → k.session ≡ a.session → b.acts ≡ a.acts → a.acts < MOST_ACTS + PER_PACKET
       → ((past : Past) → SessionStandsAfter a.session past → (l : ℕ) → l < MAX_LISTS → has_list lists l ≡ starts a.session.profile past packet l)
-      → Answers take k b packet clock → Hears take a (counting b PER_PACKET) packet clock
-  heard a k b lists packet clock prepares same counts fits are answers =
+      → Answers take k b packet given → Hears take a (counting b PER_PACKET) packet given
+  heard a k b lists packet given prepares same counts fits are answers =
       let d = a.session.profile in
       let profile : k.session.profile ≡ d = ap (λ (s : SessionState). s.profile) same in
       record {
         act = Heard answers.exchange;
         opening = prepares.opening;
-        is = inl (answers.exchange, refl, answers.packet_is, answers.clock_is);
+        is = inl (answers.exchange, refl, answers.packet_is, answers.given_is);
         may_open = prepares.may_open;
         for_a_start = λ log stands.
             elim prepares.for_some [
@@ -127,10 +127,10 @@ module _ {S T F : Type 0} (take : TakeGhosts T F) where
       }
 
   -- a start was refused
-  pub refused : (a k b : SlaveState S T) (lists : ℕ) (packet : List ℕ) (clock : ℕ) (code : ErrCode) → StartsInVain take most_before a k lists code → k.session ≡ a.session → k.acts ≡ a.acts → a.acts < MOST_ACTS + PER_PACKET
+  pub refused : (a k b : SlaveState S T) (lists : ℕ) (packet : List ℕ) (given : Given) (code : ErrCode) → StartsInVain take most_before a k lists code → k.session ≡ a.session → k.acts ≡ a.acts → a.acts < MOST_ACTS + PER_PACKET
       → ((past : Past) → SessionStandsAfter a.session past → (l : ℕ) → l < MAX_LISTS → has_list lists l ≡ starts a.session.profile past packet l)
-      → LaysReply k.outbox b.outbox (Some (packet_of (Err code))) → b ≡ record k { outbox = b.outbox } → Hears take a (counting b PER_PACKET) packet clock
-  refused a k b lists packet clock code vain same counts fits are lays rest =
+      → LaysReply k.outbox b.outbox (Some (packet_of (Err code))) → b ≡ record k { outbox = b.outbox } → Hears take a (counting b PER_PACKET) packet given
+  refused a k b lists packet given code vain same counts fits are lays rest =
       let d = a.session.profile in
       let session : b.session ≡ k.session = ap (λ (s : SlaveState S T). s.session) rest in
       let channels : b.channels ≡ k.channels = ap (λ (s : SlaveState S T). s.channels) rest in

@@ -1,4 +1,5 @@
 -- Bytes that are taken, piece by piece.
+use Rattle.session.specs.Past.{Given}
 use Rattle.std.proofs.Common.{◌≡◌, ℕ, ◌+◌, ◌-◌, ◌*◌, ◌<◌, ◌≤◌, true, false, Result, Ok, Err, List, [], ◌∷◌, ◌++◌, append-nil, append_assoc, length, length-append, drop, take as first, refl, sym, ap, ◌∙◌, subst, arith, ◌⊎◌, inl, inr}
 use Rattle.std.specs.Prelude.{OnErr}
 use Rattle.std.proofs.Math.Seq.{take-add, take-length}
@@ -17,16 +18,16 @@ use Rattle.slave.specs.Standing.{SlaveStandsAfter, SlaveState}
 use Rattle.slave.specs.Receiving.{AreHeard, BreaksOff, HearsAll, HearsDatagram, Receives}
 
 -- packets that were heard, and others behind them
-heard-more : (clock : ℕ) (ps qs : List (List ℕ)) (xs ys : List Act) → AreHeard clock ps xs → AreHeard clock qs ys → AreHeard clock (ps ++ qs) (ys ++ xs)
-heard-more clock [] qs xs ys none are = subst (AreHeard clock qs) (sym (append-nil ys) ∙ ap (λ zs. ys ++ zs) (sym none)) are
-heard-more clock (p ∷ ps) qs xs ys (later, act, opening, is, hearing, may_open, rest) are = (
+heard-more : (given : Given) (ps qs : List (List ℕ)) (xs ys : List Act) → AreHeard given ps xs → AreHeard given qs ys → AreHeard given (ps ++ qs) (ys ++ xs)
+heard-more given [] qs xs ys none are = subst (AreHeard given qs) (sym (append-nil ys) ∙ ap (λ zs. ys ++ zs) (sym none)) are
+heard-more given (p ∷ ps) qs xs ys (later, act, opening, is, hearing, may_open, rest) are = (
   ys ++ later,
   act,
   opening,
   ap (λ zs. ys ++ zs) is ∙ sym (append_assoc ys later (act ∷ opening)),
   hearing,
   may_open,
-  heard-more clock ps qs later ys rest are,
+  heard-more given ps qs later ys rest are,
 )
 
 -- a LEN is bad whatever stands behind it
@@ -83,11 +84,11 @@ module _ {S T F : Type 0} (take : TakeGhosts T F) where
         (two.1 (xs ++ log) (subst (λ p. SlaveStandsAfter take p m (xs ++ log)) (sym profile) (one.1 log stands)))),
   )
 
-  hears-none : (a : SlaveState S T) (clock : ℕ) → HearsAll take a a clock []
-  hears-none a clock = record { acts = []; are = refl; goes = (refl, λ log stands. stands); counted = omega arith; next = refl; shown = refl; profile = refl }
+  hears-none : (a : SlaveState S T) (given : Given) → HearsAll take a a given []
+  hears-none a given = record { acts = []; are = refl; goes = (refl, λ log stands. stands); counted = omega arith; next = refl; shown = refl; profile = refl }
 
-  hears-one : (a b : SlaveState S T) (clock : ℕ) (packet : List ℕ) → Hears take a b packet clock → b.acts ≡ a.acts + 64 → b.next ≡ a.next → b.outbox.shown ≡ a.outbox.shown → b.session.profile ≡ a.session.profile → HearsAll take a b clock (packet ∷ [])
-  hears-one a b clock packet hears counts next shown profile = record {
+  hears-one : (a b : SlaveState S T) (given : Given) (packet : List ℕ) → Hears take a b packet given → b.acts ≡ a.acts + 64 → b.next ≡ a.next → b.outbox.shown ≡ a.outbox.shown → b.session.profile ≡ a.session.profile → HearsAll take a b given (packet ∷ [])
+  hears-one a b given packet hears counts next shown profile = record {
     acts = hears.act ∷ hears.opening;
     are = ([], hears.act, hears.opening, refl, hears.is, hears.may_open, refl);
     goes = hears.goes;
@@ -97,10 +98,10 @@ module _ {S T F : Type 0} (take : TakeGhosts T F) where
     profile = profile;
   }
 
-  hears-more : (a m b : SlaveState S T) (clock : ℕ) (ps qs : List (List ℕ)) → HearsAll take a m clock ps → HearsAll take m b clock qs → HearsAll take a b clock (ps ++ qs)
-  hears-more a m b clock ps qs one two = record {
+  hears-more : (a m b : SlaveState S T) (given : Given) (ps qs : List (List ℕ)) → HearsAll take a m given ps → HearsAll take m b given qs → HearsAll take a b given (ps ++ qs)
+  hears-more a m b given ps qs one two = record {
     acts = two.acts ++ one.acts;
-    are = heard-more clock ps qs one.acts two.acts one.are two.are;
+    are = heard-more given ps qs one.acts two.acts one.are two.are;
     goes = goes-more a m b one.acts two.acts one.profile one.goes two.goes;
     counted = omega (arith, one.counted, two.counted, length-append ps qs);
     next = two.next ∙ one.next;
@@ -109,54 +110,54 @@ module _ {S T F : Type 0} (take : TakeGhosts T F) where
   }
 
   -- no bytes
-  pub receives-none : (r : ReaderState) (a : SlaveState S T) (clock : ℕ) → Receives take r r a a clock []
-  receives-none r a clock = record {
+  pub receives-none : (r : ReaderState) (a : SlaveState S T) (given : Given) → Receives take r r a a given []
+  receives-none r a given = record {
     packets = [];
     leads = λ bytes packets stands.
         subst (λ zs. ReaderStandsAfter r zs (packets ++ [])) (sym (append-nil bytes))
         (subst (λ zs. ReaderStandsAfter r bytes zs) (sym (append-nil packets)) stands);
-    hears = hears-none a clock;
+    hears = hears-none a given;
   }
 
   -- bytes that end no frame
-  pub no-packet : (r s : ReaderState) (a : SlaveState S T) (clock : ℕ) (bytes : List ℕ) → Leads r s bytes [] → Receives take r s a a clock bytes
-  no-packet r s a clock bytes leads = record { packets = []; leads = leads; hears = hears-none a clock }
+  pub no-packet : (r s : ReaderState) (a : SlaveState S T) (given : Given) (bytes : List ℕ) → Leads r s bytes [] → Receives take r s a a given bytes
+  no-packet r s a given bytes leads = record { packets = []; leads = leads; hears = hears-none a given }
 
   -- bytes that end a frame, whose packet is heard
-  pub one-packet : (r s : ReaderState) (a b : SlaveState S T) (clock : ℕ) (bytes packet : List ℕ) → Leads r s bytes (packet ∷ []) → Hears take a b packet clock → b.acts ≡ a.acts + 64 → b.next ≡ a.next → b.outbox.shown ≡ a.outbox.shown → b.session.profile ≡ a.session.profile
-      → Receives take r s a b clock bytes
-  one-packet r s a b clock bytes packet leads hears counts next shown profile = record { packets = packet ∷ []; leads = leads; hears = hears-one a b clock packet hears counts next shown profile }
+  pub one-packet : (r s : ReaderState) (a b : SlaveState S T) (given : Given) (bytes packet : List ℕ) → Leads r s bytes (packet ∷ []) → Hears take a b packet given → b.acts ≡ a.acts + 64 → b.next ≡ a.next → b.outbox.shown ≡ a.outbox.shown → b.session.profile ≡ a.session.profile
+      → Receives take r s a b given bytes
+  one-packet r s a b given bytes packet leads hears counts next shown profile = record { packets = packet ∷ []; leads = leads; hears = hears-one a b given packet hears counts next shown profile }
 
   -- some bytes, and then others
-  receives-more : (r s t : ReaderState) (a m b : SlaveState S T) (clock : ℕ) (xs ys : List ℕ) → Receives take r s a m clock xs → Receives take s t m b clock ys → Receives take r t a b clock (xs ++ ys)
-  receives-more r s t a m b clock xs ys one two = record {
+  receives-more : (r s t : ReaderState) (a m b : SlaveState S T) (given : Given) (xs ys : List ℕ) → Receives take r s a m given xs → Receives take s t m b given ys → Receives take r t a b given (xs ++ ys)
+  receives-more r s t a m b given xs ys one two = record {
     packets = one.packets ++ two.packets;
     leads = leads_then r s t xs ys one.packets two.packets one.leads two.leads;
-    hears = hears-more a m b clock one.packets two.packets one.hears two.hears;
+    hears = hears-more a m b given one.packets two.packets one.hears two.hears;
   }
 
   -- the same of bytes from a place on
-  pub receives-from : (r s t : ReaderState) (a m b : SlaveState S T) (clock at n : ℕ) (bytes : List ℕ) → Receives take r s a m clock (first at bytes)
-      → Receives take s t m b clock (first n (first (length bytes - at) (drop at bytes))) → Receives take r t a b clock (first (at + n) bytes)
-  receives-from r s t a m b clock at n bytes one two =
-      subst (λ zs. Receives take r t a b clock zs) (ap (λ zs. first at bytes ++ first n zs) (take_rest bytes at) ∙ sym (take-add at n bytes))
-      (receives-more r s t a m b clock (first at bytes) (first n (first (length bytes - at) (drop at bytes))) one two)
+  pub receives-from : (r s t : ReaderState) (a m b : SlaveState S T) (given : Given) (at n : ℕ) (bytes : List ℕ) → Receives take r s a m given (first at bytes)
+      → Receives take s t m b given (first n (first (length bytes - at) (drop at bytes))) → Receives take r t a b given (first (at + n) bytes)
+  receives-from r s t a m b given at n bytes one two =
+      subst (λ zs. Receives take r t a b given zs) (ap (λ zs. first at bytes ++ first n zs) (take_rest bytes at) ∙ sym (take-add at n bytes))
+      (receives-more r s t a m b given (first at bytes) (first n (first (length bytes - at) (drop at bytes))) one two)
 
   -- bytes from a place on came to the begin of a bad frame
-  pub breaks-from : (r s t : ReaderState) (a m : SlaveState S T) (clock at : ℕ) (bytes : List ℕ) → at ≤ length bytes → Receives take r s a m clock (first at bytes)
-      → IsBadAfter s t (first (length bytes - at) (drop at bytes)) → BreaksOff take r t a m clock bytes
-  breaks-from r s t a m clock at bytes there one bad =
+  pub breaks-from : (r s t : ReaderState) (a m : SlaveState S T) (given : Given) (at : ℕ) (bytes : List ℕ) → at ≤ length bytes → Receives take r s a m given (first at bytes)
+      → IsBadAfter s t (first (length bytes - at) (drop at bytes)) → BreaksOff take r t a m given bytes
+  breaks-from r s t a m given at bytes there one bad =
       record {
         taken = at + bad.taken;
         within = within-from at bad.taken bytes there bad.within;
-        receives = receives-from r s t a m m clock at bad.taken bytes one (no-packet s t m clock (first bad.taken (first (length bytes - at) (drop at bytes))) bad.leads);
+        receives = receives-from r s t a m m given at bad.taken bytes one (no-packet s t m given (first bad.taken (first (length bytes - at) (drop at bytes))) bad.leads);
         closed = bad.closed;
       }
 
   -- a datagram is what a stream takes of which no byte came before
-  pub datagram-ok : (r s : ReaderState) (a b : SlaveState S T) (clock n : ℕ) (bytes : List ℕ) → ReaderStandsAfter r [] [] → s.closed ≡ false
-      → (n ≡ length bytes) ⊎ ((n ≡ 0) ⊎ (s.held ≡ [])) → Receives take r s a b clock (first n bytes) → HearsDatagram take a b clock bytes n
-  datagram-ok r s a b clock n bytes fresh is_open ends got =
+  pub datagram-ok : (r s : ReaderState) (a b : SlaveState S T) (given : Given) (n : ℕ) (bytes : List ℕ) → ReaderStandsAfter r [] [] → s.closed ≡ false
+      → (n ≡ length bytes) ⊎ ((n ≡ 0) ⊎ (s.held ≡ [])) → Receives take r s a b given (first n bytes) → HearsDatagram take a b given bytes n
+  datagram-ok r s a b given n bytes fresh is_open ends got =
       let stands = got.leads [] [] fresh in
       record {
         packets = got.packets;
@@ -173,9 +174,9 @@ module _ {S T F : Type 0} (take : TakeGhosts T F) where
         hears = got.hears;
       }
 
-  pub datagram-bad : (r s : ReaderState) (a b : SlaveState S T) (clock : ℕ) (bytes : List ℕ) → ReaderStandsAfter r [] [] → BreaksOff take r s a b clock bytes
-      → HearsDatagram take a b clock bytes (length bytes)
-  datagram-bad r s a b clock bytes fresh off =
+  pub datagram-bad : (r s : ReaderState) (a b : SlaveState S T) (given : Given) (bytes : List ℕ) → ReaderStandsAfter r [] [] → BreaksOff take r s a b given bytes
+      → HearsDatagram take a b given bytes (length bytes)
+  datagram-bad r s a b given bytes fresh off =
       let stands = off.receives.leads [] [] fresh in
       let behind = drop off.taken bytes in
       let whole : first (length bytes) bytes ≡ joined_frames stands.split.frames ++ (s.held ++ behind) =

@@ -11,9 +11,9 @@ use Rattle.daq_store.specs.Running.{is_active, is_running}
 use Rattle.daq_store.specs.Shape.{is_list}
 use Rattle.session.specs.declared.profile.Profile.{Profile}
 use Rattle.session.specs.declared.request.Request.{Request}
-use Rattle.session.specs.declared.request.Request.TheVariants.{Connect, Disconnect, GetStatus, Synch, GetCommModeInfo, GetId, Upload, GetDaqListMode, GetDaqClock, GetDaqProcessorInfo, GetDaqResolutionInfo, GetDaqListInfo, GetDaqEventInfo, Lists, WriteDaqMultiple}
+use Rattle.session.specs.declared.request.Request.TheVariants.{Connect, Disconnect, GetCommModeInfo, GetDaqClock, GetDaqEventInfo, GetDaqListInfo, GetDaqListMode, GetDaqProcessorInfo, GetDaqResolutionInfo, GetId, GetStatus, Lists, SetMta, ShortUpload, Synch, Upload, WriteDaqMultiple}
 use Rattle.session.specs.Exchanges.{past_after_greeting, past_after_read}
-use Rattle.session.specs.Past.{Past}
+use Rattle.session.specs.Past.{Past, none_given}
 use Rattle.session.specs.Profiles.{lists_of}
 use Rattle.session.specs.Requests.{request}
 use Rattle.session.specs.Starts.{call_starts, runs, starts}
@@ -58,11 +58,11 @@ call-list lists calls (ClearDaqList m) l is = absurd (false≢true (sym (other_c
 call-list lists calls ReadDaq l is = absurd (false≢true (sym (other_call lists calls ReadDaq l tt) ∙ is))
 
 module _ (d : Profile) (past : Past) (packet : List ℕ) (l : ℕ) where
-  by-packet : (r : Result Request ErrCode) → past.connected ≡ true → request d.base packet ≡ r → starts d past packet l ≡ (not (runs past l) && runs (past_after_read d past packet r) l)
+  by-packet : (r : Result Request ErrCode) → past.connected ≡ true → request d.base packet ≡ r → starts d past packet l ≡ (not (runs past l) && runs (past_after_read d past none_given packet r) l)
   by-packet r connected reads =
       let read = request d.base packet in
-      ap (λ b. not (runs past l) && runs (if b then past_after_read d past packet read else past_after_greeting past read) l) connected
-      ∙ ap (λ x. not (runs past l) && runs (past_after_read d past packet x) l) reads
+      ap (λ b. not (runs past l) && runs (if b then past_after_read d past none_given packet read else past_after_greeting past read) l) connected
+      ∙ ap (λ x. not (runs past l) && runs (past_after_read d past none_given packet x) l) reads
 
   not-other : (asked : Request) → past.connected ≡ true → request d.base packet ≡ Ok asked → ((call : Command) → asked ≢ Lists call) → starts d past packet l ≡ true → ⊥
   not-other asked connected reads other is = false≢true (sym (other_packet d past packet asked l connected reads other) ∙ is)
@@ -75,6 +75,8 @@ module _ (d : Profile) (past : Past) (packet : List ℕ) (l : ℕ) where
   by-asked Synch connected reads is = absurd (not-other Synch connected reads (λ call e. cc) is)
   by-asked GetCommModeInfo connected reads is = absurd (not-other GetCommModeInfo connected reads (λ call e. cc) is)
   by-asked (GetId kind) connected reads is = absurd (not-other (GetId kind) connected reads (λ call e. cc) is)
+  by-asked (SetMta ext addr) connected reads is = absurd (not-other (SetMta ext addr) connected reads (λ call e. cc) is)
+  by-asked (ShortUpload n ext addr) connected reads is = absurd (not-other (ShortUpload n ext addr) connected reads (λ call e. cc) is)
   by-asked (Upload n) connected reads is = absurd (not-other (Upload n) connected reads (λ call e. cc) is)
   by-asked (GetDaqListMode m) connected reads is = absurd (not-other (GetDaqListMode m) connected reads (λ call e. cc) is)
   by-asked GetDaqClock connected reads is = absurd (not-other GetDaqClock connected reads (λ call e. cc) is)

@@ -12,11 +12,11 @@ use Rattle.daq_store.specs.Running.{is_active, is_running}
 use Rattle.daq_store.specs.Shape.{is_list}
 use Rattle.session.specs.declared.profile.Profile.{Profile}
 use Rattle.session.specs.declared.request.Request.{Request}
-use Rattle.session.specs.declared.request.Request.TheVariants.{Connect, Disconnect, GetStatus, Synch, GetCommModeInfo, GetId, Upload, GetDaqListMode, GetDaqClock, GetDaqProcessorInfo, GetDaqResolutionInfo, GetDaqListInfo, GetDaqEventInfo, Lists, WriteDaqMultiple}
+use Rattle.session.specs.declared.request.Request.TheVariants.{Connect, Disconnect, GetCommModeInfo, GetDaqClock, GetDaqEventInfo, GetDaqListInfo, GetDaqListMode, GetDaqProcessorInfo, GetDaqResolutionInfo, GetId, GetStatus, Lists, SetMta, ShortUpload, Synch, Upload, WriteDaqMultiple}
 use Rattle.session.specs.Exchanges.{Exchange, greeting_reply, is_greeting, master_reply, past_after, past_after_greeting, past_after_packet, past_after_read, past_behind, reply_in, request_reply}
 use Rattle.session.specs.Exchanges.{read_reply as read_reply_of}
 use Rattle.session.specs.Fields.{packet_of}
-use Rattle.session.specs.Past.{Past}
+use Rattle.session.specs.Past.{Given, Past}
 use Rattle.session.specs.Profiles.{lists_of}
 use Rattle.session.specs.Replies.{connect_reply, store_reply}
 use Rattle.session.specs.Requests.{request}
@@ -61,15 +61,17 @@ some-is p q e = cc
 none-is : (q : List ℕ) → None ≡ Some q → ⊥
 none-is q e = cc
 
-module _ (d : Profile) (past : Past) (clock : ℕ) (packet : List ℕ) (l : ℕ) where
-  by-request : (asked : Request) → IsStopOf past.calls l asked → is_positive (request_reply d past clock packet asked) ≡ true → runs (past_after d past packet asked) l ≡ false
+module _ (d : Profile) (past : Past) (given : Given) (packet : List ℕ) (l : ℕ) where
+  by-request : (asked : Request) → IsStopOf past.calls l asked → is_positive (request_reply d past given packet asked) ≡ true → runs (past_after d past given packet asked) l ≡ false
   by-request (Connect mode) is positive = absurd is
   by-request Disconnect is positive = and-false (is_list [] l)
   by-request GetStatus is positive = absurd is
   by-request Synch is positive = absurd is
   by-request GetCommModeInfo is positive = absurd is
   by-request (GetId kind) is positive = absurd is
+  by-request (SetMta ext addr) is positive = absurd is
   by-request (Upload n) is positive = absurd is
+  by-request (ShortUpload n ext addr) is positive = absurd is
   by-request (GetDaqListMode m) is positive = absurd is
   by-request GetDaqClock is positive = absurd is
   by-request GetDaqProcessorInfo is positive = absurd is
@@ -87,7 +89,9 @@ module _ (d : Profile) (past : Past) (clock : ℕ) (packet : List ℕ) (l : ℕ)
   no-greeting Synch is = refl
   no-greeting GetCommModeInfo is = refl
   no-greeting (GetId kind) is = refl
+  no-greeting (SetMta ext addr) is = refl
   no-greeting (Upload n) is = refl
+  no-greeting (ShortUpload n ext addr) is = refl
   no-greeting (GetDaqListMode m) is = refl
   no-greeting GetDaqClock is = refl
   no-greeting GetDaqProcessorInfo is = refl
@@ -98,19 +102,19 @@ module _ (d : Profile) (past : Past) (clock : ℕ) (packet : List ℕ) (l : ℕ)
   no-greeting (Lists call) is = refl
 
   abbrev Stops : Bool → Result Request ErrCode → Type 0
-  Stops b r = HasPositive (if b then Some (read_reply_of d past clock packet r) else greeting_reply r) → runs (if b then past_after_read d past packet r else past_after_greeting past r) l ≡ false
+  Stops b r = HasPositive (if b then Some (read_reply_of d past given packet r) else greeting_reply r) → runs (if b then past_after_read d past given packet r else past_after_greeting past r) l ≡ false
 
   by-asked : (b : Bool) (asked : Request) → IsStopOf past.calls l asked → Stops b (Ok asked)
-  by-asked true asked is (q, reply, positive) = by-request asked is (ap is_positive (some-is (request_reply d past clock packet asked) q reply) ∙ positive)
+  by-asked true asked is (q, reply, positive) = by-request asked is (ap is_positive (some-is (request_reply d past given packet asked) q reply) ∙ positive)
   by-asked false asked is (q, reply, positive) = absurd (none-is q (sym (greeting-none (is_greeting (Ok asked)) (no-greeting asked is)) ∙ reply)) where
     greeting-none : (g : Bool) → g ≡ false → (if g then Some (packet_of (connect_reply 0)) else None) ≡ None
     greeting-none true none = absurd (false≢true (sym none))
     greeting-none false none = refl
 
-  by-exchange : (b : Bool) (asked : Request) → request d.base packet ≡ Ok asked → IsStopOf past.calls l asked → HasPositive (if b then Some (packet_of (Err MemoryOverflow)) else master_reply d past clock packet)
-      → runs (if b then past else past_after_packet d past packet) l ≡ false
+  by-exchange : (b : Bool) (asked : Request) → request d.base packet ≡ Ok asked → IsStopOf past.calls l asked → HasPositive (if b then Some (packet_of (Err MemoryOverflow)) else master_reply d past given packet)
+      → runs (if b then past else past_after_packet d past given packet) l ≡ false
   by-exchange true asked reads is (q, reply, positive) = absurd (false≢true (ap is_positive (some-is (packet_of (Err MemoryOverflow)) q reply) ∙ positive))
   by-exchange false asked reads is positive = subst (Stops past.connected) (sym reads) (by-asked past.connected asked is) positive
 
 pub stop-holds : (d : Profile) (past : Past) (x : Exchange) (l : ℕ) → AsksToStop d past l x.packet → HasPositive (reply_in d past x) → runs (past_behind d past x) l ≡ false
-stop-holds d past x l (asked, reads, is) positive = by-exchange d past x.clock x.packet l x.out_of_memory asked reads is positive
+stop-holds d past x l (asked, reads, is) positive = by-exchange d past x.given x.packet l x.out_of_memory asked reads is positive

@@ -1,4 +1,6 @@
 -- Samples are laid out only within their measurement, and where their list runs.
+use Rattle.daq_store.specs.Running.{is_active}
+use Rattle.session.proofs.StartLemmas.{same_calls}
 use Rattle.std.proofs.Common.{◌≡◌, ℕ, zero, suc, ◌+◌, ◌<◌, ◌≤◌, Bool, true, false, ◌&&◌, not, nat_eq, if◌then◌else◌, List, [], ◌∷◌, ◌++◌, append-nil, refl, sym, ap, ◌∙◌, subst, arith, ◌⊎◌, inl, inr}
 use Rattle.std.specs.Prelude.{find, Option, Some, None}
 use Rattle.std.proofs.lemmas.Bool.{false≢true}
@@ -8,7 +10,7 @@ use Rattle.xcp_base.specs.Samples.{SampleParts}
 use Rattle.xcp_base.specs.declared.item.Item.TheVariants.{Marker, Sample}
 use Rattle.xcp_base.specs.declared.limits.TheConstants.{MAX_LISTS}
 use Rattle.session.specs.Exchanges.{Exchange, past_after_packet, past_behind, reply_in}
-use Rattle.session.specs.Past.{Past, new_past}
+use Rattle.session.specs.Past.{Past, new_past, none_given}
 use Rattle.session.specs.Starts.{runs, starts}
 use Rattle.session.specs.declared.profile.Profile.{Profile}
 use Rattle.slave_outbox.specs.Deeds.{Deed, Started, Stopped, is_order_of, is_start, passes}
@@ -149,10 +151,11 @@ opened-last d (Discarded ∷ log) is just = absurd just
 exchange-starts : (d : Profile) (past : Past) (x : Exchange) (l : ℕ) → runs past l ≡ false → runs (past_behind d past x) l ≡ true → starts d past x.packet l ≡ true
 exchange-starts d past x l before behind = by x.out_of_memory refl where
   by : (b : Bool) → x.out_of_memory ≡ b → starts d past x.packet l ≡ true
-  by true out = absurd (false≢true (sym before ∙ (sym (ap (λ b. runs (if b then past else past_after_packet d past x.packet) l) out) ∙ behind)))
+  by true out = absurd (false≢true (sym before ∙ (sym (ap (λ b. runs (if b then past else past_after_packet d past x.given x.packet) l) out) ∙ behind)))
   by false fine =
-      let after : runs (past_after_packet d past x.packet) l ≡ true = sym (ap (λ b. runs (if b then past else past_after_packet d past x.packet) l) fine) ∙ behind in
-      ap (λ b. not b && runs (past_after_packet d past x.packet) l) before ∙ after
+      let after : runs (past_after_packet d past x.given x.packet) l ≡ true = sym (ap (λ b. runs (if b then past else past_after_packet d past x.given x.packet) l) fine) ∙ behind in
+      ap (λ b. not b && runs (past_after_packet d past none_given x.packet) l) before
+      ∙ ap (λ calls. is_active calls l) (same_calls d past none_given x.given x.packet) ∙ after
 
 none-new : (l : ℕ) → runs new_past l ≡ false
 none-new l = grind arith

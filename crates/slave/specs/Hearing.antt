@@ -8,7 +8,7 @@ use Rattle.xcp_base.specs.Lists.{has_list}
 use Rattle.xcp_base.specs.declared.limits.TheConstants.{MAX_CHANNELS, MAX_LISTS}
 use Rattle.channel_ring.specs.declared.ends.TakeEnd.{Ghosts as TakeGhosts}
 use Rattle.session.specs.Exchanges.{Exchange}
-use Rattle.session.specs.Past.{Past}
+use Rattle.session.specs.Past.{Given, Past}
 use Rattle.session.specs.Starts.{is_on, starts}
 use Rattle.session.specs.declared.profile.Profile.{Profile}
 use Rattle.slave_outbox.specs.Outboxes.{has_room}
@@ -48,9 +48,9 @@ pub record MayOpen (most : ℕ) (acts : List Act) : Type 0 where
   pub few : length acts ≤ most
 
 -- the packet was answered, or refused; and before that a measurement may have been opened
-abbrev pub IsHearing : List ℕ → ℕ → Act → Type 0
-IsHearing packet clock act =
-    ((x : Exchange) × (act ≡ Heard x) × (x.packet ≡ packet) × (x.clock ≡ clock))
+abbrev pub IsHearing : List ℕ → Given → Act → Type 0
+IsHearing packet given act =
+    ((x : Exchange) × (act ≡ Heard x) × (x.packet ≡ packet) × (x.given ≡ given))
     ⊎ ((code : ErrCode) × (act ≡ Refused packet code) × IsStartRefusal code)
 
 module _ {S T : Type 0} where
@@ -114,10 +114,10 @@ module _ {S T F : Type 0} (take : TakeGhosts T F) where
   -- lists run, a start that isn't refused with ERR_SEQUENCE is refused with ERR_CMD_BUSY, where its
   -- orders find no places, or else not at all. While no list runs, ERR_CMD_BUSY comes before
   -- ERR_MEMORY_OVERFLOW: the state behind the packet shows whether there was room
-  pub record Hears (a b : SlaveState S T) (packet : List ℕ) (clock : ℕ) : Type 0 where
+  pub record Hears (a b : SlaveState S T) (packet : List ℕ) (given : Given) : Type 0 where
     pub act : Act
     pub opening : List Act
-    pub is : IsHearing packet clock act
+    pub is : IsHearing packet given act
     pub may_open : MayOpen most_before opening
     pub for_a_start :
         (log : List Act) → SlaveStandsAfter take a.session.profile a log

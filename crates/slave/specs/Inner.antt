@@ -13,7 +13,7 @@ use Rattle.xcp_base.specs.declared.limits.TheConstants.{MAX_LISTS, MAX_TAKEN}
 use Rattle.channel_ring.specs.declared.ends.SendEnd.{Ghosts as SendGhosts}
 use Rattle.channel_ring.specs.declared.ends.RingEnd.{Ghosts as EndGhosts}
 use Rattle.channel_ring.specs.declared.ends.TakeEnd.{Ghosts as TakeGhosts}
-use Rattle.session.specs.Past.{Past}
+use Rattle.session.specs.Past.{Given, Past}
 use Rattle.session.specs.Profiles.{lists_of}
 use Rattle.session.specs.Standing.{SessionStandsAfter, SessionState}
 use Rattle.session.specs.Exchanges.{Exchange}
@@ -306,10 +306,10 @@ module _ {S T F : Type 0} (take : TakeGhosts T F) where
     pub goes : PartsGoBy a b opening
 
   -- a packet was answered whose lists were started
-  pub record Answers (a b : SlaveState S T) (packet : List ℕ) (clock : ℕ) : Type 0 where
+  pub record Answers (a b : SlaveState S T) (packet : List ℕ) (given : Given) : Type 0 where
     pub exchange : Exchange
     pub packet_is : exchange.packet ≡ packet
-    pub clock_is : exchange.clock ≡ clock
+    pub given_is : exchange.given ≡ given
     pub lines : KeepsLines a b
     pub goes :
         (log : List Act) (lists : ℕ) → 32 * (1 + length log) ≤ MAX_TAKEN

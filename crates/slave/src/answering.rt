@@ -1,5 +1,6 @@
 //! A packet is answered: the lists that it stops are stopped, and the reply is laid out.
 ghost use Rattle.std.specs.Prelude.{◌≡◌, true, Err, Some};
+ghost use Rattle.session.specs.Standing.{given_by};
 ghost use Rattle.slave_outbox.specs.Outboxes.{has_room};
 ghost use Rattle.session.specs.Fields.{packet_of};
 ghost use Rattle.slave.specs.Inner.{Answers, LaysReply, Settles};
@@ -11,16 +12,17 @@ use xcp_base::{ErrCode, ListSet};
 
 impl<R: Ring> Slave<R> {
     /// Answers a packet whose lists were started.
-    pub(crate) fn answer(&mut self, packet: &[u8], clock: u32)
+    pub(crate) fn answer(&mut self, packet: &[u8], clock: u32, memory: &[&[u8]])
         requires room { has_room self.old.outbox ≡ true }
-        ensures answers { Answers R.Take.TakeEnd self.old self.new packet.now clock }
+        ensures answers { Answers R.Take.TakeEnd self.old self.new packet.now
+            (given_by clock memory.now) }
         ensures shown_stays { self.new.outbox.shown ≡ self.old.outbox.shown }
         ensures profile_stays { self.new.session.profile ≡ self.old.session.profile }
         ensures acts_stay { self.new.acts ≡ self.old.acts }
         ensures next_stays { self.new.next ≡ self.old.next }
     {
         let before = self.session.running();
-        let reply = self.session.answer(packet, clock);
+        let reply = self.session.answer(packet, clock, memory);
         let now = self.session.running();
         self.settle(before, now);
         self.lay(reply);

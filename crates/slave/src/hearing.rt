@@ -1,5 +1,6 @@
 //! The packets of the master are heard.
 ghost use Rattle.std.specs.Prelude.{◌≡◌, ◌+◌, ◌<◌, true, false};
+ghost use Rattle.session.specs.Standing.{given_by};
 ghost use Rattle.slave_outbox.specs.Outboxes.{has_room};
 ghost use Rattle.slave.specs.Hearing.{Hears, is_spent, may_hear};
 ghost use Rattle.slave.specs.Inner.{counting};
@@ -29,20 +30,23 @@ impl<R: Ring> Slave<R> {
         self.outbox.has_room()
     }
 
-    /// Hears a packet of the master, which came at this clock, and lays the reply out, if there is
-    /// one; and returns whether there was room for a reply, and the slave isn't spent. If not, the
-    /// packet isn't heard.
+    /// Hears a packet of the master, which came at this clock, with memory as it is then, and lays
+    /// the reply out, if there is one; and returns whether there was room for a reply, and the
+    /// slave isn't spent. If not, the packet isn't heard.
+    ///
+    /// What reads variables without a DAQ list reads them off `memory`, which has one slice, the
+    /// image. With another length, or where there is none, it is answered by ERR_ACCESS_DENIED.
     ///
     /// A start is refused, beside what a session refuses, in this order: with ERR_SEQUENCE if a
     /// list isn't set up as it was when the measurement was opened; with ERR_CMD_BUSY if a task has
     /// no place for its orders, or two measurements of an event channel are out; with
     /// ERR_MEMORY_OVERFLOW if there is no memory for a measurement, or, before or behind that, with
     /// ERR_CMD_BUSY if a task is at its place just then. Then nothing is started.
-    pub fn hear(&mut self, alloc: Global, packet: &[u8], clock: u32) -> bool
+    pub fn hear(&mut self, alloc: Global, packet: &[u8], clock: u32, memory: &[&[u8]]) -> bool
         ensures room { result ≡ may_hear self.old }
         ensures stays { result ≡ false → self.new ≡ self.old }
         ensures heard { result ≡ true
-            → Hears R.Take.TakeEnd self.old self.new packet.now clock }
+            → Hears R.Take.TakeEnd self.old self.new packet.now (given_by clock memory.now) }
         ensures counts { result ≡ true → self.new.acts ≡ self.old.acts + PER_PACKET }
         ensures shown_stays { self.new.outbox.shown ≡ self.old.outbox.shown }
         ensures profile_stays { self.new.session.profile ≡ self.old.session.profile }
@@ -51,16 +55,16 @@ impl<R: Ring> Slave<R> {
         if !self.has_room() {
             return false;
         }
-        self.hear_one(alloc, packet, clock);
+        self.hear_one(alloc, packet, clock, memory);
         self.acts += PER_PACKET;
         true
     }
 
     /// Hears a packet, and doesn't count it yet.
-    fn hear_one(&mut self, alloc: Global, packet: &[u8], clock: u32)
+    fn hear_one(&mut self, alloc: Global, packet: &[u8], clock: u32, memory: &[&[u8]])
         requires room { has_room self.old.outbox ≡ true }
         ensures heard { Hears R.Take.TakeEnd self.old (counting self.new PER_PACKET)
-            packet.now clock }
+            packet.now (given_by clock memory.now) }
         ensures shown_stays { self.new.outbox.shown ≡ self.old.outbox.shown }
         ensures profile_stays { self.new.session.profile ≡ self.old.session.profile }
         ensures acts_stay { self.new.acts ≡ self.old.acts }
@@ -68,7 +72,7 @@ impl<R: Ring> Slave<R> {
     {
         let lists = self.session.starts_of(packet);
         match self.prepare(alloc, lists) {
-            Ok(()) => self.answer(packet, clock),
+            Ok(()) => self.answer(packet, clock, memory),
             Err(code) => self.refuse(code),
         }
     }

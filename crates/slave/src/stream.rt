@@ -1,6 +1,7 @@
 //! The bytes of a stream are put together to packets, and the slave hears these.
 ghost use Rattle.std.specs.Prelude.{◌≡◌, ◌<◌, ◌≤◌, ◌⊎◌, [], ◌∷◌, true, false, length, take};
 ghost use Rattle.std.specs.Prelude.{Ok, IfOk, OnOk, IsErr, OnErr};
+ghost use Rattle.session.specs.Standing.{given_by};
 ghost use Rattle.frame_writer.specs.Reading.{IsBadAfter, ReaderStandsAfter};
 ghost use Rattle.slave.specs.Hearing.{may_hear};
 ghost use Rattle.slave.specs.Receiving.{BreaksOff, LosesStream, Receives};
@@ -49,7 +50,7 @@ impl MasterStream {
     /// many it took: all, or those up to the end of a frame behind which no reply finds room. The
     /// others are still the caller's, who passes them again once some replies were sent. If there
     /// is no room for a reply, or the slave is spent, nothing is taken, not even bytes that end no
-    /// frame.
+    /// frame. Clock and memory are those of `Slave::hear`.
     ///
     /// Refused if a frame is bad (LEN 0 or over MAX_CTO), as soon as its LEN is taken. The packets
     /// before it were heard, and the slave disconnects: what waits is still sent. From then on
@@ -60,9 +61,10 @@ impl MasterStream {
         alloc: Global,
         bytes: &[u8],
         clock: u32,
+        memory: &[&[u8]],
     ) -> Result<usize, BadFrame>
         ensures ok { IfOk result (λ n. Receives R.Take.TakeEnd self.old self.new
-            slave.old slave.new clock (take n bytes.now)) }
+            slave.old slave.new (given_by clock memory.now) (take n bytes.now)) }
         ensures within { IfOk result (λ n. n ≤ length bytes.now) }
         ensures all { IfOk result (λ n. (n ≡ length bytes.now)
             ⊎ (may_hear slave.new ≡ false)) }
@@ -73,7 +75,7 @@ impl MasterStream {
             → (result ≡ Ok 0) × (self.new ≡ self.old) × (slave.new ≡ slave.old) }
 
         ensures bad { self.old.closed ≡ false → OnErr result (LosesStream R.Take.TakeEnd
-            self.old self.new slave.old slave.new clock bytes.now) }
+            self.old self.new slave.old slave.new (given_by clock memory.now) bytes.now) }
         ensures closed { self.old.closed ≡ true → IsErr result }
         ensures closed_stays { self.old.closed ≡ true
             → (self.new ≡ self.old) × (slave.new ≡ slave.old) }
@@ -81,7 +83,7 @@ impl MasterStream {
         if self.is_closed() {
             return Err(BadFrame);
         }
-        match self.read(slave, alloc, bytes, clock) {
+        match self.read(slave, alloc, bytes, clock, memory) {
             Ok(taken) => Ok(taken),
             Err(fault) => {
                 slave.disconnect();
@@ -98,10 +100,11 @@ impl MasterStream {
         alloc: Global,
         bytes: &[u8],
         clock: u32,
+        memory: &[&[u8]],
     ) -> Result<usize, BadFrame>
         requires is_open { self.old.closed ≡ false }
         ensures ok { IfOk result (λ n. Receives R.Take.TakeEnd self.old self.new
-            slave.old slave.new clock (take n bytes.now)) }
+            slave.old slave.new (given_by clock memory.now) (take n bytes.now)) }
         ensures within { IfOk result (λ n. n ≤ length bytes.now) }
         ensures all { IfOk result (λ n. (n ≡ length bytes.now)
             ⊎ (may_hear slave.new ≡ false)) }
@@ -111,7 +114,7 @@ impl MasterStream {
         ensures no_room { may_hear slave.old ≡ false
             → (result ≡ Ok 0) × (self.new ≡ self.old) × (slave.new ≡ slave.old) }
         ensures bad { OnErr result (BreaksOff R.Take.TakeEnd
-            self.old self.new slave.old slave.new clock bytes.now) }
+            self.old self.new slave.old slave.new (given_by clock memory.now) bytes.now) }
     {
         let mut at = 0;
         for _ in 0..bytes.len() {
@@ -121,7 +124,7 @@ impl MasterStream {
             if !slave.has_room() {
                 return Ok(at);
             }
-            at += self.step(slave, alloc, &bytes[at..], clock)?;
+            at += self.step(slave, alloc, &bytes[at..], clock, memory)?;
         }
         Ok(at)
     }
@@ -134,10 +137,11 @@ impl MasterStream {
         alloc: Global,
         bytes: &[u8],
         clock: u32,
+        memory: &[&[u8]],
     ) -> Result<usize, BadFrame>
         requires room { may_hear slave.old ≡ true }
         ensures ok { IfOk result (λ n. Receives R.Take.TakeEnd self.old self.new
-            slave.old slave.new clock (take n bytes.now)) }
+            slave.old slave.new (given_by clock memory.now) (take n bytes.now)) }
         ensures within { IfOk result (λ n. n ≤ length bytes.now) }
         ensures some { 0 < length bytes.now → IfOk result (λ n. 0 < n) }
         ensures ends { IfOk result (λ n. (n ≡ length bytes.now) ⊎ (self.new.held ≡ [])) }
@@ -149,7 +153,7 @@ impl MasterStream {
         let Some(packet) = packet else {
             return Ok(taken);
         };
-        let _ = slave.hear(alloc, packet.as_slice(), clock);
+        let _ = slave.hear(alloc, packet.as_slice(), clock, memory);
         Ok(taken)
     }
 }

@@ -1,4 +1,5 @@
 -- What the slave does is done by what lends its tasks, which stay.
+use Rattle.session.specs.Past.{Given}
 use Rattle.std.proofs.Common.{◌≡◌, ◌⊎◌, ℕ, ◌≤◌, Bool, true, false, List, [], ◌++◌, length, inl, inr, refl, ap, ◌∙◌, subst}
 use Rattle.std.specs.Prelude.{min, take as first, Result, Ok, Err, IfOk, IsErr, OnErr, OnOk}
 use Rattle.std.proofs.lemmas.Bool.{false≢true}
@@ -29,10 +30,10 @@ is-bool false = inr refl
 
 module _ {S T F : Type 0} (take : TakeGhosts T F) (slave : SlaveState S T) (stream : ReaderState) (tasks : List (SlotState S))
     (a : LendingSlaveState S T) (is : with_slots slave stream tasks ≡ a) where
-  pub hears-bytes : (b : SlaveState S T) (clock : ℕ) (bytes : List ℕ) (n : ℕ) → HearsDatagram take slave b clock bytes n → n ≤ length bytes
-      → (n ≡ length bytes) ⊎ (may_hear b ≡ false) → HearsBytes take a (with_slots b stream tasks) clock bytes n
-  hears-bytes b clock bytes n hears within all =
-      subst (λ (x : LendingSlaveState S T). HearsBytes take x (with_slots b stream tasks) clock bytes n) is
+  pub hears-bytes : (b : SlaveState S T) (given : Given) (bytes : List ℕ) (n : ℕ) → HearsDatagram take slave b given bytes n → n ≤ length bytes
+      → (n ≡ length bytes) ⊎ (may_hear b ≡ false) → HearsBytes take a (with_slots b stream tasks) given bytes n
+  hears-bytes b given bytes n hears within all =
+      subst (λ (x : LendingSlaveState S T). HearsBytes take x (with_slots b stream tasks) given bytes n) is
       (record { hears = hears; within = within; all = all; stream = refl; tasks = refl })
 
   pub hangs-up : (b : SlaveState S T) (new : ReaderState) → GoesBy take slave b (discarding (has_waiting slave.outbox) ++ losing slave.session.connected)
@@ -55,18 +56,18 @@ module _ {S T F : Type 0} (take : TakeGhosts T F) (slave : SlaveState S T) (stre
         | inr off ↦ off
       ]
 
-  module _ {E : Type 0} (new : ReaderState) (b : SlaveState S T) (clock : ℕ) (bytes : List ℕ) where
+  module _ {E : Type 0} (new : ReaderState) (b : SlaveState S T) (given : Given) (bytes : List ℕ) where
     same-count : (n : ℕ) → ◌≡◌ {A = Result ℕ E} (Ok n) (Ok 0) → n ≡ 0
     same-count n same = cc
 
-    pub takes-if : (result : Result ℕ E) → IfOk result (λ n. Receives take stream new slave b clock (first n bytes)) → IfOk result (λ n. n ≤ length bytes)
+    pub takes-if : (result : Result ℕ E) → IfOk result (λ n. Receives take stream new slave b given (first n bytes)) → IfOk result (λ n. n ≤ length bytes)
         → IfOk result (λ n. (n ≡ length bytes) ⊎ (may_hear b ≡ false)) → IfOk result (λ n. (n ≡ length bytes) ⊎ ((n ≡ 0) ⊎ (new.held ≡ [])))
         → OnOk result (new.closed ≡ false) → (stream.closed ≡ false → may_hear slave ≡ false → (result ≡ Ok 0) × (new ≡ stream) × (b ≡ slave))
-        → (stream.closed ≡ true → IsErr result) → IfOk result (TakesBytes take a (with_slots b new tasks) clock bytes)
+        → (stream.closed ≡ true → IsErr result) → IfOk result (TakesBytes take a (with_slots b new tasks) given bytes)
     takes-if (Err e) receives within all ends still none closed = tt
     takes-if (Ok n) receives within all ends still none closed =
         let was = not-closed (λ on. false≢true (closed on)) in
-        subst (λ (x : LendingSlaveState S T). TakesBytes take x (with_slots b new tasks) clock bytes n) is
+        subst (λ (x : LendingSlaveState S T). TakesBytes take x (with_slots b new tasks) given bytes n) is
         (record {
           receives = receives;
           within = within;
@@ -78,11 +79,11 @@ module _ {S T F : Type 0} (take : TakeGhosts T F) (slave : SlaveState S T) (stre
           tasks = refl;
         })
 
-    pub refuses-if : (result : Result ℕ E) → (stream.closed ≡ false → OnErr result (LosesStream take stream new slave b clock bytes))
-        → (stream.closed ≡ true → (new ≡ stream) × (b ≡ slave)) → OnErr result (RefusesBytes take a (with_slots b new tasks) clock bytes)
+    pub refuses-if : (result : Result ℕ E) → (stream.closed ≡ false → OnErr result (LosesStream take stream new slave b given bytes))
+        → (stream.closed ≡ true → (new ≡ stream) × (b ≡ slave)) → OnErr result (RefusesBytes take a (with_slots b new tasks) given bytes)
     refuses-if (Ok n) bad stays = tt
     refuses-if (Err e) bad stays =
-        subst (λ (x : LendingSlaveState S T). RefusesBytes take x (with_slots b new tasks) clock bytes) is
+        subst (λ (x : LendingSlaveState S T). RefusesBytes take x (with_slots b new tasks) given bytes) is
         (record {
           bad = bad;
           closed = λ on. let so = stays on in (λ i. with_slots (so.1 i) (so.0 i) tasks);
@@ -90,8 +91,8 @@ module _ {S T F : Type 0} (take : TakeGhosts T F) (slave : SlaveState S T) (stre
         })
 
     -- event channels are on their lines still
-    pub receives-lines : (result : Result ℕ E) → IfOk result (λ n. Receives take stream new slave b clock (first n bytes))
-        → (stream.closed ≡ false → OnErr result (LosesStream take stream new slave b clock bytes))
+    pub receives-lines : (result : Result ℕ E) → IfOk result (λ n. Receives take stream new slave b given (first n bytes))
+        → (stream.closed ≡ false → OnErr result (LosesStream take stream new slave b given bytes))
         → (stream.closed ≡ true → (new ≡ stream) × (b ≡ slave)) → KeepsLines slave b
     receives-lines (Ok n) receives bad stays = receives.hears.goes.0
     receives-lines (Err e) receives bad stays =

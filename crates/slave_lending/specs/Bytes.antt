@@ -1,6 +1,7 @@
 -- What a slave does with the bytes of its master.
 use Rattle.std.specs.Prelude.{◌≡◌, ◌⊎◌, ℕ, ◌≤◌, false, true, List, [], ◌++◌, length}
 use Rattle.std.specs.Prelude.{take as first}
+use Rattle.session.specs.Past.{Given}
 use Rattle.channel_ring.specs.declared.ends.TakeEnd.{Ghosts as TakeGhosts}
 use Rattle.slave_outbox.specs.Outboxes.{has_waiting}
 use Rattle.frame_writer.specs.Reading.{ReaderStandsAfter}
@@ -12,9 +13,9 @@ use Rattle.slave_lending.specs.States.{LendingSlaveState}
 module _ {S T F : Type 0} (take : TakeGhosts T F) where
   -- so many bytes of a stream were taken, all or those up to the end of a frame behind which no
   -- reply finds room; and the packets of the frames that they ended were heard
-  pub record TakesBytes (a b : LendingSlaveState S T) (clock : ℕ) (bytes : List ℕ) (n : ℕ)
+  pub record TakesBytes (a b : LendingSlaveState S T) (given : Given) (bytes : List ℕ) (n : ℕ)
       : Type 0 where
-    pub receives : Receives take a.stream b.stream a.slave b.slave clock (first n bytes)
+    pub receives : Receives take a.stream b.stream a.slave b.slave given (first n bytes)
     pub within : n ≤ length bytes
     pub all : (n ≡ length bytes) ⊎ (may_hear b.slave ≡ false)
     pub ends : (n ≡ length bytes) ⊎ ((n ≡ 0) ⊎ (b.stream.held ≡ []))
@@ -25,18 +26,19 @@ module _ {S T F : Type 0} (take : TakeGhosts T F) where
 
   -- a frame was bad: the packets before it were heard, the slave disconnected, and the stream is
   -- closed; if it was closed before, nothing changed
-  pub record RefusesBytes (a b : LendingSlaveState S T) (clock : ℕ) (bytes : List ℕ) : Type 0 where
+  pub record RefusesBytes (a b : LendingSlaveState S T) (given : Given) (bytes : List ℕ)
+      : Type 0 where
     pub bad :
         a.stream.closed ≡ false
-        → LosesStream take a.stream b.stream a.slave b.slave clock bytes
+        → LosesStream take a.stream b.stream a.slave b.slave given bytes
     pub closed : a.stream.closed ≡ true → b ≡ a
     pub tasks : b.tasks ≡ a.tasks
 
   -- so many bytes of a datagram were taken, all or those up to the end of a frame behind which no
   -- reply finds room; and the packets of its frames were heard
-  pub record HearsBytes (a b : LendingSlaveState S T) (clock : ℕ) (bytes : List ℕ) (n : ℕ)
+  pub record HearsBytes (a b : LendingSlaveState S T) (given : Given) (bytes : List ℕ) (n : ℕ)
       : Type 0 where
-    pub hears : HearsDatagram take a.slave b.slave clock bytes n
+    pub hears : HearsDatagram take a.slave b.slave given bytes n
     pub within : n ≤ length bytes
     pub all : (n ≡ length bytes) ⊎ (may_hear b.slave ≡ false)
     pub stream : b.stream ≡ a.stream

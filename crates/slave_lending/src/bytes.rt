@@ -1,5 +1,6 @@
 //! The slave hears its master.
 ghost use Rattle.std.specs.Prelude.{◌≡◌, IfOk, OnErr};
+ghost use Rattle.session.specs.Standing.{given_by};
 ghost use Rattle.slave.specs.Hearing.{is_spent};
 ghost use Rattle.slave_lending.specs.Bytes.{HangsUp, HearsBytes, RefusesBytes, TakesBytes};
 
@@ -18,20 +19,29 @@ impl<R: Ring> LendingSlave<R> {
     }
 
     /// Takes bytes of a stream, as `MasterStream::receive`, and returns how many.
-    pub fn receive(&mut self, alloc: Global, bytes: &[u8], clock: u32) -> Result<usize, BadFrame>
-        ensures ok { IfOk result (TakesBytes R.Take.TakeEnd self.old self.new clock bytes.now) }
+    pub fn receive(
+        &mut self,
+        alloc: Global,
+        bytes: &[u8],
+        clock: u32,
+        memory: &[&[u8]],
+    ) -> Result<usize, BadFrame>
+        ensures ok { IfOk result
+            (TakesBytes R.Take.TakeEnd self.old self.new (given_by clock memory.now) bytes.now) }
         ensures bad { OnErr result
-            (RefusesBytes R.Take.TakeEnd self.old self.new clock bytes.now) }
+            (RefusesBytes R.Take.TakeEnd self.old self.new (given_by clock memory.now) bytes.now) }
     {
-        self.stream.receive(&mut self.slave, alloc, bytes, clock)
+        self.stream
+            .receive(&mut self.slave, alloc, bytes, clock, memory)
     }
 
     /// Hears the frames of a datagram, as `slave::datagram`, and returns how many bytes it
     /// took.
-    pub fn datagram(&mut self, alloc: Global, bytes: &[u8], clock: u32) -> usize
-        ensures { HearsBytes R.Take.TakeEnd self.old self.new clock bytes.now result }
+    pub fn datagram(&mut self, alloc: Global, bytes: &[u8], clock: u32, memory: &[&[u8]]) -> usize
+        ensures { HearsBytes R.Take.TakeEnd self.old self.new (given_by clock memory.now)
+            bytes.now result }
     {
-        datagram(&mut self.slave, alloc, bytes, clock)
+        datagram(&mut self.slave, alloc, bytes, clock, memory)
     }
 
     /// The transport was lost: the slave hangs up, which throws away what waits, and what is held

@@ -17,6 +17,8 @@ pub enum ErrCode {
     CmdSyntax,
     /// ERR_OUT_OF_RANGE: a number in the command is out of its range.
     OutOfRange,
+    /// ERR_ACCESS_DENIED: the memory that the command reads isn't there.
+    AccessDenied,
     /// ERR_MODE_NOT_VALID: a mode that there isn't.
     ModeNotValid,
     /// ERR_SEQUENCE: the command may not follow those before it.
@@ -39,6 +41,7 @@ impl ErrCode {
             ErrCode::CmdUnknown => 0x20,
             ErrCode::CmdSyntax => 0x21,
             ErrCode::OutOfRange => 0x22,
+            ErrCode::AccessDenied => 0x24,
             ErrCode::ModeNotValid => 0x27,
             ErrCode::Sequence => 0x29,
             ErrCode::DaqConfig => 0x2A,

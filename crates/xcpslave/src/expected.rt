@@ -14,6 +14,9 @@ pub fn key_of(bad: BadKey) -> Option<&'static str> {
         BadKey::Ticks => Some("ticks"),
         BadKey::Base => Some("base"),
         BadKey::Name => Some("name"),
+        BadKey::A2lName => Some("a2l_name"),
+        BadKey::Epk => Some("epk"),
+        BadKey::A2l => Some("a2l"),
         BadKey::Events => Some("events"),
         BadKey::Script => Some("script"),
     }
@@ -31,7 +34,7 @@ pub fn write_expected(why: &mut String, bad: BadKey) -> Result<(), AllocError> {
         BadKey::Unit => "an integer from 0 to 9\n",
         BadKey::Ticks => "an integer from 1 to 65535\n",
         BadKey::Base => "an integer from 0 to 4294967295\n",
-        BadKey::Name => "a string\n",
+        BadKey::Name | BadKey::A2lName | BadKey::Epk | BadKey::A2l => "a string\n",
         BadKey::Events => "an array of tables, one for each event channel\n",
         BadKey::Script => "an array of at most 1000000 strings\n",
     })

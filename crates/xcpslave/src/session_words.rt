@@ -31,6 +31,13 @@ fn write_line(text: &mut String, line: &Line) -> Result<(), AllocError> {
                 "trigger of event channel {channel}, timestamp {stamp}: {bytes}"
             )
         }
+        Line::Memory(image) if image.is_empty() => {
+            text.push_str("memory: none is there for the next packets\n")
+        }
+        Line::Memory(image) => {
+            let bytes = ByteText { bytes: image };
+            writeln!(text, "memory for the next packets: {bytes}")
+        }
         Line::Send => text.push_str("send: all that waits is sent\n"),
         Line::Lose => text.push_str("lose: the transport refuses what waits\n"),
         Line::HangUp => text.push_str("hang_up: the transport is lost\n"),

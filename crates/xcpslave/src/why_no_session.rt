@@ -6,7 +6,7 @@ use std::alloc::{AllocError, Global};
 use toml::Table;
 
 /// The keys of a session file.
-const KEYS: [&str; 10] = [
+const KEYS: [&str; 13] = [
     "image_len",
     "id",
     "stamp_size",
@@ -15,6 +15,9 @@ const KEYS: [&str; 10] = [
     "ticks",
     "base",
     "name",
+    "a2l_name",
+    "epk",
+    "a2l",
     "events",
     "script",
 ];
@@ -24,9 +27,9 @@ const EVENT: &str = "expected: a table with capacity, an integer of 0 or more, a
 a string, and cycle, cycle_unit and priority, integers from 0 to 255\n";
 
 /// What a string of `script` should be.
-const LINE: &str = "expected: master, master HEX, trigger C STAMP IMAGE, send, lose or hang_up; \
-one space between words, HEX 1 to 255 bytes, C 0 to 255, STAMP 0 to 4294967295, \
-IMAGE hexadecimal\n";
+const LINE: &str = "expected: master, master HEX, trigger C STAMP IMAGE, memory IMAGE, memory -, \
+send, lose or hang_up; one space between words, HEX 1 to 255 bytes, C 0 to 255, \
+STAMP 0 to 4294967295, IMAGE hexadecimal\n";
 
 /// Why a text, which has this name and this fault, is no session: where it stands, what stands
 /// there, and what was expected.

@@ -7,6 +7,15 @@ returns-in-Disconnect-clause-ok c = rw c.in-Disconnect.is c.disconnect.ensures.r
 pub returns-in-Upload-clause-ok : goal.returns-in-Upload-clause-ok
 returns-in-Upload-clause-ok c = rw c.in-Upload.is c.upload.ensures.reply
 
+pub returns-in-GetId-clause-ok : goal.returns-in-GetId-clause-ok
+returns-in-GetId-clause-ok c = rw c.in-GetId.is c.id.ensures.reply
+
+pub returns-in-SetMta-clause-ok : goal.returns-in-SetMta-clause-ok
+returns-in-SetMta-clause-ok c = rw c.in-SetMta.is c.set_mta.ensures.reply
+
+pub returns-in-ShortUpload-clause-ok : goal.returns-in-ShortUpload-clause-ok
+returns-in-ShortUpload-clause-ok c = rw c.in-ShortUpload.is c.short_upload.ensures.reply
+
 pub returns-in-GetDaqEventInfo-clause-ok : goal.returns-in-GetDaqEventInfo-clause-ok
 returns-in-GetDaqEventInfo-clause-ok c = rw c.in-GetDaqEventInfo.is c.event_info.ensures.reply
 
@@ -19,9 +28,6 @@ returns-in-Connect-clause-ok c = λ past stands. rw c.in-Connect.is (c.connect_a
 
 pub returns-in-GetStatus-clause-ok : goal.returns-in-GetStatus-clause-ok
 returns-in-GetStatus-clause-ok c = λ past stands. rw c.in-GetStatus.is (c.status.ensures past stands, stands)
-
-pub returns-in-GetId-clause-ok : goal.returns-in-GetId-clause-ok
-returns-in-GetId-clause-ok c = λ past stands. rw c.in-GetId.is (c.id.ensures past stands, stands)
 
 pub returns-in-GetDaqListMode-clause-ok : goal.returns-in-GetDaqListMode-clause-ok
 returns-in-GetDaqListMode-clause-ok c = λ past stands. rw c.in-GetDaqListMode.is (c.list_mode.ensures past stands, stands)

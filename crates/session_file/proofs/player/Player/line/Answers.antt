@@ -2,7 +2,7 @@ use Rattle.std.proofs.Common.{Vec, [], ◌∷◌, sym, ap, subst, arith}
 use Rattle.frame_writer.specs.MemoryOuts.{VecOutState}
 use Rattle.session_file.specs.Inner.{line_data}
 use Rattle.session_file.specs.Playing.{Advances, lines_of, masters, most_a_line, sending}
-use Rattle.session_file.proofs.PlayLemmas.{advances-within, does-other, nothing, on_ok}
+use Rattle.session_file.proofs.PlayLemmas.{advances-within, does-other, nothing, on-any, on_ok}
 use Rattle.session_file.proofs.player.Player.line.Goals as goal
 
 -- a trigger changes nothing of the slave
@@ -19,6 +19,21 @@ returns-in-Trigger g c =
           (advances-within take 0 most_a_line (sending was.slave was.out.contents) (sending was.slave was.out.contents) [] (omega arith) (nothing take was.slave was.out.contents))));
       tasks = c.trigger.ensures.tasks;
     }
+
+-- nor does memory
+pub returns-in-Memory : goal.returns-in-Memory
+returns-in-Memory g c =
+    let take = g.R.Take.TakeEnd in
+    let was = c.args.self.now in
+    let now = c.put_memory.new.self in
+    let stays = c.put_memory.ensures.refused_stays in
+    let does =
+    does-other take (sending was.slave was.out.contents) (sending now.slave now.out.contents) was.refused now.refused (line_data c.args.line.now)
+    (ap (λ l. masters (line_data l ∷ [])) c.in-Memory.is) (omega (arith, stays)) (omega (arith, stays))
+    (subst (λ s. Advances take most_a_line (sending was.slave was.out.contents) (sending s now.out.contents) []) (sym c.put_memory.ensures.slave_stays)
+    (subst (λ (o : VecOutState). Advances take most_a_line (sending was.slave was.out.contents) (sending was.slave o.contents) []) (sym c.put_memory.ensures.out_stays)
+    (advances-within take 0 most_a_line (sending was.slave was.out.contents) (sending was.slave was.out.contents) [] (omega arith) (nothing take was.slave was.out.contents)))) in
+    record { does = on-any c.put_memory.result does; tasks = ap (λ (ts : Vec _ _). lines_of ts.items) c.put_memory.ensures.tasks_stay }
 
 pub returns-in-Send : goal.returns-in-Send
 returns-in-Send g c =

@@ -1,3 +1,4 @@
+use Rattle.session.specs.Standing.{given_by}
 use Rattle.std.proofs.Common.{◌≡◌, ◌⊎◌, ◌≤◌, [], length, take as first, false}
 use Rattle.slave.specs.Hearing.{may_hear}
 use Rattle.slave.specs.Receiving.{Receives}
@@ -8,7 +9,7 @@ abbrev pub invariant-loop : goal.invariant-loop
 invariant-loop g l = record {
   within : l.at ≤ length l.bytes;
   far : l.counter ≤ l.at;
-  receives : Receives g.R.Take.TakeEnd l.fn.self l.self l.fn.slave l.slave l.clock (first l.at l.bytes);
+  receives : Receives g.R.Take.TakeEnd l.fn.self l.self l.fn.slave l.slave (given_by l.clock l.memory) (first l.at l.bytes);
   ends : (l.at ≡ length l.bytes) ⊎ ((l.at ≡ 0) ⊎ (l.self.held ≡ []));
   still_open : l.self.closed ≡ false;
   no_room : may_hear l.fn.slave ≡ false → (l.at ≡ 0) × (l.self ≡ l.fn.self) × (l.slave ≡ l.fn.slave);

@@ -1,3 +1,4 @@
+use Rattle.session.specs.Standing.{given_by}
 use Rattle.std.proofs.Common.{sym, ◌∙◌}
 use Rattle.slave_lending.proofs.ByteLemmas.{receives-lines, refuses-if, takes-if}
 use Rattle.slave_lending.proofs.lending_slave.LendingSlave.receive.Goals as goal
@@ -8,7 +9,7 @@ invariant_of-self g c =
     let so = c.receive.ensures in (
       c.self.invariant.0
           ∙ sym (receives-lines g.R.Take.TakeEnd c.self.inside.slave c.self.inside.stream c.self.inside.slots.items c.args.self.now c.self.view_is
-          c.receive.new.self c.receive.new.slave c.args.clock c.args.bytes.now c.receive.result so.ok so.bad so.closed_stays),
+          c.receive.new.self c.receive.new.slave (given_by c.args.clock c.args.memory.now) c.args.bytes.now c.receive.result so.ok so.bad so.closed_stays),
       c.self.invariant.1,
       c.self.invariant.2,
     )
@@ -17,10 +18,10 @@ pub returns-clause-ok : goal.returns-clause-ok
 returns-clause-ok g c =
     let so = c.receive.ensures in
     takes-if g.R.Take.TakeEnd c.self.inside.slave c.self.inside.stream c.self.inside.slots.items c.args.self.now c.self.view_is
-    c.receive.new.self c.receive.new.slave c.args.clock c.args.bytes.now c.receive.result so.ok so.within so.all so.ends so.stays_open so.no_room so.closed
+    c.receive.new.self c.receive.new.slave (given_by c.args.clock c.args.memory.now) c.args.bytes.now c.receive.result so.ok so.within so.all so.ends so.stays_open so.no_room so.closed
 
 pub returns-clause-bad : goal.returns-clause-bad
 returns-clause-bad g c =
     let so = c.receive.ensures in
     refuses-if g.R.Take.TakeEnd c.self.inside.slave c.self.inside.stream c.self.inside.slots.items c.args.self.now c.self.view_is
-    c.receive.new.self c.receive.new.slave c.args.clock c.args.bytes.now c.receive.result so.bad so.closed_stays
+    c.receive.new.self c.receive.new.slave (given_by c.args.clock c.args.memory.now) c.args.bytes.now c.receive.result so.bad so.closed_stays
