@@ -57,7 +57,8 @@
  * Memory
  *   - A slave with n event channels and their tasks, and with l DAQ lists that have o ODTs and e
  *     entries in all, has at most so many bytes of malloc's. Only tested, by session_test.c:
- *         the slave, from its opening on   28000 + 18800 n; with NG_RING_BYTES 28000 + 23800 n
+ *         the slave, from its opening on   28400 + 19200 n + a2l_len; with NG_RING_BYTES
+ *                                          28400 + 24200 n + a2l_len
  *         its lists, until they are freed  40 l + 24 o + 12 e
  *         a measurement                    2200 n + 160 l + 100 o + 56 e, and for each ring 560
  *                                          times its capacity, or with NG_RING_BYTES its capacity
@@ -65,7 +66,7 @@
  *     ng_slave_close. A task that took no trigger since, or whose stops found no room, keeps it
  *     longer; then it stands beside the next one. There are never more than two.
  *   - For example, two event channels of 64 samples and 15 lists of 8 ODTs of 15 entries take
- *     254 kB while they are measured, and 229 kB behind DISCONNECT. At the limits, 8 event channels
+ *     256 kB while they are measured, and 231 kB behind DISCONNECT. At the limits, 8 event channels
  *     of 1024 samples and 16 lists of 8 ODTs of 32 entries, it is 5.02 MB, and with two
  *     measurements 9.76 MB.
  *

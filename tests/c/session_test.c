@@ -323,7 +323,6 @@ static void reading(void) {
     ng_event event = event_of("e0");
     ng_slave slave = NG_SLAVE_INIT;
     char a2l[sizeof told];
-    begin("reading without a DAQ list");
     memcpy(a2l, told, sizeof told);
     memcpy(profile.a2l_name, "file", 4);
     memcpy(profile.epk, "v1", 2);
@@ -349,16 +348,21 @@ static void reading(void) {
     hear(&slave, "08000000f401000000000000" "01000000fe");
     sends(&slave, "02000d00fe24" "02000e00fe24" "02000f00fe24" "01001000ff");
     close_with(&slave, NULL, 0);
-    end();
 }
 
 static void readings(void) {
+    begin("reading without a DAQ list, by a stream");
     reading();
+    end();
+    begin("that byte by byte");
     way = PIECES;
     reading();
+    end();
+    begin("that by datagrams");
     way = DATAGRAMS;
     reading();
     way = STREAM;
+    end();
 }
 
 static void sessions(void) {
@@ -602,13 +606,15 @@ static void within(unsigned long least, unsigned long bytes, unsigned long most,
     want(holds, what);
 }
 
-/* What nerthogal.h says of the bytes that a slave takes at most, and when it gives them back. */
+/* What nerthogal.h says of the bytes that a slave takes at most, and when it gives them back. All its
+ * texts are as long as may be. */
 static void heap_of(const struct load *load) {
+    static const uint8_t a2l[1000] = {0};
     bool of_bytes = ring == NG_RING_BYTES;
     unsigned l = load->lists, o = l * load->odts, e = o * load->entries, n = load->channels;
     unsigned long capacity = of_bytes ? 64 * load->capacity : load->capacity;
     if (of_bytes && capacity < NG_MIN_BYTE_RING) capacity = NG_MIN_BYTE_RING;
-    unsigned long of_slave = 28000 + (of_bytes ? 23800 : 18800) * n;
+    unsigned long of_slave = 28400 + (of_bytes ? 24200 : 19200) * n + sizeof a2l;
     unsigned long of_lists = 40 * l + 24 * o + 12 * e, of_ring = (of_bytes ? 1 : 560) * capacity;
     unsigned long most = 2200 * n + 160 * l + 100 * o + 56 * e + n * of_ring;
     ng_profile profile = profile_of();
@@ -618,11 +624,15 @@ static void heap_of(const struct load *load) {
     unsigned long before = memory_bytes;
     profile.image_len = 256;
     profile.id = load->id;
+    memset(profile.name, 'n', NG_MAX_NAME);
+    memset(profile.a2l_name, 'a', NG_MAX_NAME);
+    memset(profile.epk, 'e', NG_MAX_NAME);
+    memset(events[0].name, 'e', NG_MAX_NAME);
     for (unsigned c = 0; c < n; c++) {
         events[c] = events[0];
         events[c].capacity = capacity;
     }
-    want(ng_slave_open(&profile, events, n, NO_A2L, &slave) == NG_OK, "open");
+    want(ng_slave_open(&profile, events, n, a2l, sizeof a2l, &slave) == NG_OK, "open");
     for (unsigned c = 0; c < n; c++) tasks[c] = task_of(&slave, (uint16_t)c);
     unsigned long opened = memory_bytes;
     within(0, opened - before, of_slave, "of a slave");
@@ -631,7 +641,7 @@ static void heap_of(const struct load *load) {
     start_all(&slave, load);
     unsigned long measures = memory_bytes;
     within(0, measures - opened - of_lists, most, "of a measurement");
-    if (n == 2 && !of_bytes) within(236000, measures - before, 260000, "some 254 kB");
+    if (n == 2 && !of_bytes) within(238000, measures - before, 260000, "some 256 kB");
     trigger_all(tasks, load);
     ask(&slave, "fe");
     /* each stop of a list finds room, also in a ring of one place */
