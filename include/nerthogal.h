@@ -57,18 +57,17 @@
  * Memory
  *   - A slave with n event channels and their tasks, and with l DAQ lists that have o ODTs and e
  *     entries in all, has at most so many bytes of malloc's. Only tested, by session_test.c:
- *         the slave, from its opening on   28400 + 19200 n + a2l_len; with NG_RING_BYTES
- *                                          28400 + 24200 n + a2l_len
- *         its lists, until they are freed  40 l + 24 o + 12 e
- *         a measurement                    2200 n + 160 l + 100 o + 56 e, and for each ring 560
+ *         the slave, from its opening on   28800 + 21600 n + a2l_len; with NG_RING_BYTES
+ *                                          28800 + 26600 n + a2l_len
+ *         its lists, until they are freed  40 l + 24 o + 16 e
+ *         a measurement                    3000 n + 160 l + 100 o + 80 e, and for each ring 560
  *                                          times its capacity, or with NG_RING_BYTES its capacity
  *   - A measurement that has ended, by DISCONNECT too, is freed where the next one begins, or by
  *     ng_slave_close. A task that took no trigger since, or whose stops found no room, keeps it
  *     longer; then it stands beside the next one. There are never more than two.
- *   - For example, two event channels of 64 samples and 15 lists of 8 ODTs of 15 entries take
- *     256 kB while they are measured, and 231 kB behind DISCONNECT. At the limits, 8 event channels
- *     of 1024 samples and 16 lists of 8 ODTs of 32 entries, it is 5.02 MB, and with two
- *     measurements 9.76 MB.
+ *   - For example, two event channels of 64 samples and 15 lists of 8 ODTs of 15 entries take some
+ *     310 kB while they are measured. At the limits, 8 event channels of 1024 samples and 16 lists
+ *     of 8 ODTs of 32 entries, it is at most 5.4 MB, and with two measurements 10.5 MB.
  *
  * No call aborts, and none reads or writes beyond the given lengths, whatever bytes and numbers it
  * is given. */
@@ -81,9 +80,9 @@
 
 /* The version of this header and its library. */
 #define NG_VERSION_MAJOR 0
-#define NG_VERSION_MINOR 3
+#define NG_VERSION_MINOR 4
 #define NG_VERSION_PATCH 0
-#define NG_VERSION "0.3.0"
+#define NG_VERSION "0.4.0"
 
 #ifdef __cplusplus
 extern "C" {
@@ -188,7 +187,7 @@ typedef struct {
 
 /* What a slave is opened with, beside its event channels. */
 typedef struct {
-    size_t image_len;           /* bytes of a memory image: 1 to NG_MAX_IMAGE */
+    size_t image_len;           /* bytes of a memory image: 1 to 2^32 */
     uint32_t base;              /* the address of its first byte: base + image_len <= 2^32 */
     ng_id_kind id;              /* the identification field of each DAQ packet */
     ng_ring ring;               /* the kind of the rings, one ring per event channel */

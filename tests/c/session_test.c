@@ -186,7 +186,7 @@ static void openings(void) {
         ng_profile p = good;
         ng_event e = event_of("e0");
         if (k == 0) p.image_len = 0;
-        if (k == 1) p.image_len = NG_MAX_IMAGE + 1;
+        if (k == 1) p.image_len = 0x100000001u;
         if (k == 2) p.id = 3;
         if (k == 3) p.ring = 2;
         if (k == 4) p.ticks = 0;
@@ -614,9 +614,9 @@ static void heap_of(const struct load *load) {
     unsigned l = load->lists, o = l * load->odts, e = o * load->entries, n = load->channels;
     unsigned long capacity = of_bytes ? 64 * load->capacity : load->capacity;
     if (of_bytes && capacity < NG_MIN_BYTE_RING) capacity = NG_MIN_BYTE_RING;
-    unsigned long of_slave = 28400 + (of_bytes ? 24200 : 19200) * n + sizeof a2l;
-    unsigned long of_lists = 40 * l + 24 * o + 12 * e, of_ring = (of_bytes ? 1 : 560) * capacity;
-    unsigned long most = 2200 * n + 160 * l + 100 * o + 56 * e + n * of_ring;
+    unsigned long of_slave = 28800 + (of_bytes ? 26600 : 21600) * n + sizeof a2l;
+    unsigned long of_lists = 40 * l + 24 * o + 16 * e, of_ring = (of_bytes ? 1 : 560) * capacity;
+    unsigned long most = 3000 * n + 160 * l + 100 * o + 80 * e + n * of_ring;
     ng_profile profile = profile_of();
     ng_event events[8] = {event_of("e")};
     ng_slave slave = NG_SLAVE_INIT;
@@ -641,7 +641,7 @@ static void heap_of(const struct load *load) {
     start_all(&slave, load);
     unsigned long measures = memory_bytes;
     within(0, measures - opened - of_lists, most, "of a measurement");
-    if (n == 2 && !of_bytes) within(238000, measures - before, 260000, "some 256 kB");
+    if (n == 2 && !of_bytes) within(290000, measures - before, 330000, "some 310 kB");
     trigger_all(tasks, load);
     ask(&slave, "fe");
     /* each stop of a list finds room, also in a ring of one place */

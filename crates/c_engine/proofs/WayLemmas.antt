@@ -35,14 +35,14 @@ module _ {S E : Type 0} (send : SendGhosts S E) (ring : EndGhosts E) where
   -- a sampler as it is
   pub later-here : (s : SamplerState S) → IsLaterOf send ring s s
   later-here s = record {
-    set_up = record { channel = refl; image_len = refl; plans = refl; capacity = refl; ring = refl };
+    set_up = record { channel = refl; segments = refl; plans = refl; capacity = refl; ring = refl };
     stands = λ past st. (past, goes-on-here past, st);
   }
 
   keeps-more : (s t u : SamplerState S) → KeepsSetUp send s t → KeepsSetUp send t u → KeepsSetUp send s u
   keeps-more s t u a b = record {
     channel = b.channel ∙ a.channel;
-    image_len = b.image_len ∙ a.image_len;
+    segments = b.segments ∙ a.segments;
     plans = b.plans ∙ a.plans;
     capacity = b.capacity ∙ a.capacity;
     ring = b.ring ∙ a.ring;
@@ -66,7 +66,7 @@ module _ {S E : Type 0} (send : SendGhosts S E) (ring : EndGhosts E) where
   later-looked s t u looked later = record {
     set_up = keeps-more s t u later.set_up (record {
       channel = ap (λ (v : SamplerState S). v.channel) looked.rest;
-      image_len = ap (λ (v : SamplerState S). v.image_len) looked.rest;
+      segments = ap (λ (v : SamplerState S). v.segments) looked.rest;
       plans = ap (λ (v : SamplerState S). v.plans) looked.rest;
       capacity = looked.capacity;
       ring = looked.ring;

@@ -15,6 +15,7 @@ use Rattle.c_engine.specs.declared.content.Content.{Content}
 use Rattle.c_engine.specs.declared.content.Content.TheVariants.{Store}
 use Rattle.c_engine.specs.declared.status.Status.{Status}
 use Rattle.c_engine.specs.declared.status.Status.TheVariants as status
+use Rattle.segments.specs.Image.{image_segments}
 use Rattle.c_engine.specs.Kinds.{kind_of}
 
 -- the numbers that a store is asked for by are within their limits: there are three identification
@@ -28,7 +29,7 @@ AreLimits asked =
 -- a store has the profile that it was asked for
 pub record HasAsked (s : StoreState) (asked : StoreNumbers) : Type 0 where
   pub channels : s.profile.channels ≡ asked.channels
-  pub image_len : s.profile.image_len ≡ asked.image_len
+  pub segments : s.profile.segments ≡ image_segments asked.image_len
   pub id : kind_of asked.id ≡ Some s.profile.form.id
   pub stamp : size_of asked.stamp_size ≡ Some s.profile.form.stamp
 

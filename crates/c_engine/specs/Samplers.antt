@@ -15,6 +15,7 @@ use Rattle.sampler.specs.Tracks.{counts_after}
 use Rattle.sampler.specs.declared.counts.ListCounts.{ListCounts}
 use Rattle.sampler.specs.declared.taken.Taken.{Taken}
 use Rattle.sampler.specs.declared.track.Track.{Track}
+use Rattle.segments.specs.Image.{image_len}
 use Rattle.c_engine.specs.States.{ByteSampler, Bytes, ItemSampler, Items}
 use Rattle.c_engine.specs.declared.content.Content.{Content}
 use Rattle.c_engine.specs.declared.content.Content.TheVariants.{Sampler as OfItems}
@@ -41,14 +42,15 @@ module _ {S E : Type 0} (send : SendGhosts S E) (ring : EndGhosts E) where
       : SamplerState S → SamplerState S → List ℕ → ℕ → TakenOut → TakenOut → Status
       → Type 0
   TriggersSampler s t image stamp before after status.Ok =
-      (length image ≡ s.image_len) × KeepsSetUp send s t
+      (length image ≡ image_len s.segments) × KeepsSetUp send s t
       × ((taken : Taken) × (after ≡ taken_out taken)
       × ((past : Past) → StandsAfter send ring s past
       → TakesTrigger send ring s t taken past image stamp))
   TriggersSampler s t image stamp before after status.WrongImage =
-      (length image ≢ s.image_len) × (t ≡ s) × (after ≡ before)
+      (length image ≢ image_len s.segments) × (t ≡ s) × (after ≡ before)
   TriggersSampler s t image stamp before after status.Spent =
-      (length image ≡ s.image_len) × (s.triggers ≡ MAX_TRIGGERS) × (t ≡ s) × (after ≡ before)
+      (length image ≡ image_len s.segments) × (s.triggers ≡ MAX_TRIGGERS) × (t ≡ s)
+      × (after ≡ before)
   TriggersSampler s t image stamp before after _ = ⊥
 
   -- what a sampler does where a list is to be started

@@ -1,9 +1,11 @@
 -- The profile that C asks for.
-use Rattle.std.specs.Prelude.{◌≡◌, ◌≢◌, ◌⊎◌, ℕ, ◌==◌, if◌then◌else◌, List, [], ◌∷◌, map}
+use Rattle.std.specs.Prelude.{◌≡◌, ◌≢◌, ◌⊎◌, ℕ, ◌==◌, if◌then◌else◌, List, [], ◌∷◌, length, map}
 use Rattle.std.specs.Prelude.{Some, None}
 use Rattle.c_engine.specs.Kinds.{kind_of, ring_of}
 use Rattle.c_engine.specs.declared.status.Status.{Status}
 use Rattle.c_engine.specs.declared.status.Status.TheVariants as status
+use Rattle.segments.specs.Segment.{all_readers}
+use Rattle.segments.specs.declared.segment.Segment.{Segment}
 use Rattle.session.specs.Profiles.{profile_fault}
 use Rattle.session.specs.declared.event_channel.EventChannel.{EventChannel}
 use Rattle.session.specs.declared.profile.Profile.{Profile}
@@ -42,15 +44,25 @@ told_of e = record {
   priority = e.priority;
 }
 
+-- the image as one segment, that all of so many event channels may read
+abbrev pub memory_in : ProfileIn → ℕ → List Segment
+memory_in p channels =
+    record {
+      extension = 0;
+      base = p.base;
+      len = p.image_len;
+      events = all_readers channels;
+    }
+    ∷ []
+
 -- this is the profile that is asked for
 pub record IsProfileOf (p : ProfileIn) (events : List EventIn) (a2l : List ℕ) (d : Profile)
     : Type 0 where
-  pub image_len : d.image_len ≡ p.image_len
+  pub memory : d.segments.items ≡ memory_in p (length events)
   pub id : kind_of p.id ≡ Some d.id
   pub stamp_size : d.stamp_size ≡ p.stamp_size
   pub unit : d.unit ≡ p.unit
   pub ticks : d.ticks ≡ p.ticks
-  pub base : d.base ≡ p.base
   pub rings : ring_of p.ring ≡ Some d.ring
   pub name : d.name.items ≡ text_of p.name
   pub channels : map told_of d.events.items ≡ map told_in events

@@ -1,6 +1,6 @@
 -- What the calls of tasks answer and what they leave, by their status.
 use Rattle.std.specs.Prelude.{◌≡◌, ℕ, ◌≤◌, List, length, slice_get, Option, Some, None, Result}
-use Rattle.std.specs.Prelude.{Ok, Err}
+use Rattle.std.specs.Prelude.{Ok, Err, [], ◌∷◌}
 use Rattle.channel_ring.specs.declared.ends.SendEnd.{Ghosts as SendGhosts}
 use Rattle.channel_ring.specs.declared.ends.RingEnd.{Ghosts as EndGhosts}
 use Rattle.c_engine.specs.Samplers.{taken_out}
@@ -10,7 +10,7 @@ use Rattle.c_slave.specs.declared.content.Content.TheVariants as held
 use Rattle.c_engine.specs.declared.status.Status.{Status}
 use Rattle.c_engine.specs.declared.status.Status.TheVariants as status
 use Rattle.c_engine.specs.declared.taken_out.TakenOut.{TakenOut}
-use Rattle.sampler.specs.declared.faults.TriggerFault.TheVariants as fault
+use Rattle.sampler.specs.declared.faults.MemoryFault.TheVariants as fault
 use Rattle.sampler.specs.declared.taken.Taken.{Taken}
 use Rattle.slave_lending.specs.Lends.{LendsTask, most_steps, none_due}
 use Rattle.slave_lending.specs.Slots.{SlotState, with_task}
@@ -61,12 +61,12 @@ module _ {S E : Type 0} (send : SendGhosts S E) (ring : EndGhosts E) where
       : TaskState S → TaskState S → List ℕ → ℕ → TakenOut → TakenOut → Status → Type 0
   TriggersTask s t image stamp before after status.Ok =
       (taken : Taken) × (after ≡ taken_out taken)
-      × TakesTurn send ring most_steps none_due s t image stamp (Ok taken)
+      × TakesTurn send ring most_steps none_due s t (image ∷ []) stamp (Ok taken)
   TriggersTask s t image stamp before after status.WrongImage =
-      TakesTurn send ring most_steps none_due s t image stamp (Err fault.WrongImage)
+      TakesTurn send ring most_steps none_due s t (image ∷ []) stamp (Err fault.WrongMemory)
       × (after ≡ before)
   TriggersTask s t image stamp before after status.Spent =
-      TakesTurn send ring most_steps none_due s t image stamp (Err fault.Spent)
+      TakesTurn send ring most_steps none_due s t (image ∷ []) stamp (Err fault.Spent)
       × (after ≡ before)
   TriggersTask s t image stamp before after _ = ⊥
 

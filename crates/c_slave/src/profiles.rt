@@ -1,12 +1,14 @@
 //! The profile that is asked for.
 ghost use Rattle.std.specs.Prelude.{◌≡◌, IfErr, IfOk, map};
 ghost use Rattle.c_slave.specs.Profiles.{IsGoodProfileOf, IsProfileOf, RefusesProfile};
-ghost use Rattle.c_slave.specs.Profiles.{text_of, told_in, told_of};
+ghost use Rattle.c_slave.specs.Profiles.{memory_in, text_of, told_in, told_of};
 
 use crate::profile_in::{EventIn, ProfileIn};
 use c_engine::{Status, kind_numbered, ring_numbered};
+use segments::{Segment, all_readers};
 use session::{EventChannel, Profile};
 use std::alloc::{AllocError, Global};
+use xcp_base::limits::ADDRESS_EXTENSION;
 
 /// The bytes of a name, up to the first zero byte.
 fn text_of(alloc: Global, name: &[u8]) -> Result<Vec<u8>, AllocError>
@@ -72,6 +74,24 @@ fn texts_of(
     Ok((a2l_name, epk, copy_of(alloc, a2l)?))
 }
 
+/// The memory that is asked for: the image, as one segment, that all event channels may read.
+fn memory_of(
+    alloc: Global,
+    asked: &ProfileIn,
+    channels: usize,
+) -> Result<Vec<Segment>, AllocError>
+    ensures { IfOk result (λ made. made.items ≡ memory_in asked.now channels) }
+{
+    let mut made = Vec::new(alloc);
+    made.push(Segment {
+        extension: ADDRESS_EXTENSION,
+        base: asked.base,
+        len: asked.image_len,
+        events: all_readers(channels),
+    })?;
+    Ok(made)
+}
+
 /// The profile that is asked for, if there are such an identification field and such rings.
 fn profile_of(
     alloc: Global,
@@ -91,6 +111,9 @@ fn profile_of(
     let Ok(name) = text_of(alloc, &asked.name) else {
         return Err(Status::Memory);
     };
+    let Ok(segments) = memory_of(alloc, asked, events.len()) else {
+        return Err(Status::Memory);
+    };
     let Ok(events) = events_of(alloc, events) else {
         return Err(Status::Memory);
     };
@@ -98,12 +121,11 @@ fn profile_of(
         return Err(Status::Memory);
     };
     Ok(Profile {
-        image_len: asked.image_len,
+        segments,
         id,
         stamp_size: asked.stamp_size,
         unit: asked.unit,
         ticks: asked.ticks,
-        base: asked.base,
         ring,
         name,
         events,

@@ -10,7 +10,7 @@ use crate::handle::Handle;
 use byte_ring::ByteRing;
 use c_engine::{HeldRing, Status, TakenOut};
 use channel_ring::{SampleRing, SendEnd};
-use sampler::TriggerFault;
+use sampler::MemoryFault;
 use slave_lending::LentTask;
 use std::alloc::Global;
 
@@ -24,13 +24,13 @@ fn trigger<S: SendEnd>(
     ensures { TriggersTask S.SendEnd S.End.RingEnd
         task.old task.new image.now stamp taken.old taken.new result }
 {
-    match task.trigger(image, stamp) {
+    match task.trigger(&[image], stamp) {
         Ok(sets) => {
             *taken = TakenOut::of(sets);
             Status::Ok
         }
-        Err(TriggerFault::WrongImage) => Status::WrongImage,
-        Err(TriggerFault::Spent) => Status::Spent,
+        Err(MemoryFault::WrongMemory) => Status::WrongImage,
+        Err(MemoryFault::Spent) => Status::Spent,
     }
 }
 

@@ -13,6 +13,13 @@ use Rattle.copy_plan.specs.Packet.{elements}
 use Rattle.copy_plan.specs.Copies.{continues, copies_needed}
 use Rattle.xcp_base.specs.Copied.{copied, IsSpanInside}
 use Rattle.copy_plan.specs.Inner.Joined.{with_bytes, joined_spans}
+use Rattle.copy_plan.specs.Inner.Stretched.{LiesSomewhere}
+use Rattle.segments.specs.declared.segment.Segment.{Segment}
+use Rattle.segments.specs.Image.{image_start}
+use Rattle.segments.specs.Places.{len_of}
+use Rattle.segments.proofs.PlaceLemmas.{touch}
+use Rattle.segments.proofs.ShownLemmas.{Lie, lie, lies_if}
+use Rattle.copy_plan.proofs.WrittenLemmas.{LiesAt}
 
 -- bytes that end where the first span begins are joined with it, other bytes are a span of their own
 joins : (start end : ℕ) (r : Span) (rs : List Span) → r.start ≡ end → with_bytes start end (r ∷ rs) ≡ record { start = start; end = r.end } ∷ rs
@@ -163,9 +170,36 @@ one_joined spans all start end e es is h =
     ∙ is
 
 -- the spans of each of some ODTs
-pub map-joined_spans-written_entries : (odts : List (List (Option Entry))) → map (λ es. joined_spans (written_entries es)) odts ≡ map joined_spans (map written_entries odts)
-map-joined_spans-written_entries [] = refl
-map-joined_spans-written_entries (es ∷ odts) = ap (λ rest. joined_spans (written_entries es) ∷ rest) (map-joined_spans-written_entries odts)
+pub map-joined_spans-written_entries : (c : ℕ) (segments : List Segment) (odts : List (List (Option Entry))) → map (λ es. joined_spans (written_entries c segments es)) odts ≡ map joined_spans (map (written_entries c segments) odts)
+map-joined_spans-written_entries c segments [] = refl
+map-joined_spans-written_entries c segments (es ∷ odts) = ap (λ rest. joined_spans (written_entries c segments es) ∷ rest) (map-joined_spans-written_entries c segments odts)
+
+-- spans of entries that lie in segments lie in segments
+lie-with_bytes : (c : ℕ) (segments : List Segment) (start end i : ℕ) (rs : List Span) → start ≤ end → Lie c segments start end i → All (LiesSomewhere c segments) rs → All (LiesSomewhere c segments) (with_bytes start end rs)
+lie-with_bytes c segments start end i [] h l each =
+    All-cons (LiesSomewhere c segments) (record { start = start; end = end }) [] (record { ordered = h; segment = i; lies = lies_if c segments start end i l }) each
+lie-with_bytes c segments start end i (r ∷ rs) h l each =
+    let here : LiesSomewhere c segments r = All-head (LiesSomewhere c segments) r rs each in
+    let m : Lie c segments r.start r.end here.segment = lie c segments r.start r.end here.segment here.lies in
+    elim (eqb_tells r.start end) [
+      | inl t ↦
+          let n : Lie c segments end r.end here.segment = record { opened = m.opened; begins = omega (arith, m.begins, t.1); ends = m.ends } in
+          let one : i ≡ here.segment = touch c segments start end r.end i here.segment h (omega (arith, here.ordered, t.1)) l n in
+          let both : Lie c segments start r.end i = record {
+            opened = l.opened;
+            begins = l.begins;
+            ends = omega (arith, m.ends, ap (image_start segments) one, ap (len_of segments) one);
+          } in
+          let long : LiesSomewhere c segments (record { start = start; end = r.end }) = record { ordered = omega (arith, h, here.ordered, t.1); segment = i; lies = lies_if c segments start r.end i both } in
+          rw (joins start end r rs t.1) (All-cons (LiesSomewhere c segments) (record { start = start; end = r.end }) rs long (All-tail (LiesSomewhere c segments) r rs each))
+      | inr t ↦ rw (stands_apart start end r rs t.1) (All-cons (LiesSomewhere c segments) (record { start = start; end = end }) (r ∷ rs) (record { ordered = h; segment = i; lies = lies_if c segments start end i l }) each)
+    ]
+
+pub lie-joined_spans : (c : ℕ) (segments : List Segment) (es : List OdtEntry) → All (LiesAt c segments) es → All (LiesSomewhere c segments) (joined_spans es)
+lie-joined_spans c segments [] each = All-nil (LiesSomewhere c segments)
+lie-joined_spans c segments (e ∷ es) each =
+    let first : LiesAt c segments e = All-head (LiesAt c segments) e es each in
+    lie-with_bytes c segments e.0 (e.0 + e.1) first.segment (joined_spans es) (omega arith) first.lies (lie-joined_spans c segments es (All-tail (LiesAt c segments) e es each))
 
 -- what the test of two places tells
 pub apart_if : (a b : ℕ) → (a == b) ≡ false → a ≢ b

@@ -1,6 +1,9 @@
+pub mod CopyLemmas
 pub mod JoinedLemmas
+pub mod MemoryLemmas
 pub mod PacketLemmas
 pub mod PidLemmas
 pub mod ReadyLemmas
 pub mod StandardFacts
+pub mod StretchLemmas
 pub mod WrittenLemmas

@@ -8,8 +8,8 @@ use Rattle.xcp_base.specs.declared.stamp_size.StampSize.{StampSize}
 use Rattle.xcp_base.specs.declared.stamp_size.StampSize.TheVariants.{One, Two, Four}
 use Rattle.xcp_base.specs.Forms.{stamp_bytes, stamp_field}
 use Rattle.xcp_base.specs.Packets.{stamp_len}
-use Rattle.xcp_base.specs.Copied.{copied, copied_packet}
-use Rattle.xcp_base.specs.declared.span.Span.{Span}
+use Rattle.xcp_base.specs.Copied.{packet_of}
+use Rattle.segments.specs.Image.{image_len}
 use Rattle.xcp_base.proofs.FormLemmas.{length-id_field, length-stamp_field}
 use Rattle.copy_plan.specs.Config.{ListPlan, IsPlan, OdtEntry, IsInside, odt}
 use Rattle.copy_plan.specs.Pids.{field}
@@ -31,7 +31,7 @@ length-timestamp plan k stamp =
     elim (k == 0 && plan.stamped) as (λ v. ◌≡◌ {A = ℕ} (length (if v then stamp_field plan.form.stamp stamp else [])) (if v then stamp_bytes plan.form.stamp else 0)) [ true ↦ length-stamp_field plan.form.stamp stamp | false ↦ refl ]
 
 -- the packet has the length that the plan has for it
-pub length-packet : (plan : ListPlan) (image : List ℕ) (stamp k : ℕ) (overload : Bool) → length image ≡ plan.image_len → IsPlan plan → k < length plan.odts → length (packet plan image stamp overload k) ≤ 64
+pub length-packet : (plan : ListPlan) (image : List ℕ) (stamp k : ℕ) (overload : Bool) → length image ≡ image_len plan.segments → IsPlan plan → k < length plan.odts → length (packet plan image stamp overload k) ≤ 64
 unfolding packet
 length-packet plan image stamp k overload h is here =
     let inside : All (IsInside (length image)) (odt plan k) = rw h (is.inside k here) in
@@ -48,6 +48,6 @@ timestamp-front plan k stamp =
     elim (k == 0 && plan.stamped) as (λ v. ◌≡◌ {A = List ℕ} (take (if v then stamp_bytes plan.form.stamp else 0) (bytes_low_first 0 4 stamp)) (if v then stamp_field plan.form.stamp stamp else [])) [ true ↦ stamp_front plan.form.stamp stamp | false ↦ refl ]
 
 -- a field, a timestamp and copies are the packet where each of them is its part
-pub packet_is : (plan : ListPlan) (image : List ℕ) (stamp k : ℕ) (overload : Bool) (first ticks : List ℕ) (spans : List Span) → first ≡ field plan k overload → ticks ≡ timestamp plan k stamp → copied image spans ≡ elements image (odt plan k) → copied_packet first ticks image spans ≡ packet plan image stamp overload k
+pub packet_is : (plan : ListPlan) (image : List ℕ) (stamp k : ℕ) (overload : Bool) (first ticks copies : List ℕ) → first ≡ field plan k overload → ticks ≡ timestamp plan k stamp → copies ≡ elements image (odt plan k) → packet_of first ticks copies ≡ packet plan image stamp overload k
 unfolding packet
-packet_is plan image stamp k overload first ticks spans a b c = cc
+packet_is plan image stamp k overload first ticks copies a b c = cc

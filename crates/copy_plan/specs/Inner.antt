@@ -2,3 +2,4 @@
 pub mod Filled
 pub mod Joined
 pub mod Kept
+pub mod Stretched

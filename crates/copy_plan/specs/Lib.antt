@@ -1,5 +1,7 @@
 pub mod Config
 pub mod Inner
+pub mod Laws
+pub mod Memory
 pub mod Packet
 pub mod Pids
 pub mod Copies

@@ -1,5 +1,6 @@
-//! The hot copy: from an image to the packets of a sample. It takes no memory.
+//! The hot copy: from memory to the packets of a sample. It takes no memory.
 ghost use Rattle.std.specs.Prelude.{◌≡◌, ◌<◌, ◌≤◌, ◌++◌, [], ◌∷◌, length};
+ghost use Rattle.segments.specs.Image.{image_len};
 ghost use Rattle.std.specs.Prelude.{slice_get, option_map, take};
 ghost use Rattle.xcp_base.specs.Forms.{field_len};
 ghost use Rattle.xcp_base.specs.Packets.{stamp_len};
@@ -8,32 +9,42 @@ ghost use Rattle.copy_plan.specs.Packet.{packet, packets};
 ghost use Rattle.copy_plan.specs.Pids.{field, pid};
 ghost use Rattle.copy_plan.specs.Copies.{copies_needed};
 ghost use Rattle.copy_plan.specs.Inner.Joined.{joined_spans};
+ghost use Rattle.copy_plan.specs.Inner.Stretched.{ArePlaced};
+ghost use Rattle.copy_plan.specs.Memory.{FitsMemory, image_in};
 
 use crate::plan::CopyPlan;
 use crate::spans::Spans;
-use xcp_base::Packets;
 use xcp_base::limits::{MAX_ODTS, MAX_STAMP};
+use xcp_base::{MemoryView, Packets};
 
 impl CopyPlan {
     /// The packets of a sample, one for each ODT in their order, all from one image and one
     /// timestamp, which only a stamped list uses; `overload` sets the overload indication.
     pub fn fill(&self, image: &[u8], stamp: u32, overload: bool) -> Packets
-        requires { length image.now ≡ self.now.image_len }
+        requires { length image.now ≡ image_len self.now.segments }
         ensures { result ≡ packets self.now image.now stamp overload }
     {
         let mut sample = Packets::new();
-        self.fill_into(&mut sample, image, stamp, overload);
+        self.fill_into(&mut sample, MemoryView::Image(image), stamp, overload);
         sample
     }
 
-    /// The same in place, whatever packets the value has: it saves the move of a sample.
-    pub fn fill_into(&self, sample: &mut Packets, image: &[u8], stamp: u32, overload: bool)
-        requires image { length image.now ≡ self.now.image_len }
-        ensures { sample.new ≡ packets self.now image.now stamp overload }
+    /// The same of memory as a trigger hands it in, and in place, whatever packets the value has:
+    /// it saves the move of a sample. Of memory nothing but the bytes of entries is read.
+    pub fn fill_into(
+        &self,
+        sample: &mut Packets,
+        memory: MemoryView<'_>,
+        stamp: u32,
+        overload: bool,
+    )
+        requires memory { FitsMemory self.now.channel self.now.segments memory }
+        ensures { sample.new ≡ packets self.now
+            (image_in self.now.channel self.now.segments memory.entry) stamp overload }
     {
         sample.clear();
         for k in 0..self.odts() {
-            self.append_packet(sample, image, stamp, overload, k);
+            self.append_packet(sample, memory, stamp, overload, k);
         }
     }
 
@@ -50,7 +61,8 @@ impl CopyPlan {
     /// The copies that the packet of an ODT is made of: its entries, neighbours joined.
     fn copies_of(&self, k: usize) -> &Spans
         requires { k < length self.now.odts }
-        ensures spans { result.now ≡ joined_spans (odt self.now k) }
+        ensures spans { result.now.spans ≡ joined_spans (odt self.now k) }
+        ensures placed { ArePlaced self.now.channel self.now.segments result.now }
         ensures plan { IsPlan self.now }
     {
         &self.odts[k]
@@ -69,15 +81,17 @@ impl CopyPlan {
     fn append_packet(
         &self,
         sample: &mut Packets,
-        image: &[u8],
+        memory: MemoryView<'_>,
         stamp: u32,
         overload: bool,
         k: usize,
     )
-        requires image { length image.now ≡ self.now.image_len }
+        requires memory { FitsMemory self.now.channel self.now.segments memory }
         requires odt { k < length self.now.odts }
         requires room { length sample.old < MAX_ODTS }
-        ensures { sample.new ≡ sample.old ++ packet self.now image.now stamp overload k ∷ [] }
+        ensures { sample.new ≡ sample.old
+            ++ packet self.now (image_in self.now.channel self.now.segments memory.entry) stamp
+            overload k ∷ [] }
     {
         let field = self.field(k, overload);
         let stamp = stamp.to_le_bytes();
@@ -85,7 +99,7 @@ impl CopyPlan {
         let Ok(()) = sample.push_copied(
             &field[..self.form.id.field_len()],
             &stamp[..self.stamp_len(k)],
-            image,
+            memory,
             copies.as_slice(),
             copies.stretches(),
         ) else {

@@ -1,4 +1,5 @@
 //! Laws of the definitions: each is the contract of a function that does nothing.
+ghost use Rattle.copy_plan.specs.Laws.{ElementsAreMemory};
 ghost use Rattle.copy_plan.specs.Pids.{ListFieldsApart, MarkedPid, PidRanges, PidsApart};
 ghost use Rattle.copy_plan.specs.Pids.{RelativePid};
 
@@ -28,4 +29,10 @@ pub fn relative_pid()
 /// With a relative ODT number packets of two lists differ in the list number behind the PID.
 pub fn list_fields_are_apart()
     ensures { ListFieldsApart }
+{}
+
+/// The elements of a list that is ready are, entry by entry, the bytes at its address extension and
+/// address in the memory that the trigger hands in, where the list's event channel may read them.
+pub fn elements_are_memory()
+    ensures { ElementsAreMemory }
 {}

@@ -1,21 +1,26 @@
 //! A copy plan is made, once, of what is set of a ready DAQ list.
-ghost use Rattle.std.specs.Prelude.{◌≡◌, ◌<◌, ◌≤◌, IfOk, true, length, map};
+ghost use Rattle.std.specs.Prelude.{◌≡◌, ◌<◌, ◌≤◌, All, IfOk, true, length, map};
 ghost use Rattle.xcp_base.specs.Forms.{FitsFirstPid, stamp_bytes};
 ghost use Rattle.daq_store.specs.Configuration.{is_ready};
 ghost use Rattle.copy_plan.specs.declared.plan.PlanFault.TheVariants.{Memory};
 ghost use Rattle.copy_plan.specs.Config.{IsPlan, plan_of, written_entries};
 ghost use Rattle.copy_plan.specs.Inner.Filled.{AreFilled};
 ghost use Rattle.copy_plan.specs.Inner.Joined.{joined_spans};
+ghost use Rattle.copy_plan.specs.Inner.Stretched.{ArePlaced, SpansState};
+ghost use Rattle.segments.specs.Image.{HaveImage, image_len, image_segments};
 
 use crate::spans::Spans;
+use arrayvec::ArrayVec;
 use daq_store::ListConf;
+use segments::limits::MAX_SEGMENTS;
+use segments::{Segment, Segments, image_len, image_segment};
 use std::alloc::{AllocError, Global};
 use std::error::Error;
 use std::fmt;
 use std::marker::Model;
 use std::snapshot::Snapshot;
 use thiserror::Error;
-use xcp_base::limits::{MAX_LISTS, MAX_ODTS};
+use xcp_base::limits::{MAX_CHANNELS, MAX_LISTS, MAX_ODTS};
 use xcp_base::{IdKind, PacketForm};
 
 /// Why no plan was made.
@@ -34,11 +39,12 @@ impl From<AllocError> for PlanFault {
     }
 }
 
-/// What the samples of one ready DAQ list are made of: its ODTs, each as the parts of the image
-/// that its packet copies.
+/// What the samples of one ready DAQ list are made of: its ODTs, each as the parts of memory that
+/// its packet copies.
 ///
 /// Contracts see the list's configuration, entry by entry. Neighbouring entries are joined once,
-/// when the plan is made; the entries themselves are not kept, `conf` has no bytes.
+/// when the plan is made; entries and segments themselves are not kept, `conf` and `segments` have
+/// no bytes.
 #[derive(Drop)]
 pub struct CopyPlan {
     pub(crate) list: u8,
@@ -50,6 +56,7 @@ pub struct CopyPlan {
     pub(crate) image_len: usize,
     pub(crate) odts: Vec<Spans>,
     pub(crate) conf: Snapshot<ListConf>,
+    pub(crate) segments: Snapshot<ArrayVec<Segment, MAX_SEGMENTS>>,
 }
 
 impl Model for CopyPlan {
@@ -77,22 +84,63 @@ impl CopyPlan {
         image_len: usize,
     ) -> Result<CopyPlan, PlanFault>
         requires list { list < MAX_LISTS }
-        requires ready { is_ready image_len conf.now ≡ true }
+        requires ready { is_ready (image_segments image_len) conf.now ≡ true }
         requires pids { FitsFirstPid conf.now.form.id (length conf.now.odts) first_pid }
-        ensures value { IfOk result (λ plan. plan ≡ plan_of list conf.now first_pid image_len) }
+        ensures value { IfOk result
+            (λ plan. plan ≡ plan_of list conf.now first_pid (image_segments image_len)) }
         ensures plan { IfOk result IsPlan }
     {
-        let odts = spans_of_odts(alloc, conf)?;
+        let mut segments = ArrayVec::new();
+        segments.push(image_segment(image_len));
+        CopyPlan::in_these(alloc, list, conf, first_pid, &segments)
+    }
+
+    /// The same for memory in these segments.
+    pub fn over(
+        alloc: Global,
+        list: u8,
+        conf: &ListConf,
+        first_pid: u8,
+        segments: &Segments,
+    ) -> Result<CopyPlan, PlanFault>
+        requires list { list < MAX_LISTS }
+        requires ready { is_ready segments.now conf.now ≡ true }
+        requires pids { FitsFirstPid conf.now.form.id (length conf.now.odts) first_pid }
+        ensures value { IfOk result (λ plan. plan ≡ plan_of list conf.now first_pid segments.now) }
+        ensures plan { IfOk result IsPlan }
+    {
+        CopyPlan::in_these(alloc, list, conf, first_pid, segments.items())
+    }
+
+    /// The same for these segments.
+    fn in_these(
+        alloc: Global,
+        list: u8,
+        conf: &ListConf,
+        first_pid: u8,
+        segments: &ArrayVec<Segment, MAX_SEGMENTS>,
+    ) -> Result<CopyPlan, PlanFault>
+        requires list { list < MAX_LISTS }
+        requires image { HaveImage segments.now.items }
+        requires ready { is_ready segments.now.items conf.now ≡ true }
+        requires pids { FitsFirstPid conf.now.form.id (length conf.now.odts) first_pid }
+        ensures value { IfOk result
+            (λ plan. plan ≡ plan_of list conf.now first_pid segments.now.items) }
+        ensures plan { IfOk result IsPlan }
+    {
+        let channel = conf.channel();
+        let odts = spans_of_odts(alloc, conf, channel, segments.as_slice())?;
         Ok(CopyPlan {
             list,
-            channel: conf.channel(),
+            channel,
             prescaler: conf.prescaler(),
             first_pid,
             form: conf.form(),
             stamped: conf.stamped(),
-            image_len,
+            image_len: image_len(segments.as_slice()),
             odts,
             conf: Snapshot::of(conf),
+            segments: Snapshot::of(segments),
         })
     }
 
@@ -150,25 +198,33 @@ impl CopyPlan {
         self.odts.len()
     }
 
-    /// The length of the images, in bytes.
+    /// The length of an image of its memory, in bytes.
     pub fn image_len(&self) -> usize
-        ensures value { result ≡ self.now.image_len }
+        ensures value { result ≡ image_len self.now.segments }
         ensures plan { IsPlan self.now }
     {
         self.image_len
     }
 }
 
-/// The spans of each ODT of a list.
-fn spans_of_odts(alloc: Global, conf: &ListConf) -> Result<Vec<Spans>, AllocError>
-    requires { AreFilled conf.now }
-    ensures value { IfOk result (λ odts. odts.items
-        ≡ map (λ es. joined_spans (written_entries es)) conf.now.odts) }
+/// The spans of each ODT of a list, whose event channel may read its entries.
+fn spans_of_odts(
+    alloc: Global,
+    conf: &ListConf,
+    channel: u8,
+    segments: &[Segment],
+) -> Result<Vec<Spans>, AllocError>
+    requires image { HaveImage segments.now }
+    requires channel { channel < MAX_CHANNELS }
+    requires filled { AreFilled channel segments.now conf.now }
+    ensures value { IfOk result (λ odts. map (λ (s : SpansState). s.spans) odts.items
+        ≡ map (λ es. joined_spans (written_entries channel segments.now es)) conf.now.odts) }
+    ensures placed { IfOk result (λ odts. All (ArePlaced channel segments.now) odts.items) }
     ensures limit { length conf.now.odts ≤ MAX_ODTS }
 {
     let mut odts = Vec::with_capacity(alloc, conf.odts())?;
     for odt in 0..conf.odts() {
-        odts.push(Spans::of(alloc, conf, odt)?)?;
+        odts.push(Spans::of(alloc, conf, odt, channel, segments)?)?;
     }
     Ok(odts)
 }

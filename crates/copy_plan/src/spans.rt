@@ -1,18 +1,21 @@
-//! The entries of an ODT as spans of the image: entries that touch are copied as one.
-ghost use Rattle.std.specs.Prelude.{◌≡◌, ◌==◌, ◌<◌, ◌≤◌, IfOk, IsSome, All, length};
-ghost use Rattle.xcp_base.specs.Copied.{AreStretches};
-ghost use Rattle.xcp_base.specs.declared.span.Span.{Span};
-ghost use Rattle.daq_store.specs.Configuration.{odt_entries};
+//! The entries of an ODT as spans of an image of all memory: entries that touch are copied as one.
+ghost use Rattle.std.specs.Prelude.{◌≡◌, ◌==◌, ◌<◌, ◌&&◌, IfOk, All, true, length};
+ghost use Rattle.std.specs.List.{list_all};
+ghost use Rattle.segments.specs.Image.{HaveImage};
+ghost use Rattle.daq_store.specs.Configuration.{entry_of, is_within, odt_entries};
 ghost use Rattle.copy_plan.specs.Config.{written_entries};
 ghost use Rattle.copy_plan.specs.Inner.Joined.{joined_spans};
+ghost use Rattle.copy_plan.specs.Inner.Stretched.{ArePlaced, AreEndsOf, IsStretchAt, LiesSomewhere};
 
 use daq_store::ListConf;
+use segments::{Segment, image_place, image_start, segment_at};
 use std::alloc::{AllocError, Global};
 use std::marker::Model;
+use xcp_base::limits::MAX_CHANNELS;
 use xcp_base::{Span, Stretch};
 
 /// The spans of one ODT: its entries in their order, neighbours joined; and the stretches of spans
-/// of one size.
+/// of one size in one segment.
 #[derive(Drop)]
 pub struct Spans {
     spans: Vec<Span>,
@@ -20,89 +23,165 @@ pub struct Spans {
 }
 
 impl Model for Spans {
-    ghost use Rattle.std.specs.Prelude.{List};
-    ghost use Rattle.xcp_base.specs.declared.span.Span.{Span};
-    ghost use Rattle.xcp_base.specs.Copied.{AreStretches};
+    ghost use Rattle.copy_plan.specs.Inner.Stretched.{SpansState};
 
-    ghost Value = { List Span };
+    ghost Value = { SpansState };
 
-    ghost view = { λ a. a.spans.items };
-
-    ghost invariant = { λ a. AreStretches a.stretches.items a.spans.items };
+    ghost view = { λ a. record { spans = a.spans.items; stretches = a.stretches.items } };
 }
 
 impl Spans {
-    /// The spans of an ODT whose entries are all written; there is at least one.
-    pub fn of(alloc: Global, conf: &ListConf, odt: usize) -> Result<Spans, AllocError>
+    /// The spans of an ODT, of which there is at least one entry, and an event channel may read
+    /// each.
+    pub fn of(
+        alloc: Global,
+        conf: &ListConf,
+        odt: usize,
+        channel: u8,
+        segments: &[Segment],
+    ) -> Result<Spans, AllocError>
+        requires image { HaveImage segments.now }
+        requires channel { channel < MAX_CHANNELS }
         requires some { 0 < length (odt_entries conf.now odt) }
-        requires written { All IsSome (odt_entries conf.now odt) }
-        ensures { IfOk result (λ spans. spans
-            ≡ joined_spans (written_entries (odt_entries conf.now odt))) }
+        requires within { list_all (is_within channel segments.now) (odt_entries conf.now odt)
+            ≡ true }
+        ensures spans { IfOk result (λ spans. spans.spans
+            ≡ joined_spans (written_entries channel segments.now (odt_entries conf.now odt))) }
+        ensures placed { IfOk result (ArePlaced channel segments.now) }
     {
-        let mut spans = Vec::with_capacity(alloc, conf.entries(odt))?;
-        let Some((address, size)) = conf.entry(odt, 0) else {
-            unreachable!();
-        };
-        let mut start = address as usize;
-        let mut end = start + size as usize;
-        for entry in 1..conf.entries(odt) {
-            let Some((address, size)) = conf.entry(odt, entry) else {
-                unreachable!();
-            };
-            let next = address as usize;
-            if !begins_at(next, end) {
-                spans.push(Span { start, end })?;
-                start = next;
-            }
-            end = next + size as usize;
-        }
-        let last = Span { start, end };
-        spans.push(last)?;
-        let stretches = stretches_of(alloc, &spans)?;
+        let spans = spans_of(alloc, conf, odt, channel, segments)?;
+        let stretches = stretches_of(alloc, &spans, channel, segments)?;
         Ok(Spans { spans, stretches })
     }
 
     /// The spans in their order.
     pub fn as_slice(&self) -> &[Span]
-        ensures { result.now ≡ self.now }
+        ensures { result.now ≡ self.now.spans }
     {
         &self.spans
     }
 
     /// The stretches of the spans.
     pub fn stretches(&self) -> &[Stretch]
-        ensures { AreStretches result.now self.now }
+        ensures { result.now ≡ self.now.stretches }
     {
         &self.stretches
     }
 }
 
-/// The stretches of some spans: neighbours of one size are in one.
-fn stretches_of(alloc: Global, spans: &[Span]) -> Result<Vec<Stretch>, AllocError>
+/// The spans of an ODT: its entries in their order, neighbours joined.
+fn spans_of(
+    alloc: Global,
+    conf: &ListConf,
+    odt: usize,
+    channel: u8,
+    segments: &[Segment],
+) -> Result<Vec<Span>, AllocError>
+    requires image { HaveImage segments.now }
+    requires channel { channel < MAX_CHANNELS }
+    requires some { 0 < length (odt_entries conf.now odt) }
+    requires within { list_all (is_within channel segments.now) (odt_entries conf.now odt) ≡ true }
+    ensures spans { IfOk result (λ spans. spans.items
+        ≡ joined_spans (written_entries channel segments.now (odt_entries conf.now odt))) }
+    ensures lie { IfOk result (λ spans. All (LiesSomewhere channel segments.now) spans.items) }
+    ensures some { IfOk result (λ spans. 0 < length spans.items) }
+{
+    let mut spans = Vec::with_capacity(alloc, conf.entries(odt))?;
+    let (mut start, mut end) = ends_of(conf, odt, 0, channel, segments);
+    for entry in 1..conf.entries(odt) {
+        let (next, last) = ends_of(conf, odt, entry, channel, segments);
+        if !begins_at(next, end) {
+            spans.push(Span { start, end })?;
+            start = next;
+        }
+        end = last;
+    }
+    let last = Span { start, end };
+    spans.push(last)?;
+    Ok(spans)
+}
+
+/// Where an entry begins and ends in the image.
+fn ends_of(
+    conf: &ListConf,
+    odt: usize,
+    entry: usize,
+    channel: u8,
+    segments: &[Segment],
+) -> (usize, usize)
+    requires image { HaveImage segments.now }
+    requires channel { channel < MAX_CHANNELS }
+    requires there { entry < length (odt_entries conf.now odt) }
+    requires within { list_all (is_within channel segments.now) (odt_entries conf.now odt) ≡ true }
+    ensures { AreEndsOf channel segments.now (entry_of conf.now odt entry) result }
+{
+    let Some(written) = conf.written(odt, entry) else {
+        unreachable!();
+    };
+    let address = written.address as usize;
+    let size = written.size as usize;
+    let Some(start) = image_place(segments, channel, written.extension, address, size) else {
+        unreachable!();
+    };
+    (start, start + size)
+}
+
+/// The stretches of some spans: neighbours of one size in one segment are in one.
+fn stretches_of(
+    alloc: Global,
+    spans: &[Span],
+    channel: u8,
+    segments: &[Segment],
+) -> Result<Vec<Stretch>, AllocError>
+    requires image { HaveImage segments.now }
+    requires channel { channel < MAX_CHANNELS }
     requires some { 0 < length spans.now }
-    requires ordered { All (λ (r : Span). r.start ≤ r.end) spans.now }
-    ensures { IfOk result (λ stretches. AreStretches stretches.items spans.now) }
+    requires lie { All (LiesSomewhere channel segments.now) spans.now }
+    ensures { IfOk result (λ stretches. ArePlaced channel segments.now
+        (record { spans = spans.now; stretches = stretches.items })) }
 {
     let mut stretches = Vec::with_capacity(alloc, spans.len())?;
-    let mut size = spans[0].end - spans[0].start;
-    let mut count = 0;
+    let mut stretch = stretch_at(&spans[0], channel, segments);
     for span in spans {
-        let next = span.end - span.start;
-        if next != size {
-            stretches.push(Stretch { size, count })?;
-            size = next;
-            count = 0;
+        let next = stretch_at(span, channel, segments);
+        if !goes_on(stretch, next) {
+            stretches.push(stretch)?;
+            stretch = next;
         }
-        count += 1;
+        stretch.count += 1;
     }
-    let last = Stretch { size, count };
-    stretches.push(last)?;
+    stretches.push(stretch)?;
     Ok(stretches)
 }
 
-/// Whether an entry begins where the bytes before it end.
-fn begins_at(address: usize, end: usize) -> bool
-    ensures { result ≡ (address == end) }
+/// A stretch of no spans, of the size of a span and in its segment.
+fn stretch_at(span: &Span, channel: u8, segments: &[Segment]) -> Stretch
+    requires image { HaveImage segments.now }
+    requires channel { channel < MAX_CHANNELS }
+    requires lies { LiesSomewhere channel segments.now span.now }
+    ensures { IsStretchAt channel segments.now span.now result }
 {
-    address == end
+    let Some(segment) = segment_at(segments, channel, span.start, span.end) else {
+        unreachable!();
+    };
+    Stretch {
+        segment: segment as u8,
+        start: image_start(segments, segment),
+        size: span.end - span.start,
+        count: 0,
+    }
+}
+
+/// Whether spans of one stretch and those of the next are of one size, and in one segment.
+fn goes_on(stretch: Stretch, next: Stretch) -> bool
+    ensures { result ≡ (stretch.size == next.size && stretch.segment == next.segment) }
+{
+    stretch.size == next.size && stretch.segment == next.segment
+}
+
+/// Whether an entry begins where the bytes before it end.
+fn begins_at(start: usize, end: usize) -> bool
+    ensures { result ≡ (start == end) }
+{
+    start == end
 }

@@ -5,6 +5,7 @@ use Rattle.std.proofs.Math.Seq.{map-set_same}
 use Rattle.std.proofs.lemmas.Bool.Decides.{eqb_tells}
 use Rattle.std.proofs.lemmas.List.{get_or-map}
 use Rattle.std.proofs.lemmas.Option.{same_Some, slice_get_read}
+use Rattle.segments.specs.Image.{image_len}
 use Rattle.channel_ring.specs.Room.{units}
 use Rattle.channel_ring.specs.declared.ends.SendEnd.{Ghosts as SendGhosts}
 use Rattle.channel_ring.specs.declared.ends.RingEnd.{Ghosts as EndGhosts}
@@ -77,7 +78,7 @@ module _ {S E : Type 0} (send : SendGhosts S E) (xs : List (SamplerState S)) (c 
     those = record {
       channels = map-set_same (λ (s : SamplerState S). s.channel) xs c new old (keeps.channel ∙ ap (λ (s : SamplerState S). s.channel) is);
       rings = map-set_same (λ (s : SamplerState S). send.ring s.end) xs c new old (keeps.ring ∙ ap (λ (s : SamplerState S). send.ring s.end) is);
-      image_lens = map-set_same (λ (s : SamplerState S). s.image_len) xs c new old (keeps.image_len ∙ ap (λ (s : SamplerState S). s.image_len) is);
+      image_lens = map-set_same (λ (s : SamplerState S). image_len s.segments) xs c new old (ap image_len keeps.segments ∙ ap (λ (s : SamplerState S). image_len s.segments) is);
       capacities = map-set_same (λ (s : SamplerState S). send.capacity s.end) xs c new old (keeps.capacity ∙ ap (λ (s : SamplerState S). send.capacity s.end) is);
     };
     others = λ e other. slice_get-set_other xs c e new other;
@@ -152,8 +153,8 @@ module _ {S E : Type 0} (send : SendGhosts S E) (xs : List (SamplerState S)) (c 
       subst (λ z. HasNoRoomFor send ring z.end (marker_of z.channel l)) same none
 
   -- the images that it takes have the length that those of its channel have
-  pub image_len_is : old.image_len ≡ image_len_at xs c
-  image_len_is = ap (λ (s : SamplerState S). s.image_len) is ∙ sym (get_or-map (λ (s : SamplerState S). s.image_len) xs c old 0 h)
+  pub image_len_is : image_len old.segments ≡ image_len_at xs c
+  image_len_is = ap (λ (s : SamplerState S). image_len s.segments) is ∙ sym (get_or-map (λ (s : SamplerState S). image_len s.segments) xs c old 0 h)
 
   -- a trigger that was taken
   pub triggers_at : (ring : EndGhosts E) (taken : Taken) (image : List ℕ) (stamp : ℕ)

@@ -66,25 +66,25 @@ and_right false b h = absurd cc
 -- the event channel of a list that is ready on it
 pub channel-ready : (s : StoreState) (c l : ℕ) → is_ready_on s c l ≡ true → (list_plan s l).channel ≡ c
 channel-ready s c l h =
-    let e : nat_eq (channel_of (conf_of s l).mode) c ≡ true = and_right (is_ready s.profile.image_len (conf_of s l)) (nat_eq (channel_of (conf_of s l).mode) c) h in
+    let e : nat_eq (channel_of (conf_of s l).mode) c ≡ true = and_right (is_ready s.profile.segments (conf_of s l)) (nat_eq (channel_of (conf_of s l).mode) c) h in
     grind (arith, nat_tests, e)
 
 of_channel-step : (s : StoreState) (c l : ℕ) (b : Bool) (ls : List ℕ) → (is_ready_on s c l ≡ b)
-    → (All IsPlan (map (list_plan s) ls) → ArePlansOf c s.profile.image_len (map (list_plan s) ls))
-    → All IsPlan (map (list_plan s) (cond b (l ∷ ls) ls)) → ArePlansOf c s.profile.image_len (map (list_plan s) (cond b (l ∷ ls) ls))
+    → (All IsPlan (map (list_plan s) ls) → ArePlansOf c s.profile.segments (map (list_plan s) ls))
+    → All IsPlan (map (list_plan s) (cond b (l ∷ ls) ls)) → ArePlansOf c s.profile.segments (map (list_plan s) (cond b (l ∷ ls) ls))
 of_channel-step s c l true ls e rest h =
     ((All-head IsPlan (list_plan s l) (map (list_plan s) ls) h, channel-ready s c l e, refl), rest (All-tail IsPlan (list_plan s l) (map (list_plan s) ls) h))
 of_channel-step s c l false ls e rest h = rest h
 
 of_channel-among : (s : StoreState) (c : ℕ) (ls : List ℕ) → All IsPlan (map (list_plan s) (filter (is_ready_on s c) ls))
-    → ArePlansOf c s.profile.image_len (map (list_plan s) (filter (is_ready_on s c) ls))
+    → ArePlansOf c s.profile.segments (map (list_plan s) (filter (is_ready_on s c) ls))
 of_channel-among s c [] h = tt
 of_channel-among s c (l ∷ ls) h = of_channel-step s c l (is_ready_on s c l) (filter (is_ready_on s c) ls) refl (of_channel-among s c ls) h
 
 -- they are plans of the channel, for images of the store's length
-pub of_channel : (s : StoreState) (c : ℕ) (plans : List ListPlan) → plans ≡ channel_plans s c → All IsPlan plans → ArePlansOf c s.profile.image_len plans
+pub of_channel : (s : StoreState) (c : ℕ) (plans : List ListPlan) → plans ≡ channel_plans s c → All IsPlan plans → ArePlansOf c s.profile.segments plans
 of_channel s c plans e h =
-    subst (ArePlansOf c s.profile.image_len) (sym e)
+    subst (ArePlansOf c s.profile.segments) (sym e)
     (of_channel-among s c (numbers_below (length s.lists)) (subst (λ ps. All IsPlan ps) e h))
 
 lower : (least more : ℕ) (plans : List ListPlan) → least ≤ more → RiseFrom more plans → RiseFrom least plans

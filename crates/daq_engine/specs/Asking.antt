@@ -2,6 +2,7 @@
 use Rattle.std.specs.Prelude.{◌≡◌, ℕ, ◌≤◌, ◌↔◌, List, length, map, slice_get, slice_index}
 use Rattle.std.specs.Prelude.{[], IfErr, IfOk, OnErr, OnOk}
 use Rattle.std.specs.Prelude.{Option, None, Some, Result, Ok, Err}
+use Rattle.segments.specs.Image.{image_len}
 use Rattle.channel_ring.specs.declared.ends.SendEnd.{Ghosts as SendGhosts}
 use Rattle.channel_ring.specs.declared.ends.RingEnd.{Ghosts as EndGhosts}
 use Rattle.sampler.specs.History.{Start, Stop}
@@ -34,7 +35,8 @@ TellsNoChannel c e result = (result ≡ Err NoChannel) ↔ (length e.samplers �
 
 -- the length of the images that channel c takes
 abbrev pub image_len_at : {S : Type 0} → List (SamplerState S) → ℕ → ℕ
-image_len_at samplers c = slice_index (map (λ (s : SamplerState _). s.image_len) samplers) c
+image_len_at samplers c =
+    slice_index (map (λ (s : SamplerState _). image_len s.segments) samplers) c
 
 -- the stop marker of list l costs more than what the sampler of channel c knows to be free, and,
 -- with all that was sent to its ring before it, more than the capacity

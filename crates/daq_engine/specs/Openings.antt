@@ -47,11 +47,11 @@ CanOpenOver may_have s caps = (fit_caps_of may_have s caps ≡ true) × (some_li
 -- list l is ready, and its event channel is c
 abbrev pub is_ready_on : StoreState → ℕ → ℕ → Bool
 is_ready_on s c l =
-    is_ready s.profile.image_len (conf_of s l) && nat_eq (channel_of (conf_of s l).mode) c
+    is_ready s.profile.segments (conf_of s l) && nat_eq (channel_of (conf_of s l).mode) c
 
 -- the plan of list l, by what the store has of it
 abbrev pub list_plan : StoreState → ℕ → ListPlan
-list_plan s l = plan_of l (conf_of s l) (first_pid_of s l) s.profile.image_len
+list_plan s l = plan_of l (conf_of s l) (first_pid_of s l) s.profile.segments
 
 -- the plans of the lists that are there, ready and of event channel c, in rising list number
 abbrev pub channel_plans : StoreState → ℕ → List ListPlan
@@ -76,8 +76,8 @@ pub record AreOpened {S E : Type 0} (send : SendGhosts S E) (ring : EndGhosts E)
       map (λ (sampler : SamplerState S). sampler.channel) samplers ≡ upto 0 s.profile.channels
   pub stands : StandInOrder send ring samplers (λ c. first_past (openings c))
   pub capacities : map (λ (sampler : SamplerState S). send.capacity sampler.end) samplers ≡ caps
-  pub image_len :
-      All (λ (sampler : SamplerState S). sampler.image_len ≡ s.profile.image_len) samplers
+  pub segments :
+      All (λ (sampler : SamplerState S). sampler.segments ≡ s.profile.segments) samplers
   pub nothing_sent : All (λ (sampler : SamplerState S). send.sent sampler.end ≡ []) samplers
 
 -- the transmitter took nothing yet; its ring c is that of sampler c

@@ -1,6 +1,7 @@
 -- The samplers of an engine, in rising event channel, beside the transmitter of their rings.
 use Rattle.std.specs.Prelude.{◌≡◌, ◌≢◌, ℕ, ◌+◌, ◌≤◌, List, length, map, slice_get, Some}
 use Rattle.xcp_base.specs.declared.item.Item.{Item}
+use Rattle.segments.specs.Image.{image_len}
 use Rattle.channel_ring.specs.Room.{units}
 use Rattle.channel_ring.specs.declared.ends.SendEnd.{Ghosts as SendGhosts}
 use Rattle.channel_ring.specs.declared.ends.RingEnd.{Ghosts as EndGhosts}
@@ -33,8 +34,8 @@ pub record StayThose {S E : Type 0} (send : SendGhosts S E) (before after : List
       map (λ (s : SamplerState S). send.ring s.end) after
       ≡ map (λ (s : SamplerState S). send.ring s.end) before
   pub image_lens :
-      map (λ (s : SamplerState S). s.image_len) after
-      ≡ map (λ (s : SamplerState S). s.image_len) before
+      map (λ (s : SamplerState S). image_len s.segments) after
+      ≡ map (λ (s : SamplerState S). image_len s.segments) before
   pub capacities :
       map (λ (s : SamplerState S). send.capacity s.end) after
       ≡ map (λ (s : SamplerState S). send.capacity s.end) before

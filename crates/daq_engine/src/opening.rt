@@ -142,7 +142,7 @@ pub fn open_channel<R: Ring>(
         return Err(AllocError);
     };
     let running = running_of(store, plans.as_slice());
-    let sampler = Sampler::new(c.byte(), plans, send, store.image_len(), running);
+    let sampler = Sampler::over(c.byte(), plans, send, store.segments(), running);
     Ok((sampler, take))
 }
 

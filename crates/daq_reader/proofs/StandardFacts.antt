@@ -3,6 +3,7 @@ use Rattle.std.specs.Prelude.{◌≡◌, true, [], ◌∷◌, Some, None, refl}
 use Rattle.xcp_base.specs.declared.id_kind.IdKind.TheVariants.{Absolute, RelativeWord}
 use Rattle.xcp_base.specs.declared.stamp_size.StampSize.TheVariants.{One, Four}
 use Rattle.xcp_base.specs.declared.packet_form.PacketForm.{PacketForm}
+use Rattle.segments.specs.Image.{image_segments}
 use Rattle.copy_plan.specs.Config.{ListPlan}
 use Rattle.daq_reader.specs.declared.packet_fault.PacketFault.TheVariants.{OtherList, OutOfTurn, WrongLength}
 use Rattle.daq_reader.specs.Faults.{fault_of}
@@ -18,7 +19,7 @@ stamped_list form = record {
   form = form;
   stamped = true;
   odts = ((0, 1) ∷ []) ∷ ((1, 1) ∷ []) ∷ [];
-  image_len = 2;
+  segments = image_segments 2;
 }
 
 -- its sample, marked

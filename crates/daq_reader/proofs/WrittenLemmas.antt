@@ -8,6 +8,7 @@ use Rattle.std.proofs.lemmas.List.Elements.{All-head, All-tail}
 use Rattle.xcp_base.specs.declared.stamp_size.StampSize.{StampSize}
 use Rattle.xcp_base.specs.declared.stamp_size.StampSize.TheVariants.{One, Two, Four}
 use Rattle.xcp_base.specs.Forms.{stamp_bytes, stamp_field}
+use Rattle.segments.specs.Image.{image_len}
 use Rattle.copy_plan.specs.Config.{IsInside, IsPlan, ListPlan, OdtEntry, odt}
 use Rattle.copy_plan.specs.Packet.{elements, packet, packets, timestamp}
 use Rattle.copy_plan.specs.Pids.{field}
@@ -37,7 +38,7 @@ lengths-slices image (e ∷ es) each =
     ap (λ n. n ∷ lengths (slices image es)) (length-range image e.0 e.1 here) ∙ ap (λ ns. e.1 ∷ ns) rest
 
 -- each entry has its bytes
-sizes_are : (plan : ListPlan) (image : List ℕ) → IsPlan plan → length image ≡ plan.image_len → map lengths (map (slices image) plan.odts) ≡ sizes_of plan
+sizes_are : (plan : ListPlan) (image : List ℕ) → IsPlan plan → length image ≡ image_len plan.segments → map lengths (map (slices image) plan.odts) ≡ sizes_of plan
 sizes_are plan image is h =
     let count : length (map lengths (map (slices image) plan.odts)) ≡ length plan.odts = length-map (map (slices image) plan.odts) lengths ∙ length-map plan.odts (slices image) in
     ext_get_or [] (map lengths (map (slices image) plan.odts)) (sizes_of plan) (count ∙ sym (length-map plan.odts sizes)) (λ k l.

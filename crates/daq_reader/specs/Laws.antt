@@ -2,6 +2,7 @@
 use Rattle.std.specs.Prelude.{◌≡◌, ℕ, ◌+◌, ◌*◌, ◌%◌, ◌<◌, ◌^◌, Bool, if◌then◌else◌, All}
 use Rattle.std.specs.Prelude.{List, ◌++◌, length, map, flat_map, slice_range, Some, None}
 use Rattle.xcp_base.specs.Forms.{stamp_bytes}
+use Rattle.segments.specs.Image.{image_len}
 use Rattle.copy_plan.specs.Config.{IsPlan, ListPlan, OdtEntry}
 use Rattle.copy_plan.specs.Packet.{packets}
 use Rattle.daq_reader.specs.Recorded.{AreOf, IsRecorded, Recorded, packets_of}
@@ -21,7 +22,7 @@ sample_of plan image stamp overload = record {
 abbrev pub WrittenIsRead : Type 0
 WrittenIsRead =
     (plan : ListPlan) (image : List ℕ) (stamp : ℕ) (overload : Bool) → IsPlan plan
-    → length image ≡ plan.image_len
+    → length image ≡ image_len plan.segments
     → AreOf plan (sample_of plan image stamp overload) (packets plan image stamp overload)
 
 -- packets are those of at most one sample of a list

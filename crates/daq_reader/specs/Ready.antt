@@ -8,11 +8,11 @@ use Rattle.daq_reader.specs.Reading.{Reading}
 
 -- list l is ready
 abbrev pub shows_ready : StoreState → ℕ → Bool
-shows_ready s l = is_ready s.profile.image_len (conf_of s l)
+shows_ready s l = is_ready s.profile.segments (conf_of s l)
 
 -- the plan of list l, by what the store has of it
 abbrev pub plan_in : StoreState → ℕ → ListPlan
-plan_in s l = plan_of l (conf_of s l) (first_pid_of s l) s.profile.image_len
+plan_in s l = plan_of l (conf_of s l) (first_pid_of s l) s.profile.segments
 
 -- list l before its first packet
 abbrev pub first_reading : StoreState → ℕ → Reading

@@ -2,7 +2,7 @@
 ghost use Rattle.std.specs.Prelude.{◌≡◌, ◌<◌, ◌≤◌, ◌+◌, ◌&&◌, nat_le, nat_lt, IfOk, IfSome};
 ghost use Rattle.std.specs.Prelude.{IsSome, length, map, slice_get, true};
 ghost use Rattle.xcp_base.specs.Forms.{FitsFirstPid, field_len};
-ghost use Rattle.daq_store.specs.Configuration.{is_ready};
+ghost use Rattle.daq_store.specs.Configuration.{channel_of, is_ready};
 ghost use Rattle.copy_plan.specs.Config.{IsPlan, odt, plan_of, written_entries};
 ghost use Rattle.daq_reader.specs.Faults.{fault_of, is_pid, len_of};
 ghost use Rattle.daq_reader.specs.Inner.Cut.{head_len, place_of};
@@ -10,14 +10,19 @@ ghost use Rattle.daq_reader.specs.Recorded.{is_of_list};
 
 use crate::packet_fault::PacketFault;
 use crate::slots::Slots;
+use arrayvec::ArrayVec;
 use daq_store::ListConf;
+use segments::limits::MAX_SEGMENTS;
+use segments::{Segment, Segments};
 use std::alloc::{AllocError, Global};
 use std::marker::Model;
+use std::snapshot::Snapshot;
 use xcp_base::limits::{MAX_LISTS, MAX_ODTS};
 use xcp_base::{IdKind, PacketForm};
 
 /// What the samples of one ready DAQ list look like: the form of their packets, and the entries of
-/// each ODT. Contracts see the same plan as of the copy plan that writes them.
+/// each ODT. Contracts see the same plan as of the copy plan that writes them. The segments of
+/// memory are not kept, `segments` has no bytes.
 #[derive(Drop)]
 pub struct ListShape {
     list: u8,
@@ -26,8 +31,8 @@ pub struct ListShape {
     first_pid: u8,
     form: PacketForm,
     stamped: bool,
-    image_len: usize,
     odts: Vec<Slots>,
+    segments: Snapshot<ArrayVec<Segment, MAX_SEGMENTS>>,
 }
 
 impl Model for ListShape {
@@ -43,21 +48,22 @@ impl Model for ListShape {
 
 impl ListShape {
     /// The shape of a ready DAQ list, whose PIDs begin with FIRST_PID, which is 0 with a relative
-    /// ODT number; images have `image_len` bytes. Lack of memory is the only fault.
+    /// ODT number, for memory in these segments. Lack of memory is the only fault.
     pub fn of(
         alloc: Global,
         list: u8,
         conf: &ListConf,
         first_pid: u8,
-        image_len: usize,
+        segments: &Segments,
     ) -> Result<ListShape, AllocError>
         requires list { list < MAX_LISTS }
-        requires ready { is_ready image_len conf.now ≡ true }
+        requires ready { is_ready segments.now conf.now ≡ true }
         requires pids { FitsFirstPid conf.now.form.id (length conf.now.odts) first_pid }
-        ensures value { IfOk result (λ shape. shape ≡ plan_of list conf.now first_pid image_len) }
+        ensures value { IfOk result
+            (λ shape. shape ≡ plan_of list conf.now first_pid segments.now) }
         ensures plan { IfOk result IsPlan }
     {
-        let odts = slots_of_odts(alloc, conf)?;
+        let odts = slots_of_odts(alloc, conf, segments)?;
         Ok(ListShape {
             list,
             channel: conf.channel(),
@@ -65,8 +71,8 @@ impl ListShape {
             first_pid,
             form: conf.form(),
             stamped: conf.stamped(),
-            image_len,
             odts,
+            segments: Snapshot::of(segments.items()),
         })
     }
 
@@ -116,14 +122,14 @@ impl ListShape {
         slots.count()
     }
 
-    /// The address of entry `e` of ODT `k`, and its bytes; `None` exactly if there is no such
-    /// entry.
-    pub fn entry(&self, k: usize, e: usize) -> Option<(u32, u8)>
+    /// Where entry `e` of ODT `k` stands in the image of all memory, and its bytes; `None` exactly
+    /// if there is no such entry. If memory is one segment from address 0 on, that is its address.
+    pub fn entry(&self, k: usize, e: usize) -> Option<(usize, u8)>
         ensures { result ≡ slice_get (odt self.now k) e }
     {
         let slots = self.odts.get(k)?;
         let slot = slots.get(e)?;
-        Some((slot.address, slot.size))
+        Some((slot.in_image, slot.size))
     }
 
     /// The PID of an ODT without the overload indication (ASAM MCD-1 XCP, protocol layer,
@@ -226,14 +232,19 @@ impl ListShape {
     }
 }
 
-/// The slots of each ODT of a list.
-fn slots_of_odts(alloc: Global, conf: &ListConf) -> Result<Vec<Slots>, AllocError>
-    ensures value { IfOk result (λ odts. odts.items ≡ map written_entries conf.now.odts) }
+/// The slots of each ODT of a list, as its event channel sees memory in segments.
+fn slots_of_odts(
+    alloc: Global,
+    conf: &ListConf,
+    segments: &Segments,
+) -> Result<Vec<Slots>, AllocError>
+    ensures value { IfOk result (λ odts. odts.items
+        ≡ map (written_entries (channel_of conf.now.mode) segments.now) conf.now.odts) }
     ensures limit { IfOk result (λ _. length conf.now.odts ≤ MAX_ODTS) }
 {
     let mut odts = Vec::with_capacity(alloc, conf.odts())?;
     for odt in 0..conf.odts() {
-        odts.push(Slots::of(alloc, conf, odt)?)?;
+        odts.push(Slots::of(alloc, conf, odt, segments)?)?;
     }
     Ok(odts)
 }

@@ -80,6 +80,6 @@ fn shape_of(alloc: Global, store: &Store, l: u16) -> Result<Option<ListShape>, A
         return Ok(None);
     };
     let first_pid = store.first_pid(l).unwrap();
-    let shape = ListShape::of(alloc, l as u8, conf, first_pid, store.image_len())?;
+    let shape = ListShape::of(alloc, l as u8, conf, first_pid, store.segments())?;
     Ok(Some(shape))
 }

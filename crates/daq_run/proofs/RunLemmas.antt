@@ -7,6 +7,7 @@ use Rattle.std.proofs.lemmas.Option.{slice_get_within}
 use Rattle.std.proofs.Math.Nat.{mul-le-mul_left, mul-le-mul_right}
 use Rattle.xcp_base.specs.declared.item.Item.{Item}
 use Rattle.xcp_base.specs.declared.limits.TheConstants.{MAX_TAKEN}
+use Rattle.segments.specs.Image.{image_len}
 use Rattle.channel_ring.specs.declared.ends.SendEnd.{Ghosts as SendGhosts}
 use Rattle.channel_ring.specs.declared.ends.RingEnd.{Ghosts as EndGhosts}
 use Rattle.frame_writer.specs.Shown.{OutState}
@@ -52,10 +53,10 @@ module _ {S E : Type 0} (send : SendGhosts S E) (ring : EndGhosts E) (run : RunD
   -- the samplers go by what the run says
   pub setting : (c : ℕ) → c < run.channels → settings_of_samplers send ring b.samplers c ≡ settings_of_run run c
   setting c within =
-      let images : slice_index (map (λ (s : SamplerState S). s.image_len) b.samplers) c ≡ run.image_len =
+      let images : slice_index (map (λ (s : SamplerState S). image_len s.segments) b.samplers) c ≡ run.image_len =
       ap (λ xs. slice_index xs c) stay.image_lens
-      ∙ (all_at (λ (s : SamplerState S). s.image_len) opened.store.profile.image_len a.samplers c opened.opened.image_len (let many = as_many_stay send a.samplers b.samplers stay in let n = as_many in omega (arith, within, many, n))
-      ∙ ap (λ p. p.image_len) opened.set_up.store.profile) in
+      ∙ (all_at (λ (s : SamplerState S). image_len s.segments) (image_len opened.store.profile.segments) a.samplers c (λ k e h. ap image_len (opened.opened.segments k e h)) (let many = as_many_stay send a.samplers b.samplers stay in let n = as_many in omega (arith, within, many, n))
+      ∙ ap (λ p. image_len p.segments) opened.set_up.store.profile) in
       let caps = ap (λ xs. slice_index xs c) (stay.capacities ∙ opened.opened.capacities) in
       ap (λ n. record { image_len = n; capacity = slice_index (map (λ (s : SamplerState S). send.capacity s.end) b.samplers) c; cost = ring.cost }) images
       ∙ (ap (λ n. record { image_len = run.image_len; capacity = n; cost = ring.cost }) caps

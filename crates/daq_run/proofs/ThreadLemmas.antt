@@ -8,6 +8,7 @@ use Rattle.xcp_base.specs.Samples.{SampleParts}
 use Rattle.xcp_base.specs.declared.item.Item.{Item}
 use Rattle.xcp_base.specs.declared.item.Item.TheVariants.{Sample}
 use Rattle.xcp_base.specs.declared.limits.TheConstants.{MAX_TAKEN}
+use Rattle.segments.specs.Image.{image_len}
 use Rattle.channel_ring.specs.declared.ends.SendEnd.{Ghosts as SendGhosts}
 use Rattle.channel_ring.specs.declared.ends.RingEnd.{Ghosts as EndGhosts}
 use Rattle.frame_writer.specs.Shown.{OutState}
@@ -119,7 +120,7 @@ module _ {S E : Type 0} (send : SendGhosts S E) (ring : EndGhosts E) (run : RunD
 
     setting_here : (c : ℕ) (s : SamplerState S) → c < run.channels → slice_get a.samplers c ≡ Some s → setting_of_sampler send ring s ≡ settings_of_run run c
     setting_here c s within at =
-        ap₂ (λ (i n : ℕ). record { image_len = i; capacity = n; cost = ring.cost }) (sym (read_at (λ (x : SamplerState S). x.image_len) 0 a.samplers c s at)) (sym (read_at (λ (x : SamplerState S). send.capacity x.end) 0 a.samplers c s at))
+        ap₂ (λ (i n : ℕ). record { image_len = i; capacity = n; cost = ring.cost }) (sym (read_at (λ (x : SamplerState S). image_len x.segments) 0 a.samplers c s at)) (sym (read_at (λ (x : SamplerState S). send.capacity x.end) 0 a.samplers c s at))
         ∙ setting send ring run cost before a a opened (stay_still send ring a.samplers) c within
 
     answered : (c : ℕ) → c < run.channels → AreAnswered (settings_of_run run c) (asked_of c (map run_step run.steps)) (got.told c) (got.past c)

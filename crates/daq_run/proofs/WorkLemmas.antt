@@ -5,6 +5,7 @@ use Rattle.std.specs.Option.{is_some}
 use Rattle.std.proofs.lemmas.List.{map-append}
 use Rattle.std.proofs.lemmas.List.Elements.{All-cons, All-head, All-nil, All-push, All-tail}
 use Rattle.std.proofs.lemmas.List.Sums.{sum_by-append}
+use Rattle.segments.specs.Image.{image_len}
 use Rattle.channel_ring.specs.declared.ends.SendEnd.{Ghosts as SendGhosts}
 use Rattle.channel_ring.specs.declared.ends.RingEnd.{Ghosts as EndGhosts}
 use Rattle.sampler.specs.History.{Event, Opening}
@@ -56,15 +57,15 @@ module _ {S E : Type 0} (send : SendGhosts S E) (ring : EndGhosts E) where
   -- what a sampler goes by stays
   pub setting_stays : (a b : SamplerState S) → KeepsSetUp send a b → setting_of_sampler send ring b ≡ setting_of_sampler send ring a
   setting_stays a b stays =
-      ap₂ (λ (i n : ℕ). record { image_len = i; capacity = n; cost = ring.cost }) stays.image_len stays.capacity
+      ap₂ (λ (i n : ℕ). record { image_len = i; capacity = n; cost = ring.cost }) (ap image_len stays.segments) stays.capacity
 
   pub stays_still : (a : SamplerState S) → KeepsSetUp send a a
-  stays_still a = record { channel = refl; image_len = refl; plans = refl; capacity = refl; ring = refl }
+  stays_still a = record { channel = refl; segments = refl; plans = refl; capacity = refl; ring = refl }
 
   pub stays_on : (a b c : SamplerState S) → KeepsSetUp send a b → KeepsSetUp send b c → KeepsSetUp send a c
   stays_on a b c first then = record {
     channel = then.channel ∙ first.channel;
-    image_len = then.image_len ∙ first.image_len;
+    segments = then.segments ∙ first.segments;
     plans = then.plans ∙ first.plans;
     capacity = then.capacity ∙ first.capacity;
     ring = then.ring ∙ first.ring;

@@ -2,6 +2,7 @@
 use Rattle.std.specs.Prelude.{◌≡◌, ℕ, ◌+◌, ◌++◌, Bool, List, count_by}
 use Rattle.std.specs.Prelude.{Option, None, Some}
 use Rattle.std.specs.Option.{is_some}
+use Rattle.segments.specs.Image.{image_len}
 use Rattle.channel_ring.specs.declared.ends.SendEnd.{Ghosts as SendGhosts}
 use Rattle.channel_ring.specs.declared.ends.RingEnd.{Ghosts as EndGhosts}
 use Rattle.sampler.specs.History.{Event, Opening}
@@ -16,7 +17,7 @@ use Rattle.daq_run.specs.Steps.{Ask, Pump, RunStep}
 abbrev pub setting_of_sampler : {S E : Type 0} → SendGhosts S E → EndGhosts E → SamplerState S
     → Setting
 setting_of_sampler send ring s = record {
-  image_len = s.image_len;
+  image_len = image_len s.segments;
   capacity = send.capacity s.end;
   cost = ring.cost;
 }

@@ -1,5 +1,6 @@
 -- The set-up of a run.
 use Rattle.std.specs.Prelude.{◌≡◌, ℕ, List, [], ◌∷◌, ◌++◌}
+use Rattle.segments.specs.Image.{image_segments}
 use Rattle.daq_store.specs.Calls.{Profile}
 use Rattle.daq_store.specs.Replies.{calls_after_packets, replies}
 use Rattle.daq_store.specs.Standing.{StoreStandsAfter, StoreState}
@@ -12,7 +13,7 @@ use Rattle.daq_run.specs.Setup.{NeedsMemory}
 -- what the store of a run is made for
 abbrev pub profile_of : RunData → Profile
 profile_of run =
-    record { channels = run.channels; image_len = run.image_len; form = run.form }
+    record { channels = run.channels; segments = image_segments run.image_len; form = run.form }
 
 -- the replies to these command packets, to a store that was fresh
 abbrev pub first_replies : RunData → List (List ℕ) → List (List ℕ)

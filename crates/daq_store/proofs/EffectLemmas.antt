@@ -1,5 +1,5 @@
 -- The store after each accepted call stands after the calls with this one.
-use Rattle.std.proofs.Common.{not, if◌then◌else◌, Some, None, nat_lt, replicate, [], Option, ◌≡◌, ℕ, ◌+◌, ◌<◌, ◌==◌, Bool, true, false, List, ◌∷◌, length, set, map, refl, sym, ◌∙◌, ap, arith, option_and_then, option_map, slice_get, add-zero, zero-add}
+use Rattle.std.proofs.Common.{not, if◌then◌else◌, Some, None, nat_lt, replicate, [], Option, ◌≡◌, ℕ, ◌+◌, ◌<◌, ◌==◌, Bool, true, false, List, ◌∷◌, length, set, map, refl, sym, ◌∙◌, ap, arith, option_and_then, slice_get, add-zero, zero-add}
 use Rattle.std.proofs.lemmas.Simd.{map-map}
 use Rattle.std.proofs.lemmas.Bool.{eq-eqb, ne_eqb}
 use Rattle.std.proofs.lemmas.List.FromFn.{length-map-range_with_len, get_or-map-range_with_len}
@@ -181,7 +181,7 @@ pointer_put_stands s calls l k e h shown = record {
 -- WRITE_DAQ: the entry that is written, and the others
 written_here : (calls : List Command) (bit size ext addr l k e : ℕ) → pointer calls ≡ Some (l, k, e)
     → (l == l) ≡ true → (k == k) ≡ true → (e == e) ≡ true
-    → last_write (WriteDaq bit size ext addr ∷ calls) l k e ≡ Some (record { address = addr; size = size })
+    → last_write (WriteDaq bit size ext addr ∷ calls) l k e ≡ Some (record { extension = ext; address = addr; size = size })
 written_here calls bit size ext addr l k e at a b c = rw (at, a, b, c) refl
 
 written_other_entry : (calls : List Command) (bit size ext addr l k e i : ℕ) → pointer calls ≡ Some (l, k, e)
@@ -205,10 +205,10 @@ written_other_list calls bit size ext addr l k e x at a = record {
 
 -- the ODT after the write
 odt_written : (calls : List Command) (bit size ext addr l k e : ℕ) → pointer calls ≡ Some (l, k, e) → e < entry_count calls l k
-    → set (odt_of calls l k) e (Some (record { address = addr; size = size })) ≡ odt_of (WriteDaq bit size ext addr ∷ calls) l k
+    → set (odt_of calls l k) e (Some (record { extension = ext; address = addr; size = size })) ≡ odt_of (WriteDaq bit size ext addr ∷ calls) l k
 odt_written calls bit size ext addr l k e at here =
     let new : List Command = WriteDaq bit size ext addr ∷ calls in
-    let value : last_write new l k e ≡ Some (record { address = addr; size = size })
+    let value : last_write new l k e ≡ Some (record { extension = ext; address = addr; size = size })
     = written_here calls bit size ext addr l k e at (eq-eqb l l refl) (eq-eqb k k refl) (eq-eqb e e refl) in
     ap (set (odt_of calls l k) e) (sym value)
     ∙ set-map_below (last_write calls l k) (last_write new l k) (entry_count calls l k) e here
@@ -217,7 +217,7 @@ odt_written calls bit size ext addr l k e at here =
 -- the ODTs after the write
 odts_written : (calls : List Command) (bit size ext addr l k e : ℕ) → pointer calls ≡ Some (l, k, e) → e < entry_count calls l k
     → k < odt_count calls l
-    → set (map (odt_of calls l) (numbers_below (odt_count calls l))) k (set (odt_of calls l k) e (Some (record { address = addr; size = size })))
+    → set (map (odt_of calls l) (numbers_below (odt_count calls l))) k (set (odt_of calls l k) e (Some (record { extension = ext; address = addr; size = size })))
     ≡ map (odt_of (WriteDaq bit size ext addr ∷ calls) l) (numbers_below (odt_count calls l))
 odts_written calls bit size ext addr l k e at here inside =
     let new : List Command = WriteDaq bit size ext addr ∷ calls in
@@ -229,9 +229,9 @@ odts_written calls bit size ext addr l k e at here inside =
 -- the list after the write
 write_here : (f : PacketForm) (calls : List Command) (bit size ext addr l k e : ℕ) → pointer calls ≡ Some (l, k, e) → e < entry_count calls l k
     → k < odt_count calls l → (x : ListState) → x ≡ list_after f calls l
-    → with_entry x k e (record { address = addr; size = size }) ≡ list_after f (WriteDaq bit size ext addr ∷ calls) l
+    → with_entry x k e (record { extension = ext; address = addr; size = size }) ≡ list_after f (WriteDaq bit size ext addr ∷ calls) l
 write_here f calls bit size ext addr l k e at here inside x is =
-    let odts : set (map (odt_of calls l) (numbers_below (odt_count calls l))) k (set (odt_of calls l k) e (Some (record { address = addr; size = size })))
+    let odts : set (map (odt_of calls l) (numbers_below (odt_count calls l))) k (set (odt_of calls l k) e (Some (record { extension = ext; address = addr; size = size })))
     ≡ map (odt_of (WriteDaq bit size ext addr ∷ calls) l) (numbers_below (odt_count calls l))
     = odts_written calls bit size ext addr l k e at here inside in
     let odt : odt_entries (configuration f calls l) k ≡ odt_of calls l k = odt_within f calls l k inside in
@@ -262,7 +262,7 @@ moved new calls l k e w (Some p) same h =
 
 pub entry_put_stands : (s : StoreState) (calls : List Command) (bit size ext addr l k e : ℕ) → StoreStandsAfter s calls
     → s.pointer ≡ Some (l, k, e) → shows_entry s l k e ≡ true
-    → StoreStandsAfter (entry_put s l k e (record { address = addr; size = size })) (WriteDaq bit size ext addr ∷ calls)
+    → StoreStandsAfter (entry_put s l k e (record { extension = ext; address = addr; size = size })) (WriteDaq bit size ext addr ∷ calls)
 entry_put_stands s calls bit size ext addr l k e h pointed shown =
     let at : pointer calls ≡ Some (l, k, e) = sym h.pointer ∙ pointed in
     let there : has_entry calls l k e ≡ true = has_entry_stands s calls l k e h ∙ shown in
@@ -414,7 +414,7 @@ entry_of_odt f calls l k e odt entry =
 -- what is shown of the entry at the pointer
 pub pointed_stands : (s : StoreState) (calls : List Command) (l k e : ℕ) → StoreStandsAfter s calls
     → s.pointer ≡ Some (l, k, e) → shows_entry s l k e ≡ true
-    → pointed calls ≡ option_map (λ x. (x.address, x.size)) (entry_of (conf_of s l) k e)
+    → pointed calls ≡ entry_of (conf_of s l) k e
 pointed_stands s calls l k e h here shown =
     let at : pointer calls ≡ Some (l, k, e) = sym h.pointer ∙ here in
     let there : has_entry calls l k e ≡ true = has_entry_stands s calls l k e h ∙ shown in

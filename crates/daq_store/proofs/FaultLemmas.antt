@@ -104,7 +104,7 @@ start_stop_fault s calls mode l h = elim (leb_tells (suc l) (length s.lists)) [
 
 synch_fault : (s : StoreState) (calls : List Command) (mode : ℕ) → StoreStandsAfter s calls
     → fault_of s.profile calls (StartStopSynch mode) ≡ shown_fault s (StartStopSynch mode)
-synch_fault s calls mode h = rw (any_stands s calls (is_unready s.profile.image_len) h) refl
+synch_fault s calls mode h = rw (any_stands s calls (is_unready s.profile.segments) h) refl
 
 -- why a call is refused, if it is
 pub fault_stands : (s : StoreState) (calls : List Command) (call : Command) → StoreStandsAfter s calls

@@ -10,6 +10,7 @@ use Rattle.std.proofs.lemmas.Option.{slice_get_past, unwrap_or-slice_get}
 use Rattle.std.proofs.lemmas.Bool.Decides.{leb_tells, eqb_tells}
 use Rattle.std.proofs.lemmas.List.Elements.{All-set, All-map, All-get_or, All-replicate}
 use Rattle.xcp_base.specs.declared.packet_form.PacketForm.{PacketForm}
+use Rattle.segments.specs.declared.segment.Segment.{Segment}
 use Rattle.daq_store.specs.declared.entry.Entry.{Entry}
 use Rattle.daq_store.specs.declared.mode.Mode.{Mode}
 use Rattle.daq_store.specs.declared.list_state.ListState.{ListState}
@@ -44,7 +45,7 @@ pointer_kept s t (Some p) same h = at_kept s t p same h
 
 -- the lists are others with the same ODTs, and those that run are ready
 pub same_odts_keep : (s : StoreState) (ys : List ListState) → IsStore s → map all_odts ys ≡ map all_odts s.lists
-    → All (HasForm s.profile.form) ys → All (HasChannel s.profile.channels) ys → All (RunsReady s.profile.image_len) ys
+    → All (HasForm s.profile.form) ys → All (HasChannel s.profile.channels) ys → All (RunsReady s.profile.segments) ys
     → IsStore (record s { lists = ys })
 same_odts_keep s ys h same forms modes runs =
     let len : length ys ≡ length s.lists = sym (length-map ys all_odts) ∙ ap length same ∙ length-map s.lists all_odts in
@@ -52,7 +53,7 @@ same_odts_keep s ys h same forms modes runs =
     = sym (sum_by-map length all_odts ys) ∙ ap (sum_by length) same ∙ sum_by-map length all_odts s.lists in
     record {
       channels = h.channels;
-      image_len = h.image_len;
+      segments = h.segments;
       lists = rw len h.lists;
       odts = rw total h.odts;
       forms = forms;
@@ -80,23 +81,23 @@ modes_set s l x y h inside is same =
 
 -- one list is another with the same ODTs and the same form
 one_kept : (s : StoreState) (l : ℕ) (x y : ListState) → IsStore s → l < length s.lists → x ≡ get_or s.lists l x
-    → RunsReady s.profile.image_len y → all_odts y ≡ all_odts x → y.conf.form ≡ x.conf.form → All (HasChannel s.profile.channels) (set s.lists l y)
+    → RunsReady s.profile.segments y → all_odts y ≡ all_odts x → y.conf.form ≡ x.conf.form → All (HasChannel s.profile.channels) (set s.lists l y)
     → IsStore (record s { lists = set s.lists l y })
 one_kept s l x y h inside is runs odts form modes =
     same_odts_keep s (set s.lists l y) h (map-set_same all_odts s.lists l y x (odts ∙ ap all_odts is))
     (forms_set s l x y h inside is form)
     modes
-    (All-set (RunsReady s.profile.image_len) s.lists l y runs h.running)
+    (All-set (RunsReady s.profile.segments) s.lists l y runs h.running)
 
 -- a list that doesn't run is as good as ready
-stopped_is_ready : (image_len : ℕ) (x : ListState) → x.running ≡ false → RunsReady image_len x
-stopped_is_ready image_len x stopped = λ runs. let bad : true ≡ false = sym runs ∙ stopped in cc
+stopped_is_ready : (segments : List Segment) (x : ListState) → x.running ≡ false → RunsReady segments x
+stopped_is_ready segments x stopped = λ runs. let bad : true ≡ false = sym runs ∙ stopped in cc
 
 -- SET_DAQ_LIST_MODE
 pub mode_keeps : (s : StoreState) (l : ℕ) (x : ListState) (mode : Mode) → IsStore s → l < length s.lists → x ≡ get_or s.lists l x → x.running ≡ false → mode.channel < s.profile.channels
     → IsStore (record s { lists = set s.lists l (with_mode x mode) })
 mode_keeps s l x mode h inside is stopped there =
-    one_kept s l x (with_mode x mode) h inside is (stopped_is_ready s.profile.image_len (with_mode x mode) stopped) refl refl
+    one_kept s l x (with_mode x mode) h inside is (stopped_is_ready s.profile.segments (with_mode x mode) stopped) refl refl
     (All-set (HasChannel s.profile.channels) s.lists l (with_mode x mode) there h.modes)
 
 -- the pointer is at the next entry, if there is one
@@ -113,7 +114,7 @@ moved_keeps s l k e x h inside is =
     let len : length (odt_entries (conf_of s l) k) ≡ length (odt_entries x.conf k) = ap (λ c. length (odt_entries c k)) (sym conf) in
     record {
       channels = h.channels;
-      image_len = h.image_len;
+      segments = h.segments;
       lists = h.lists;
       odts = h.odts;
       forms = h.forms;
@@ -144,12 +145,12 @@ clear_keeps s l x h inside is =
     let got : odts_of (get_or s.lists l x) ≡ odts_of x = ap odts_of (sym is) in
     record {
       channels = h.channels;
-      image_len = h.image_len;
+      segments = h.segments;
       lists = rw (length-set s.lists l y) h.lists;
       odts = omega (arith, sum_by-set odts_of s.lists l y x inside, own, got, h.odts);
       forms = forms_set s l x y h inside is refl;
       modes = All-set (HasChannel s.profile.channels) s.lists l y tt h.modes;
-      running = All-set (RunsReady s.profile.image_len) s.lists l y (stopped_is_ready s.profile.image_len y refl) h.running;
+      running = All-set (RunsReady s.profile.segments) s.lists l y (stopped_is_ready s.profile.segments y refl) h.running;
       pointer = tt;
     }
 
@@ -162,12 +163,12 @@ started_ready false true run false was starts runs = cc
 started_ready false false run ready was starts runs = cc
 
 pub start_stop_keeps : (s : StoreState) (l mode : ℕ) (x : ListState) → IsStore s → l < length s.lists → x ≡ get_or s.lists l x
-    → (mode == 1 && not (is_ready s.profile.image_len x.conf)) ≡ false
+    → (mode == 1 && not (is_ready s.profile.segments x.conf)) ≡ false
     → IsStore (record s { lists = set s.lists l (start_stopped mode x) })
 start_stop_keeps s l mode x h inside is starts =
-    let ready : Bool = is_ready s.profile.image_len x.conf in
-    let was : RunsReady s.profile.image_len (get_or s.lists l x) = All-get_or (RunsReady s.profile.image_len) s.lists l x inside h.running in
-    let was_ready : RunsReady s.profile.image_len x = subst (RunsReady s.profile.image_len) (sym is) was in
+    let ready : Bool = is_ready s.profile.segments x.conf in
+    let was : RunsReady s.profile.segments (get_or s.lists l x) = All-get_or (RunsReady s.profile.segments) s.lists l x inside h.running in
+    let was_ready : RunsReady s.profile.segments x = subst (RunsReady s.profile.segments) (sym is) was in
     one_kept s l x (start_stopped mode x) h inside is (started_ready (mode == 2) (mode == 1) x.running ready was_ready starts) refl refl
     (modes_set s l x (start_stopped mode x) h inside is refl)
 
@@ -196,18 +197,18 @@ none_of start test xs h = λ k d inside.
     none_at start (test (get_or xs k d)) (list_any test xs) h (λ here. list_any_at test xs k d inside here)
 
 pub synch_keeps : (s : StoreState) (mode : ℕ) → IsStore s
-    → (mode == 1 && list_any (is_unready s.profile.image_len) s.lists) ≡ false
+    → (mode == 1 && list_any (is_unready s.profile.segments) s.lists) ≡ false
     → IsStore (record s { lists = map (synched mode) s.lists })
 synch_keeps s mode h starts =
-    let none = none_of (mode == 1) (is_unready s.profile.image_len) s.lists starts in
+    let none = none_of (mode == 1) (is_unready s.profile.segments) s.lists starts in
     same_odts_keep s (map (synched mode) s.lists) h (map-map all_odts (synched mode) s.lists)
     (All-map (HasForm s.profile.form) (synched mode) s.lists h.forms)
     (All-map (HasChannel s.profile.channels) (synched mode) s.lists h.modes)
-    (All-map (RunsReady s.profile.image_len) (synched mode) s.lists
+    (All-map (RunsReady s.profile.segments) (synched mode) s.lists
     (λ k d inside.
     let x : ListState = get_or s.lists k d in
-    let was : RunsReady s.profile.image_len x = h.running k d inside in
-    synched_ready (mode == 0) (mode == 1) x.selected x.running (is_ready s.profile.image_len x.conf) (not_both mode) was (none k d inside)))
+    let was : RunsReady s.profile.segments x = h.running k d inside in
+    synched_ready (mode == 0) (mode == 1) x.selected x.running (is_ready s.profile.segments x.conf) (not_both mode) was (none k d inside)))
 
 -- WRITE_DAQ
 set_here : (xs : List (List (Option Entry))) (k : ℕ) (v : List (Option Entry)) → k < length xs → unwrap_or (slice_get (set xs k v) k) [] ≡ v
@@ -243,11 +244,11 @@ entry_keeps s l k e x entry h inside is stopped there =
     let got : odts_of (get_or s.lists l x) ≡ odts_of x = ap odts_of (sym is) in
     record {
       channels = h.channels;
-      image_len = h.image_len;
+      segments = h.segments;
       lists = rw (length-set s.lists l y) h.lists;
       odts = omega (arith, sum_by-set odts_of s.lists l y x inside, own, got, h.odts);
       forms = forms;
       modes = modes_set s l x y h inside is refl;
-      running = All-set (RunsReady s.profile.image_len) s.lists l y (stopped_is_ready s.profile.image_len y stopped) h.running;
+      running = All-set (RunsReady s.profile.segments) s.lists l y (stopped_is_ready s.profile.segments y stopped) h.running;
       pointer = next_is_there t l k e (nat_lt (e + 1) (length (odt_entries x.conf k))) (λ more. rw len (below_from _ _ more));
     }

@@ -2,10 +2,12 @@
 use Rattle.std.proofs.Common.{◌≡◌, ℕ, List, [], ◌∷◌, Some, None, Ok, lit<, refl}
 use Rattle.xcp_base.specs.declared.err_code.ErrCode.TheVariants.{CmdSyntax, CmdUnknown}
 use Rattle.xcp_base.specs.Forms.{usual_form}
+use Rattle.segments.specs.Image.{image_segments}
 use Rattle.daq_store.specs.declared.command.Command.TheVariants.{AllocDaq, SetDaqListMode, WriteDaq}
+use Rattle.daq_store.specs.declared.reply.Reply.TheVariants.{Read}
 use Rattle.daq_store.specs.Calls.{Profile}
 use Rattle.daq_store.specs.Commands.{IsPacketOf, command, command_bytes, packet_fault}
-use Rattle.daq_store.specs.Replies.{replies}
+use Rattle.daq_store.specs.Replies.{replies, reply_bytes}
 
 -- WORDs and DWORDs have the least significant byte first
 bytes-write_daq : command_bytes (WriteDaq 0xFF 0x02 0x00 0x04030201) 0 ≡ 0xE1 ∷ 0xFF ∷ 0x02 ∷ 0x00 ∷ 0x01 ∷ 0x02 ∷ 0x03 ∷ 0x04 ∷ []
@@ -39,7 +41,7 @@ fault-none : packet_fault (0xDD ∷ 0x00 ∷ []) ≡ None
 fault-none = refl
 
 profile : Profile
-profile = record { channels = 1; image_len = 4; form = usual_form }
+profile = record { channels = 1; segments = image_segments 4; form = usual_form }
 
 RES : List ℕ
 RES = 0xFF ∷ []
@@ -60,6 +62,10 @@ replies-set_up : replies profile []
     ≡ RES ∷ RES ∷ RES ∷ RES ∷ RES ∷ RES ∷ RES ∷ (0xFF ∷ 0x00 ∷ []) ∷ []
 unfolding profile RES
 replies-set_up = refl
+
+-- the reply to READ_DAQ has the entry's address extension
+bytes-read : reply_bytes (Read 0x02 0x01 0x04030201) ≡ 0xFF ∷ 0xFF ∷ 0x02 ∷ 0x01 ∷ 0x01 ∷ 0x02 ∷ 0x03 ∷ 0x04 ∷ []
+bytes-read = refl
 
 -- packets that are no command of the profile, and one that is
 replies-faults : replies profile [] ((0xC0 ∷ []) ∷ [] ∷ (0xD6 ∷ []) ∷ []) ≡ (0xFE ∷ 0x20 ∷ []) ∷ (0xFE ∷ 0x21 ∷ []) ∷ RES ∷ []

@@ -8,6 +8,7 @@ use Rattle.std.proofs.lemmas.List.FromFn.{get_or-range_with_len, length-range_wi
 use Rattle.std.proofs.lemmas.Option.{unwrap_or-slice_get}
 use Rattle.xcp_base.specs.declared.limits.TheConstants.{MAX_DTO}
 use Rattle.xcp_base.specs.Packets.{packet_len}
+use Rattle.segments.specs.declared.segment.Segment.{Segment}
 use Rattle.daq_store.specs.declared.entry.Entry.{Entry}
 use Rattle.daq_store.specs.Calls.{numbers_below}
 use Rattle.daq_store.specs.Configuration.{Configuration, odt_entries, entries_len, are_short, is_short, is_ready, is_stamped}
@@ -46,8 +47,8 @@ and_false : (b : Bool) → (b && false) ≡ false
 and_false true = refl
 and_false false = refl
 
-pub long_packet : (image_len : ℕ) (c : Configuration) (k : ℕ) → k < length c.odts → MAX_DTO < packet_len c.form (is_stamped c.mode) k (entries_len c k) → false ≡ is_ready image_len c
-long_packet image_len c k inside long =
+pub long_packet : (segments : List Segment) (c : Configuration) (k : ℕ) → k < length c.odts → MAX_DTO < packet_len c.form (is_stamped c.mode) k (entries_len c k) → false ≡ is_ready segments c
+long_packet segments c k inside long =
     let test : ℕ → Bool = is_short c in
     let fails : test k ≡ false
     = elim (leb_tells (packet_len c.form (is_stamped c.mode) k (entries_len c k)) MAX_DTO) as (λ v. test k ≡ false) [ inl short ↦ absurd (omega (arith, long, short.1)) | inr t ↦ t.0 ] in

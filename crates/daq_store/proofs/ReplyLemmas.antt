@@ -4,6 +4,7 @@ use Rattle.std.specs.Prelude.{is_some}
 use Rattle.xcp_base.specs.declared.err_code.ErrCode.{ErrCode}
 use Rattle.daq_store.specs.declared.command.Command.{Command}
 use Rattle.daq_store.specs.declared.command.Command.TheVariants.{FreeDaq, AllocDaq, AllocOdt, AllocOdtEntry, SetDaqPtr, WriteDaq, SetDaqListMode, StartStopDaqList, StartStopSynch, ClearDaqList, ReadDaq}
+use Rattle.daq_store.specs.declared.entry.Entry.{Entry}
 use Rattle.daq_store.specs.declared.refusal.Refusal.TheVariants.{Code}
 use Rattle.daq_store.specs.declared.reply.Reply.{Reply}
 use Rattle.daq_store.specs.declared.reply.Reply.TheVariants.{Error}
@@ -24,7 +25,7 @@ some_fault : (accepted : Reply) (code : ErrCode) (fault : Option ErrCode) → Is
 some_fault accepted code None positive is = absurd (subst IsPositive is positive)
 some_fault accepted code (Some other) positive is = refl
 
-read_is_positive : (entry : Option (ℕ × ℕ)) → IsPositive (read_reply entry)
+read_is_positive : (entry : Option Entry) → IsPositive (read_reply entry)
 read_is_positive None = tt
 read_is_positive (Some x) = tt
 

@@ -6,6 +6,8 @@ use Rattle.xcp_base.specs.declared.id_kind.IdKind.TheVariants.{Absolute, Relativ
 use Rattle.xcp_base.specs.declared.stamp_size.StampSize.TheVariants.{One, Two, Four}
 use Rattle.xcp_base.specs.declared.packet_form.PacketForm.{PacketForm}
 use Rattle.xcp_base.specs.Forms.{usual_form}
+use Rattle.segments.specs.Image.{image_segments}
+use Rattle.segments.specs.declared.segment.Segment.{Segment}
 use Rattle.daq_store.specs.declared.command.Command.{Command}
 use Rattle.daq_store.specs.declared.command.Command.TheVariants.{FreeDaq, AllocDaq, AllocOdt, AllocOdtEntry, SetDaqPtr, WriteDaq, SetDaqListMode, StartStopDaqList, StartStopSynch, ClearDaqList, ReadDaq}
 use Rattle.daq_store.specs.declared.reply.Reply.{Reply}
@@ -20,7 +22,7 @@ use Rattle.daq_store.specs.Answer.{answers, calls_after}
 
 -- one event channel, and images of so many bytes
 abbrev images_of : ℕ → Profile
-images_of n = record { channels = 1; image_len = n; form = usual_form }
+images_of n = record { channels = 1; segments = image_segments n; form = usual_form }
 
 -- the calls that stand after a list of calls that were asked for, the first of which stands first here
 abbrev stand_after : Profile → List Command → List Command → List Command
@@ -90,7 +92,7 @@ pointer_after_the_last : pointer (stand_after (images_of 4) [] some_writes) ≡ 
 pointer_after_the_last = refl
 
 entry_of_the_last_write :
-    last_write (stand_after (images_of 4) [] some_writes) 0 0 0 ≡ Some (record { address = 2; size = 2 })
+    last_write (stand_after (images_of 4) [] some_writes) 0 0 0 ≡ Some (record { extension = 0; address = 2; size = 2 })
 entry_of_the_last_write = refl
 
 -- a packet of 64 bytes, and one of 65
@@ -201,9 +203,9 @@ reads_and_clears =
 
 reading_and_clearing :
     answers (images_of 4) [] reads_and_clears
-    ≡ Positive ∷ Positive ∷ Positive ∷ Error Sequence ∷ Positive ∷ Read 0 0 ∷ Positive
+    ≡ Positive ∷ Positive ∷ Positive ∷ Error Sequence ∷ Positive ∷ Read 0 0 0 ∷ Positive
     ∷ Positive ∷ Positive ∷ Positive ∷ Positive ∷ Started 0
-    ∷ Read 2 1 ∷ Read 1 3 ∷ Error Sequence ∷ Error OutOfRange ∷ Positive ∷ Error DaqConfig ∷ Positive ∷ Read 0 0
+    ∷ Read 2 0 1 ∷ Read 1 0 3 ∷ Error Sequence ∷ Error OutOfRange ∷ Positive ∷ Error DaqConfig ∷ Positive ∷ Read 0 0 0
     ∷ Error Sequence ∷ []
 reading_and_clearing = refl
 
@@ -216,8 +218,48 @@ clears_another =
 the_pointer_is_undefined : pointer (stand_after (images_of 4) [] clears_another) ≡ None
 the_pointer_is_undefined = refl
 
-the_entry_stays : last_write (stand_after (images_of 4) [] clears_another) 0 0 0 ≡ Some (record { address = 1; size = 2 })
+the_entry_stays : last_write (stand_after (images_of 4) [] clears_another) 0 0 0 ≡ Some (record { extension = 0; address = 1; size = 2 })
 the_entry_stays = refl
 
 the_selection_stays : is_selected (stand_after (images_of 4) [] clears_another) 0 ≡ true
 the_selection_stays = refl
+
+-- two event channels, two segments that touch, of extension 0 and for event channel 0 alone, and one of extension 1 for event
+-- channel 1 alone
+abbrev three_segments : List Segment
+three_segments =
+    record { extension = 0; base = 0x1000; len = 2; events = 0x01 }
+    ∷ record { extension = 0; base = 0x1002; len = 2; events = 0x01 }
+    ∷ record { extension = 1; base = 0x1000; len = 4; events = 0x02 } ∷ []
+
+abbrev over_segments : Profile
+over_segments = record { channels = 2; segments = three_segments; form = usual_form }
+
+-- an entry lies in one segment, and READ_DAQ shows its extension
+abbrev writes_at_seams : List Command
+writes_at_seams = one_entry (
+    SetDaqPtr 0 0 0 ∷ WriteDaq 0xFF 2 0 0x1001 ∷ WriteDaq 0xFF 2 0 0x1003 ∷ WriteDaq 0xFF 2 0 0xFFF ∷ WriteDaq 0xFF 2 2 0x1000
+    ∷ WriteDaq 0xFF 5 1 0x1000 ∷ WriteDaq 0xFF 2 1 0x1000 ∷ SetDaqPtr 0 0 0 ∷ ReadDaq ∷ SetDaqPtr 0 0 0 ∷ WriteDaq 0xFF 2 0 0x1002
+    ∷ SetDaqPtr 0 0 0 ∷ ReadDaq ∷ []
+    )
+
+written_in_one_segment :
+    answers over_segments [] writes_at_seams
+    ≡ Positive ∷ Positive ∷ Positive ∷ Positive ∷ Error OutOfRange ∷ Error OutOfRange ∷ Error OutOfRange ∷ Error OutOfRange
+    ∷ Error OutOfRange ∷ Positive ∷ Positive ∷ Read 2 1 0x1000 ∷ Positive ∷ Positive ∷ Positive ∷ Read 2 0 0x1002 ∷ []
+written_in_one_segment = refl
+
+-- a list is ready if its event channel may read the segments of its entries
+abbrev start_answers : ℕ → ℕ → List Reply
+start_answers ext channel =
+    drop 6 (answers over_segments [] (one_entry (
+    SetDaqPtr 0 0 0 ∷ WriteDaq 0xFF 2 ext 0x1000 ∷ SetDaqListMode 0 0 channel 1 0 ∷ StartStopDaqList 1 0 ∷ StartStopDaqList 2 0
+    ∷ StartStopSynch 1 ∷ []
+    )))
+
+readable_by_the_channel :
+    (start_answers 1 0 ≡ Error DaqConfig ∷ Started 0 ∷ Error DaqConfig ∷ [])
+    × (start_answers 1 1 ≡ Started 0 ∷ Started 0 ∷ Positive ∷ [])
+    × (start_answers 0 0 ≡ Started 0 ∷ Started 0 ∷ Positive ∷ [])
+    × (start_answers 0 1 ≡ Error DaqConfig ∷ Started 0 ∷ Error DaqConfig ∷ [])
+readable_by_the_channel = (refl, refl, refl, refl)

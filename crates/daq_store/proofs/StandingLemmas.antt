@@ -199,10 +199,10 @@ room s l store inside =
 
 -- a list that is there and ready
 pub ready_stands : (s : StoreState) (calls : List Command) (l : ℕ) → StoreStandsAfter s calls → l < length s.lists
-    → list_is_ready s.profile calls l ≡ is_ready s.profile.image_len (conf_of s l)
+    → list_is_ready s.profile calls l ≡ is_ready s.profile.segments (conf_of s l)
 ready_stands s calls l h inside =
     let here : l < list_count calls = rw (count_stands s calls h) at inside in
-    ap (is_ready s.profile.image_len) (sym (conf_stands s calls l h here))
+    ap (is_ready s.profile.segments) (sym (conf_stands s calls l h here))
 
 -- what is set of a list that is there
 pub conf_after : (s : StoreState) (calls : List Command) (l : ℕ) → StoreStandsAfter s calls → l < length s.lists → conf_of s l ≡ configuration s.profile.form calls l
@@ -212,7 +212,7 @@ conf_after s calls l h inside =
 
 -- there is a list l and it is ready, on what the store shows
 abbrev pub IsReadyAt : StoreState → ℕ → Type 0
-IsReadyAt s l = (l < length s.lists) × (is_ready s.profile.image_len (conf_of s l) ≡ true)
+IsReadyAt s l = (l < length s.lists) × (is_ready s.profile.segments (conf_of s l) ≡ true)
 
 -- what holds exactly there holds exactly where the list is there and ready after the calls
 pub ready_after : (s : StoreState) (calls : List Command) (l : ℕ) {P : Type 0} → StoreStandsAfter s calls → P ↔ IsReadyAt s l

@@ -1,21 +1,23 @@
 -- What is answered to a call: the first check that fails, else a positive reply. Which checks
 -- each call makes, in which order, stands in docs/PROFILE.md as a table.
-use Rattle.std.specs.Prelude.{ℕ, ◌+◌, ◌==◌, ◌&&◌, ◌||◌, not, nat_lt, Bool, false, if◌then◌else◌}
+use Rattle.std.specs.Prelude.{ℕ, ◌==◌, ◌&&◌, ◌||◌, not, nat_lt, Bool, false, if◌then◌else◌}
 use Rattle.std.specs.Prelude.{List, [], ◌∷◌, Option, Some, None, is_some, is_none}
-use Rattle.xcp_base.specs.declared.limits.TheConstants.{ADDRESS_EXTENSION, MAX_ENTRIES}
-use Rattle.xcp_base.specs.declared.limits.TheConstants.{MAX_ENTRY_SIZE}
-use Rattle.xcp_base.specs.declared.limits.TheConstants.{MAX_LISTS, MAX_ODTS}
+use Rattle.xcp_base.specs.declared.limits.TheConstants.{MAX_ENTRIES, MAX_ENTRY_SIZE, MAX_LISTS}
+use Rattle.xcp_base.specs.declared.limits.TheConstants.{MAX_ODTS}
 use Rattle.xcp_base.specs.Forms.{first_pid_behind, most_odts}
 use Rattle.xcp_base.specs.declared.err_code.ErrCode.{ErrCode}
 use Rattle.xcp_base.specs.declared.err_code.ErrCode.TheVariants.{DaqActive, OutOfRange}
 use Rattle.xcp_base.specs.declared.err_code.ErrCode.TheVariants.{ModeNotValid, Sequence, DaqConfig}
 use Rattle.xcp_base.specs.declared.err_code.ErrCode.TheVariants.{MemoryOverflow}
+use Rattle.segments.specs.declared.segment.Segment.{Segment}
+use Rattle.segments.specs.Places.{segment_of}
 use Rattle.daq_store.specs.declared.command.Command.{Command}
 use Rattle.daq_store.specs.declared.command.Command.TheVariants.{FreeDaq, AllocDaq, AllocOdt}
 use Rattle.daq_store.specs.declared.command.Command.TheVariants.{AllocOdtEntry, SetDaqPtr, WriteDaq}
 use Rattle.daq_store.specs.declared.command.Command.TheVariants.{SetDaqListMode, StartStopDaqList}
 use Rattle.daq_store.specs.declared.command.Command.TheVariants.{StartStopSynch, ClearDaqList}
 use Rattle.daq_store.specs.declared.command.Command.TheVariants.{ReadDaq}
+use Rattle.daq_store.specs.declared.entry.Entry.{Entry}
 use Rattle.daq_store.specs.declared.reply.Reply.{Reply}
 use Rattle.daq_store.specs.declared.reply.Reply.TheVariants.{Positive, Started, Read, Error}
 use Rattle.daq_store.specs.Calls.{Profile, and_then}
@@ -38,12 +40,12 @@ abbrev pub is_active_at : List Command → Option (ℕ × ℕ × ℕ) → Bool
 is_active_at calls None = false
 is_active_at calls (Some p) = is_active calls p.0
 
--- an entry that is one bit (a bit offset other than 0xFF), has no byte or too many, has another
--- address extension than the one that there is, or ends after the image
-abbrev pub is_bad_entry : ℕ → ℕ → ℕ → ℕ → ℕ → Bool
-is_bad_entry image_len bit size ext addr =
-    not (bit == 0xFF) || size == 0 || nat_lt MAX_ENTRY_SIZE size || not (ext == ADDRESS_EXTENSION)
-    || nat_lt image_len (addr + size)
+-- an entry that is one bit (a bit offset other than 0xFF), has no byte or too many, or lies in no
+-- segment
+abbrev pub is_bad_entry : List Segment → ℕ → ℕ → ℕ → ℕ → Bool
+is_bad_entry segments bit size ext addr =
+    not (bit == 0xFF) || size == 0 || nat_lt MAX_ENTRY_SIZE size
+    || is_none (segment_of segments ext addr size)
 
 -- list l is selected and not ready
 abbrev pub selects_unready : Profile → List Command → ℕ → Bool
@@ -72,7 +74,7 @@ checks profile calls (SetDaqPtr list odt entry) =
 checks profile calls (WriteDaq bit size ext addr) =
     (is_active_at calls (pointer calls), DaqActive)
     ∷ (is_none (pointer calls), Sequence)
-    ∷ (is_bad_entry profile.image_len bit size ext addr, OutOfRange) ∷ []
+    ∷ (is_bad_entry profile.segments bit size ext addr, OutOfRange) ∷ []
 checks profile calls (SetDaqListMode mode list channel prescaler priority) =
     (is_active calls list, DaqActive)
     ∷ (
@@ -99,10 +101,10 @@ first_failing (check ∷ more) = if check.0 then Some check.1 else first_failing
 abbrev pub fault_of : Profile → List Command → Command → Option ErrCode
 fault_of profile calls call = first_failing (checks profile calls call)
 
--- the reply to READ_DAQ at an entry of this address and size, or at an unwritten one
-abbrev pub read_reply : Option (ℕ × ℕ) → Reply
-read_reply None = Read 0 0
-read_reply (Some x) = Read x.1 x.0
+-- the reply to READ_DAQ at a written entry, or at an unwritten one
+abbrev pub read_reply : Option Entry → Reply
+read_reply None = Read 0 0 0
+read_reply (Some entry) = Read entry.size entry.extension entry.address
 
 -- the positive reply to a call: to START_STOP_DAQ_LIST with FIRST_PID of its list, to READ_DAQ with
 -- the entry at the pointer

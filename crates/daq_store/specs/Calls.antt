@@ -4,14 +4,15 @@
 use Rattle.std.specs.Prelude.{ℕ, List, [], ◌∷◌}
 use Rattle.std.specs.List.{range_with_len}
 use Rattle.xcp_base.specs.declared.packet_form.PacketForm.{PacketForm}
+use Rattle.segments.specs.declared.segment.Segment.{Segment}
 use Rattle.daq_store.specs.declared.command.Command.{Command}
 use Rattle.daq_store.specs.declared.command.Command.TheVariants.{FreeDaq}
 
--- what a store is made for: its number of event channels, the length of its images in bytes, and
--- the form of its packets
+-- what a store is made for: its number of event channels, the segments in which its entries lie,
+-- and the form of its packets
 pub record Profile : Type 0 where
   pub channels : ℕ
-  pub image_len : ℕ
+  pub segments : List Segment
   pub form : PacketForm
 
 -- the calls that stand after one more: FREE_DAQ leaves none

@@ -1,5 +1,5 @@
 -- What is set of one DAQ list, and when that is enough to start it.
-use Rattle.std.specs.Prelude.{◌<◌, ◌≤◌, IfSome, All, ℕ, ◌+◌, ◌&&◌, nat_lt, nat_le, Bool}
+use Rattle.std.specs.Prelude.{◌<◌, ◌≤◌, IfSome, All, ℕ, ◌&&◌, nat_lt, nat_le, Bool}
 use Rattle.std.specs.Prelude.{false, List, [], length, map, slice_get, sum_by}
 use Rattle.std.specs.Prelude.{Option, Some, None, is_some, option_and_then, unwrap_or}
 use Rattle.std.specs.List.{list_all}
@@ -7,6 +7,8 @@ use Rattle.xcp_base.specs.declared.limits.TheConstants.{MAX_CHANNELS, MAX_DTO, M
 use Rattle.xcp_base.specs.declared.limits.TheConstants.{MAX_ENTRY_SIZE, MAX_ODTS}
 use Rattle.xcp_base.specs.declared.packet_form.PacketForm.{PacketForm}
 use Rattle.xcp_base.specs.Packets.{packet_len}
+use Rattle.segments.specs.declared.segment.Segment.{Segment}
+use Rattle.segments.specs.Places.{is_readable}
 use Rattle.daq_store.specs.declared.command.Command.{Command}
 use Rattle.daq_store.specs.declared.mode.Mode.{Mode}
 use Rattle.daq_store.specs.declared.entry.Entry.{Entry}
@@ -69,14 +71,16 @@ entry_len None = 0
 abbrev pub entries_len : Configuration → ℕ → ℕ
 entries_len c k = sum_by entry_len (odt_entries c k)
 
--- the entry is written and ends within the image
-abbrev pub is_within : ℕ → Option Entry → Bool
-is_within image_len (Some entry) = nat_le (entry.address + entry.size) image_len
-is_within image_len None = false
+-- the entry is written and lies in a segment that event channel c may read
+abbrev pub is_within : ℕ → List Segment → Option Entry → Bool
+is_within c segments (Some entry) =
+    is_readable c segments entry.extension entry.address entry.size
+is_within c segments None = false
 
--- there are entries, and each is written and ends within the image
-abbrev pub is_filled : ℕ → List (Option Entry) → Bool
-is_filled image_len entries = nat_lt 0 (length entries) && list_all (is_within image_len) entries
+-- there are entries, and each is written and lies in a segment that event channel c may read
+abbrev pub is_filled : ℕ → List Segment → List (Option Entry) → Bool
+is_filled c segments entries =
+    nat_lt 0 (length entries) && list_all (is_within c segments) entries
 
 -- the packet of ODT k has at most MAX_DTO bytes
 abbrev pub is_short : Configuration → ℕ → Bool
@@ -86,15 +90,16 @@ is_short c k = nat_le (packet_len c.form (is_stamped c.mode) k (entries_len c k)
 abbrev pub are_short : Configuration → Bool
 are_short c = list_all (is_short c) (numbers_below (length c.odts))
 
--- a mode was set, there is an ODT, each ODT is filled, and each packet is short enough
-abbrev pub is_ready : ℕ → Configuration → Bool
-is_ready image_len c =
-    is_some c.mode && nat_lt 0 (length c.odts) && list_all (is_filled image_len) c.odts
-    && are_short c
+-- a mode was set, there is an ODT, each ODT is filled for the event channel of the mode, and each
+-- packet is short enough
+abbrev pub is_ready : List Segment → Configuration → Bool
+is_ready segments c =
+    is_some c.mode && nat_lt 0 (length c.odts)
+    && list_all (is_filled (channel_of c.mode) segments) c.odts && are_short c
 
 -- list l is ready
 abbrev pub list_is_ready : Profile → List Command → ℕ → Bool
-list_is_ready profile calls l = is_ready profile.image_len (configuration profile.form calls l)
+list_is_ready profile calls l = is_ready profile.segments (configuration profile.form calls l)
 
 -- a mode names one of the channels that there may be, and a prescaler of at least 1
 abbrev pub IsMode : Mode → Type 0

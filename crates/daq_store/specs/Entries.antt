@@ -1,6 +1,6 @@
 -- The values of the ODT entries: WRITE_DAQ, READ_DAQ and CLEAR_DAQ_LIST.
 use Rattle.std.specs.Prelude.{ℕ, ◌==◌, ◌&&◌, if◌then◌else◌, List, [], ◌∷◌, map, Option, Some, None}
-use Rattle.std.specs.Prelude.{option_and_then, option_map}
+use Rattle.std.specs.Prelude.{option_and_then}
 use Rattle.daq_store.specs.declared.command.Command.{Command}
 use Rattle.daq_store.specs.declared.command.Command.TheVariants.{AllocDaq, AllocOdt, AllocOdtEntry}
 use Rattle.daq_store.specs.declared.command.Command.TheVariants.{ClearDaqList, WriteDaq}
@@ -21,15 +21,14 @@ last_write (AllocOdtEntry list odt count ∷ earlier) l k e =
 last_write (ClearDaqList list ∷ earlier) l k e =
     if list == l then None else last_write earlier l k e
 last_write (WriteDaq bit size ext addr ∷ earlier) l k e =
-    if points_at (pointer earlier) l k e then Some (record { address = addr; size = size })
+    if points_at (pointer earlier) l k e
+    then Some (record { extension = ext; address = addr; size = size })
     else last_write earlier l k e
 last_write (_ ∷ earlier) l k e = last_write earlier l k e
 
--- address and size of the entry at the pointer, if it is written
-abbrev pub pointed : List Command → Option (ℕ × ℕ)
-pointed calls =
-    option_and_then (λ p. option_map (λ x. (x.address, x.size)) (last_write calls p.0 p.1 p.2))
-    (pointer calls)
+-- the entry at the pointer, if it is written
+abbrev pub pointed : List Command → Option Entry
+pointed calls = option_and_then (λ p. last_write calls p.0 p.1 p.2) (pointer calls)
 
 -- the entries of ODT k of list l
 abbrev pub odt_of : List Command → ℕ → ℕ → List (Option Entry)

@@ -13,16 +13,16 @@ use Rattle.daq_store.specs.Standing.{StoreStandsAfter, StoreState}
 use Rattle.daq_store.specs.Commands.{command, dword_bytes}
 
 -- the bytes of a reply: RES is FF, to START_STOP_DAQ_LIST with FIRST_PID behind it, to READ_DAQ
--- with bit offset FF, size, address extension 0 and address; ERR is FE and the byte of the error
+-- with bit offset FF, size, address extension and address; ERR is FE and the byte of the error
 abbrev pub reply_bytes : Reply → List ℕ
 reply_bytes Positive = 0xFF ∷ []
 reply_bytes (Started first_pid) = 0xFF ∷ first_pid ∷ []
-reply_bytes (Read size addr) = 0xFF ∷ 0xFF ∷ size ∷ 0x00 ∷ dword_bytes addr
+reply_bytes (Read size ext addr) = 0xFF ∷ 0xFF ∷ size ∷ ext ∷ dword_bytes addr
 reply_bytes (Error code) = 0xFE ∷ error_byte code ∷ []
 
 -- any reply but that to READ_DAQ
 abbrev pub ShowsNoEntry : Reply → Type 0
-ShowsNoEntry (Read size addr) = ⊥
+ShowsNoEntry (Read size ext addr) = ⊥
 ShowsNoEntry _ = Unit {0}
 
 -- one of the three commands that take memory

@@ -2,9 +2,11 @@
 use Rattle.std.specs.Prelude.{◌≡◌, ℕ, ◌<◌, ◌≤◌, Bool, true, false, if◌then◌else◌, List, length, map}
 use Rattle.std.specs.Prelude.{sum_by, take, slice_get, unwrap_or, option_map, IfSome, All, Option}
 use Rattle.std.specs.Prelude.{Some, None}
-use Rattle.xcp_base.specs.declared.limits.TheConstants.{MAX_CHANNELS, MAX_IMAGE_LEN, MAX_LISTS}
+use Rattle.xcp_base.specs.declared.limits.TheConstants.{MAX_CHANNELS, MAX_LISTS}
 use Rattle.xcp_base.specs.declared.packet_form.PacketForm.{PacketForm}
 use Rattle.xcp_base.specs.Forms.{first_pid_behind, most_odts}
+use Rattle.segments.specs.declared.segment.Segment.{Segment}
+use Rattle.segments.specs.Segment.{AreWithin}
 use Rattle.daq_store.specs.declared.command.Command.{Command}
 use Rattle.daq_store.specs.declared.phase.Phase.{Phase}
 use Rattle.daq_store.specs.declared.refusal.Refusal.{Refusal}
@@ -94,8 +96,8 @@ first_pid_after form calls l =
     if is_list calls l then Some (first_pid_behind form.id (odts_before calls l)) else None
 
 -- a list that runs is ready
-abbrev pub RunsReady : ℕ → ListState → Type 0
-RunsReady image_len x = x.running ≡ true → is_ready image_len x.conf ≡ true
+abbrev pub RunsReady : List Segment → ListState → Type 0
+RunsReady segments x = x.running ≡ true → is_ready segments x.conf ≡ true
 
 -- the mode of a list, if one was set, names one of so many event channels
 abbrev pub HasChannel : ℕ → ListState → Type 0
@@ -112,10 +114,10 @@ IsAtEntry s p = p.2 < length (odt_entries (conf_of s p.0) p.1)
 -- what every store keeps to
 pub record IsStore (s : StoreState) : Type 0 where
   pub channels : (1 ≤ s.profile.channels) × (s.profile.channels ≤ MAX_CHANNELS)
-  pub image_len : (1 ≤ s.profile.image_len) × (s.profile.image_len ≤ MAX_IMAGE_LEN)
+  pub segments : AreWithin s.profile.segments
   pub lists : length s.lists ≤ MAX_LISTS
   pub odts : sum_by odts_of s.lists ≤ most_odts s.profile.form.id
   pub forms : All (HasForm s.profile.form) s.lists
   pub modes : All (HasChannel s.profile.channels) s.lists
-  pub running : All (RunsReady s.profile.image_len) s.lists
+  pub running : All (RunsReady s.profile.segments) s.lists
   pub pointer : IfSome s.pointer (IsAtEntry s)

@@ -2,9 +2,10 @@
 //! configuration, limits of allocation.
 
 ghost use Rattle.std.specs.Prelude.{◌≡◌, ◌+◌, ◌*◌, ◌<◌, ◌≤◌, ◌&&◌, ◌==◌, true, false};
-ghost use Rattle.std.specs.Prelude.{IfErr, IfOk, OnOk, Some, length};
+ghost use Rattle.std.specs.Prelude.{IfErr, IfOk, OnOk, Some, is_none, length};
 ghost use Rattle.std.specs.List.{list_any};
 ghost use Rattle.xcp_base.specs.Forms.{FitsFirstPid, most_odts};
+ghost use Rattle.segments.specs.Places.{segment_of};
 ghost use Rattle.daq_store.specs.Answer.{is_bad_entry};
 ghost use Rattle.daq_store.specs.Inner.Effects.{some_runs, shows_list, shows_odt, shows_entry};
 ghost use Rattle.daq_store.specs.Inner.Effects.{other_odts, shows_too_many, shows_unready};
@@ -15,10 +16,9 @@ use crate::command::Command;
 use crate::list_state::{SELECT, START};
 use crate::mode::TIMESTAMP;
 use crate::store::Store;
+use segments::Segments;
 use xcp_base::ErrCode;
-use xcp_base::limits::{
-    ADDRESS_EXTENSION, MAX_CHANNELS, MAX_ENTRIES, MAX_ENTRY_SIZE, MAX_LISTS, MAX_ODTS,
-};
+use xcp_base::limits::{MAX_CHANNELS, MAX_ENTRIES, MAX_ENTRY_SIZE, MAX_LISTS, MAX_ODTS};
 
 impl Store {
     ghost use Rattle.daq_store.specs.Standing.{conf_of, first_pid_of, odts_shown, shows_running};
@@ -129,7 +129,7 @@ impl Store {
         if self.running(list) {
             return Err(ErrCode::DaqActive);
         }
-        if is_bad_entry(self.image_len, bit, size, ext, addr) {
+        if is_bad_entry(&self.segments, bit, size, ext, addr) {
             return Err(ErrCode::OutOfRange);
         }
         Ok((list, odt, entry))
@@ -191,7 +191,7 @@ impl Store {
         ensures passes { OnOk result (Passes self.now (Command.StartStopSynch mode)) }
         ensures fails { IfErr result (Fails self.now (Command.StartStopSynch mode)) }
         ensures ready { OnOk result
-            ((mode == 1 && list_any (is_unready self.now.profile.image_len) self.now.lists)
+            ((mode == 1 && list_any (is_unready self.now.profile.segments) self.now.lists)
             ≡ false) }
     {
         if mode > SELECT {
@@ -318,26 +318,28 @@ impl Store {
 
     /// Whether a selected list isn't ready.
     fn selects_unready(&self) -> bool
-        ensures { result ≡ list_any (is_unready self.now.profile.image_len) self.now.lists }
+        ensures { result ≡ list_any (is_unready self.now.profile.segments) self.now.lists }
     {
-        let image_len = self.image_len;
+        let segments = &self.segments;
         self.lists
             .iter()
-            .any(|list| list.selected && !list.conf.ready(image_len))
+            .any(|list| list.selected && !list.conf.ready(segments))
     }
 }
 
-/// Whether an entry is a bit, has no byte or too many, has another address extension than the one
-/// that there is, or ends after the image.
-fn is_bad_entry(image_len: usize, bit: u8, size: u8, ext: u8, addr: u32) -> bool
-    ensures value { result ≡ is_bad_entry image_len bit size ext addr }
+/// Whether an entry is a bit, has no byte or too many, or lies in no segment.
+fn is_bad_entry(segments: &Segments, bit: u8, size: u8, ext: u8, addr: u32) -> bool
+    ensures value { result ≡ is_bad_entry segments.now bit size ext addr }
     ensures size { result ≡ false → (0 < size) × (size ≤ MAX_ENTRY_SIZE) }
 {
-    bit != NO_BIT
-        || size == 0
-        || size > MAX_ENTRY_SIZE
-        || ext != ADDRESS_EXTENSION
-        || addr as usize + size as usize > image_len
+    bit != NO_BIT || size == 0 || size > MAX_ENTRY_SIZE || is_outside(segments, size, ext, addr)
+}
+
+/// Whether so many bytes from an address on lie in no segment.
+fn is_outside(segments: &Segments, size: u8, ext: u8, addr: u32) -> bool
+    ensures { result ≡ is_none (segment_of segments.now ext addr size) }
+{
+    segments.find(ext, addr as usize, size as usize).is_none()
 }
 
 /// The bit offset of WRITE_DAQ that names whole bytes.

@@ -136,7 +136,7 @@ impl Store {
 
     /// START_STOP_SYNCH: stops all lists, or starts or stops the selected ones.
     pub(crate) fn put_synch(&mut self, mode: u8)
-        requires { (mode == 1 && list_any (is_unready self.old.profile.image_len) self.old.lists)
+        requires { (mode == 1 && list_any (is_unready self.old.profile.segments) self.old.lists)
             ≡ false }
         ensures { self.new ≡ synch_put self.old mode }
     {

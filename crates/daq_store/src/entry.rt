@@ -1,20 +1,31 @@
-//! ODT entries, and whether one lies within the image.
-ghost use Rattle.std.specs.Prelude.{◌≡◌};
+//! ODT entries, and whether an event channel may read one.
+ghost use Rattle.std.specs.Prelude.{◌≡◌, ◌<◌};
 ghost use Rattle.daq_store.specs.Configuration.{is_within};
 
-/// WRITE_DAQ: an ODT entry, a part of the image by its address and its size in bytes.
+use segments::Segments;
+use segments::limits::MAX_READERS;
+
+/// WRITE_DAQ: an ODT entry, a part of memory by its address extension, its address and its size in
+/// bytes.
 #[derive(Clone, Copy, Debug, PartialEq, Eq)]
 pub struct Entry {
+    pub extension: u8,
     pub address: u32,
     pub size: u8,
 }
 
-/// Whether an entry is written and ends within the image.
-pub fn is_within(entry: &Option<Entry>, image_len: usize) -> bool
-    ensures { result ≡ is_within image_len entry.now }
+/// Whether an entry is written and lies in a segment that an event channel may read.
+pub fn is_within(channel: u8, segments: &Segments, entry: &Option<Entry>) -> bool
+    requires { channel < MAX_READERS }
+    ensures { result ≡ is_within channel segments.now entry.now }
 {
     match entry {
-        Some(entry) => entry.address as usize + entry.size as usize <= image_len,
+        Some(entry) => segments.is_readable(
+            channel,
+            entry.extension,
+            entry.address as usize,
+            entry.size as usize,
+        ),
         None => false,
     }
 }

@@ -16,6 +16,7 @@ mod refusal;
 mod reply;
 mod store;
 
+pub use entry::Entry;
 pub use list_conf::ListConf;
 pub use refusal::{BadLimits, NoMemory, Refusal};
 pub use reply::Reply;

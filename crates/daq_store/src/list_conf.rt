@@ -11,6 +11,7 @@ ghost use Rattle.daq_store.specs.Inner.Effects.{unwritten};
 use crate::entry::Entry;
 use crate::mode::Mode;
 use crate::odt::Odt;
+use segments::Segments;
 use std::alloc::{AllocError, Global};
 use std::marker::Model;
 use xcp_base::limits::{
@@ -124,26 +125,36 @@ impl ListConf {
         }
     }
 
-    /// The address and the size in bytes of an entry, where it is there and written.
+    /// An entry, if it is there and written.
+    pub fn written(&self, odt: usize, entry: usize) -> Option<Entry>
+        ensures value { result ≡ entry_of self.now odt entry }
+        ensures size { IfSome result (λ x. (0 < x.size) × (x.size ≤ MAX_ENTRY_SIZE)) }
+    {
+        self.odts.get(odt)?.entry(entry)
+    }
+
+    /// The address and the size in bytes of an entry, if it is there and written.
     pub fn entry(&self, odt: usize, entry: usize) -> Option<(u32, u8)>
         ensures value { result
             ≡ option_map (λ x. (x.address, x.size)) (entry_of self.now odt entry) }
         ensures size { IfSome result (λ x. (0 < x.1) × (x.1 ≤ MAX_ENTRY_SIZE)) }
     {
-        let entry = self.odts.get(odt)?.entry(entry)?;
+        let entry = self.written(odt, entry)?;
         Some((entry.address, entry.size))
     }
 
     /// Whether a mode was set, there is an ODT, each ODT has an entry, each entry is written and
-    /// ends within the image, and each packet in its form has at most MAX_DTO bytes.
-    pub fn ready(&self, image_len: usize) -> bool
-        ensures { result ≡ is_ready image_len self.now }
+    /// lies in a segment that the list's event channel may read, and each packet in its form has at
+    /// most MAX_DTO bytes.
+    pub fn ready(&self, segments: &Segments) -> bool
+        ensures { result ≡ is_ready segments.now self.now }
     {
         if self.mode.is_none() {
             return false;
         }
+        let channel = self.channel();
         for (k, odt) in self.odts.iter().enumerate() {
-            if !odt.is_filled(image_len) {
+            if !odt.is_filled(channel, segments) {
                 return false;
             }
             if self.field_len() + self.stamp_len(k) + odt.bytes() > MAX_DTO {

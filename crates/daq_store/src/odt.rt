@@ -1,4 +1,4 @@
-//! The entries of one ODT: allocated, written, cleared, and checked against the image.
+//! The entries of one ODT: allocated, written, cleared, and checked against the segments.
 ghost use Rattle.std.specs.Prelude.{◌≡◌, ◌*◌, ◌<◌, ◌≤◌, [], None, Some, IfOk, length};
 ghost use Rattle.std.specs.Prelude.{option_and_then, replicate, slice_get, slice_set, sum_by};
 ghost use Rattle.std.specs.List.{list_all};
@@ -6,6 +6,8 @@ ghost use Rattle.daq_store.specs.Configuration.{entry_len, is_filled, is_within}
 ghost use Rattle.daq_store.specs.Inner.Effects.{unwritten};
 
 use crate::entry::{Entry, is_within};
+use segments::Segments;
+use segments::limits::MAX_READERS;
 use std::alloc::{AllocError, Global};
 use std::marker::Model;
 use xcp_base::limits::{MAX_ENTRIES, MAX_ENTRY_SIZE};
@@ -79,18 +81,23 @@ impl Odt {
         self.entries.fill(None);
     }
 
-    /// Whether there is an entry, and each is written and ends within the image.
-    pub fn is_filled(&self, image_len: usize) -> bool
-        ensures { result ≡ is_filled image_len self.now }
+    /// Whether there is an entry, and each is written and lies in a segment that an event channel
+    /// may read.
+    pub fn is_filled(&self, channel: u8, segments: &Segments) -> bool
+        requires { channel < MAX_READERS }
+        ensures { result ≡ is_filled channel segments.now self.now }
     {
-        !self.entries.is_empty() && self.are_within(image_len)
+        !self.entries.is_empty() && self.are_within(channel, segments)
     }
 
-    /// Whether each entry is written and ends within the image.
-    fn are_within(&self, image_len: usize) -> bool
-        ensures { result ≡ list_all (is_within image_len) self.now }
+    /// Whether each entry is written and lies in a segment that an event channel may read.
+    fn are_within(&self, channel: u8, segments: &Segments) -> bool
+        requires { channel < MAX_READERS }
+        ensures { result ≡ list_all (is_within channel segments.now) self.now }
     {
-        self.entries.iter().all(|entry| is_within(entry, image_len))
+        self.entries
+            .iter()
+            .all(|entry| is_within(channel, segments, entry))
     }
 
     /// The bytes of the entries.

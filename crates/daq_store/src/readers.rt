@@ -1,8 +1,10 @@
 //! What the store shows.
 
 ghost use Rattle.std.specs.Prelude.{◌≡◌, ◌<◌, ◌≤◌, ◌↔◌, ◌&&◌, List, true, IsTrue, IsSome};
-ghost use Rattle.std.specs.Prelude.{IfSome, is_some, length, option_copied, option_map, slice_get};
+ghost use Rattle.std.specs.Prelude.{IfSome, is_some, length, option_copied, slice_get};
 ghost use Rattle.xcp_base.specs.Forms.{FitsFirstPid, stamp_bytes};
+ghost use Rattle.segments.specs.Image.{image_len};
+ghost use Rattle.segments.specs.Segment.{AreWithin};
 ghost use Rattle.daq_store.specs.Shape.{list_count, is_list};
 ghost use Rattle.daq_store.specs.Pointer.{pointer};
 ghost use Rattle.daq_store.specs.Running.{any_list, is_active, is_chosen, is_running};
@@ -11,11 +13,13 @@ ghost use Rattle.daq_store.specs.Configuration.{list_is_ready, odt_entries};
 ghost use Rattle.daq_store.specs.Inner.Effects.{shows_entry};
 
 use crate::command::Command;
+use crate::entry::Entry;
 use crate::list_conf::ListConf;
 use crate::list_state::ListState;
 use crate::store::Store;
+use segments::{Segments, image_len};
 use xcp_base::IdKind;
-use xcp_base::limits::{MAX_CHANNELS, MAX_ENTRIES, MAX_IMAGE_LEN, MAX_LISTS};
+use xcp_base::limits::{MAX_CHANNELS, MAX_ENTRIES, MAX_LISTS};
 
 impl Store {
     ghost use Rattle.daq_store.specs.Standing.{StoreStandsAfter, conf_of, first_pid_of};
@@ -30,12 +34,19 @@ impl Store {
         self.channels
     }
 
-    /// The length of the images, in bytes.
-    pub fn image_len(&self) -> usize
-        ensures value { result ≡ self.now.profile.image_len }
-        ensures limits { (1 ≤ result) × (result ≤ MAX_IMAGE_LEN) }
+    /// The segments in which entries lie.
+    pub fn segments(&self) -> &Segments
+        ensures value { result.now ≡ self.now.profile.segments }
+        ensures within { AreWithin self.now.profile.segments }
     {
-        self.image_len
+        &self.segments
+    }
+
+    /// The length of an image of its segments, in bytes.
+    pub fn image_len(&self) -> usize
+        ensures { result ≡ image_len self.now.profile.segments }
+    {
+        image_len(self.segments.as_slice())
     }
 
     /// The identification field of all packets.
@@ -82,7 +93,7 @@ impl Store {
     pub fn running(&self, list: u16) -> bool
         ensures value { result ≡ shows_running self.now list }
         ensures ready { IsTrue result
-            → is_ready self.now.profile.image_len (conf_of self.now list) ≡ true }
+            → is_ready self.now.profile.segments (conf_of self.now list) ≡ true }
         ensures after { (calls : List Command) → StoreStandsAfter self.now calls
             → result ≡ is_active calls list }
     {
@@ -129,19 +140,18 @@ impl Store {
         Some(&list.conf)
     }
 
-    /// Address and size in bytes of an entry that is there, if it is written.
-    pub(crate) fn entry_at(&self, list: u16, odt: u8, entry: u8) -> Option<(u32, u8)>
+    /// An entry that is there, if it is written.
+    pub(crate) fn entry_at(&self, list: u16, odt: u8, entry: u8) -> Option<Entry>
         requires { shows_entry self.now list odt entry ≡ true }
-        ensures { result ≡ option_map (λ x. (x.address, x.size))
-            (entry_of (conf_of self.now list) odt entry) }
+        ensures { result ≡ entry_of (conf_of self.now list) odt entry }
     {
-        self.state(list)?.conf.entry(odt as usize, entry as usize)
+        self.state(list)?.conf.written(odt as usize, entry as usize)
     }
 
     /// What is set of a DAQ list that is there and ready.
     pub fn plan(&self, list: u16) -> Option<&ListConf>
         ensures ready { IsSome result ↔ ((list < length self.now.lists)
-            × (is_ready self.now.profile.image_len (conf_of self.now list) ≡ true)) }
+            × (is_ready self.now.profile.segments (conf_of self.now list) ≡ true)) }
         ensures value { IfSome result (λ conf. conf.now ≡ conf_of self.now list) }
         ensures channel { IfSome result
             (λ conf. channel_of conf.now.mode < self.now.profile.channels) }
@@ -153,7 +163,7 @@ impl Store {
             (λ conf. conf.now ≡ configuration self.now.profile.form calls list) }
     {
         let list = self.state(list)?;
-        if list.conf.ready(self.image_len) {
+        if list.conf.ready(&self.segments) {
             Some(&list.conf)
         } else {
             None
@@ -168,7 +178,7 @@ impl Store {
         ensures channel { IfSome result
             (λ state. channel_of state.now.conf.mode < self.now.profile.channels) }
         ensures ready { IfSome result
-            (λ state. RunsReady self.now.profile.image_len state.now) }
+            (λ state. RunsReady self.now.profile.segments state.now) }
     {
         self.lists.get(list as usize)
     }

@@ -3,6 +3,7 @@ ghost use Rattle.std.specs.Prelude.{◌≡◌, ◌≤◌, length};
 ghost use Rattle.daq_store.specs.Answer.{read_reply};
 ghost use Rattle.daq_store.specs.Replies.{ShowsNoEntry, reply_bytes};
 
+use crate::entry::Entry;
 use arrayvec::ArrayVec;
 use xcp_base::ErrCode;
 
@@ -13,21 +14,29 @@ pub enum Reply {
     Positive,
     /// RES to START_STOP_DAQ_LIST, with FIRST_PID of the DAQ list.
     Started { first_pid: u8 },
-    /// RES to READ_DAQ, with the size in bytes and the address of the entry; both are 0 if it is
-    /// unwritten.
-    Read { size: u8, addr: u32 },
+    /// RES to READ_DAQ, with the size in bytes, the address extension and the address of the entry;
+    /// all are 0 if it is unwritten.
+    Read { size: u8, ext: u8, addr: u32 },
     /// ERR.
     Error(ErrCode),
 }
 
 impl Reply {
-    /// The reply to READ_DAQ at an entry with this address and size, or at an unwritten one.
-    pub(crate) fn of_entry(entry: Option<(u32, u8)>) -> Reply
+    /// The reply to READ_DAQ at a written entry, or at an unwritten one.
+    pub(crate) fn of_entry(entry: Option<Entry>) -> Reply
         ensures { result ≡ read_reply entry }
     {
         match entry {
-            Some((addr, size)) => Reply::Read { size, addr },
-            None => Reply::Read { size: 0, addr: 0 },
+            Some(entry) => Reply::Read {
+                size: entry.size,
+                ext: entry.extension,
+                addr: entry.address,
+            },
+            None => Reply::Read {
+                size: 0,
+                ext: 0,
+                addr: 0,
+            },
         }
     }
 
@@ -45,9 +54,9 @@ impl Reply {
                 bytes.push(0xFF);
                 bytes.push(first_pid);
             }
-            Reply::Read { size, addr } => {
+            Reply::Read { size, ext, addr } => {
                 let [a, b, c, d] = addr.to_le_bytes();
-                let _ = bytes.try_extend_from_slice(&[0xFF, 0xFF, size, 0x00, a, b, c, d]);
+                let _ = bytes.try_extend_from_slice(&[0xFF, 0xFF, size, ext, a, b, c, d]);
             }
             Reply::Error(code) => {
                 bytes.push(0xFE);

@@ -2,6 +2,7 @@
 ghost use Rattle.std.specs.Prelude.{◌≡◌, ◌≢◌, ◌≤◌, ◌↔◌, [], IsOk, IfOk, IfErr, OnOk, OnErr};
 ghost use Rattle.std.specs.Prelude.{IsSome, Some};
 ghost use Rattle.xcp_base.specs.Forms.{form_of, usual_form};
+ghost use Rattle.segments.specs.Image.{image_segments};
 
 use crate::command::Command;
 use crate::entry::Entry;
@@ -10,6 +11,7 @@ use crate::mode::{Mode, TIMESTAMP};
 use crate::phase::Phase;
 use crate::refusal::{BadLimits, Refusal};
 use crate::reply::Reply;
+use segments::Segments;
 use std::alloc::Global;
 use std::marker::Model;
 use xcp_base::limits::{MAX_CHANNELS, MAX_IMAGE_LEN, MAX_STAMP};
@@ -26,7 +28,7 @@ use xcp_base::{IdKind, PacketForm};
 pub struct Store {
     pub(crate) alloc: Global,
     pub(crate) channels: u16,
-    pub(crate) image_len: usize,
+    pub(crate) segments: Segments,
     pub(crate) form: PacketForm,
     pub(crate) lists: Vec<ListState>,
     pub(crate) pointer: Option<(u16, u8, u8)>,
@@ -41,14 +43,14 @@ impl Model for Store {
     ghost use Rattle.daq_store.specs.Standing.{IsStore};
 
     ghost view = { λ a. record {
-      profile = record { channels = a.channels; image_len = a.image_len; form = a.form };
+      profile = record { channels = a.channels; segments = a.segments; form = a.form };
       lists = a.lists.items;
       pointer = a.pointer;
       phase = a.phase;
     } };
 
     ghost invariant = { λ a. IsStore (record {
-      profile = record { channels = a.channels; image_len = a.image_len; form = a.form };
+      profile = record { channels = a.channels; segments = a.segments; form = a.form };
       lists = a.lists.items;
       pointer = a.pointer;
       phase = a.phase;
@@ -59,14 +61,18 @@ impl Store {
     ghost use Rattle.daq_store.specs.Answer.{read_reply};
     ghost use Rattle.daq_store.specs.Standing.{StoreStandsAfter, Accepts, Refuses};
 
-    /// A store without lists, as after FREE_DAQ, for 1 to 8 event channels and images of 1 to 4096
-    /// bytes; its packets have an absolute ODT number, and timestamps of 4 bytes. It takes no
-    /// memory; the allocator is kept for the three allocations.
+    /// A store without lists, as after FREE_DAQ, for 1 to 8 event channels and an image of 1 to
+    /// 4096 bytes: one segment, which each of them may read. Its packets have an absolute ODT
+    /// number, and timestamps of 4 bytes. It takes no memory; the allocator is kept for the three
+    /// allocations.
     pub fn new(alloc: Global, channels: u16, image_len: usize) -> Result<Store, BadLimits>
         ensures limits { IsOk result ↔ ((1 ≤ channels) × (channels ≤ MAX_CHANNELS)
             × (1 ≤ image_len) × (image_len ≤ MAX_IMAGE_LEN)) }
-        ensures profile { IfOk result (λ s. s.profile
-            ≡ record { channels = channels; image_len = image_len; form = usual_form }) }
+        ensures profile { IfOk result (λ s. s.profile ≡ record {
+          channels = channels;
+          segments = image_segments image_len;
+          form = usual_form;
+        }) }
         ensures fresh { IfOk result (λ s. StoreStandsAfter s []) }
     {
         Store::with_id(alloc, channels, image_len, IdKind::Absolute)
@@ -83,7 +89,7 @@ impl Store {
             × (1 ≤ image_len) × (image_len ≤ MAX_IMAGE_LEN)) }
         ensures profile { IfOk result (λ s. s.profile ≡ record {
           channels = channels;
-          image_len = image_len;
+          segments = image_segments image_len;
           form = record usual_form { id = id };
         }) }
         ensures fresh { IfOk result (λ s. StoreStandsAfter s []) }
@@ -101,15 +107,40 @@ impl Store {
     ) -> Result<Store, BadLimits>
         ensures limits { IsOk result ↔ ((1 ≤ channels) × (channels ≤ MAX_CHANNELS)
             × (1 ≤ image_len) × (image_len ≤ MAX_IMAGE_LEN) × IsSome (form_of id stamp_size)) }
+        ensures profile { IfOk result (λ s. (s.profile.channels ≡ channels)
+            × (s.profile.segments ≡ image_segments image_len)) }
+        ensures form { IfOk result (λ s. form_of id stamp_size ≡ Some s.profile.form) }
+        ensures fresh { IfOk result (λ s. StoreStandsAfter s []) }
+    {
+        if image_len == 0 || image_len > MAX_IMAGE_LEN {
+            return Err(BadLimits);
+        }
+        Store::over(
+            alloc,
+            channels,
+            Segments::of_image(image_len),
+            id,
+            stamp_size,
+        )
+    }
+
+    /// The same for these segments: its entries lie in them, and a list is ready only if its event
+    /// channel may read those in which its entries lie.
+    pub fn over(
+        alloc: Global,
+        channels: u16,
+        segments: Segments,
+        id: IdKind,
+        stamp_size: u8,
+    ) -> Result<Store, BadLimits>
+        ensures limits { IsOk result ↔ ((1 ≤ channels) × (channels ≤ MAX_CHANNELS)
+            × IsSome (form_of id stamp_size)) }
         ensures profile { IfOk result
-            (λ s. (s.profile.channels ≡ channels) × (s.profile.image_len ≡ image_len)) }
+            (λ s. (s.profile.channels ≡ channels) × (s.profile.segments ≡ segments)) }
         ensures form { IfOk result (λ s. form_of id stamp_size ≡ Some s.profile.form) }
         ensures fresh { IfOk result (λ s. StoreStandsAfter s []) }
     {
         if channels == 0 || channels > MAX_CHANNELS {
-            return Err(BadLimits);
-        }
-        if image_len == 0 || image_len > MAX_IMAGE_LEN {
             return Err(BadLimits);
         }
         let Some(form) = PacketForm::of(id, stamp_size) else {
@@ -118,7 +149,7 @@ impl Store {
         Ok(Store {
             alloc,
             channels,
-            image_len,
+            segments,
             form,
             lists: Vec::new(alloc),
             pointer: None,
@@ -205,12 +236,12 @@ impl Store {
         Ok(())
     }
 
-    /// WRITE_DAQ: the entry at the pointer has this address and size in bytes, and the pointer
-    /// moves to the next entry of the same ODT; after the last one it is undefined.
+    /// WRITE_DAQ: the entry at the pointer has this address extension, address and size in bytes,
+    /// and the pointer moves to the next entry of the same ODT; after the last one it is undefined.
     ///
     /// Refused in this order: ERR_DAQ_ACTIVE while the list at the pointer runs, ERR_SEQUENCE with
     /// an undefined pointer, ERR_OUT_OF_RANGE for a bit offset other than 0xFF, a size of 0
-    /// or over 63, an address extension other than 0, or an end after the image.
+    /// or over 63, or an entry that lies in no segment.
     pub fn write(&mut self, bit: u8, size: u8, ext: u8, addr: u32) -> Result<(), Refusal>
         ensures accepted { OnOk result
             (Accepts self.old self.new (Command.WriteDaq bit size ext addr) Reply.Positive) }
@@ -225,6 +256,7 @@ impl Store {
             odt,
             entry,
             Entry {
+                extension: ext,
                 address: addr,
                 size,
             },
@@ -232,11 +264,11 @@ impl Store {
         Ok(())
     }
 
-    /// READ_DAQ: address and size in bytes of the entry at the pointer, if it is written, also of a
-    /// list that runs; the pointer moves on as by WRITE_DAQ.
+    /// READ_DAQ: the entry at the pointer, if it is written, also of a list that runs; the pointer
+    /// moves on as by WRITE_DAQ.
     ///
     /// Refused with ERR_SEQUENCE with an undefined pointer.
-    pub fn read(&mut self) -> Result<Option<(u32, u8)>, Refusal>
+    pub fn read(&mut self) -> Result<Option<Entry>, Refusal>
         ensures accepted { IfOk result
             (λ entry. Accepts self.old self.new Command.ReadDaq (read_reply entry)) }
         ensures refused { IfErr result (Refuses self.old Command.ReadDaq) }
@@ -307,7 +339,8 @@ impl Store {
     /// that doesn't are accepted.
     ///
     /// Refused in this order: ERR_OUT_OF_RANGE without such a list, ERR_MODE_NOT_VALID for a mode
-    /// over 2, ERR_DAQ_CONFIG for the start of a list that isn't ready.
+    /// over 2, ERR_DAQ_CONFIG for the start of a list that isn't ready, as one with an entry in a
+    /// segment that its event channel may not read.
     pub fn start_stop(&mut self, mode: u8, list: u16) -> Result<u8, Refusal>
         ensures accepted { IfOk result (λ pid. Accepts self.old self.new
             (Command.StartStopDaqList mode list) (Reply.Started pid)) }

@@ -19,7 +19,9 @@ impl<'a> Display for ReplyText<'a> {
         match reply_of(self.packet) {
             Some(Reply::Positive) => f.write_str("RES"),
             Some(Reply::Started { first_pid }) => write!(f, "RES, FIRST_PID 0x{first_pid:02x}"),
-            Some(Reply::Read { size, addr }) => write!(f, "RES, size {size}, address 0x{addr:04x}"),
+            Some(Reply::Read { size, addr, .. }) => {
+                write!(f, "RES, size {size}, address 0x{addr:04x}")
+            }
             Some(Reply::Error(code)) => f.write_str(name_of(code)),
             None => f.write_str("no reply"),
         }

@@ -1,4 +1,5 @@
 //! What is measured: an engine's speed and its temperature, once a millisecond.
+use segments::Segment;
 use session::{EventChannel, Profile};
 use std::alloc::{AllocError, Global};
 use xcp_base::{IdKind, RingKind};
@@ -13,13 +14,18 @@ pub fn profile(alloc: Global) -> Result<Profile, AllocError> {
         cycle_unit: 6,
         priority: 0,
     };
+    let memory = Segment {
+        extension: 0,
+        base: 0x1000,
+        len: 3,
+        events: 1,
+    };
     Ok(Profile {
-        image_len: 3,
+        segments: vec![in alloc; memory]?,
         id: IdKind::Absolute,
         stamp_size: 4,
         unit: 3,
         ticks: 1,
-        base: 0x1000,
         ring: RingKind::Samples,
         name: Vec::from_slice(alloc, b"engine")?,
         events: vec![in alloc; event]?,

@@ -62,11 +62,11 @@ fn serve(alloc: Global, slave: &mut Slave<SampleRing>, task: &mut Task<SendHalf>
     send(slave, &mut sent)?;
 
     // the ring has room for two samples: the third is dropped, and the one behind it says so
-    task.trigger(&image(2000, 85), 100)?;
-    task.trigger(&image(2010, 85), 200)?;
-    task.trigger(&image(2020, 86), 300)?;
+    task.trigger(&[&image(2000, 85)], 100)?;
+    task.trigger(&[&image(2010, 85)], 200)?;
+    task.trigger(&[&image(2020, 86)], 300)?;
     send(slave, &mut sent)?;
-    task.trigger(&image(2030, 86), 400)?;
+    task.trigger(&[&image(2030, 86)], 400)?;
     send(slave, &mut sent)?;
 
     // all lists stop; the reply is still sent

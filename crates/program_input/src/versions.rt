@@ -6,7 +6,7 @@ ghost use Rattle.program_input.specs.Versions.{PrintsVersion, asks_version, vers
 use std::io::{self, Write};
 
 /// The version of the programs and of the library: that of the file VERSION.
-pub const VERSION: &str = "0.3.0";
+pub const VERSION: &str = "0.4.0";
 
 /// Whether the arguments ask for the version: `--version` is among those in front of `--`, whatever
 /// the others are.

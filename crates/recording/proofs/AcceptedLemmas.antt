@@ -8,6 +8,7 @@ use Rattle.std.proofs.lemmas.List.{map-append}
 use Rattle.xcp_base.specs.declared.item.Item.{Item}
 use Rattle.xcp_base.specs.declared.item.Item.TheVariants.{Sample, Marker}
 use Rattle.xcp_base.specs.Samples.{SampleParts}
+use Rattle.segments.specs.Image.{image_len}
 use Rattle.copy_plan.specs.Config.{IsPlan, ListPlan}
 use Rattle.copy_plan.specs.Packet.{packets}
 use Rattle.sampler.specs.Decisions.{Decided, decided, overload_bit}
@@ -156,13 +157,13 @@ module _ (past : Past) (plan : ListPlan) (ready : IsPlan plan) where
   pub record IsBeside (r : ListPlan) : Type 0 where
     pub mine : r.list ≡ plan.list → r ≡ plan
 
-  module _ (images : (place stamp : ℕ) (image : List ℕ) → slice_get past.history place ≡ Some (Trigger image stamp) → length image ≡ plan.image_len) where
+  module _ (images : (place stamp : ℕ) (image : List ℕ) → slice_get past.history place ≡ Some (Trigger image stamp) → length image ≡ image_len plan.segments) where
     one_value : (j place stamp : ℕ) (image : List ℕ) (r : ListPlan) → IsBeside r → slice_get past.history place ≡ Some (Trigger image stamp)
         → packets_at plan.list (sample past.opening past.history past.decisions j r image stamp) ≡ value j (place, r.list)
     unfolding sample
     one_value j place stamp image r beside there =
         let bit : Bool = overload_bit past.opening past.history past.decisions j in
-        let size : length image ≡ plan.image_len = images place stamp image there in
+        let size : length image ≡ image_len plan.segments = images place stamp image there in
         elim (eqb_tells r.list plan.list) [
           | inl w ↦
               ap (λ (b : Bool). cond b (packets r image stamp bit ∷ []) []) w.0
@@ -182,7 +183,7 @@ module _ (past : Past) (plan : ListPlan) (ready : IsPlan plan) where
         ∙ values_all past.opening past.history past.decisions IsBeside value (packets_at plan.list) one_value (λ l. refl) each
         ∙ looked plan.list (items_of past)
 
-    made_recorded : (e : Option Event) (bit : Bool) → ((image : List ℕ) (stamp : ℕ) → e ≡ Some (Trigger image stamp) → length image ≡ plan.image_len) → AllByRecursion (IsRecorded plan) (made_at plan e bit)
+    made_recorded : (e : Option Event) (bit : Bool) → ((image : List ℕ) (stamp : ℕ) → e ≡ Some (Trigger image stamp) → length image ≡ image_len plan.segments) → AllByRecursion (IsRecorded plan) (made_at plan e bit)
     made_recorded None bit size = tt
     made_recorded (Some (Trigger image stamp)) bit size = ((written_is_read plan image stamp bit ready (size image stamp refl)).is, tt)
     made_recorded (Some (Start l)) bit size = tt

@@ -12,6 +12,7 @@ use Rattle.xcp_base.specs.declared.item.Item.TheVariants.{Sample, Marker}
 use Rattle.xcp_base.specs.Forms.{field_len}
 use Rattle.xcp_base.specs.Samples.{SampleParts}
 use Rattle.xcp_base.proofs.FormLemmas.{length-id_field, names-id_field}
+use Rattle.segments.specs.Image.{image_len}
 use Rattle.copy_plan.specs.Config.{IsPlan, ListPlan, odt}
 use Rattle.copy_plan.specs.Packet.{elements, packet, packets, timestamp}
 use Rattle.copy_plan.specs.Pids.{field}
@@ -176,7 +177,7 @@ module _ (n : ℕ) (past : ℕ → Past) (conf : IsConfiguration n (λ c. (past 
     pub list_is_whole : (received : List Item) (hand : Option SampleParts) (qs : List (List ℕ)) (front : List Item) → HasOrder c (past c) received hand qs front → HasImages (past c) → ListIsWhole c plan (of_list plan qs) front
     list_is_whole received hand qs front order images =
         let ready : IsPlan plan = conf.ready c k plan below at in
-        let sizes : (place stamp : ℕ) (image : List ℕ) → slice_get (past c).history place ≡ Some (Trigger image stamp) → length image ≡ plan.image_len
+        let sizes : (place stamp : ℕ) (image : List ℕ) → slice_get (past c).history place ≡ Some (Trigger image stamp) → length image ≡ image_len plan.segments
         = λ place stamp image there. images place k stamp image plan there at in
         let all : List Recorded = recorded_of (past c) plan in
         let rest : List Item = order.prefix.0 in

@@ -6,6 +6,7 @@ use Rattle.std.proofs.lemmas.List.Elements.{All-get_or}
 use Rattle.std.proofs.lemmas.Option.{get_or_from_slice_get, same_Some}
 use Rattle.xcp_base.specs.Samples.{SampleParts}
 use Rattle.xcp_base.specs.declared.item.Item.{Item}
+use Rattle.segments.specs.Image.{image_len}
 use Rattle.copy_plan.specs.Config.{ListPlan}
 use Rattle.daq_store.specs.declared.mode.Mode.{Mode}
 use Rattle.daq_store.specs.declared.list_state.ListState.{ListState}
@@ -66,8 +67,8 @@ was_asked ((f, None) ∷ told) (suc place) e at = let later = was_asked told pla
 was_asked ((f, Some cause) ∷ told) place e at = let later = was_asked told place e at in (suc later.0, later.1)
 
 -- a trigger that was accepted had an image of the right length
-right_image : (image_len : ℕ) (past : Past) (image : List ℕ) → option_map OfTrigger (trigger_refusal image_len past image) ≡ None → length image ≡ image_len
-right_image image_len past image none = elim (eqb_tells (length image) image_len) [
+right_image : (len : ℕ) (past : Past) (image : List ℕ) → option_map OfTrigger (trigger_refusal len past image) ≡ None → length image ≡ len
+right_image len past image none = elim (eqb_tells (length image) len) [
   | inl w ↦ w.1
   | inr w ↦ absurd (let wrong = ap (λ (b : Bool). option_map OfTrigger (if b then (if nat_eq (count_by is_trigger past.history) MAX_TRIGGERS then Some Spent else None) else Some WrongImage)) w.0 in cc)
 ]
@@ -77,11 +78,11 @@ module _ (run : RunData) (before after : OutState) (writer : WriterState) (past 
     (has : HasPasts run before writer past)
     (answered : (c : ℕ) → c < run.channels → AreAnswered (settings_of_run run c) (asked_of c (map run_step run.steps)) (told c) (past c))
     (closed : IsClosed run writer past taken t report after) where
-  plan_len : (c i : ℕ) (plan : ListPlan) → c < run.channels → slice_get (past c).opening.plans i ≡ Some plan → plan.image_len ≡ run.image_len
+  plan_len : (c i : ℕ) (plan : ListPlan) → c < run.channels → slice_get (past c).opening.plans i ≡ Some plan → image_len plan.segments ≡ run.image_len
   plan_len c i plan within at =
       let s = has.store in
       let r = found (list_plan s) (is_ready_on s c) 0 (length s.lists) i plan (ap (λ ps. slice_get ps i) (sym (has.openings c within).plans) ∙ at) in
-      ap (λ (x : ListPlan). x.image_len) r.4 ∙ ap (λ q. q.image_len) has.set_up.store.profile
+      ap (λ (x : ListPlan). image_len x.segments) r.4 ∙ ap (λ q. image_len q.segments) has.set_up.store.profile
 
   images : (c : ℕ) → c < run.channels → HasImages (past c)
   images c within place i stamp image plan there at =

@@ -78,10 +78,10 @@ first_true : (a b : Bool) → (a && b) ≡ true → a ≡ true
 first_true true b h = refl
 first_true false b h = absurd cc
 
-module _ (s : StoreState) (named : (l : ℕ) → l < length s.lists → is_ready s.profile.image_len (conf_of s l) ≡ true → channel_of (conf_of s l).mode < s.profile.channels)
+module _ (s : StoreState) (named : (l : ℕ) → l < length s.lists → is_ready s.profile.segments (conf_of s l) ≡ true → channel_of (conf_of s l).mode < s.profile.channels)
     (past : ℕ → Past) (of_store : (c : ℕ) → c < s.profile.channels → IsOpeningOf s c (past c).opening) where
   abbrev ready : ℕ → Bool
-  ready l = is_ready s.profile.image_len (conf_of s l)
+  ready l = is_ready s.profile.segments (conf_of s l)
 
   -- each ready list is of one of the channels
   pub all_plans : AreAllPlans s.profile.channels past (plans_in s)

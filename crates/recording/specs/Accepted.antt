@@ -1,6 +1,7 @@
 -- The samples of a DAQ list that its event channel accepted, as a reader gives them back.
 use Rattle.std.specs.Prelude.{◌≡◌, ℕ, ◌+◌, ◌==◌, ◌&&◌, Bool, cond, List, [], ◌∷◌, ◌++◌, length}
 use Rattle.std.specs.Prelude.{Option, Some, None, slice_get}
+use Rattle.segments.specs.Image.{image_len}
 use Rattle.copy_plan.specs.Config.{ListPlan}
 use Rattle.sampler.specs.Decisions.{Decided, overload_bit}
 use Rattle.sampler.specs.History.{Event, Start, Stop, Trigger}
@@ -39,4 +40,4 @@ abbrev pub HasImages : Past → Type 0
 HasImages past =
     (place i stamp : ℕ) (image : List ℕ) (plan : ListPlan)
     → slice_get past.history place ≡ Some (Trigger image stamp)
-    → slice_get past.opening.plans i ≡ Some plan → length image ≡ plan.image_len
+    → slice_get past.opening.plans i ≡ Some plan → length image ≡ image_len plan.segments

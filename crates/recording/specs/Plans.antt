@@ -23,7 +23,7 @@ pub record AreAllPlans (n : ℕ) (past : ℕ → Past) (plans : List ListPlan) :
 abbrev pub plans_in : StoreState → List ListPlan
 plans_in s =
     map (list_plan s)
-    (filter (λ l. is_ready s.profile.image_len (conf_of s l)) (numbers_below (length s.lists)))
+    (filter (λ l. is_ready s.profile.segments (conf_of s l)) (numbers_below (length s.lists)))
 
 -- they are all that an engine over the store is opened with
 abbrev pub HasAllPlans : StoreState → Type 0

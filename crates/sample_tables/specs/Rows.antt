@@ -50,7 +50,7 @@ column_names = codes "time" ∷ codes "ticks" ∷ codes "list" ∷ codes "sample
     ∷ codes "overload" ∷ []
 
 -- the fields of a row: of the bytes of entry e of ODT k of a sample of a list, which stands here
--- and has these ticks; they stood at an address
+-- and has these ticks; they stood at an address of the image
 abbrev pub row_fields : Spot → Option ℕ → ℕ → ℕ → ℕ → ℕ → List ℕ → Bool → List (List ℕ)
 row_fields at ticks list k e address bytes overload =
     if_some at.time ∷ if_some ticks ∷ decimal list ∷ decimal at.number ∷ decimal k ∷ decimal e

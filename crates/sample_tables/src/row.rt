@@ -29,8 +29,8 @@ pub struct Row<'a> {
     pub odt: usize,
     /// The entry in the ODT.
     pub entry: usize,
-    /// Where the bytes stood in the memory image.
-    pub address: u32,
+    /// Where the bytes stood in the image of all memory.
+    pub address: usize,
     /// The bytes.
     pub bytes: &'a [u8],
     /// Whether the sample has the overload indication.

@@ -12,6 +12,8 @@ use Rattle.std.specs.Prelude.{nat_lt}
 use Rattle.std.specs.List.{position_or_len}
 use Rattle.channel_ring.specs.declared.ends.SendEnd.{Ghosts as SendGhosts}
 use Rattle.channel_ring.specs.declared.ends.RingEnd.{Ghosts as EndGhosts}
+use Rattle.segments.specs.declared.segment.Segment.{Segment}
+use Rattle.segments.specs.Image.{image_len}
 use Rattle.copy_plan.specs.Config.{ListPlan}
 use Rattle.xcp_base.specs.Lists.{has_list}
 use Rattle.sampler.specs.History.{Event, Trigger, Opening, runs_after, triggers_since_start, due, with_past}
@@ -119,25 +121,26 @@ by_place k plans tracks (Some i) r fits e =
 pub list_runs-among : (k : ℕ) (plans : List ListPlan) (tracks : List Track) → RiseFrom 0 plans → length plans ≤ length tracks → list_runs k plans tracks ≡ runs_among k plans tracks
 list_runs-among k plans tracks r fits = by_place k plans tracks (place_of k plans) r fits refl
 
-pub rise-length : (channel image_len least : ℕ) (plans : List ListPlan) → RiseFrom least plans → ArePlansOf channel image_len plans → least ≤ 16 → least + length plans ≤ 16
-rise-length channel image_len least [] r a h = omega arith
-rise-length channel image_len least (plan ∷ plans) r a h = omega (arith, r.0, rise-length channel image_len (plan.list + 1) plans r.1 a.1 (omega (arith, a.0.0.list)))
+pub rise-length : (channel : ℕ) (segments : List Segment) (least : ℕ) (plans : List ListPlan) → RiseFrom least plans → ArePlansOf channel segments plans → least ≤ 16 → least + length plans ≤ 16
+rise-length channel segments least [] r a h = omega arith
+rise-length channel segments least (plan ∷ plans) r a h = omega (arith, r.0, rise-length channel segments (plan.list + 1) plans r.1 a.1 (omega (arith, a.0.0.list)))
 
-first-fit : (channel image_len running : ℕ) (plans : List ListPlan) (tracks : List Track) → ArePlansOf channel image_len plans → take (length plans) tracks ≡ map (λ (plan : ListPlan). first_track running plan.list) plans → TracksFit 0 plans tracks
-first-fit channel image_len running [] tracks a is = tt
-first-fit channel image_len running (plan ∷ plans) [] a is = absurd cc
-first-fit channel image_len running (plan ∷ plans) (t ∷ tracks) a is =
+first-fit : (channel : ℕ) (segments : List Segment) (running : ℕ) (plans : List ListPlan) (tracks : List Track) → ArePlansOf channel segments plans → take (length plans) tracks ≡ map (λ (plan : ListPlan). first_track running plan.list) plans → TracksFit 0 plans tracks
+first-fit channel segments running [] tracks a is = tt
+first-fit channel segments running (plan ∷ plans) [] a is = absurd cc
+first-fit channel segments running (plan ∷ plans) (t ∷ tracks) a is =
     let first : t ≡ first_track running plan.list = cc in
     let rest : take (length plans) tracks ≡ map (λ (plan : ListPlan). first_track running plan.list) plans = cc in
-    (rw first (omega arith, refl), first-fit channel image_len running plans tracks a.1 rest)
+    (rw first (omega arith, refl), first-fit channel segments running plans tracks a.1 rest)
 
-pub first-sampler : (channel image_len running : ℕ) (plans : List ListPlan) (tracks : List Track) (soonest : ℕ) → ArePlansOf channel image_len plans → RiseFrom 0 plans → length tracks ≡ 16 → take (length plans) tracks ≡ map (λ (plan : ListPlan). first_track running plan.list) plans → NoneDueBefore soonest (take (length plans) tracks) → IsSampler channel image_len plans tracks 0 soonest 0
-first-sampler channel image_len running plans tracks soonest a r places is none = record {
+pub first-sampler : (channel len running : ℕ) (segments : List Segment) (plans : List ListPlan) (tracks : List Track) (soonest : ℕ) → len ≡ image_len segments → ArePlansOf channel segments plans → RiseFrom 0 plans → length tracks ≡ 16 → take (length plans) tracks ≡ map (λ (plan : ListPlan). first_track running plan.list) plans → NoneDueBefore soonest (take (length plans) tracks) → IsSampler channel len segments plans tracks 0 soonest 0
+first-sampler channel len running segments plans tracks soonest long a r places is none = record {
+  long = long;
   plans_of = a;
   rising = r;
-  room = omega (arith, rise-length channel image_len 0 plans r a (omega arith));
+  room = omega (arith, rise-length channel segments 0 plans r a (omega arith));
   places = places;
-  tracks_fit = first-fit channel image_len running plans tracks a is;
+  tracks_fit = first-fit channel segments running plans tracks a is;
   soonest_due = none;
   limit = omega arith;
   accepted_limit = omega arith;
@@ -172,9 +175,9 @@ unfolding DropsOnlyWhenFull
 no_drops capacity cost o = λ before rest image stamp k plan is. absurd (no_event before rest (Trigger image stamp) is)
 
 -- a new sampler stands after nothing
-pub first-stands : {S E : Type 0} (send : SendGhosts S E) (ring : EndGhosts E) (channel image_len running : ℕ) (plans : List ListPlan) (end : S) (tracks : List Track) → ArePlansOf channel image_len plans → take (length plans) tracks ≡ map (λ (plan : ListPlan). first_track running plan.list) plans → send.sent end ≡ [] →
-    StandsAfter send ring (record { channel = channel; image_len = image_len; plans = plans; end = end; tracks = take (length plans) tracks; triggers = 0; accepted = 0 }) (first_past (record { channel = channel; plans = plans; running = running }))
-first-stands send ring channel image_len running plans end tracks a is none =
+pub first-stands : {S E : Type 0} (send : SendGhosts S E) (ring : EndGhosts E) (channel : ℕ) (segments : List Segment) (running : ℕ) (plans : List ListPlan) (end : S) (tracks : List Track) → ArePlansOf channel segments plans → take (length plans) tracks ≡ map (λ (plan : ListPlan). first_track running plan.list) plans → send.sent end ≡ [] →
+    StandsAfter send ring (record { channel = channel; segments = segments; plans = plans; end = end; tracks = take (length plans) tracks; triggers = 0; accepted = 0 }) (first_past (record { channel = channel; plans = plans; running = running }))
+first-stands send ring channel segments running plans end tracks a is none =
     let o : Opening = record { channel = channel; plans = plans; running = running } in
     record {
       channel = refl;

@@ -6,6 +6,7 @@ use Rattle.std.proofs.Math.Seq.{take-suc, drop-cons}
 use Rattle.channel_ring.specs.Room.{units, units-append}
 use Rattle.channel_ring.specs.declared.ends.SendEnd.{Ghosts as SendGhosts}
 use Rattle.channel_ring.specs.declared.ends.RingEnd.{Ghosts as EndGhosts}
+use Rattle.segments.specs.declared.segment.Segment.{Segment}
 use Rattle.copy_plan.specs.Config.{ListPlan}
 use Rattle.std.proofs.lemmas.Nat.Bits.{bit_at-zero}
 use Rattle.sampler.specs.State.{ArePlansOf}
@@ -168,10 +169,10 @@ fit-at triggers (plan ∷ plans) [] i d f h = absurd f
 fit-at triggers (plan ∷ plans) (t ∷ tracks) zero d f h = f.0
 fit-at triggers (plan ∷ plans) (t ∷ tracks) (suc i) d f h = fit-at triggers plans tracks i d f.1 (omega arith)
 
-pub plan-at : (channel image_len : ℕ) (plans : List ListPlan) (i : ℕ) (d : ListPlan) → ArePlansOf channel image_len plans → i < length plans → (get_or plans i d).image_len ≡ image_len
-plan-at channel image_len [] i d a h = absurd (omega arith)
-plan-at channel image_len (plan ∷ plans) zero d a h = a.0.2
-plan-at channel image_len (plan ∷ plans) (suc i) d a h = plan-at channel image_len plans i d a.1 (omega arith)
+pub plan-at : (channel : ℕ) (segments : List Segment) (plans : List ListPlan) (i : ℕ) (d : ListPlan) → ArePlansOf channel segments plans → i < length plans → (get_or plans i d).segments ≡ segments
+plan-at channel segments [] i d a h = absurd (omega arith)
+plan-at channel segments (plan ∷ plans) zero d a h = a.0.2
+plan-at channel segments (plan ∷ plans) (suc i) d a h = plan-at channel segments plans i d a.1 (omega arith)
 
 pub track-at : {S E : Type 0} {send : SendGhosts S E} {ring : EndGhosts E} {m : MomentParts} (plans : List ListPlan) {first mid : Stage S} (i : ℕ) → HandlesLists send ring m (take i plans) first mid → i < length plans → length plans ≤ length first.tracks → get_or mid.tracks i no_track ≡ get_or first.tracks i no_track
 track-at plans {first = first} {mid = mid} i t h fits =
@@ -213,24 +214,30 @@ triggered-fits n plan t due accepted f = (
     sums true false = omega (arith, f.1)
     sums false a = omega (arith, f.1)
 
-rows-fit : (channel image_len n : ℕ) (rows : List Row) (plans : List ListPlan) (before rest : List Track) → map (λ (r : Row). r.plan) rows ≡ plans → map (λ (r : Row). r.track) rows ≡ take (length plans) before → ArePlansOf channel image_len plans → TracksFit n plans before → TracksFit (n + 1) plans (map (λ (r : Row). triggered r.plan r.track r.due r.accepted) rows ++ rest)
-rows-fit channel image_len n rows [] before rest of_plans kept a f = tt
-rows-fit channel image_len n [] (plan ∷ plans) before rest of_plans kept a f = absurd cc
-rows-fit channel image_len n (r ∷ rows) (plan ∷ plans) [] rest of_plans kept a f = absurd f
-rows-fit channel image_len n (r ∷ rows) (plan ∷ plans) (t ∷ before) rest of_plans kept a f =
+pub channel-at : (channel : ℕ) (segments : List Segment) (plans : List ListPlan) (i : ℕ) (d : ListPlan) → ArePlansOf channel segments plans → i < length plans → (get_or plans i d).channel ≡ channel
+channel-at channel segments [] i d a h = absurd (omega arith)
+channel-at channel segments (plan ∷ plans) zero d a h = a.0.1
+channel-at channel segments (plan ∷ plans) (suc i) d a h = channel-at channel segments plans i d a.1 (omega arith)
+
+rows-fit : (channel : ℕ) (segments : List Segment) (n : ℕ) (rows : List Row) (plans : List ListPlan) (before rest : List Track) → map (λ (r : Row). r.plan) rows ≡ plans → map (λ (r : Row). r.track) rows ≡ take (length plans) before → ArePlansOf channel segments plans → TracksFit n plans before → TracksFit (n + 1) plans (map (λ (r : Row). triggered r.plan r.track r.due r.accepted) rows ++ rest)
+rows-fit channel segments n rows [] before rest of_plans kept a f = tt
+rows-fit channel segments n [] (plan ∷ plans) before rest of_plans kept a f = absurd cc
+rows-fit channel segments n (r ∷ rows) (plan ∷ plans) [] rest of_plans kept a f = absurd f
+rows-fit channel segments n (r ∷ rows) (plan ∷ plans) (t ∷ before) rest of_plans kept a f =
     let p : r.plan ≡ plan = cc in
     let x : r.track ≡ t = cc in
     let ps : map (λ (y : Row). y.plan) rows ≡ plans = cc in
     let ts : map (λ (y : Row). y.track) rows ≡ take (length plans) before = cc in
-    (rw (p, x) (triggered-fits n plan t r.due r.accepted f.0), rows-fit channel image_len n rows plans before rest ps ts a.1 f.1)
+    (rw (p, x) (triggered-fits n plan t r.due r.accepted f.0), rows-fit channel segments n rows plans before rest ps ts a.1 f.1)
 
-pub IsSampler-handled : {S E : Type 0} (send : SendGhosts S E) (ring : EndGhosts E) (m : MomentParts) (image_len : ℕ) (plans : List ListPlan) (first last : Stage S) (triggers soonest later : ℕ) → IsSampler m.channel image_len plans first.tracks triggers soonest first.next → HandlesLists send ring m plans first last → last.next ≤ first.next + length plans → length last.tracks ≡ length first.tracks → triggers < 2 ^ 59 → NoneDueBefore later (take (length plans) last.tracks) → IsSampler m.channel image_len plans last.tracks (triggers + 1) later last.next
-IsSampler-handled send ring m image_len plans first last triggers soonest later s t limit same below none = record {
+pub IsSampler-handled : {S E : Type 0} (send : SendGhosts S E) (ring : EndGhosts E) (m : MomentParts) (image_len : ℕ) (segments : List Segment) (plans : List ListPlan) (first last : Stage S) (triggers soonest later : ℕ) → IsSampler m.channel image_len segments plans first.tracks triggers soonest first.next → HandlesLists send ring m plans first last → last.next ≤ first.next + length plans → length last.tracks ≡ length first.tracks → triggers < 2 ^ 59 → NoneDueBefore later (take (length plans) last.tracks) → IsSampler m.channel image_len segments plans last.tracks (triggers + 1) later last.next
+IsSampler-handled send ring m image_len segments plans first last triggers soonest later s t limit same below none = record {
+  long = s.long;
   plans_of = s.plans_of;
   rising = s.rising;
   room = s.room;
   places = same ∙ s.places;
-  tracks_fit = rw t.keeps (rows-fit m.channel image_len triggers t.rows plans first.tracks (drop (length plans) first.tracks) t.of_plans t.kept s.plans_of s.tracks_fit);
+  tracks_fit = rw t.keeps (rows-fit m.channel segments triggers t.rows plans first.tracks (drop (length plans) first.tracks) t.of_plans t.kept s.plans_of s.tracks_fit);
   soonest_due = none;
   limit = omega (arith, below);
   accepted_limit = omega (arith, limit, s.accepted_limit, s.room);

@@ -3,6 +3,7 @@ use Rattle.std.proofs.Common.{◌≡◌, ℕ, ◌+◌, ◌^◌, ◌<◌, ◌≤�
 use Rattle.std.proofs.lemmas.Nat.Bits.{bit_at-zero}
 use Rattle.channel_ring.specs.declared.ends.SendEnd.{Ghosts as SendGhosts}
 use Rattle.channel_ring.specs.declared.ends.RingEnd.{Ghosts as EndGhosts}
+use Rattle.segments.specs.declared.segment.Segment.{Segment}
 use Rattle.copy_plan.specs.Config.{ListPlan}
 use Rattle.sampler.specs.declared.counts.ListCounts.{ListCounts}
 use Rattle.sampler.specs.declared.track.Track.{Track}
@@ -100,8 +101,9 @@ handles-none_due send ring m plans end tracks number soonest fits before none = 
 }
 
 -- and the sampler keeps to its limits
-pub IsSampler-none_due : (channel image_len : ℕ) (plans : List ListPlan) (tracks : List Track) (triggers soonest accepted : ℕ) → IsSampler channel image_len plans tracks triggers soonest accepted → triggers < 2 ^ 59 → IsSampler channel image_len plans tracks (triggers + 1) soonest accepted
-IsSampler-none_due channel image_len plans tracks triggers soonest accepted s below = record {
+pub IsSampler-none_due : (channel image_len : ℕ) (segments : List Segment) (plans : List ListPlan) (tracks : List Track) (triggers soonest accepted : ℕ) → IsSampler channel image_len segments plans tracks triggers soonest accepted → triggers < 2 ^ 59 → IsSampler channel image_len segments plans tracks (triggers + 1) soonest accepted
+IsSampler-none_due channel image_len segments plans tracks triggers soonest accepted s below = record {
+  long = s.long;
   plans_of = s.plans_of;
   rising = s.rising;
   room = s.room;

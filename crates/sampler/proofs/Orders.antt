@@ -4,6 +4,7 @@ use Rattle.std.specs.Prelude.{Some, count_by}
 use Rattle.xcp_base.specs.declared.item.Item.TheVariants.{Marker}
 use Rattle.channel_ring.specs.declared.ends.SendEnd.{Ghosts as SendGhosts}
 use Rattle.channel_ring.specs.declared.ends.RingEnd.{Ghosts as EndGhosts}
+use Rattle.segments.specs.declared.segment.Segment.{Segment}
 use Rattle.copy_plan.specs.Config.{ListPlan}
 use Rattle.sampler.specs.History.{Event, Start, Stop, Opening, due_at, is_trigger}
 use Rattle.sampler.specs.Past.{Past, one_more}
@@ -84,14 +85,14 @@ module _ {S E : Type 0} (send : SendGhosts S E) (ring : EndGhosts E) (before aft
         drops = tt;
       })
 
-module _ {S E : Type 0} (send : SendGhosts S E) (ring : EndGhosts E) (channel image_len : ℕ) (plans : List ListPlan) (end new_end : S) (tracks : List Track) (u : Track) (triggers accepted l i : ℕ) (rising : RiseFrom 0 plans) (at : place_of l plans ≡ Some i) (past : Past) where
+module _ {S E : Type 0} (send : SendGhosts S E) (ring : EndGhosts E) (channel : ℕ) (segments : List Segment) (plans : List ListPlan) (end new_end : S) (tracks : List Track) (u : Track) (triggers accepted l i : ℕ) (rising : RiseFrom 0 plans) (at : place_of l plans ≡ Some i) (past : Past) where
   here : get_or (take (length plans) tracks) i no_track ≡ get_or tracks i no_track
   here = get_or-take (length plans) tracks i no_track (place-below l plans i at)
 
   pub start-inside :
       u ≡ record (get_or tracks i no_track) { running = true; next = triggers } →
-      StandsAfter send ring (record { channel = channel; image_len = image_len; plans = plans; end = end; tracks = take (length plans) tracks; triggers = triggers; accepted = accepted }) past →
-      StandsAfter send ring (record { channel = channel; image_len = image_len; plans = plans; end = end; tracks = take (length plans) (set tracks i u); triggers = triggers; accepted = accepted }) (one_more past (Start l) [])
+      StandsAfter send ring (record { channel = channel; segments = segments; plans = plans; end = end; tracks = take (length plans) tracks; triggers = triggers; accepted = accepted }) past →
+      StandsAfter send ring (record { channel = channel; segments = segments; plans = plans; end = end; tracks = take (length plans) (set tracks i u); triggers = triggers; accepted = accepted }) (one_more past (Start l) [])
   start-inside is stands =
       start-stands send ring _ _ past l i rising at stands refl refl refl
       (take-set_at tracks (length plans) i u ∙ ap (set (take (length plans) tracks) i) is ∙ ap (λ (t : Track). set (take (length plans) tracks) i (record t { running = true; next = triggers })) (sym here))
@@ -101,8 +102,8 @@ module _ {S E : Type 0} (send : SendGhosts S E) (ring : EndGhosts E) (channel im
       u ≡ record (get_or tracks i no_track) { running = false; next = NEVER } →
       send.sent new_end ≡ send.sent end ++ Marker (record { channel = channel; list = l }) ∷ [] →
       send.capacity new_end ≡ send.capacity end →
-      StandsAfter send ring (record { channel = channel; image_len = image_len; plans = plans; end = end; tracks = take (length plans) tracks; triggers = triggers; accepted = accepted }) past →
-      StandsAfter send ring (record { channel = channel; image_len = image_len; plans = plans; end = new_end; tracks = take (length plans) (set tracks i u); triggers = triggers; accepted = accepted }) (one_more past (Stop l) [])
+      StandsAfter send ring (record { channel = channel; segments = segments; plans = plans; end = end; tracks = take (length plans) tracks; triggers = triggers; accepted = accepted }) past →
+      StandsAfter send ring (record { channel = channel; segments = segments; plans = plans; end = new_end; tracks = take (length plans) (set tracks i u); triggers = triggers; accepted = accepted }) (one_more past (Stop l) [])
   stop-inside is sent capacity stands =
       stop-stands send ring _ _ past l i rising at stands refl refl sent capacity
       (take-set_at tracks (length plans) i u ∙ ap (set (take (length plans) tracks) i) is ∙ ap (λ (t : Track). set (take (length plans) tracks) i (record t { running = false; next = NEVER })) (sym here))

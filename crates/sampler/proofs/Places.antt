@@ -7,6 +7,7 @@ use Rattle.std.proofs.lemmas.Bool.{ne_eqb}
 use Rattle.std.proofs.lemmas.Bool.Decides.{nat_tests}
 use Rattle.std.proofs.lemmas.List.Quantifiers.{position-Some}
 use Rattle.xcp_base.specs.Forms.{usual_form}
+use Rattle.segments.specs.declared.segment.Segment.{Segment}
 use Rattle.copy_plan.specs.Config.{ListPlan}
 use Rattle.sampler.specs.State.{RiseFrom, ArePlansOf, place_of}
 use Rattle.sampler.specs.Inner.Fits.{TracksFit, NoneDueBefore, IsSampler}
@@ -14,7 +15,7 @@ use Rattle.std.proofs.Math.ListN.{length-set}
 use Rattle.sampler.specs.declared.track.Track.{Track}
 
 abbrev pub no_plan : ListPlan
-no_plan = record { list = 0; channel = 0; prescaler = 0; first_pid = 0; form = usual_form; stamped = false; odts = []; image_len = 0 }
+no_plan = record { list = 0; channel = 0; prescaler = 0; first_pid = 0; form = usual_form; stamped = false; odts = []; segments = [] }
 
 abbrev pub no_track : Track
 no_track = record { running = false; next = 0; pending = false; counts = record { due = 0; accepted = 0; dropped = 0 } }
@@ -74,17 +75,17 @@ track-found l plans tracks i at fits =
     ∙ slice_get-get_or (take (length plans) tracks) i (omega (arith, length-take (length plans) tracks))
     ∙ ap Some (get_or-take (length plans) tracks i no_track below)
 
-list_of : (channel image_len : ℕ) (plans : List ListPlan) (i : ℕ) → ArePlansOf channel image_len plans → i < length plans → (get_or plans i no_plan).list < 16
-list_of channel image_len [] i a h = absurd (omega arith)
-list_of channel image_len (plan ∷ plans) zero a h = a.0.0.list
-list_of channel image_len (plan ∷ plans) (suc i) a h = list_of channel image_len plans i a.1 (omega arith)
+list_of : (channel : ℕ) (segments : List Segment) (plans : List ListPlan) (i : ℕ) → ArePlansOf channel segments plans → i < length plans → (get_or plans i no_plan).list < 16
+list_of channel segments [] i a h = absurd (omega arith)
+list_of channel segments (plan ∷ plans) zero a h = a.0.0.list
+list_of channel segments (plan ∷ plans) (suc i) a h = list_of channel segments plans i a.1 (omega arith)
 
 -- a list that is found among plans has a number below 16
-pub list-below : (channel image_len l : ℕ) (plans : List ListPlan) (i : ℕ) → ArePlansOf channel image_len plans → place_of l plans ≡ Some i → l < 16
-list-below channel image_len l plans i a at =
+pub list-below : (channel : ℕ) (segments : List Segment) (l : ℕ) (plans : List ListPlan) (i : ℕ) → ArePlansOf channel segments plans → place_of l plans ≡ Some i → l < 16
+list-below channel segments l plans i a at =
     let found : (i < length plans) × (nat_eq (get_or plans i no_plan).list l ≡ true) × ((k : ℕ) → k < i → nat_eq (get_or plans k no_plan).list l ≡ false) = position-Some (λ (plan : ListPlan). nat_eq plan.list l) plans i no_plan at in
     let e : (get_or plans i no_plan).list ≡ l = grind (arith, nat_tests, found.1) in
-    omega (arith, e, list_of channel image_len plans i a found.0)
+    omega (arith, e, list_of channel segments plans i a found.0)
 
 -- another state of one list keeps the limits
 pub TracksFit-set : (triggers : ℕ) (plans : List ListPlan) (tracks : List Track) (i : ℕ) (t : Track) → TracksFit triggers plans tracks → t.counts ≡ (get_or tracks i no_track).counts → TracksFit triggers plans (set tracks i t)
@@ -93,8 +94,9 @@ TracksFit-set triggers (plan ∷ plans) [] i t f c = absurd f
 TracksFit-set triggers (plan ∷ plans) (x ∷ tracks) zero t f c = ((rw c f.0.0, rw c f.0.1), f.1)
 TracksFit-set triggers (plan ∷ plans) (x ∷ tracks) (suc i) t f c = (f.0, TracksFit-set triggers plans tracks i t f.1 c)
 
-pub IsSampler-set : (channel image_len : ℕ) (plans : List ListPlan) (tracks : List Track) (triggers soonest accepted i : ℕ) (t : Track) (sooner : ℕ) → IsSampler channel image_len plans tracks triggers soonest accepted → t.counts ≡ (get_or tracks i no_track).counts → NoneDueBefore sooner (take (length plans) (set tracks i t)) → IsSampler channel image_len plans (set tracks i t) triggers sooner accepted
-IsSampler-set channel image_len plans tracks triggers soonest accepted i t sooner s c none = record {
+pub IsSampler-set : (channel image_len : ℕ) (segments : List Segment) (plans : List ListPlan) (tracks : List Track) (triggers soonest accepted i : ℕ) (t : Track) (sooner : ℕ) → IsSampler channel image_len segments plans tracks triggers soonest accepted → t.counts ≡ (get_or tracks i no_track).counts → NoneDueBefore sooner (take (length plans) (set tracks i t)) → IsSampler channel image_len segments plans (set tracks i t) triggers sooner accepted
+IsSampler-set channel image_len segments plans tracks triggers soonest accepted i t sooner s c none = record {
+  long = s.long;
   plans_of = s.plans_of;
   rising = s.rising;
   room = s.room;

@@ -8,6 +8,7 @@ use Rattle.std.proofs.lemmas.List.Elements.{filter-append}
 use Rattle.std.proofs.lemmas.List.Sums.{sum_by-append, sum_by-cons}
 use Rattle.std.proofs.lemmas.Option.{slice_get-map}
 use Rattle.xcp_base.specs.declared.item.Item.{Item}
+use Rattle.segments.specs.declared.segment.Segment.{Segment}
 use Rattle.copy_plan.specs.Config.{ListPlan}
 use Rattle.sampler.specs.History.{Event, Trigger, Opening, is_trigger, due, due_at, pairs_at}
 use Rattle.sampler.specs.Decisions.{decided, pairs_of, is_of_list, is_drop, overload_pending, pending_of, overload_bit, accepted_in}
@@ -76,10 +77,10 @@ get_or-past [] (suc j) h = refl
 get_or-past (b ∷ ds) zero h = absurd (omega arith)
 get_or-past (b ∷ ds) (suc j) h = get_or-past ds j (omega arith)
 
-module _ (o : Opening) (h : List Event) (d : List Bool) (image : List ℕ) (stamp : ℕ) (whole : length d ≡ length (due o h)) (all : List Row) (of_plans : plans_of all ≡ o.plans) (are : RowsAre o h d all) (rise : RiseFrom 0 (plans_of all)) where
+module _ (segments : List Segment) (o : Opening) (h : List Event) (d : List Bool) (image : List ℕ) (stamp : ℕ) (whole : length d ≡ length (due o h)) (all : List Row) (of_plans : plans_of all ≡ o.plans) (are : RowsAre o h d all) (rise : RiseFrom 0 (plans_of all)) where
   -- what the samples of the trigger have in common
   abbrev here : MomentParts
-  here = record { channel = o.channel; trigger = count_by is_trigger h; image = image; stamp = stamp }
+  here = record { channel = o.channel; trigger = count_by is_trigger h; segments = segments; image = image; stamp = stamp }
 
   -- the pairs decided by the first rows
   decided-part : (pre post : List Row) → all ≡ pre ++ post → decided o (h ++ Trigger image stamp ∷ []) (d ++ decisions pre) ≡ decided o h d ++ new_pairs (length h) pre

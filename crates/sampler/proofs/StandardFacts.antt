@@ -4,6 +4,7 @@ use Rattle.std.specs.Prelude.{Some, None}
 use Rattle.std.proofs.Common.{refl, zero, suc, arith}
 use Rattle.xcp_base.specs.declared.item.Item.{Item}
 use Rattle.xcp_base.specs.declared.item.Item.TheVariants.{Sample, Marker}
+use Rattle.segments.specs.Image.{image_segments}
 use Rattle.copy_plan.specs.Config.{ListPlan}
 use Rattle.xcp_base.specs.Forms.{usual_form}
 use Rattle.copy_plan.specs.Packet.{packets, packet}
@@ -18,7 +19,7 @@ use Rattle.sampler.proofs.Drops.{drops-more}
 use Rattle.sampler.proofs.FirstTracks.{no_drops}
 
 abbrev plain : ℕ → ℕ → ℕ → List (List (ℕ × ℕ)) → ListPlan
-plain l p f odts = record { list = l; channel = 0; prescaler = p; first_pid = f; form = usual_form; stamped = false; odts = odts; image_len = 2 }
+plain l p f odts = record { list = l; channel = 0; prescaler = p; first_pid = f; form = usual_form; stamped = false; odts = odts; segments = image_segments 2 }
 
 -- a trigger with an image of two bytes
 abbrev T : ℕ → ℕ → Event

@@ -6,6 +6,7 @@ use Rattle.std.proofs.lemmas.List.{take_at}
 use Rattle.channel_ring.specs.Room.{units, units-append}
 use Rattle.channel_ring.specs.declared.ends.SendEnd.{Ghosts as SendGhosts}
 use Rattle.channel_ring.specs.declared.ends.RingEnd.{Ghosts as EndGhosts}
+use Rattle.segments.specs.declared.segment.Segment.{Segment}
 use Rattle.copy_plan.specs.Config.{ListPlan}
 use Rattle.xcp_base.specs.Lists.{has_list}
 use Rattle.sampler.specs.History.{Event, Trigger, Opening, is_due, is_trigger, due, due_at}
@@ -44,13 +45,13 @@ cons-equal : {X : Type 0} (x y : X) (xs ys : List X) → x ∷ xs ≡ y ∷ ys �
 cons-equal x y xs ys e = (cc, cc)
 
 -- rows whose tracks are those of the history keep what the history says
-rows-are : (channel image_len : ℕ) (o : Opening) (h : List Event) (d : List Bool) (rows : List Row) → map (λ (r : Row). r.track) rows ≡ map (track_of o h d) (plans_of rows) → AreDue (count_by is_trigger h) rows → ArePlansOf channel image_len (plans_of rows) → RowsAre o h d rows
-rows-are channel image_len o h d [] e dues a = tt
-rows-are channel image_len o h d (r ∷ rows) e dues a =
+rows-are : (channel : ℕ) (segments : List Segment) (o : Opening) (h : List Event) (d : List Bool) (rows : List Row) → map (λ (r : Row). r.track) rows ≡ map (track_of o h d) (plans_of rows) → AreDue (count_by is_trigger h) rows → ArePlansOf channel segments (plans_of rows) → RowsAre o h d rows
+rows-are channel segments o h d [] e dues a = tt
+rows-are channel segments o h d (r ∷ rows) e dues a =
     let both : (r.track ≡ track_of o h d r.plan) × (map (λ (x : Row). x.track) rows ≡ map (track_of o h d) (plans_of rows)) = cons-equal r.track (track_of o h d r.plan) (map (λ (x : Row). x.track) rows) (map (track_of o h d) (plans_of rows)) e in
     let some : 0 < r.plan.prescaler = a.0.0.prescaler in
     let is : r.due ≡ is_due o h r.plan = dues.0 ∙ ap (due_now (count_by is_trigger h)) both.0 ∙ due_now-is o h d r.plan some in
-    ((both.0, is, some), rows-are channel image_len o h d rows both.1 dues.1 a.1)
+    ((both.0, is, some), rows-are channel segments o h d rows both.1 dues.1 a.1)
 
 are-part : (o : Opening) (h : List Event) (d : List Bool) (pre post : List Row) → RowsAre o h d (pre ++ post) → RowsAre o h d pre
 are-part o h d [] post a = tt
@@ -118,11 +119,11 @@ located [] k plan e = absurd cc
 located (r ∷ rows) k plan e = located-at r rows k plan (r.due) refl (λ m f. located rows m plan f) e
 
 module _ {S E : Type 0} (send : SendGhosts S E) (ring : EndGhosts E) (before after : SamplerState S) (past : Past) (image : List ℕ) (stamp : ℕ) (kept after_tracks : List Track) (taken : Taken)
-    (image_len : ℕ)
-    (plans_are : ArePlansOf before.channel image_len before.plans)
+    (segments : List Segment)
+    (plans_are : ArePlansOf before.channel segments before.plans)
     (rise : RiseFrom 0 before.plans)
     (stands : StandsAfter send ring before past)
-    (handled : HandlesLists send ring (record { channel = before.channel; trigger = before.triggers; image = image; stamp = stamp }) before.plans (first_stage before.end kept before.accepted) (record { end = after.end; tracks = after_tracks; taken = taken; next = after.accepted }))
+    (handled : HandlesLists send ring (record { channel = before.channel; trigger = before.triggers; segments = segments; image = image; stamp = stamp }) before.plans (first_stage before.end kept before.accepted) (record { end = after.end; tracks = after_tracks; taken = taken; next = after.accepted }))
     (tracks_before : take (length before.plans) kept ≡ before.tracks)
     (free_bound : send.capacity before.end ≤ send.free before.end + units ring.cost (send.sent before.end)) where
   abbrev o : Opening
@@ -135,7 +136,7 @@ module _ {S E : Type 0} (send : SendGhosts S E) (ring : EndGhosts E) (before aft
   d = past.decisions
 
   abbrev m : MomentParts
-  m = record { channel = before.channel; trigger = before.triggers; image = image; stamp = stamp }
+  m = record { channel = before.channel; trigger = before.triggers; segments = segments; image = image; stamp = stamp }
 
   abbrev rows : List Row
   rows = handled.rows
@@ -145,10 +146,10 @@ module _ {S E : Type 0} (send : SendGhosts S E) (ring : EndGhosts E) (before aft
 
   pub are : RowsAre o h d rows
   are =
-      rows-are before.channel image_len o h d rows
+      rows-are before.channel segments o h d rows
       (handled.kept ∙ tracks_before ∙ stands.tracks ∙ ap (map (track_of o h d)) (sym of_plans))
       (subst (λ n. AreDue n rows) stands.triggers handled.dues)
-      (subst (ArePlansOf before.channel image_len) (sym handled.of_plans) plans_are)
+      (subst (ArePlansOf before.channel segments) (sym handled.of_plans) plans_are)
 
   rising : RiseFrom 0 (plans_of rows)
   rising = subst (RiseFrom 0) (sym handled.of_plans) rise
@@ -159,7 +160,7 @@ module _ {S E : Type 0} (send : SendGhosts S E) (ring : EndGhosts E) (before aft
   items_at-rows pre post is =
       ap (λ ps. samples_from o (h ++ Trigger image stamp ∷ []) (d ++ decisions pre) (length (due o h)) ps image stamp) (due_at-rows o h d image stamp stands.decisions rows of_plans are ∙ ap due_plans is)
       ∙ ap (λ j. samples_from o (h ++ Trigger image stamp ∷ []) (d ++ decisions pre) j (due_plans (pre ++ post)) image stamp) at
-      ∙ samples-rows o h d image stamp stands.decisions rows of_plans are rising [] pre post is (are-part o h d pre post (subst (RowsAre o h d) is are))
+      ∙ samples-rows segments o h d image stamp stands.decisions rows of_plans are rising [] pre post is (are-part o h d pre post (subst (RowsAre o h d) is are))
       ∙ ap (λ n. rows_items (record m { channel = o.channel; trigger = n }) (accepted_in d + 0) pre) (sym stands.triggers)
       ∙ ap (λ c. rows_items (record m { channel = c }) (accepted_in d + 0) pre) (sym stands.channel)
       ∙ ap (λ n. rows_items m n pre) number
@@ -198,7 +199,7 @@ module _ {S E : Type 0} (send : SendGhosts S E) (ring : EndGhosts E) (before aft
       ap (λ p. sample o (h ++ Trigger image stamp ∷ []) (d ++ decisions rows) (length d + k) p image stamp) (sym w.of_plan)
       ∙ ap (λ rs. sample o (h ++ Trigger image stamp ∷ []) (d ++ decisions rs) (length d + k) w.row.plan image stamp) w.split
       ∙ ap (λ n. sample o (h ++ Trigger image stamp ∷ []) (d ++ decisions (w.done ++ w.row ∷ w.rest)) (length d + n) w.row.plan image stamp) (sym w.place)
-      ∙ sample-row o h d image stamp stands.decisions rows of_plans are rising w.done w.rest [] w.row (w.split ∙ sym (append_nil (w.done ++ w.row ∷ w.rest))) w.is_due (are-at o h d w.done w.rest w.row (subst (RowsAre o h d) w.split are)).0
+      ∙ sample-row segments o h d image stamp stands.decisions rows of_plans are rising w.done w.rest [] w.row (w.split ∙ sym (append_nil (w.done ++ w.row ∷ w.rest))) w.is_due (are-at o h d w.done w.rest w.row (subst (RowsAre o h d) w.split are)).0
       ∙ ap (λ n. item_of (record m { channel = o.channel; trigger = n }) w.row.plan (accepted_in d + rows_count w.done) w.row.track.pending) (sym stands.triggers)
       ∙ ap (λ c. item_of (record m { channel = c }) w.row.plan (accepted_in d + rows_count w.done) w.row.track.pending) (sym stands.channel)
       ∙ ap (λ n. item_of m w.row.plan (n + rows_count w.done) w.row.track.pending) (sym stands.accepted)

@@ -2,8 +2,12 @@
 use Rattle.std.specs.Prelude.{ℕ, ◌≡◌, ◌⊎◌, Bool, true, false, List, length, count_by, nat_eq}
 use Rattle.std.specs.Prelude.{Option, None, Some, if◌then◌else◌}
 use Rattle.xcp_base.specs.declared.limits.TheConstants.{MAX_TRIGGERS}
+use Rattle.segments.specs.declared.segment.Segment.{Segment}
+use Rattle.segments.specs.Memory.{fits}
 use Rattle.sampler.specs.History.{is_list_of, is_trigger, runs_after}
 use Rattle.sampler.specs.Past.{Past}
+use Rattle.sampler.specs.declared.faults.MemoryFault.{MemoryFault}
+use Rattle.sampler.specs.declared.faults.MemoryFault.TheVariants.{Spent as NoMore, WrongMemory}
 use Rattle.sampler.specs.declared.faults.StartFault.{StartFault}
 use Rattle.sampler.specs.declared.faults.StartFault.TheVariants.{NotOfChannel as NoSuchStart}
 use Rattle.sampler.specs.declared.faults.StartFault.TheVariants.{Running}
@@ -25,6 +29,15 @@ trigger_refusal image_len past image =
     if nat_eq (length image) image_len then
     (if nat_eq (count_by is_trigger past.history) MAX_TRIGGERS then Some Spent else None)
     else Some WrongImage
+
+-- a trigger over memory is refused where memory doesn't fit the segments, or else once MAX_TRIGGERS
+-- were accepted
+abbrev pub memory_refusal :
+    ℕ → List Segment → Past → List (List ℕ) → Option MemoryFault
+memory_refusal channel segments past memory =
+    if fits channel segments memory then
+    (if nat_eq (count_by is_trigger past.history) MAX_TRIGGERS then Some NoMore else None)
+    else Some WrongMemory
 
 -- a start is refused if the list isn't of the channel, or runs
 abbrev pub start_refusal : Option Bool → Option StartFault

@@ -5,15 +5,16 @@ use Rattle.std.specs.Option.{option_and_then}
 use Rattle.std.specs.declared.option.Option.{Option}
 use Rattle.xcp_base.specs.declared.item.Item.{Item}
 use Rattle.channel_ring.specs.declared.ends.RingEnd.{Ghosts as EndGhosts}
+use Rattle.segments.specs.declared.segment.Segment.{Segment}
 use Rattle.copy_plan.specs.Config.{IsPlan, ListPlan}
 use Rattle.sampler.specs.declared.track.Track.{Track}
 use Rattle.sampler.specs.declared.counts.ListCounts.{ListCounts}
 
--- the event channel, its plans, the send end, what is kept of each list, and how many triggers and
--- samples were accepted
+-- the event channel, the segments of memory, its plans, the send end, what is kept of each list,
+-- and how many triggers and samples were accepted
 pub record SamplerState (S : Type 0) : Type 0 where
   pub channel : ℕ
-  pub image_len : ℕ
+  pub segments : List Segment
   pub plans : List ListPlan
   pub end : S
   pub tracks : List Track
@@ -92,12 +93,12 @@ runs_in s l = track_runs (track_at s l)
 abbrev pub stopped_in : {S : Type 0} → SamplerState S → ℕ → Bool
 stopped_in s l = track_is_stopped (track_at s l)
 
--- plans of one channel for images of one length
-abbrev pub ArePlansOf : ℕ → ℕ → List ListPlan → Type 0
-ArePlansOf channel image_len [] = Unit {0}
-ArePlansOf channel image_len (plan ∷ plans) =
-    (IsPlan plan × (plan.channel ≡ channel) × (plan.image_len ≡ image_len))
-    × ArePlansOf channel image_len plans
+-- plans of one channel for memory in these segments
+abbrev pub ArePlansOf : ℕ → List Segment → List ListPlan → Type 0
+ArePlansOf channel segments [] = Unit {0}
+ArePlansOf channel segments (plan ∷ plans) =
+    (IsPlan plan × (plan.channel ≡ channel) × (plan.segments ≡ segments))
+    × ArePlansOf channel segments plans
 
 -- their list numbers rise, and the first is at least this one
 abbrev pub RiseFrom : ℕ → List ListPlan → Type 0

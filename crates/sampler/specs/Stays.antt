@@ -7,13 +7,13 @@ use Rattle.sampler.specs.Past.{Past}
 use Rattle.sampler.specs.Standing.{ExceedsCapacity, StandsAfter}
 use Rattle.sampler.specs.State.{SamplerState}
 
--- it is still the sampler of its channel and its ring, for images of one length and with the same
--- plans
+-- it is still the sampler of its channel and its ring, for memory in the same segments and with the
+-- same plans
 pub record KeepsSetUp
     {S E : Type 0} (send : SendGhosts S E) (old new : SamplerState S)
     : Type 0 where
   pub channel : new.channel ≡ old.channel
-  pub image_len : new.image_len ≡ old.image_len
+  pub segments : new.segments ≡ old.segments
   pub plans : new.plans ≡ old.plans
   pub capacity : send.capacity new.end ≡ send.capacity old.end
   pub ring : send.ring new.end ≡ send.ring old.end

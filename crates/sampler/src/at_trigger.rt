@@ -27,7 +27,8 @@ fn sample_list<S: SendEnd>(
     due: bool,
     packets: &mut Packets,
 ) -> bool
-    requires image { length moment.now.image ≡ plan.now.image_len }
+    requires channel { plan.now.channel ≡ moment.now.channel }
+    requires segments { plan.now.segments ≡ moment.now.segments }
     ensures due { result ≡ true → due ≡ true }
     ensures sent { S.sent end.new
         ≡ S.sent end.old ++ row_items moment.now number (row_of plan.now track due result) }
@@ -56,7 +57,7 @@ pub fn sample_lists<S: SendEnd>(
     tracks: &mut [Track],
     packets: &mut Packets,
 ) -> (Taken, u64)
-    requires plans_of { ArePlansOf moment.now.channel (length moment.now.image) plans.now }
+    requires plans_of { ArePlansOf moment.now.channel moment.now.segments plans.now }
     requires room { length plans.now ≤ length tracks.old }
     requires fit { TracksFit MAX_TRIGGERS plans.now tracks.old }
     requires trigger { moment.now.trigger ≤ MAX_TRIGGERS }

@@ -12,6 +12,18 @@ pub enum TriggerFault {
     Spent,
 }
 
+/// Why a trigger over memory as it is was not taken. The sampler is unchanged.
+#[derive(Clone, Copy, Debug, PartialEq, Eq, Error)]
+pub enum MemoryFault {
+    /// There isn't a slice for each segment, or one of a segment that the event channel may read
+    /// has another length than the segment.
+    #[error("memory doesn't fit the segments")]
+    WrongMemory,
+    /// `MAX_TRIGGERS` triggers were accepted.
+    #[error("no more triggers are accepted")]
+    Spent,
+}
+
 /// Why a DAQ list was not started. The sampler is unchanged.
 #[derive(Clone, Copy, Debug, PartialEq, Eq, Error)]
 pub enum StartFault {

@@ -18,7 +18,7 @@ mod taken;
 mod track;
 
 pub use counts::ListCounts;
-pub use faults::{StartFault, StopFault, TriggerFault};
+pub use faults::{MemoryFault, StartFault, StopFault, TriggerFault};
 pub use polled::Polled;
 pub use sampler::Sampler;
 pub use sampler_end::SamplerEnd;

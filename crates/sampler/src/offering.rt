@@ -18,7 +18,8 @@ pub fn offer_sample<S: SendEnd>(
     marked: bool,
     packets: &mut Packets,
 ) -> bool
-    requires image { length moment.now.image ≡ plan.now.image_len }
+    requires channel { plan.now.channel ≡ moment.now.channel }
+    requires segments { plan.now.segments ≡ moment.now.segments }
     ensures accepted { result ≡ true
         → S.sent end.new ≡ S.sent end.old ++ item_of moment.now plan.now number marked ∷ [] }
     ensures spent { result ≡ true
@@ -33,6 +34,6 @@ pub fn offer_sample<S: SendEnd>(
     ensures ring_stays { S.ring end.new ≡ S.ring end.old }
 {
     let list = ListId::at(plan.list() as u16);
-    plan.fill_into(packets, moment.image, moment.stamp, marked);
+    plan.fill_into(packets, moment.memory, moment.stamp, marked);
     end.offer_sample(moment.channel, list, number, packets)
 }

@@ -1,17 +1,21 @@
 //! The sampler of an event channel: its triggers, its starts and stops, and its finish.
-ghost use Rattle.std.specs.Prelude.{◌≡◌, ℕ, ◌<◌, ◌≤◌, ◌+◌, ◌↔◌, ◌≢◌, ◌&&◌, true, [], ◌++◌, None};
+ghost use Rattle.std.specs.Prelude.{◌≡◌, ℕ, ◌<◌, ◌≤◌, ◌+◌, ◌↔◌, ◌≢◌, ◌&&◌, true, false, []};
+ghost use Rattle.std.specs.Prelude.{◌++◌, None};
 ghost use Rattle.std.specs.Prelude.{IfOk, IfSome, IsNone, OnErr, OnOk, length, map, nat_eq};
 ghost use Rattle.std.specs.Prelude.{option_map};
 ghost use Rattle.std.specs.List.{list_any};
 ghost use Rattle.std.specs.Result.{result_err};
 ghost use Rattle.xcp_base.specs.declared.limits.TheConstants.{MAX_CHANNELS};
 ghost use Rattle.channel_ring.specs.Room.{units};
+ghost use Rattle.segments.specs.Image.{HaveImage, image_len, image_of, image_segments};
+ghost use Rattle.segments.specs.Memory.{fits, parts};
 ghost use Rattle.copy_plan.specs.Config.{ListPlan};
+ghost use Rattle.copy_plan.specs.Memory.{FitsMemory, image_in};
 ghost use Rattle.xcp_base.specs.Lists.{has_list};
 ghost use Rattle.sampler.specs.History.{Start, Stop, is_list_of, runs_after};
 ghost use Rattle.sampler.specs.Items.{marker_of};
 ghost use Rattle.sampler.specs.Past.{Past, first_past};
-ghost use Rattle.sampler.specs.Refusals.{AnswersStop, running_at};
+ghost use Rattle.sampler.specs.Refusals.{AnswersStop, memory_refusal, running_at};
 ghost use Rattle.sampler.specs.Refusals.{start_refusal, stop_refusal, trigger_refusal};
 ghost use Rattle.sampler.specs.Sets.{IsSetOf};
 ghost use Rattle.sampler.specs.Standing.{EndStandsAfter, GoesOn, StandsAfter, TakesTrigger};
@@ -22,16 +26,19 @@ ghost use Rattle.sampler.specs.declared.track.Track.{Track};
 
 use crate::at_trigger::sample_lists;
 use crate::counts::ListCounts;
-use crate::faults::{StartFault, StopFault, TriggerFault};
+use crate::faults::{MemoryFault, StartFault, StopFault, TriggerFault};
 use crate::lists::Lists;
 use crate::moment::Moment;
 use crate::sampler_end::SamplerEnd;
 use crate::taken::{NONE_TAKEN, Taken};
+use arrayvec::ArrayVec;
 use channel_ring::{Beside, SendEnd};
 use copy_plan::CopyPlan;
+use segments::limits::MAX_SEGMENTS;
+use segments::{Segment, Segments, fits, image_len, image_segment};
 use std::marker::Model;
 use xcp_base::limits::MAX_TRIGGERS;
-use xcp_base::{ChannelId, Item, Packets, StopMark};
+use xcp_base::{ChannelId, Item, MemoryView, Packets, StopMark};
 
 /// The sampler of one event channel: it takes the triggers, decides which DAQ lists are due, and
 /// sends their samples.
@@ -43,6 +50,7 @@ use xcp_base::{ChannelId, Item, Packets, StopMark};
 pub struct Sampler<S: SendEnd> {
     channel: ChannelId,
     image_len: usize,
+    segments: ArrayVec<Segment, MAX_SEGMENTS>,
     lists: Lists,
     end: S,
     triggers: u64,
@@ -62,7 +70,7 @@ impl<S: SendEnd> Model for Sampler<S> {
 
     ghost view = { λ s. record {
       channel = s.channel;
-      image_len = s.image_len;
+      segments = s.segments.items;
       plans = s.lists.plans.items;
       end = s.end;
       tracks = take (length s.lists.plans.items) s.lists.tracks;
@@ -71,8 +79,8 @@ impl<S: SendEnd> Model for Sampler<S> {
     } };
 
     ghost invariant = { λ s.
-        IsSampler s.channel s.image_len s.lists.plans.items s.lists.tracks s.triggers s.soonest
-        s.accepted };
+        IsSampler s.channel s.image_len s.segments.items s.lists.plans.items s.lists.tracks
+        s.triggers s.soonest s.accepted };
 }
 
 impl<S: SendEnd> Sampler<S> {
@@ -88,7 +96,7 @@ impl<S: SendEnd> Sampler<S> {
         running: u16,
     ) -> Sampler<S>
         requires channel_below { channel < MAX_CHANNELS }
-        requires plans_of { ArePlansOf channel image_len plans.items }
+        requires plans_of { ArePlansOf channel (image_segments image_len) plans.items }
         requires rising { RiseFrom 0 plans.items }
         requires running { (l : ℕ) → has_list running l ≡ true
             → list_any (λ (plan : ListPlan). nat_eq plan.list l) plans.items ≡ true }
@@ -96,13 +104,61 @@ impl<S: SendEnd> Sampler<S> {
         ensures stands { StandsAfter S.SendEnd S.End.RingEnd result
             (first_past (record { channel = channel; plans = plans.items; running = running })) }
         ensures end { result.end ≡ end }
-        ensures image_len { result.image_len ≡ image_len }
+        ensures segments { result.segments ≡ image_segments image_len }
+    {
+        let mut segments = ArrayVec::new();
+        segments.push(image_segment(image_len));
+        Sampler::in_these(channel, plans, end, segments, running)
+    }
+
+    /// The same for memory in these segments.
+    pub fn over(
+        channel: u8,
+        plans: Vec<CopyPlan>,
+        end: S,
+        segments: &Segments,
+        running: u16,
+    ) -> Sampler<S>
+        requires channel_below { channel < MAX_CHANNELS }
+        requires plans_of { ArePlansOf channel segments.now plans.items }
+        requires rising { RiseFrom 0 plans.items }
+        requires running { (l : ℕ) → has_list running l ≡ true
+            → list_any (λ (plan : ListPlan). nat_eq plan.list l) plans.items ≡ true }
+        requires nothing_sent { S.sent end ≡ [] }
+        ensures stands { StandsAfter S.SendEnd S.End.RingEnd result
+            (first_past (record { channel = channel; plans = plans.items; running = running })) }
+        ensures end { result.end ≡ end }
+        ensures segments { result.segments ≡ segments.now }
+    {
+        Sampler::in_these(channel, plans, end, segments.copied(), running)
+    }
+
+    /// The same for these segments.
+    fn in_these(
+        channel: u8,
+        plans: Vec<CopyPlan>,
+        end: S,
+        segments: ArrayVec<Segment, MAX_SEGMENTS>,
+        running: u16,
+    ) -> Sampler<S>
+        requires channel_below { channel < MAX_CHANNELS }
+        requires image { HaveImage segments.items }
+        requires plans_of { ArePlansOf channel segments.items plans.items }
+        requires rising { RiseFrom 0 plans.items }
+        requires running { (l : ℕ) → has_list running l ≡ true
+            → list_any (λ (plan : ListPlan). nat_eq plan.list l) plans.items ≡ true }
+        requires nothing_sent { S.sent end ≡ [] }
+        ensures stands { StandsAfter S.SendEnd S.End.RingEnd result
+            (first_past (record { channel = channel; plans = plans.items; running = running })) }
+        ensures end { result.end ≡ end }
+        ensures segments { result.segments ≡ segments.items }
     {
         let lists = Lists::new(plans, running);
         let soonest = lists.soonest();
         Sampler {
             channel: ChannelId::at(channel as usize),
-            image_len,
+            image_len: image_len(segments.as_slice()),
+            segments,
             lists,
             end,
             triggers: 0,
@@ -125,11 +181,13 @@ impl<S: SendEnd> Sampler<S> {
             → TakesTrigger S.SendEnd S.End.RingEnd self.old self.new taken past image.now stamp) }
 
         ensures wrong_image { (result ≡ Err TriggerFault.WrongImage)
-            ↔ (length image.now ≢ self.old.image_len) }
+            ↔ (length image.now ≢ image_len self.old.segments) }
         ensures spent { (result ≡ Err TriggerFault.Spent)
-            ↔ ((length image.now ≡ self.old.image_len) × (self.old.triggers ≡ MAX_TRIGGERS)) }
+            ↔ ((length image.now ≡ image_len self.old.segments)
+            × (self.old.triggers ≡ MAX_TRIGGERS)) }
         ensures refused { (past : Past) → StandsAfter S.SendEnd S.End.RingEnd self.old past
-            → result_err result ≡ trigger_refusal self.old.image_len past image.now }
+            → result_err result
+            ≡ trigger_refusal (image_len self.old.segments) past image.now }
         ensures err { OnErr result (self.new ≡ self.old) }
 
         ensures set_up_stays { KeepsSetUp S.SendEnd self.old self.new }
@@ -140,14 +198,63 @@ impl<S: SendEnd> Sampler<S> {
         if self.triggers == MAX_TRIGGERS {
             return Err(TriggerFault::Spent);
         }
+        Ok(self.take(MemoryView::Image(image), stamp))
+    }
+
+    /// Takes a trigger, with memory as it is: a slice for each segment, in their order. Of a
+    /// segment that the event channel may not read nothing is looked at, and of the others nothing
+    /// but the bytes of entries of DAQ lists that are due. What `trigger` does is done with the
+    /// image that this memory is.
+    ///
+    /// Refused with `WrongMemory` if there isn't a slice for each segment, or one of a segment that
+    /// the event channel may read has another length; or with `Spent`. It takes no memory.
+    pub fn trigger_over(&mut self, memory: &[&[u8]], stamp: u32) -> Result<Taken, MemoryFault>
+        ensures ok { IfOk result (λ taken.
+            (past : Past) → StandsAfter S.SendEnd S.End.RingEnd self.old past
+            → TakesTrigger S.SendEnd S.End.RingEnd self.old self.new taken past
+            (image_of self.old.channel self.old.segments (parts memory.now)) stamp) }
+
+        ensures wrong_memory { (result ≡ Err MemoryFault.WrongMemory)
+            ↔ (fits self.old.channel self.old.segments (parts memory.now) ≡ false) }
+        ensures spent { (result ≡ Err MemoryFault.Spent)
+            ↔ ((fits self.old.channel self.old.segments (parts memory.now) ≡ true)
+            × (self.old.triggers ≡ MAX_TRIGGERS)) }
+        ensures refused { (past : Past) → StandsAfter S.SendEnd S.End.RingEnd self.old past
+            → result_err result
+            ≡ memory_refusal self.old.channel self.old.segments past (parts memory.now) }
+        ensures err { OnErr result (self.new ≡ self.old) }
+
+        ensures set_up_stays { KeepsSetUp S.SendEnd self.old self.new }
+    {
+        if !fits(self.segments.as_slice(), self.channel.byte(), memory) {
+            return Err(MemoryFault::WrongMemory);
+        }
+        if self.triggers == MAX_TRIGGERS {
+            return Err(MemoryFault::Spent);
+        }
+        Ok(self.take(MemoryView::Parts(memory), stamp))
+    }
+
+    /// Takes a trigger that isn't refused.
+    #[inline]
+    fn take(&mut self, memory: MemoryView<'_>, stamp: u32) -> Taken
+        requires fit { FitsMemory self.old.channel self.old.segments memory }
+        requires more { self.old.triggers ≢ MAX_TRIGGERS }
+        ensures taken { (past : Past) → StandsAfter S.SendEnd S.End.RingEnd self.old past
+            → TakesTrigger S.SendEnd S.End.RingEnd self.old self.new result past
+            (image_in self.old.channel self.old.segments memory.entry) stamp }
+
+        ensures set_up_stays { KeepsSetUp S.SendEnd self.old self.new }
+    {
         if self.triggers < self.soonest {
             self.triggers += 1;
-            return Ok(NONE_TAKEN);
+            return NONE_TAKEN;
         }
         let moment = Moment {
             channel: self.channel,
             trigger: self.triggers,
-            image,
+            segments: &self.segments,
+            memory,
             stamp,
         };
         let (taken, accepted) = sample_lists(
@@ -161,7 +268,7 @@ impl<S: SendEnd> Sampler<S> {
         self.accepted = accepted;
         self.triggers += 1;
         self.soonest = self.lists.soonest();
-        Ok(taken)
+        taken
     }
 
     /// Starts a DAQ list: it is due at the next trigger, and then at each `prescaler`-th (ASAM
@@ -307,6 +414,7 @@ impl<S: SendEnd> Sampler<S> {
         let Sampler {
             channel,
             image_len: _,
+            segments: _,
             lists,
             end,
             triggers: _,

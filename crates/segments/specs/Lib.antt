@@ -1,4 +1,5 @@
 pub mod Faults
+pub mod Image
 pub mod Laws
 pub mod Memory
 pub mod Places

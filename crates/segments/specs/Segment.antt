@@ -1,5 +1,6 @@
 -- A segment: which bytes lie in it, and who may read them.
-use Rattle.std.specs.Prelude.{ℕ, ◌+◌, ◌≤◌, ◌==◌, ◌&&◌, nat_eq, nat_le, Bool, List, All, length}
+use Rattle.std.specs.Prelude.{ℕ, ◌+◌, ◌-◌, ◌^◌, ◌≤◌, ◌==◌, ◌&&◌, nat_eq, nat_le, nat_lt, Bool}
+use Rattle.std.specs.Prelude.{if◌then◌else◌, List, All, length}
 use Rattle.std.specs.Int.{bit_at}
 use Rattle.segments.specs.declared.limits.TheConstants.{ADDRESSES, MAX_SEGMENTS}
 use Rattle.segments.specs.declared.segment.Segment.{Segment}
@@ -25,3 +26,7 @@ EndsWithin s = end_of s ≤ ADDRESSES
 pub record AreWithin (segments : List Segment) : Type 0 where
   pub few : length segments ≤ MAX_SEGMENTS
   pub ends : All EndsWithin segments
+
+-- the set of all event channels, where there are so many: 16 at most
+abbrev pub all_readers : ℕ → ℕ
+all_readers channels = if nat_lt channels 16 then 2 ^ channels - 1 else 0xFFFF

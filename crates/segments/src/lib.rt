@@ -3,6 +3,7 @@
 #![tactic(auto)]
 
 mod fault;
+mod image;
 pub mod laws;
 pub mod limits;
 mod place;
@@ -11,7 +12,8 @@ mod segment;
 mod segments;
 
 pub use fault::SegmentFault;
+pub use image::{image_len, image_place, image_segment, image_start, segment_at};
 pub use place::Place;
 pub use read_fault::ReadFault;
-pub use segment::Segment;
-pub use segments::Segments;
+pub use segment::{Segment, all_readers};
+pub use segments::{Segments, fits};

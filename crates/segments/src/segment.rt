@@ -1,6 +1,6 @@
 //! A segment: a part of memory whose bytes have addresses one behind another.
 ghost use Rattle.std.specs.Prelude.{◌≡◌, ◌<◌};
-ghost use Rattle.segments.specs.Segment.{holds, may_read};
+ghost use Rattle.segments.specs.Segment.{all_readers, holds, may_read};
 
 use crate::limits::MAX_READERS;
 
@@ -34,4 +34,14 @@ impl Segment {
     {
         self.events >> channel & 1 == 1
     }
+}
+
+/// The set of all event channels, where there are so many: 16 at most.
+pub fn all_readers(channels: usize) -> u16
+    ensures { result ≡ all_readers channels }
+{
+    if channels >= MAX_READERS as usize {
+        return 0xFFFF;
+    }
+    ((1_u32 << channels) - 1) as u16
 }

@@ -2,12 +2,14 @@
 ghost use Rattle.std.specs.Prelude.{◌≡◌, ◌+◌, ◌<◌, ◌≤◌, None, Some, Ok, Err};
 ghost use Rattle.std.specs.Prelude.{IfErr, IfOk, IfSome, OnOk};
 ghost use Rattle.segments.specs.Faults.{segments_fault};
+ghost use Rattle.segments.specs.Image.{HaveImage, image_segments};
 ghost use Rattle.segments.specs.Memory.{bytes_in, fits, is_there, parts, read};
 ghost use Rattle.segments.specs.Places.{HoldsAt, IsPlaceOf, is_readable, place_of, segment_of};
 ghost use Rattle.segments.specs.Segment.{AreWithin};
 ghost use Rattle.segments.specs.declared.limits.TheConstants.{ADDRESSES};
 
 use crate::fault::{SegmentFault, segments_fault};
+use crate::image::image_segment;
 use crate::limits::{MAX_READERS, MAX_SEGMENTS};
 use crate::place::Place;
 use crate::read_fault::ReadFault;
@@ -53,11 +55,42 @@ impl Segments {
         Ok(Segments { items })
     }
 
+    /// One segment of so many bytes, that every event channel may read: an image.
+    pub fn of_image(len: usize) -> Segments
+        requires { len ≤ ADDRESSES }
+        ensures { result ≡ image_segments len }
+    {
+        let mut items = ArrayVec::new();
+        items.push(image_segment(len));
+        Segments { items }
+    }
+
     /// The segments in their order.
     pub fn as_slice(&self) -> &[Segment]
-        ensures { result.now ≡ self.now }
+        ensures value { result.now ≡ self.now }
+        ensures image { HaveImage result.now }
     {
         self.items.as_slice()
+    }
+
+    /// The same in an array.
+    pub fn items(&self) -> &ArrayVec<Segment, MAX_SEGMENTS>
+        ensures value { result.now.items ≡ self.now }
+        ensures image { HaveImage result.now.items }
+    {
+        &self.items
+    }
+
+    /// The same in an array of its own.
+    pub fn copied(&self) -> ArrayVec<Segment, MAX_SEGMENTS>
+        ensures value { result.items ≡ self.now }
+        ensures image { HaveImage result.items }
+    {
+        let mut items = ArrayVec::new();
+        let Ok(()) = items.try_extend_from_slice(self.items.as_slice()) else {
+            unreachable!();
+        };
+        items
     }
 
     /// The place of so many bytes; `None` exactly if they lie in no segment.
@@ -100,16 +133,7 @@ impl Segments {
         requires { channel < MAX_READERS }
         ensures { result ≡ fits channel self.now (parts memory.now) }
     {
-        let segments = self.items.as_slice();
-        if memory.len() != segments.len() {
-            return false;
-        }
-        for i in 0..segments.len() {
-            if !is_there(channel, &segments[i], memory[i]) {
-                return false;
-            }
-        }
-        true
+        fits(self.items.as_slice(), channel, memory)
     }
 
     /// So many bytes of memory, of which each segment that is there has a slice of its length.
@@ -138,6 +162,22 @@ impl Segments {
         }
         Ok(&bytes[place.start..place.start + size])
     }
+}
+
+/// Whether memory has a slice for each of these segments, as `Segments::fits` says.
+pub fn fits(segments: &[Segment], channel: u8, memory: &[&[u8]]) -> bool
+    requires { channel < MAX_READERS }
+    ensures { result ≡ fits channel segments.now (parts memory.now) }
+{
+    if memory.len() != segments.len() {
+        return false;
+    }
+    for i in 0..segments.len() {
+        if !is_there(channel, &segments[i], memory[i]) {
+            return false;
+        }
+    }
+    true
 }
 
 /// Whether of a segment that an event channel may read all bytes are there.

@@ -1,7 +1,8 @@
-pub mod PlaceLemmas
+pub mod WriteLemmas
 pub mod ProfileLemmas
 pub mod ReplyLemmas
 pub mod ListSetLemmas
 pub mod StartLemmas
 pub mod SetUpLemmas
 mod StandardFacts
+mod MemoryFacts

@@ -1,6 +1,6 @@
 -- A profile without a fault is within its limits.
 use Rattle.std.proofs.Common.{◌≡◌, ◌≤◌, ◌∙◌, ℕ, Bool, true, false, List, [], ◌∷◌, length, Option, Some, None, is_none, unwrap_or, refl, sym, ap, arith}
-use Rattle.std.specs.Prelude.{All, ◌==◌, ◌||◌, nat_lt, if◌then◌else◌}
+use Rattle.std.specs.Prelude.{All, option_map, ◌==◌, ◌||◌, nat_lt, if◌then◌else◌}
 use Rattle.std.specs.List.{list_any}
 use Rattle.std.proofs.lemmas.Bool.Decides.{nat_tests}
 use Rattle.std.proofs.lemmas.List.Elements.{All-nil, All-cons}
@@ -10,7 +10,10 @@ use Rattle.xcp_base.specs.declared.packet_form.PacketForm.{PacketForm}
 use Rattle.session.specs.declared.profile.Profile.{Profile}
 use Rattle.session.specs.declared.event_channel.EventChannel.{EventChannel}
 use Rattle.session.specs.declared.profile.ProfileFault.{ProfileFault}
-use Rattle.session.specs.Profiles.{profile_fault, numbers_fault, names_fault, event_fault, events_fault, or_else, is_bad_name, is_unprintable, IsProfile, HasShortName, lists_of, texts_fault}
+use Rattle.session.specs.declared.profile.ProfileFault.TheVariants as fault
+use Rattle.segments.specs.declared.fault.SegmentFault.{SegmentFault}
+use Rattle.segments.specs.Faults.{segments_fault}
+use Rattle.session.specs.Profiles.{profile_fault, numbers_fault, names_fault, event_fault, events_fault, or_else, is_bad_name, is_unprintable, IsProfile, HasShortName, lists_of, memory_fault, segments_of, texts_fault}
 use Rattle.session.specs.declared.profile.TheConstants.{MAX_TEXT}
 
 -- a test that names no fault
@@ -49,35 +52,41 @@ short_names (e ∷ more) h =
 pub record HasNumbers (d : Profile) : Type 0 where
   pub some : 1 ≤ length d.events.items
   pub channels : length d.events.items ≤ 8
-  pub some_image : 1 ≤ d.image_len
-  pub image : d.image_len ≤ 4096
   pub stamp : is_none (size_of d.stamp_size) ≡ false
   pub unit : d.unit ≤ 9
 
 pub numbers_within : (d : Profile) → profile_fault d ≡ None → HasNumbers d
 numbers_within d h =
-    let numbers = (neither (numbers_fault d) (or_else (names_fault d) (texts_fault d)) h).0 in
+    let numbers = (neither (numbers_fault d) (or_else (names_fault d) (or_else (memory_fault d) (texts_fault d))) h).0 in
     let channels = not_named (length d.events.items == 0 || nat_lt 8 (length d.events.items)) _ _ numbers in
-    let image = not_named (d.image_len == 0 || nat_lt 4096 d.image_len) _ _ channels.1 in
-    let stamp = not_named (is_none (size_of d.stamp_size)) _ _ image.1 in
+    let stamp = not_named (is_none (size_of d.stamp_size)) _ _ channels.1 in
     let unit = not_named (nat_lt 9 d.unit) _ _ stamp.1 in
     let c = first_false (length d.events.items == 0) (nat_lt 8 (length d.events.items)) channels.0 in
-    let i = first_false (d.image_len == 0) (nat_lt 4096 d.image_len) image.0 in
     record {
       some = not_zero (length d.events.items) c.0;
       channels = at_most 8 (length d.events.items) c.1;
-      some_image = not_zero d.image_len i.0;
-      image = at_most 4096 d.image_len i.1;
       stamp = stamp.0;
       unit = at_most 9 d.unit unit.0;
     }
 
+-- the faults behind those of the numbers: of the names, of the segments, of the texts
+behind_numbers : (d : Profile) → profile_fault d ≡ None → (names_fault d ≡ None) × (memory_fault d ≡ None) × (texts_fault d ≡ None)
+behind_numbers d h =
+    let more = neither (names_fault d) (or_else (memory_fault d) (texts_fault d)) (neither (numbers_fault d) (or_else (names_fault d) (or_else (memory_fault d) (texts_fault d))) h).1 in
+    let last = neither (memory_fault d) (texts_fault d) more.1 in
+    (more.0, last.0, last.1)
+
+-- no fault comes from no fault of the segments alone
+of_segments : (first : Option SegmentFault) → option_map fault.Segments first ≡ None → first ≡ None
+of_segments None h = refl
+of_segments (Some x) h = absurd (cc)
+
 pub profile_within : (d : Profile) → profile_fault d ≡ None → IsProfile d
 profile_within d h =
     let n = numbers_within d h in
-    let named = neither (names_fault d) (texts_fault d) (neither (numbers_fault d) (or_else (names_fault d) (texts_fault d)) h).1 in
+    let named = behind_numbers d h in
     let names = named.0 in
-    let a2l_name = not_named (is_bad_name d.a2l_name.items) _ _ named.1 in
+    let a2l_name = not_named (is_bad_name d.a2l_name.items) _ _ named.2 in
     let epk = not_named (is_bad_name d.epk.items) _ _ a2l_name.1 in
     let a2l = not_named (nat_lt MAX_TEXT (length d.a2l.items)) _ _ epk.1 in
     let name = not_named (is_bad_name d.name.items) _ _ names in
@@ -90,15 +99,16 @@ profile_within d h =
       epk = short_name d.epk.items epk.0;
       a2l = at_most MAX_TEXT (length d.a2l.items) a2l.0;
       names = short_names d.events.items name.1;
+      segments = of_segments (segments_fault (length d.events.items) (segments_of d)) named.1;
     }
 
 -- what a store is made for, field by field
-pub lists_same : (p : ListsProfile) (d : Profile) → p.channels ≡ length d.events.items → p.image_len ≡ d.image_len → form_of d.id d.stamp_size ≡ Some p.form
+pub lists_same : (p : ListsProfile) (d : Profile) → p.channels ≡ length d.events.items → p.segments ≡ segments_of d → form_of d.id d.stamp_size ≡ Some p.form
     → p ≡ lists_of d
-lists_same p d channels image form =
+lists_same p d channels segments form =
     let is : p.form ≡ unwrap_or (form_of d.id d.stamp_size) usual_form = sym (ap (λ (o : Option PacketForm). unwrap_or o usual_form) form) in
-    let one : p ≡ record { channels = length d.events.items; image_len = p.image_len; form = p.form } = ap (λ n. record { channels = n; image_len = p.image_len; form = p.form }) channels in
-    let two : record { channels = length d.events.items; image_len = p.image_len; form = p.form } ≡ record { channels = length d.events.items; image_len = d.image_len; form = p.form } =
-    ap (λ n. record { channels = length d.events.items; image_len = n; form = p.form }) image in
-    let P : PacketForm → ListsProfile = λ f. record { channels = length d.events.items; image_len = d.image_len; form = f } in
+    let one : p ≡ record { channels = length d.events.items; segments = p.segments; form = p.form } = ap (λ n. record { channels = n; segments = p.segments; form = p.form }) channels in
+    let two : record { channels = length d.events.items; segments = p.segments; form = p.form } ≡ record { channels = length d.events.items; segments = segments_of d; form = p.form } =
+    ap (λ ss. record { channels = length d.events.items; segments = ss; form = p.form }) segments in
+    let P : PacketForm → ListsProfile = λ f. record { channels = length d.events.items; segments = segments_of d; form = f } in
     one ∙ two ∙ ap P is

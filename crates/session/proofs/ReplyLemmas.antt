@@ -6,11 +6,12 @@ use Rattle.daq_store.specs.declared.reply.Reply.{Reply}
 use Rattle.daq_store.specs.declared.reply.Reply.TheVariants.{Positive}
 use Rattle.daq_store.specs.Answer.{answer, calls_after}
 use Rattle.daq_store.specs.Calls.{Profile as ListsProfile}
+use Rattle.daq_store.specs.Replies.{reply_bytes}
 use Rattle.session.specs.declared.profile.Profile.{Profile}
 use Rattle.session.specs.Past.{Past}
 use Rattle.session.specs.Profiles.{lists_of}
 use Rattle.session.specs.Exchanges.{calls_after_writes, writes_reply}
-use Rattle.session.specs.Replies.{is_error, most_of, store_reply}
+use Rattle.session.specs.Replies.{is_error, most_of}
 use Rattle.session.specs.Requests.{write_of, writes}
 use Rattle.session.specs.Standing.{SessionStandsAfter, SessionState, WritesOne}
 
@@ -60,7 +61,7 @@ way_on old now new past all more call reply profile write fine way =
 -- what is replied to all writes, and what they leave
 abbrev pub Ends : SessionState → SessionState → Past → List Command → Reply → Type 0
 Ends old new past all reply =
-    (store_reply old.profile.base reply ≡ store_reply old.profile.base (writes_reply (lists_of old.profile) past.calls all)) × SessionStandsAfter new (record past { calls = calls_after_writes (lists_of old.profile) past.calls all })
+    (reply_bytes reply ≡ reply_bytes (writes_reply (lists_of old.profile) past.calls all)) × SessionStandsAfter new (record past { calls = calls_after_writes (lists_of old.profile) past.calls all })
 
 pub way_stops : (old now new : SessionState) (past : Past) (all more : List Command) (call : Command) (reply : Reply) → now.profile ≡ old.profile → WritesOne now new call reply
     → is_error reply ≡ true → OnTheWay old now past all (call ∷ more) → Ends old new past all reply
@@ -71,13 +72,13 @@ way_stops old now new past all more call reply profile write bad way =
     let r = way.reply ∙ stopped (is_error (answer lists way.mid call)) (answer lists way.mid call) (writes_reply lists (calls_after lists way.mid call) more) refused in
     let k = way.calls ∙ stopped (is_error (answer lists way.mid call)) (calls_after lists way.mid call) (calls_after_writes lists (calls_after lists way.mid call) more) refused in
     let P : List Command → Type 0 = λ cs. SessionStandsAfter new (record past { calls = cs }) in
-    (ap (store_reply old.profile.base) (one.0 ∙ sym r), subst P (sym k) one.1)
+    (ap (reply_bytes) (one.0 ∙ sym r), subst P (sym k) one.1)
 
 pub way_ends : (old now : SessionState) (past : Past) (all : List Command) → OnTheWay old now past all [] → Ends old now past all Positive
 way_ends old now past all way =
     let P : List Command → Type 0 = λ cs. SessionStandsAfter now (record past { calls = cs }) in
-    (ap (store_reply old.profile.base) (sym way.reply), subst P (sym way.calls) way.stands)
+    (ap (reply_bytes) (sym way.reply), subst P (sym way.calls) way.stands)
 
 -- the next write
-pub writes_next : (base n k : ℕ) (bytes : List ℕ) → n ≡ suc k → writes base n bytes ≡ write_of base (take 8 bytes) ∷ writes base k (drop 8 bytes)
-writes_next base n k bytes e = ap (λ m. writes base m bytes) e
+pub writes_next : (n k : ℕ) (bytes : List ℕ) → n ≡ suc k → writes n bytes ≡ write_of (take 8 bytes) ∷ writes k (drop 8 bytes)
+writes_next n k bytes e = ap (λ m. writes m bytes) e

@@ -1,10 +1,9 @@
 -- How a DAQ list was set up, ODT by ODT and entry by entry.
-use Rattle.std.proofs.Common.{◌≡◌, ℕ, ◌+◌, ◌<◌, List, [], ◌∷◌, ◌++◌, Option, Some, None, option_map, option_and_then, unwrap_or, length, map, take, get_or, sym, refl, ap, ◌∙◌, arith}
-use Rattle.std.proofs.lemmas.List.{get_or-map, length-map, map-append, take_more}
+use Rattle.std.proofs.Common.{◌≡◌, ℕ, ◌+◌, ◌<◌, List, [], ◌∷◌, ◌++◌, Option, None, option_and_then, unwrap_or, length, take, get_or, sym, ap, ◌∙◌}
+use Rattle.std.proofs.lemmas.List.{take_more}
 use Rattle.std.proofs.lemmas.Option.{slice_get-get_or}
 use Rattle.daq_store.specs.declared.entry.Entry.{Entry}
 use Rattle.daq_store.specs.Configuration.{Configuration, entry_of, odt_entries}
-use Rattle.session.specs.SetUps.{entry_held}
 
 -- one element more is the same
 prefix-next : {X : Type 0} (xs ys : List X) (i : ℕ) (d e : X) → i < length xs → i < length ys → take i xs ≡ take i ys
@@ -25,33 +24,22 @@ pub same_odts-next : (odts : List (List (Option Entry))) (conf : Configuration) 
 same_odts-next odts conf k odt h inside is same before =
     prefix-next odts conf.odts k odt [] h inside before (sym is ∙ same ∙ odt_at conf k inside)
 
--- what is shown of an entry, as it is held
-entry_shown : (entry : Option Entry) → entry_held (option_map (λ (x : Entry). (x.address, x.size)) entry) ≡ entry
-entry_shown None = refl
-entry_shown (Some entry) = refl
-
-entry_at : (conf : Configuration) (k i : ℕ) (x : Option (ℕ × ℕ)) → i < length (odt_entries conf k)
-    → x ≡ option_map (λ (x : Entry). (x.address, x.size)) (entry_of conf k i) → entry_held x ≡ get_or (odt_entries conf k) i None
+entry_at : (conf : Configuration) (k i : ℕ) (x : Option Entry) → i < length (odt_entries conf k) → x ≡ entry_of conf k i
+    → x ≡ get_or (odt_entries conf k) i None
 entry_at conf k i x h is =
-    ap entry_held is ∙ entry_shown (entry_of conf k i)
-    ∙ ap (λ (o : Option (Option Entry)). option_and_then (λ (e : Option Entry). e) o) (slice_get-get_or (odt_entries conf k) i None h)
+    is ∙ ap (λ (o : Option (Option Entry)). option_and_then (λ (e : Option Entry). e) o) (slice_get-get_or (odt_entries conf k) i None h)
 
-pub same_entries-next : (held : List (Option (ℕ × ℕ))) (conf : Configuration) (k i : ℕ) (x y : Option (ℕ × ℕ)) → i < length held
-    → i < length (odt_entries conf k) → x ≡ get_or held i x → y ≡ option_map (λ (x : Entry). (x.address, x.size)) (entry_of conf k i)
-    → entry_held x ≡ entry_held y → take i (map entry_held held) ≡ take i (odt_entries conf k)
-    → take (i + 1) (map entry_held held) ≡ take (i + 1) (odt_entries conf k)
+pub same_entries-next : (held : List (Option Entry)) (conf : Configuration) (k i : ℕ) (x y : Option Entry) → i < length held
+    → i < length (odt_entries conf k) → x ≡ get_or held i x → y ≡ entry_of conf k i → x ≡ y
+    → take i held ≡ take i (odt_entries conf k) → take (i + 1) held ≡ take (i + 1) (odt_entries conf k)
 same_entries-next held conf k i x y h inside is shown same before =
-    let long : i < length (map entry_held held) = omega (arith, length-map held entry_held, h) in
-    prefix-next (map entry_held held) (odt_entries conf k) i None None long inside before
-    (get_or-map entry_held held i x None h ∙ ap entry_held (sym is) ∙ same ∙ entry_at conf k i y inside shown)
+    prefix-next held (odt_entries conf k) i x None h inside before (sym is ∙ same ∙ entry_at conf k i y inside shown)
 
 -- one entry more is held
-pub entries-next : (held more : List (Option (ℕ × ℕ))) (conf : Configuration) (k i : ℕ) (x : Option (ℕ × ℕ)) → i < length (odt_entries conf k)
-    → x ≡ option_map (λ (x : Entry). (x.address, x.size)) (entry_of conf k i) → more ≡ held ++ x ∷ []
-    → map entry_held held ≡ take i (odt_entries conf k) → map entry_held more ≡ take (i + 1) (odt_entries conf k)
+pub entries-next : (held more : List (Option Entry)) (conf : Configuration) (k i : ℕ) (x : Option Entry) → i < length (odt_entries conf k)
+    → x ≡ entry_of conf k i → more ≡ held ++ x ∷ [] → held ≡ take i (odt_entries conf k) → more ≡ take (i + 1) (odt_entries conf k)
 entries-next held more conf k i x inside is with_one before =
-    ap (map entry_held) with_one
-    ∙ map-append entry_held held (x ∷ [])
-    ∙ ap (λ zs. zs ++ entry_held x ∷ []) before
+    with_one
+    ∙ ap (λ zs. zs ++ x ∷ []) before
     ∙ ap (λ e. take i (odt_entries conf k) ++ e ∷ []) (entry_at conf k i x inside is)
     ∙ sym (take_more (odt_entries conf k) i None inside)

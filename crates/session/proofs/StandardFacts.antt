@@ -4,9 +4,10 @@ use Rattle.std.proofs.Common.{◌≡◌, [], ◌∷◌, Ok, Err, false, refl}
 use Rattle.xcp_base.specs.declared.err_code.ErrCode.TheVariants.{CmdSynch, CmdSyntax, CmdUnknown, OutOfRange}
 use Rattle.daq_store.specs.declared.command.Command.TheVariants.{AllocDaq, ReadDaq, SetDaqListMode, StartStopDaqList, WriteDaq}
 use Rattle.daq_store.specs.declared.reply.Reply.TheVariants.{Read}
+use Rattle.daq_store.specs.Replies.{reply_bytes}
 use Rattle.session.specs.declared.request.Request.TheVariants.{Lists, SetMta, ShortUpload, WriteDaqMultiple}
 use Rattle.session.specs.Fields.{packet_of}
-use Rattle.session.specs.Replies.{clock_fields, comm_mode_fields, connect_reply, id_fields, list_mode_reply, status_fields, store_reply}
+use Rattle.session.specs.Replies.{clock_fields, comm_mode_fields, connect_reply, id_fields, list_mode_reply, status_fields}
 use Rattle.session.specs.Sources.{text_reply}
 use Rattle.session.specs.Requests.{request}
 
@@ -46,42 +47,42 @@ list_mode = refl
 list_mode_of_one_that_runs : packet_of (list_mode_reply (StartStopDaqList 1 0 ∷ SetDaqListMode 0x10 0 0 1 0 ∷ AllocDaq 1 ∷ []) 0) ≡ 0xFF ∷ 0x50 ∷ 0 ∷ 0 ∷ 0 ∷ 0 ∷ 1 ∷ 0 ∷ []
 list_mode_of_one_that_runs = refl
 
--- READ_DAQ shows the address as a master knows it, and of an unwritten entry none
-entry_read : store_reply 0x1000 (Read 2 1) ≡ 0xFF ∷ 0xFF ∷ 2 ∷ 0 ∷ 0x01 ∷ 0x10 ∷ 0 ∷ 0 ∷ []
+-- READ_DAQ shows size, address extension and address, and of an unwritten entry none
+entry_read : reply_bytes (Read 2 1 0x1001) ≡ 0xFF ∷ 0xFF ∷ 2 ∷ 1 ∷ 0x01 ∷ 0x10 ∷ 0 ∷ 0 ∷ []
 entry_read = refl
 
-unwritten_read : store_reply 0x1000 (Read 0 0) ≡ 0xFF ∷ 0xFF ∷ 0 ∷ 0 ∷ 0 ∷ 0 ∷ 0 ∷ 0 ∷ []
+unwritten_read : reply_bytes (Read 0 0 0) ≡ 0xFF ∷ 0xFF ∷ 0 ∷ 0 ∷ 0 ∷ 0 ∷ 0 ∷ 0 ∷ []
 unwritten_read = refl
 
--- WRITE_DAQ at the first byte of an image that begins at 0x1000, and below it
-write_first : request 0x1000 (0xE1 ∷ 0xFF ∷ 1 ∷ 0 ∷ 0x00 ∷ 0x10 ∷ 0 ∷ 0 ∷ []) ≡ Ok (Lists (WriteDaq 0xFF 1 0 0))
+-- WRITE_DAQ
+write_first : request (0xE1 ∷ 0xFF ∷ 1 ∷ 0 ∷ 0x00 ∷ 0x10 ∷ 0 ∷ 0 ∷ []) ≡ Ok (Lists (WriteDaq 0xFF 1 0 0x1000))
 write_first = refl
 
-write_below : request 0x1000 (0xE1 ∷ 0xFF ∷ 1 ∷ 0 ∷ 0xFF ∷ 0x0F ∷ 0 ∷ 0 ∷ []) ≡ Ok (Lists (WriteDaq 0xFF 1 0 4096))
-write_below = refl
+write_extended : request (0xE1 ∷ 0xFF ∷ 1 ∷ 2 ∷ 0xFF ∷ 0x0F ∷ 0 ∷ 0 ∷ []) ≡ Ok (Lists (WriteDaq 0xFF 1 2 0x0FFF))
+write_extended = refl
 
--- packets of no known code, too short, with no entry, with the entries of one byte too few
 -- SET_MTA, and SHORT_UPLOAD of four bytes, at 0x1004
-mta : request 0x1000 (0xF6 ∷ 0 ∷ 0 ∷ 0 ∷ 0x04 ∷ 0x10 ∷ 0 ∷ 0 ∷ []) ≡ Ok (SetMta 0 0x1004)
+mta : request (0xF6 ∷ 0 ∷ 0 ∷ 0 ∷ 0x04 ∷ 0x10 ∷ 0 ∷ 0 ∷ []) ≡ Ok (SetMta 0 0x1004)
 mta = refl
 
-short_upload : request 0x1000 (0xF4 ∷ 4 ∷ 0 ∷ 0 ∷ 0x04 ∷ 0x10 ∷ 0 ∷ 0 ∷ []) ≡ Ok (ShortUpload 4 0 0x1004)
+short_upload : request (0xF4 ∷ 4 ∷ 0 ∷ 0 ∷ 0x04 ∷ 0x10 ∷ 0 ∷ 0 ∷ []) ≡ Ok (ShortUpload 4 0 0x1004)
 short_upload = refl
 
-read : request 0 (0xDB ∷ []) ≡ Ok (Lists ReadDaq)
+read : request (0xDB ∷ []) ≡ Ok (Lists ReadDaq)
 read = refl
 
-unknown : request 0 (0xC0 ∷ []) ≡ Err CmdUnknown
+-- packets of no known code, too short, with no entry, with the entries of one byte too few
+unknown : request (0xC0 ∷ []) ≡ Err CmdUnknown
 unknown = refl
 
-short : request 0 (0xE3 ∷ 0 ∷ 0 ∷ []) ≡ Err CmdSyntax
+short : request (0xE3 ∷ 0 ∷ 0 ∷ []) ≡ Err CmdSyntax
 short = refl
 
-no_entries : request 0 (0xC7 ∷ 0 ∷ []) ≡ Err OutOfRange
+no_entries : request (0xC7 ∷ 0 ∷ []) ≡ Err OutOfRange
 no_entries = refl
 
-entry_cut : request 0 (0xC7 ∷ 1 ∷ 0xFF ∷ 1 ∷ 0 ∷ 0 ∷ 0 ∷ 0 ∷ 0 ∷ []) ≡ Err CmdSyntax
+entry_cut : request (0xC7 ∷ 1 ∷ 0xFF ∷ 1 ∷ 0 ∷ 0 ∷ 0 ∷ 0 ∷ 0 ∷ []) ≡ Err CmdSyntax
 entry_cut = refl
 
-one_entry : request 0 (0xC7 ∷ 1 ∷ 0xFF ∷ 1 ∷ 0 ∷ 0 ∷ 0 ∷ 0 ∷ 0 ∷ 0 ∷ []) ≡ Ok (WriteDaqMultiple 1)
+one_entry : request (0xC7 ∷ 1 ∷ 0xFF ∷ 1 ∷ 0 ∷ 0 ∷ 0 ∷ 0 ∷ 0 ∷ 0 ∷ []) ≡ Ok (WriteDaqMultiple 1)
 one_entry = refl

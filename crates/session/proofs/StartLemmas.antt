@@ -91,15 +91,15 @@ other_call lists calls call l h =
     unless_refused (is_some (fault_of lists calls call)) calls (and_then calls call) l (gained_by calls call l h)
 
 -- a write starts nothing, whatever its bytes are
-writes_is_plain : (base : ℕ) (bytes : List ℕ) → StartsNoList (write_of base bytes)
-writes_is_plain base [] = tt
-writes_is_plain base (a ∷ []) = tt
-writes_is_plain base (a ∷ b ∷ []) = tt
-writes_is_plain base (a ∷ b ∷ c ∷ []) = tt
-writes_is_plain base (a ∷ b ∷ c ∷ d ∷ []) = tt
-writes_is_plain base (a ∷ b ∷ c ∷ d ∷ e ∷ []) = tt
-writes_is_plain base (a ∷ b ∷ c ∷ d ∷ e ∷ f ∷ []) = tt
-writes_is_plain base (a ∷ b ∷ c ∷ d ∷ e ∷ f ∷ g ∷ more) = tt
+writes_is_plain : (bytes : List ℕ) → StartsNoList (write_of bytes)
+writes_is_plain [] = tt
+writes_is_plain (a ∷ []) = tt
+writes_is_plain (a ∷ b ∷ []) = tt
+writes_is_plain (a ∷ b ∷ c ∷ []) = tt
+writes_is_plain (a ∷ b ∷ c ∷ d ∷ []) = tt
+writes_is_plain (a ∷ b ∷ c ∷ d ∷ e ∷ []) = tt
+writes_is_plain (a ∷ b ∷ c ∷ d ∷ e ∷ f ∷ []) = tt
+writes_is_plain (a ∷ b ∷ c ∷ d ∷ e ∷ f ∷ g ∷ more) = tt
 
 -- one call behind another
 gains-behind : (a b c : Bool) → (not a && b) ≡ false → (not b && c) ≡ false → (not a && c) ≡ false
@@ -113,15 +113,15 @@ gains_if true calls mid more l h k = h
 gains_if false calls mid more l h k = gains-behind (is_active calls l) (is_active mid l) (is_active more l) h k
 
 -- WRITE_DAQ_MULTIPLE starts nothing
-writes_kept : (lists : ListsProfile) (base n : ℕ) (bytes : List ℕ) (calls : List Command) (l : ℕ)
-    → gains calls (calls_after_writes lists calls (writes base n bytes)) l ≡ false
-writes_kept lists base zero bytes calls l = not-and (is_active calls l)
-writes_kept lists base (suc n) bytes calls l =
-    let write = write_of base (take 8 bytes) in
+writes_kept : (lists : ListsProfile) (n : ℕ) (bytes : List ℕ) (calls : List Command) (l : ℕ)
+    → gains calls (calls_after_writes lists calls (writes n bytes)) l ≡ false
+writes_kept lists zero bytes calls l = not-and (is_active calls l)
+writes_kept lists (suc n) bytes calls l =
+    let write = write_of (take 8 bytes) in
     let mid = calls_after lists calls write in
-    gains_if (is_error (answer lists calls write)) calls mid (calls_after_writes lists mid (writes base n (drop 8 bytes))) l
-    (other_call lists calls write l (writes_is_plain base (take 8 bytes)))
-    (writes_kept lists base n (drop 8 bytes) mid l)
+    gains_if (is_error (answer lists calls write)) calls mid (calls_after_writes lists mid (writes n (drop 8 bytes))) l
+    (other_call lists calls write l (writes_is_plain (take 8 bytes)))
+    (writes_kept lists n (drop 8 bytes) mid l)
 
 -- a request that is no command to the store starts nothing
 other_request : (d : Profile) (past : Past) (packet : List ℕ) (asked : Request) (l : ℕ) → ((call : Command) → asked ≢ Lists call)
@@ -141,20 +141,20 @@ other_request d past packet GetDaqProcessorInfo l h = not-and (is_active past.ca
 other_request d past packet GetDaqResolutionInfo l h = not-and (is_active past.calls l)
 other_request d past packet (GetDaqListInfo m) l h = not-and (is_active past.calls l)
 other_request d past packet (GetDaqEventInfo c) l h = not-and (is_active past.calls l)
-other_request d past packet (WriteDaqMultiple n) l h = writes_kept (lists_of d) d.base n (drop 2 packet) past.calls l
+other_request d past packet (WriteDaqMultiple n) l h = writes_kept (lists_of d) n (drop 2 packet) past.calls l
 other_request d past packet (Lists call) l h = absurd (h call refl)
 
 -- while a master is connected, a packet starts what its request starts
 connected_packet : (d : Profile) (past : Past) (packet : List ℕ) (asked : Request) (l : ℕ) → past.connected ≡ true
-    → request d.base packet ≡ Ok asked
+    → request packet ≡ Ok asked
     → starts d past packet l ≡ gains past.calls (past_after d past none_given packet asked).calls l
 connected_packet d past packet asked l is reads =
-    let read = request d.base packet in
+    let read = request packet in
     ap (λ b. gains past.calls (if b then past_after_read d past none_given packet read else past_after_greeting past read).calls l) is
     ∙ ap (λ r. gains past.calls (past_after_read d past none_given packet r).calls l) reads
 
 pub other_packet : (d : Profile) (past : Past) (packet : List ℕ) (asked : Request) (l : ℕ) → past.connected ≡ true
-    → request d.base packet ≡ Ok asked → ((call : Command) → asked ≢ Lists call) → starts d past packet l ≡ false
+    → request packet ≡ Ok asked → ((call : Command) → asked ≢ Lists call) → starts d past packet l ≡ false
 other_packet d past packet asked l is reads other =
     connected_packet d past packet asked l is reads ∙ other_request d past packet asked l other
 
@@ -167,7 +167,7 @@ greeting_kept past false l = not-and (is_active past.calls l)
 pub unconnected_packet : (d : Profile) (past : Past) (packet : List ℕ) (l : ℕ) → past.connected ≡ false
     → starts d past packet l ≡ false
 unconnected_packet d past packet l is =
-    let read = request d.base packet in
+    let read = request packet in
     ap (λ b. gains past.calls (if b then past_after_read d past none_given packet read else past_after_greeting past read).calls l) is
     ∙ greeting_kept past (is_greeting read) l
 
@@ -198,8 +198,8 @@ same-read d past g h packet (Err code) = refl
 pub same_calls : (d : Profile) (past : Past) (g h : Given) (packet : List ℕ) → (past_after_packet d past g packet).calls ≡ (past_after_packet d past h packet).calls
 same_calls d past g h packet = by past.connected
   where
-    by : (b : Bool) → (if b then past_after_read d past g packet (request d.base packet) else past_after_greeting past (request d.base packet)).calls ≡ (if b then past_after_read d past h packet (request d.base packet) else past_after_greeting past (request d.base packet)).calls
-    by true = same-read d past g h packet (request d.base packet)
+    by : (b : Bool) → (if b then past_after_read d past g packet (request packet) else past_after_greeting past (request packet)).calls ≡ (if b then past_after_read d past h packet (request packet) else past_after_greeting past (request packet)).calls
+    by true = same-read d past g h packet (request packet)
     by false = refl
 
 -- one number more at the end

@@ -8,7 +8,7 @@ use Rattle.daq_store.specs.declared.reply.Reply.{Reply}
 use Rattle.daq_store.specs.declared.reply.Reply.TheVariants.{Positive}
 use Rattle.daq_store.specs.Calls.{Profile as ListsProfile}
 use Rattle.daq_store.specs.Answer.{answer, calls_after, fault_of}
-use Rattle.daq_store.specs.Replies.{Allocates}
+use Rattle.daq_store.specs.Replies.{Allocates, reply_bytes}
 use Rattle.session.specs.declared.profile.Profile.{Profile}
 use Rattle.session.specs.declared.request.Request.{Request}
 use Rattle.session.specs.declared.request.Request.TheVariants.{Connect, Disconnect, GetStatus}
@@ -27,7 +27,7 @@ use Rattle.session.specs.Replies.{id_reply, is_error, list_info_reply, list_mode
 use Rattle.session.specs.Sources.{memory_reply, mta_reply, source_after_event, source_after_id}
 use Rattle.session.specs.Sources.{source_after_memory, source_after_mta, source_after_upload}
 use Rattle.session.specs.Sources.{upload_reply}
-use Rattle.session.specs.Replies.{processor_fields, resolution_fields, status_fields, store_reply}
+use Rattle.session.specs.Replies.{processor_fields, resolution_fields, status_fields}
 use Rattle.session.specs.Requests.{request, writes}
 use Rattle.daq_store.specs.Running.{any_list, is_running}
 
@@ -68,9 +68,9 @@ request_reply d past given packet (GetDaqListInfo l) = packet_of (list_info_repl
 request_reply d past given packet (GetDaqEventInfo c) =
     packet_of (event_reply (slice_get d.events.items c))
 request_reply d past given packet (WriteDaqMultiple n) =
-    store_reply d.base (writes_reply (lists_of d) past.calls (writes d.base n (drop 2 packet)))
+    reply_bytes (writes_reply (lists_of d) past.calls (writes n (drop 2 packet)))
 request_reply d past given packet (Lists call) =
-    store_reply d.base (answer (lists_of d) past.calls call)
+    reply_bytes (answer (lists_of d) past.calls call)
 
 -- what a request leaves
 abbrev pub past_after : Profile → Past → Given → List ℕ → Request → Past
@@ -89,7 +89,7 @@ past_after d past given packet (GetDaqEventInfo c) =
     record past { source = source_after_event (slice_get d.events.items c) past.source }
 past_after d past given packet (WriteDaqMultiple n) =
     record past {
-      calls = calls_after_writes (lists_of d) past.calls (writes d.base n (drop 2 packet));
+      calls = calls_after_writes (lists_of d) past.calls (writes n (drop 2 packet));
     }
 past_after d past given packet (Lists call) =
     record past { calls = calls_after (lists_of d) past.calls call }
@@ -120,13 +120,13 @@ past_after_read d past given packet (Err code) = past
 -- the reply to a packet of the master, if there is one, and what the packet leaves
 abbrev pub master_reply : Profile → Past → Given → List ℕ → Option (List ℕ)
 master_reply d past given packet =
-    if past.connected then Some (read_reply d past given packet (request d.base packet))
-    else greeting_reply (request d.base packet)
+    if past.connected then Some (read_reply d past given packet (request packet))
+    else greeting_reply (request packet)
 
 abbrev pub past_after_packet : Profile → Past → Given → List ℕ → Past
 past_after_packet d past given packet =
-    if past.connected then past_after_read d past given packet (request d.base packet)
-    else past_after_greeting past (request d.base packet)
+    if past.connected then past_after_read d past given packet (request packet)
+    else past_after_greeting past (request packet)
 
 -- a packet, what was handed in with it, and whether there was no memory for it
 pub record Exchange : Type 0 where
@@ -139,7 +139,7 @@ pub record Exchange : Type 0 where
 pub record MayBeOut (d : Profile) (past : Past) (packet : List ℕ) : Type 0 where
   pub connected : past.connected ≡ true
   pub call : Command
-  pub read : request d.base packet ≡ Ok (Lists call)
+  pub read : request packet ≡ Ok (Lists call)
   pub allocates : Allocates call
   pub passes : fault_of (lists_of d) past.calls call ≡ None
 

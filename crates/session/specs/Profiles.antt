@@ -1,16 +1,17 @@
 -- What a slave is opened with, and its limits.
-use Rattle.std.specs.Prelude.{ℕ, ◌+◌, ◌≤◌, ◌==◌, ◌||◌, nat_lt, Bool, if◌then◌else◌, All}
-use Rattle.std.specs.Prelude.{List, [], ◌∷◌, length, Option, Some, None, is_none, unwrap_or}
+use Rattle.std.specs.Prelude.{◌≡◌, ℕ, ◌≤◌, ◌==◌, ◌||◌, nat_lt, Bool, if◌then◌else◌, All}
+use Rattle.std.specs.Prelude.{List, [], ◌∷◌, length, Option, Some, None, is_none}
+use Rattle.std.specs.Prelude.{option_map, unwrap_or}
 use Rattle.std.specs.List.{list_any}
-use Rattle.xcp_base.specs.declared.limits.TheConstants.{ADDRESS_EXTENSION, MAX_BYTE_RING}
-use Rattle.xcp_base.specs.declared.limits.TheConstants.{MAX_CHANNELS, MAX_IMAGE_LEN}
+use Rattle.xcp_base.specs.declared.limits.TheConstants.{MAX_BYTE_RING, MAX_CHANNELS}
 use Rattle.xcp_base.specs.declared.limits.TheConstants.{MAX_NAME, MAX_SAMPLE_RING, MAX_UNIT}
 use Rattle.xcp_base.specs.declared.limits.TheConstants.{MIN_BYTE_RING}
 use Rattle.xcp_base.specs.Forms.{form_of, size_of, usual_form}
 use Rattle.daq_store.specs.Calls.{Profile as ListsProfile}
 use Rattle.session.specs.declared.profile.Profile.{Profile}
 use Rattle.segments.specs.declared.segment.Segment.{Segment}
-use Rattle.session.specs.declared.profile.TheConstants.{ADDRESSES, ALL_EVENTS, MAX_TEXT}
+use Rattle.segments.specs.Faults.{segments_fault}
+use Rattle.session.specs.declared.profile.TheConstants.{MAX_TEXT}
 use Rattle.session.specs.declared.event_channel.EventChannel.{EventChannel}
 use Rattle.xcp_base.specs.declared.ring_kind.RingKind.{RingKind}
 use Rattle.xcp_base.specs.declared.ring_kind.RingKind.TheVariants as ring
@@ -45,22 +46,28 @@ abbrev pub events_fault : List EventChannel → Option ProfileFault
 events_fault [] = None
 events_fault (e ∷ more) = or_else (event_fault e) (events_fault more)
 
+-- its memory
+abbrev pub segments_of : Profile → List Segment
+segments_of d = d.segments.items
+
 -- the first limit that the numbers of a profile are out of, and its names
 abbrev pub numbers_fault : Profile → Option ProfileFault
 numbers_fault d =
     if length d.events.items == 0 || nat_lt MAX_CHANNELS (length d.events.items)
     then Some fault.Channels
-    else if d.image_len == 0 || nat_lt MAX_IMAGE_LEN d.image_len then Some fault.ImageLen
     else if is_none (size_of d.stamp_size) then Some fault.StampSize
     else if nat_lt MAX_UNIT d.unit then Some fault.Unit
     else if d.ticks == 0 then Some fault.Ticks
-    else if nat_lt ADDRESSES (d.base + d.image_len) then Some fault.Base
     else if list_any (λ e. is_bad_capacity d.ring e.capacity) d.events.items
     then Some fault.Capacity else None
 
 abbrev pub names_fault : Profile → Option ProfileFault
 names_fault d =
     if is_bad_name d.name.items then Some fault.Name else events_fault d.events.items
+
+-- the first limit that its segments are out of, where there are so many event channels as it has
+abbrev pub memory_fault : Profile → Option ProfileFault
+memory_fault d = option_map fault.Segments (segments_fault (length d.events.items) (segments_of d))
 
 -- the first limit that its texts of identification are out of
 abbrev pub texts_fault : Profile → Option ProfileFault
@@ -71,22 +78,18 @@ texts_fault d =
 
 -- the first limit that a profile is out of
 abbrev pub profile_fault : Profile → Option ProfileFault
-profile_fault d = or_else (numbers_fault d) (or_else (names_fault d) (texts_fault d))
+profile_fault d =
+    or_else (numbers_fault d)
+    (or_else (names_fault d) (or_else (memory_fault d) (texts_fault d)))
 
 -- what its store is made for
 abbrev pub lists_of : Profile → ListsProfile
 lists_of d =
     record {
       channels = length d.events.items;
-      image_len = d.image_len;
+      segments = segments_of d;
       form = unwrap_or (form_of d.id d.stamp_size) usual_form;
     }
-
--- its memory: one segment, of the one address extension, that all event channels may read
-abbrev pub segments_of : Profile → List Segment
-segments_of d =
-    record { extension = ADDRESS_EXTENSION; base = d.base; len = d.image_len; events = ALL_EVENTS }
-    ∷ []
 
 -- the text of GET_ID that UPLOAD reads
 abbrev pub id_text : Profile → ℕ → Option (List ℕ)
@@ -110,3 +113,4 @@ pub record IsProfile (d : Profile) : Type 0 where
   pub epk : length d.epk.items ≤ MAX_NAME
   pub a2l : length d.a2l.items ≤ MAX_TEXT
   pub names : All HasShortName d.events.items
+  pub segments : segments_fault (length d.events.items) (segments_of d) ≡ None

@@ -1,6 +1,6 @@
 -- What stands in each reply to a connected master, field by field with its name in the standard
--- (ASAM MCD-1 XCP, protocol layer, at the command of each). A field that is
--- kept for later versions is reserved, and 0.
+-- (ASAM MCD-1 XCP, protocol layer, at the command of each). A field that is kept for later versions
+-- is reserved, and 0. The replies to the commands that set DAQ lists are the store's.
 use Rattle.std.specs.Prelude.{ℕ, ◌+◌, ◌*◌, ◌==◌, nat_lt, max, Bool, true, false}
 use Rattle.std.specs.Prelude.{if◌then◌else◌, List, [], ◌∷◌, ◌++◌, length, map}
 use Rattle.std.specs.Prelude.{Option, Some, None, Result, Ok, Err, unwrap_or}
@@ -12,16 +12,15 @@ use Rattle.xcp_base.specs.declared.limits.TheConstants.{MAX_CTO, MAX_DTO, MAX_EN
 use Rattle.daq_store.specs.declared.command.Command.{Command}
 use Rattle.daq_store.specs.declared.mode.Mode.{Mode}
 use Rattle.daq_store.specs.declared.reply.Reply.{Reply}
-use Rattle.daq_store.specs.declared.reply.Reply.TheVariants.{Positive, Read}
+use Rattle.daq_store.specs.declared.reply.Reply.TheVariants.{Positive}
 use Rattle.daq_store.specs.Configuration.{Configuration, channel_of, configuration, is_stamped}
 use Rattle.daq_store.specs.Configuration.{prescaler_of, priority_of}
 use Rattle.daq_store.specs.Modes.{mode_of}
-use Rattle.daq_store.specs.Replies.{reply_bytes}
 use Rattle.daq_store.specs.Running.{is_running, is_selected}
 use Rattle.daq_store.specs.Shape.{is_list, list_count}
 use Rattle.session.specs.declared.event_channel.EventChannel.{EventChannel}
 use Rattle.session.specs.declared.profile.Profile.{Profile}
-use Rattle.session.specs.Fields.{BYTE, DWORD, WORD, packet_of}
+use Rattle.session.specs.Fields.{BYTE, DWORD, WORD}
 use Rattle.session.specs.Profiles.{id_text, lists_of}
 
 -- CONNECT of mode 0, NORMAL; there is no other
@@ -156,19 +155,6 @@ event_fields e =
 abbrev pub event_reply : Option EventChannel → Result (List ℕ) ErrCode
 event_reply None = Err OutOfRange
 event_reply (Some e) = Ok (event_fields e)
-
--- READ_DAQ, in a store whose image begins at `base`; an unwritten entry has size and address 0
-abbrev pub read_fields : ℕ → ℕ → ℕ → List ℕ
-read_fields base size place =
-    BYTE 0xFF  -- BIT_OFFSET
-    ++ BYTE size  -- size of the element
-    ++ BYTE 0  -- address extension
-    ++ DWORD (if size == 0 then 0 else base + place)  -- address
-
--- the packet of a store's reply
-abbrev pub store_reply : ℕ → Reply → List ℕ
-store_reply base (Read size place) = packet_of (Ok (read_fields base size place))
-store_reply base reply = reply_bytes reply
 
 -- a reply that is no plain RES
 abbrev pub is_error : Reply → Bool

@@ -1,11 +1,10 @@
 -- Command packets (ASAM MCD-1 XCP, protocol layer): the commands of a session, those that set DAQ
 -- lists among them. A longer packet is accepted and its surplus ignored; a reserved byte may have
 -- any value.
-use Rattle.std.specs.Prelude.{ℕ, zero, suc, ◌*◌, ◌-◌, ◌==◌, ◌||◌, nat_lt, if◌then◌else◌, List, []}
+use Rattle.std.specs.Prelude.{ℕ, zero, suc, ◌*◌, ◌==◌, ◌||◌, nat_lt, if◌then◌else◌, List, []}
 use Rattle.std.specs.Prelude.{◌∷◌, length, drop, take, Result, Ok, Err}
 use Rattle.xcp_base.specs.declared.err_code.ErrCode.{ErrCode}
 use Rattle.xcp_base.specs.declared.err_code.ErrCode.TheVariants.{CmdSyntax, OutOfRange}
-use Rattle.xcp_base.specs.declared.limits.TheConstants.{MAX_IMAGE_LEN}
 use Rattle.daq_store.specs.declared.command.Command.{Command}
 use Rattle.daq_store.specs.declared.command.Command.TheVariants.{ClearDaqList, ReadDaq, WriteDaq}
 use Rattle.daq_store.specs.Commands.{command, dword, word}
@@ -18,16 +17,6 @@ use Rattle.session.specs.declared.request.Request.TheVariants.{GetDaqProcessorIn
 use Rattle.session.specs.declared.request.Request.TheVariants.{GetDaqResolutionInfo, GetDaqListInfo}
 use Rattle.session.specs.declared.request.Request.TheVariants.{GetDaqEventInfo, Lists}
 use Rattle.session.specs.declared.request.Request.TheVariants.{WriteDaqMultiple}
-
--- the place of an address in an image that begins at `base`; an address below it has a place that
--- no image has, so that writing it is out of range
-abbrev pub place_of : ℕ → ℕ → ℕ
-place_of base addr = if nat_lt addr base then MAX_IMAGE_LEN else addr - base
-
--- a command with the place in the place of its address
-abbrev pub from_base : ℕ → Command → Command
-from_base base (WriteDaq bit size ext addr) = WriteDaq bit size ext (place_of base addr)
-from_base base call = call
 
 -- a request with a BYTE behind its code; with a WORD behind a reserved byte
 abbrev pub with_byte : (ℕ → Request) → List ℕ → Result Request ErrCode
@@ -47,14 +36,13 @@ with_entries (n ∷ entries) =
 
 -- the WRITE_DAQ of the first eight bytes: bit offset, size, address, address extension and a
 -- reserved byte; that of each eight bytes
-abbrev pub write_of : ℕ → List ℕ → Command
-write_of base (bit ∷ size ∷ a ∷ b ∷ c ∷ d ∷ ext ∷ _) =
-    WriteDaq bit size ext (place_of base (dword a b c d))
-write_of base _ = WriteDaq 0 0 0 0
+abbrev pub write_of : List ℕ → Command
+write_of (bit ∷ size ∷ a ∷ b ∷ c ∷ d ∷ ext ∷ _) = WriteDaq bit size ext (dword a b c d)
+write_of _ = WriteDaq 0 0 0 0
 
-abbrev pub writes : ℕ → ℕ → List ℕ → List Command
-writes base zero bytes = []
-writes base (suc n) bytes = write_of base (take 8 bytes) ∷ writes base n (drop 8 bytes)
+abbrev pub writes : ℕ → List ℕ → List Command
+writes zero bytes = []
+writes (suc n) bytes = write_of (take 8 bytes) ∷ writes n (drop 8 bytes)
 
 -- SET_MTA, and SHORT_UPLOAD of so many bytes: address extension and address
 abbrev pub set_mta : List ℕ → Result Request ErrCode
@@ -66,9 +54,9 @@ short_upload (n ∷ _ ∷ ext ∷ a ∷ b ∷ c ∷ d ∷ _) = Ok (ShortUpload n
 short_upload _ = Err CmdSyntax
 
 -- one of the nine commands that set lists up, or the error of a packet that is none of these
-abbrev pub of_lists : ℕ → Result Command ErrCode → Result Request ErrCode
-of_lists base (Ok call) = Ok (Lists (from_base base call))
-of_lists base (Err code) = Err code
+abbrev pub of_lists : Result Command ErrCode → Result Request ErrCode
+of_lists (Ok call) = Ok (Lists call)
+of_lists (Err code) = Err code
 
 -- CLEAR_DAQ_LIST
 abbrev pub clear_list : ℕ → Request
@@ -76,9 +64,9 @@ clear_list list = Lists (ClearDaqList list)
 
 -- the request of a packet, or its error: it is empty, or else its code is unknown, or else it is
 -- too short
-abbrev pub request : ℕ → List ℕ → Result Request ErrCode
-request base [] = Err CmdSyntax
-request base (code ∷ more) =
+abbrev pub request : List ℕ → Result Request ErrCode
+request [] = Err CmdSyntax
+request (code ∷ more) =
     if code == 0xFF then with_byte Connect more  -- mode
     else if code == 0xFE then Ok Disconnect
     else if code == 0xFD then Ok GetStatus
@@ -97,4 +85,4 @@ request base (code ∷ more) =
     else if code == 0xD8 then with_word GetDaqListInfo more  -- DAQ list
     else if code == 0xD7 then with_word GetDaqEventInfo more  -- event channel
     else if code == 0xC7 then with_entries more  -- number of entries, entries
-    else of_lists base (command (code ∷ more))
+    else of_lists (command (code ∷ more))

@@ -1,6 +1,5 @@
 -- What of a DAQ list is to be as it was: all that is set of it, but the priority.
-use Rattle.std.specs.Prelude.{ℕ, Option, Some, None}
-use Rattle.daq_store.specs.declared.entry.Entry.{Entry}
+use Rattle.std.specs.Prelude.{Option, Some, None}
 use Rattle.daq_store.specs.declared.mode.Mode.{Mode}
 use Rattle.daq_store.specs.Configuration.{Configuration}
 use Rattle.session.specs.declared.mode_set_up.ModeSetUp.{ModeSetUp}
@@ -14,7 +13,7 @@ but_priority (Some m) = Some (record m { priority = 0 })
 abbrev pub set_up_of : Configuration → Configuration
 set_up_of c = record c { mode = but_priority c.mode }
 
--- a mode and an entry, as they are held
+-- a mode, as it is held
 abbrev pub mode_held : Option ModeSetUp → Option Mode
 mode_held None = None
 mode_held (Some m) =
@@ -24,7 +23,3 @@ mode_held (Some m) =
       stamped = m.stamped;
       priority = 0;
     })
-
-abbrev pub entry_held : Option (ℕ × ℕ) → Option Entry
-entry_held None = None
-entry_held (Some x) = Some (record { address = x.0; size = x.1 })

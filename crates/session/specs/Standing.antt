@@ -7,7 +7,7 @@ use Rattle.xcp_base.specs.declared.err_code.ErrCode.{ErrCode}
 use Rattle.daq_store.specs.declared.command.Command.{Command}
 use Rattle.daq_store.specs.declared.reply.Reply.{Reply}
 use Rattle.daq_store.specs.Answer.{answer, calls_after, fault_of}
-use Rattle.daq_store.specs.Replies.{Allocates}
+use Rattle.daq_store.specs.Replies.{Allocates, reply_bytes}
 use Rattle.daq_store.specs.Standing.{StoreStandsAfter, StoreState}
 use Rattle.session.specs.declared.profile.Profile.{Profile}
 use Rattle.session.specs.declared.request.Request.{Request}
@@ -19,7 +19,6 @@ use Rattle.session.specs.declared.source.Source.TheVariants as held
 use Rattle.session.specs.declared.source.TextOf.{TextOf}
 use Rattle.session.specs.declared.source.TextOf.TheVariants as of_text
 use Rattle.session.specs.Profiles.{IsProfile, lists_of}
-use Rattle.session.specs.Replies.{store_reply}
 use Rattle.session.specs.Exchanges.{Exchange, MayBeOut, calls_after_writes}
 use Rattle.session.specs.Exchanges.{greeting_reply, master_reply, past_after}
 use Rattle.session.specs.Exchanges.{past_after_greeting, past_after_packet, past_behind}
@@ -82,7 +81,7 @@ WritesOne old new call reply =
 abbrev pub WritesAll : SessionState → SessionState → List Command → List ℕ → Type 0
 WritesAll old new calls bytes =
     (past : Past) → SessionStandsAfter old past
-    → (bytes ≡ store_reply old.profile.base (writes_reply (lists_of old.profile) past.calls calls))
+    → (bytes ≡ reply_bytes (writes_reply (lists_of old.profile) past.calls calls))
     × SessionStandsAfter new
     (record past { calls = calls_after_writes (lists_of old.profile) past.calls calls })
 

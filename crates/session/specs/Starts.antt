@@ -39,7 +39,7 @@ abbrev pub shows_on : StoreState → ℕ → ℕ → Bool
 shows_on s c l =
     nat_lt l (length s.lists)
     && (
-    is_ready s.profile.image_len (conf_of s l)
+    is_ready s.profile.segments (conf_of s l)
     && nat_eq (channel_of (conf_of s l).mode) c
     )
 

@@ -1,8 +1,9 @@
 //! The packets of replies, and the bits and texts that stand in them.
-ghost use Rattle.std.specs.Prelude.{◌≡◌, ◌+◌, ◌%◌, ◌<◌, ◌≤◌, ◌==◌, ◌∷◌, ◌++◌, Err, length};
+ghost use Rattle.std.specs.Prelude.{◌≡◌, ◌+◌, ◌<◌, ◌≤◌, ◌∷◌, ◌++◌, Err, length};
 ghost use Rattle.std.specs.Prelude.{if◌then◌else◌};
+ghost use Rattle.daq_store.specs.Replies.{reply_bytes};
 ghost use Rattle.session.specs.Fields.{IsReplyPacket, packet_of};
-ghost use Rattle.session.specs.Replies.{key_byte, mode_bits, store_reply};
+ghost use Rattle.session.specs.Replies.{key_byte, mode_bits};
 
 use arrayvec::ArrayVec;
 use daq_store::Reply;
@@ -68,30 +69,19 @@ impl Cto {
         Cto { bytes: packet }
     }
 
-    /// The reply of a store whose image begins at this address.
-    pub(crate) fn of_store(reply: Reply, base: u32) -> Cto
-        ensures { result ≡ store_reply base reply }
+    /// The reply of the store.
+    pub(crate) fn of_store(reply: Reply) -> Cto
+        ensures { result ≡ reply_bytes reply }
     {
         match reply {
             Reply::Positive => Cto::positive(&[]),
             Reply::Started { first_pid } => Cto::positive(&[first_pid]),
-            Reply::Read { size, addr } => {
-                let [a, b, c, d] = shown_address(size, addr, base).to_le_bytes();
-                Cto::positive(&[0xFF, size, 0x00, a, b, c, d])
+            Reply::Read { size, ext, addr } => {
+                let [a, b, c, d] = addr.to_le_bytes();
+                Cto::positive(&[0xFF, size, ext, a, b, c, d])
             }
             Reply::Error(code) => Cto::error(code),
         }
-    }
-}
-
-/// The address of an entry, as a master knows it; 0 if it is unwritten.
-fn shown_address(size: u8, addr: u32, base: u32) -> u32
-    ensures { result ≡ (if size == 0 then 0 else (base + addr) % 4294967296) }
-{
-    if size == 0 {
-        0
-    } else {
-        base.wrapping_add(addr)
     }
 }
 

@@ -1,7 +1,12 @@
 //! Laws of the definitions: each is the contract of a function that does nothing.
-ghost use Rattle.session.specs.Laws.{BelowIsOutOfRange};
+ghost use Rattle.session.specs.Laws.{NowhereIsOutOfRange, ShowsWhatIsWritten};
 
-/// Whatever else it says, a write at an address below the image's first byte is out of range.
-pub fn below_is_out_of_range()
-    ensures { BelowIsOutOfRange }
+/// A write of bytes that lie in no segment is out of range.
+pub fn nowhere_is_out_of_range()
+    ensures { NowhereIsOutOfRange }
+{}
+
+/// An entry is read as it was written, with its address extension.
+pub fn an_entry_is_read_as_written()
+    ensures { ShowsWhatIsWritten }
 {}

@@ -23,5 +23,6 @@ pub use cto::Cto;
 pub use event_channel::EventChannel;
 pub use profile::{Profile, ProfileFault};
 pub use request::Request;
+pub use segments::{Segment, SegmentFault};
 pub use session::Session;
 pub use set_up::SetUp;

@@ -1,26 +1,24 @@
 //! The entries of an ODT, kept to be compared with later ones.
 ghost use Rattle.std.specs.Prelude.{◌≡◌, ◌↔◌, true, IfOk};
 ghost use Rattle.daq_store.specs.Configuration.{odt_entries};
-ghost use Rattle.session.specs.SetUps.{entry_held};
 
-use daq_store::ListConf;
+use daq_store::{Entry, ListConf};
 use std::alloc::{AllocError, Global};
 use std::marker::Model;
 
-/// The entries of an ODT, as they were: address and size of each, if it was written.
+/// The entries of an ODT, as they were, each of them written or not.
 #[derive(Drop)]
 pub struct OdtSetUp {
-    entries: Vec<Option<(u32, u8)>>,
+    entries: Vec<Option<Entry>>,
 }
 
 impl Model for OdtSetUp {
-    ghost use Rattle.std.specs.Prelude.{List, Option, map};
+    ghost use Rattle.std.specs.Prelude.{List, Option};
     ghost use Rattle.daq_store.specs.declared.entry.Entry.{Entry};
-    ghost use Rattle.session.specs.SetUps.{entry_held};
 
     ghost Value = { List (Option Entry) };
 
-    ghost view = { λ a. map entry_held a.entries.items };
+    ghost view = { λ a. a.entries.items };
 }
 
 impl OdtSetUp {
@@ -30,7 +28,7 @@ impl OdtSetUp {
     {
         let mut entries = Vec::new(alloc);
         for entry in 0..conf.entries(odt) {
-            entries.push(conf.entry(odt, entry))?;
+            entries.push(conf.written(odt, entry))?;
         }
         Ok(OdtSetUp { entries })
     }
@@ -43,7 +41,7 @@ impl OdtSetUp {
             return false;
         }
         for entry in 0..self.entries.len() {
-            if !is_same_entry(self.entries[entry], conf.entry(odt, entry)) {
+            if !is_same_entry(self.entries[entry], conf.written(odt, entry)) {
                 return false;
             }
         }
@@ -52,8 +50,8 @@ impl OdtSetUp {
 }
 
 /// Whether two entries are the same.
-fn is_same_entry(a: Option<(u32, u8)>, b: Option<(u32, u8)>) -> bool
-    ensures value { (result ≡ true) ↔ (entry_held a ≡ entry_held b) }
+fn is_same_entry(a: Option<Entry>, b: Option<Entry>) -> bool
+    ensures value { (result ≡ true) ↔ (a ≡ b) }
 {
     a == b
 }

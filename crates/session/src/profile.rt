@@ -1,26 +1,25 @@
 //! The profile of a slave, and the check of its limits, one after another.
-ghost use Rattle.std.specs.Prelude.{◌≡◌, ◌≤◌, ◌+◌, ◌∷◌, [], nat_lt};
+ghost use Rattle.std.specs.Prelude.{◌≡◌, ◌≤◌, None, length};
 ghost use Rattle.std.specs.List.{list_any};
 ghost use Rattle.session.specs.Profiles.{profile_fault, numbers_fault, names_fault};
-ghost use Rattle.session.specs.Profiles.{segments_of, texts_fault};
+ghost use Rattle.session.specs.Profiles.{memory_fault, texts_fault};
 ghost use Rattle.session.specs.Standing.{text_in};
 ghost use Rattle.session.specs.Profiles.{is_bad_capacity};
 
 use crate::event_channel::{EventChannel, events_fault, is_bad_name};
 use crate::source::TextOf;
-use segments::Segment;
+use segments::limits::MAX_READERS;
+use segments::{Segment, SegmentFault, Segments};
 use thiserror::Error;
-use xcp_base::limits::{
-    ADDRESS_EXTENSION, MAX_BYTE_RING, MAX_CHANNELS, MAX_IMAGE_LEN, MAX_SAMPLE_RING, MAX_UNIT,
-    MIN_BYTE_RING,
-};
+use xcp_base::limits::{MAX_BYTE_RING, MAX_CHANNELS, MAX_SAMPLE_RING, MAX_UNIT, MIN_BYTE_RING};
 use xcp_base::{IdKind, RingKind, StampSize};
 
 /// What a slave is opened with.
 #[derive(Debug, Drop)]
 pub struct Profile {
-    /// The length of the images, in bytes.
-    pub image_len: usize,
+    /// The memory that a master may name: 1 to 16 segments, in rising order of extension, then
+    /// base.
+    pub segments: Vec<Segment>,
     pub id: IdKind,
     /// The bytes of a timestamp: 1, 2 or 4.
     pub stamp_size: u8,
@@ -28,8 +27,6 @@ pub struct Profile {
     pub unit: u8,
     /// So many units are one tick of a timestamp.
     pub ticks: u16,
-    /// The address of the image's first byte, as a master knows it.
-    pub base: u32,
     /// The kind of the rings between the tasks and the transmitter.
     pub ring: RingKind,
     /// 0 to 56 bytes of ASCII, 0x20 to 0x7E.
@@ -49,16 +46,12 @@ pub struct Profile {
 pub enum ProfileFault {
     #[error("there are no event channels, or more than 8")]
     Channels,
-    #[error("the length of the images is 0 or over 4096")]
-    ImageLen,
     #[error("timestamps have no size of 1, 2 or 4 bytes")]
     StampSize,
     #[error("a unit of time is over 9")]
     Unit,
     #[error("a timestamp has no ticks")]
     Ticks,
-    #[error("the image ends behind the last address")]
-    Base,
     #[error("the capacity of a ring is out of its limits")]
     Capacity,
     #[error("a name is too long, or not of printable ASCII")]
@@ -67,6 +60,8 @@ pub enum ProfileFault {
     EventName,
     #[error("the unit of a cycle is over 9")]
     CycleUnit,
+    #[error("{0}")]
+    Segments(SegmentFault),
     #[error("the name of the A2L file is too long, or not of printable ASCII")]
     A2lName,
     #[error("the EPK is too long, or not of printable ASCII")]
@@ -86,18 +81,19 @@ impl Profile {
         if let Some(fault) = self.names_fault() {
             return Some(fault);
         }
+        if let Some(fault) = self.memory_fault() {
+            return Some(fault);
+        }
         self.texts_fault()
     }
 
     /// The first limit that its numbers are out of.
     fn numbers_fault(&self) -> Option<ProfileFault>
-        ensures { result ≡ numbers_fault self.now }
+        ensures value { result ≡ numbers_fault self.now }
+        ensures channels { result ≡ None → length self.now.events.items ≤ MAX_CHANNELS }
     {
         if self.events.is_empty() || self.events.len() > MAX_CHANNELS as usize {
             return Some(ProfileFault::Channels);
-        }
-        if self.image_len == 0 || self.image_len > MAX_IMAGE_LEN {
-            return Some(ProfileFault::ImageLen);
         }
         if StampSize::of(self.stamp_size).is_none() {
             return Some(ProfileFault::StampSize);
@@ -107,9 +103,6 @@ impl Profile {
         }
         if self.ticks == 0 {
             return Some(ProfileFault::Ticks);
-        }
-        if ends_too_high(self.base, self.image_len) {
-            return Some(ProfileFault::Base);
         }
         if has_bad_capacity(self.ring, &self.events) {
             return Some(ProfileFault::Capacity);
@@ -125,6 +118,17 @@ impl Profile {
             return Some(ProfileFault::Name);
         }
         events_fault(&self.events)
+    }
+
+    /// The first limit that its segments are out of.
+    fn memory_fault(&self) -> Option<ProfileFault>
+        requires { length self.now.events.items ≤ MAX_READERS }
+        ensures { result ≡ memory_fault self.now }
+    {
+        match Segments::new(&self.segments, self.events.len() as u16) {
+            Ok(_) => None,
+            Err(fault) => Some(ProfileFault::Segments(fault)),
+        }
     }
 
     /// The first limit that its texts of identification are out of.
@@ -143,18 +147,6 @@ impl Profile {
         None
     }
 
-    /// Its memory: one segment, that all event channels may read.
-    pub(crate) fn segment(&self) -> Segment
-        ensures { result ∷ [] ≡ segments_of self.now }
-    {
-        Segment {
-            extension: ADDRESS_EXTENSION,
-            base: self.base,
-            len: self.image_len,
-            events: ALL_EVENTS,
-        }
-    }
-
     /// One of its texts.
     pub(crate) fn text(&self, of: TextOf) -> &[u8]
         ensures { result.now ≡ text_in self.now of }
@@ -171,22 +163,8 @@ impl Profile {
     }
 }
 
-/// Every event channel may read the memory.
-pub(crate) const ALL_EVENTS: u16 = 0xFFFF;
-
 /// The most bytes of a text that UPLOAD reads: its length has four bytes.
 const MAX_TEXT: usize = 0xFFFF_FFFF;
-
-/// So many addresses there are.
-const ADDRESSES: usize = 0x1_0000_0000;
-
-/// Whether an image of this length ends behind the last address.
-fn ends_too_high(base: u32, image_len: usize) -> bool
-    requires { image_len ≤ MAX_IMAGE_LEN }
-    ensures { result ≡ nat_lt ADDRESSES (base + image_len) }
-{
-    base as usize + image_len > ADDRESSES
-}
 
 /// Whether some event channel has a capacity that rings of this kind may not have.
 fn has_bad_capacity(ring: RingKind, events: &[EventChannel]) -> bool

@@ -1,12 +1,10 @@
 //! The commands of a session, and how they are read from packets.
 ghost use Rattle.std.specs.Prelude.{◌≡◌, ◌∷◌, ◌==◌, ◌||◌, nat_lt};
 ghost use Rattle.daq_store.specs.Commands.{dword, word};
-ghost use Rattle.session.specs.Requests.{from_base, place_of, request, set_mta, short_upload};
-ghost use Rattle.session.specs.Requests.{with_entries};
+ghost use Rattle.session.specs.Requests.{request, set_mta, short_upload, with_entries};
 
 use daq_store::command::{self, Command};
 use xcp_base::ErrCode;
-use xcp_base::limits::MAX_IMAGE_LEN;
 
 /// A command with its fields, in the order of its packet and without the reserved bytes.
 #[derive(Clone, Copy, Debug, PartialEq, Eq)]
@@ -64,17 +62,17 @@ pub enum Request {
     WriteDaqMultiple {
         count: u8,
     },
-    /// One of the commands that set DAQ lists; an address in it is a place in the image.
+    /// One of the commands that set DAQ lists.
     Lists(Command),
 }
 
-/// Reads the request of a packet, of any bytes, for an image that begins at this address. A longer
-/// packet is accepted and its surplus ignored; a reserved byte may have any value.
+/// Reads the request of a packet, of any bytes. A longer packet is accepted and its surplus
+/// ignored; a reserved byte may have any value.
 ///
 /// Refused in this order: ERR_CMD_SYNTAX for an empty packet, ERR_CMD_UNKNOWN for the code of
 /// no command, ERR_CMD_SYNTAX for a packet that is too short for its command.
-pub fn read(packet: &[u8], base: u32) -> Result<Request, ErrCode>
-    ensures { result ≡ request base packet.now }
+pub fn read(packet: &[u8]) -> Result<Request, ErrCode>
+    ensures { result ≡ request packet.now }
 {
     match packet {
         [0xFF, mode, ..] => Ok(Request::Connect { mode: *mode }),
@@ -98,39 +96,8 @@ pub fn read(packet: &[u8], base: u32) -> Result<Request, ErrCode>
         }),
         [0xC7, count, entries @ ..] => multiple(*count, entries),
         [] | [0xFF | 0xFA | 0xF5 | 0xE3 | 0xDF | 0xD7..=0xD8 | 0xC7, ..] => Err(ErrCode::CmdSyntax),
-        _ => Ok(Request::Lists(from_base(command::read(packet)?, base))),
+        _ => Ok(Request::Lists(command::read(packet)?)),
     }
-}
-
-/// A command with the place in the image in the place of an address.
-fn from_base(command: Command, base: u32) -> Command
-    ensures { result ≡ from_base base command }
-{
-    match command {
-        Command::WriteDaq {
-            bit,
-            size,
-            ext,
-            addr,
-        } => Command::WriteDaq {
-            bit,
-            size,
-            ext,
-            addr: place_of(addr, base),
-        },
-        _ => command,
-    }
-}
-
-/// The place of an address in an image that begins at `base`; of one below it a place that no image
-/// has.
-pub fn place_of(addr: u32, base: u32) -> u32
-    ensures { result ≡ place_of base addr }
-{
-    if addr < base {
-        return MAX_IMAGE_LEN as u32;
-    }
-    addr - base
 }
 
 /// The WORD that stands in two bytes.

@@ -14,7 +14,6 @@ use crate::source::{Source, TextOf};
 use daq_store::command::{self, Command};
 use daq_store::{NoMemory, Store};
 use segments::Segments;
-use segments::limits::MAX_READERS;
 use std::alloc::Global;
 use std::marker::Model;
 use xcp_base::ErrCode;
@@ -29,13 +28,10 @@ pub struct Session {
     pub(crate) profile: Profile,
     pub(crate) connected: bool,
     pub(crate) source: Source,
-    pub(crate) segments: Segments,
     pub(crate) store: Store,
 }
 
 impl Model for Session {
-    ghost use Rattle.std.specs.Prelude.{◌≡◌};
-    ghost use Rattle.session.specs.Profiles.{segments_of};
     ghost use Rattle.session.specs.Standing.{SessionState, IsSession, source_held};
 
     ghost Value = { SessionState };
@@ -47,7 +43,7 @@ impl Model for Session {
       store = a.store;
     } };
 
-    ghost invariant = { λ a. (a.segments ≡ segments_of a.profile) × IsSession (record {
+    ghost invariant = { λ a. IsSession (record {
       profile = a.profile;
       connected = a.connected;
       source = source_held a.profile a.source;
@@ -69,23 +65,17 @@ impl Session {
             return Err(fault);
         }
         let channels = profile.events.as_slice().len() as u16;
-        let Ok(store) = Store::with_form(
-            alloc,
-            channels,
-            profile.image_len,
-            profile.id,
-            profile.stamp_size,
-        ) else {
+        let Ok(segments) = Segments::new(&profile.segments, channels) else {
             unreachable!()
         };
-        let Ok(segments) = Segments::new(&[profile.segment()], MAX_READERS) else {
+        let Ok(store) = Store::over(alloc, channels, segments, profile.id, profile.stamp_size)
+        else {
             unreachable!()
         };
         Ok(Session {
             profile,
             connected: false,
             source: Source::Nothing,
-            segments,
             store,
         })
     }
@@ -94,8 +84,8 @@ impl Session {
     /// one reply. An allocation that runs out of memory isn't carried out, and is answered by
     /// ERR_MEMORY_OVERFLOW.
     ///
-    /// Of the image `memory` has one slice; with another length, or where there is none, it isn't
-    /// there, and what reads it is answered by ERR_ACCESS_DENIED.
+    /// Of each segment `memory` has one slice, in their order. A segment whose slice has another
+    /// length, or that has none, isn't there, and what reads it is answered by ERR_ACCESS_DENIED.
     pub fn answer(&mut self, packet: &[u8], clock: u32, memory: &[&[u8]]) -> Option<Cto>
         ensures reply { Exchanges self.old self.new packet.now (given_by clock memory.now)
             result }
@@ -139,7 +129,7 @@ impl Session {
         ensures unchanged { OnErr result (self.new ≡ self.old) }
         ensures profile_stays { self.new.profile ≡ self.old.profile }
     {
-        let read = request::read(packet, self.profile.base);
+        let read = request::read(packet);
         if !self.connected {
             return Ok(self.greet(read));
         }
@@ -175,7 +165,7 @@ impl Session {
         clock: u32,
         memory: &[&[u8]],
     ) -> Result<Cto, NoMemory>
-        requires { request self.old.profile.base packet.now ≡ Ok asked }
+        requires { request packet.now ≡ Ok asked }
         ensures ok { IfOk result
             (AnswersRequest self.old self.new (given_by clock memory.now) packet.now asked) }
         ensures no_memory { OnErr result (MayRunOut self.old asked) }
@@ -243,7 +233,7 @@ impl Session {
         ensures profile_stays { self.new.profile ≡ self.old.profile }
     {
         let reply = command::carry_out(&mut self.store, command)?;
-        Ok(Cto::of_store(reply, self.profile.base))
+        Ok(Cto::of_store(reply))
     }
 
     /// DISCONNECT: the session is as it was when it was opened.

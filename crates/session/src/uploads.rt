@@ -64,7 +64,7 @@ impl Session {
         ensures profile_stays { self.new.profile ≡ self.old.profile }
     {
         let address = address as usize;
-        if self.segments.find(extension, address, 1).is_none() {
+        if self.store.segments().find(extension, address, 1).is_none() {
             return Cto::error(ErrCode::OutOfRange);
         }
         self.source = Source::Memory { extension, address };
@@ -172,7 +172,8 @@ impl Session {
             return Err(ErrCode::OutOfRange);
         }
         match self
-            .segments
+            .store
+            .segments()
             .read(memory, extension, address, count as usize)
         {
             Ok(bytes) => Ok(Cto::positive(bytes)),

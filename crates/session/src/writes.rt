@@ -6,7 +6,6 @@ ghost use Rattle.session.specs.Replies.{is_error};
 ghost use Rattle.session.specs.Standing.{WritesAll, WritesOne};
 
 use crate::cto::Cto;
-use crate::request::place_of;
 use crate::session::Session;
 use daq_store::command::{self, Command};
 use daq_store::{Reply, Store};
@@ -16,17 +15,16 @@ impl Session {
     pub(crate) fn write_multiple(&mut self, count: u8, entries: &[u8]) -> Cto
         requires { 8 * count ≤ length entries.now }
         ensures reply { WritesAll self.old self.new
-            (writes self.old.profile.base count entries.now) result }
+            (writes count entries.now) result }
         ensures profile_stays { self.new.profile ≡ self.old.profile }
     {
-        let base = self.profile.base;
         let mut left = entries;
         for i in 0..count {
             let (entry, rest) = left.split_at(8);
-            let fields = fields_of(entry, base);
+            let fields = fields_of(entry);
             let reply = self.write_entry(fields.0, fields.1, fields.2, fields.3);
             if is_error(reply) {
-                return Cto::of_store(reply, base);
+                return Cto::of_store(reply);
             }
             left = rest;
         }
@@ -69,17 +67,16 @@ fn is_error(reply: Reply) -> bool
     !matches!(reply, Reply::Positive)
 }
 
-/// The fields of an entry of WRITE_DAQ_MULTIPLE: bit offset, size, address extension, and the place
-/// in an image that begins at `base`.
-fn fields_of(entry: &[u8], base: u32) -> (u8, u8, u8, u32)
+/// The fields of an entry of WRITE_DAQ_MULTIPLE: bit offset, size, address extension and address.
+fn fields_of(entry: &[u8]) -> (u8, u8, u8, u32)
     requires { length entry.now ≡ 8 }
-    ensures { write_of base entry.now
+    ensures { write_of entry.now
         ≡ Command.WriteDaq result.0 result.1 result.2 result.3 }
 {
     match entry {
         [bit, size, a, b, c, d, ext, ..] => {
             let addr = u32::from_le_bytes([*a, *b, *c, *d]);
-            (*bit, *size, *ext, place_of(addr, base))
+            (*bit, *size, *ext, addr)
         }
         _ => unreachable!(),
     }

@@ -1,8 +1,10 @@
 -- A session file: which text is which session, and what its first fault is.
-use Rattle.std.specs.Prelude.{◌≡◌, ℕ, List, Some, map}
+use Rattle.std.specs.Prelude.{◌≡◌, ℕ, List, [], ◌∷◌, Some, length, map}
 use Rattle.toml.specs.Data.{Members}
 use Rattle.toml.specs.Parse.{parse_document}
 use Rattle.xcp_base.specs.Forms.{stamp_bytes}
+use Rattle.segments.specs.Segment.{all_readers}
+use Rattle.segments.specs.declared.segment.Segment.{Segment}
 use Rattle.session.specs.declared.profile.Profile.{Profile}
 use Rattle.run_file.specs.Keys.{all_of}
 use Rattle.run_file.specs.Reading.{AreTextsOf, IsFirstBad}
@@ -12,14 +14,18 @@ use Rattle.session_file.specs.Inner.{line_data}
 use Rattle.session_file.specs.Keys.{AreKeyValues, HasBadKey, KeyValues}
 use Rattle.session_file.specs.Lines.{IsLineText}
 
+-- the segment that an image is, which all of so many event channels may read
+abbrev pub image_of : KeyValues → ℕ → Segment
+image_of v channels =
+    record { extension = 0; base = v.base; len = v.image_len; events = all_readers channels }
+
 -- the profile has these values
 pub record IsProfileOf (v : KeyValues) (p : Profile) : Type 0 where
-  pub image_len_is : p.image_len ≡ v.image_len
+  pub segments_are : p.segments.items ≡ image_of v (length p.events.items) ∷ []
   pub id_is : p.id ≡ v.id
   pub stamp_is : p.stamp_size ≡ stamp_bytes v.stamp
   pub unit_is : p.unit ≡ v.unit
   pub ticks_are : p.ticks ≡ v.ticks
-  pub base_is : p.base ≡ v.base
   pub ring_is : p.ring ≡ v.ring
   pub name_is : p.name.items ≡ v.name
   pub a2l_name_is : p.a2l_name.items ≡ v.a2l_name

@@ -15,6 +15,7 @@ use crate::keys::bytes_in;
 use crate::line::Line;
 use crate::lines::lines_of;
 use crate::values::{Values, values_of};
+use segments::{Segment, all_readers};
 use session::{EventChannel, Profile};
 use std::alloc::{AllocError, Global};
 use toml::Table;
@@ -80,13 +81,18 @@ fn profile_of(
         ≡ Some (map event_data events.items) }
     ensures { IfOk result (IsProfileOf (values_data values.now)) }
 {
+    let image = Segment {
+        extension: 0,
+        base: values.base,
+        len: values.image_len,
+        events: all_readers(events.len()),
+    };
     Ok(Profile {
-        image_len: values.image_len,
+        segments: vec![in alloc; image]?,
         id: values.id,
         stamp_size: values.stamp.bytes(),
         unit: values.unit,
         ticks: values.ticks,
-        base: values.base,
         ring: values.ring,
         name: bytes_in(alloc, values.name)?,
         events,

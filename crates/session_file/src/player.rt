@@ -48,7 +48,7 @@ fn is_taken<S: SendEnd>(
     if c >= tasks.len() || image.len() != image_len {
         return false;
     }
-    tasks[c].trigger(image, stamp).is_ok()
+    tasks[c].trigger(&[image], stamp).is_ok()
 }
 
 /// Finishes tasks, which give back what is left of what they hold: what is left of each.

@@ -14,6 +14,7 @@ use byte_ring::ByteRing;
 use channel_ring::SampleRing;
 use daq_engine::Ring;
 use frame_writer::VecOut;
+use segments::Segment;
 use session::{Profile, ProfileFault};
 use slave::{OpenFault, Slave};
 use std::alloc::{AllocError, Global};
@@ -58,7 +59,7 @@ fn open<R: Ring>(alloc: Global, profile: Profile) -> Result<Player<R>, PlayFault
     ensures none_refused { IfOk result (λ player. player.refused ≡ 0) }
     ensures tasks { IfOk result (λ player. AreTasksOf player.slave player.tasks.items) }
 {
-    let image_len = profile.image_len;
+    let image_len = image_len_of(&profile.segments);
     match Slave::<R>::open(alloc, profile) {
         Ok((slave, tasks)) => Ok(Player {
             slave,
@@ -72,6 +73,14 @@ fn open<R: Ring>(alloc: Global, profile: Profile) -> Result<Player<R>, PlayFault
             refused: 0,
         }),
         Err(fault) => Err(fault_of(fault)),
+    }
+}
+
+/// The length of the first of these segments.
+fn image_len_of(segments: &[Segment]) -> usize {
+    match segments {
+        [image, ..] => image.len,
+        [] => 0,
     }
 }
 

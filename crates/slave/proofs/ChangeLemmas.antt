@@ -17,30 +17,32 @@ use Rattle.session.specs.Exchanges.{read_reply as read_reply_of}
 use Rattle.session.specs.Fields.{packet_of}
 use Rattle.session.specs.Past.{Given, Past}
 use Rattle.session.specs.Profiles.{lists_of}
-use Rattle.session.specs.Replies.{is_error, store_reply}
+use Rattle.session.specs.Replies.{is_error}
+use Rattle.daq_store.specs.Replies.{reply_bytes}
+use Rattle.daq_store.specs.declared.entry.Entry.{Entry}
 use Rattle.session.specs.Requests.{request, write_of, writes}
 use Rattle.session.specs.Starts.{runs}
 use Rattle.slave.specs.Log.{Act, CameBack, Discarded, Heard, HungUp, Opened, Refused, Sent, Took, past_of}
 use Rattle.slave.specs.Session.{HasPositive, IsAccepted, is_positive}
 
 -- a write, whatever its bytes are
-write-is : (base : ℕ) (bytes : List ℕ) → (bit : ℕ) × (size : ℕ) × (ext : ℕ) × (addr : ℕ) × (write_of base bytes ≡ WriteDaq bit size ext addr)
-write-is base [] = (0, 0, 0, 0, refl)
-write-is base (a ∷ []) = (0, 0, 0, 0, refl)
-write-is base (a ∷ b ∷ []) = (0, 0, 0, 0, refl)
-write-is base (a ∷ b ∷ c ∷ []) = (0, 0, 0, 0, refl)
-write-is base (a ∷ b ∷ c ∷ d ∷ []) = (0, 0, 0, 0, refl)
-write-is base (a ∷ b ∷ c ∷ d ∷ e ∷ []) = (0, 0, 0, 0, refl)
-write-is base (a ∷ b ∷ c ∷ d ∷ e ∷ f ∷ []) = (0, 0, 0, 0, refl)
-write-is base (a ∷ b ∷ c ∷ d ∷ e ∷ f ∷ g ∷ more) = (_, _, _, _, refl)
+write-is : (bytes : List ℕ) → (bit : ℕ) × (size : ℕ) × (ext : ℕ) × (addr : ℕ) × (write_of bytes ≡ WriteDaq bit size ext addr)
+write-is [] = (0, 0, 0, 0, refl)
+write-is (a ∷ []) = (0, 0, 0, 0, refl)
+write-is (a ∷ b ∷ []) = (0, 0, 0, 0, refl)
+write-is (a ∷ b ∷ c ∷ []) = (0, 0, 0, 0, refl)
+write-is (a ∷ b ∷ c ∷ d ∷ []) = (0, 0, 0, 0, refl)
+write-is (a ∷ b ∷ c ∷ d ∷ e ∷ []) = (0, 0, 0, 0, refl)
+write-is (a ∷ b ∷ c ∷ d ∷ e ∷ f ∷ []) = (0, 0, 0, 0, refl)
+write-is (a ∷ b ∷ c ∷ d ∷ e ∷ f ∷ g ∷ more) = (_, _, _, _, refl)
 
 unless-refused : (refused : Bool) (calls more : List Command) (l : ℕ) → is_active more l ≡ is_active calls l → is_active (if refused then calls else more) l ≡ is_active calls l
 unless-refused true calls more l same = refl
 unless-refused false calls more l same = same
 
-write-keeps : (lists : ListsProfile) (calls : List Command) (base : ℕ) (bytes : List ℕ) (l : ℕ) → is_active (calls_after lists calls (write_of base bytes)) l ≡ is_active calls l
-write-keeps lists calls base bytes l =
-    let (bit, size, ext, addr, is) = write-is base bytes in
+write-keeps : (lists : ListsProfile) (calls : List Command) (bytes : List ℕ) (l : ℕ) → is_active (calls_after lists calls (write_of bytes)) l ≡ is_active calls l
+write-keeps lists calls bytes l =
+    let (bit, size, ext, addr, is) = write-is bytes in
     subst (λ call. is_active (calls_after lists calls call) l ≡ is_active calls l) (sym is)
     (unless-refused (is_some (fault_of lists calls (WriteDaq bit size ext addr))) calls (and_then calls (WriteDaq bit size ext addr)) l refl)
 
@@ -48,36 +50,36 @@ if-keeps : (bad : Bool) (calls mid more : List Command) (l : ℕ) → is_active 
 if-keeps true calls mid more l one two = one
 if-keeps false calls mid more l one two = two ∙ one
 
-writes-keep : (lists : ListsProfile) (base n : ℕ) (bytes : List ℕ) (calls : List Command) (l : ℕ) → is_active (calls_after_writes lists calls (writes base n bytes)) l ≡ is_active calls l
-writes-keep lists base zero bytes calls l = refl
-writes-keep lists base (suc n) bytes calls l =
-    let write = write_of base (take 8 bytes) in
+writes-keep : (lists : ListsProfile) (n : ℕ) (bytes : List ℕ) (calls : List Command) (l : ℕ) → is_active (calls_after_writes lists calls (writes n bytes)) l ≡ is_active calls l
+writes-keep lists zero bytes calls l = refl
+writes-keep lists (suc n) bytes calls l =
+    let write = write_of (take 8 bytes) in
     let mid = calls_after lists calls write in
-    if-keeps (is_error (answer lists calls write)) calls mid (calls_after_writes lists mid (writes base n (drop 8 bytes))) l
-    (write-keeps lists calls base (take 8 bytes) l) (writes-keep lists base n (drop 8 bytes) mid l)
+    if-keeps (is_error (answer lists calls write)) calls mid (calls_after_writes lists mid (writes n (drop 8 bytes))) l
+    (write-keeps lists calls (take 8 bytes) l) (writes-keep lists n (drop 8 bytes) mid l)
 
 -- a call that is not refused has a positive reply
-read-positive : (base : ℕ) (o : Option (ℕ × ℕ)) → is_positive (store_reply base (read_reply o)) ≡ true
-read-positive base None = refl
-read-positive base (Some x) = refl
+read-positive : (o : Option Entry) → is_positive (reply_bytes (read_reply o)) ≡ true
+read-positive None = refl
+read-positive (Some x) = refl
 
-accepted-positive : (base : ℕ) (lists : ListsProfile) (calls : List Command) (call : Command) → is_positive (store_reply base (accepted_reply lists calls call)) ≡ true
-accepted-positive base lists calls FreeDaq = refl
-accepted-positive base lists calls (AllocDaq n) = refl
-accepted-positive base lists calls (AllocOdt m n) = refl
-accepted-positive base lists calls (AllocOdtEntry m k n) = refl
-accepted-positive base lists calls (SetDaqPtr m k e) = refl
-accepted-positive base lists calls (WriteDaq bit size ext addr) = refl
-accepted-positive base lists calls (SetDaqListMode mode m channel prescaler priority) = refl
-accepted-positive base lists calls (StartStopDaqList mode m) = refl
-accepted-positive base lists calls (StartStopSynch mode) = refl
-accepted-positive base lists calls (ClearDaqList m) = refl
-accepted-positive base lists calls ReadDaq = read-positive base (pointed calls)
+accepted-positive : (lists : ListsProfile) (calls : List Command) (call : Command) → is_positive (reply_bytes (accepted_reply lists calls call)) ≡ true
+accepted-positive lists calls FreeDaq = refl
+accepted-positive lists calls (AllocDaq n) = refl
+accepted-positive lists calls (AllocOdt m n) = refl
+accepted-positive lists calls (AllocOdtEntry m k n) = refl
+accepted-positive lists calls (SetDaqPtr m k e) = refl
+accepted-positive lists calls (WriteDaq bit size ext addr) = refl
+accepted-positive lists calls (SetDaqListMode mode m channel prescaler priority) = refl
+accepted-positive lists calls (StartStopDaqList mode m) = refl
+accepted-positive lists calls (StartStopSynch mode) = refl
+accepted-positive lists calls (ClearDaqList m) = refl
+accepted-positive lists calls ReadDaq = read-positive (pointed calls)
 
-by-fault : (base : ℕ) (lists : ListsProfile) (calls : List Command) (call : Command) (l : ℕ) (o : Option ErrCode) → is_active (if is_some o then calls else and_then calls call) l ≢ is_active calls l
-    → is_positive (store_reply base (reply_by (accepted_reply lists calls call) o)) ≡ true
-by-fault base lists calls call l None other = accepted-positive base lists calls call
-by-fault base lists calls call l (Some code) other = absurd (other refl)
+by-fault : (lists : ListsProfile) (calls : List Command) (call : Command) (l : ℕ) (o : Option ErrCode) → is_active (if is_some o then calls else and_then calls call) l ≢ is_active calls l
+    → is_positive (reply_bytes (reply_by (accepted_reply lists calls call) o)) ≡ true
+by-fault lists calls call l None other = accepted-positive lists calls call
+by-fault lists calls call l (Some code) other = absurd (other refl)
 
 module _ (d : Profile) (past : Past) (given : Given) (packet : List ℕ) (l : ℕ) where
   by-request : (asked : Request) → runs (past_after d past given packet asked) l ≢ runs past l → is_positive (request_reply d past given packet asked) ≡ true
@@ -96,8 +98,8 @@ module _ (d : Profile) (past : Past) (given : Given) (packet : List ℕ) (l : �
   by-request GetDaqResolutionInfo other = absurd (other refl)
   by-request (GetDaqListInfo m) other = absurd (other refl)
   by-request (GetDaqEventInfo c) other = absurd (other refl)
-  by-request (WriteDaqMultiple n) other = absurd (other (writes-keep (lists_of d) d.base n (drop 2 packet) past.calls l))
-  by-request (Lists call) other = by-fault d.base (lists_of d) past.calls call l (fault_of (lists_of d) past.calls call) other
+  by-request (WriteDaqMultiple n) other = absurd (other (writes-keep (lists_of d) n (drop 2 packet) past.calls l))
+  by-request (Lists call) other = by-fault (lists_of d) past.calls call l (fault_of (lists_of d) past.calls call) other
 
   by-greeting : (b : Bool) → runs (if b then record past { connected = true } else past) l ≡ runs past l
   by-greeting true = refl
@@ -111,7 +113,7 @@ module _ (d : Profile) (past : Past) (given : Given) (packet : List ℕ) (l : �
 
   by-exchange : (b : Bool) → runs (if b then past else past_after_packet d past given packet) l ≢ runs past l → HasPositive (if b then Some (packet_of (Err MemoryOverflow)) else master_reply d past given packet)
   by-exchange true other = absurd (other refl)
-  by-exchange false other = by-master past.connected (request d.base packet) other
+  by-exchange false other = by-master past.connected (request packet) other
 
 pub change-accepted : (d : Profile) (act : Act) (log : List Act) (l : ℕ) → runs (past_of d (act ∷ log)) l ≢ runs (past_of d log) l → IsAccepted d act log
 change-accepted d (Heard x) log l other = by-exchange d (past_of d log) x.given x.packet l x.out_of_memory other

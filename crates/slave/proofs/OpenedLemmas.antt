@@ -75,16 +75,16 @@ filtered-from {X} f g p q a (suc n) tests same =
 ready-by : (d : Profile) (s : StoreState) (past : Past) (c l : ℕ) → StoreStandsAfter s past.calls → s.profile ≡ lists_of d → l < length s.lists → is_ready_on s c l ≡ is_on d past c l
 ready-by d s past c l stands same there =
     let conf = conf_after s past.calls l stands there in
-    ap (λ k. is_ready s.profile.image_len k && nat_eq (channel_of k.mode) c) conf
-    ∙ ap (λ b. (b && is_ready s.profile.image_len (configuration s.profile.form past.calls l)) && nat_eq (channel_of (configuration s.profile.form past.calls l).mode) c) (sym (below_is l (list_count past.calls) (omega (arith, there, count_stands s past.calls stands))))
+    ap (λ k. is_ready s.profile.segments k && nat_eq (channel_of k.mode) c) conf
+    ∙ ap (λ b. (b && is_ready s.profile.segments (configuration s.profile.form past.calls l)) && nat_eq (channel_of (configuration s.profile.form past.calls l).mode) c) (sym (below_is l (list_count past.calls) (omega (arith, there, count_stands s past.calls stands))))
     ∙ ap (λ (p : ListsProfile). is_on_after p past.calls c l) same
 
 plan-by-calls : (d : Profile) (s : StoreState) (past : Past) (l : ℕ) → StoreStandsAfter s past.calls → s.profile ≡ lists_of d → l < length s.lists → list_plan s l ≡ plan_after d past l
 plan-by-calls d s past l stands same there =
     let pid = first_pid_stands s past.calls l stands (omega (arith, there, count_stands s past.calls stands)) in
-    ap (λ k. list_plan_of l k (first_pid_of s l) s.profile.image_len) (conf_after s past.calls l stands there)
-    ∙ ap (λ k. list_plan_of l (configuration s.profile.form past.calls l) k s.profile.image_len) pid
-    ∙ ap (λ (p : ListsProfile). list_plan_of l (configuration p.form past.calls l) (first_pid_behind p.form.id (odts_before past.calls l)) p.image_len) same
+    ap (λ k. list_plan_of l k (first_pid_of s l) s.profile.segments) (conf_after s past.calls l stands there)
+    ∙ ap (λ k. list_plan_of l (configuration s.profile.form past.calls l) k s.profile.segments) pid
+    ∙ ap (λ (p : ListsProfile). list_plan_of l (configuration p.form past.calls l) (first_pid_behind p.form.id (odts_before past.calls l)) p.segments) same
 
 plans-by : (d : Profile) (s : StoreState) (past : Past) (c : ℕ) → StoreStandsAfter s past.calls → s.profile ≡ lists_of d → channel_plans s c ≡ ready_plans d past c
 plans-by d s past c stands same =

@@ -16,11 +16,12 @@ use Rattle.session.specs.declared.event_channel.EventChannel.{EventChannel}
 use Rattle.session.specs.declared.profile.Profile.{Profile}
 use Rattle.session.specs.declared.request.Request.{Request}
 use Rattle.session.specs.declared.request.Request.TheVariants.{Connect, Disconnect, GetCommModeInfo, GetDaqClock, GetDaqEventInfo, GetDaqListInfo, GetDaqListMode, GetDaqProcessorInfo, GetDaqResolutionInfo, GetId, GetStatus, Lists, SetMta, ShortUpload, Synch, Upload, WriteDaqMultiple}
+use Rattle.daq_store.specs.Replies.{reply_bytes}
 use Rattle.session.specs.Exchanges.{Exchange, greeting_reply, is_greeting, master_reply, read_reply, reply_in, request_reply}
 use Rattle.session.specs.Fields.{begins_reply, packet_of}
 use Rattle.session.specs.Past.{Past}
 use Rattle.session.specs.Profiles.{IsProfile, lists_of}
-use Rattle.session.specs.Replies.{clock_fields, comm_mode_fields, connect_fields, connect_reply, event_reply, id_fields, id_reply, list_info_reply, list_mode_reply, processor_fields, resolution_fields, status_fields, store_reply}
+use Rattle.session.specs.Replies.{clock_fields, comm_mode_fields, connect_fields, connect_reply, event_reply, id_fields, id_reply, list_info_reply, list_mode_reply, processor_fields, resolution_fields, status_fields}
 use Rattle.session.specs.Sources.{is_bad_count, is_bad_number, memory_reply, mta_reply, read_result, text_reply, upload_reply}
 use Rattle.session.specs.Profiles.{id_text, segments_of}
 use Rattle.session.specs.Past.{Given, Memory, Nothing, Source, Text}
@@ -52,11 +53,11 @@ packet-is : (P : Type 0) (r : Result (List ℕ) ErrCode) → (P → AreFew r) �
 packet-is P (Ok fields) few = (refl, λ p. (omega arith, omega (arith, few p)))
 packet-is P (Err code) few = (refl, λ p. (omega arith, omega arith))
 
-store-is : (P : Type 0) (base : ℕ) (r : Reply) → IsReply P (store_reply base r)
-store-is P base Positive = (refl, λ p. (omega arith, omega arith))
-store-is P base (Started first) = (refl, λ p. (omega arith, omega arith))
-store-is P base (Read size place) = (refl, λ p. (omega arith, omega arith))
-store-is P base (Error code) = (refl, λ p. (omega arith, omega arith))
+store-is : (P : Type 0) (r : Reply) → IsReply P (reply_bytes r)
+store-is P Positive = (refl, λ p. (omega arith, omega arith))
+store-is P (Started first) = (refl, λ p. (omega arith, omega arith))
+store-is P (Read size ext place) = (refl, λ p. (omega arith, omega arith))
+store-is P (Error code) = (refl, λ p. (omega arith, omega arith))
 
 few-if : (b : Bool) (r s : Result (List ℕ) ErrCode) → AreFew r → AreFew s → AreFew (if b then r else s)
 few-if true r s x y = x
@@ -135,8 +136,8 @@ module _ (d : Profile) (past : Past) (given : Given) (packet : List ℕ) where
   by-request GetDaqResolutionInfo = packet-is Here (Ok (resolution_fields d)) (λ p. omega arith)
   by-request (GetDaqListInfo l) = packet-is Here (list_info_reply d past.calls l) (λ p. few-if (is_list past.calls l) _ (Err OutOfRange) (omega arith) tt)
   by-request (GetDaqEventInfo c) = packet-is Here (event_reply (slice_get d.events.items c)) (λ p. few-event (slice_get d.events.items c))
-  by-request (WriteDaqMultiple n) = store-is Here d.base _
-  by-request (Lists call) = store-is Here d.base (answer (lists_of d) past.calls call)
+  by-request (WriteDaqMultiple n) = store-is Here _
+  by-request (Lists call) = store-is Here (answer (lists_of d) past.calls call)
 
   by-read : (r : Result Request ErrCode) → IsReply Here (read_reply d past given packet r)
   by-read (Ok asked) = by-request asked
@@ -152,7 +153,7 @@ module _ (d : Profile) (past : Past) (given : Given) (packet : List ℕ) where
 
   by-exchange : (b : Bool) → IfReply (IsReply Here) (if b then Some (packet_of (Err MemoryOverflow)) else master_reply d past given packet)
   by-exchange true = packet-is Here (Err MemoryOverflow) (λ p. tt)
-  by-exchange false = by-master past.connected (request d.base packet)
+  by-exchange false = by-master past.connected (request packet)
 
 pub reply-is : (d : Profile) (past : Past) (x : Exchange) → IfReply (IsReply (IsProfile d)) (reply_in d past x)
 reply-is d past x = by-exchange d past x.given x.packet x.out_of_memory

@@ -18,7 +18,8 @@ use Rattle.session.specs.Exchanges.{read_reply as read_reply_of}
 use Rattle.session.specs.Fields.{packet_of}
 use Rattle.session.specs.Past.{Given, Past}
 use Rattle.session.specs.Profiles.{lists_of}
-use Rattle.session.specs.Replies.{connect_reply, store_reply}
+use Rattle.session.specs.Replies.{connect_reply}
+use Rattle.daq_store.specs.Replies.{reply_bytes}
 use Rattle.session.specs.Requests.{request}
 use Rattle.session.specs.Starts.{runs}
 use Rattle.slave.specs.Session.{AsksToStop, HasPositive, IsStopOf, is_positive}
@@ -50,10 +51,10 @@ stop-call calls (StartStopSynch mode) l is =
 stop-call calls (ClearDaqList k) l is = ap (λ b. is_list calls l && (if b then false else is_running calls l)) (here k l is) ∙ and-false (is_list calls l)
 stop-call calls ReadDaq l is = absurd is
 
-not-refused : (base : ℕ) (lists : ListsProfile) (calls : List Command) (call : Command) (l : ℕ) (o : Option ErrCode) → IsStopOf calls l (Lists call)
-    → is_positive (store_reply base (reply_by (accepted_reply lists calls call) o)) ≡ true → is_active (if is_some o then calls else and_then calls call) l ≡ false
-not-refused base lists calls call l None is positive = stop-call calls call l is
-not-refused base lists calls call l (Some code) is positive = absurd (false≢true positive)
+not-refused : (lists : ListsProfile) (calls : List Command) (call : Command) (l : ℕ) (o : Option ErrCode) → IsStopOf calls l (Lists call)
+    → is_positive (reply_bytes (reply_by (accepted_reply lists calls call) o)) ≡ true → is_active (if is_some o then calls else and_then calls call) l ≡ false
+not-refused lists calls call l None is positive = stop-call calls call l is
+not-refused lists calls call l (Some code) is positive = absurd (false≢true positive)
 
 some-is : (p q : List ℕ) → Some p ≡ Some q → p ≡ q
 some-is p q e = cc
@@ -79,7 +80,7 @@ module _ (d : Profile) (past : Past) (given : Given) (packet : List ℕ) (l : �
   by-request (GetDaqListInfo m) is positive = absurd is
   by-request (GetDaqEventInfo c) is positive = absurd is
   by-request (WriteDaqMultiple n) is positive = absurd is
-  by-request (Lists call) is positive = not-refused d.base (lists_of d) past.calls call l (fault_of (lists_of d) past.calls call) is positive
+  by-request (Lists call) is positive = not-refused (lists_of d) past.calls call l (fault_of (lists_of d) past.calls call) is positive
 
   -- while no master is connected, it has no reply
   no-greeting : (asked : Request) → IsStopOf past.calls l asked → is_greeting (Ok asked) ≡ false
@@ -111,7 +112,7 @@ module _ (d : Profile) (past : Past) (given : Given) (packet : List ℕ) (l : �
     greeting-none true none = absurd (false≢true (sym none))
     greeting-none false none = refl
 
-  by-exchange : (b : Bool) (asked : Request) → request d.base packet ≡ Ok asked → IsStopOf past.calls l asked → HasPositive (if b then Some (packet_of (Err MemoryOverflow)) else master_reply d past given packet)
+  by-exchange : (b : Bool) (asked : Request) → request packet ≡ Ok asked → IsStopOf past.calls l asked → HasPositive (if b then Some (packet_of (Err MemoryOverflow)) else master_reply d past given packet)
       → runs (if b then past else past_after_packet d past given packet) l ≡ false
   by-exchange true asked reads is (q, reply, positive) = absurd (false≢true (ap is_positive (some-is (packet_of (Err MemoryOverflow)) q reply) ∙ positive))
   by-exchange false asked reads is positive = subst (Stops past.connected) (sym reads) (by-asked past.connected asked is) positive

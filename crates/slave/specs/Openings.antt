@@ -12,7 +12,7 @@ use Rattle.daq_store.specs.Shape.{list_count, odts_before}
 use Rattle.daq_store.specs.Standing.{StoreStandsAfter}
 use Rattle.sampler.specs.History.{Opening}
 use Rattle.session.specs.Past.{Past, new_past}
-use Rattle.session.specs.Profiles.{lists_of}
+use Rattle.session.specs.Profiles.{lists_of, segments_of}
 use Rattle.session.specs.Starts.{is_on}
 use Rattle.session.specs.declared.event_channel.EventChannel.{EventChannel}
 use Rattle.session.specs.declared.profile.Profile.{Profile}
@@ -43,7 +43,7 @@ capacities_of d = capacities_in d.events.items
 abbrev pub plan_after : Profile → Past → ℕ → ListPlan
 plan_after d past l =
     list_plan l (configuration (lists_of d).form past.calls l)
-    (first_pid_behind (lists_of d).form.id (odts_before past.calls l)) d.image_len
+    (first_pid_behind (lists_of d).form.id (odts_before past.calls l)) (segments_of d)
 
 -- the plans of the lists that are ready and whose modes name event channel c, in rising list number
 abbrev pub ready_plans : Profile → Past → ℕ → List ListPlan

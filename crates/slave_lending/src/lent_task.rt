@@ -2,7 +2,7 @@
 use crate::same_line::SameLine;
 use channel_ring::SendEnd;
 use hand_over::{Given, WayBack};
-use sampler::{Taken, TriggerFault};
+use sampler::{MemoryFault, Taken};
 use std::marker::Model;
 use tasks::{Task, TaskEnd};
 
@@ -31,15 +31,16 @@ impl<S: SendEnd> Model for LentTask<S> {
 }
 
 impl<S: SendEnd> LentTask<S> {
+    ghost use Rattle.segments.specs.Memory.{parts};
     ghost use Rattle.tasks.specs.Tasks.{FinishesAs, TakesTurn};
     ghost use Rattle.slave_lending.specs.Lends.{most_steps, none_due};
 
     /// Does all that the slave ordered, in its order, and then takes a trigger, as `Task::trigger`.
-    pub fn trigger(&mut self, image: &[u8], stamp: u32) -> Result<Taken, TriggerFault>
+    pub fn trigger(&mut self, memory: &[&[u8]], stamp: u32) -> Result<Taken, MemoryFault>
         ensures { TakesTurn S.SendEnd S.End.RingEnd most_steps none_due
-            self.old self.new image.now stamp result }
+            self.old self.new (parts memory.now) stamp result }
     {
-        self.task.trigger(image, stamp)
+        self.task.trigger(memory, stamp)
     }
 
     /// Finishes the task, and gives what is left of it back to its slave.

@@ -1,7 +1,9 @@
 -- What a trigger of a sampler is to its task, and what its orders are.
-use Rattle.std.proofs.Common.{◌≡◌, ◌≢◌, ◌↔◌, ℕ, List, [], ◌∷◌, ◌++◌, ◌∙◌, false, refl, sym, subst, Result, Ok, Err, Option, Some, None, length}
+use Rattle.std.proofs.Common.{◌≡◌, ◌↔◌, ℕ, List, [], ◌∷◌, ◌++◌, ◌∙◌, true, false, refl, sym, subst, Result, Ok, Err, Option, Some, None}
 use Rattle.std.specs.Prelude.{IfOk, IfSome, IsNone, OnErr}
 use Rattle.xcp_base.specs.declared.limits.TheConstants.{MAX_TRIGGERS}
+use Rattle.segments.specs.Image.{image_of}
+use Rattle.segments.specs.Memory.{fits}
 use Rattle.channel_ring.specs.declared.ends.SendEnd.{Ghosts as SendGhosts}
 use Rattle.channel_ring.specs.declared.ends.RingEnd.{Ghosts as EndGhosts}
 use Rattle.sampler.specs.Control.{answered}
@@ -12,8 +14,8 @@ use Rattle.sampler.specs.Stays.{KeepsSetUp}
 use Rattle.sampler.specs.declared.polled.Polled.TheVariants.{Done, Nothing, Refused, Waiting}
 use Rattle.sampler.specs.declared.polled.Polled.{Polled}
 use Rattle.sampler.specs.declared.taken.Taken.{Taken}
-use Rattle.sampler.specs.declared.faults.TriggerFault.{TriggerFault}
-use Rattle.sampler.specs.declared.faults.TriggerFault.TheVariants.{Spent, WrongImage}
+use Rattle.sampler.specs.declared.faults.MemoryFault.{MemoryFault}
+use Rattle.sampler.specs.declared.faults.MemoryFault.TheVariants.{Spent, WrongMemory}
 use Rattle.channel_ring.specs.declared.order.Order.{Order}
 use Rattle.channel_ring.specs.declared.order.Order.TheVariants as order
 use Rattle.tasks.specs.Deeds.{is_end}
@@ -33,14 +35,14 @@ one-none x is = absurd cc
 
 module _ {S E : Type 0} (send : SendGhosts S E) (ring : EndGhosts E) where
   -- a trigger of the sampler
-  pub triggers : (s t : SamplerState S) (image : List ℕ) (stamp : ℕ) (answer : Result Taken TriggerFault)
-      → IfOk answer (λ taken. (past : Past) → StandsAfter send ring s past → TakesTrigger send ring s t taken past image stamp)
-      → ((answer ≡ Err WrongImage) ↔ (length image ≢ s.image_len))
-      → ((answer ≡ Err Spent) ↔ ((length image ≡ s.image_len) × (s.triggers ≡ MAX_TRIGGERS)))
-      → OnErr answer (t ≡ s) → KeepsSetUp send s t → TriggersSampler send ring s t image stamp answer
-  triggers s t image stamp (Ok taken) ok wrong spent err keeps = (keeps, ok)
-  triggers s t image stamp (Err WrongImage) ok wrong spent err keeps = (wrong.0 refl, err)
-  triggers s t image stamp (Err Spent) ok wrong spent err keeps = ((spent.0 refl).0, (spent.0 refl).1, err)
+  pub triggers : (s t : SamplerState S) (memory : List (List ℕ)) (stamp : ℕ) (answer : Result Taken MemoryFault)
+      → IfOk answer (λ taken. (past : Past) → StandsAfter send ring s past → TakesTrigger send ring s t taken past (image_of s.channel s.segments memory) stamp)
+      → ((answer ≡ Err WrongMemory) ↔ (fits s.channel s.segments memory ≡ false))
+      → ((answer ≡ Err Spent) ↔ ((fits s.channel s.segments memory ≡ true) × (s.triggers ≡ MAX_TRIGGERS)))
+      → OnErr answer (t ≡ s) → KeepsSetUp send s t → TriggersSampler send ring s t memory stamp answer
+  triggers s t memory stamp (Ok taken) ok wrong spent err keeps = (keeps, ok)
+  triggers s t memory stamp (Err WrongMemory) ok wrong spent err keeps = (wrong.0 refl, err)
+  triggers s t memory stamp (Err Spent) ok wrong spent err keeps = ((spent.0 refl).0, (spent.0 refl).1, err)
 
   -- what was answered, as an order or none
   pub obeys-as : (a b : Option (HeldState S)) (p : Polled) (answer : Option Order)

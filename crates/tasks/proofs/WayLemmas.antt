@@ -1,6 +1,7 @@
 -- A sampler that went with its orders, and what came of it.
 use Rattle.std.proofs.Common.{◌≡◌, ℕ, List, [], ◌∷◌, ◌++◌, append-nil, append_assoc, le_refl, refl, sym, ap, ◌∙◌, subst, inl, inr, Result, Ok, Err, Option, Some, None, true, false}
 use Rattle.std.specs.Prelude.{IfOk, OnErr}
+use Rattle.segments.specs.Image.{image_of}
 use Rattle.channel_ring.specs.declared.ends.SendEnd.{Ghosts as SendGhosts}
 use Rattle.channel_ring.specs.declared.ends.RingEnd.{Ghosts as EndGhosts}
 use Rattle.channel_ring.specs.Orders.{TakeState}
@@ -15,8 +16,8 @@ use Rattle.sampler.specs.Stays.{KeepsSetUp, OnlyLooked}
 use Rattle.sampler.specs.declared.polled.Polled.{Polled}
 use Rattle.sampler.specs.declared.polled.Polled.TheVariants.{Done, Nothing, Refused, Waiting}
 use Rattle.sampler.specs.declared.taken.Taken.{Taken}
-use Rattle.sampler.specs.declared.faults.TriggerFault.{TriggerFault}
-use Rattle.sampler.specs.declared.faults.TriggerFault.TheVariants.{Spent, WrongImage}
+use Rattle.sampler.specs.declared.faults.MemoryFault.{MemoryFault}
+use Rattle.sampler.specs.declared.faults.MemoryFault.TheVariants.{Spent, WrongMemory}
 use Rattle.tasks.specs.Deeds.{Obeyed, Took, orders_in, past_after, past_after_order, unless_refused}
 use Rattle.tasks.specs.Inner.{HoldsLast, HoldsOne}
 use Rattle.tasks.specs.Tasks.{HeldState, Idles, Obeys, ObeysHeld, ObeysNext, TriggersHeld, TriggersSampler}
@@ -28,7 +29,7 @@ module _ {S E : Type 0} (send : SendGhosts S E) (ring : EndGhosts E) where
   keeps-more : (s t u : SamplerState S) → KeepsSetUp send s t → KeepsSetUp send t u → KeepsSetUp send s u
   keeps-more s t u a b = record {
     channel = b.channel ∙ a.channel;
-    image_len = b.image_len ∙ a.image_len;
+    segments = b.segments ∙ a.segments;
     plans = b.plans ∙ a.plans;
     capacity = b.capacity ∙ a.capacity;
     ring = b.ring ∙ a.ring;
@@ -55,7 +56,7 @@ module _ {S E : Type 0} (send : SendGhosts S E) (ring : EndGhosts E) where
     one_ring = does.one_ring ∙ come.one_ring;
     set_up = keeps-more s t u come.set_up (record {
       channel = ap (λ (v : SamplerState S). v.channel) does.looked.rest;
-      image_len = ap (λ (v : SamplerState S). v.image_len) does.looked.rest;
+      segments = ap (λ (v : SamplerState S). v.segments) does.looked.rest;
       plans = ap (λ (v : SamplerState S). v.plans) does.looked.rest;
       capacity = does.looked.capacity;
       ring = does.looked.ring;
@@ -74,7 +75,7 @@ module _ {S E : Type 0} (send : SendGhosts S E) (ring : EndGhosts E) where
 
   -- a trigger more
   pub come-trigger : (s : SamplerState S) (r : TakeState) (t u : SamplerState S) (o : TakeState) (image : List ℕ) (stamp : ℕ)
-      (answer : Result Taken TriggerFault)
+      (answer : Result Taken MemoryFault)
       → IfOk answer (λ taken. (past : Past) → StandsAfter send ring t past → TakesTrigger send ring t u taken past image stamp)
       → OnErr answer (u ≡ t) → KeepsSetUp send t u → HasCome send ring s r t o → HasCome send ring s r u o
   come-trigger s r t u o image stamp (Err fault) takes same keeps come =
@@ -154,7 +155,7 @@ module _ {S E : Type 0} (send : SendGhosts S E) (ring : EndGhosts E) where
   pub come-here : (s : SamplerState S) (o : TakeState) → HasCome send ring s o s o
   come-here s o = record {
     one_ring = refl;
-    set_up = record { channel = refl; image_len = refl; plans = refl; capacity = refl; ring = refl };
+    set_up = record { channel = refl; segments = refl; plans = refl; capacity = refl; ring = refl };
     deeds = [];
     obeyed = sym (append-nil o.received);
     stands = λ past st. st;
@@ -183,15 +184,15 @@ module _ {S E : Type 0} (send : SendGhosts S E) (ring : EndGhosts E) where
 
   -- a trigger, or its refusal
   pub come-triggers : (s : SamplerState S) (r : TakeState) (t u : SamplerState S) (o : TakeState)
-      (image : List ℕ) (stamp : ℕ) (answer : Result Taken TriggerFault)
-      → TriggersSampler send ring t u image stamp answer → HasCome send ring s r t o
+      (memory : List (List ℕ)) (stamp : ℕ) (answer : Result Taken MemoryFault)
+      → TriggersSampler send ring t u memory stamp answer → HasCome send ring s r t o
       → HasCome send ring s r u o
-  come-triggers s r t u o image stamp (Ok taken) takes come =
-      come-trigger s r t u o image stamp (Ok taken)
+  come-triggers s r t u o memory stamp (Ok taken) takes come =
+      come-trigger s r t u o (image_of t.channel t.segments memory) stamp (Ok taken)
       (λ past st. takes.1 past st) tt takes.0 come
-  come-triggers s r t u o image stamp (Err WrongImage) takes come =
+  come-triggers s r t u o memory stamp (Err WrongMemory) takes come =
       subst (λ (v : SamplerState S). HasCome send ring s r v o) (sym takes.1) come
-  come-triggers s r t u o image stamp (Err Spent) takes come =
+  come-triggers s r t u o memory stamp (Err Spent) takes come =
       subst (λ (v : SamplerState S). HasCome send ring s r v o) (sym takes.2) come
 
   -- what a task holds goes on, as it came from what was fetched last
@@ -221,14 +222,14 @@ module _ {S E : Type 0} (send : SendGhosts S E) (ring : EndGhosts E) where
     holds-obeyed None (Some k) answer does holds = elim does [ ]
     holds-obeyed (Some h) None answer does holds = elim does [ ]
 
-    pub holds-triggered : (none : Taken) (a b : Option (HeldState S)) (image : List ℕ) (stamp : ℕ)
-        (answer : Result Taken TriggerFault)
-        → TriggersHeld send ring none a b image stamp answer → HoldsLast send ring fetched gave a
+    pub holds-triggered : (none : Taken) (a b : Option (HeldState S)) (memory : List (List ℕ)) (stamp : ℕ)
+        (answer : Result Taken MemoryFault)
+        → TriggersHeld send ring none a b memory stamp answer → HoldsLast send ring fetched gave a
         → HoldsLast send ring fetched gave b
-    holds-triggered none None None image stamp answer does holds = holds
-    holds-triggered none (Some h) (Some k) image stamp answer does holds =
+    holds-triggered none None None memory stamp answer does holds = holds
+    holds-triggered none (Some h) (Some k) memory stamp answer does holds =
         holds-next h k holds
         (λ s r come. subst (λ (o : TakeState). HasCome send ring s r k.sampler o) (sym does.0)
-        (come-triggers s r h.sampler k.sampler h.orders image stamp answer does.1 come))
-    holds-triggered none None (Some k) image stamp answer does holds = elim does [ ]
-    holds-triggered none (Some h) None image stamp answer does holds = elim does [ ]
+        (come-triggers s r h.sampler k.sampler h.orders memory stamp answer does.1 come))
+    holds-triggered none None (Some k) memory stamp answer does holds = elim does [ ]
+    holds-triggered none (Some h) None memory stamp answer does holds = elim does [ ]

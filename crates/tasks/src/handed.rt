@@ -2,7 +2,7 @@
 use crate::lost;
 use crate::rule::Left;
 use channel_ring::{ControlTake, SendEnd};
-use sampler::{Polled, Sampler, Taken, TriggerFault};
+use sampler::{MemoryFault, Polled, Sampler, Taken};
 use std::marker::Model;
 
 /// A sampler that is handed out, with the task's end of its orders.
@@ -22,6 +22,7 @@ impl<S: SendEnd> Model for Handed<S> {
 
 impl<S: SendEnd> Handed<S> {
     ghost use Rattle.std.specs.Prelude.{◌≡◌, IfOk};
+    ghost use Rattle.segments.specs.Memory.{parts};
     ghost use Rattle.tasks.specs.Tasks.{ObeysNext, TriggersSampler};
     ghost use Rattle.tasks.specs.Ways.{IsLeftOf};
 
@@ -54,12 +55,12 @@ impl<S: SendEnd> Handed<S> {
     }
 
     /// Takes a trigger.
-    pub fn trigger(&mut self, image: &[u8], stamp: u32) -> Result<Taken, TriggerFault>
+    pub fn trigger(&mut self, memory: &[&[u8]], stamp: u32) -> Result<Taken, MemoryFault>
         ensures takes { TriggersSampler S.SendEnd S.End.RingEnd
-            self.old.sampler self.new.sampler image.now stamp result }
+            self.old.sampler self.new.sampler (parts memory.now) stamp result }
         ensures orders_stay { self.new.orders ≡ self.old.orders }
     {
-        self.sampler.trigger(image, stamp)
+        self.sampler.trigger_over(memory, stamp)
     }
 
     /// Finishes the sampler: what is left of it.

@@ -3,7 +3,7 @@ use crate::handed::Handed;
 use crate::rule::TaskLine;
 use crate::task_end::TaskEnd;
 use channel_ring::{Order, SendEnd};
-use sampler::{Polled, Taken, TriggerFault};
+use sampler::{MemoryFault, Polled, Taken};
 use std::marker::Model;
 
 /// The sampling task of one event channel. It takes and frees no memory.
@@ -33,6 +33,7 @@ impl<S: SendEnd> Model for Task<S> {
 }
 
 ghost use Rattle.std.specs.Prelude.{◌≡◌, [], ◌∷◌, IfSome, IsNone, None, Some, true, false};
+ghost use Rattle.segments.specs.Memory.{parts};
 ghost use Rattle.sampler.specs.Control.{answered};
 ghost use Rattle.tasks.specs.Inner.{ObeysAs};
 ghost use Rattle.tasks.specs.Tasks.{FinishesAs, GivesBackHeld, Looks, ObeysHeld, Rests, Steps};
@@ -74,14 +75,14 @@ fn order_in(polled: Polled) -> Option<Order>
 /// Takes a trigger with what is held.
 fn trigger_held<S: SendEnd>(
     held: &mut Option<Handed<S>>,
-    image: &[u8],
+    memory: &[&[u8]],
     stamp: u32,
-) -> Result<Taken, TriggerFault>
-    ensures { TriggersHeld S.SendEnd S.End.RingEnd NONE_DUE held.old held.new image.now stamp
-        result }
+) -> Result<Taken, MemoryFault>
+    ensures { TriggersHeld S.SendEnd S.End.RingEnd NONE_DUE held.old held.new (parts memory.now)
+        stamp result }
 {
     match held {
-        Some(held) => held.trigger(image, stamp),
+        Some(held) => held.trigger(memory, stamp),
         None => Ok(NONE_DUE),
     }
 }
@@ -157,15 +158,16 @@ impl<S: SendEnd> Task<S> {
         }
     }
 
-    /// Does all that the slave ordered, in its order, and then takes a trigger, with the memory
-    /// image and a timestamp in ticks, as `Sampler::trigger` does. If there is no measurement
-    /// nothing is due.
-    pub fn trigger(&mut self, image: &[u8], stamp: u32) -> Result<Taken, TriggerFault>
+    /// Does all that the slave ordered, in its order, and then takes a trigger, with memory as it
+    /// is and a timestamp in ticks, as `Sampler::trigger_over` does. `memory` has a slice for each
+    /// segment, in their order; of a segment that the event channel may not read nothing is looked
+    /// at, and its slice may be empty. If there is no measurement nothing is due.
+    pub fn trigger(&mut self, memory: &[&[u8]], stamp: u32) -> Result<Taken, MemoryFault>
         ensures { TakesTurn S.SendEnd S.End.RingEnd MOST_STEPS NONE_DUE
-            self.old self.new image.now stamp result }
+            self.old self.new (parts memory.now) stamp result }
     {
         self.look();
-        trigger_held(&mut self.held, image, stamp)
+        trigger_held(&mut self.held, memory, stamp)
     }
 
     /// Finishes the task, and gives back what is left of what it holds. The answer is for the

@@ -62,15 +62,15 @@ fn source_at(
     Some(Source {
         odt: k,
         entry: e,
-        offset: (address - entry.0) as u8,
+        offset: (address as usize - entry.0) as u8,
     })
 }
 
 /// Whether an entry, by its address and its bytes, has all bytes of a value.
-fn holds(entry: (u32, u8), address: u32, data_type: DataType) -> bool
+fn holds(entry: (usize, u8), address: u32, data_type: DataType) -> bool
     ensures { result ≡ holds address (size_of data_type) entry }
 {
     let (start, bytes) = entry;
     let size = data_type.size();
-    start <= address && address as usize + size <= start as usize + bytes as usize
+    start <= address as usize && address as usize + size <= start + bytes as usize
 }

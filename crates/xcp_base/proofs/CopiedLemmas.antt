@@ -1,27 +1,18 @@
--- What spans copy of an image.
-use Rattle.std.proofs.Common.{◌≡◌, ℕ, zero, suc, ◌+◌, ◌-◌, ◌<◌, ◌≤◌, set, List, [], ◌∷◌, ◌++◌, length, take, drop, get_or, sym, ap, ◌∙◌, append_assoc, append-nil, add-one, arith}
+-- What spans copy of bytes.
+use Rattle.std.proofs.Common.{◌≡◌, ℕ, ◌+◌, ◌-◌, ◌<◌, ◌≤◌, set, List, [], ◌∷◌, ◌++◌, length, take, drop, get_or, sym, ap, ◌∙◌, arith}
 use Rattle.std.specs.Prelude.{All, slice_range}
 use Rattle.std.proofs.Math.Seq.{take-length}
 use Rattle.std.proofs.lemmas.List.{get_or-drop, length-drop, take_more, take_more_set}
 use Rattle.std.proofs.lemmas.List.Elements.{All-append, All-drop, All-nil, All-take}
 use Rattle.xcp_base.specs.declared.span.Span.{Span}
-use Rattle.xcp_base.specs.Copied.{copied}
+use Rattle.xcp_base.specs.Copied.{copied_at}
 
--- one span more
-pub copied-more : (image : List ℕ) (spans : List Span) (i : ℕ) (d : Span) → i < length spans → copied image (take (i + 1) spans) ≡ copied image (take i spans) ++ slice_range image (get_or spans i d).start (get_or spans i d).end
-copied-more image [] i d h = absurd (omega (arith, h))
-copied-more image (r ∷ rs) zero d h = append-nil (slice_range image r.start r.end)
-copied-more image (r ∷ rs) (suc i) d h =
-    rw add-one (
-    ap (λ bytes. slice_range image r.start r.end ++ bytes) (rw add-one at (copied-more image rs i d (omega (arith, h))))
-    ∙ sym (append_assoc (slice_range image r.start r.end) (copied image (take i rs)) (slice_range image (get_or rs i d).start (get_or rs i d).end)))
-
--- bytes of an image are bytes
-pub copied_small : (image : List ℕ) (spans : List Span) → All (λ (b : ℕ). b < 256) image → All (λ (b : ℕ). b < 256) (copied image spans)
-copied_small image [] small = All-nil (λ (b : ℕ). b < 256)
-copied_small image (r ∷ rs) small =
-    let part : All (λ (b : ℕ). b < 256) (slice_range image r.start r.end) = All-take (λ (b : ℕ). b < 256) (r.end - r.start) (drop r.start image) (All-drop (λ (b : ℕ). b < 256) r.start image small) in
-    All-append (λ (b : ℕ). b < 256) (slice_range image r.start r.end) (copied image rs) part (copied_small image rs small)
+-- what spans copy of bytes are bytes
+pub copied_at_small : (bytes : List ℕ) (start : ℕ) (spans : List Span) → All (λ (b : ℕ). b < 256) bytes → All (λ (b : ℕ). b < 256) (copied_at bytes start spans)
+copied_at_small bytes start [] small = All-nil (λ (b : ℕ). b < 256)
+copied_at_small bytes start (r ∷ rs) small =
+    let part : All (λ (b : ℕ). b < 256) (slice_range bytes (r.start - start) (r.end - start)) = All-take (λ (b : ℕ). b < 256) (r.end - start - (r.start - start)) (drop (r.start - start) bytes) (All-drop (λ (b : ℕ). b < 256) (r.start - start) bytes small) in
+    All-append (λ (b : ℕ). b < 256) (slice_range bytes (r.start - start) (r.end - start)) (copied_at bytes start rs) part (copied_at_small bytes start rs small)
 
 -- one byte more was read of those from a place on
 pub read-more : (xs ys : List ℕ) (from k : ℕ) → k < length xs → from + k < length ys → take k xs ≡ take k (drop from ys)

@@ -3,5 +3,6 @@ pub mod CopiedLemmas
 pub mod PacketsLemmas
 pub mod IterLemmas
 pub mod FormLemmas
+pub mod ImageLemmas
 pub mod StretchLemmas
 mod BitLemmas

@@ -1,9 +1,11 @@
-//! The bytes in which a sample's packets are kept, and the copy from an image to them.
-ghost use Rattle.std.specs.Prelude.{◌≡◌, ◌+◌, ◌<◌, ◌≤◌, [], ◌∷◌, ◌++◌, All, length};
+//! The bytes in which a sample's packets are kept, and the copy from memory to them.
+ghost use Rattle.std.specs.Prelude.{◌≡◌, ℕ, ◌+◌, ◌<◌, ◌≤◌, [], ◌∷◌, ◌++◌, All, length};
 ghost use Rattle.std.specs.Prelude.{slice_range, take};
-ghost use Rattle.xcp_base.specs.Copied.{AreStretches, HasSize, IsSpanInside, copied, copied_packet};
+ghost use Rattle.xcp_base.specs.Copied.{AreSpansIn, AreStretches, HasSize, IsSpanAt};
+ghost use Rattle.xcp_base.specs.Copied.{copied_at, copied_from, copied_packet};
 
 use crate::limits::{MAX_BODY, MAX_DTO};
+use crate::memory_view::MemoryView;
 use crate::span::Span;
 use crate::stretch::Stretch;
 use std::marker::Model;
@@ -81,144 +83,162 @@ impl Body {
     }
 
     /// Appends a packet, for which there is room, behind its length: the field, the timestamp, and
-    /// what spans copy of an image; `stretches` has their sizes.
+    /// what the spans of stretches copy of memory.
     pub(crate) fn extend_by_packet(
         &mut self,
         field: &[u8],
         stamp: &[u8],
-        image: &[u8],
+        memory: MemoryView<'_>,
         spans: &[Span],
         stretches: &[Stretch],
     )
-        requires inside { All (IsSpanInside (length image.now)) spans.now }
+        requires inside { AreSpansIn memory stretches.now spans.now }
         requires sizes { AreStretches stretches.now spans.now }
         requires room { length self.old
-            + length (copied_packet field.now stamp.now image.now spans.now) < MAX_BODY }
-        requires fits { length (copied_packet field.now stamp.now image.now spans.now) ≤ MAX_DTO }
-        ensures { self.new
-            ≡ self.old ++ length (copied_packet field.now stamp.now image.now spans.now)
-            ∷ copied_packet field.now stamp.now image.now spans.now }
+            + length (copied_packet field.now stamp.now memory stretches.now spans.now) < MAX_BODY }
+        requires fits { length (copied_packet field.now stamp.now memory stretches.now spans.now)
+            ≤ MAX_DTO }
+        ensures value { self.new ≡ self.old
+            ++ length (copied_packet field.now stamp.now memory.entry stretches.now spans.now)
+            ∷ copied_packet field.now stamp.now memory.entry stretches.now spans.now }
+        // For the invariant of `Packets`: what was copied are bytes.
+        ensures each { All (λ (b : ℕ). b < 256)
+            (copied_from memory.entry stretches.now spans.now) }
     {
         let start = self.len;
         let at = start + 1;
-        let end = put_packet(&mut self.cells, at, field, stamp, image, spans, stretches);
+        let end = put_packet(&mut self.cells, at, field, stamp, memory, spans, stretches);
         self.cells[start] = (end - at) as u8;
         self.len = end;
     }
 }
 
-/// Writes a packet from a place on: a field, a timestamp, and what spans copy of an image. It
-/// answers where the packet ends.
+/// Writes a packet from a place on: a field, a timestamp, and what the spans of stretches copy of
+/// memory. It answers where the packet ends.
 fn put_packet(
     cells: &mut [u8; MAX_BODY],
-    start: usize,
+    from: usize,
     field: &[u8],
     stamp: &[u8],
-    image: &[u8],
+    memory: MemoryView<'_>,
     spans: &[Span],
     stretches: &[Stretch],
 ) -> usize
-    requires inside { All (IsSpanInside (length image.now)) spans.now }
+    requires inside { AreSpansIn memory stretches.now spans.now }
     requires sizes { AreStretches stretches.now spans.now }
-    requires room { start + length (copied_packet field.now stamp.now image.now spans.now)
-        ≤ MAX_BODY }
-    ensures end { result
-        ≡ start + length (copied_packet field.now stamp.now image.now spans.now) }
-    ensures front { take result cells.new
-        ≡ take start cells.old ++ copied_packet field.now stamp.now image.now spans.now }
+    requires room { from
+        + length (copied_packet field.now stamp.now memory stretches.now spans.now) ≤ MAX_BODY }
+    ensures end { result ≡ from
+        + length (copied_packet field.now stamp.now memory.entry stretches.now spans.now) }
+    ensures front { take result cells.new ≡ take from cells.old
+        ++ copied_packet field.now stamp.now memory.entry stretches.now spans.now }
+    ensures each { All (λ (b : ℕ). b < 256)
+        (copied_from memory.entry stretches.now spans.now) }
 {
-    put_by_size(cells, start, field);
-    let behind = start + field.len();
+    put_by_size(cells, from, field);
+    let behind = from + field.len();
     put_by_size(cells, behind, stamp);
-    put_stretches(cells, behind + stamp.len(), image, spans, stretches)
+    put_stretches(cells, behind + stamp.len(), memory, spans, stretches)
 }
 
-/// Writes what spans copy of an image from a place on, stretch by stretch, and answers where it
-/// ends.
+/// Writes what the spans of stretches copy of memory from a place on, stretch by stretch, and
+/// answers where it ends.
 fn put_stretches(
     cells: &mut [u8; MAX_BODY],
-    start: usize,
-    image: &[u8],
+    from: usize,
+    memory: MemoryView<'_>,
     spans: &[Span],
     stretches: &[Stretch],
 ) -> usize
-    requires inside { All (IsSpanInside (length image.now)) spans.now }
+    requires inside { AreSpansIn memory stretches.now spans.now }
     requires sizes { AreStretches stretches.now spans.now }
-    requires room { start + length (copied image.now spans.now) ≤ MAX_BODY }
-    ensures end { result ≡ start + length (copied image.now spans.now) }
-    ensures front { take result cells.new ≡ take start cells.old ++ copied image.now spans.now }
+    requires room { from + length (copied_from memory stretches.now spans.now) ≤ MAX_BODY }
+    ensures end { result ≡ from + length (copied_from memory.entry stretches.now spans.now) }
+    ensures front { take result cells.new
+        ≡ take from cells.old ++ copied_from memory.entry stretches.now spans.now }
+    ensures each { All (λ (b : ℕ). b < 256)
+        (copied_from memory.entry stretches.now spans.now) }
 {
-    let mut at = start;
+    let mut at = from;
     let mut rest = spans;
     for stretch in stretches {
+        let (bytes, start) = memory.part(stretch);
         let (these, behind) = rest.split_at(stretch.count);
-        at = put_stretch(cells, at, image, these, stretch.size);
+        at = put_stretch(cells, at, bytes, start, these, stretch.size);
         rest = behind;
     }
     at
 }
 
-/// Writes what spans of one size copy of an image from a place on, and answers where it ends.
+/// Writes what spans of one size copy of bytes that begin at `start`, from a place on, and answers
+/// where it ends.
 fn put_stretch(
     cells: &mut [u8; MAX_BODY],
+    from: usize,
+    bytes: &[u8],
     start: usize,
-    image: &[u8],
     spans: &[Span],
     size: usize,
 ) -> usize
-    requires inside { All (IsSpanInside (length image.now)) spans.now }
+    requires inside { All (IsSpanAt (length bytes.now) start) spans.now }
     requires sizes { All (HasSize size) spans.now }
-    requires room { start + length (copied image.now spans.now) ≤ MAX_BODY }
-    ensures end { result ≡ start + length (copied image.now spans.now) }
-    ensures front { take result cells.new ≡ take start cells.old ++ copied image.now spans.now }
+    requires room { from + length (copied_at bytes.now start spans.now) ≤ MAX_BODY }
+    ensures end { result ≡ from + length (copied_at bytes.now start spans.now) }
+    ensures front { take result cells.new
+        ≡ take from cells.old ++ copied_at bytes.now start spans.now }
+    ensures each { All (λ (b : ℕ). b < 256) (copied_at bytes.now start spans.now) }
 {
     if size == 4 {
-        return put_spans_of::<4>(cells, start, image, spans);
+        return put_spans_of::<4>(cells, from, bytes, start, spans);
     }
     if size == 2 {
-        return put_spans_of::<2>(cells, start, image, spans);
+        return put_spans_of::<2>(cells, from, bytes, start, spans);
     }
     if size == 1 {
-        return put_spans_of::<1>(cells, start, image, spans);
+        return put_spans_of::<1>(cells, from, bytes, start, spans);
     }
     if size == 8 {
-        return put_spans_of::<8>(cells, start, image, spans);
+        return put_spans_of::<8>(cells, from, bytes, start, spans);
     }
-    put_spans(cells, start, image, spans)
+    put_spans(cells, from, bytes, start, spans)
 }
 
-/// Writes what spans of N bytes each copy of an image from a place on, and answers where it ends.
+/// Writes what spans of N bytes each copy of bytes that begin at `start`, from a place on, and
+/// answers where it ends.
 fn put_spans_of<const N: usize>(
     cells: &mut [u8; MAX_BODY],
+    from: usize,
+    bytes: &[u8],
     start: usize,
-    image: &[u8],
     spans: &[Span],
 ) -> usize
-    requires inside { All (IsSpanInside (length image.now)) spans.now }
+    requires inside { All (IsSpanAt (length bytes.now) start) spans.now }
     requires sizes { All (HasSize N) spans.now }
-    requires room { start + length (copied image.now spans.now) ≤ MAX_BODY }
-    ensures end { result ≡ start + length (copied image.now spans.now) }
-    ensures front { take result cells.new ≡ take start cells.old ++ copied image.now spans.now }
+    requires room { from + length (copied_at bytes.now start spans.now) ≤ MAX_BODY }
+    ensures end { result ≡ from + length (copied_at bytes.now start spans.now) }
+    ensures front { take result cells.new
+        ≡ take from cells.old ++ copied_at bytes.now start spans.now }
+    ensures each { All (λ (b : ℕ). b < 256) (copied_at bytes.now start spans.now) }
 {
-    let mut at = start;
+    let mut at = from;
     for span in spans {
-        put_number(cells, at, &bytes_at::<N>(image, span.start));
+        put_number(cells, at, &bytes_at::<N>(bytes, span.start - start));
         at += N;
     }
     at
 }
 
-/// The N bytes of an image from a place on.
+/// The N bytes from a place on.
 #[inline]
-fn bytes_at<const N: usize>(image: &[u8], from: usize) -> [u8; N]
-    requires inside { from + N ≤ length image.now }
-    ensures { result ≡ slice_range image.now from (from + N) }
+fn bytes_at<const N: usize>(bytes: &[u8], from: usize) -> [u8; N]
+    requires inside { from + N ≤ length bytes.now }
+    ensures { result ≡ slice_range bytes.now from (from + N) }
 {
-    let mut bytes = [0; N];
+    let mut read = [0; N];
     for k in 0..N {
-        bytes[k] = image[from + k];
+        read[k] = bytes[from + k];
     }
-    bytes
+    read
 }
 
 /// Writes N bytes from a place on. All were read before, so that they can be moved as one number;
@@ -233,18 +253,27 @@ fn put_number<const N: usize>(cells: &mut [u8; MAX_BODY], start: usize, bytes: &
     }
 }
 
-/// Writes what spans copy of an image from a place on, and answers where it ends.
-fn put_spans(cells: &mut [u8; MAX_BODY], start: usize, image: &[u8], spans: &[Span]) -> usize
-    requires inside { All (IsSpanInside (length image.now)) spans.now }
-    requires room { start + length (copied image.now spans.now) ≤ MAX_BODY }
-    ensures end { result ≡ start + length (copied image.now spans.now) }
-    ensures front { take result cells.new ≡ take start cells.old ++ copied image.now spans.now }
+/// Writes what spans copy of bytes that begin at `start`, from a place on, and answers where it
+/// ends.
+fn put_spans(
+    cells: &mut [u8; MAX_BODY],
+    from: usize,
+    bytes: &[u8],
+    start: usize,
+    spans: &[Span],
+) -> usize
+    requires inside { All (IsSpanAt (length bytes.now) start) spans.now }
+    requires room { from + length (copied_at bytes.now start spans.now) ≤ MAX_BODY }
+    ensures end { result ≡ from + length (copied_at bytes.now start spans.now) }
+    ensures front { take result cells.new
+        ≡ take from cells.old ++ copied_at bytes.now start spans.now }
+    ensures each { All (λ (b : ℕ). b < 256) (copied_at bytes.now start spans.now) }
 {
-    let mut at = start;
+    let mut at = from;
     for span in spans {
-        let bytes = &image[span.start..span.end];
-        put_by_size(cells, at, bytes);
-        at += bytes.len();
+        let piece = &bytes[span.start - start..span.end - start];
+        put_by_size(cells, at, piece);
+        at += piece.len();
     }
     at
 }

@@ -1,15 +1,16 @@
-//! The packets of a sample in one value: appended, copied from an image, or read off bytes.
+//! The packets of a sample in one value: appended, copied from memory, or read off bytes.
 ghost use Rattle.std.specs.Prelude.{◌≡◌, ℕ, ◌<◌, ◌≤◌, ◌+◌, List, [], ◌∷◌, ◌++◌, ◌↔◌, IfSome};
 ghost use Rattle.std.specs.Prelude.{true, false, All, IsNone, IsOk, OnErr, OnOk, drop, length};
 ghost use Rattle.std.specs.Prelude.{slice_get, slice_index, take};
 ghost use Rattle.std.specs.Option.{option_copied};
 ghost use Rattle.xcp_base.specs.Bodies.{IsBodyOf, body_of};
-ghost use Rattle.xcp_base.specs.Copied.{AreStretches, IsSpanInside, copied_packet};
+ghost use Rattle.xcp_base.specs.Copied.{AreSpansIn, AreStretches, copied_packet};
 ghost use Rattle.xcp_base.specs.Inner.{BeginsWithPacket, EndsAt, HasPackets};
 ghost use Rattle.xcp_base.specs.Packets.{ArePackets, IsPacket};
 
 use crate::body::Body;
 use crate::limits::{MAX_BODY, MAX_DTO, MAX_ODTS};
+use crate::memory_view::MemoryView;
 use crate::packet_iter::PacketIter;
 use crate::span::Span;
 use crate::stretch::Stretch;
@@ -90,26 +91,27 @@ impl Packets {
         ensures full { OnErr result (length self.old ≡ MAX_ODTS) }
         ensures err { OnErr result (self.new ≡ self.old) }
     {
-        self.push_copied(packet, &[], &[], &[], &[])
+        self.push_copied(packet, &[], MemoryView::Image(&[]), &[], &[])
     }
 
     /// Appends a packet of an identification field, a timestamp, which may have no bytes, and what
-    /// spans copy of an image; `stretches` has the sizes of the spans. Refused as `push` is.
+    /// the spans of stretches copy of memory. Refused as `push` is.
     pub fn push_copied(
         &mut self,
         field: &[u8],
         stamp: &[u8],
-        image: &[u8],
+        memory: MemoryView<'_>,
         spans: &[Span],
         stretches: &[Stretch],
     ) -> Result<(), Full>
         requires not_empty { 0 < length field.now }
-        requires inside { All (IsSpanInside (length image.now)) spans.now }
+        requires inside { AreSpansIn memory stretches.now spans.now }
         requires sizes { AreStretches stretches.now spans.now }
-        requires fits { length (copied_packet field.now stamp.now image.now spans.now) ≤ MAX_DTO }
+        requires fits { length (copied_packet field.now stamp.now memory stretches.now spans.now)
+            ≤ MAX_DTO }
         ensures succeeds { IsOk result ↔ (length self.old < MAX_ODTS) }
-        ensures ok { OnOk result (self.new
-            ≡ self.old ++ copied_packet field.now stamp.now image.now spans.now ∷ []) }
+        ensures ok { OnOk result (self.new ≡ self.old
+            ++ copied_packet field.now stamp.now memory.entry stretches.now spans.now ∷ []) }
         ensures full { OnErr result (length self.old ≡ MAX_ODTS) }
         ensures err { OnErr result (self.new ≡ self.old) }
     {
@@ -117,7 +119,7 @@ impl Packets {
             return Err(Full);
         }
         self.body
-            .extend_by_packet(field, stamp, image, spans, stretches);
+            .extend_by_packet(field, stamp, memory, spans, stretches);
         self.count += 1;
         Ok(())
     }

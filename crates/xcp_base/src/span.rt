@@ -1,5 +1,6 @@
-//! Where bytes that are copied together begin and end in an image.
-/// Bytes of an image that lie side by side and are copied in one go: from `start` up to `end`.
+//! Where bytes that are copied together begin and end in an image of all memory.
+/// Bytes that lie side by side and are copied in one go: from `start` up to `end` in an image of
+/// all memory, in which the segments are laid end to end.
 #[derive(Clone, Copy, Debug, PartialEq, Eq)]
 pub struct Span {
     pub start: usize,

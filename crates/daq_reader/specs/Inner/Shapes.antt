@@ -11,5 +11,5 @@ shape_view a = record {
   form = a.form;
   stamped = a.stamped;
   odts = a.odts.items;
-  image_len = a.image_len;
+  segments = a.segments.value.items;
 }

@@ -5,7 +5,7 @@ use Rattle.daq_reader.specs.declared.slots.Slot.{Slot}
 use Rattle.daq_reader.specs.declared.slots.Slots.TheInside.{Inside}
 
 abbrev pub entry_of : Slot → OdtEntry
-entry_of s = (s.address, s.size)
+entry_of s = (s.in_image, s.size)
 
 -- the bytes of some entries
 abbrev pub bytes_of : List OdtEntry → ℕ
@@ -15,7 +15,7 @@ bytes_of es = sum_by (λ (e : OdtEntry). e.1) es
 abbrev pub laid_out : ℕ → List OdtEntry → List Slot
 laid_out start [] = []
 laid_out start (e ∷ es) =
-    record { address = e.0; size = e.1; start = start } ∷ laid_out (start + e.1) es
+    record { in_image = e.0; size = e.1; start = start } ∷ laid_out (start + e.1) es
 
 abbrev pub slots_view : Inside → List OdtEntry
 slots_view a = map entry_of a.slots.items

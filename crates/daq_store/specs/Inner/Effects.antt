@@ -10,6 +10,7 @@ use Rattle.xcp_base.specs.declared.err_code.ErrCode.{ErrCode}
 use Rattle.xcp_base.specs.declared.err_code.ErrCode.TheVariants.{DaqActive, OutOfRange}
 use Rattle.xcp_base.specs.declared.err_code.ErrCode.TheVariants.{ModeNotValid, Sequence, DaqConfig}
 use Rattle.xcp_base.specs.declared.err_code.ErrCode.TheVariants.{MemoryOverflow}
+use Rattle.segments.specs.declared.segment.Segment.{Segment}
 use Rattle.daq_store.specs.declared.command.Command.{Command}
 use Rattle.daq_store.specs.declared.command.Command.TheVariants.{FreeDaq, AllocDaq, AllocOdt}
 use Rattle.daq_store.specs.declared.command.Command.TheVariants.{AllocOdtEntry, SetDaqPtr, WriteDaq}
@@ -58,11 +59,11 @@ shows_too_many s l n =
 
 -- list l isn't ready
 abbrev pub shows_unready : StoreState → ℕ → Bool
-shows_unready s l = not (is_ready s.profile.image_len (conf_of s l))
+shows_unready s l = not (is_ready s.profile.segments (conf_of s l))
 
 -- a list is selected and not ready
-abbrev pub is_unready : ℕ → ListState → Bool
-is_unready image_len x = x.selected && not (is_ready image_len x.conf)
+abbrev pub is_unready : List Segment → ListState → Bool
+is_unready segments x = x.selected && not (is_ready segments x.conf)
 
 -- there is no such list or channel, or the prescaler is 0
 abbrev pub is_bad_target : StoreState → ℕ → ℕ → ℕ → Bool
@@ -108,7 +109,7 @@ shown_fault s (SetDaqPtr list odt entry) =
 shown_fault s (WriteDaq bit size ext addr) =
     if runs_at_pointer s s.pointer then Some DaqActive
     else if is_none s.pointer then Some Sequence
-    else if is_bad_entry s.profile.image_len bit size ext addr then Some OutOfRange else None
+    else if is_bad_entry s.profile.segments bit size ext addr then Some OutOfRange else None
 shown_fault s (SetDaqListMode mode list channel prescaler priority) =
     if shows_running s list then Some DaqActive
     else if is_bad_target s list channel prescaler then Some OutOfRange
@@ -119,7 +120,7 @@ shown_fault s (StartStopDaqList mode list) =
     else if mode == 1 && shows_unready s list then Some DaqConfig else None
 shown_fault s (StartStopSynch mode) =
     if nat_lt 2 mode then Some ModeNotValid
-    else if mode == 1 && list_any (is_unready s.profile.image_len) s.lists then Some DaqConfig
+    else if mode == 1 && list_any (is_unready s.profile.segments) s.lists then Some DaqConfig
     else None
 shown_fault s (ClearDaqList list) = if not (shows_list s list) then Some OutOfRange else None
 shown_fault s ReadDaq = if is_none s.pointer then Some Sequence else None

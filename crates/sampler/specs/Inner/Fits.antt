@@ -2,6 +2,8 @@
 use Rattle.std.specs.Prelude.{◌≡◌, ℕ, ◌+◌, ◌*◌, ◌≤◌, Bool, false, length, List, [], ◌∷◌}
 use Rattle.std.specs.Prelude.{take, if◌then◌else◌}
 use Rattle.xcp_base.specs.declared.limits.TheConstants.{MAX_LISTS, MAX_TRIGGERS}
+use Rattle.segments.specs.declared.segment.Segment.{Segment}
+use Rattle.segments.specs.Image.{image_len}
 use Rattle.copy_plan.specs.Config.{ListPlan}
 use Rattle.xcp_base.specs.Lists.{has_list}
 use Rattle.sampler.specs.State.{ArePlansOf, RiseFrom, found_at, track_runs}
@@ -37,10 +39,11 @@ NoneDueBefore soonest (track ∷ tracks) = (soonest ≤ track.next) × NoneDueBe
 
 -- what every sampler keeps to
 pub record IsSampler
-    (channel image_len : ℕ) (plans : List ListPlan) (tracks : List Track)
+    (channel len : ℕ) (segments : List Segment) (plans : List ListPlan) (tracks : List Track)
     (triggers soonest accepted : ℕ)
     : Type 0 where
-  pub plans_of : ArePlansOf channel image_len plans
+  pub long : len ≡ image_len segments
+  pub plans_of : ArePlansOf channel segments plans
   pub rising : RiseFrom 0 plans
   pub room : length plans ≤ MAX_LISTS
   pub places : length tracks ≡ MAX_LISTS

@@ -1,9 +1,9 @@
-use Rattle.std.proofs.Common.{◌≡◌, ◌≤◌, ◌++◌, map, replicate, take}
-use Rattle.xcp_base.specs.Copied.{span_size, sizes_in}
+use Rattle.std.proofs.Common.{◌≡◌, ◌≤◌, ◌++◌, [], ◌∷◌, map, take}
+use Rattle.copy_plan.specs.Inner.Stretched.{ArePlaced}
 use Rattle.copy_plan.proofs.spans.stretches_of.Given as goal
 
--- the stretches so far and the one in hand have the sizes of the spans so far
+-- the stretches so far and the one in hand are those of the spans so far
 abbrev pub invariant-loop-span : goal.invariant-loop-span
 invariant-loop-span l =
-    (l.count ≤ l.span-index)
-    × (sizes_in l.stretches.items ++ replicate l.count l.size ≡ map span_size (take l.span-index l.spans))
+    (l.stretch.count ≤ l.span-index)
+    × ArePlaced l.channel l.segments (record { spans = take l.span-index l.spans; stretches = l.stretches.items ++ l.stretch ∷ [] })

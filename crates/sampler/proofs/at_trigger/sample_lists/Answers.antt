@@ -4,7 +4,7 @@ use Rattle.copy_plan.specs.Config.{ListPlan}
 use Rattle.sampler.specs.Inner.AtTrigger.{HandlesLists, Row, Stage, due_now, first_stage, row_count, row_of, triggered}
 use Rattle.sampler.specs.Inner.Moments.{MomentParts}
 use Rattle.sampler.specs.declared.track.Track.{Track}
-use Rattle.sampler.proofs.Handled.{handles-none, handles-more, track-at, fit-at, plan-at, row_count-yes, row_count-no, row_count-le}
+use Rattle.sampler.proofs.Handled.{handles-none, handles-more, track-at, channel-at, fit-at, plan-at, row_count-yes, row_count-no, row_count-le}
 use Rattle.sampler.proofs.NextDue.{due-below}
 use Rattle.sampler.proofs.Places.{no_track}
 use Rattle.sampler.proofs.at_trigger.sample_lists.Goals as goal
@@ -20,7 +20,10 @@ loop-place-init g c =
     }
 
 pub sample_list-accepted-requires : goal.sample_list-accepted-requires
-sample_list-accepted-requires g c = record { image = sym (ap (λ (p : ListPlan). p.image_len) c.index-plans-place.is ∙ plan-at c.args.moment.now.channel (length c.args.moment.now.image) c.args.plans.now c.loop-place.place c.index-plans-place.result c.requires.plans_of (omega arith)) }
+sample_list-accepted-requires g c = record {
+  channel = ap (λ (p : ListPlan). p.channel) c.index-plans-place.is ∙ channel-at c.args.moment.now.channel c.args.moment.now.segments c.args.plans.now c.loop-place.place c.index-plans-place.result c.requires.plans_of (omega arith);
+  segments = ap (λ (p : ListPlan). p.segments) c.index-plans-place.is ∙ plan-at c.args.moment.now.channel c.args.moment.now.segments c.args.plans.now c.loop-place.place c.index-plans-place.result c.requires.plans_of (omega arith);
+}
 
 pub triggered-requires : goal.triggered-requires
 triggered-requires g c =

@@ -1,13 +1,15 @@
-use Rattle.std.proofs.Common.{◌≡◌, ◌+◌, ◌++◌, drop, length, take}
+use Rattle.std.proofs.Common.{◌≡◌, ℕ, ◌<◌, ◌+◌, ◌++◌, drop, length, take}
 use Rattle.std.specs.Prelude.{All}
-use Rattle.xcp_base.specs.Copied.{AreStretches, IsSpanInside, copied}
+use Rattle.xcp_base.specs.Copied.{AreSpansIn, AreStretches, copied_from}
 use Rattle.xcp_base.proofs.body.put_stretches.Given as goal
 
--- the stretches to come are those of the rest of the spans, and what this rest copies is still to be
+-- the stretches to come are those of the rest of the spans, and what these copy is still to be
 -- written
 abbrev pub invariant-loop-stretch : goal.invariant-loop-stretch
 invariant-loop-stretch l =
-    AreStretches (drop l.stretch-index l.stretches) l.rest
-    × All (IsSpanInside (length l.image)) l.rest
-    × (l.at + length (copied l.image l.rest) ≡ l.start + length (copied l.image l.spans))
-    × (take l.at l.cells ++ copied l.image l.rest ≡ take l.start l.fn.cells ++ copied l.image l.spans)
+    let more = drop l.stretch-index l.stretches in
+    AreStretches more l.rest
+    × AreSpansIn l.memory more l.rest
+    × (l.at + length (copied_from l.memory more l.rest) ≡ l.from + length (copied_from l.memory l.stretches l.spans))
+    × (take l.at l.cells ++ copied_from l.memory more l.rest ≡ take l.from l.fn.cells ++ copied_from l.memory l.stretches l.spans)
+    × (All (λ (b : ℕ). b < 256) (copied_from l.memory more l.rest) → All (λ (b : ℕ). b < 256) (copied_from l.memory l.stretches l.spans))

@@ -1,8 +1,8 @@
 -- one packet is too long; one ODT more is filled and short
-use Rattle.std.proofs.Common.{◌≡◌, ◌∙◌, ◌+◌, ◌<◌, slice_index_or, length, refl, sym, arith}
+use Rattle.std.proofs.Common.{◌≡◌, ◌∙◌, ℕ, ◌+◌, ◌<◌, true, slice_index_or, length, refl, sym, ap, arith}
 use Rattle.std.proofs.lemmas.Grind.{common_steps}
 use Rattle.xcp_base.specs.Packets.{packet_len}
-use Rattle.daq_store.specs.Configuration.{odt_entries, entries_len, is_filled, is_short, is_stamped}
+use Rattle.daq_store.specs.Configuration.{channel_of, odt_entries, entries_len, is_filled, is_short, is_stamped}
 use Rattle.daq_store.proofs.ReadyLemmas.{all_more, all_taken, short_is, long_packet, odt_at}
 use Rattle.daq_store.proofs.list_conf.ListConf.ready.Goals as goal
 
@@ -13,7 +13,7 @@ returns-then-field_len-stamp_len-gt-MAX_DTO c =
     let entries : odt_entries c.args.self.now c.loop-k.k ≡ c.odt-item.result = odt_at c.args.self.now c.loop-k.k c.odt-item.result inside is in
     let len : packet_len c.args.self.now.form (is_stamped c.args.self.now.mode) c.loop-k.k (entries_len c.args.self.now c.loop-k.k) ≡ c.field_len.result + c.stamp_len.result + c.bytes.result
     = rw (entries, ← c.field_len.ensures.value, ← c.stamp_len.ensures.value, ← c.bytes.ensures.value) refl in
-    long_packet c.args.image_len c.args.self.now c.loop-k.k inside (omega (arith, len))
+    long_packet c.args.segments.now c.args.self.now c.loop-k.k inside (omega (arith, len))
 
 pub loop-k-preserved : goal.loop-k-preserved
 loop-k-preserved c =
@@ -22,9 +22,11 @@ loop-k-preserved c =
     let entries : odt_entries c.args.self.now c.loop-k.k ≡ c.odt-item.result = odt_at c.args.self.now c.loop-k.k c.odt-item.result inside is in
     let len : packet_len c.args.self.now.form (is_stamped c.args.self.now.mode) c.loop-k.k (entries_len c.args.self.now c.loop-k.k) ≡ c.field_len.result + c.stamp_len.result + c.bytes.result
     = rw (entries, ← c.field_len.ensures.value, ← c.stamp_len.ensures.value, ← c.bytes.ensures.value) refl in
+    let filled : is_filled (channel_of c.args.self.now.mode) c.args.segments.now c.odt-item.result ≡ true
+    = ap (λ (x : ℕ). is_filled x c.args.segments.now c.odt-item.result) (sym c.channel-channel.ensures.value) ∙ sym c.is_filled.ensures ∙ c.if-not-is_filled.false in
     record {
-      filled = all_taken (is_filled c.args.image_len) c.args.self.now.odts c.loop-k.k c.odt-item.result inside is
-          c.loop-k.invariant.filled (sym c.is_filled.ensures ∙ c.if-not-is_filled.false);
+      filled = all_taken (is_filled (channel_of c.args.self.now.mode) c.args.segments.now) c.args.self.now.odts c.loop-k.k c.odt-item.result inside is
+          c.loop-k.invariant.filled filled;
       short = all_more (is_short c.args.self.now) c.loop-k.k c.loop-k.invariant.short
           (short_is (packet_len c.args.self.now.form (is_stamped c.args.self.now.mode) c.loop-k.k (entries_len c.args.self.now c.loop-k.k)) (omega (arith, len)));
     }

@@ -35,7 +35,7 @@ refusal_found g c past stands b is =
 
 pub new-requires-clause-list_below : goal.new-requires-clause-list_below
 new-requires-clause-list_below g c =
-    list-below c.self.inside.channel c.self.inside.image_len c.args.l c.self.inside.lists.plans.items c.in-Some.place c.self.invariant.plans_of (at_place g (goal.at.new-requires-clause-list_below g c).In-Some)
+    list-below c.self.inside.channel c.self.inside.segments.items c.args.l c.self.inside.lists.plans.items c.in-Some.place c.self.invariant.plans_of (at_place g (goal.at.new-requires-clause-list_below g c).In-Some)
 
 pub returns-clause-not_of_channel : goal.returns-clause-not_of_channel
 returns-clause-not_of_channel g c =
@@ -52,11 +52,11 @@ returns-clause-ok g c = λ past stands.
     let R = g.S.End.RingEnd in
     let P : SamplerState g.row.S.Denot → Type 0 = λ s. StandsAfter E R s past in
     let w : In-Some g = (goal.at.returns-clause-ok g c).In-Some in
-    stop-inside E R c.self.inside.channel c.self.inside.image_len c.self.inside.lists.plans.items c.self.inside.end c.offer.new.self c.self.inside.lists.tracks c.stopped.result c.self.inside.triggers c.self.inside.accepted c.args.l c.in-Some.place c.self.invariant.rising (at_place g w) past c.stopped.ensures (c.in-Ok.ensures.ok ∙ ap (λ m. E.sent c.self.inside.end ++ Marker m ∷ []) (rw c.byte.ensures.value at c.new.ensures)) c.offer.ensures.capacity_stays (subst P (sym c.self.view_is) stands)
+    stop-inside E R c.self.inside.channel c.self.inside.segments.items c.self.inside.lists.plans.items c.self.inside.end c.offer.new.self c.self.inside.lists.tracks c.stopped.result c.self.inside.triggers c.self.inside.accepted c.args.l c.in-Some.place c.self.invariant.rising (at_place g w) past c.stopped.ensures (c.in-Ok.ensures.ok ∙ ap (λ m. E.sent c.self.inside.end ++ Marker m ∷ []) (rw c.byte.ensures.value at c.new.ensures)) c.offer.ensures.capacity_stays (subst P (sym c.self.view_is) stands)
 
 pub invariant_of-self-2 : goal.invariant_of-self-2
 invariant_of-self-2 g c =
-    IsSampler-set c.self.inside.channel c.self.inside.image_len c.self.inside.lists.plans.items c.self.inside.lists.tracks c.self.inside.triggers c.self.inside.soonest c.self.inside.accepted c.in-Some.place c.stopped.result c.soonest-self-inside.result c.self.invariant (rw c.stopped.ensures refl) c.soonest-self-inside.ensures
+    IsSampler-set c.self.inside.channel c.self.inside.image_len c.self.inside.segments.items c.self.inside.lists.plans.items c.self.inside.lists.tracks c.self.inside.triggers c.self.inside.soonest c.self.inside.accepted c.in-Some.place c.stopped.result c.soonest-self-inside.result c.self.invariant (rw c.stopped.ensures refl) c.soonest-self-inside.ensures
 
 -- a list that is not of the channel
 pub returns-in_default-clause-refused : goal.returns-in_default-clause-refused

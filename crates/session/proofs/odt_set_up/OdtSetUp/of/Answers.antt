@@ -8,4 +8,4 @@ pub loop-entry-preserved : goal.loop-entry-preserved
 loop-entry-preserved c =
     let i = c.loop-entry.entry in
     let inside : i < length (odt_entries c.args.conf.now c.args.odt) = omega (arith, c.loop-entry-test.true, c.entries-entry-end.ensures.count) in
-    entries-next c.loop-entry.entries.items c.push.new.self.items c.args.conf.now c.args.odt i c.entry.result inside c.entry.ensures.value c.in_ok-push.ensures.items c.loop-entry.invariant
+    entries-next c.loop-entry.entries.items c.push.new.self.items c.args.conf.now c.args.odt i c.written.result inside c.written.ensures.value c.in_ok-push.ensures.items c.loop-entry.invariant

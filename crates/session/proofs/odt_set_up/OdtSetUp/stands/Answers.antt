@@ -14,5 +14,5 @@ loop-entry-preserved c =
     let P : List (Option Entry) → Type 0 = λ es. take i es ≡ take i theirs in
     let Q : List (Option Entry) → Type 0 = λ es. take (i + 1) es ≡ take (i + 1) theirs in
     subst Q c.self.view_is
-    (same_entries-next c.self.inside.entries.items c.args.conf.now c.args.odt i c.index.result.now c.entry.result long inside c.index.ensures c.entry.ensures.value
+    (same_entries-next c.self.inside.entries.items c.args.conf.now c.args.odt i c.index.result.now c.written.result long inside c.index.ensures c.written.ensures.value
     (c.is_same_entry.ensures.value.0 c.if-not-is_same_entry.false) (subst P (sym c.self.view_is) c.loop-entry.invariant))
