@@ -8,7 +8,6 @@ use c_engine::{Status, kind_numbered, ring_numbered};
 use segments::{Segment, all_readers};
 use session::{EventChannel, Profile};
 use std::alloc::{AllocError, Global};
-use xcp_base::limits::ADDRESS_EXTENSION;
 
 /// The bytes of a name, up to the first zero byte.
 fn text_of(alloc: Global, name: &[u8]) -> Result<Vec<u8>, AllocError>
@@ -84,7 +83,7 @@ fn memory_of(
 {
     let mut made = Vec::new(alloc);
     made.push(Segment {
-        extension: ADDRESS_EXTENSION,
+        extension: 0,
         base: asked.base,
         len: asked.image_len,
         events: all_readers(channels),
