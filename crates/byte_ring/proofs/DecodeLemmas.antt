@@ -3,6 +3,7 @@ use Rattle.std.proofs.Common.{◌≡◌, ℕ, zero, suc, ◌<◌, ◌≤◌, ◌
 use Rattle.std.proofs.lemmas.List.{drop_all, drop_at, drop_more, get_or_at}
 use Rattle.std.proofs.lemmas.Nat.{le_bytes_8}
 use Rattle.std.specs.Int.{from_le_bytes, to_le_bytes, w64}
+use Rattle.xcp_base.specs.declared.limits.TheConstants.{MAX_CHANNELS}
 use Rattle.xcp_base.specs.Bodies.{IsBodyOf, body_of}
 use Rattle.xcp_base.specs.Samples.{HasParts, IsSample, SampleParts}
 use Rattle.xcp_base.specs.declared.item.Item.{Item}
@@ -14,7 +15,7 @@ use Rattle.byte_ring.proofs.RecordLemmas.{length-number}
 -- what stands at the front of a record
 pub record FrontOf (bytes : List ℕ) : Type 0 where
   pub three : 3 ≤ length bytes
-  pub channel : get_or bytes 1 0 < 8
+  pub channel : get_or bytes 1 0 < MAX_CHANNELS
   pub list : get_or bytes 2 0 < 16
   pub kind : (get_or bytes 0 0 ≡ 1) ⊎ ((get_or bytes 0 0 ≡ 2) × (length bytes ≡ 3))
 
@@ -89,7 +90,7 @@ same_parts : (s : SampleParts) (c l n : ℕ) → HasParts c l n s → ◌≡◌ 
 same_parts s c l n h = rw (← h.channel, ← h.list, ← h.number) refl
 
 -- a sample that was read off bytes
-pub sample_read : (bytes : List ℕ) (n : ℕ) (x : Item) → 12 ≤ length bytes → ((i : ℕ) → get_or bytes i 0 < 256) → get_or bytes 0 0 ≡ 1 → get_or bytes 1 0 < 8 → get_or bytes 2 0 < 16 → (get_or bytes 11 0 ≡ 0 → ⊥) → n < 2 ^ 64
+pub sample_read : (bytes : List ℕ) (n : ℕ) (x : Item) → 12 ≤ length bytes → ((i : ℕ) → get_or bytes i 0 < 256) → get_or bytes 0 0 ≡ 1 → get_or bytes 1 0 < MAX_CHANNELS → get_or bytes 2 0 < 16 → (get_or bytes 11 0 ≡ 0 → ⊥) → n < 2 ^ 64
     → n ≡ from_le_bytes w64 (get_or bytes 3 0 ∷ get_or bytes 4 0 ∷ get_or bytes 5 0 ∷ get_or bytes 6 0 ∷ get_or bytes 7 0 ∷ get_or bytes 8 0 ∷ get_or bytes 9 0 ∷ get_or bytes 10 0 ∷ [])
     → IsSampleRead (get_or bytes 1 0) (get_or bytes 2 0) n (get_or bytes 11 0) (drop 12 bytes) x → (record_of x ≡ bytes) × IsItem x
 sample_read bytes n x long small kind channel list some below number r =

@@ -9,6 +9,7 @@ use Rattle.std.proofs.Math.Seq.{drop-append_seam, take-append_seam}
 use Rattle.std.specs.Prelude.{All, Bool, true, false, ◌&&◌, ◌==◌, nat_lt, Option, Some, None}
 use Rattle.std.specs.List.{list_all}
 use Rattle.std.specs.Int.{to_le_bytes, from_le_bytes, w64}
+use Rattle.xcp_base.specs.declared.limits.TheConstants.{MAX_CHANNELS}
 use Rattle.xcp_base.specs.Packets.{IsPacket}
 use Rattle.xcp_base.specs.Bodies.{body_of, packets_of_body}
 use Rattle.xcp_base.specs.Samples.{SampleParts}
@@ -83,7 +84,7 @@ test_packet q h =
 pub item_test : (x : Item) → IsItem x → is_item x ≡ true
 unfolding is_item
 item_test (Sample s) h =
-    let channel : nat_lt s.channel 8 ≡ true = lt_test s.channel 8 (omega (arith, h.channel)) in
+    let channel : nat_lt s.channel MAX_CHANNELS ≡ true = lt_test s.channel MAX_CHANNELS (omega (arith, h.channel)) in
     let list : nat_lt s.list 16 ≡ true = lt_test s.list 16 (omega (arith, h.list)) in
     let number : nat_lt s.number (2 ^ 64) ≡ true = lt_test s.number (2 ^ 64) h.number in
     let some : nat_lt 0 (length s.packets) ≡ true = lt_test 0 (length s.packets) h.some in
@@ -91,7 +92,7 @@ item_test (Sample s) h =
     let each : list_all is_packet s.packets ≡ true = all_true IsPacket is_packet packet_test s.packets h.each in
     rw (channel, list, number, some, limit, each) refl
 item_test (Marker m) h =
-    let channel : nat_lt m.channel 8 ≡ true = lt_test m.channel 8 (omega (arith, h.channel)) in
+    let channel : nat_lt m.channel MAX_CHANNELS ≡ true = lt_test m.channel MAX_CHANNELS (omega (arith, h.channel)) in
     let list : nat_lt m.list 16 ≡ true = lt_test m.list 16 (omega (arith, h.list)) in
     rw (channel, list) refl
 
@@ -99,14 +100,14 @@ item_test (Marker m) h =
 pub test_item : (x : Item) → is_item x ≡ true → IsItem x
 unfolding is_item
 test_item (Sample s) h =
-    let f = both (nat_lt s.channel 8 && nat_lt s.list 16 && nat_lt s.number (2 ^ 64) && nat_lt 0 (length s.packets) && nat_lt (length s.packets) 9) (list_all is_packet s.packets) h in
-    let e = both (nat_lt s.channel 8 && nat_lt s.list 16 && nat_lt s.number (2 ^ 64) && nat_lt 0 (length s.packets)) (nat_lt (length s.packets) 9) f.0 in
-    let d = both (nat_lt s.channel 8 && nat_lt s.list 16 && nat_lt s.number (2 ^ 64)) (nat_lt 0 (length s.packets)) e.0 in
-    let c = both (nat_lt s.channel 8 && nat_lt s.list 16) (nat_lt s.number (2 ^ 64)) d.0 in
-    let b = both (nat_lt s.channel 8) (nat_lt s.list 16) c.0 in
+    let f = both (nat_lt s.channel MAX_CHANNELS && nat_lt s.list 16 && nat_lt s.number (2 ^ 64) && nat_lt 0 (length s.packets) && nat_lt (length s.packets) 9) (list_all is_packet s.packets) h in
+    let e = both (nat_lt s.channel MAX_CHANNELS && nat_lt s.list 16 && nat_lt s.number (2 ^ 64) && nat_lt 0 (length s.packets)) (nat_lt (length s.packets) 9) f.0 in
+    let d = both (nat_lt s.channel MAX_CHANNELS && nat_lt s.list 16 && nat_lt s.number (2 ^ 64)) (nat_lt 0 (length s.packets)) e.0 in
+    let c = both (nat_lt s.channel MAX_CHANNELS && nat_lt s.list 16) (nat_lt s.number (2 ^ 64)) d.0 in
+    let b = both (nat_lt s.channel MAX_CHANNELS) (nat_lt s.list 16) c.0 in
     let limit : length s.packets < 9 = test_lt (length s.packets) 9 e.1 in
     record {
-      channel = test_lt s.channel 8 b.0;
+      channel = test_lt s.channel MAX_CHANNELS b.0;
       list = test_lt s.list 16 b.1;
       number = test_lt s.number (2 ^ 64) c.1;
       some = test_lt 0 (length s.packets) d.1;
@@ -114,8 +115,8 @@ test_item (Sample s) h =
       each = true_all IsPacket is_packet test_packet s.packets f.1;
     }
 test_item (Marker m) h =
-    let b = both (nat_lt m.channel 8) (nat_lt m.list 16) h in
-    record { channel = test_lt m.channel 8 b.0; list = test_lt m.list 16 b.1 }
+    let b = both (nat_lt m.channel MAX_CHANNELS) (nat_lt m.list 16) h in
+    record { channel = test_lt m.channel MAX_CHANNELS b.0; list = test_lt m.list 16 b.1 }
 
 -- ---- one record
 

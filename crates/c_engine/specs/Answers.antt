@@ -1,7 +1,7 @@
 -- What the calls of the C library answer and what they leave, by their status.
 use Rattle.std.specs.Prelude.{◌≡◌, ℕ, ◌<◌, ◌≤◌, List, [], ◌++◌, length, drop, IsSome}
 use Rattle.std.specs.Prelude.{Option, Some, None, Ok}
-use Rattle.xcp_base.specs.declared.limits.TheConstants.{MAX_CHANNELS, MAX_IMAGE_LEN}
+use Rattle.xcp_base.specs.declared.limits.TheConstants.{RUN_CHANNELS, MAX_IMAGE_LEN}
 use Rattle.xcp_base.specs.Forms.{size_of}
 use Rattle.daq_store.specs.declared.command.Command.{Command}
 use Rattle.daq_store.specs.declared.reply.Reply.{Reply}
@@ -22,7 +22,7 @@ use Rattle.c_engine.specs.Kinds.{kind_of}
 -- fields, and timestamps of three sizes
 abbrev pub AreLimits : StoreNumbers → Type 0
 AreLimits asked =
-    (1 ≤ asked.channels) × (asked.channels ≤ MAX_CHANNELS)
+    (1 ≤ asked.channels) × (asked.channels ≤ RUN_CHANNELS)
     × (1 ≤ asked.image_len) × (asked.image_len ≤ MAX_IMAGE_LEN)
     × IsSome (kind_of asked.id) × IsSome (size_of asked.stamp_size)
 

@@ -1,8 +1,9 @@
 -- The plans of the lists of an event channel, list by list.
-use Rattle.std.proofs.Common.{inl, inr, ◌≡◌, ℕ, zero, suc, ◌+◌, ◌≤◌, Bool, true, false, ◌&&◌, ◌||◌, List, [], ◌∷◌, ◌++◌, map, length, filter, nat_eq, sym, refl, ap, ◌∙◌, arith, cond, subst, All}
+use Rattle.std.proofs.Common.{inl, inr, ◌≡◌, ℕ, zero, suc, ◌+◌, ◌≤◌, Bool, true, false, ◌&&◌, ◌||◌, List, [], ◌∷◌, ◌++◌, map, length, filter, nat_eq, nat_le, sym, refl, ap, ◌∙◌, arith, cond, subst, All}
 use Rattle.std.specs.List.{list_all, range_with_len}
 use Rattle.std.proofs.lemmas.List.Elements.{All-head, All-tail, filter-append}
 use Rattle.std.proofs.lemmas.List.{map-append}
+use Rattle.xcp_base.specs.declared.limits.TheConstants.{RUN_CHANNELS}
 use Rattle.daq_store.specs.Calls.{numbers_below}
 use Rattle.daq_store.specs.Standing.{StoreState}
 use Rattle.copy_plan.specs.Config.{ListPlan, IsPlan}
@@ -63,6 +64,10 @@ and_right : (a b : Bool) → (a && b) ≡ true → b ≡ true
 and_right true b h = h
 and_right false b h = absurd cc
 
+and_right : (a b : Bool) → (a && b) ≡ true → b ≡ true
+and_right true b h = h
+and_right false b h = absurd cc
+
 -- the event channel of a list that is ready on it
 pub channel-ready : (s : StoreState) (c l : ℕ) → is_ready_on s c l ≡ true → (list_plan s l).channel ≡ c
 channel-ready s c l h =
@@ -106,5 +111,13 @@ rising s c plans e = subst (RiseFrom 0) (sym e) (rising-from s c 0 (length s.lis
 -- capacities that fit are one for each event channel
 pub one_for_each : (may_have : ℕ → Bool) (s : StoreState) (caps : List ℕ) → fit_caps_of may_have s caps ≡ true → length caps ≡ s.profile.channels
 one_for_each may_have s caps h =
-    let e : nat_eq (length caps) s.profile.channels ≡ true = and_left (nat_eq (length caps) s.profile.channels) (list_all may_have caps) h in
+    let many = and_left (nat_eq (length caps) s.profile.channels && nat_le (length caps) RUN_CHANNELS) (list_all may_have caps) h in
+    let e : nat_eq (length caps) s.profile.channels ≡ true = and_left (nat_eq (length caps) s.profile.channels) (nat_le (length caps) RUN_CHANNELS) many in
+    grind (arith, nat_tests, e)
+
+-- there are at most 8
+pub few_that_fit : (may_have : ℕ → Bool) (s : StoreState) (caps : List ℕ) → fit_caps_of may_have s caps ≡ true → length caps ≤ RUN_CHANNELS
+few_that_fit may_have s caps h =
+    let many = and_left (nat_eq (length caps) s.profile.channels && nat_le (length caps) RUN_CHANNELS) (list_all may_have caps) h in
+    let e : nat_le (length caps) RUN_CHANNELS ≡ true = and_right (nat_eq (length caps) s.profile.channels) (nat_le (length caps) RUN_CHANNELS) many in
     grind (arith, nat_tests, e)

@@ -5,7 +5,7 @@ use Rattle.std.specs.Prelude.{◌↔◌, false, IfErr, OnOk}
 use Rattle.std.specs.Prelude.{Option, Some, None, Result, Ok, Err}
 use Rattle.std.specs.List.{list_all, list_any}
 use Rattle.xcp_base.specs.declared.limits.TheConstants.{MAX_BYTE_RING, MAX_SAMPLE_RING}
-use Rattle.xcp_base.specs.declared.limits.TheConstants.{MIN_BYTE_RING}
+use Rattle.xcp_base.specs.declared.limits.TheConstants.{MIN_BYTE_RING, RUN_CHANNELS}
 use Rattle.daq_store.specs.Calls.{numbers_below}
 use Rattle.daq_store.specs.Configuration.{channel_of, is_ready}
 use Rattle.daq_store.specs.Standing.{StoreState, conf_of, first_pid_of, shows_running}
@@ -32,9 +32,12 @@ is_cap cap = nat_le 1 cap && nat_le cap MAX_SAMPLE_RING
 abbrev pub is_byte_cap : ℕ → Bool
 is_byte_cap cap = nat_le MIN_BYTE_RING cap && nat_le cap MAX_BYTE_RING
 
--- there is one capacity for each event channel, and a ring of this kind may have each of them
+-- there is one capacity for each event channel, at most RUN_CHANNELS, and a ring of this kind may
+-- have each of them
 abbrev pub fit_caps_of : (ℕ → Bool) → StoreState → List ℕ → Bool
-fit_caps_of may_have s caps = nat_eq (length caps) s.profile.channels && list_all may_have caps
+fit_caps_of may_have s caps =
+    nat_eq (length caps) s.profile.channels && nat_le (length caps) RUN_CHANNELS
+    && list_all may_have caps
 
 -- a DAQ list of the store runs
 abbrev pub some_list_runs : StoreState → Bool

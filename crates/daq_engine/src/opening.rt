@@ -1,7 +1,6 @@
 //! Samplers and transmitter are opened over a store, with a ring for each event channel.
 ghost use Rattle.std.specs.Prelude.{◌≡◌, ◌<◌, ◌≤◌, false, length, IfOk};
 ghost use Rattle.std.specs.List.{list_all};
-ghost use Rattle.xcp_base.specs.declared.limits.TheConstants.{MAX_CHANNELS};
 ghost use Rattle.sampler.specs.History.{Opening};
 ghost use Rattle.frame_writer.specs.Writing.{state_of};
 ghost use Rattle.transmitter.specs.Written.{next_of, transmission, writer_of};
@@ -20,13 +19,14 @@ use sampler::Sampler;
 use std::alloc::{AllocError, Global};
 use transmitter::Transmitter;
 use xcp_base::ChannelId;
+use xcp_base::limits::RUN_CHANNELS;
 
 /// Opens an engine over a store: a sampler for each event channel, in rising order, and the
 /// transmitter of their rings.
 ///
 /// Each DAQ list that is ready is in the sampler of its event channel, and runs there where it runs
-/// in the store. The ring of event channel `c` has `caps[c]` places, 1 to `MAX_SAMPLE_RING`.
-/// Refused with `BadCaps`, `NothingRunning` or `Memory`, in this order; then the writer comes back
+/// in the store. The ring of event channel `c` has `caps[c]` places, 1 to `MAX_SAMPLE_RING`. There
+/// are at most 8 event channels: over a store with more no capacities fit. Refused with `BadCaps`, `NothingRunning` or `Memory`, in this order; then the writer comes back
 /// as it was.
 pub fn open<O: Out>(
     alloc: Global,
@@ -107,7 +107,7 @@ fn are_caps<R: Ring>(caps: &[usize]) -> bool
 fn caps_fit<R: Ring>(store: &Store, caps: &[usize]) -> bool
     ensures { result ≡ fit_caps_of R.is_cap store.now caps.now }
 {
-    if caps.len() != store.channels() as usize {
+    if caps.len() != store.channels() as usize || caps.len() > RUN_CHANNELS as usize {
         return false;
     }
     are_caps::<R>(caps)
@@ -157,7 +157,6 @@ fn samplers_of<R: Ring>(
         AreOpenedTo R.Send.SendEnd R.Send.End.RingEnd R.Take.TakeEnd
         store.now caps.now r.0.items r.1.items) }
     ensures some { 1 ≤ store.now.profile.channels }
-    ensures few { store.now.profile.channels ≤ MAX_CHANNELS }
 {
     let channels = store.channels();
     let mut samplers = Vec::with_capacity(alloc, channels as usize)?;

@@ -5,7 +5,7 @@ use Rattle.std.specs.List.{list_all}
 use Rattle.std.proofs.lemmas.Bool.{false≢true, le-leb}
 use Rattle.std.proofs.lemmas.Bool.Decides.{eqb_tells}
 use Rattle.std.proofs.lemmas.List.Elements.{All-head, All-tail}
-use Rattle.xcp_base.specs.declared.limits.TheConstants.{MAX_BYTE_RING, MAX_SAMPLE_RING, MIN_BYTE_RING}
+use Rattle.xcp_base.specs.declared.limits.TheConstants.{MAX_BYTE_RING, MAX_SAMPLE_RING, MIN_BYTE_RING, RUN_CHANNELS}
 use Rattle.run_file.specs.Limits.{HasLimits, IsCap}
 use Rattle.xcp_base.specs.declared.ring_kind.RingKind.{RingKind}
 use Rattle.xcp_base.specs.declared.ring_kind.RingKind.TheVariants.{Bytes, Samples}
@@ -92,4 +92,5 @@ pub caps_fit : (may_have : ℕ → Bool) (run : RunData) (s : StoreState) → Ha
 caps_fit may_have run s limits profile fit =
     let channels : length run.caps ≡ s.profile.channels = limits.one_cap_each ∙ sym (ap (λ p. p.channels) profile) in
     let same : nat_eq (length run.caps) s.profile.channels ≡ true = elim (eqb_tells (length run.caps) s.profile.channels) [ inl w ↦ w.0 | inr w ↦ absurd (w.1 channels) ] in
-    ap₂ (λ a b. a && b) same fit
+    let few : length run.caps ≤ RUN_CHANNELS = omega (arith, limits.one_cap_each, limits.channels) in
+    ap₂ (λ a b. a && b) (ap₂ (λ a b. a && b) same (le-leb (length run.caps) RUN_CHANNELS few)) fit

@@ -1,5 +1,6 @@
 -- The set-up of a run.
 use Rattle.std.specs.Prelude.{◌≡◌, ℕ, List, [], ◌∷◌, ◌++◌}
+use Rattle.xcp_base.specs.declared.limits.TheConstants.{RUN_ENTRIES}
 use Rattle.segments.specs.Image.{image_segments}
 use Rattle.daq_store.specs.Calls.{Profile}
 use Rattle.daq_store.specs.Replies.{calls_after_packets, replies}
@@ -13,7 +14,12 @@ use Rattle.daq_run.specs.Setup.{NeedsMemory}
 -- what the store of a run is made for
 abbrev pub profile_of : RunData → Profile
 profile_of run =
-    record { channels = run.channels; segments = image_segments run.image_len; form = run.form }
+    record {
+      channels = run.channels;
+      most_entries = RUN_ENTRIES;
+      segments = image_segments run.image_len;
+      form = run.form;
+    }
 
 -- the replies to these command packets, to a store that was fresh
 abbrev pub first_replies : RunData → List (List ℕ) → List (List ℕ)

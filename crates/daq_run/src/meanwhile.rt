@@ -10,10 +10,10 @@ use std::sync::Wait;
 use std::sync::atomic::{AtomicBool, Ordering};
 use std::thread;
 use transmitter::Transmitter;
-use xcp_base::limits::MAX_CHANNELS;
+use xcp_base::limits::RUN_CHANNELS;
 
 /// One flag for each thread that there may be: whether it has ended.
-pub type Flags = [AtomicBool; MAX_CHANNELS as usize];
+pub type Flags = [AtomicBool; RUN_CHANNELS as usize];
 
 /// What is done while threads run, in the thread that joins them.
 ///

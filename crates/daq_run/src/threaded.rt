@@ -1,6 +1,6 @@
 //! A whole run with a thread for each event channel.
 ghost use Rattle.std.specs.Prelude.{◌≡◌, ◌≤◌, All, IfErr, IfOk, map, true, vec_capacity, vec_len};
-ghost use Rattle.xcp_base.specs.declared.limits.TheConstants.{MAX_CHANNELS};
+ghost use Rattle.xcp_base.specs.declared.limits.TheConstants.{RUN_CHANNELS};
 ghost use Rattle.std.specs.List.{list_all};
 ghost use Rattle.frame_writer.specs.Shown.{shown};
 ghost use Rattle.run_file.specs.RunFile.{RunData};
@@ -109,7 +109,7 @@ fn work_and_pump<R: Threads + Wait + Sync, S: SendEnd + Send, O: Out, T: TakeEnd
 ) -> Result<(Vec<SamplerEnd<S::End>>, u64), SimFault>
 where
     S::End: Send,
-    requires few { vec_len samplers ≤ MAX_CHANNELS }
+    requires few { vec_len samplers ≤ RUN_CHANNELS }
     ensures worked { IfOk result (λ r. HaveWorked S.SendEnd S.End.RingEnd
         samplers.items (map run_step run.now.steps) r.0.items r.1) }
     ensures late { IfErr result MayComeLate }
@@ -162,7 +162,7 @@ fn work_beside<
 ) -> (Result<(Vec<SamplerEnd<S::End>>, u64), SimFault>, M::Output)
 where
     S::End: Send + 'e,
-    requires few { vec_len samplers ≤ MAX_CHANNELS }
+    requires few { vec_len samplers ≤ RUN_CHANNELS }
     ensures worked { IfOk result.0 (λ r. HaveWorked S.SendEnd S.End.RingEnd
         samplers.items (map run_step run.now.steps) r.0.items r.1) }
     ensures late { IfErr result.0 MayComeLate }
@@ -172,7 +172,7 @@ where
         thread::scope_env(),
         rt,
         |scope| -> (Result<(Vec<SamplerEnd<S::End>>, u64), SimFault>, M::Output)
-            requires { vec_len samplers ≤ MAX_CHANNELS }
+            requires { vec_len samplers ≤ RUN_CHANNELS }
             ensures worked { IfOk result.0 (λ r. HaveWorked S.SendEnd S.End.RingEnd
                 samplers.items (map run_step run.entry.now.steps) r.0.items r.1) }
             ensures late { IfErr result.0 MayComeLate }
@@ -194,7 +194,7 @@ fn in_scope<'s, 'e, R: Threads, S: SendEnd + Send + 'e, G: Gate + Sync + 'e, M: 
 ) -> (Result<(Vec<SamplerEnd<S::End>>, u64), SimFault>, M::Output)
 where
     S::End: Send + 'e,
-    requires few { vec_len samplers ≤ MAX_CHANNELS }
+    requires few { vec_len samplers ≤ RUN_CHANNELS }
     ensures worked { IfOk result.0 (λ r. HaveWorked S.SendEnd S.End.RingEnd
         samplers.items (map run_step run.now.steps) r.0.items r.1) }
     ensures late { IfErr result.0 MayComeLate }
@@ -227,7 +227,7 @@ fn start_all<'s, 'e, S: SendEnd + Send + 'e, G: Gate + Sync + 'e>(
 ) -> (Vec<Worker<'e, S>>, bool)
 where
     S::End: Send + 'e,
-    requires few { vec_len samplers ≤ MAX_CHANNELS }
+    requires few { vec_len samplers ≤ RUN_CHANNELS }
     requires empty { vec_len room ≡ 0 }
     requires enough { vec_len samplers ≤ vec_capacity room }
     ensures of_samplers { result.1 ≡ true
@@ -258,7 +258,7 @@ fn join_all<'e, R: Threads, S: SendEnd>(
     workers: Vec<Worker<'e, S>>,
     room: Vec<SamplerEnd<S::End>>,
 ) -> Result<(Vec<SamplerEnd<S::End>>, u64), SimFault>
-    requires few { vec_len workers ≤ MAX_CHANNELS }
+    requires few { vec_len workers ≤ RUN_CHANNELS }
     requires empty { vec_len room ≡ 0 }
     requires enough { vec_len workers ≤ vec_capacity room }
     ensures worked { IfOk result (λ r. (run : RunData)

@@ -22,7 +22,7 @@ use Rattle.daq_store.specs.Answer.{answers, calls_after}
 
 -- one event channel, and images of so many bytes
 abbrev images_of : ℕ → Profile
-images_of n = record { channels = 1; segments = image_segments n; form = usual_form }
+images_of n = record { channels = 1; most_entries = 32; segments = image_segments n; form = usual_form }
 
 -- the calls that stand after a list of calls that were asked for, the first of which stands first here
 abbrev stand_after : Profile → List Command → List Command → List Command
@@ -233,7 +233,7 @@ three_segments =
     ∷ record { extension = 1; base = 0x1000; len = 4; events = 0x02 } ∷ []
 
 abbrev over_segments : Profile
-over_segments = record { channels = 2; segments = three_segments; form = usual_form }
+over_segments = record { channels = 2; most_entries = 255; segments = three_segments; form = usual_form }
 
 -- an entry lies in one segment, and READ_DAQ shows its extension
 abbrev writes_at_seams : List Command

@@ -2,7 +2,7 @@
 -- each call makes, in which order, stands in docs/PROFILE.md as a table.
 use Rattle.std.specs.Prelude.{ℕ, ◌==◌, ◌&&◌, ◌||◌, not, nat_lt, Bool, false, if◌then◌else◌}
 use Rattle.std.specs.Prelude.{List, [], ◌∷◌, Option, Some, None, is_some, is_none}
-use Rattle.xcp_base.specs.declared.limits.TheConstants.{MAX_ENTRIES, MAX_ENTRY_SIZE, MAX_LISTS}
+use Rattle.xcp_base.specs.declared.limits.TheConstants.{MAX_ENTRY_SIZE, MAX_LISTS}
 use Rattle.xcp_base.specs.declared.limits.TheConstants.{MAX_ODTS}
 use Rattle.xcp_base.specs.Forms.{first_pid_behind, most_odts}
 use Rattle.xcp_base.specs.declared.err_code.ErrCode.{ErrCode}
@@ -67,7 +67,7 @@ checks profile calls (AllocOdtEntry list odt count) =
     (any_list calls (is_running calls), DaqActive)
     ∷ (forbids_entries (phase_of calls), Sequence)
     ∷ (not (has_odt calls list odt), OutOfRange)
-    ∷ (nat_lt MAX_ENTRIES count, MemoryOverflow) ∷ []
+    ∷ (nat_lt profile.most_entries count, MemoryOverflow) ∷ []
 checks profile calls (SetDaqPtr list odt entry) =
     (is_active calls list, DaqActive)
     ∷ (not (has_entry calls list odt entry), OutOfRange) ∷ []

@@ -68,7 +68,7 @@ impl Store {
         if !self.has_odt(list, odt) {
             return Err(ErrCode::OutOfRange);
         }
-        if count as usize > MAX_ENTRIES {
+        if count > self.most_entries {
             return Err(ErrCode::MemoryOverflow);
         }
         Ok(())

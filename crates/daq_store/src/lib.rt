@@ -6,6 +6,7 @@ mod checks;
 pub mod command;
 mod effects;
 mod entry;
+mod limits;
 mod list_conf;
 mod list_state;
 mod mode;
@@ -17,6 +18,7 @@ mod reply;
 mod store;
 
 pub use entry::Entry;
+pub use limits::Limits;
 pub use list_conf::ListConf;
 pub use refusal::{BadLimits, NoMemory, Refusal};
 pub use reply::Reply;

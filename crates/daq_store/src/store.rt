@@ -1,11 +1,13 @@
 //! The store, with one call for each DAQ command: it is checked, and then carried out.
 ghost use Rattle.std.specs.Prelude.{◌≡◌, ◌≢◌, ◌≤◌, ◌↔◌, [], IsOk, IfOk, IfErr, OnOk, OnErr};
 ghost use Rattle.std.specs.Prelude.{IsSome, Some};
+ghost use Rattle.xcp_base.specs.declared.limits.TheConstants.{RUN_CHANNELS, RUN_ENTRIES};
 ghost use Rattle.xcp_base.specs.Forms.{form_of, usual_form};
 ghost use Rattle.segments.specs.Image.{image_segments};
 
 use crate::command::Command;
 use crate::entry::Entry;
+use crate::limits::Limits;
 use crate::list_state::ListState;
 use crate::mode::{Mode, TIMESTAMP};
 use crate::phase::Phase;
@@ -28,6 +30,7 @@ use xcp_base::{IdKind, PacketForm};
 pub struct Store {
     pub(crate) alloc: Global,
     pub(crate) channels: u16,
+    pub(crate) most_entries: u8,
     pub(crate) segments: Segments,
     pub(crate) form: PacketForm,
     pub(crate) lists: Vec<ListState>,
@@ -43,14 +46,24 @@ impl Model for Store {
     ghost use Rattle.daq_store.specs.Standing.{IsStore};
 
     ghost view = { λ a. record {
-      profile = record { channels = a.channels; segments = a.segments; form = a.form };
+      profile = record {
+        channels = a.channels;
+        most_entries = a.most_entries;
+        segments = a.segments;
+        form = a.form;
+      };
       lists = a.lists.items;
       pointer = a.pointer;
       phase = a.phase;
     } };
 
     ghost invariant = { λ a. IsStore (record {
-      profile = record { channels = a.channels; segments = a.segments; form = a.form };
+      profile = record {
+        channels = a.channels;
+        most_entries = a.most_entries;
+        segments = a.segments;
+        form = a.form;
+      };
       lists = a.lists.items;
       pointer = a.pointer;
       phase = a.phase;
@@ -63,13 +76,14 @@ impl Store {
 
     /// A store without lists, as after FREE_DAQ, for 1 to 8 event channels and an image of 1 to
     /// 4096 bytes: one segment, which each of them may read. Its packets have an absolute ODT
-    /// number, and timestamps of 4 bytes. It takes no memory; the allocator is kept for the three
-    /// allocations.
+    /// number, and timestamps of 4 bytes; its limits are those of a run. It takes no memory; the
+    /// allocator is kept for the three allocations.
     pub fn new(alloc: Global, channels: u16, image_len: usize) -> Result<Store, BadLimits>
-        ensures limits { IsOk result ↔ ((1 ≤ channels) × (channels ≤ MAX_CHANNELS)
+        ensures limits { IsOk result ↔ ((1 ≤ channels) × (channels ≤ RUN_CHANNELS)
             × (1 ≤ image_len) × (image_len ≤ MAX_IMAGE_LEN)) }
         ensures profile { IfOk result (λ s. s.profile ≡ record {
           channels = channels;
+          most_entries = RUN_ENTRIES;
           segments = image_segments image_len;
           form = usual_form;
         }) }
@@ -85,10 +99,11 @@ impl Store {
         image_len: usize,
         id: IdKind,
     ) -> Result<Store, BadLimits>
-        ensures limits { IsOk result ↔ ((1 ≤ channels) × (channels ≤ MAX_CHANNELS)
+        ensures limits { IsOk result ↔ ((1 ≤ channels) × (channels ≤ RUN_CHANNELS)
             × (1 ≤ image_len) × (image_len ≤ MAX_IMAGE_LEN)) }
         ensures profile { IfOk result (λ s. s.profile ≡ record {
           channels = channels;
+          most_entries = RUN_ENTRIES;
           segments = image_segments image_len;
           form = record usual_form { id = id };
         }) }
@@ -105,9 +120,10 @@ impl Store {
         id: IdKind,
         stamp_size: u8,
     ) -> Result<Store, BadLimits>
-        ensures limits { IsOk result ↔ ((1 ≤ channels) × (channels ≤ MAX_CHANNELS)
+        ensures limits { IsOk result ↔ ((1 ≤ channels) × (channels ≤ RUN_CHANNELS)
             × (1 ≤ image_len) × (image_len ≤ MAX_IMAGE_LEN) × IsSome (form_of id stamp_size)) }
         ensures profile { IfOk result (λ s. (s.profile.channels ≡ channels)
+            × (s.profile.most_entries ≡ RUN_ENTRIES)
             × (s.profile.segments ≡ image_segments image_len)) }
         ensures form { IfOk result (λ s. form_of id stamp_size ≡ Some s.profile.form) }
         ensures fresh { IfOk result (λ s. StoreStandsAfter s []) }
@@ -121,26 +137,28 @@ impl Store {
             Segments::of_image(image_len),
             id,
             stamp_size,
+            Limits::of_runs(),
         )
     }
 
-    /// The same for these segments: its entries lie in them, and a list is ready only if its event
-    /// channel may read those in which its entries lie.
+    /// The same for these segments and limits: its entries lie in them, and a list is ready only if
+    /// its event channel may read those in which its entries lie.
     pub fn over(
         alloc: Global,
         channels: u16,
         segments: Segments,
         id: IdKind,
         stamp_size: u8,
+        limits: Limits,
     ) -> Result<Store, BadLimits>
-        ensures limits { IsOk result ↔ ((1 ≤ channels) × (channels ≤ MAX_CHANNELS)
-            × IsSome (form_of id stamp_size)) }
-        ensures profile { IfOk result
-            (λ s. (s.profile.channels ≡ channels) × (s.profile.segments ≡ segments)) }
+        ensures limits { IsOk result ↔ ((1 ≤ channels) × (channels ≤ limits.channels)
+            × (channels ≤ MAX_CHANNELS) × IsSome (form_of id stamp_size)) }
+        ensures profile { IfOk result (λ s. (s.profile.channels ≡ channels)
+            × (s.profile.most_entries ≡ limits.entries) × (s.profile.segments ≡ segments)) }
         ensures form { IfOk result (λ s. form_of id stamp_size ≡ Some s.profile.form) }
         ensures fresh { IfOk result (λ s. StoreStandsAfter s []) }
     {
-        if channels == 0 || channels > MAX_CHANNELS {
+        if channels == 0 || channels > limits.channels || channels > MAX_CHANNELS {
             return Err(BadLimits);
         }
         let Some(form) = PacketForm::of(id, stamp_size) else {
@@ -149,6 +167,7 @@ impl Store {
         Ok(Store {
             alloc,
             channels,
+            most_entries: limits.entries,
             segments,
             form,
             lists: Vec::new(alloc),
@@ -205,8 +224,8 @@ impl Store {
     /// undefined; 0 is accepted.
     ///
     /// Refused in this order: ERR_DAQ_ACTIVE while a list runs, ERR_SEQUENCE before ALLOC_ODT,
-    /// ERR_OUT_OF_RANGE without such a list or ODT, ERR_MEMORY_OVERFLOW over 32 entries, lack of
-    /// memory.
+    /// ERR_OUT_OF_RANGE without such a list or ODT, ERR_MEMORY_OVERFLOW over the limit of entries,
+    /// lack of memory.
     pub fn alloc_odt_entry(&mut self, list: u16, odt: u8, count: u8) -> Result<(), Refusal>
         ensures accepted { OnOk result
             (Accepts self.old self.new (Command.AllocOdtEntry list odt count) Reply.Positive) }

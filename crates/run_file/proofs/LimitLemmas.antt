@@ -3,7 +3,7 @@ use Rattle.std.proofs.Common.{◌≡◌, ◌≤◌, ◌==◌, ◌&&◌, nat_le, 
 use Rattle.std.proofs.lemmas.Bool.{and_parts, leb-true, eqb-true}
 use Rattle.std.proofs.lemmas.List.Elements.{All-cons, All-nil, All-same}
 use Rattle.toml.specs.Data.{Data, Items, no_items, item, Members, as_array, as_integer, as_str, get_member}
-use Rattle.xcp_base.specs.declared.limits.TheConstants.{MAX_CHANNELS, MAX_IMAGE_LEN}
+use Rattle.xcp_base.specs.declared.limits.TheConstants.{RUN_CHANNELS, MAX_IMAGE_LEN}
 use Rattle.run_file.specs.declared.limits.TheConstants.{MAX_COMMAND_LEN, MAX_PACKETS, MAX_STEPS}
 use Rattle.run_file.specs.Keys.{all_of, at_key, bounded, cap_in, caps_in, caps_of, if_length, number_in, texts_at, texts_in}
 use Rattle.xcp_base.specs.Rings.{least_cap, most_cap}
@@ -77,7 +77,7 @@ pub run_limits : (text : List ℕ) (run : RunData) → IsRunText text run → Ha
 run_limits text run is =
     let keys = is.document.keys_are in
     let ms = is.document.document in
-    let channels = key_within 1 MAX_CHANNELS is.values.channels (codes "channels") ms keys.channels_is in
+    let channels = key_within 1 RUN_CHANNELS is.values.channels (codes "channels") ms keys.channels_is in
     let image_len = key_within 1 MAX_IMAGE_LEN is.values.image_len (codes "image_len") ms keys.image_len_is in
     let caps = caps_within is.values.ring is.values.channels is.values.caps ms keys.caps_are in
     let setup = texts_within MAX_PACKETS (codes "setup") is.values.setup ms keys.setup_is in

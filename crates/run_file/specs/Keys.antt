@@ -12,7 +12,7 @@ use Rattle.xcp_base.specs.declared.stamp_size.StampSize.TheVariants.{Four}
 use Rattle.xcp_base.specs.declared.packet_form.PacketForm.{PacketForm}
 use Rattle.xcp_base.specs.Forms.{size_of}
 use Rattle.xcp_base.specs.Rings.{least_cap, most_cap}
-use Rattle.xcp_base.specs.declared.limits.TheConstants.{MAX_CHANNELS, MAX_IMAGE_LEN, MAX_STAMP}
+use Rattle.xcp_base.specs.declared.limits.TheConstants.{RUN_CHANNELS, MAX_IMAGE_LEN, MAX_STAMP}
 use Rattle.run_file.specs.declared.limits.TheConstants.{MAX_PACKETS, MAX_STEPS}
 use Rattle.xcp_base.specs.declared.ring_kind.RingKind.{RingKind}
 use Rattle.xcp_base.specs.declared.ring_kind.RingKind.TheVariants.{Bytes, Samples}
@@ -120,7 +120,7 @@ drain_value None = Some true
 drain_value (Some d) = as_bool d
 
 abbrev pub channels_of : Members → Option ℕ
-channels_of ms = at_key (number_in 1 MAX_CHANNELS) (codes "channels") ms
+channels_of ms = at_key (number_in 1 RUN_CHANNELS) (codes "channels") ms
 
 abbrev pub image_len_of : Members → Option ℕ
 image_len_of ms = at_key (number_in 1 MAX_IMAGE_LEN) (codes "image_len") ms

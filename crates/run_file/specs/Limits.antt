@@ -1,6 +1,6 @@
 -- The limits that every run keeps.
 use Rattle.std.specs.Prelude.{◌≡◌, ◌<◌, ◌≤◌, ◌^◌, ℕ, All, length, ⊤}
-use Rattle.xcp_base.specs.declared.limits.TheConstants.{MAX_CHANNELS, MAX_IMAGE_LEN}
+use Rattle.xcp_base.specs.declared.limits.TheConstants.{RUN_CHANNELS, MAX_IMAGE_LEN}
 use Rattle.run_file.specs.declared.limits.TheConstants.{MAX_COMMAND_LEN, MAX_PACKETS, MAX_STEPS}
 use Rattle.xcp_base.specs.declared.ring_kind.RingKind.{RingKind}
 use Rattle.xcp_base.specs.Rings.{least_cap, most_cap}
@@ -22,7 +22,7 @@ IsStepWithin channels pump = ⊤
 
 pub record HasLimits (run : RunData) : Type 0 where
   pub some_channel : 1 ≤ run.channels
-  pub channels : run.channels ≤ MAX_CHANNELS
+  pub channels : run.channels ≤ RUN_CHANNELS
   pub some_byte : 1 ≤ run.image_len
   pub image_len : run.image_len ≤ MAX_IMAGE_LEN
   pub one_cap_each : length run.caps ≡ run.channels

@@ -9,7 +9,7 @@ use crate::keys::{
 use crate::limits::{MAX_PACKETS, MAX_STEPS};
 use std::alloc::{AllocError, Global};
 use toml::Table;
-use xcp_base::limits::{MAX_CHANNELS, MAX_IMAGE_LEN};
+use xcp_base::limits::{RUN_CHANNELS, MAX_IMAGE_LEN};
 
 /// The key for which a table is no run.
 #[derive(Clone, Copy, Debug, PartialEq, Eq)]
@@ -36,7 +36,7 @@ impl BadKey {
         if !are_keys(table) {
             return Ok(Some(BadKey::Unknown));
         }
-        let Some(channels) = number_at(table, "channels", 1, MAX_CHANNELS as usize) else {
+        let Some(channels) = number_at(table, "channels", 1, RUN_CHANNELS as usize) else {
             return Ok(Some(BadKey::Channels));
         };
         let None = bad_value(table) else {

@@ -3,7 +3,7 @@ ghost use Rattle.std.specs.Prelude.{◌≡◌, ◌≤◌, ◌⊎◌, IfErr, IfOk
 ghost use Rattle.toml.specs.View.{table_view};
 ghost use Rattle.run_file.specs.declared.run_fault.RunFault.TheVariants.{BadKey, Memory};
 ghost use Rattle.run_file.specs.Keys.{AreKeyValues, HasBadKey};
-ghost use Rattle.xcp_base.specs.declared.limits.TheConstants.{MAX_CHANNELS};
+ghost use Rattle.xcp_base.specs.declared.limits.TheConstants.{RUN_CHANNELS};
 ghost use Rattle.run_file.specs.Inner.{values_data};
 
 use crate::keys::{are_keys, array_at, caps_in, drain_of, form_of, number_at, ring_of, texts_at};
@@ -11,7 +11,7 @@ use crate::limits::{MAX_PACKETS, MAX_STEPS};
 use crate::run_fault::RunFault;
 use std::alloc::Global;
 use toml::{Table, Value};
-use xcp_base::limits::{MAX_CHANNELS, MAX_IMAGE_LEN};
+use xcp_base::limits::{RUN_CHANNELS, MAX_IMAGE_LEN};
 use xcp_base::{PacketForm, RingKind};
 
 /// The values of the keys, each of its type and within its limits. Packets and steps are still
@@ -32,14 +32,14 @@ pub struct Values<'a> {
 pub fn values_of<'a>(alloc: Global, table: &'a Table) -> Result<Values<'a>, RunFault>
     ensures ok { IfOk result (λ values. AreKeyValues (table_view table.now) (values_data values)) }
     ensures within { IfOk result (λ values.
-        (1 ≤ values.channels) × (values.channels ≤ MAX_CHANNELS)) }
+        (1 ≤ values.channels) × (values.channels ≤ RUN_CHANNELS)) }
     ensures err { IfErr result (λ e.
         (e ≡ Memory) ⊎ ((e ≡ BadKey) × HasBadKey (table_view table.now))) }
 {
     if !are_keys(table) {
         return Err(RunFault::BadKey);
     }
-    let Some(channels) = number_at(table, "channels", 1, MAX_CHANNELS as usize) else {
+    let Some(channels) = number_at(table, "channels", 1, RUN_CHANNELS as usize) else {
         return Err(RunFault::BadKey);
     };
     let Some(image_len) = number_at(table, "image_len", 1, MAX_IMAGE_LEN) else {

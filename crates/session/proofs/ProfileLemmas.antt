@@ -12,6 +12,8 @@ use Rattle.session.specs.declared.event_channel.EventChannel.{EventChannel}
 use Rattle.session.specs.declared.profile.ProfileFault.{ProfileFault}
 use Rattle.session.specs.declared.profile.ProfileFault.TheVariants as fault
 use Rattle.segments.specs.declared.fault.SegmentFault.{SegmentFault}
+use Rattle.segments.specs.declared.segment.Segment.{Segment}
+use Rattle.xcp_base.specs.declared.limits.TheConstants.{MAX_CHANNELS, MAX_ENTRIES}
 use Rattle.segments.specs.Faults.{segments_fault}
 use Rattle.session.specs.Profiles.{profile_fault, numbers_fault, names_fault, event_fault, events_fault, or_else, is_bad_name, is_unprintable, IsProfile, HasShortName, lists_of, memory_fault, segments_of, texts_fault}
 use Rattle.session.specs.declared.profile.TheConstants.{MAX_TEXT}
@@ -51,20 +53,20 @@ short_names (e ∷ more) h =
 -- what the numbers of a profile without a fault keep to
 pub record HasNumbers (d : Profile) : Type 0 where
   pub some : 1 ≤ length d.events.items
-  pub channels : length d.events.items ≤ 8
+  pub channels : length d.events.items ≤ MAX_CHANNELS
   pub stamp : is_none (size_of d.stamp_size) ≡ false
   pub unit : d.unit ≤ 9
 
 pub numbers_within : (d : Profile) → profile_fault d ≡ None → HasNumbers d
 numbers_within d h =
     let numbers = (neither (numbers_fault d) (or_else (names_fault d) (or_else (memory_fault d) (texts_fault d))) h).0 in
-    let channels = not_named (length d.events.items == 0 || nat_lt 8 (length d.events.items)) _ _ numbers in
+    let channels = not_named (length d.events.items == 0 || nat_lt MAX_CHANNELS (length d.events.items)) _ _ numbers in
     let stamp = not_named (is_none (size_of d.stamp_size)) _ _ channels.1 in
     let unit = not_named (nat_lt 9 d.unit) _ _ stamp.1 in
-    let c = first_false (length d.events.items == 0) (nat_lt 8 (length d.events.items)) channels.0 in
+    let c = first_false (length d.events.items == 0) (nat_lt MAX_CHANNELS (length d.events.items)) channels.0 in
     record {
       some = not_zero (length d.events.items) c.0;
-      channels = at_most 8 (length d.events.items) c.1;
+      channels = at_most MAX_CHANNELS (length d.events.items) c.1;
       stamp = stamp.0;
       unit = at_most 9 d.unit unit.0;
     }
@@ -103,12 +105,15 @@ profile_within d h =
     }
 
 -- what a store is made for, field by field
-pub lists_same : (p : ListsProfile) (d : Profile) → p.channels ≡ length d.events.items → p.segments ≡ segments_of d → form_of d.id d.stamp_size ≡ Some p.form
-    → p ≡ lists_of d
-lists_same p d channels segments form =
+pub lists_same : (p : ListsProfile) (d : Profile) → p.channels ≡ length d.events.items → p.most_entries ≡ MAX_ENTRIES → p.segments ≡ segments_of d
+    → form_of d.id d.stamp_size ≡ Some p.form → p ≡ lists_of d
+lists_same p d channels most segments form =
     let is : p.form ≡ unwrap_or (form_of d.id d.stamp_size) usual_form = sym (ap (λ (o : Option PacketForm). unwrap_or o usual_form) form) in
-    let one : p ≡ record { channels = length d.events.items; segments = p.segments; form = p.form } = ap (λ n. record { channels = n; segments = p.segments; form = p.form }) channels in
-    let two : record { channels = length d.events.items; segments = p.segments; form = p.form } ≡ record { channels = length d.events.items; segments = segments_of d; form = p.form } =
-    ap (λ ss. record { channels = length d.events.items; segments = ss; form = p.form }) segments in
-    let P : PacketForm → ListsProfile = λ f. record { channels = length d.events.items; segments = segments_of d; form = f } in
-    one ∙ two ∙ ap P is
+    let A : ℕ → ListsProfile = λ n. record { channels = n; most_entries = p.most_entries; segments = p.segments; form = p.form } in
+    let B : ℕ → ListsProfile = λ n. record { channels = length d.events.items; most_entries = n; segments = p.segments; form = p.form } in
+    let C : List Segment → ListsProfile = λ ss. record { channels = length d.events.items; most_entries = MAX_ENTRIES; segments = ss; form = p.form } in
+    let D : PacketForm → ListsProfile = λ f. record { channels = length d.events.items; most_entries = MAX_ENTRIES; segments = segments_of d; form = f } in
+    let one : p ≡ B p.most_entries = ap A channels in
+    let two : B p.most_entries ≡ C p.segments = ap B most in
+    let three : C p.segments ≡ D p.form = ap C segments in
+    one ∙ two ∙ three ∙ ap D is

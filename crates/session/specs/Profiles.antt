@@ -3,7 +3,7 @@ use Rattle.std.specs.Prelude.{◌≡◌, ℕ, ◌≤◌, ◌==◌, ◌||◌, nat
 use Rattle.std.specs.Prelude.{List, [], ◌∷◌, length, Option, Some, None, is_none}
 use Rattle.std.specs.Prelude.{option_map, unwrap_or}
 use Rattle.std.specs.List.{list_any}
-use Rattle.xcp_base.specs.declared.limits.TheConstants.{MAX_BYTE_RING, MAX_CHANNELS}
+use Rattle.xcp_base.specs.declared.limits.TheConstants.{MAX_BYTE_RING, MAX_CHANNELS, MAX_ENTRIES}
 use Rattle.xcp_base.specs.declared.limits.TheConstants.{MAX_NAME, MAX_SAMPLE_RING, MAX_UNIT}
 use Rattle.xcp_base.specs.declared.limits.TheConstants.{MIN_BYTE_RING}
 use Rattle.xcp_base.specs.Forms.{form_of, size_of, usual_form}
@@ -87,6 +87,7 @@ abbrev pub lists_of : Profile → ListsProfile
 lists_of d =
     record {
       channels = length d.events.items;
+      most_entries = MAX_ENTRIES;
       segments = segments_of d;
       form = unwrap_or (form_of d.id d.stamp_size) usual_form;
     }

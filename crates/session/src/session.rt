@@ -12,7 +12,7 @@ use crate::profile::{Profile, ProfileFault};
 use crate::request::{self, Request};
 use crate::source::{Source, TextOf};
 use daq_store::command::{self, Command};
-use daq_store::{NoMemory, Store};
+use daq_store::{Limits, NoMemory, Store};
 use segments::Segments;
 use std::alloc::Global;
 use std::marker::Model;
@@ -68,8 +68,15 @@ impl Session {
         let Ok(segments) = Segments::new(&profile.segments, channels) else {
             unreachable!()
         };
-        let Ok(store) = Store::over(alloc, channels, segments, profile.id, profile.stamp_size)
-        else {
+        let limits = Limits::of_slaves();
+        let Ok(store) = Store::over(
+            alloc,
+            channels,
+            segments,
+            profile.id,
+            profile.stamp_size,
+            limits,
+        ) else {
             unreachable!()
         };
         Ok(Session {

@@ -10,7 +10,7 @@ use Rattle.xcp_base.specs.Samples.{MarkParts, SampleParts}
 use Rattle.xcp_base.specs.declared.item.Item.{Item}
 use Rattle.xcp_base.specs.declared.item.Item.TheVariants.{Marker, Sample}
 use Rattle.xcp_base.specs.Lists.{has_list}
-use Rattle.xcp_base.specs.declared.limits.TheConstants.{MAX_CHANNELS}
+use Rattle.xcp_base.specs.declared.limits.TheConstants.{RUN_CHANNELS}
 use Rattle.frame_writer.specs.declared.layout.TheConstants.{MAX_SAMPLE_BYTES}
 use Rattle.transmitter.specs.Fills.{Tells}
 use Rattle.transmitter.specs.Inner.Fits.{HasTurns}
@@ -224,5 +224,5 @@ pub one_stop : (old new list l k : ℕ) → l ≡ list → has_list new k ≡ (h
 one_stop old new list l k is added = added ∙ (ap (λ n. has_list old k || nat_eq n k) is ∙ ap (λ b. has_list old k || b) (or_false (nat_eq list k)))
 
 -- in a buffer with room for the frames of a sample for each ring, turns stop at no ring
-pub all_fit : (stop n room end : ℕ) → (stop < n → room < end + MAX_SAMPLE_BYTES) → end ≤ MAX_SAMPLE_BYTES * stop → MAX_SAMPLE_BYTES * MAX_CHANNELS ≤ room → n ≤ MAX_CHANNELS → n ≤ stop
+pub all_fit : (stop n room end : ℕ) → (stop < n → room < end + MAX_SAMPLE_BYTES) → end ≤ MAX_SAMPLE_BYTES * stop → MAX_SAMPLE_BYTES * RUN_CHANNELS ≤ room → n ≤ RUN_CHANNELS → n ≤ stop
 all_fit stop n room end short bytes enough few = grind (arith, short, bytes, enough, few)

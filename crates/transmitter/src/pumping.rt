@@ -6,11 +6,11 @@ use crate::pumped_all::NOTHING;
 use crate::transmitter::Transmitter;
 use channel_ring::TakeEnd;
 use frame_writer::{MAX_SAMPLE_BYTES, SinkOut};
-use xcp_base::limits::{MAX_CHANNELS, MAX_TAKEN};
+use xcp_base::limits::{RUN_CHANNELS, MAX_TAKEN};
 
 /// The bytes that a pump writes at most: the frames of a sample at their longest, for each event
 /// channel.
-pub const MAX_PUMP: usize = MAX_CHANNELS as usize * MAX_SAMPLE_BYTES;
+pub const MAX_PUMP: usize = RUN_CHANNELS as usize * MAX_SAMPLE_BYTES;
 
 impl<T: TakeEnd> Transmitter<SinkOut, T> {
     ghost use Rattle.std.specs.Prelude.{◌≤◌, length, Ok, IfErr, IfOk};

@@ -1,6 +1,6 @@
 //! The transmitter: it pumps items off all rings, and counts the samples written of each list.
 ghost use Rattle.std.specs.Prelude.{◌≡◌, ℕ, ◌≤◌, is_some, slice_index, vec_len};
-ghost use Rattle.xcp_base.specs.declared.limits.TheConstants.{MAX_CHANNELS};
+ghost use Rattle.xcp_base.specs.declared.limits.TheConstants.{RUN_CHANNELS};
 ghost use Rattle.frame_writer.specs.Writing.{is_closed};
 
 use crate::faults::PumpFault;
@@ -30,7 +30,7 @@ pub struct Transmitter<O, T> {
     pub(crate) taken: u64,
     // The ring at which `pump_all` goes on.
     pub(crate) next: usize,
-    ghost few: { vec_len ends ≤ MAX_CHANNELS },
+    ghost few: { vec_len ends ≤ RUN_CHANNELS },
     ghost counted: { (l : ℕ) → slice_index written l ≤ taken },
     ghost held: { is_closed writer ≡ is_some hand },
 }
@@ -51,7 +51,7 @@ impl<O: Out, T: TakeEnd> Transmitter<O, T> {
     /// `ends` are the take ends of event channels 0, 1, .., from which nothing was taken.
     pub fn new(writer: FrameWriter<O>, ends: Vec<T>) -> Transmitter<O, T>
         requires some { 1 ≤ vec_len ends }
-        requires few { vec_len ends ≤ MAX_CHANNELS }
+        requires few { vec_len ends ≤ RUN_CHANNELS }
         requires nothing_taken { All (λ t. T.received t ≡ []) ends.items }
         requires is_open { (state_of O.Out writer).closed ≡ false }
         ensures stands { HasTaken (state_of O.Out writer) (transmission O.Out T.TakeEnd result) [] }
@@ -110,7 +110,7 @@ impl<O: Out, T: TakeEnd> Transmitter<O, T> {
     /// The number of rings, and so of event channels.
     pub fn rings(&self) -> usize
         ensures value { result ≡ length (transmission O.Out T.TakeEnd self.now).rings }
-        ensures limit { result ≤ MAX_CHANNELS }
+        ensures limit { result ≤ RUN_CHANNELS }
     {
         self.ends.len()
     }

@@ -1,7 +1,10 @@
 //! The limits of the profile, each of the type in which it is used.
 
-/// The most event channels.
-pub const MAX_CHANNELS: u16 = 8;
+/// The most event channels of a slave that a master connects to.
+pub const MAX_CHANNELS: u16 = 16;
+
+/// The most event channels of a run.
+pub const RUN_CHANNELS: u16 = 8;
 
 /// The most DAQ lists.
 pub const MAX_LISTS: u16 = 16;
@@ -13,14 +16,20 @@ pub const MAX_ODTS: usize = 8;
 /// 0x7B before the overload bit.
 pub const MAX_ODTS_IN_ALL: usize = 124;
 
-/// The most entries of one ODT.
-pub const MAX_ENTRIES: usize = 32;
+/// The most entries of one ODT of a slave that a master connects to.
+pub const MAX_ENTRIES: usize = 255;
+
+/// The most entries of one ODT of a run.
+pub const RUN_ENTRIES: u8 = 32;
 
 /// MAX_DTO: the longest packet, in bytes.
 pub const MAX_DTO: usize = 64;
 
-/// MAX_CTO: the longest command packet of a master and the longest reply to one, in bytes.
-pub const MAX_CTO: usize = 64;
+/// The greatest MAX_CTO of a slave: of its master's command packets and its replies, in bytes.
+pub const MAX_CTO: usize = 255;
+
+/// The least MAX_CTO of a slave, in bytes.
+pub const MIN_CTO: usize = 8;
 
 /// The longest name of a slave or of an event channel, in bytes: the reply to GET_ID has eight
 /// bytes before it.

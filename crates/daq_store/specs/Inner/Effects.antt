@@ -3,7 +3,7 @@ use Rattle.std.specs.Prelude.{◌≡◌, ℕ, ◌+◌, ◌-◌, ◌==◌, ◌&&�
 use Rattle.std.specs.Prelude.{if◌then◌else◌, [], length, map, sum_by, slice_index_or, slice_set}
 use Rattle.std.specs.Prelude.{replicate, List, Option, Some, None, is_none}
 use Rattle.std.specs.List.{list_any}
-use Rattle.xcp_base.specs.declared.limits.TheConstants.{MAX_ENTRIES, MAX_LISTS, MAX_ODTS}
+use Rattle.xcp_base.specs.declared.limits.TheConstants.{MAX_LISTS, MAX_ODTS}
 use Rattle.xcp_base.specs.declared.packet_form.PacketForm.{PacketForm}
 use Rattle.xcp_base.specs.Forms.{most_odts}
 use Rattle.xcp_base.specs.declared.err_code.ErrCode.{ErrCode}
@@ -102,7 +102,7 @@ shown_fault s (AllocOdt list count) =
 shown_fault s (AllocOdtEntry list odt count) =
     or_else (allocation_fault s (forbids_entries s.phase))
     (if not (shows_odt s list odt) then Some OutOfRange
-    else if nat_lt MAX_ENTRIES count then Some MemoryOverflow else None)
+    else if nat_lt s.profile.most_entries count then Some MemoryOverflow else None)
 shown_fault s (SetDaqPtr list odt entry) =
     if shows_running s list then Some DaqActive
     else if not (shows_entry s list odt entry) then Some OutOfRange else None
