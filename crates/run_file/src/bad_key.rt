@@ -9,7 +9,7 @@ use crate::keys::{
 use crate::limits::{MAX_PACKETS, MAX_STEPS};
 use std::alloc::{AllocError, Global};
 use toml::Table;
-use xcp_base::limits::{RUN_CHANNELS, MAX_IMAGE_LEN};
+use xcp_base::limits::{MAX_IMAGE_LEN, RUN_CHANNELS};
 
 /// The key for which a table is no run.
 #[derive(Clone, Copy, Debug, PartialEq, Eq)]

@@ -11,7 +11,7 @@ use crate::limits::{MAX_PACKETS, MAX_STEPS};
 use crate::run_fault::RunFault;
 use std::alloc::Global;
 use toml::{Table, Value};
-use xcp_base::limits::{RUN_CHANNELS, MAX_IMAGE_LEN};
+use xcp_base::limits::{MAX_IMAGE_LEN, RUN_CHANNELS};
 use xcp_base::{PacketForm, RingKind};
 
 /// The values of the keys, each of its type and within its limits. Packets and steps are still

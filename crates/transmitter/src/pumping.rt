@@ -6,7 +6,7 @@ use crate::pumped_all::NOTHING;
 use crate::transmitter::Transmitter;
 use channel_ring::TakeEnd;
 use frame_writer::{MAX_SAMPLE_BYTES, SinkOut};
-use xcp_base::limits::{RUN_CHANNELS, MAX_TAKEN};
+use xcp_base::limits::{MAX_TAKEN, RUN_CHANNELS};
 
 /// The bytes that a pump writes at most: the frames of a sample at their longest, for each event
 /// channel.
