@@ -74,11 +74,7 @@ fn texts_of(
 }
 
 /// The memory that is asked for: the image, as one segment, that all event channels may read.
-fn memory_of(
-    alloc: Global,
-    asked: &ProfileIn,
-    channels: usize,
-) -> Result<Vec<Segment>, AllocError>
+fn memory_of(alloc: Global, asked: &ProfileIn, channels: usize) -> Result<Vec<Segment>, AllocError>
     ensures { IfOk result (λ made. made.items ≡ memory_in asked.now channels) }
 {
     let mut made = Vec::new(alloc);
