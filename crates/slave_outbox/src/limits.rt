@@ -8,7 +8,7 @@ pub const PAGE: usize = 1400;
 /// The most replies that wait.
 pub const MAX_REPLIES: usize = 16;
 
-/// The frame of a reply at its longest: LEN, CTR and the packet.
+/// The frame of a reply at its longest, whatever MAX_CTO is: LEN, CTR and the packet.
 pub(crate) const MAX_REPLY: usize = 4 + MAX_CTO;
 
 /// What waits is never more: samples up to the page's end, and replies behind them.
@@ -19,4 +19,4 @@ pub(crate) const ROOM: usize = MOST + MAX_SAMPLE_BYTES;
 
 /// The most replies and samples that wait: more than find room, since each has a frame of at least
 /// four bytes.
-pub(crate) const MAX_UNITS: usize = 640;
+pub(crate) const MAX_UNITS: usize = 1408;
