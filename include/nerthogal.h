@@ -484,7 +484,7 @@ ng_status ng_sampler_free(ng_sampler *sampler);
  * The proofs speak of a log of what a slave did since it was opened: each call says by which acts
  * it goes on, and by how many at most; and one law holds of every log, docs/THEOREM.md. A slave
  * counts what it does, and once it counted 2^57 hears and takes nothing any more (NG_SPENT): a
- * packet counts as 64, a sample as 3. Once it is closed, its account is of all that its tasks gave
+ * packet counts as 128, a sample as 3. Once it is closed, its account is of all that its tasks gave
  * back, each once. Only tested, by session_test.c, tasks_test.c, accounts_test.c and
  * measurements_test.c of tests/c, and by tests/live: that what waits in a ring is taken, and that
  * what tasks gave back is found before. docs/PROVED.md says what is proved of the parts of a

@@ -25,8 +25,9 @@ use xcp_base::limits::RUN_CHANNELS;
 /// transmitter of their rings.
 ///
 /// Each DAQ list that is ready is in the sampler of its event channel, and runs there where it runs
-/// in the store. The ring of event channel `c` has `caps[c]` places, 1 to `MAX_SAMPLE_RING`. There
-/// are at most 8 event channels: over a store with more no capacities fit. Refused with `BadCaps`, `NothingRunning` or `Memory`, in this order; then the writer comes back
+/// in the store. The ring of event channel `c` has `caps[c]` places, 1 to `MAX_SAMPLE_RING`; over a
+/// store of more than 8 event channels no capacities fit.
+/// Refused with `BadCaps`, `NothingRunning` or `Memory`, in this order; then the writer comes back
 /// as it was.
 pub fn open<O: Out>(
     alloc: Global,

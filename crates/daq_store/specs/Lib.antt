@@ -6,6 +6,7 @@ pub mod Modes
 pub mod Running
 pub mod Configuration
 pub mod Answer
+pub mod Limited
 pub mod Standing
 pub mod Commands
 pub mod Replies

@@ -1,14 +1,15 @@
 -- Worked exchanges of slaves whose memory has several segments. Each has one event channel, an absolute ODT number and timestamps
 -- of 4 bytes.
-use Rattle.std.proofs.Common.{◌≡◌, ◌<◌, ℕ, List, [], ◌∷◌, length, map, Option, Some, None, true, lit<, refl}
+use Rattle.std.proofs.Common.{◌≡◌, ◌<◌, ℕ, List, [], ◌∷◌, length, map, replicate, Option, Some, None, true, lit<, refl}
 use Rattle.std.specs.declared.alloc.Global.{Global}
 use Rattle.std.specs.declared.vec.Vec.{Vec}
 use Rattle.std.proofs.Math.Nat.{le_refl}
 use Rattle.xcp_base.specs.declared.id_kind.IdKind.TheVariants.{Absolute}
 use Rattle.xcp_base.specs.declared.ring_kind.RingKind.TheVariants.{Bytes}
 use Rattle.segments.specs.declared.segment.Segment.{Segment}
+use Rattle.session.specs.declared.event_channel.EventChannel.{EventChannel}
 use Rattle.session.specs.declared.profile.Profile.{Profile}
-use Rattle.session.specs.declared.profile.ProfileFault.TheVariants.{Name, Segments}
+use Rattle.session.specs.declared.profile.ProfileFault.TheVariants.{Channels, Name, Segments}
 use Rattle.segments.specs.declared.fault.SegmentFault.TheVariants.{Events, Number}
 use Rattle.session.specs.Exchanges.{master_reply, past_after_packet}
 use Rattle.session.specs.Past.{Past, new_past}
@@ -302,3 +303,24 @@ the_texts_behind d = refl
 -- an event channel that isn't there may read no segment
 no_such_reader : (d : Profile) → profile_fault (over d (record { extension = 0; base = 0; len = 1; events = 0x02 } ∷ []) (lit< tt)) ≡ Some (Segments (Events 0))
 no_such_reader d = refl
+
+-- an ODT has up to 255 entries, of which SET_DAQ_PTR finds the last
+most_entries : (d : Profile) →
+    replies (over_three d) three_parts connected
+    ((0xD5 ∷ 0x00 ∷ 0x01 ∷ 0x00 ∷ [])
+    ∷ (0xD4 ∷ 0x00 ∷ 0x00 ∷ 0x00 ∷ 0x01 ∷ [])
+    ∷ (0xD3 ∷ 0x00 ∷ 0x00 ∷ 0x00 ∷ 0x00 ∷ 0xFF ∷ [])
+    ∷ (0xE2 ∷ 0x00 ∷ 0x00 ∷ 0x00 ∷ 0x00 ∷ 0xFE ∷ [])
+    ∷ (0xE2 ∷ 0x00 ∷ 0x00 ∷ 0x00 ∷ 0x00 ∷ 0xFF ∷ []) ∷ [])
+    ≡ map Some ((0xFF ∷ []) ∷ (0xFF ∷ []) ∷ (0xFF ∷ []) ∷ (0xFF ∷ []) ∷ (0xFE ∷ 0x22 ∷ []) ∷ [])
+most_entries d = refl
+
+-- a slave has up to 16 event channels
+abbrev event_of : Profile → EventChannel
+event_of d = record { capacity = 4096; name = with d.name [] (lit< tt); cycle = 0; cycle_unit = 0; priority = 0 }
+
+sixteen_channels : (d : Profile) → profile_fault (record (over_three d) { events = with d.events (replicate 16 (event_of d)) (lit< tt) }) ≡ None
+sixteen_channels d = refl
+
+seventeen_channels : (d : Profile) → profile_fault (record (over_three d) { events = with d.events (replicate 17 (event_of d)) (lit< tt) }) ≡ Some Channels
+seventeen_channels d = refl

@@ -17,6 +17,7 @@ use Rattle.slave.specs.Inner.{PartsGoBy, counting}
 use Rattle.slave.specs.Log.{Act, CameBack, Discarded, Heard, HungUp, Opened, Refused, Sent, Took, deeds_of, discarding, losing, past_of, reply_laid, sample_laid, sending, waits, weight}
 use Rattle.slave.specs.Standing.{PartsStandAfter, SlaveStandsAfter, SlaveState}
 use Rattle.slave.specs.declared.limits.TheConstants.{MOST_ACTS, PER_PACKET}
+use Rattle.xcp_base.specs.declared.limits.TheConstants.{MAX_CHANNELS}
 
 one-at-most : (b : Bool) → one_if b ≤ 1
 one-at-most true = omega arith
@@ -118,7 +119,7 @@ module _ {S T F : Type 0} (take : TakeGhosts T F) where
   )
 
   -- a slave goes on as its parts do, if it counts three for each act
-  pub counted : (a b : SlaveState S T) (acts : List Act) → a.acts < MOST_ACTS + PER_PACKET → length acts ≤ 18 → a.acts + 3 * length acts ≤ b.acts → PartsGoBy take a b acts → GoesBy take a b acts
+  pub counted : (a b : SlaveState S T) (acts : List Act) → a.acts < MOST_ACTS + PER_PACKET → length acts ≤ 2 + 2 * MAX_CHANNELS → a.acts + 3 * length acts ≤ b.acts → PartsGoBy take a b acts → GoesBy take a b acts
   counted a b acts fits few more goes = (
     goes.0,
     λ log stands. record {

@@ -5,8 +5,8 @@
 pub const MOST_ACTS: u64 = 0x1FF_FFFF_FFFF_FC00;
 
 /// What hearing a packet counts as: no less than three for each act, which are the packet's own, up
-/// to 16 parts of measurements that come back, and one that is opened.
-pub(crate) const PER_PACKET: u64 = 64;
+/// to 32 parts of measurements that come back, and one that is opened.
+pub(crate) const PER_PACKET: u64 = 128;
 
 /// What another act counts as: itself, what it lays out, which has still to be sent, and that of a
 /// master who connects.
