@@ -17,6 +17,6 @@ pub(crate) const MOST: usize = PAGE + MAX_REPLIES * MAX_REPLY;
 /// The room for it, with that of the longest sample behind it.
 pub(crate) const ROOM: usize = MOST + MAX_SAMPLE_BYTES;
 
-/// The most replies and samples that wait: more than find room, since each has a frame of at least
-/// four bytes.
-pub(crate) const MAX_UNITS: usize = 1408;
+/// The most replies and samples that wait: more than find room, since each sample has a frame of at
+/// least four bytes within the page.
+pub(crate) const MAX_UNITS: usize = 640;
