@@ -7,7 +7,7 @@ ghost use Rattle.c_engine.specs.Answers.{AnswersCommand, RepliesTo, WantsRoom};
 use crate::status::Status;
 use daq_store::{NoMemory, Reply, Store, command};
 
-/// The room that a reply needs, in bytes: MAX_CTO, the length of the longest packet that answers a
+/// The room that a reply needs, in bytes: the length of the longest packet that answers a
 /// command.
 pub const REPLY_BYTES: usize = 8;
 

@@ -42,7 +42,7 @@ fn serve(alloc: Global, slave: &mut Slave<SampleRing>, task: &mut Task<SendHalf>
     ensures lines { OnOk result (KeepsLines slave.old slave.new) }
     ensures line { OnOk result (task.new.ring ≡ task.old.ring) }
 {
-    let mut master = MasterStream::new();
+    let mut master = MasterStream::new(slave);
     let mut sent = String::new(alloc);
 
     // each reply waits until it is sent

@@ -9,25 +9,27 @@ use Rattle.arrayvec.specs.ArrayVec.{ArrayVec}
 use Rattle.frame_writer.specs.Reach.{reach}
 use Rattle.frame_writer.specs.Pieces.{SplitsInto}
 
--- the bytes that are held, and whether a frame was bad
+-- the bytes that are held, whether a frame was bad, and the most bytes of a master's packet
 pub record ReaderState : Type 0 where
   pub held : List ℕ
   pub closed : Bool
+  pub max_cto : ℕ
 
 -- the bytes split into frames with these packets, and then the bytes held: less than a frame, or
 -- if the reader is closed the begin of a bad one
 pub record ReaderStandsAfter (r : ReaderState) (bytes : List ℕ) (packets : List (List ℕ))
     : Type 0 where
-  pub split : SplitsInto bytes packets r.held
-  pub part : r.closed ≡ false → reach r.held ≡ Part
-  pub bad : r.closed ≡ true → reach r.held ≡ Bad
+  pub split : SplitsInto r.max_cto bytes packets r.held
+  pub part : r.closed ≡ false → reach r.max_cto r.held ≡ Part
+  pub bad : r.closed ≡ true → reach r.max_cto r.held ≡ Bad
 
--- if the old reader stands after some bytes and packets, the new one stands after those and then
--- these
-abbrev pub Leads : ReaderState → ReaderState → List ℕ → List (List ℕ) → Type 0
-Leads old new more given =
-    (bytes : List ℕ) (packets : List (List ℕ)) → ReaderStandsAfter old bytes packets
-    → ReaderStandsAfter new (bytes ++ more) (packets ++ given)
+-- MAX_CTO stays; and if the old reader stands after some bytes and packets, the new one stands
+-- after those and then these
+pub record Leads (old new : ReaderState) (more : List ℕ) (given : List (List ℕ)) : Type 0 where
+  pub max_cto : new.max_cto ≡ old.max_cto
+  pub after :
+      (bytes : List ℕ) (packets : List (List ℕ)) → ReaderStandsAfter old bytes packets
+      → ReaderStandsAfter new (bytes ++ more) (packets ++ given)
 
 -- the packet that was given, if there was one
 abbrev pub packet_list : Option (ArrayVec ℕ) → List (List ℕ)
@@ -48,5 +50,6 @@ pub record IsBadAfter (old new : ReaderState) (bytes : List ℕ) : Type 0 where
 -- what every reader keeps to
 pub record IsReader (r : ReaderState) : Type 0 where
   pub fit : All (λ b. b < 256) r.held
-  pub limit : length r.held < 4 + MAX_CTO
-  pub part : r.closed ≡ false → reach r.held ≡ Part
+  pub range : r.max_cto ≤ MAX_CTO
+  pub limit : length r.held < 4 + r.max_cto
+  pub part : r.closed ≡ false → reach r.max_cto r.held ≡ Part

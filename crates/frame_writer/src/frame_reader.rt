@@ -1,5 +1,5 @@
 //! The frames of a master, put together from bytes that come in pieces.
-ghost use Rattle.std.specs.Prelude.{◌≡◌, ◌≤◌, ◌<◌, [], ◌∷◌, IsErr, IfOk, OnErr};
+ghost use Rattle.std.specs.Prelude.{◌≡◌, ◌≤◌, ◌<◌, ◌+◌, [], ◌∷◌, IsErr, IfOk, OnErr};
 ghost use Rattle.std.specs.Prelude.{IsSome, IsNone, length, take, true, false};
 ghost use Rattle.frame_writer.specs.Reading.{ReaderStandsAfter, Leads, packet_list};
 ghost use Rattle.frame_writer.specs.Reading.{IsBadAfter, given_of};
@@ -10,7 +10,7 @@ use arrayvec::ArrayVec;
 use std::marker::Model;
 use xcp_base::limits::MAX_CTO;
 
-/// The longest frame of a master, in bytes.
+/// The longest frame of a master, whatever MAX_CTO is, in bytes.
 const MAX_FRAME: usize = 4 + MAX_CTO;
 
 /// What is held of a frame whose bytes come in pieces.
@@ -21,6 +21,7 @@ const MAX_FRAME: usize = 4 + MAX_CTO;
 pub struct FrameReader {
     held: ArrayVec<u8, MAX_FRAME>,
     closed: bool,
+    max_cto: u8,
 }
 
 impl Model for FrameReader {
@@ -28,20 +29,26 @@ impl Model for FrameReader {
 
     ghost Value = { ReaderState };
 
-    ghost view = { λ a. record { held = a.held.items; closed = a.closed } };
+    ghost view = { λ a. record { held = a.held.items; closed = a.closed; max_cto = a.max_cto } };
 
-    ghost invariant = { λ a. IsReader (record { held = a.held.items; closed = a.closed }) };
+    ghost invariant = { λ a. IsReader (record {
+      held = a.held.items;
+      closed = a.closed;
+      max_cto = a.max_cto;
+    }) };
 }
 
 impl FrameReader {
-    /// A reader that took no byte.
-    pub fn new() -> FrameReader
+    /// A reader that took no byte, of packets of at most `max_cto` bytes.
+    pub fn new(max_cto: u8) -> FrameReader
         ensures fresh { ReaderStandsAfter result [] [] }
         ensures stays_open { result.closed ≡ false }
+        ensures max_cto { result.max_cto ≡ max_cto }
     {
         FrameReader {
             held: ArrayVec::new(),
             closed: false,
+            max_cto,
         }
     }
 
@@ -55,7 +62,7 @@ impl FrameReader {
     /// How many bytes are held: less than a frame.
     pub fn held(&self) -> usize
         ensures value { result ≡ length self.now.held }
-        ensures limit { result < MAX_FRAME }
+        ensures limit { result < 4 + self.now.max_cto }
     {
         self.held.len()
     }
@@ -108,7 +115,7 @@ impl FrameReader {
         ensures stays_open { IfOk result (λ _. self.new.closed ≡ false) }
     {
         self.held.push(byte);
-        match how_far(self.held.as_slice()) {
+        match how_far(self.held.as_slice(), self.max_cto) {
             Reach::Part => Ok(None),
             Reach::Bad => {
                 self.closed = true;

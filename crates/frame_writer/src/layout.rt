@@ -36,7 +36,7 @@ pub fn place(room: &mut [u8], at: usize, bytes: &[u8]) -> usize
 
 /// Writes the frame of a packet from `at` on, and answers where it ends.
 pub fn place_frame(room: &mut [u8], at: usize, counter: u16, packet: &[u8]) -> usize
-    requires fits { length packet.now ≤ MAX_DTO }
+    requires fits { length packet.now ≤ 65535 }
     requires room { at + 4 + length packet.now ≤ length room.old }
     ensures frame { take result room.new ≡ take at room.old ++ frame counter packet.now }
     ensures end { result ≡ at + 4 + length packet.now }

@@ -2,8 +2,6 @@
 ghost use Rattle.std.specs.Prelude.{◌≡◌};
 ghost use Rattle.frame_writer.specs.Reach.{is_bad_len, reach};
 
-use xcp_base::limits::MAX_CTO;
-
 /// How far bytes that begin a frame reach.
 #[derive(Clone, Copy, Debug, PartialEq, Eq)]
 pub enum Reach {
@@ -15,14 +13,14 @@ pub enum Reach {
     Bad,
 }
 
-/// How far some bytes reach into the frame that they begin.
-pub fn how_far(bytes: &[u8]) -> Reach
-    ensures { result ≡ reach bytes.now }
+/// How far some bytes reach into the frame that they begin, if packets have at most `max_cto` bytes.
+pub fn how_far(bytes: &[u8], max_cto: u8) -> Reach
+    ensures { result ≡ reach max_cto bytes.now }
 {
     match bytes {
         [low, high, rest @ ..] => {
             let len = u16::from_le_bytes([*low, *high]);
-            if is_bad_len(len) {
+            if is_bad_len(len, max_cto) {
                 return Reach::Bad;
             }
             if rest.len() < 2 + len as usize {
@@ -35,8 +33,8 @@ pub fn how_far(bytes: &[u8]) -> Reach
 }
 
 /// Whether LEN is 0 or over MAX_CTO.
-fn is_bad_len(len: u16) -> bool
-    ensures { result ≡ is_bad_len len }
+fn is_bad_len(len: u16, max_cto: u8) -> bool
+    ensures { result ≡ is_bad_len max_cto len }
 {
-    len == 0 || len as usize > MAX_CTO
+    len == 0 || len > max_cto as u16
 }

@@ -6,3 +6,5 @@ pub mod StartLemmas
 pub mod SetUpLemmas
 mod StandardFacts
 mod MemoryFacts
+mod CtoFacts
+pub mod FitLemmas

@@ -16,21 +16,21 @@ use Rattle.session.specs.Past.{Past, new_past}
 use Rattle.session.specs.Profiles.{profile_fault}
 
 -- the replies to packets, with this memory at each of them
-abbrev replies : Profile → List (List ℕ) → Past → List (List ℕ) → List (Option (List ℕ))
+abbrev pub replies : Profile → List (List ℕ) → Past → List (List ℕ) → List (Option (List ℕ))
 replies d memory past [] = []
 replies d memory past (packet ∷ more) =
     master_reply d past (record { clock = 0; memory = memory }) packet
     ∷ replies d memory (past_after_packet d past (record { clock = 0; memory = memory }) packet) more
 
-abbrev connected : Past
+abbrev pub connected : Past
 connected = record new_past { connected = true }
 
 -- a vector of these items, at the place of another
-abbrev with : {X : Type 0} → Vec X Global → (xs : List X) → length xs < 9223372036854775808 → Vec X Global
+abbrev pub with : {X : Type 0} → Vec X Global → (xs : List X) → length xs < 9223372036854775808 → Vec X Global
 with v xs small = record { ptr = v.ptr; len = length xs; cap = length xs; alloc = v.alloc; items = xs; ok = (refl, le_refl (length xs)); small = small }
 
 -- the profile of these segments, with the places of another
-abbrev over : Profile → (xs : List Segment) → length xs < 9223372036854775808 → Profile
+abbrev pub over : Profile → (xs : List Segment) → length xs < 9223372036854775808 → Profile
 over d xs small =
     record {
       segments = with d.segments xs small;
@@ -39,6 +39,7 @@ over d xs small =
       unit = 3;
       ticks = 1;
       ring = Bytes;
+      max_cto = 64;
       name = with d.name [] (lit< tt);
       events = with d.events (record { capacity = 4096; name = with d.name (0x65 ∷ 0x30 ∷ []) (lit< tt); cycle = 0; cycle_unit = 0; priority = 0 } ∷ []) (lit< tt);
       a2l_name = with d.a2l_name [] (lit< tt);
@@ -47,14 +48,14 @@ over d xs small =
     }
 
 -- two segments of extension 0, of which the event channel may read the first, and one of extension 1
-abbrev over_three : Profile → Profile
+abbrev pub over_three : Profile → Profile
 over_three d = over d (
     record { extension = 0; base = 0x1000; len = 16; events = 0x01 }
     ∷ record { extension = 0; base = 0x2000; len = 8; events = 0x00 }
     ∷ record { extension = 1; base = 0; len = 4; events = 0x01 } ∷ []
     ) (lit< tt)
 
-abbrev three_parts : List (List ℕ)
+abbrev pub three_parts : List (List ℕ)
 three_parts =
     (0x00 ∷ 0x01 ∷ 0x02 ∷ 0x03 ∷ 0x04 ∷ 0x05 ∷ 0x06 ∷ 0x07 ∷ 0x08 ∷ 0x09 ∷ 0x0A ∷ 0x0B ∷ 0x0C ∷ 0x0D ∷ 0x0E ∷ 0x0F ∷ [])
     ∷ (0x20 ∷ 0x21 ∷ 0x22 ∷ 0x23 ∷ 0x24 ∷ 0x25 ∷ 0x26 ∷ 0x27 ∷ []) ∷ (0xA0 ∷ 0xA1 ∷ 0xA2 ∷ 0xA3 ∷ []) ∷ []
@@ -287,7 +288,7 @@ many_at_once : (d : Profile) →
 many_at_once d = refl
 
 -- the faults of segments stand behind those of names, and before those of the texts
-abbrev without_segments : Profile → Profile
+abbrev pub without_segments : Profile → Profile
 without_segments d = over d [] (lit< tt)
 
 no_segments : (d : Profile) → profile_fault (without_segments d) ≡ Some (Segments Number)

@@ -1,5 +1,5 @@
 -- A profile without a fault is within its limits.
-use Rattle.std.proofs.Common.{◌≡◌, ◌≤◌, ◌∙◌, ℕ, Bool, true, false, List, [], ◌∷◌, length, Option, Some, None, is_none, unwrap_or, refl, sym, ap, arith}
+use Rattle.std.proofs.Common.{◌≡◌, ◌≤◌, ◌∙◌, ℕ, ◌+◌, Bool, true, false, List, [], ◌∷◌, length, Option, Some, None, is_none, unwrap_or, refl, sym, ap, arith}
 use Rattle.std.specs.Prelude.{All, option_map, ◌==◌, ◌||◌, nat_lt, if◌then◌else◌}
 use Rattle.std.specs.List.{list_any}
 use Rattle.std.proofs.lemmas.Bool.Decides.{nat_tests}
@@ -13,9 +13,9 @@ use Rattle.session.specs.declared.profile.ProfileFault.{ProfileFault}
 use Rattle.session.specs.declared.profile.ProfileFault.TheVariants as fault
 use Rattle.segments.specs.declared.fault.SegmentFault.{SegmentFault}
 use Rattle.segments.specs.declared.segment.Segment.{Segment}
-use Rattle.xcp_base.specs.declared.limits.TheConstants.{MAX_CHANNELS, MAX_ENTRIES}
+use Rattle.xcp_base.specs.declared.limits.TheConstants.{MAX_CHANNELS, MAX_CTO, MAX_ENTRIES, MIN_CTO}
 use Rattle.segments.specs.Faults.{segments_fault}
-use Rattle.session.specs.Profiles.{profile_fault, numbers_fault, names_fault, event_fault, events_fault, or_else, is_bad_name, is_unprintable, IsProfile, HasShortName, lists_of, memory_fault, segments_of, texts_fault}
+use Rattle.session.specs.Profiles.{profile_fault, numbers_fault, names_fault, event_fault, events_fault, or_else, is_bad_name, is_unprintable, IsProfile, HasShortName, cto_fault, lists_of, memory_fault, segments_of, texts_fault}
 use Rattle.session.specs.declared.profile.TheConstants.{MAX_TEXT}
 
 -- a test that names no fault
@@ -59,7 +59,7 @@ pub record HasNumbers (d : Profile) : Type 0 where
 
 pub numbers_within : (d : Profile) → profile_fault d ≡ None → HasNumbers d
 numbers_within d h =
-    let numbers = (neither (numbers_fault d) (or_else (names_fault d) (or_else (memory_fault d) (texts_fault d))) h).0 in
+    let numbers = (neither (numbers_fault d) (or_else (names_fault d) (or_else (memory_fault d) (or_else (cto_fault d) (texts_fault d)))) h).0 in
     let channels = not_named (length d.events.items == 0 || nat_lt MAX_CHANNELS (length d.events.items)) _ _ numbers in
     let stamp = not_named (is_none (size_of d.stamp_size)) _ _ channels.1 in
     let unit = not_named (nat_lt 9 d.unit) _ _ stamp.1 in
@@ -71,12 +71,13 @@ numbers_within d h =
       unit = at_most 9 d.unit unit.0;
     }
 
--- the faults behind those of the numbers: of the names, of the segments, of the texts
-behind_numbers : (d : Profile) → profile_fault d ≡ None → (names_fault d ≡ None) × (memory_fault d ≡ None) × (texts_fault d ≡ None)
+-- the faults behind those of the numbers: of the names, of the segments, of MAX_CTO, of the texts
+behind_numbers : (d : Profile) → profile_fault d ≡ None → (names_fault d ≡ None) × (memory_fault d ≡ None) × (cto_fault d ≡ None) × (texts_fault d ≡ None)
 behind_numbers d h =
-    let more = neither (names_fault d) (or_else (memory_fault d) (texts_fault d)) (neither (numbers_fault d) (or_else (names_fault d) (or_else (memory_fault d) (texts_fault d))) h).1 in
-    let last = neither (memory_fault d) (texts_fault d) more.1 in
-    (more.0, last.0, last.1)
+    let more = neither (names_fault d) (or_else (memory_fault d) (or_else (cto_fault d) (texts_fault d))) (neither (numbers_fault d) (or_else (names_fault d) (or_else (memory_fault d) (or_else (cto_fault d) (texts_fault d)))) h).1 in
+    let memory = neither (memory_fault d) (or_else (cto_fault d) (texts_fault d)) more.1 in
+    let last = neither (cto_fault d) (texts_fault d) memory.1 in
+    (more.0, memory.0, last.0, last.1)
 
 -- no fault comes from no fault of the segments alone
 of_segments : (first : Option SegmentFault) → option_map fault.Segments first ≡ None → first ≡ None
@@ -88,7 +89,10 @@ profile_within d h =
     let n = numbers_within d h in
     let named = behind_numbers d h in
     let names = named.0 in
-    let a2l_name = not_named (is_bad_name d.a2l_name.items) _ _ named.2 in
+    let cto = not_named (nat_lt d.max_cto MIN_CTO || nat_lt MAX_CTO d.max_cto) _ _ named.2 in
+    let limits = first_false (nat_lt d.max_cto MIN_CTO) (nat_lt MAX_CTO d.max_cto) cto.0 in
+    let room = not_named (nat_lt d.max_cto (8 + length d.name.items)) _ _ cto.1 in
+    let a2l_name = not_named (is_bad_name d.a2l_name.items) _ _ named.3 in
     let epk = not_named (is_bad_name d.epk.items) _ _ a2l_name.1 in
     let a2l = not_named (nat_lt MAX_TEXT (length d.a2l.items)) _ _ epk.1 in
     let name = not_named (is_bad_name d.name.items) _ _ names in
@@ -102,6 +106,9 @@ profile_within d h =
       a2l = at_most MAX_TEXT (length d.a2l.items) a2l.0;
       names = short_names d.events.items name.1;
       segments = of_segments (segments_fault (length d.events.items) (segments_of d)) named.1;
+      least = at_most d.max_cto MIN_CTO limits.0;
+      most = at_most MAX_CTO d.max_cto limits.1;
+      reply = at_most d.max_cto (8 + length d.name.items) room.0;
     }
 
 -- what a store is made for, field by field

@@ -146,15 +146,15 @@ other_request d past packet (Lists call) l h = absurd (h call refl)
 
 -- while a master is connected, a packet starts what its request starts
 connected_packet : (d : Profile) (past : Past) (packet : List ℕ) (asked : Request) (l : ℕ) → past.connected ≡ true
-    → request packet ≡ Ok asked
+    → request d.max_cto packet ≡ Ok asked
     → starts d past packet l ≡ gains past.calls (past_after d past none_given packet asked).calls l
 connected_packet d past packet asked l is reads =
-    let read = request packet in
+    let read = request d.max_cto packet in
     ap (λ b. gains past.calls (if b then past_after_read d past none_given packet read else past_after_greeting past read).calls l) is
     ∙ ap (λ r. gains past.calls (past_after_read d past none_given packet r).calls l) reads
 
 pub other_packet : (d : Profile) (past : Past) (packet : List ℕ) (asked : Request) (l : ℕ) → past.connected ≡ true
-    → request packet ≡ Ok asked → ((call : Command) → asked ≢ Lists call) → starts d past packet l ≡ false
+    → request d.max_cto packet ≡ Ok asked → ((call : Command) → asked ≢ Lists call) → starts d past packet l ≡ false
 other_packet d past packet asked l is reads other =
     connected_packet d past packet asked l is reads ∙ other_request d past packet asked l other
 
@@ -167,7 +167,7 @@ greeting_kept past false l = not-and (is_active past.calls l)
 pub unconnected_packet : (d : Profile) (past : Past) (packet : List ℕ) (l : ℕ) → past.connected ≡ false
     → starts d past packet l ≡ false
 unconnected_packet d past packet l is =
-    let read = request packet in
+    let read = request d.max_cto packet in
     ap (λ b. gains past.calls (if b then past_after_read d past none_given packet read else past_after_greeting past read).calls l) is
     ∙ greeting_kept past (is_greeting read) l
 
@@ -198,8 +198,8 @@ same-read d past g h packet (Err code) = refl
 pub same_calls : (d : Profile) (past : Past) (g h : Given) (packet : List ℕ) → (past_after_packet d past g packet).calls ≡ (past_after_packet d past h packet).calls
 same_calls d past g h packet = by past.connected
   where
-    by : (b : Bool) → (if b then past_after_read d past g packet (request packet) else past_after_greeting past (request packet)).calls ≡ (if b then past_after_read d past h packet (request packet) else past_after_greeting past (request packet)).calls
-    by true = same-read d past g h packet (request packet)
+    by : (b : Bool) → (if b then past_after_read d past g packet (request d.max_cto packet) else past_after_greeting past (request d.max_cto packet)).calls ≡ (if b then past_after_read d past h packet (request d.max_cto packet) else past_after_greeting past (request d.max_cto packet)).calls
+    by true = same-read d past g h packet (request d.max_cto packet)
     by false = refl
 
 -- one number more at the end

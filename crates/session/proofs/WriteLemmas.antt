@@ -41,7 +41,7 @@ nowhere_is_out_of_range d past given may bit size ext i j k l more nowhere =
     let packet : List ℕ = 0xE1 ∷ bit ∷ size ∷ ext ∷ i ∷ j ∷ k ∷ l ∷ more in
     let bad : is_bad_entry (segments_of d) bit size ext (dword i j k l) ≡ true =
     last_of_four (not (bit == 0xFF)) (size == 0) (nat_lt MAX_ENTRY_SIZE size) (is_none (segment_of (segments_of d) ext (dword i j k l) size)) (ap is_none nowhere) in
-    ap (λ b. if b then Some (read_reply d past given packet (request packet)) else greeting_reply (request packet)) may.connected
+    ap (λ b. if b then Some (read_reply d past given packet (request d.max_cto packet)) else greeting_reply d (request d.max_cto packet)) may.connected
     ∙ ap (λ f. Some (reply_bytes (reply_by Positive f)))
     (third_fails (is_active_at past.calls (pointer past.calls)) (is_none (pointer past.calls)) (is_bad_entry (segments_of d) bit size ext (dword i j k l)) may.stopped may.pointed bad)
 
@@ -81,7 +81,7 @@ shows_what_is_written d past given connected earlier l k e bit size ext addr mor
     let all : List Command = SetDaqPtr l k e ∷ WriteDaq bit size ext addr ∷ before in
     let inside = second_true (has_odt earlier l k) (nat_lt e (entry_count earlier l k)) there in
     let fine : is_none (pointer all) ≡ false = ap is_none (pointer-set (WriteDaq bit size ext addr ∷ before) l k e inside) in
-    ap (λ b. if b then Some (read_reply d past given packet (request packet)) else greeting_reply (request packet)) connected
+    ap (λ b. if b then Some (read_reply d past given packet (request d.max_cto packet)) else greeting_reply d (request d.max_cto packet)) connected
     ∙ ap (λ cs. Some (reply_bytes (answer (lists_of d) cs ReadDaq))) calls
     ∙ ap (λ b. Some (reply_bytes (reply_by (read_reply_of (pointed all)) (first_failing ((b, Sequence) ∷ []))))) fine
     ∙ ap (λ o. Some (reply_bytes (read_reply_of o))) (pointed-write earlier l k e bit size ext addr inside)

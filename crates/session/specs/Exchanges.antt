@@ -46,7 +46,7 @@ calls_after_writes lists calls (call ∷ more) =
 
 -- the reply to a request
 abbrev pub request_reply : Profile → Past → Given → List ℕ → Request → List ℕ
-request_reply d past given packet (Connect mode) = packet_of (connect_reply mode)
+request_reply d past given packet (Connect mode) = packet_of (connect_reply d mode)
 request_reply d past given packet Disconnect = packet_of (Ok [])
 request_reply d past given packet GetStatus =
     packet_of (Ok (status_fields (any_list past.calls (is_running past.calls))))
@@ -101,8 +101,9 @@ is_greeting (Ok (Connect mode)) = mode == 0
 is_greeting _ = false
 
 -- the reply to what was read while no master is connected, if there is one, and what it leaves
-abbrev pub greeting_reply : Result Request ErrCode → Option (List ℕ)
-greeting_reply read = if is_greeting read then Some (packet_of (connect_reply 0)) else None
+abbrev pub greeting_reply : Profile → Result Request ErrCode → Option (List ℕ)
+greeting_reply d read =
+    if is_greeting read then Some (packet_of (connect_reply d 0)) else None
 
 abbrev pub past_after_greeting : Past → Result Request ErrCode → Past
 past_after_greeting past read = if is_greeting read then record past { connected = true } else past
@@ -120,13 +121,13 @@ past_after_read d past given packet (Err code) = past
 -- the reply to a packet of the master, if there is one, and what the packet leaves
 abbrev pub master_reply : Profile → Past → Given → List ℕ → Option (List ℕ)
 master_reply d past given packet =
-    if past.connected then Some (read_reply d past given packet (request packet))
-    else greeting_reply (request packet)
+    if past.connected then Some (read_reply d past given packet (request d.max_cto packet))
+    else greeting_reply d (request d.max_cto packet)
 
 abbrev pub past_after_packet : Profile → Past → Given → List ℕ → Past
 past_after_packet d past given packet =
-    if past.connected then past_after_read d past given packet (request packet)
-    else past_after_greeting past (request packet)
+    if past.connected then past_after_read d past given packet (request d.max_cto packet)
+    else past_after_greeting past (request d.max_cto packet)
 
 -- a packet, what was handed in with it, and whether there was no memory for it
 pub record Exchange : Type 0 where
@@ -139,7 +140,7 @@ pub record Exchange : Type 0 where
 pub record MayBeOut (d : Profile) (past : Past) (packet : List ℕ) : Type 0 where
   pub connected : past.connected ≡ true
   pub call : Command
-  pub read : request packet ≡ Ok (Lists call)
+  pub read : request d.max_cto packet ≡ Ok (Lists call)
   pub allocates : Allocates call
   pub passes : fault_of (lists_of d) past.calls call ≡ None
 

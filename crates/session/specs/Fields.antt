@@ -3,7 +3,6 @@
 use Rattle.std.specs.Prelude.{◌≡◌, ℕ, ◌≤◌, ◌==◌, ◌||◌, Bool, true, false, List, [], ◌∷◌, length}
 use Rattle.std.specs.Prelude.{Result, Ok, Err}
 use Rattle.xcp_base.specs.declared.err_code.ErrCode.{ErrCode}
-use Rattle.xcp_base.specs.declared.limits.TheConstants.{MAX_CTO}
 use Rattle.xcp_base.specs.ErrorCodes.{error_byte}
 use Rattle.daq_store.specs.Commands.{dword_bytes, word_bytes}
 
@@ -27,7 +26,7 @@ abbrev pub begins_reply : List ℕ → Bool
 begins_reply [] = false
 begins_reply (first ∷ more) = first == 0xFF || first == 0xFE
 
--- the packet of some reply
-pub record IsReplyPacket (packet : List ℕ) : Type 0 where
+-- the packet of some reply, of at most so many bytes
+pub record IsReplyPacket (max_cto : ℕ) (packet : List ℕ) : Type 0 where
   pub begins : begins_reply packet ≡ true
-  pub fits : length packet ≤ MAX_CTO
+  pub fits : length packet ≤ max_cto

@@ -1,5 +1,5 @@
 -- What follows from the definitions.
-use Rattle.std.specs.Prelude.{◌≡◌, ℕ, true, false, List, ◌∷◌, Some, None, Err, is_none}
+use Rattle.std.specs.Prelude.{◌≡◌, ℕ, true, false, List, ◌∷◌, Some, None, Err, is_none, IfSome}
 use Rattle.xcp_base.specs.declared.err_code.ErrCode.TheVariants.{OutOfRange}
 use Rattle.segments.specs.Places.{segment_of}
 use Rattle.daq_store.specs.declared.command.Command.{Command}
@@ -9,10 +9,10 @@ use Rattle.daq_store.specs.Commands.{dword}
 use Rattle.daq_store.specs.Pointer.{pointer}
 use Rattle.daq_store.specs.Shape.{has_entry}
 use Rattle.session.specs.declared.profile.Profile.{Profile}
-use Rattle.session.specs.Exchanges.{master_reply}
-use Rattle.session.specs.Fields.{DWORD, packet_of}
+use Rattle.session.specs.Exchanges.{Exchange, master_reply, reply_in}
+use Rattle.session.specs.Fields.{DWORD, IsReplyPacket, packet_of}
 use Rattle.session.specs.Past.{Given, Past}
-use Rattle.session.specs.Profiles.{segments_of}
+use Rattle.session.specs.Profiles.{profile_fault, segments_of}
 
 -- the master is connected, and its DAQ pointer is at an entry of a list that doesn't run
 pub record MayWrite (past : Past) : Type 0 where
@@ -38,3 +38,10 @@ ShowsWhatIsWritten =
     → past.calls
     ≡ SetDaqPtr list odt entry ∷ WriteDaq bit size ext addr ∷ SetDaqPtr list odt entry ∷ earlier
     → master_reply d past given (0xDB ∷ more) ≡ Some (0xFF ∷ 0xFF ∷ size ∷ ext ∷ DWORD addr)
+
+-- each reply of a slave whose profile is within its limits begins as a reply does, and has at most
+-- MAX_CTO bytes
+abbrev pub RepliesFit : Type 0
+RepliesFit =
+    (d : Profile) (past : Past) (x : Exchange) → profile_fault d ≡ None
+    → IfSome (reply_in d past x) (IsReplyPacket d.max_cto)

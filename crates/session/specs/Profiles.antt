@@ -1,11 +1,11 @@
 -- What a slave is opened with, and its limits.
-use Rattle.std.specs.Prelude.{◌≡◌, ℕ, ◌≤◌, ◌==◌, ◌||◌, nat_lt, Bool, if◌then◌else◌, All}
+use Rattle.std.specs.Prelude.{◌≡◌, ℕ, ◌+◌, ◌≤◌, ◌==◌, ◌||◌, nat_lt, Bool, if◌then◌else◌, All}
 use Rattle.std.specs.Prelude.{List, [], ◌∷◌, length, Option, Some, None, is_none}
 use Rattle.std.specs.Prelude.{option_map, unwrap_or}
 use Rattle.std.specs.List.{list_any}
-use Rattle.xcp_base.specs.declared.limits.TheConstants.{MAX_BYTE_RING, MAX_CHANNELS, MAX_ENTRIES}
-use Rattle.xcp_base.specs.declared.limits.TheConstants.{MAX_NAME, MAX_SAMPLE_RING, MAX_UNIT}
-use Rattle.xcp_base.specs.declared.limits.TheConstants.{MIN_BYTE_RING}
+use Rattle.xcp_base.specs.declared.limits.TheConstants.{MAX_BYTE_RING, MAX_CHANNELS, MAX_CTO}
+use Rattle.xcp_base.specs.declared.limits.TheConstants.{MAX_ENTRIES, MAX_NAME, MAX_SAMPLE_RING}
+use Rattle.xcp_base.specs.declared.limits.TheConstants.{MAX_UNIT, MIN_BYTE_RING, MIN_CTO}
 use Rattle.xcp_base.specs.Forms.{form_of, size_of, usual_form}
 use Rattle.daq_store.specs.Calls.{Profile as ListsProfile}
 use Rattle.session.specs.declared.profile.Profile.{Profile}
@@ -69,6 +69,13 @@ names_fault d =
 abbrev pub memory_fault : Profile → Option ProfileFault
 memory_fault d = option_map fault.Segments (segments_fault (length d.events.items) (segments_of d))
 
+-- MAX_CTO is out of its limits, or the reply to GET_ID, which has eight bytes before the name, has no
+-- room for it
+abbrev pub cto_fault : Profile → Option ProfileFault
+cto_fault d =
+    if nat_lt d.max_cto MIN_CTO || nat_lt MAX_CTO d.max_cto then Some fault.MaxCto
+    else if nat_lt d.max_cto (8 + length d.name.items) then Some fault.Name else None
+
 -- the first limit that its texts of identification are out of
 abbrev pub texts_fault : Profile → Option ProfileFault
 texts_fault d =
@@ -80,7 +87,8 @@ texts_fault d =
 abbrev pub profile_fault : Profile → Option ProfileFault
 profile_fault d =
     or_else (numbers_fault d)
-    (or_else (names_fault d) (or_else (memory_fault d) (texts_fault d)))
+    (or_else (names_fault d)
+    (or_else (memory_fault d) (or_else (cto_fault d) (texts_fault d))))
 
 -- what its store is made for
 abbrev pub lists_of : Profile → ListsProfile
@@ -115,3 +123,6 @@ pub record IsProfile (d : Profile) : Type 0 where
   pub a2l : length d.a2l.items ≤ MAX_TEXT
   pub names : All HasShortName d.events.items
   pub segments : segments_fault (length d.events.items) (segments_of d) ≡ None
+  pub least : MIN_CTO ≤ d.max_cto
+  pub most : d.max_cto ≤ MAX_CTO
+  pub reply : 8 + length d.name.items ≤ d.max_cto

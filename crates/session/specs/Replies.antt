@@ -8,7 +8,7 @@ use Rattle.xcp_base.specs.declared.err_code.ErrCode.{ErrCode}
 use Rattle.xcp_base.specs.declared.err_code.ErrCode.TheVariants.{OutOfRange}
 use Rattle.xcp_base.specs.declared.id_kind.IdKind.{IdKind}
 use Rattle.xcp_base.specs.declared.id_kind.IdKind.TheVariants.{Absolute, RelativeByte, RelativeWord}
-use Rattle.xcp_base.specs.declared.limits.TheConstants.{MAX_CTO, MAX_DTO, MAX_ENTRY_SIZE, MAX_LISTS}
+use Rattle.xcp_base.specs.declared.limits.TheConstants.{MAX_DTO, MAX_ENTRY_SIZE, MAX_LISTS}
 use Rattle.daq_store.specs.declared.command.Command.{Command}
 use Rattle.daq_store.specs.declared.mode.Mode.{Mode}
 use Rattle.daq_store.specs.declared.reply.Reply.{Reply}
@@ -24,17 +24,17 @@ use Rattle.session.specs.Fields.{BYTE, DWORD, WORD}
 use Rattle.session.specs.Profiles.{id_text, lists_of}
 
 -- CONNECT of mode 0, NORMAL; there is no other
-abbrev pub connect_fields : List ℕ
-connect_fields =
+abbrev pub connect_fields : Profile → List ℕ
+connect_fields d =
     BYTE 0x04  -- RESOURCE: DAQ
     ++ BYTE 0x80  -- COMM_MODE_BASIC: OPTIONAL; Intel byte order, granularity BYTE, no block mode
-    ++ BYTE MAX_CTO  -- MAX_CTO
+    ++ BYTE d.max_cto  -- MAX_CTO
     ++ WORD MAX_DTO  -- MAX_DTO
     ++ BYTE 0x01  -- XCP protocol layer version
     ++ BYTE 0x01  -- XCP transport layer version
 
-abbrev pub connect_reply : ℕ → Result (List ℕ) ErrCode
-connect_reply mode = if mode == 0 then Ok connect_fields else Err OutOfRange
+abbrev pub connect_reply : Profile → ℕ → Result (List ℕ) ErrCode
+connect_reply d mode = if mode == 0 then Ok (connect_fields d) else Err OutOfRange
 
 -- GET_STATUS
 abbrev pub status_fields : Bool → List ℕ

@@ -1,8 +1,8 @@
 -- Command packets (ASAM MCD-1 XCP, protocol layer): the commands of a session, those that set DAQ
 -- lists among them. A longer packet is accepted and its surplus ignored; a reserved byte may have
 -- any value.
-use Rattle.std.specs.Prelude.{ℕ, zero, suc, ◌*◌, ◌==◌, ◌||◌, nat_lt, if◌then◌else◌, List, []}
-use Rattle.std.specs.Prelude.{◌∷◌, length, drop, take, Result, Ok, Err}
+use Rattle.std.specs.Prelude.{ℕ, zero, suc, ◌+◌, ◌*◌, ◌==◌, ◌||◌, nat_lt, Bool}
+use Rattle.std.specs.Prelude.{if◌then◌else◌, List, [], ◌∷◌, length, drop, take, Result, Ok, Err}
 use Rattle.xcp_base.specs.declared.err_code.ErrCode.{ErrCode}
 use Rattle.xcp_base.specs.declared.err_code.ErrCode.TheVariants.{CmdSyntax, OutOfRange}
 use Rattle.daq_store.specs.declared.command.Command.{Command}
@@ -27,11 +27,16 @@ abbrev pub with_word : (ℕ → Request) → List ℕ → Result Request ErrCode
 with_word make (_ ∷ low ∷ high ∷ _) = Ok (make (word low high))
 with_word make _ = Err CmdSyntax
 
--- WRITE_DAQ_MULTIPLE: its count is 1 to 7, and then there are eight bytes for each entry
-abbrev pub with_entries : List ℕ → Result Request ErrCode
-with_entries [] = Err CmdSyntax
-with_entries (n ∷ entries) =
-    if n == 0 || nat_lt 7 n then Err OutOfRange
+-- WRITE_DAQ_MULTIPLE of no entry, or of more than a packet of MAX_CTO bytes has behind code and
+-- count: its count is 1 to (MAX_CTO - 2) / 8
+abbrev pub is_bad_entry_count : ℕ → ℕ → Bool
+is_bad_entry_count max_cto n = n == 0 || nat_lt max_cto (2 + 8 * n)
+
+-- and then there are eight bytes for each entry
+abbrev pub with_entries : ℕ → List ℕ → Result Request ErrCode
+with_entries max_cto [] = Err CmdSyntax
+with_entries max_cto (n ∷ entries) =
+    if is_bad_entry_count max_cto n then Err OutOfRange
     else if nat_lt (length entries) (8 * n) then Err CmdSyntax else Ok (WriteDaqMultiple n)
 
 -- the WRITE_DAQ of the first eight bytes: bit offset, size, address, address extension and a
@@ -62,11 +67,11 @@ of_lists (Err code) = Err code
 abbrev pub clear_list : ℕ → Request
 clear_list list = Lists (ClearDaqList list)
 
--- the request of a packet, or its error: it is empty, or else its code is unknown, or else it is
--- too short
-abbrev pub request : List ℕ → Result Request ErrCode
-request [] = Err CmdSyntax
-request (code ∷ more) =
+-- the request of a packet to a slave of this MAX_CTO, or its error: it is empty, or else its code is
+-- unknown, or else it is too short
+abbrev pub request : ℕ → List ℕ → Result Request ErrCode
+request max_cto [] = Err CmdSyntax
+request max_cto (code ∷ more) =
     if code == 0xFF then with_byte Connect more  -- mode
     else if code == 0xFE then Ok Disconnect
     else if code == 0xFD then Ok GetStatus
@@ -84,5 +89,5 @@ request (code ∷ more) =
     else if code == 0xD9 then Ok GetDaqResolutionInfo
     else if code == 0xD8 then with_word GetDaqListInfo more  -- DAQ list
     else if code == 0xD7 then with_word GetDaqEventInfo more  -- event channel
-    else if code == 0xC7 then with_entries more  -- number of entries, entries
+    else if code == 0xC7 then with_entries max_cto more  -- number of entries, entries
     else of_lists (command (code ∷ more))

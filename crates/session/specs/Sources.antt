@@ -4,7 +4,6 @@ use Rattle.std.specs.Prelude.{ℕ, ◌+◌, ◌==◌, ◌||◌, nat_le, nat_lt, 
 use Rattle.std.specs.Prelude.{length, take, drop, Option, Some, None, Result, Ok, Err, is_some}
 use Rattle.xcp_base.specs.declared.err_code.ErrCode.{ErrCode}
 use Rattle.xcp_base.specs.declared.err_code.ErrCode.TheVariants.{AccessDenied, OutOfRange, Sequence}
-use Rattle.xcp_base.specs.declared.limits.TheConstants.{MAX_CTO}
 use Rattle.segments.specs.declared.read_fault.ReadFault.{ReadFault}
 use Rattle.segments.specs.declared.read_fault.ReadFault.TheVariants as fault
 use Rattle.segments.specs.Memory.{read}
@@ -14,16 +13,17 @@ use Rattle.session.specs.declared.profile.Profile.{Profile}
 use Rattle.session.specs.Past.{Memory, Nothing, Source, Text}
 use Rattle.session.specs.Profiles.{id_text, segments_of}
 
--- no byte, or more than a reply has
-abbrev pub is_bad_number : ℕ → Bool
-is_bad_number n = n == 0 || nat_le MAX_CTO n
+-- no byte, or more than a reply of MAX_CTO bytes has
+abbrev pub is_bad_number : ℕ → ℕ → Bool
+is_bad_number max_cto n = n == 0 || nat_le max_cto n
 
 -- of what is left of a text: no byte, more than a reply has, more than are left
-abbrev pub is_bad_count : ℕ → List ℕ → Bool
-is_bad_count n left = is_bad_number n || nat_lt (length left) n
+abbrev pub is_bad_count : ℕ → ℕ → List ℕ → Bool
+is_bad_count max_cto n left = is_bad_number max_cto n || nat_lt (length left) n
 
-abbrev pub text_reply : ℕ → List ℕ → Result (List ℕ) ErrCode
-text_reply n left = if is_bad_count n left then Err OutOfRange else Ok (take n left)
+abbrev pub text_reply : ℕ → ℕ → List ℕ → Result (List ℕ) ErrCode
+text_reply max_cto n left =
+    if is_bad_count max_cto n left then Err OutOfRange else Ok (take n left)
 
 -- the error of bytes that aren't read
 abbrev pub read_result : Result (List ℕ) ReadFault → Result (List ℕ) ErrCode
@@ -34,13 +34,13 @@ read_result (Err fault.AccessDenied) = Err AccessDenied
 -- SHORT_UPLOAD: n bytes of memory from an address on
 abbrev pub memory_reply : Profile → List (List ℕ) → ℕ → ℕ → ℕ → Result (List ℕ) ErrCode
 memory_reply d memory n extension address =
-    if is_bad_number n then Err OutOfRange
+    if is_bad_number d.max_cto n then Err OutOfRange
     else read_result (read (segments_of d) memory extension address n)
 
 -- UPLOAD: the next n bytes
 abbrev pub upload_reply : Profile → List (List ℕ) → ℕ → Source → Result (List ℕ) ErrCode
 upload_reply d memory n Nothing = Err Sequence
-upload_reply d memory n (Text left) = text_reply n left
+upload_reply d memory n (Text left) = text_reply d.max_cto n left
 upload_reply d memory n (Memory extension address) = memory_reply d memory n extension address
 
 -- SET_MTA: the address lies in a segment
@@ -64,7 +64,7 @@ source_after_memory d memory n extension address before =
 abbrev pub source_after_upload : Profile → List (List ℕ) → ℕ → Source → Source
 source_after_upload d memory n Nothing = Nothing
 source_after_upload d memory n (Text left) =
-    source_if (text_reply n left) (Text (drop n left)) (Text left)
+    source_if (text_reply d.max_cto n left) (Text (drop n left)) (Text left)
 source_after_upload d memory n (Memory extension address) =
     source_after_memory d memory n extension address (Memory extension address)
 

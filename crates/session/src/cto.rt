@@ -11,8 +11,8 @@ use std::marker::Model;
 use xcp_base::limits::MAX_CTO;
 use xcp_base::{ErrCode, IdKind};
 
-/// The packet of a reply: RES, FF and the bytes behind it, or ERR, FE and an error code; 1 to
-/// MAX_CTO bytes.
+/// The packet of a reply: RES, FF and the bytes behind it, or ERR, FE and an error code; 1 to 255
+/// bytes.
 #[derive(Drop)]
 pub struct Cto {
     bytes: ArrayVec<u8, MAX_CTO>,
@@ -24,17 +24,18 @@ impl Model for Cto {
     ghost Value = { List ℕ };
 
     ghost use Rattle.session.specs.Fields.{IsReplyPacket};
+    ghost use Rattle.xcp_base.specs.declared.limits.TheConstants.{MAX_CTO};
 
     ghost view = { λ a. a.bytes.items };
 
-    ghost invariant = { λ a. IsReplyPacket a.bytes.items };
+    ghost invariant = { λ a. IsReplyPacket MAX_CTO a.bytes.items };
 }
 
 impl Cto {
     /// Its bytes.
     pub fn as_slice(&self) -> &[u8]
         ensures value { result.now ≡ self.now }
-        ensures packet { IsReplyPacket result.now }
+        ensures packet { IsReplyPacket MAX_CTO result.now }
     {
         self.bytes.as_slice()
     }

@@ -1,11 +1,12 @@
 //! The replies to requests that change nothing.
 ghost use Rattle.std.specs.Prelude.{◌≡◌, map, length, max};
-ghost use Rattle.session.specs.Replies.{most_of};
+ghost use Rattle.session.specs.Fields.{packet_of};
+ghost use Rattle.session.specs.Replies.{connect_reply, most_of};
 ghost use Rattle.session.specs.Standing.{Looks};
 
 use crate::cto::{Cto, bit, key_byte, mode_bits};
 use crate::request::Request;
-use crate::session::{CONNECTED, Session};
+use crate::session::Session;
 use daq_store::ListConf;
 use xcp_base::ErrCode;
 use xcp_base::limits::MAX_ENTRY_SIZE;
@@ -28,7 +29,15 @@ impl Session {
         if mode != 0 {
             return Cto::error(ErrCode::OutOfRange);
         }
-        Cto::positive(&CONNECTED)
+        self.connected_reply()
+    }
+
+    /// The reply to CONNECT: RESOURCE, COMM_MODE_BASIC, MAX_CTO, MAX_DTO, and the versions of the
+    /// protocol layer and the transport layer.
+    pub(crate) fn connected_reply(&self) -> Cto
+        ensures { result ≡ packet_of (connect_reply self.now.profile 0) }
+    {
+        Cto::positive(&[0x04, 0x80, self.profile.max_cto, 0x40, 0x00, 0x01, 0x01])
     }
 
     /// GET_STATUS: whether a list runs.

@@ -2,7 +2,7 @@
 ghost use Rattle.std.specs.Prelude.{◌≡◌, ◌≤◌, None, length};
 ghost use Rattle.std.specs.List.{list_any};
 ghost use Rattle.session.specs.Profiles.{profile_fault, numbers_fault, names_fault};
-ghost use Rattle.session.specs.Profiles.{memory_fault, texts_fault};
+ghost use Rattle.session.specs.Profiles.{cto_fault, memory_fault, texts_fault};
 ghost use Rattle.session.specs.Standing.{text_in};
 ghost use Rattle.session.specs.Profiles.{is_bad_capacity};
 
@@ -11,7 +11,8 @@ use crate::source::TextOf;
 use segments::limits::MAX_READERS;
 use segments::{Segment, SegmentFault, Segments};
 use thiserror::Error;
-use xcp_base::limits::{MAX_BYTE_RING, MAX_CHANNELS, MAX_SAMPLE_RING, MAX_UNIT, MIN_BYTE_RING};
+use xcp_base::limits::{MAX_BYTE_RING, MAX_CHANNELS, MAX_CTO, MAX_SAMPLE_RING, MAX_UNIT};
+use xcp_base::limits::{MIN_BYTE_RING, MIN_CTO};
 use xcp_base::{IdKind, RingKind, StampSize};
 
 /// What a slave is opened with.
@@ -29,7 +30,9 @@ pub struct Profile {
     pub ticks: u16,
     /// The kind of the rings between the tasks and the transmitter.
     pub ring: RingKind,
-    /// 0 to 56 bytes of ASCII, 0x20 to 0x7E.
+    /// MAX_CTO: the most bytes of a command packet and of a reply, 8 to 255.
+    pub max_cto: u8,
+    /// 0 to 56 bytes of ASCII, 0x20 to 0x7E, and at most `max_cto - 8`.
     pub name: Vec<u8>,
     /// The event channels, 1 to 8.
     pub events: Vec<EventChannel>,
@@ -41,7 +44,8 @@ pub struct Profile {
     pub a2l: Vec<u8>,
 }
 
-/// Which limit a profile is out of. The variants stand in the order of the checks.
+/// Which limit a profile is out of. The variants stand in the order of the checks; that the reply to
+/// GET_ID has no room for the name is looked for behind MAX_CTO.
 #[derive(Clone, Copy, Debug, PartialEq, Eq, Error)]
 pub enum ProfileFault {
     #[error("there are no event channels, or more than 8")]
@@ -62,6 +66,8 @@ pub enum ProfileFault {
     CycleUnit,
     #[error("{0}")]
     Segments(SegmentFault),
+    #[error("MAX_CTO is not 8 to 255")]
+    MaxCto,
     #[error("the name of the A2L file is too long, or not of printable ASCII")]
     A2lName,
     #[error("the EPK is too long, or not of printable ASCII")]
@@ -82,6 +88,9 @@ impl Profile {
             return Some(fault);
         }
         if let Some(fault) = self.memory_fault() {
+            return Some(fault);
+        }
+        if let Some(fault) = self.cto_fault() {
             return Some(fault);
         }
         self.texts_fault()
@@ -129,6 +138,20 @@ impl Profile {
             Ok(_) => None,
             Err(fault) => Some(ProfileFault::Segments(fault)),
         }
+    }
+
+    /// Whether MAX_CTO is out of its limits, or too small for the reply with the name.
+    fn cto_fault(&self) -> Option<ProfileFault>
+        ensures { result ≡ cto_fault self.now }
+    {
+        let max_cto = self.max_cto as usize;
+        if max_cto < MIN_CTO || max_cto > MAX_CTO {
+            return Some(ProfileFault::MaxCto);
+        }
+        if 8 + self.name.len() > max_cto {
+            return Some(ProfileFault::Name);
+        }
+        None
     }
 
     /// The first limit that its texts of identification are out of.

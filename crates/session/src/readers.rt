@@ -13,6 +13,13 @@ use xcp_base::limits::MAX_LISTS;
 use xcp_base::{ChannelId, ListSet};
 
 impl Session {
+    /// MAX_CTO, as the profile says.
+    pub fn max_cto(&self) -> u8
+        ensures { result ≡ self.now.profile.max_cto }
+    {
+        self.profile.max_cto
+    }
+
     /// The DAQ lists, as they are set.
     pub fn store(&self) -> &Store
         ensures value { result.now ≡ self.now.store }

@@ -1,7 +1,8 @@
 //! The commands of a session, and how they are read from packets.
-ghost use Rattle.std.specs.Prelude.{◌≡◌, ◌∷◌, ◌==◌, ◌||◌, nat_lt};
+ghost use Rattle.std.specs.Prelude.{◌≡◌, ◌∷◌};
 ghost use Rattle.daq_store.specs.Commands.{dword, word};
-ghost use Rattle.session.specs.Requests.{request, set_mta, short_upload, with_entries};
+ghost use Rattle.session.specs.Requests.{is_bad_entry_count, request, set_mta, short_upload};
+ghost use Rattle.session.specs.Requests.{with_entries};
 
 use daq_store::command::{self, Command};
 use xcp_base::ErrCode;
@@ -66,13 +67,13 @@ pub enum Request {
     Lists(Command),
 }
 
-/// Reads the request of a packet, of any bytes. A longer packet is accepted and its surplus
-/// ignored; a reserved byte may have any value.
+/// Reads the request of a packet, of any bytes, to a slave of this MAX_CTO. A longer packet is
+/// accepted and its surplus ignored; a reserved byte may have any value.
 ///
 /// Refused in this order: ERR_CMD_SYNTAX for an empty packet, ERR_CMD_UNKNOWN for the code of
 /// no command, ERR_CMD_SYNTAX for a packet that is too short for its command.
-pub fn read(packet: &[u8]) -> Result<Request, ErrCode>
-    ensures { result ≡ request packet.now }
+pub fn read(packet: &[u8], max_cto: u8) -> Result<Request, ErrCode>
+    ensures { result ≡ request max_cto packet.now }
 {
     match packet {
         [0xFF, mode, ..] => Ok(Request::Connect { mode: *mode }),
@@ -94,7 +95,7 @@ pub fn read(packet: &[u8]) -> Result<Request, ErrCode>
         [0xD7, _, a, b, ..] => Ok(Request::GetDaqEventInfo {
             channel: word(a, b),
         }),
-        [0xC7, count, entries @ ..] => multiple(*count, entries),
+        [0xC7, count, entries @ ..] => multiple(*count, entries, max_cto),
         [] | [0xFF | 0xFA | 0xF5 | 0xE3 | 0xDF | 0xD7..=0xD8 | 0xC7, ..] => Err(ErrCode::CmdSyntax),
         _ => Ok(Request::Lists(command::read(packet)?)),
     }
@@ -142,10 +143,10 @@ fn dword(a: &u8, b: &u8, c: &u8, d: &u8) -> u32
 }
 
 /// WRITE_DAQ_MULTIPLE of so many entries, and the bytes of them.
-fn multiple(count: u8, entries: &[u8]) -> Result<Request, ErrCode>
-    ensures { result ≡ with_entries (count ∷ entries.now) }
+fn multiple(count: u8, entries: &[u8], max_cto: u8) -> Result<Request, ErrCode>
+    ensures { result ≡ with_entries max_cto (count ∷ entries.now) }
 {
-    if is_bad_entry_count(count) {
+    if is_bad_entry_count(count, max_cto) {
         return Err(ErrCode::OutOfRange);
     }
     if entries.len() < 8 * count as usize {
@@ -154,9 +155,9 @@ fn multiple(count: u8, entries: &[u8]) -> Result<Request, ErrCode>
     Ok(Request::WriteDaqMultiple { count })
 }
 
-/// Whether WRITE_DAQ_MULTIPLE has no entry, or too many.
-fn is_bad_entry_count(count: u8) -> bool
-    ensures { result ≡ (count == 0 || nat_lt 7 count) }
+/// Whether WRITE_DAQ_MULTIPLE has no entry, or more than a packet has.
+fn is_bad_entry_count(count: u8, max_cto: u8) -> bool
+    ensures { result ≡ is_bad_entry_count max_cto count }
 {
-    count == 0 || count > 7
+    count == 0 || 2 + 8 * count as usize > max_cto as usize
 }

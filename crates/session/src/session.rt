@@ -1,5 +1,6 @@
 //! The session, from CONNECT to DISCONNECT: each packet of the master is answered.
 ghost use Rattle.std.specs.Prelude.{◌≡◌, [], IfErr, IfOk, IfSome, OnErr, OnOk, Some};
+ghost use Rattle.xcp_base.specs.declared.limits.TheConstants.{MAX_CTO};
 ghost use Rattle.session.specs.Fields.{IsReplyPacket};
 ghost use Rattle.session.specs.Past.{new_past, none_given};
 ghost use Rattle.session.specs.Profiles.{profile_fault};
@@ -96,7 +97,7 @@ impl Session {
     pub fn answer(&mut self, packet: &[u8], clock: u32, memory: &[&[u8]]) -> Option<Cto>
         ensures reply { Exchanges self.old self.new packet.now (given_by clock memory.now)
             result }
-        ensures starts { IfSome result IsReplyPacket }
+        ensures starts { IfSome result (IsReplyPacket MAX_CTO) }
         ensures profile_stays { self.new.profile ≡ self.old.profile }
     {
         match self.carry_packet(packet, clock, memory) {
@@ -136,7 +137,7 @@ impl Session {
         ensures unchanged { OnErr result (self.new ≡ self.old) }
         ensures profile_stays { self.new.profile ≡ self.old.profile }
     {
-        let read = request::read(packet);
+        let read = request::read(packet, self.profile.max_cto);
         if !self.connected {
             return Ok(self.greet(read));
         }
@@ -158,7 +159,7 @@ impl Session {
         match read {
             Ok(Request::Connect { mode: 0 }) => {
                 self.connected = true;
-                Some(Cto::positive(&CONNECTED))
+                Some(self.connected_reply())
             }
             _ => None,
         }
@@ -172,7 +173,7 @@ impl Session {
         clock: u32,
         memory: &[&[u8]],
     ) -> Result<Cto, NoMemory>
-        requires { request packet.now ≡ Ok asked }
+        requires { request self.old.profile.max_cto packet.now ≡ Ok asked }
         ensures ok { IfOk result
             (AnswersRequest self.old self.new (given_by clock memory.now) packet.now asked) }
         ensures no_memory { OnErr result (MayRunOut self.old asked) }
@@ -252,7 +253,3 @@ impl Session {
         Cto::positive(&[])
     }
 }
-
-/// What stands behind FF in the reply to CONNECT: RESOURCE, COMM_MODE_BASIC, MAX_CTO, MAX_DTO, and
-/// the versions of the protocol layer and the transport layer.
-pub(crate) const CONNECTED: [u8; 7] = [0x04, 0x80, 0x40, 0x40, 0x00, 0x01, 0x01];

@@ -28,7 +28,7 @@ impl Session {
         if !self.connected {
             return ListSet::none();
         }
-        let Ok(asked) = request::read(packet) else {
+        let Ok(asked) = request::read(packet, self.profile.max_cto) else {
             return ListSet::none();
         };
         let Request::Lists(command) = asked else {

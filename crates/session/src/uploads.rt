@@ -1,6 +1,6 @@
 //! SET_MTA, UPLOAD, SHORT_UPLOAD and GET_ID: a text or memory is read without a DAQ list.
 ghost use Rattle.std.specs.Prelude.{◌≡◌, ◌+◌, ◌≤◌, ℕ, List, [], drop, length};
-ghost use Rattle.std.specs.Prelude.{Err, IfErr, IfOk, Ok, OnOk};
+ghost use Rattle.std.specs.Prelude.{◌<◌, Err, IfErr, IfOk, Ok, OnOk, false};
 ghost use Rattle.session.specs.Fields.{packet_of};
 ghost use Rattle.segments.specs.Memory.{parts};
 ghost use Rattle.segments.specs.declared.limits.TheConstants.{ADDRESSES};
@@ -16,7 +16,6 @@ use crate::session::Session;
 use crate::source::{Source, TextOf};
 use segments::ReadFault;
 use xcp_base::ErrCode;
-use xcp_base::limits::MAX_CTO;
 
 impl Session {
     /// GET_ID: the slave's name stands in the reply itself; of the types 1, 4 and 5 UPLOAD reads
@@ -94,7 +93,7 @@ impl Session {
         ensures profile_stays { self.new.profile ≡ self.old.profile }
     {
         let left = self.left_of(text, read);
-        if is_bad_count(count, left) {
+        if is_bad_count(count, left, self.profile.max_cto) {
             return Cto::error(ErrCode::OutOfRange);
         }
         let reply = Cto::positive(&left[..count as usize]);
@@ -168,7 +167,7 @@ impl Session {
             memory_reply self.now.profile (parts memory.now) count extension address
             ≡ Err code) }
     {
-        if is_bad_number(count) {
+        if is_bad_number(count, self.profile.max_cto) {
             return Err(ErrCode::OutOfRange);
         }
         match self
@@ -184,15 +183,17 @@ impl Session {
 }
 
 /// Whether UPLOAD asks for no byte, or for more than a reply has.
-fn is_bad_number(count: u8) -> bool
-    ensures { result ≡ is_bad_number count }
+fn is_bad_number(count: u8, max_cto: u8) -> bool
+    ensures value { result ≡ is_bad_number max_cto count }
+    ensures fits { result ≡ false → count < 255 }
 {
-    count == 0 || count as usize >= MAX_CTO
+    count == 0 || count >= max_cto
 }
 
 /// Whether it asks for no byte of a text, for more than a reply has, or for more than are left.
-fn is_bad_count(count: u8, left: &[u8]) -> bool
-    ensures { result ≡ is_bad_count count left.now }
+fn is_bad_count(count: u8, left: &[u8], max_cto: u8) -> bool
+    ensures value { result ≡ is_bad_count max_cto count left.now }
+    ensures fits { result ≡ false → count < 255 }
 {
-    is_bad_number(count) || count as usize > left.len()
+    is_bad_number(count, max_cto) || count as usize > left.len()
 }

@@ -43,7 +43,7 @@ allocates-plain ReadDaq h = elim h [ ]
 
 out-starts-none : (d : Profile) (past : Past) (packet : List ℕ) (l : ℕ) → MayBeOut d past packet → starts d past packet l ≡ false
 out-starts-none d past packet l out =
-    ap (λ b. not (runs past l) && runs (if b then past_after_read d past none_given packet (request packet) else past_after_greeting past (request packet)) l) out.connected
+    ap (λ b. not (runs past l) && runs (if b then past_after_read d past none_given packet (request d.max_cto packet) else past_after_greeting past (request d.max_cto packet)) l) out.connected
     ∙ ap (λ r. not (runs past l) && runs (past_after_read d past none_given packet r) l) out.read
     ∙ other_call (lists_of d) past.calls out.call l (allocates-plain out.call out.allocates)
 

@@ -106,14 +106,14 @@ module _ (d : Profile) (past : Past) (given : Given) (packet : List ℕ) (l : �
   by-greeting false = refl
 
   by-master : (b : Bool) (r : Result Request ErrCode) → runs (if b then past_after_read d past given packet r else past_after_greeting past r) l ≢ runs past l
-      → HasPositive (if b then Some (read_reply_of d past given packet r) else greeting_reply r)
+      → HasPositive (if b then Some (read_reply_of d past given packet r) else greeting_reply d r)
   by-master true (Ok asked) other = (request_reply d past given packet asked, refl, by-request asked other)
   by-master true (Err code) other = absurd (other refl)
   by-master false r other = absurd (other (by-greeting (is_greeting r)))
 
   by-exchange : (b : Bool) → runs (if b then past else past_after_packet d past given packet) l ≢ runs past l → HasPositive (if b then Some (packet_of (Err MemoryOverflow)) else master_reply d past given packet)
   by-exchange true other = absurd (other refl)
-  by-exchange false other = by-master past.connected (request packet) other
+  by-exchange false other = by-master past.connected (request d.max_cto packet) other
 
 pub change-accepted : (d : Profile) (act : Act) (log : List Act) (l : ℕ) → runs (past_of d (act ∷ log)) l ≢ runs (past_of d log) l → IsAccepted d act log
 change-accepted d (Heard x) log l other = by-exchange d (past_of d log) x.given x.packet l x.out_of_memory other

@@ -56,9 +56,9 @@ quiet-greeting past read was = by (is_greeting read) where
 
 quiet-packet : (d : Profile) (past : Past) (given : Given) (packet : List ℕ) → IsQuiet past → IsQuiet (past_after_packet d past given packet)
 quiet-packet d past given packet was = by past.connected refl where
-  by : (b : Bool) → past.connected ≡ b → IsQuiet (if b then past_after_read d past given packet (request packet) else past_after_greeting past (request packet))
-  by true on = quiet-read d past given packet (request packet) on
-  by false off = quiet-greeting past (request packet) was
+  by : (b : Bool) → past.connected ≡ b → IsQuiet (if b then past_after_read d past given packet (request d.max_cto packet) else past_after_greeting past (request d.max_cto packet))
+  by true on = quiet-read d past given packet (request d.max_cto packet) on
+  by false off = quiet-greeting past (request d.max_cto packet) was
 
 quiet-behind : (d : Profile) (past : Past) (x : Exchange) → IsQuiet past → IsQuiet (past_behind d past x)
 quiet-behind d past x was = by x.out_of_memory where

@@ -1,14 +1,15 @@
 -- Bytes that are taken, piece by piece.
 use Rattle.session.specs.Past.{Given}
 use Rattle.std.proofs.Common.{◌≡◌, ℕ, ◌+◌, ◌-◌, ◌*◌, ◌<◌, ◌≤◌, true, false, Result, Ok, Err, List, [], ◌∷◌, ◌++◌, append-nil, append_assoc, length, length-append, drop, take as first, refl, sym, ap, ◌∙◌, subst, arith, ◌⊎◌, inl, inr}
-use Rattle.std.specs.Prelude.{OnErr}
+use Rattle.std.specs.Prelude.{All, OnErr}
 use Rattle.std.proofs.Math.Seq.{take-add, take-length}
 use Rattle.std.proofs.lemmas.Bool.{false≢true}
 use Rattle.std.proofs.lemmas.Bool.Decides.{nat_tests}
 use Rattle.std.proofs.lemmas.List.{length-drop, take-append-drop, take_rest}
 use Rattle.channel_ring.specs.declared.ends.TakeEnd.{Ghosts as TakeGhosts}
 use Rattle.frame_writer.specs.Split.{joined_frames}
-use Rattle.frame_writer.specs.declared.reach.Reach.TheVariants.{Bad}
+use Rattle.frame_writer.specs.declared.reach.Reach.TheVariants.{Bad, Part}
+use Rattle.frame_writer.specs.Pieces.{IsMasterFrame, SplitsInto}
 use Rattle.frame_writer.specs.Reach.{reach, reach_by}
 use Rattle.frame_writer.specs.Reading.{IsBadAfter, Leads, ReaderStandsAfter, ReaderState}
 use Rattle.frame_writer.proofs.ReadingLemmas.{leads_then}
@@ -31,13 +32,13 @@ heard-more given (p ∷ ps) qs xs ys (later, act, opening, is, hearing, may_open
 )
 
 -- a LEN is bad whatever stands behind it
-bad-anyway : (len behind other : ℕ) → reach_by len behind ≡ Bad → reach_by len other ≡ Bad
-bad-anyway len behind other bad = grind (arith, nat_tests)
+bad-anyway : (m len behind other : ℕ) → reach_by m len behind ≡ Bad → reach_by m len other ≡ Bad
+bad-anyway m len behind other bad = grind (arith, nat_tests)
 
-bad-more : (xs ys : List ℕ) → reach xs ≡ Bad → reach (xs ++ ys) ≡ Bad
-bad-more [] ys bad = absurd (cc)
-bad-more (a ∷ []) ys bad = absurd (cc)
-bad-more (a ∷ b ∷ xs) ys bad = bad-anyway (a + 256 * b) (length xs) (length (xs ++ ys)) bad
+bad-more : (m : ℕ) (xs ys : List ℕ) → reach m xs ≡ Bad → reach m (xs ++ ys) ≡ Bad
+bad-more m [] ys bad = absurd (cc)
+bad-more m (a ∷ []) ys bad = absurd (cc)
+bad-more m (a ∷ b ∷ xs) ys bad = bad-anyway m (a + 256 * b) (length xs) (length (xs ++ ys)) bad
 
 -- nothing ends in nothing
 ends-in-none : (xs ys : List ℕ) → [] ≡ xs ++ ys → ys ≡ []
@@ -113,9 +114,12 @@ module _ {S T F : Type 0} (take : TakeGhosts T F) where
   pub receives-none : (r : ReaderState) (a : SlaveState S T) (given : Given) → Receives take r r a a given []
   receives-none r a given = record {
     packets = [];
-    leads = λ bytes packets stands.
-        subst (λ zs. ReaderStandsAfter r zs (packets ++ [])) (sym (append-nil bytes))
-        (subst (λ zs. ReaderStandsAfter r bytes zs) (sym (append-nil packets)) stands);
+    leads = record {
+      max_cto = refl;
+      after = λ bytes packets stands.
+          subst (λ zs. ReaderStandsAfter r zs (packets ++ [])) (sym (append-nil bytes))
+          (subst (λ zs. ReaderStandsAfter r bytes zs) (sym (append-nil packets)) stands);
+    };
     hears = hears-none a given;
   }
 
@@ -155,15 +159,16 @@ module _ {S T F : Type 0} (take : TakeGhosts T F) where
       }
 
   -- a datagram is what a stream takes of which no byte came before
-  pub datagram-ok : (r s : ReaderState) (a b : SlaveState S T) (given : Given) (n : ℕ) (bytes : List ℕ) → ReaderStandsAfter r [] [] → s.closed ≡ false
+  pub datagram-ok : (r s : ReaderState) (a b : SlaveState S T) (given : Given) (n : ℕ) (bytes : List ℕ) → ReaderStandsAfter r [] [] → r.max_cto ≡ a.session.profile.max_cto → s.closed ≡ false
       → (n ≡ length bytes) ⊎ ((n ≡ 0) ⊎ (s.held ≡ [])) → Receives take r s a b given (first n bytes) → HearsDatagram take a b given bytes n
-  datagram-ok r s a b given n bytes fresh is_open ends got =
-      let stands = got.leads [] [] fresh in
+  datagram-ok r s a b given n bytes fresh by_profile is_open ends got =
+      let stands = got.leads.after [] [] fresh in
+      let same : s.max_cto ≡ a.session.profile.max_cto = got.leads.max_cto ∙ by_profile in
       record {
         packets = got.packets;
         left = s.held;
-        split = stands.split;
-        ends = inl (stands.part is_open);
+        split = subst (λ m. SplitsInto m (first n bytes) got.packets s.held) same stands.split;
+        ends = inl (subst (λ m. reach m s.held ≡ Part) same (stands.part is_open));
         rest = elim ends [
           | inl all ↦ inr all
           | inr w ↦ elim w [
@@ -174,10 +179,11 @@ module _ {S T F : Type 0} (take : TakeGhosts T F) where
         hears = got.hears;
       }
 
-  pub datagram-bad : (r s : ReaderState) (a b : SlaveState S T) (given : Given) (bytes : List ℕ) → ReaderStandsAfter r [] [] → BreaksOff take r s a b given bytes
+  pub datagram-bad : (r s : ReaderState) (a b : SlaveState S T) (given : Given) (bytes : List ℕ) → ReaderStandsAfter r [] [] → r.max_cto ≡ a.session.profile.max_cto → BreaksOff take r s a b given bytes
       → HearsDatagram take a b given bytes (length bytes)
-  datagram-bad r s a b given bytes fresh off =
-      let stands = off.receives.leads [] [] fresh in
+  datagram-bad r s a b given bytes fresh by_profile off =
+      let stands = off.receives.leads.after [] [] fresh in
+      let same : s.max_cto ≡ a.session.profile.max_cto = off.receives.leads.max_cto ∙ by_profile in
       let behind = drop off.taken bytes in
       let whole : first (length bytes) bytes ≡ joined_frames stands.split.frames ++ (s.held ++ behind) =
       take-length bytes ∙ sym (take-append-drop off.taken bytes) ∙ ap (λ zs. zs ++ behind) stands.split.whole
@@ -185,8 +191,8 @@ module _ {S T F : Type 0} (take : TakeGhosts T F) where
       record {
         packets = off.receives.packets;
         left = s.held ++ behind;
-        split = record { frames = stands.split.frames; legal = stands.split.legal; carry = stands.split.carry; whole = whole };
-        ends = inr (bad-more s.held behind (stands.bad off.closed));
+        split = record { frames = stands.split.frames; legal = subst (λ m. All (IsMasterFrame m) stands.split.frames) same stands.split.legal; carry = stands.split.carry; whole = whole };
+        ends = inr (subst (λ m. reach m (s.held ++ behind) ≡ Bad) same (bad-more s.max_cto s.held behind (stands.bad off.closed)));
         rest = inr refl;
         hears = off.receives.hears;
       }

@@ -30,7 +30,8 @@ use Rattle.slave.proofs.ChangeLemmas.{change-accepted}
 use Rattle.slave.proofs.DisguiseLemmas.{HasPackets, IsDaq, taken-daq}
 use Rattle.slave.proofs.KnownLemmas.{all-known}
 use Rattle.slave.proofs.LaidLemmas.{all-parts, answers-laid, answers-sent, both-same, each-once, in-order, is-answered, is-bool, is-since, log-behind, no-more, sent-are, sent-in-order, unsent-noted, written-laid}
-use Rattle.slave.proofs.ReplyLemmas.{IfReply, IsReply, refusal-is, reply-fits, reply-is}
+use Rattle.session.proofs.FitLemmas.{IfReply, IsReply, refusal-is, reply-is}
+use Rattle.slave.proofs.ReplyLemmas.{reply-fits}
 use Rattle.slave.proofs.RunLemmas.{here}
 use Rattle.slave.proofs.StopLemmas.{stop-holds}
 use Rattle.slave.proofs.WithinLemmas.{silent, within}
@@ -178,36 +179,36 @@ sample-one : (P : List ℕ → Type 0) (m c : ℕ) (b : Bool) (s : SampleParts) 
 sample-one P m c false s = tt
 sample-one P m c true s = (λ h. absurd (false≢true h), tt)
 
-by-reply : (d : Profile) (act : Act) (log : List Act) → AllByRecursion (OfAnswer (AllPackets (IsReply (IsProfile d)))) (laid_by d act log)
-by-reply d (Heard x) log = reply-one (IsReply (IsProfile d)) (reply_in d (past_of d log) x) (reply-is d (past_of d log) x)
-by-reply d (Refused packet code) log = reply-one (IsReply (IsProfile d)) (Some (packet_of (Err code))) (refusal-is (IsProfile d) code)
+by-reply : (d : Profile) (act : Act) (log : List Act) → AllByRecursion (OfAnswer (AllPackets (IsReply d))) (laid_by d act log)
+by-reply d (Heard x) log = reply-one (IsReply d) (reply_in d (past_of d log) x) (reply-is d (past_of d log) x)
+by-reply d (Refused packet code) log = reply-one (IsReply d) (Some (packet_of (Err code))) (refusal-is d code)
 by-reply d (Opened at) log = tt
-by-reply d (Took m c (Sample s)) log = sample-one (IsReply (IsProfile d)) m c (passes (deeds_of d m c log) s.list) s
+by-reply d (Took m c (Sample s)) log = sample-one (IsReply d) m c (passes (deeds_of d m c log) s.list) s
 by-reply d (Took m c (Marker k)) log = tt
 by-reply d (CameBack m c past) log = tt
 by-reply d (Sent n) log = tt
 by-reply d HungUp log = tt
 by-reply d Discarded log = tt
 
-answers-reply : (d : Profile) (log : List Act) → AllByRecursion (OfAnswer (AllPackets (IsReply (IsProfile d)))) (laid d log)
+answers-reply : (d : Profile) (log : List Act) → AllByRecursion (OfAnswer (AllPackets (IsReply d))) (laid d log)
 answers-reply d [] = tt
-answers-reply d (act ∷ log) = all-append (OfAnswer (AllPackets (IsReply (IsProfile d)))) (laid d log) (laid_by d act log) (answers-reply d log) (by-reply d act log)
+answers-reply d (act ∷ log) = all-append (OfAnswer (AllPackets (IsReply d))) (laid d log) (laid_by d act log) (answers-reply d log) (by-reply d act log)
 
 -- so each of them is one or the other
 abbrev IsEither : Profile → List Act → Laid → Type 0
-IsEither d log x = OfAnswer (AllPackets (IsReply (IsProfile d))) x × OfKnown log (AllPackets IsDaq) x
+IsEither d log x = OfAnswer (AllPackets (IsReply d)) x × OfKnown log (AllPackets IsDaq) x
 
 both-all : {X : Type 0} (P Q : X → Type 0) (xs : List X) → AllByRecursion P xs → AllByRecursion Q xs → AllByRecursion (λ x. P x × Q x) xs
 both-all P Q [] a b = tt
 both-all P Q (x ∷ xs) a b = ((a.0, b.0), both-all P Q xs a.1 b.1)
 
 either-all : (d : Profile) (log : List Act) → IsLog d log → AllByRecursion (IsEither d log) (laid d log)
-either-all d log is = both-all (OfAnswer (AllPackets (IsReply (IsProfile d)))) (OfKnown log (AllPackets IsDaq)) (laid d log) (answers-reply d log) (known-daq d log is)
+either-all d log is = both-all (OfAnswer (AllPackets (IsReply d))) (OfKnown log (AllPackets IsDaq)) (laid d log) (answers-reply d log) (known-daq d log is)
 
 -- the packets that begin so are those of the answers
-all-begin : (Q : Type 0) (qs : List (List ℕ)) → AllByRecursion (IsReply Q) qs → filter begins_reply qs ≡ qs
-all-begin Q [] all = refl
-all-begin Q (q ∷ qs) all = ap (λ b. if b then q ∷ filter begins_reply qs else filter begins_reply qs) all.0.0 ∙ ap (λ xs. q ∷ xs) (all-begin Q qs all.1)
+all-begin : (d : Profile) (qs : List (List ℕ)) → AllByRecursion (IsReply d) qs → filter begins_reply qs ≡ qs
+all-begin d [] all = refl
+all-begin d (q ∷ qs) all = ap (λ b. if b then q ∷ filter begins_reply qs else filter begins_reply qs) all.0.0 ∙ ap (λ xs. q ∷ xs) (all-begin d qs all.1)
 
 none-begin : (qs : List (List ℕ)) → AllByRecursion IsDaq qs → filter begins_reply qs ≡ []
 none-begin [] all = refl
@@ -217,7 +218,7 @@ apart-one : (d : Profile) (log : List Act) (x : Laid) → IsEither d log x → I
 apart-one d log x is known =
     elim (is-bool (is_reply x.origin)) [
       | inl answer ↦
-          all-begin (IsProfile d) x.packets (is.0 answer) ∙ sym (append-nil x.packets)
+          all-begin d x.packets (is.0 answer) ∙ sym (append-nil x.packets)
           ∙ sym (ap (λ b. packets_in (if b then x ∷ [] else [])) answer)
       | inr other ↦ none-begin x.packets (is.1 other known) ∙ sym (ap (λ b. packets_in (if b then x ∷ [] else [])) other)
     ]
@@ -268,14 +269,14 @@ rings-fit d (Sent n ∷ log) is = all-append (OfRing (AllPackets Fits)) (laid d 
 rings-fit d (HungUp ∷ log) is = all-append (OfRing (AllPackets Fits)) (laid d log) [] (rings-fit d log is) tt
 rings-fit d (Discarded ∷ log) is = all-append (OfRing (AllPackets Fits)) (laid d log) [] (rings-fit d log is) tt
 
-fits-one : (d : Profile) (x : Laid) → IsProfile d → OfAnswer (AllPackets (IsReply (IsProfile d))) x → OfRing (AllPackets Fits) x → AllByRecursion Fits x.packets
+fits-one : (d : Profile) (x : Laid) → IsProfile d → OfAnswer (AllPackets (IsReply d)) x → OfRing (AllPackets Fits) x → AllByRecursion Fits x.packets
 fits-one d x profile reply ring =
     elim (is-bool (is_reply x.origin)) [
-      | inl answer ↦ all-mono (IsReply (IsProfile d)) Fits x.packets (λ q. reply-fits (IsProfile d) q profile) (reply answer)
+      | inl answer ↦ all-mono (IsReply d) Fits x.packets (λ q. reply-fits d q profile) (reply answer)
       | inr other ↦ ring other
     ]
 
-laid-fits : (d : Profile) (xs : List Laid) → IsProfile d → AllByRecursion (OfAnswer (AllPackets (IsReply (IsProfile d)))) xs → AllByRecursion (OfRing (AllPackets Fits)) xs → AllByRecursion (AllPackets Fits) xs
+laid-fits : (d : Profile) (xs : List Laid) → IsProfile d → AllByRecursion (OfAnswer (AllPackets (IsReply d))) xs → AllByRecursion (OfRing (AllPackets Fits)) xs → AllByRecursion (AllPackets Fits) xs
 laid-fits d [] profile reply ring = tt
 laid-fits d (x ∷ xs) profile reply ring = (fits-one d x profile reply.0 ring.0, laid-fits d xs profile reply.1 ring.1)
 
@@ -292,7 +293,7 @@ waits-fit d log is profile =
     packets-fit (waits d log) (all-parts (AllPackets Fits) d log (laid-fits d (laid d log) profile (answers-reply d log) (rings-fit d log is))).1
 
 -- each reply begins so
-answer-begins : (d : Profile) (xs : List Laid) → AllByRecursion (OfAnswer (AllPackets (IsReply (IsProfile d)))) xs → AllByRecursion (λ q. begins_reply q ≡ true) (packets_in (answers_in xs))
+answer-begins : (d : Profile) (xs : List Laid) → AllByRecursion (OfAnswer (AllPackets (IsReply d))) xs → AllByRecursion (λ q. begins_reply q ≡ true) (packets_in (answers_in xs))
 answer-begins d [] all = tt
 answer-begins d (x ∷ xs) all =
     subst (AllByRecursion (λ q. begins_reply q ≡ true)) (answers-front x xs)
@@ -300,7 +301,7 @@ answer-begins d (x ∷ xs) all =
       one : (is_reply x.origin ≡ true) ⊎ (is_reply x.origin ≡ false) → AllByRecursion (λ q. begins_reply q ≡ true) (packets_in (answers_in (x ∷ [])))
       one (inl answer) =
           subst (λ b. AllByRecursion (λ q. begins_reply q ≡ true) (packets_in (if b then x ∷ [] else []))) (sym answer)
-          (subst (AllByRecursion (λ q. begins_reply q ≡ true)) (sym (append-nil x.packets)) (all-mono (IsReply (IsProfile d)) (λ q. begins_reply q ≡ true) x.packets (λ q is. is.0) (all.0 answer)))
+          (subst (AllByRecursion (λ q. begins_reply q ≡ true)) (sym (append-nil x.packets)) (all-mono (IsReply d) (λ q. begins_reply q ≡ true) x.packets (λ q is. is.0) (all.0 answer)))
       one (inr other) = subst (λ b. AllByRecursion (λ q. begins_reply q ≡ true) (packets_in (if b then x ∷ [] else []))) (sym other) tt
 
 no-disguise : (log : List Act) (x : Laid) → OfKnown log (AllPackets IsDaq) x → BeginsOtherwise log x

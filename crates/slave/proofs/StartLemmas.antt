@@ -58,16 +58,16 @@ call-list lists calls (ClearDaqList m) l is = absurd (false≢true (sym (other_c
 call-list lists calls ReadDaq l is = absurd (false≢true (sym (other_call lists calls ReadDaq l tt) ∙ is))
 
 module _ (d : Profile) (past : Past) (packet : List ℕ) (l : ℕ) where
-  by-packet : (r : Result Request ErrCode) → past.connected ≡ true → request packet ≡ r → starts d past packet l ≡ (not (runs past l) && runs (past_after_read d past none_given packet r) l)
+  by-packet : (r : Result Request ErrCode) → past.connected ≡ true → request d.max_cto packet ≡ r → starts d past packet l ≡ (not (runs past l) && runs (past_after_read d past none_given packet r) l)
   by-packet r connected reads =
-      let read = request packet in
+      let read = request d.max_cto packet in
       ap (λ b. not (runs past l) && runs (if b then past_after_read d past none_given packet read else past_after_greeting past read) l) connected
       ∙ ap (λ x. not (runs past l) && runs (past_after_read d past none_given packet x) l) reads
 
-  not-other : (asked : Request) → past.connected ≡ true → request packet ≡ Ok asked → ((call : Command) → asked ≢ Lists call) → starts d past packet l ≡ true → ⊥
+  not-other : (asked : Request) → past.connected ≡ true → request d.max_cto packet ≡ Ok asked → ((call : Command) → asked ≢ Lists call) → starts d past packet l ≡ true → ⊥
   not-other asked connected reads other is = false≢true (sym (other_packet d past packet asked l connected reads other) ∙ is)
 
-  by-asked : (asked : Request) → past.connected ≡ true → request packet ≡ Ok asked → starts d past packet l ≡ true → is_list past.calls l ≡ true
+  by-asked : (asked : Request) → past.connected ≡ true → request d.max_cto packet ≡ Ok asked → starts d past packet l ≡ true → is_list past.calls l ≡ true
   by-asked (Lists call) connected reads is = call-list (lists_of d) past.calls call l (sym (by-packet (Ok (Lists call)) connected reads) ∙ is)
   by-asked (Connect mode) connected reads is = absurd (not-other (Connect mode) connected reads (λ call e. cc) is)
   by-asked Disconnect connected reads is = absurd (not-other Disconnect connected reads (λ call e. cc) is)
@@ -86,13 +86,13 @@ module _ (d : Profile) (past : Past) (packet : List ℕ) (l : ℕ) where
   by-asked (GetDaqEventInfo c) connected reads is = absurd (not-other (GetDaqEventInfo c) connected reads (λ call e. cc) is)
   by-asked (WriteDaqMultiple n) connected reads is = absurd (not-other (WriteDaqMultiple n) connected reads (λ call e. cc) is)
 
-  by-read : (r : Result Request ErrCode) → past.connected ≡ true → request packet ≡ r → starts d past packet l ≡ true → is_list past.calls l ≡ true
+  by-read : (r : Result Request ErrCode) → past.connected ≡ true → request d.max_cto packet ≡ r → starts d past packet l ≡ true → is_list past.calls l ≡ true
   by-read (Ok asked) connected reads is = by-asked asked connected reads is
   by-read (Err e) connected reads is = absurd (not-and (runs past l) (sym (by-packet (Err e) connected reads) ∙ is))
 
   pub starts-list : starts d past packet l ≡ true → is_list past.calls l ≡ true
   starts-list is =
       elim (is-bool past.connected) [
-        | inl connected ↦ by-read (request packet) connected refl is
+        | inl connected ↦ by-read (request d.max_cto packet) connected refl is
         | inr none ↦ absurd (false≢true (sym (unconnected_packet d past packet l none) ∙ is))
       ]

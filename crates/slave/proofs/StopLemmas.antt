@@ -103,16 +103,16 @@ module _ (d : Profile) (past : Past) (given : Given) (packet : List ℕ) (l : �
   no-greeting (Lists call) is = refl
 
   abbrev Stops : Bool → Result Request ErrCode → Type 0
-  Stops b r = HasPositive (if b then Some (read_reply_of d past given packet r) else greeting_reply r) → runs (if b then past_after_read d past given packet r else past_after_greeting past r) l ≡ false
+  Stops b r = HasPositive (if b then Some (read_reply_of d past given packet r) else greeting_reply d r) → runs (if b then past_after_read d past given packet r else past_after_greeting past r) l ≡ false
 
   by-asked : (b : Bool) (asked : Request) → IsStopOf past.calls l asked → Stops b (Ok asked)
   by-asked true asked is (q, reply, positive) = by-request asked is (ap is_positive (some-is (request_reply d past given packet asked) q reply) ∙ positive)
   by-asked false asked is (q, reply, positive) = absurd (none-is q (sym (greeting-none (is_greeting (Ok asked)) (no-greeting asked is)) ∙ reply)) where
-    greeting-none : (g : Bool) → g ≡ false → (if g then Some (packet_of (connect_reply 0)) else None) ≡ None
+    greeting-none : (g : Bool) → g ≡ false → (if g then Some (packet_of (connect_reply d 0)) else None) ≡ None
     greeting-none true none = absurd (false≢true (sym none))
     greeting-none false none = refl
 
-  by-exchange : (b : Bool) (asked : Request) → request packet ≡ Ok asked → IsStopOf past.calls l asked → HasPositive (if b then Some (packet_of (Err MemoryOverflow)) else master_reply d past given packet)
+  by-exchange : (b : Bool) (asked : Request) → request d.max_cto packet ≡ Ok asked → IsStopOf past.calls l asked → HasPositive (if b then Some (packet_of (Err MemoryOverflow)) else master_reply d past given packet)
       → runs (if b then past else past_after_packet d past given packet) l ≡ false
   by-exchange true asked reads is (q, reply, positive) = absurd (false≢true (ap is_positive (some-is (packet_of (Err MemoryOverflow)) q reply) ∙ positive))
   by-exchange false asked reads is positive = subst (Stops past.connected) (sym reads) (by-asked past.connected asked is) positive

@@ -63,7 +63,7 @@ module _ {S T F : Type 0} (take : TakeGhosts T F) where
       : Type 0 where
     pub packets : List (List ℕ)
     pub left : List ℕ
-    pub split : SplitsInto (first taken bytes) packets left
-    pub ends : EndsSplit left
+    pub split : SplitsInto a.session.profile.max_cto (first taken bytes) packets left
+    pub ends : EndsSplit a.session.profile.max_cto left
     pub rest : (left ≡ []) ⊎ (taken ≡ length bytes)
     pub hears : HearsAll a b given packets

@@ -124,7 +124,7 @@ IsStopOf calls l _ = ⊥
 
 abbrev pub AsksToStop : Profile → Past → ℕ → List ℕ → Type 0
 AsksToStop d past l packet =
-    (asked : Request) × (request packet ≡ Ok asked) × IsStopOf past.calls l asked
+    (asked : Request) × (request d.max_cto packet ≡ Ok asked) × IsStopOf past.calls l asked
 
 -- the packet doesn't begin as a reply does
 abbrev pub IsNoReply : List ℕ → Type 0

@@ -28,7 +28,8 @@ pub fn datagram<R: Ring>(
     ensures within { result ≤ length bytes.now }
     ensures all { (result ≡ length bytes.now) ⊎ (may_hear slave.new ≡ false) }
 {
-    match MasterStream::new().read(slave, alloc, bytes, clock, memory) {
+    let mut stream = MasterStream::new(slave);
+    match stream.read(slave, alloc, bytes, clock, memory) {
         Ok(taken) => taken,
         Err(_) => bytes.len(),
     }

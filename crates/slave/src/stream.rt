@@ -29,13 +29,14 @@ impl Model for MasterStream {
 }
 
 impl MasterStream {
-    /// A stream of which no byte came.
-    pub fn new() -> MasterStream
+    /// A stream to this slave, of which no byte came.
+    pub fn new<R: Ring>(slave: &Slave<R>) -> MasterStream
         ensures fresh { ReaderStandsAfter result [] [] }
         ensures stays_open { result.closed ≡ false }
+        ensures max_cto { result.max_cto ≡ slave.now.session.profile.max_cto }
     {
         MasterStream {
-            reader: FrameReader::new(),
+            reader: FrameReader::new(slave.session.max_cto()),
         }
     }
 

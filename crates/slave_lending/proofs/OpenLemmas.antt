@@ -41,8 +41,8 @@ opened-lines {S} slave tasks slots fresh here =
 module _ {S T F : Type 0} (take : TakeGhosts T F) where
   pub opened-with : (d : Profile) (slave : SlaveState S T) (stream : ReaderState) (tasks : List (TaskState S)) (slots : List (SlotState S))
       → slave.session.profile ≡ d → SlaveStandsAfter take d slave [] → length slave.channels ≡ length d.events.items → tasks ≡ map just_begun (rings_of slave.channels)
-      → ReaderStandsAfter stream [] [] → stream.closed ≡ false → slots ≡ map with_task tasks → IsOpenedWith take d (with_slots slave stream slots)
-  opened-with d slave stream tasks slots profile stands many fresh none open_still here =
+      → ReaderStandsAfter stream [] [] → stream.closed ≡ false → stream.max_cto ≡ slave.session.profile.max_cto → slots ≡ map with_task tasks → IsOpenedWith take d (with_slots slave stream slots)
+  opened-with d slave stream tasks slots profile stands many fresh none open_still by_profile here =
       let all : slots ≡ map (λ ring. with_task (just_begun ring)) (rings_of slave.channels)
       = here ∙ ap (λ (ts : List (TaskState S)). map with_task ts) fresh ∙ map-twice (rings_of slave.channels) in
       record {
@@ -50,6 +50,7 @@ module _ {S T F : Type 0} (take : TakeGhosts T F) where
         stands = stands;
         fresh = none;
         is_open = open_still;
+        max_cto = by_profile ∙ ap (λ (p : Profile). p.max_cto) profile;
         many = ap length all ∙ length-map (rings_of slave.channels) (λ ring. with_task (just_begun ring)) ∙ length-map slave.channels (λ (ch : ChannelState S T). ch.link.ring) ∙ many;
         all_here = all;
       }

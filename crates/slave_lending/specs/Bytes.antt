@@ -56,4 +56,5 @@ module _ {S T F : Type 0} (take : TakeGhosts T F) where
     pub profile : b.slave.session.profile ≡ a.slave.session.profile
     pub fresh : ReaderStandsAfter b.stream [] []
     pub is_open : b.stream.closed ≡ false
+    pub max_cto : b.stream.max_cto ≡ b.slave.session.profile.max_cto
     pub tasks : b.tasks ≡ a.tasks

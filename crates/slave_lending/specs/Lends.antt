@@ -75,6 +75,7 @@ module _ {S T F : Type 0} (take : TakeGhosts T F) where
     pub stands : SlaveStandsAfter take d s.slave []
     pub fresh : ReaderStandsAfter s.stream [] []
     pub is_open : s.stream.closed ≡ false
+    pub max_cto : s.stream.max_cto ≡ d.max_cto
     pub many : length s.tasks ≡ length d.events.items
     pub all_here :
         s.tasks

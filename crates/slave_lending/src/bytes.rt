@@ -50,6 +50,6 @@ impl<R: Ring> LendingSlave<R> {
         ensures { HangsUp R.Take.TakeEnd self.old self.new }
     {
         self.slave.hang_up();
-        self.stream = MasterStream::new();
+        self.stream = MasterStream::new(&self.slave);
     }
 }

@@ -68,9 +68,10 @@ impl<R: Ring> LendingSlave<R> {
         let Ok(slots) = slots_of(alloc, tasks) else {
             return Err(OpenFault::Memory);
         };
+        let stream = MasterStream::new(&slave);
         Ok(LendingSlave {
             slave,
-            stream: MasterStream::new(),
+            stream,
             slots,
             room,
         })

@@ -3,7 +3,8 @@ use Rattle.std.proofs.Common.{slice_index_or, ◌≡◌, ℕ, ◌+◌, ◌*◌, 
 use Rattle.std.proofs.lemmas.List.{length-take-le, map-append, take-append-drop}
 use Rattle.std.proofs.lemmas.List.Sums.{sum_by-cons}
 use Rattle.frame_writer.specs.Frame.{frame, text}
-use Rattle.frame_writer.specs.Writing.{after_text}
+use Rattle.frame_writer.specs.Writing.{WriterState, after_frame, after_text}
+use Rattle.frame_writer.specs.Shown.{after_bytes}
 use Rattle.frame_writer.proofs.LayoutLemmas.{length-text}
 use Rattle.frame_writer.proofs.TextLemmas.{text-append, text-mod}
 use Rattle.slave_outbox.specs.Outboxes.{Laid, LaysOut, OutboxState, StandsAfter, packets_in, unit_of}
@@ -32,6 +33,14 @@ pub whole_text : (sent more : List Laid) → text 0 (packets_in sent) ++ text (l
 whole_text sent more =
     let from_0 : length (packets_in sent) ≡ 0 + length (packets_in sent) = omega arith in
     ap (λ k. text 0 (packets_in sent) ++ text k (packets_in more)) from_0 ∙ sym (text-append 0 (packets_in sent) (packets_in more)) ∙ ap (text 0) (sym (packets_in-append sent more))
+
+-- one packet that is sent is a text
+pub one-frame : (n : ℕ) (q : List ℕ) → frame n q ≡ text n (q ∷ [])
+one-frame n q = sym (append-nil (frame n q))
+
+pub one-sent : (w : WriterState) (q : List ℕ) → after_frame w q ≡ after_text w (q ∷ [])
+one-sent w q =
+    ap (λ t. record { out = after_bytes w.out t; counter = (w.counter + 1) % 65536; closed = w.closed }) (one-frame w.counter q)
 
 mod-plus : (n k : ℕ) → (n % 65536 + k) % 65536 ≡ (n + k) % 65536
 mod-plus n k = omega arith

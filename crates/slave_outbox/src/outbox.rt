@@ -8,7 +8,6 @@ use circular_buffer::HeapCircularBuffer;
 use frame_writer::{ByteLog, FrameWriter, SinkOut};
 use std::alloc::{AllocError, Global};
 use std::marker::Model;
-use xcp_base::Packets;
 
 /// What a slave has laid out and its transport has not taken yet, behind one frame writer.
 ///
@@ -51,11 +50,10 @@ impl Outbox {
     ghost use Rattle.std.specs.Prelude.{◌≡◌, ◌+◌, ◌<◌, ◌≤◌, ◌++◌, [], ◌∷◌, List, true, false};
     ghost use Rattle.std.specs.Prelude.{IfOk, Some, not, drop, length, slice_get, take};
     ghost use Rattle.xcp_base.specs.declared.limits.TheConstants.{MAX_CTO};
-    ghost use Rattle.frame_writer.specs.Frame.{text};
     ghost use Rattle.slave_outbox.specs.Outboxes.{Laid, LaysOut, Shows, StandsAfter};
     ghost use Rattle.slave_outbox.specs.Outboxes.{has_room, has_waiting};
     ghost use Rattle.slave_outbox.specs.declared.unit.Unit.{Unit};
-    ghost use Rattle.slave_outbox.specs.declared.limits.TheConstants.{MAX_UNITS, MOST};
+    ghost use Rattle.slave_outbox.specs.declared.limits.TheConstants.{MAX_REPLY, MAX_UNITS, MOST};
 
     /// An outbox in which nothing waits. Its first frame has CTR 0.
     pub fn new(alloc: Global) -> Result<Outbox, AllocError>
@@ -95,24 +93,26 @@ impl Outbox {
         if !self.has_room() {
             return false;
         }
-        let mut packets = Packets::new();
-        let _ = packets.push(packet);
-        self.lay(Origin::Reply, &packets);
+        self.lay(packet);
         true
     }
 
-    /// Lays packets out behind all that waits.
-    fn lay(&mut self, origin: Origin, packets: &Packets)
-        requires some { 0 < length packets.now }
-        requires room { length self.old.waits + length (text 0 packets.now) ≤ MOST }
+    /// Lays a reply out behind all that waits.
+    fn lay(&mut self, packet: &[u8])
+        requires not_empty { 0 < length packet.now }
+        requires fits { length packet.now ≤ MAX_CTO }
+        requires room { length self.old.waits + MAX_REPLY ≤ MOST }
         requires units { length self.old.units < MAX_UNITS }
         ensures lays_out { LaysOut self.old self.new
-            (record { origin = origin; packets = packets.now }) }
+            (record { origin = Origin.Reply; packets = packet.now ∷ [] }) }
         ensures shown_stays { self.new.shown ≡ self.old.shown }
     {
-        let end = self.writer.send_into(&mut self.page, self.end, packets);
+        let end = self.writer.send_one_into(&mut self.page, self.end, packet);
         let len = end - self.end;
-        let _ = self.units.push_back(Unit { origin, len });
+        let _ = self.units.push_back(Unit {
+            origin: Origin::Reply,
+            len,
+        });
         self.end = end;
     }
 

@@ -1,5 +1,5 @@
 //! Samples are taken off the rings of event channels, and laid out.
-ghost use Rattle.std.specs.Prelude.{◌≡◌, ◌≤◌};
+ghost use Rattle.std.specs.Prelude.{◌≡◌, ◌≤◌, max};
 ghost use Rattle.slave_outbox.specs.Taking.{TakesItem};
 ghost use Rattle.slave_outbox.specs.declared.limits.TheConstants.{MOST, PAGE};
 
@@ -12,6 +12,7 @@ use channel_ring::TakeEnd;
 /// Up to where a sample's frames may go behind so many bytes: to the page's end, or nowhere.
 fn limit_of(end: usize) -> usize
     requires few { end ≤ MOST }
+    ensures value { result ≡ max end PAGE }
     ensures within { end ≤ result }
     ensures most { result ≤ MOST }
     ensures page { PAGE ≤ result }

@@ -18,6 +18,6 @@ pub returns-in_default-asked : goal.returns-in_default-asked
 returns-in_default-asked c = record {
   value = λ past h l inside.
       let connected : past.connected ≡ true = sym h.connected ∙ sym (ap (λ (s : SessionState). s.connected) c.self.view_is) ∙ c.if-not-self.false in
-      let reads : request c.args.packet.now ≡ Ok c.in-Ok.asked = sym c.read.ensures ∙ c.in-Ok.is in
+      let reads : request c.args.self.now.profile.max_cto c.args.packet.now ≡ Ok c.in-Ok.asked = ap (λ (s : SessionState). request s.profile.max_cto c.args.packet.now) (sym c.self.view_is) ∙ sym c.read.ensures ∙ c.in-Ok.is in
       zero_has_none c.none-in_default-asked.result l c.none-in_default-asked.ensures ∙ sym (other_packet c.args.self.now.profile past c.args.packet.now c.in-Ok.asked l connected reads c.in_default-asked.not-Lists);
 }

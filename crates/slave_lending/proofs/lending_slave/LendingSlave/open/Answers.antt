@@ -17,5 +17,5 @@ invariant_of-result g c =
 -- the tasks that were made are in their slots
 pub returns-clause-opened : goal.returns-clause-opened
 returns-clause-opened g c =
-    opened-with g.R.Take.TakeEnd c.args.profile c.in_ok-slave.slave c.new.result c.in_ok-slave.tasks.items c.in-Ok-slots_of.slots.items
-    c.in_ok-slave.ensures.profile c.in_ok-slave.ensures.stands c.in_ok-slave.ensures.channels c.in_ok-slave.ensures.tasks c.new.ensures.fresh c.new.ensures.stays_open c.in-Ok-slots_of.ensures
+    opened-with g.R.Take.TakeEnd c.args.profile c.in_ok-slave.slave c.new-stream.result c.in_ok-slave.tasks.items c.in-Ok-slots_of.slots.items
+    c.in_ok-slave.ensures.profile c.in_ok-slave.ensures.stands c.in_ok-slave.ensures.channels c.in_ok-slave.ensures.tasks c.new-stream.ensures.fresh c.new-stream.ensures.stays_open c.new-stream.ensures.max_cto c.in-Ok-slots_of.ensures

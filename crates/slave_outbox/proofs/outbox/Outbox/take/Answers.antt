@@ -32,7 +32,7 @@ invariant_of-self-2 g c =
     let box = inv.2 in
     let (s, takes, list, passes, lays) = c.in-Wrote.ensures.means in
     let u : Unit = record { origin = origin.Sample c.args.measurement c.args.channel c.in-Wrote.list; len = c.in-Wrote.end - was.end } in
-    let few : length was.units.items < MAX_UNITS = omega (arith, long-bytes was.units.items box.long, box.bytes, box.room) in
+    let few : length was.units.items < MAX_UNITS = omega (arith, long-bytes was.units.items box.long, box.bytes, c.limit_of-limit.ensures.value, lays.within, lays.end_is, some-frames (state_of out was.writer).counter s.packets lays.some) in
     let items : c.push_back.new.self.items ≡ was.units.items ++ u ∷ [] =
     ap (λ b. b.items) c.push_back.ensures.items ∙ keep-all was.units.capacity (was.units.items ++ u ∷ []) (omega (arith, few, box.capacity, length-append was.units.items (u ∷ []))) in (
       c.in-Wrote.ensures.stays_open,
@@ -54,7 +54,7 @@ returns-clause-means g c =
     let box = c.self.invariant.2 in
     let (s, takes, list, passes, lays) = c.in-Wrote.ensures.means in
     let u : Unit = record { origin = origin.Sample c.args.measurement c.args.channel c.in-Wrote.list; len = c.in-Wrote.end - was.end } in
-    let few : length was.units.items < MAX_UNITS = omega (arith, long-bytes was.units.items box.long, box.bytes, box.room) in
+    let few : length was.units.items < MAX_UNITS = omega (arith, long-bytes was.units.items box.long, box.bytes, c.limit_of-limit.ensures.value, lays.within, lays.end_is, some-frames (state_of out was.writer).counter s.packets lays.some) in
     let items : c.push_back.new.self.items ≡ was.units.items ++ u ∷ [] =
     ap (λ b. b.items) c.push_back.ensures.items ∙ keep-all was.units.capacity (was.units.items ++ u ∷ []) (omega (arith, few, box.capacity, length-append was.units.items (u ∷ []))) in
     let now : OutboxState = box_of was.log.bytes (record { writer = state_of out c.step-step.new.writer; bytes = c.step-step.new.buffer }) c.in-Wrote.end c.push_back.new.self.items was.shown.count in (
