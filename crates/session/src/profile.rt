@@ -35,7 +35,7 @@ pub struct Profile {
     pub max_cto: u8,
     /// 0 to 56 bytes of ASCII, 0x20 to 0x7E, and at most `max_cto - 8`.
     pub name: Vec<u8>,
-    /// The event channels, 1 to 8.
+    /// The event channels, 1 to 16.
     pub events: Vec<EventChannel>,
     /// The name of its A2L file, without path and extension: bytes as in its name.
     pub a2l_name: Vec<u8>,
@@ -49,7 +49,7 @@ pub struct Profile {
 /// GET_ID has no room for the name is looked for behind MAX_CTO.
 #[derive(Clone, Copy, Debug, PartialEq, Eq, Error)]
 pub enum ProfileFault {
-    #[error("there are no event channels, or more than 8")]
+    #[error("there are no event channels, or more than 16")]
     Channels,
     #[error("timestamps have no size of 1, 2 or 4 bytes")]
     StampSize,
