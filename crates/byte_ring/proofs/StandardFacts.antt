@@ -40,7 +40,7 @@ two_items_are_read : items_in (records_of (one_packet ∷ marker ∷ []) ++ 0x01
 unfolding one_packet marker record_of body_of items_in item_at candidate is_item packets_of_body
 two_items_are_read = refl
 
--- an event channel over 7 is no record's
-no_item_of_channel_8 : items_in (0x02 ∷ 0x08 ∷ 0x00 ∷ []) ≡ []
+-- an event channel over 15 is no record's
+no_item_of_channel_16 : items_in (0x02 ∷ 0x10 ∷ 0x00 ∷ []) ≡ []
 unfolding record_of body_of items_in item_at candidate is_item packets_of_body
-no_item_of_channel_8 = refl
+no_item_of_channel_16 = refl
