@@ -89,34 +89,40 @@ leads_on old new x same held part bad = record {
 -- a byte more ends a frame
 pub leads_to_packet : (old : ReaderState) (new : ReaderState) (x : ℕ) (q : List ℕ) → new.max_cto ≡ old.max_cto → IsFrameOf old.max_cto (old.held ++ x ∷ []) q
     → new.held ≡ [] → new.closed ≡ false → Leads old new (x ∷ []) (q ∷ [])
-leads_to_packet old new x q same f held is_open = record { max_cto = same; after = λ bytes packets h.
-    let fs : List (ℕ × List ℕ) = h.split.frames in
-    let whole : bytes ++ x ∷ [] ≡ joined_frames (fs ++ (f.counter, q) ∷ []) ++ new.held =
-    ap (λ bs. bs ++ x ∷ []) h.split.whole ∙ append_assoc (joined_frames fs) old.held (x ∷ [])
-    ∙ ap (λ bs. joined_frames fs ++ bs) f.is
-    ∙ sym (joined-push fs (f.counter, q))
-    ∙ sym (append-nil (joined_frames (fs ++ (f.counter, q) ∷ [])))
-    ∙ ap (λ bs. joined_frames (fs ++ (f.counter, q) ∷ []) ++ bs) (sym held) in
-    record {
-      split = record {
-        frames = fs ++ (f.counter, q) ∷ [];
-        legal =
-            subst (λ m. All (IsMasterFrame m) (fs ++ (f.counter, q) ∷ [])) (sym same)
-            (All-push (IsMasterFrame old.max_cto) fs (f.counter, q) h.split.legal (record { counter = f.small; some = f.some; fits = f.fits }));
-        carry = ap (λ ps. ps ++ q ∷ []) h.split.carry ∙ sym (map_push (λ (g : ℕ × List ℕ). g.1) fs (f.counter, q));
-        whole = whole;
+leads_to_packet old new x q same f held is_open = record {
+  max_cto = same;
+  after = λ bytes packets h.
+      let fs : List (ℕ × List ℕ) = h.split.frames in
+      let whole : bytes ++ x ∷ [] ≡ joined_frames (fs ++ (f.counter, q) ∷ []) ++ new.held =
+      ap (λ bs. bs ++ x ∷ []) h.split.whole ∙ append_assoc (joined_frames fs) old.held (x ∷ [])
+      ∙ ap (λ bs. joined_frames fs ++ bs) f.is
+      ∙ sym (joined-push fs (f.counter, q))
+      ∙ sym (append-nil (joined_frames (fs ++ (f.counter, q) ∷ [])))
+      ∙ ap (λ bs. joined_frames (fs ++ (f.counter, q) ∷ []) ++ bs) (sym held) in
+      record {
+        split = record {
+          frames = fs ++ (f.counter, q) ∷ [];
+          legal =
+              subst (λ m. All (IsMasterFrame m) (fs ++ (f.counter, q) ∷ [])) (sym same)
+              (All-push (IsMasterFrame old.max_cto) fs (f.counter, q) h.split.legal (record { counter = f.small; some = f.some; fits = f.fits }));
+          carry = ap (λ ps. ps ++ q ∷ []) h.split.carry ∙ sym (map_push (λ (g : ℕ × List ℕ). g.1) fs (f.counter, q));
+          whole = whole;
+        };
+        part = λ _. ap (reach new.max_cto) held;
+        bad = λ shut. absurd (cc);
       };
-      part = λ _. ap (reach new.max_cto) held;
-      bad = λ shut. absurd (cc);
-    } }
+}
 
 -- what leads on twice
 pub leads_then : (a b c : ReaderState) (xs ys : List ℕ) (ps qs : List (List ℕ)) → Leads a b xs ps → Leads b c ys qs → Leads a c (xs ++ ys) (ps ++ qs)
-leads_then a b c xs ys ps qs first next = record { max_cto = next.max_cto ∙ first.max_cto; after = λ bytes packets h.
-    let there = next.after (bytes ++ xs) (packets ++ ps) (first.after bytes packets h) in
-    let P : List ℕ → Type 0 = λ bs. ReaderStandsAfter c bs (packets ++ (ps ++ qs)) in
-    let Q : List (List ℕ) → Type 0 = λ gs. ReaderStandsAfter c ((bytes ++ xs) ++ ys) gs in
-    subst P (append_assoc bytes xs ys) (subst Q (append_assoc packets ps qs) there) }
+leads_then a b c xs ys ps qs first next = record {
+  max_cto = next.max_cto ∙ first.max_cto;
+  after = λ bytes packets h.
+      let there = next.after (bytes ++ xs) (packets ++ ps) (first.after bytes packets h) in
+      let P : List ℕ → Type 0 = λ bs. ReaderStandsAfter c bs (packets ++ (ps ++ qs)) in
+      let Q : List (List ℕ) → Type 0 = λ gs. ReaderStandsAfter c ((bytes ++ xs) ++ ys) gs in
+      subst P (append_assoc bytes xs ys) (subst Q (append_assoc packets ps qs) there);
+}
 
 -- two lists of one length are equal where they begin the same bytes
 same_front : (a b x y : List ℕ) → length a ≡ length b → a ++ x ≡ b ++ y → (a ≡ b) × (x ≡ y)

@@ -11,8 +11,9 @@ use crate::source::TextOf;
 use segments::limits::MAX_READERS;
 use segments::{Segment, SegmentFault, Segments};
 use thiserror::Error;
-use xcp_base::limits::{MAX_BYTE_RING, MAX_CHANNELS, MAX_CTO, MAX_SAMPLE_RING, MAX_UNIT};
-use xcp_base::limits::{MIN_BYTE_RING, MIN_CTO};
+use xcp_base::limits::{
+    MAX_BYTE_RING, MAX_CHANNELS, MAX_CTO, MAX_SAMPLE_RING, MAX_UNIT, MIN_BYTE_RING, MIN_CTO,
+};
 use xcp_base::{IdKind, RingKind, StampSize};
 
 /// What a slave is opened with.
