@@ -72,7 +72,8 @@ impl Cto {
 
     /// The reply of the store.
     pub(crate) fn of_store(reply: Reply) -> Cto
-        ensures { result ≡ reply_bytes reply }
+        ensures value { result ≡ reply_bytes reply }
+        ensures few { length result ≤ 8 }
     {
         match reply {
             Reply::Positive => Cto::positive(&[]),

@@ -1,5 +1,5 @@
 //! The replies to requests that change nothing.
-ghost use Rattle.std.specs.Prelude.{◌≡◌, map, length, max};
+ghost use Rattle.std.specs.Prelude.{◌≡◌, ◌≤◌, map, length, max};
 ghost use Rattle.session.specs.Fields.{packet_of};
 ghost use Rattle.session.specs.Replies.{connect_reply, most_of};
 ghost use Rattle.session.specs.Standing.{Looks};
@@ -14,7 +14,8 @@ use xcp_base::limits::MAX_ENTRY_SIZE;
 impl Session {
     /// GET_DAQ_LIST_INFO: the ODTs of the list, and the most entries of one of them.
     pub(crate) fn list_info(&self, list: u16) -> Cto
-        ensures { Looks self.now (Request.GetDaqListInfo list) result }
+        ensures reply { Looks self.now (Request.GetDaqListInfo list) result }
+        ensures few { length result ≤ 8 }
     {
         let Some(conf) = self.store.conf(list) else {
             return Cto::error(ErrCode::OutOfRange);
@@ -24,7 +25,8 @@ impl Session {
 
     /// CONNECT while a master is connected already: nothing changes.
     pub(crate) fn connect_again(&self, mode: u8) -> Cto
-        ensures { Looks self.now (Request.Connect mode) result }
+        ensures reply { Looks self.now (Request.Connect mode) result }
+        ensures few { length result ≤ 8 }
     {
         if mode != 0 {
             return Cto::error(ErrCode::OutOfRange);
@@ -35,14 +37,16 @@ impl Session {
     /// The reply to CONNECT: RESOURCE, COMM_MODE_BASIC, MAX_CTO, MAX_DTO, and the versions of the
     /// protocol layer and the transport layer.
     pub(crate) fn connected_reply(&self) -> Cto
-        ensures { result ≡ packet_of (connect_reply self.now.profile 0) }
+        ensures reply { result ≡ packet_of (connect_reply self.now.profile 0) }
+        ensures few { length result ≤ 8 }
     {
         Cto::positive(&[0x04, 0x80, self.profile.max_cto, 0x40, 0x00, 0x01, 0x01])
     }
 
     /// GET_STATUS: whether a list runs.
     pub(crate) fn status(&self) -> Cto
-        ensures { Looks self.now Request.GetStatus result }
+        ensures reply { Looks self.now Request.GetStatus result }
+        ensures few { length result ≤ 8 }
     {
         let runs = bit(self.store.any_running(), 0x40);
         Cto::positive(&[runs, 0, 0, 0, 0])
@@ -50,7 +54,8 @@ impl Session {
 
     /// GET_DAQ_LIST_MODE: the bits of the mode, the event channel, the prescaler and the priority.
     pub(crate) fn list_mode(&self, list: u16) -> Cto
-        ensures { Looks self.now (Request.GetDaqListMode list) result }
+        ensures reply { Looks self.now (Request.GetDaqListMode list) result }
+        ensures few { length result ≤ 8 }
     {
         let Some(conf) = self.store.conf(list) else {
             return Cto::error(ErrCode::OutOfRange);
@@ -65,7 +70,8 @@ impl Session {
     /// GET_DAQ_PROCESSOR_INFO: the numbers of lists and event channels, and the identification
     /// field.
     pub(crate) fn processor_info(&self) -> Cto
-        ensures { Looks self.now Request.GetDaqProcessorInfo result }
+        ensures reply { Looks self.now Request.GetDaqProcessorInfo result }
+        ensures few { length result ≤ 8 }
     {
         let [a, b] = self.store.lists().to_le_bytes();
         let [c, d] = (self.profile.events.len() as u16).to_le_bytes();
@@ -74,7 +80,8 @@ impl Session {
 
     /// GET_DAQ_RESOLUTION_INFO: the sizes of entries, and the timestamp's size, unit and ticks.
     pub(crate) fn resolution_info(&self) -> Cto
-        ensures { Looks self.now Request.GetDaqResolutionInfo result }
+        ensures reply { Looks self.now Request.GetDaqResolutionInfo result }
+        ensures few { length result ≤ 8 }
     {
         let mode = self.profile.stamp_size + 16 * self.profile.unit;
         let [low, high] = self.profile.ticks.to_le_bytes();

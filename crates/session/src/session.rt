@@ -1,5 +1,6 @@
 //! The session, from CONNECT to DISCONNECT: each packet of the master is answered.
-ghost use Rattle.std.specs.Prelude.{◌≡◌, [], IfErr, IfOk, IfSome, OnErr, OnOk, Some};
+ghost use Rattle.std.specs.Prelude.{◌≡◌, ◌≤◌, [], IfErr, IfOk, IfSome, OnErr, OnOk, Some};
+ghost use Rattle.std.specs.Prelude.{length};
 ghost use Rattle.xcp_base.specs.declared.limits.TheConstants.{MAX_CTO};
 ghost use Rattle.session.specs.Fields.{IsReplyPacket};
 ghost use Rattle.session.specs.Past.{new_past, none_given};
@@ -99,6 +100,7 @@ impl Session {
             result }
         ensures starts { IfSome result (IsReplyPacket MAX_CTO) }
         ensures profile_stays { self.new.profile ≡ self.old.profile }
+        ensures fits { IfSome result (λ reply. length reply ≤ self.old.profile.max_cto) }
     {
         match self.carry_packet(packet, clock, memory) {
             Ok(reply) => reply,
@@ -136,6 +138,8 @@ impl Session {
         ensures no_memory { OnErr result (PacketMayRunOut self.old packet.now) }
         ensures unchanged { OnErr result (self.new ≡ self.old) }
         ensures profile_stays { self.new.profile ≡ self.old.profile }
+        ensures fits { IfOk result (λ reply. IfSome reply
+            (λ bytes. length bytes ≤ self.old.profile.max_cto)) }
     {
         let read = request::read(packet, self.profile.max_cto);
         if !self.connected {
@@ -155,6 +159,7 @@ impl Session {
     fn greet(&mut self, read: Result<Request, ErrCode>) -> Option<Cto>
         ensures reply { Greets self.old self.new read result }
         ensures profile_stays { self.new.profile ≡ self.old.profile }
+        ensures fits { IfSome result (λ reply. length reply ≤ self.old.profile.max_cto) }
     {
         match read {
             Ok(Request::Connect { mode: 0 }) => {
@@ -179,6 +184,7 @@ impl Session {
         ensures no_memory { OnErr result (MayRunOut self.old asked) }
         ensures unchanged { OnErr result (self.new ≡ self.old) }
         ensures profile_stays { self.new.profile ≡ self.old.profile }
+        ensures fits { IfOk result (λ reply. length reply ≤ self.old.profile.max_cto) }
     {
         match asked {
             Request::Connect { mode } => Ok(self.connect_again(mode)),
@@ -213,6 +219,7 @@ impl Session {
         ensures reply { AnswersRequest self.old self.new none_given []
             (Request.GetDaqEventInfo channel) result }
         ensures profile_stays { self.new.profile ≡ self.old.profile }
+        ensures few { length result ≤ 8 }
     {
         let Some(event) = self.profile.events.get(channel as usize) else {
             return Cto::error(ErrCode::OutOfRange);
@@ -239,6 +246,7 @@ impl Session {
         ensures no_memory { OnErr result (MayRunOut self.old (Request.Lists command)) }
         ensures unchanged { OnErr result (self.new ≡ self.old) }
         ensures profile_stays { self.new.profile ≡ self.old.profile }
+        ensures few { IfOk result (λ reply. length reply ≤ 8) }
     {
         let reply = command::carry_out(&mut self.store, command)?;
         Ok(Cto::of_store(reply))
@@ -248,6 +256,7 @@ impl Session {
     fn disconnect(&mut self) -> Cto
         ensures reply { AnswersRequest self.old self.new none_given [] Request.Disconnect result }
         ensures profile_stays { self.new.profile ≡ self.old.profile }
+        ensures few { length result ≤ 8 }
     {
         self.hang_up();
         Cto::positive(&[])

@@ -24,6 +24,7 @@ impl Session {
         ensures reply { AnswersRequest self.old self.new none_given [] (Request.GetId kind)
             result }
         ensures profile_stays { self.new.profile ≡ self.old.profile }
+        ensures fits { length result ≤ self.old.profile.max_cto }
     {
         match kind {
             0 => self.name_reply(),
@@ -37,7 +38,8 @@ impl Session {
 
     /// The reply with the slave's name.
     fn name_reply(&self) -> Cto
-        ensures { result ≡ packet_of (id_reply self.now.profile 0) }
+        ensures reply { result ≡ packet_of (id_reply self.now.profile 0) }
+        ensures fits { length result ≤ self.now.profile.max_cto }
     {
         let name = self.profile.name.as_slice();
         let [a, b, c, d] = (name.len() as u32).to_le_bytes();
@@ -50,6 +52,7 @@ impl Session {
             ≡ packet_of (Ok (id_fields 0 (length (text_in self.old.profile text)) [])) }
         ensures source { self.new
             ≡ record self.old { source = Text (text_in self.old.profile text) } }
+        ensures few { length result ≤ 8 }
     {
         let [a, b, c, d] = (self.profile.text(text).len() as u32).to_le_bytes();
         self.source = Source::Text { text, read: 0 };
@@ -61,6 +64,7 @@ impl Session {
         ensures reply { AnswersRequest self.old self.new none_given []
             (Request.SetMta extension address) result }
         ensures profile_stays { self.new.profile ≡ self.old.profile }
+        ensures few { length result ≤ 8 }
     {
         let address = address as usize;
         if self.store.segments().find(extension, address, 1).is_none() {
@@ -75,6 +79,7 @@ impl Session {
         ensures reply { AnswersRequest self.old self.new (given_by 0 memory.now) []
             (Request.Upload count) result }
         ensures profile_stays { self.new.profile ≡ self.old.profile }
+        ensures fits { length result ≤ self.old.profile.max_cto }
     {
         match self.source {
             Source::Nothing => Cto::error(ErrCode::Sequence),
@@ -91,6 +96,7 @@ impl Session {
         ensures reply { AnswersRequest self.old self.new none_given [] (Request.Upload count)
             result }
         ensures profile_stays { self.new.profile ≡ self.old.profile }
+        ensures fits { length result ≤ self.old.profile.max_cto }
     {
         let left = self.left_of(text, read);
         if is_bad_count(count, left, self.profile.max_cto) {
@@ -125,6 +131,7 @@ impl Session {
         ensures reply { AnswersRequest self.old self.new (given_by 0 memory.now) []
             (Request.ShortUpload count extension address) result }
         ensures profile_stays { self.new.profile ≡ self.old.profile }
+        ensures fits { length result ≤ self.old.profile.max_cto }
     {
         self.upload_memory(count, extension, address as usize, memory)
     }
@@ -138,6 +145,7 @@ impl Session {
               source_after_memory self.old.profile (parts memory.now) count extension address
               self.old.source;
         } }
+        ensures fits { length result ≤ self.old.profile.max_cto }
     {
         match self.memory_reply(count, extension, address, memory) {
             Ok(reply) => {
@@ -166,6 +174,7 @@ impl Session {
         ensures err { IfErr result (λ code.
             memory_reply self.now.profile (parts memory.now) count extension address
             ≡ Err code) }
+        ensures fits { IfOk result (λ reply. length reply ≤ self.now.profile.max_cto) }
     {
         if is_bad_number(count, self.profile.max_cto) {
             return Err(ErrCode::OutOfRange);
@@ -185,7 +194,7 @@ impl Session {
 /// Whether UPLOAD asks for no byte, or for more than a reply has.
 fn is_bad_number(count: u8, max_cto: u8) -> bool
     ensures value { result ≡ is_bad_number max_cto count }
-    ensures fits { result ≡ false → count < 255 }
+    ensures fits { result ≡ false → (count < max_cto) × (max_cto ≤ 255) }
 {
     count == 0 || count >= max_cto
 }
@@ -193,7 +202,7 @@ fn is_bad_number(count: u8, max_cto: u8) -> bool
 /// Whether it asks for no byte of a text, for more than a reply has, or for more than are left.
 fn is_bad_count(count: u8, left: &[u8], max_cto: u8) -> bool
     ensures value { result ≡ is_bad_count max_cto count left.now }
-    ensures fits { result ≡ false → count < 255 }
+    ensures fits { result ≡ false → (count < max_cto) × (max_cto ≤ 255) }
 {
     is_bad_number(count, max_cto) || count as usize > left.len()
 }

@@ -17,6 +17,7 @@ impl Session {
         ensures reply { WritesAll self.old self.new
             (writes count entries.now) result }
         ensures profile_stays { self.new.profile ≡ self.old.profile }
+        ensures few { length result ≤ 8 }
     {
         let mut left = entries;
         for i in 0..count {

@@ -24,22 +24,22 @@ returns-in-Lists-clause-ok c = rw c.in-Lists.is c.set_lists.ensures.ok
 
 -- the others leave the session as it was
 pub returns-in-Connect-clause-ok : goal.returns-in-Connect-clause-ok
-returns-in-Connect-clause-ok c = λ past stands. rw c.in-Connect.is (c.connect_again.ensures past stands, stands)
+returns-in-Connect-clause-ok c = λ past stands. rw c.in-Connect.is (c.connect_again.ensures.reply past stands, stands)
 
 pub returns-in-GetStatus-clause-ok : goal.returns-in-GetStatus-clause-ok
-returns-in-GetStatus-clause-ok c = λ past stands. rw c.in-GetStatus.is (c.status.ensures past stands, stands)
+returns-in-GetStatus-clause-ok c = λ past stands. rw c.in-GetStatus.is (c.status.ensures.reply past stands, stands)
 
 pub returns-in-GetDaqListMode-clause-ok : goal.returns-in-GetDaqListMode-clause-ok
-returns-in-GetDaqListMode-clause-ok c = λ past stands. rw c.in-GetDaqListMode.is (c.list_mode.ensures past stands, stands)
+returns-in-GetDaqListMode-clause-ok c = λ past stands. rw c.in-GetDaqListMode.is (c.list_mode.ensures.reply past stands, stands)
 
 pub returns-in-GetDaqProcessorInfo-clause-ok : goal.returns-in-GetDaqProcessorInfo-clause-ok
-returns-in-GetDaqProcessorInfo-clause-ok c = λ past stands. rw c.in-GetDaqProcessorInfo.is (c.processor_info.ensures past stands, stands)
+returns-in-GetDaqProcessorInfo-clause-ok c = λ past stands. rw c.in-GetDaqProcessorInfo.is (c.processor_info.ensures.reply past stands, stands)
 
 pub returns-in-GetDaqResolutionInfo-clause-ok : goal.returns-in-GetDaqResolutionInfo-clause-ok
-returns-in-GetDaqResolutionInfo-clause-ok c = λ past stands. rw c.in-GetDaqResolutionInfo.is (c.resolution_info.ensures past stands, stands)
+returns-in-GetDaqResolutionInfo-clause-ok c = λ past stands. rw c.in-GetDaqResolutionInfo.is (c.resolution_info.ensures.reply past stands, stands)
 
 pub returns-in-GetDaqListInfo-clause-ok : goal.returns-in-GetDaqListInfo-clause-ok
-returns-in-GetDaqListInfo-clause-ok c = λ past stands. rw c.in-GetDaqListInfo.is (c.list_info.ensures past stands, stands)
+returns-in-GetDaqListInfo-clause-ok c = λ past stands. rw c.in-GetDaqListInfo.is (c.list_info.ensures.reply past stands, stands)
 
 pub returns-in-Synch-clause-ok : goal.returns-in-Synch-clause-ok
 returns-in-Synch-clause-ok c = λ past stands. rw c.in-Synch.is (c.error.ensures, stands)

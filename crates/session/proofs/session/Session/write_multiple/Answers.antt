@@ -29,7 +29,7 @@ returns-then-is_error-clause-reply c = λ past h.
     let P : List Command → Type 0 = λ ws. OnTheWay old c.loop-i.self past all ws in
     let bad : is_error c.write_entry-reply.result ≡ true = sym c.is_error.ensures ∙ c.if-is_error.true in
     let end = way_stops old c.loop-i.self c.write_entry-reply.new.self past all (writes (n - (i + 1)) (drop 8 left)) call c.write_entry-reply.result c.loop-i.invariant.profile c.write_entry-reply.ensures.reply bad (subst P apart (c.loop-i.invariant.way past h)) in
-    (c.of_store.ensures ∙ end.0, end.1)
+    (c.of_store.ensures.value ∙ end.0, end.1)
 
 -- one write more is done
 pub loop-i-preserved : goal.loop-i-preserved
