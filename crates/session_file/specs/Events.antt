@@ -4,7 +4,7 @@ use Rattle.std.specs.Prelude.{option_and_then}
 use Rattle.toml.specs.Data.{Data, Items, no_items, item, Members, as_table}
 use Rattle.session.specs.declared.event_channel.EventChannel.{EventChannel}
 use Rattle.run_file.specs.Keys.{at_key, number_in}
-use Rattle.session_file.specs.declared.limits.TheConstants.{MAX_CAPACITY}
+use Rattle.session_file.specs.declared.limits.TheConstants.{MAX_INTEGER}
 use Rattle.session_file.specs.Keys.{event_keys, number_or_0, only_keys, text_or_empty}
 
 -- what is told of an event channel
@@ -42,7 +42,7 @@ abbrev pub event_of : Members → Option EventData
 event_of ms =
     if only_keys event_keys ms
     then event_with
-    (at_key (number_in 0 MAX_CAPACITY) (codes "capacity") ms)
+    (at_key (number_in 0 MAX_INTEGER) (codes "capacity") ms)
     (text_or_empty (codes "name") ms)
     (number_or_0 255 (codes "cycle") ms)
     (number_or_0 255 (codes "cycle_unit") ms)
