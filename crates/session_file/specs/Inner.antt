@@ -1,5 +1,5 @@
 -- A line, and the values of the keys, as the program holds them.
-use Rattle.std.specs.Prelude.{ℕ, List, map, vec_items}
+use Rattle.std.specs.Prelude.{map, vec_items}
 use Rattle.toml.specs.View.{items_view}
 use Rattle.run_file.specs.Inner.{text_in}
 use Rattle.session_file.specs.declared.line.Line.{Line}
