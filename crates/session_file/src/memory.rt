@@ -58,11 +58,7 @@ fn image_alone(
 }
 
 /// The segments of some values.
-fn segments_in(
-    alloc: Global,
-    channels: usize,
-    values: &[Value],
-) -> Result<Vec<Segment>, FileFault>
+fn segments_in(alloc: Global, channels: usize, values: &[Value]) -> Result<Vec<Segment>, FileFault>
     ensures ok { IfOk result (λ segments.
         all_of (segment_in channels) (items_view values.now) ≡ Some segments.items) }
     ensures err { IfErr result (λ e. (e ≡ Memory) ⊎ ((i : ℕ) × (e ≡ BadSegment i)

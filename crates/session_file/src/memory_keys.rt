@@ -13,10 +13,7 @@ use xcp_base::limits::MAX_IMAGE_LEN;
 #[derive(Clone, Copy)]
 pub enum MemoryKeys<'a> {
     /// One image, which all event channels may read.
-    Image {
-        len: usize,
-        base: u32,
-    },
+    Image { len: usize, base: u32 },
     /// The items of `segments`.
     Segments(&'a [Value]),
 }
