@@ -28,7 +28,8 @@ pub fn write_expected(why: &mut String, bad: BadKey) -> Result<(), AllocError> {
     why.push_str("expected: ")?;
     why.push_str(match bad {
         BadKey::Unknown => "a key of a session file\n",
-        BadKey::ImageLen => "an integer from 1 to 4096, or segments in place of image_len and base\n",
+        BadKey::ImageLen =>
+            "an integer from 1 to 4096, or segments in place of image_len and base\n",
         BadKey::Base => "an integer from 0 to 4294967295, and no segments\n",
         BadKey::Segments => "an array of tables, one for each segment\n",
         BadKey::Id => "\"absolute\", \"byte\" or \"word\"\n",

@@ -25,7 +25,10 @@ fn write_line(text: &mut String, line: &Line) -> Result<(), AllocError> {
             stamp,
             memory,
         } => {
-            write!(text, "trigger of event channel {channel}, timestamp {stamp}: ")?;
+            write!(
+                text,
+                "trigger of event channel {channel}, timestamp {stamp}: "
+            )?;
             write_slices(text, memory)
         }
         Line::Memory(memory) => write_memory(text, memory),
