@@ -8,8 +8,7 @@ use Rattle.toml.specs.View.{items_view, members_view, view}
 use Rattle.toml.specs.declared.value.Value.{Value}
 use Rattle.run_file.specs.Keys.{all_of, is_among}
 use Rattle.run_file.proofs.KeyLemmas.{onto-some}
-use Rattle.session_file.specs.Events.{first_none, or_behind}
-use Rattle.session_file.specs.Keys.{only_keys}
+use Rattle.session_file.specs.Keys.{first_none, only_keys, or_behind}
 use Rattle.session_file.specs.Memory.{count_of}
 
 -- the keys of a table, one after another

@@ -1,7 +1,6 @@
 -- The event channels of a session file.
-use Rattle.std.specs.Prelude.{ℕ, suc, if◌then◌else◌, List, codes, Option, Some, None, option_map}
-use Rattle.std.specs.Prelude.{option_and_then}
-use Rattle.toml.specs.Data.{Data, Items, no_items, item, Members, as_table}
+use Rattle.std.specs.Prelude.{ℕ, if◌then◌else◌, List, codes, Option, Some, None, option_and_then}
+use Rattle.toml.specs.Data.{Data, Members, as_table}
 use Rattle.session.specs.declared.event_channel.EventChannel.{EventChannel}
 use Rattle.run_file.specs.Keys.{at_key, number_in}
 use Rattle.session_file.specs.declared.limits.TheConstants.{MAX_INTEGER}
@@ -51,12 +50,3 @@ event_of ms =
 
 abbrev pub event_in : Data → Option EventData
 event_in d = option_and_then event_of (as_table d)
-
--- the place of the first item that can't be read
-abbrev pub or_behind : {X : Type 0} → Option X → Option ℕ → Option ℕ
-or_behind None behind = Some 0
-or_behind (Some x) behind = option_map suc behind
-
-abbrev pub first_none : {X : Type 0} → (Data → Option X) → Items → Option ℕ
-first_none f no_items = None
-first_none f (item d ds) = or_behind (f d) (first_none f ds)

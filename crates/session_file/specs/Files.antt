@@ -8,9 +8,9 @@ use Rattle.session.specs.declared.profile.Profile.{Profile}
 use Rattle.run_file.specs.Keys.{all_of}
 use Rattle.run_file.specs.Reading.{AreTextsOf, IsFirstBad}
 use Rattle.session_file.specs.declared.file.SessionFile.{SessionFile}
-use Rattle.session_file.specs.Events.{EventData, event_data, event_in, first_none}
+use Rattle.session_file.specs.Events.{EventData, event_data, event_in}
 use Rattle.session_file.specs.Inner.{line_data}
-use Rattle.session_file.specs.Keys.{AreKeyValues, HasBadKey, KeyValues}
+use Rattle.session_file.specs.Keys.{AreKeyValues, HasBadKey, KeyValues, first_none}
 use Rattle.session_file.specs.Lines.{IsLineText}
 use Rattle.session_file.specs.Memory.{bad_segment, count_of, segments_of}
 

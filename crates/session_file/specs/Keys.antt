@@ -1,7 +1,7 @@
 -- The keys of a session file, and their values as the table of the document has them.
-use Rattle.std.specs.Prelude.{◌≡◌, ◌&&◌, ◌||◌, ℕ, Bool, true, if◌then◌else◌, List, [], ◌∷◌, codes}
-use Rattle.std.specs.Prelude.{Option, Some, None, is_some, option_map}
-use Rattle.toml.specs.Data.{Data, Items, Members, no_members, member, get_member}
+use Rattle.std.specs.Prelude.{◌≡◌, ◌&&◌, ◌||◌, ℕ, suc, Bool, true, if◌then◌else◌, List, [], ◌∷◌}
+use Rattle.std.specs.Prelude.{codes, Option, Some, None, is_some, option_map}
+use Rattle.toml.specs.Data.{Data, Items, no_items, item, Members, no_members, member, get_member}
 use Rattle.toml.specs.Data.{as_array, as_str}
 use Rattle.xcp_base.specs.declared.id_kind.IdKind.{IdKind}
 use Rattle.xcp_base.specs.declared.stamp_size.StampSize.{StampSize}
@@ -26,6 +26,15 @@ event_keys =
 abbrev pub only_keys : List (List ℕ) → Members → Bool
 only_keys ks no_members = true
 only_keys ks (member key d ms) = is_among ks key && only_keys ks ms
+
+-- the place of the first item that can't be read
+abbrev pub or_behind : {X : Type 0} → Option X → Option ℕ → Option ℕ
+or_behind None behind = Some 0
+or_behind (Some x) behind = option_map suc behind
+
+abbrev pub first_none : {X : Type 0} → (Data → Option X) → Items → Option ℕ
+first_none f no_items = None
+first_none f (item d ds) = or_behind (f d) (first_none f ds)
 
 -- the integer of a value, if it is no more than `most`; 0 if there is none
 abbrev pub number_or : ℕ → Option Data → Option ℕ

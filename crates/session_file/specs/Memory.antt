@@ -6,8 +6,7 @@ use Rattle.segments.specs.Segment.{all_readers}
 use Rattle.segments.specs.declared.segment.Segment.{Segment}
 use Rattle.run_file.specs.Keys.{all_of, at_key, number_in}
 use Rattle.session_file.specs.declared.limits.TheConstants.{MAX_INTEGER, NO_CHANNEL}
-use Rattle.session_file.specs.Events.{first_none}
-use Rattle.session_file.specs.Keys.{MemoryData, has_key, image, number_or_0, only_keys}
+use Rattle.session_file.specs.Keys.{MemoryData, first_none, has_key, image, number_or_0, only_keys}
 use Rattle.session_file.specs.Keys.{segments as items_of}
 
 -- how many items there are

@@ -3,7 +3,8 @@ ghost use Rattle.std.specs.Prelude.{◌≡◌, ◌⊎◌, ℕ, IfErr, IfOk, Some
 ghost use Rattle.toml.specs.View.{items_view, table_view, view};
 ghost use Rattle.run_file.specs.Keys.{all_of};
 ghost use Rattle.session_file.specs.declared.file_fault.FileFault.TheVariants.{BadEvent, Memory};
-ghost use Rattle.session_file.specs.Events.{event_data, event_in, event_of, first_none};
+ghost use Rattle.session_file.specs.Events.{event_data, event_in, event_of};
+ghost use Rattle.session_file.specs.Keys.{first_none};
 
 use crate::file_fault::FileFault;
 use crate::keys::{bytes_in, has_event_keys, number_or_0, text_or_empty};

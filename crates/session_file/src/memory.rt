@@ -3,8 +3,8 @@ ghost use Rattle.std.specs.Prelude.{◌≡◌, ◌⊎◌, ◌∷◌, [], ℕ, If
 ghost use Rattle.toml.specs.View.{items_view, table_view, view};
 ghost use Rattle.run_file.specs.Keys.{all_of};
 ghost use Rattle.session_file.specs.declared.file_fault.FileFault.TheVariants.{BadSegment, Memory};
-ghost use Rattle.session_file.specs.Events.{first_none};
 ghost use Rattle.session_file.specs.Inner.{memory_data};
+ghost use Rattle.session_file.specs.Keys.{first_none};
 ghost use Rattle.session_file.specs.Memory.{bad_segment, image_segment, reader, readers_in};
 ghost use Rattle.session_file.specs.Memory.{readers_of, segment_in, segment_of, segments_of};
 

@@ -2,9 +2,10 @@ use Rattle.std.proofs.Common.{◌≡◌, map, sym, ap, ◌∙◌, subst}
 use Rattle.toml.specs.View.{table_view}
 use Rattle.run_file.specs.Reading.{IsFirstBad}
 use Rattle.session_file.specs.declared.file_fault.FileFault.TheVariants.{BadEvent, BadLine, BadSegment}
-use Rattle.session_file.specs.Events.{event_data, event_in, first_none}
+use Rattle.session_file.specs.Events.{event_data, event_in}
 use Rattle.std.proofs.Common.{Some}
 use Rattle.session_file.specs.Inner.{values_data}
+use Rattle.session_file.specs.Keys.{first_none}
 use Rattle.session_file.specs.Lines.{IsLineText}
 use Rattle.session_file.specs.Memory.{bad_segment, count_of, segments_of}
 use Rattle.session_file.proofs.FileLemmas.{IsFault, event_at, fault_is, line_at, segment_at}
