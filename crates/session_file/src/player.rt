@@ -68,7 +68,7 @@ fn is_taken<S: SendEnd>(
     stamp: u32,
 ) -> bool
     ensures lines { lines_of tasks.new ≡ lines_of tasks.old }
-    ensures fits { result ≡ true → fits channel segments.now (parts memory.now) ≡ true }
+    ensures fitting { result ≡ true → fits channel segments.now (parts memory.now) ≡ true }
 {
     let c = channel as usize;
     if c >= tasks.len() || !is_memory_of(segments, channel, memory) {
