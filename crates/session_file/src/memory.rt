@@ -24,9 +24,9 @@ pub fn segments_of(
     channels: usize,
 ) -> Result<Vec<Segment>, FileFault>
     ensures ok { IfOk result (λ segments.
-        segments_of channels (memory_data memory) ≡ Some segments.items) }
+        segments_of channels (memory_data memory.entry) ≡ Some segments.items) }
     ensures err { IfErr result (λ e. (e ≡ Memory) ⊎ ((i : ℕ) × (e ≡ BadSegment i)
-        × (bad_segment channels (memory_data memory) ≡ Some i))) }
+        × (bad_segment channels (memory_data memory.entry) ≡ Some i))) }
 {
     match memory {
         MemoryKeys::Image { len, base } => image_alone(alloc, channels, len, base),

@@ -15,4 +15,4 @@ loop-value-preserved c =
     let read : number_in 0 255 (view c.value-item.result) ≡ Some c.in-Some.channel = search (rules, c.number_in.ensures.value, c.in-Some.is) in
     readers_more c.args.values.now c.loop-value.value-index c.value-item.result c.loop-value.readers c.in-Some.channel
     c.loop-value-test.true c.value-item.is c.loop-value.invariant read
-    ∙ ap (λ s. Some (bit_or c.loop-value.readers s)) (sym c.reader.ensures)
+    ∙ ap (λ s. Some (bit_or c.loop-value.readers s)) (sym c.reader-readers.ensures)
