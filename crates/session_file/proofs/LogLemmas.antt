@@ -18,8 +18,8 @@ use Rattle.slave.proofs.ThinnedLemmas.{assoc}
 pub masters-append : (xs ys : List LineData) → masters (xs ++ ys) ≡ masters xs ++ masters ys
 masters-append [] ys = refl
 masters-append (master packet ∷ xs) ys = ap (λ ps. packet ∷ ps) (masters-append xs ys)
-masters-append (trigger c stamp image ∷ xs) ys = masters-append xs ys
-masters-append (memory image ∷ xs) ys = masters-append xs ys
+masters-append (trigger c stamp slices ∷ xs) ys = masters-append xs ys
+masters-append (memory slices ∷ xs) ys = masters-append xs ys
 masters-append (send ∷ xs) ys = masters-append xs ys
 masters-append (lose ∷ xs) ys = masters-append xs ys
 masters-append (hang_up ∷ xs) ys = masters-append xs ys

@@ -1,10 +1,9 @@
 -- The event channels of a session file.
-use Rattle.std.specs.Prelude.{ℕ, suc, if◌then◌else◌, List, codes, Option, Some, None, option_map}
-use Rattle.std.specs.Prelude.{option_and_then}
-use Rattle.toml.specs.Data.{Data, Items, no_items, item, Members, as_table}
+use Rattle.std.specs.Prelude.{ℕ, if◌then◌else◌, List, codes, Option, Some, None, option_and_then}
+use Rattle.toml.specs.Data.{Data, Members, as_table}
 use Rattle.session.specs.declared.event_channel.EventChannel.{EventChannel}
 use Rattle.run_file.specs.Keys.{at_key, number_in}
-use Rattle.session_file.specs.declared.limits.TheConstants.{MAX_CAPACITY}
+use Rattle.session_file.specs.declared.limits.TheConstants.{MAX_INTEGER}
 use Rattle.session_file.specs.Keys.{event_keys, number_or_0, only_keys, text_or_empty}
 
 -- what is told of an event channel
@@ -42,7 +41,7 @@ abbrev pub event_of : Members → Option EventData
 event_of ms =
     if only_keys event_keys ms
     then event_with
-    (at_key (number_in 0 MAX_CAPACITY) (codes "capacity") ms)
+    (at_key (number_in 0 MAX_INTEGER) (codes "capacity") ms)
     (text_or_empty (codes "name") ms)
     (number_or_0 255 (codes "cycle") ms)
     (number_or_0 255 (codes "cycle_unit") ms)
@@ -51,12 +50,3 @@ event_of ms =
 
 abbrev pub event_in : Data → Option EventData
 event_in d = option_and_then event_of (as_table d)
-
--- the place of the first item that can't be read
-abbrev pub or_behind : {X : Type 0} → Option X → Option ℕ → Option ℕ
-or_behind None behind = Some 0
-or_behind (Some x) behind = option_map suc behind
-
-abbrev pub first_none : {X : Type 0} → (Data → Option X) → Items → Option ℕ
-first_none f no_items = None
-first_none f (item d ds) = or_behind (f d) (first_none f ds)

@@ -1,27 +1,22 @@
 -- A session file: which text is which session, and what its first fault is.
-use Rattle.std.specs.Prelude.{◌≡◌, ℕ, List, [], ◌∷◌, Some, length, map}
+use Rattle.std.specs.Prelude.{◌≡◌, ℕ, List, Some, map}
 use Rattle.toml.specs.Data.{Members}
 use Rattle.toml.specs.Parse.{parse_document}
 use Rattle.xcp_base.specs.Forms.{stamp_bytes}
-use Rattle.segments.specs.Segment.{all_readers}
 use Rattle.segments.specs.declared.segment.Segment.{Segment}
 use Rattle.session.specs.declared.profile.Profile.{Profile}
 use Rattle.run_file.specs.Keys.{all_of}
 use Rattle.run_file.specs.Reading.{AreTextsOf, IsFirstBad}
 use Rattle.session_file.specs.declared.file.SessionFile.{SessionFile}
-use Rattle.session_file.specs.Events.{EventData, event_data, event_in, first_none}
+use Rattle.session_file.specs.Events.{EventData, event_data, event_in}
 use Rattle.session_file.specs.Inner.{line_data}
-use Rattle.session_file.specs.Keys.{AreKeyValues, HasBadKey, KeyValues}
+use Rattle.session_file.specs.Keys.{AreKeyValues, HasBadKey, KeyValues, first_none}
 use Rattle.session_file.specs.Lines.{IsLineText}
-
--- the segment that an image is, which all of so many event channels may read
-abbrev pub image_of : KeyValues → ℕ → Segment
-image_of v channels =
-    record { extension = 0; base = v.base; len = v.image_len; events = all_readers channels }
+use Rattle.session_file.specs.Memory.{bad_segment, count_of, segments_of}
 
 -- the profile has these values
 pub record IsProfileOf (v : KeyValues) (p : Profile) : Type 0 where
-  pub segments_are : p.segments.items ≡ image_of v (length p.events.items) ∷ []
+  pub segments_are : segments_of (count_of v.events) v.memory ≡ Some p.segments.items
   pub id_is : p.id ≡ v.id
   pub stamp_is : p.stamp_size ≡ stamp_bytes v.stamp
   pub unit_is : p.unit ≡ v.unit
@@ -52,16 +47,28 @@ pub record HasBadKeyText (text : List ℕ) : Type 0 where
   pub toml : parse_document text ≡ Some document
   pub fault : HasBadKey document
 
--- its keys are right, and this is the first item of `events` that is no event channel
+-- its keys are right, and this is the first item of `segments` that is no segment
+pub record HasBadSegment (text : List ℕ) (place : ℕ) : Type 0 where
+  pub values : KeyValues
+  pub document : IsDocumentOf text values
+  pub first : bad_segment (count_of values.events) values.memory ≡ Some place
+
+-- its keys and its segments are right, and this is the first item of `events` that is no event
+-- channel
 pub record HasBadEvent (text : List ℕ) (place : ℕ) : Type 0 where
   pub values : KeyValues
   pub document : IsDocumentOf text values
+  pub segments : List Segment
+  pub segments_are : segments_of (count_of values.events) values.memory ≡ Some segments
   pub first : first_none event_in values.events ≡ Some place
 
--- its keys and its event channels are right, and this is the first text of `script` that is no line
+-- its keys, its segments and its event channels are right, and this is the first text of `script`
+-- that is no line
 pub record HasBadLine (text : List ℕ) (place : ℕ) : Type 0 where
   pub values : KeyValues
   pub document : IsDocumentOf text values
+  pub segments : List Segment
+  pub segments_are : segments_of (count_of values.events) values.memory ≡ Some segments
   pub events : List EventData
   pub events_are : all_of event_in values.events ≡ Some events
   pub first : IsFirstBad IsLineText values.script place

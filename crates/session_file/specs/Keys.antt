@@ -1,6 +1,7 @@
 -- The keys of a session file, and their values as the table of the document has them.
-use Rattle.std.specs.Prelude.{◌≡◌, ◌&&◌, ℕ, Bool, true, List, [], ◌∷◌, codes, Option, Some, None}
-use Rattle.toml.specs.Data.{Data, Items, Members, no_members, member, get_member}
+use Rattle.std.specs.Prelude.{◌≡◌, ◌&&◌, ◌||◌, ℕ, suc, Bool, true, if◌then◌else◌, List, [], ◌∷◌}
+use Rattle.std.specs.Prelude.{codes, Option, Some, None, is_some, option_map}
+use Rattle.toml.specs.Data.{Data, Items, no_items, item, Members, no_members, member, get_member}
 use Rattle.toml.specs.Data.{as_array, as_str}
 use Rattle.xcp_base.specs.declared.id_kind.IdKind.{IdKind}
 use Rattle.xcp_base.specs.declared.stamp_size.StampSize.{StampSize}
@@ -15,7 +16,7 @@ abbrev pub keys : List (List ℕ)
 keys =
     codes "image_len" ∷ codes "id" ∷ codes "stamp_size" ∷ codes "ring" ∷ codes "unit"
     ∷ codes "ticks" ∷ codes "base" ∷ codes "name" ∷ codes "a2l_name" ∷ codes "epk" ∷ codes "a2l"
-    ∷ codes "events" ∷ codes "script" ∷ []
+    ∷ codes "segments" ∷ codes "events" ∷ codes "script" ∷ []
 
 abbrev pub event_keys : List (List ℕ)
 event_keys =
@@ -25,6 +26,15 @@ event_keys =
 abbrev pub only_keys : List (List ℕ) → Members → Bool
 only_keys ks no_members = true
 only_keys ks (member key d ms) = is_among ks key && only_keys ks ms
+
+-- the place of the first item that can't be read
+abbrev pub or_behind : {X : Type 0} → Option X → Option ℕ → Option ℕ
+or_behind None behind = Some 0
+or_behind (Some x) behind = option_map suc behind
+
+abbrev pub first_none : {X : Type 0} → (Data → Option X) → Items → Option ℕ
+first_none f no_items = None
+first_none f (item d ds) = or_behind (f d) (first_none f ds)
 
 -- the integer of a value, if it is no more than `most`; 0 if there is none
 abbrev pub number_or : ℕ → Option Data → Option ℕ
@@ -42,15 +52,40 @@ text_or (Some d) = as_str d
 abbrev pub text_or_empty : List ℕ → Members → Option (List ℕ)
 text_or_empty key ms = text_or (get_member key ms)
 
+-- the key is there
+abbrev pub has_key : List ℕ → Members → Bool
+has_key key ms = is_some (get_member key ms)
+
+-- the memory of a slave: an image of so many bytes, which begins at an address; or the items of
+-- `segments`
+pub data MemoryData : Type 0 where
+  image : ℕ → ℕ → MemoryData
+  segments : Items → MemoryData
+
+abbrev pub image_with : Option ℕ → Option ℕ → Option MemoryData
+image_with (Some len) (Some base) = Some (image len base)
+image_with _ _ = None
+
+abbrev pub image_at : Members → Option MemoryData
+image_at ms = image_with (image_len_of ms) (number_or_0 4294967295 (codes "base") ms)
+
+-- beside `segments` neither `image_len` nor `base` may be there
+abbrev pub segments_at : Members → Option MemoryData
+segments_at ms =
+    if has_key (codes "image_len") ms || has_key (codes "base") ms
+    then None else option_map segments (at_key as_array (codes "segments") ms)
+
+abbrev pub memory_of : Members → Option MemoryData
+memory_of ms = if has_key (codes "segments") ms then segments_at ms else image_at ms
+
 -- the values of the keys, with the items of `events` and the texts of `script`
 pub record KeyValues : Type 0 where
-  pub image_len : ℕ
+  pub memory : MemoryData
   pub id : IdKind
   pub stamp : StampSize
   pub ring : RingKind
   pub unit : ℕ
   pub ticks : ℕ
-  pub base : ℕ
   pub name : List ℕ
   pub a2l_name : List ℕ
   pub epk : List ℕ
@@ -61,13 +96,12 @@ pub record KeyValues : Type 0 where
 -- in the table these are the values, and no other key is there
 pub record AreKeyValues (ms : Members) (v : KeyValues) : Type 0 where
   pub known : only_keys keys ms ≡ true
-  pub image_len_is : image_len_of ms ≡ Some v.image_len
+  pub memory_is : memory_of ms ≡ Some v.memory
   pub id_is : id_of ms ≡ Some v.id
   pub stamp_is : stamp_of ms ≡ Some v.stamp
   pub ring_is : ring_of ms ≡ Some v.ring
   pub unit_is : at_key (number_in 0 MAX_UNIT) (codes "unit") ms ≡ Some v.unit
   pub ticks_are : at_key (number_in 1 65535) (codes "ticks") ms ≡ Some v.ticks
-  pub base_is : number_or_0 4294967295 (codes "base") ms ≡ Some v.base
   pub name_is : text_or_empty (codes "name") ms ≡ Some v.name
   pub a2l_name_is : text_or_empty (codes "a2l_name") ms ≡ Some v.a2l_name
   pub epk_is : text_or_empty (codes "epk") ms ≡ Some v.epk

@@ -1,9 +1,8 @@
 -- The line that a text is, computed from it.
 use Rattle.std.specs.Prelude.{ℕ, ◌==◌, ◌&&◌, not, if◌then◌else◌, List, [], ◌∷◌, length, codes}
 use Rattle.std.specs.Prelude.{Option, Some, None, option_map}
-use Rattle.run_file.specs.StepOf.{image_of, is_verb, packet_of, step_of_words, words_of}
-use Rattle.run_file.specs.Steps.{StepData, start, stop, pump}
-use Rattle.run_file.specs.Steps.{trigger as trigger_step}
+use Rattle.run_file.specs.Keys.{onto}
+use Rattle.run_file.specs.StepOf.{image_of, is_verb, number_of, packet_of, words_of}
 use Rattle.session_file.specs.Lines.{LineData, master, memory, trigger, send, lose, hang_up}
 
 -- the line of one word
@@ -20,33 +19,48 @@ master_line verb digits =
     if is_verb verb (codes "master") && not (length digits == 0)
     then option_map master (packet_of digits) else None
 
--- the line of the words of memory that is there or not
-abbrev pub memory_line : List ℕ → Option LineData
-memory_line digits =
-    if is_verb digits (codes "-") then Some (memory []) else option_map memory (image_of digits)
+-- the slice of a word
+abbrev pub slice_of : List ℕ → Option (List ℕ)
+slice_of word = if is_verb word (codes "-") then Some [] else image_of word
 
--- the line of two words
-abbrev pub two_word_line : List ℕ → List ℕ → Option LineData
-two_word_line verb digits =
-    if is_verb verb (codes "memory") then memory_line digits else master_line verb digits
+-- the slices of words
+abbrev pub slices_of : List (List ℕ) → Option (List (List ℕ))
+slices_of [] = Some []
+slices_of (word ∷ words) = onto (slice_of word) (slices_of words)
 
--- a trigger of a run file, as a line
-abbrev pub trigger_line : Option StepData → Option LineData
-trigger_line None = None
-trigger_line (Some (trigger_step c s image)) = Some (trigger c s image)
-trigger_line (Some (start c l)) = None
-trigger_line (Some (stop c l)) = None
-trigger_line (Some pump) = None
+-- the line of the words of memory
+abbrev pub memory_line : List (List ℕ) → Option LineData
+memory_line words = option_map memory (slices_of words)
 
-abbrev pub trigger_with : ℕ → ℕ → Option (List ℕ) → Option LineData
-trigger_with c s image = option_map (λ bytes. trigger c s bytes) image
+-- a trigger, if each part of it is there
+abbrev pub trigger_with : Option ℕ → Option ℕ → Option (List (List ℕ)) → Option LineData
+trigger_with (Some c) (Some s) (Some slices) = Some (trigger c s slices)
+trigger_with _ _ _ = None
+
+-- the line of a verb, an event channel, a timestamp and the words of memory
+abbrev pub trigger_line : List ℕ → List ℕ → List ℕ → List (List ℕ) → Option LineData
+trigger_line verb channel stamp words =
+    if is_verb verb (codes "trigger")
+    then trigger_with (number_of 255 channel) (number_of 4294967295 stamp) (slices_of words)
+    else None
+
+-- the line of a verb, which isn't `memory`, and of the words behind it
+abbrev pub other_line : List ℕ → List (List ℕ) → Option LineData
+other_line verb [] = None
+other_line verb (digits ∷ []) = master_line verb digits
+other_line verb (channel ∷ stamp ∷ []) = None
+other_line verb (channel ∷ stamp ∷ word ∷ words) = trigger_line verb channel stamp (word ∷ words)
+
+-- the line of a verb and of the words behind it
+abbrev pub verb_line : List ℕ → List (List ℕ) → Option LineData
+verb_line verb words =
+    if is_verb verb (codes "memory") then memory_line words else other_line verb words
 
 -- the line of some words
 abbrev pub line_of_words : List (List ℕ) → Option LineData
 line_of_words [] = None
 line_of_words (verb ∷ []) = word_line verb
-line_of_words (verb ∷ digits ∷ []) = two_word_line verb digits
-line_of_words (a ∷ b ∷ c ∷ words) = trigger_line (step_of_words 255 (a ∷ b ∷ c ∷ words))
+line_of_words (verb ∷ word ∷ words) = verb_line verb (word ∷ words)
 
 -- the line of a text
 abbrev pub line_of : List ℕ → Option LineData

@@ -1,13 +1,15 @@
 -- The grammar of a script: which text is which line.
-use Rattle.std.specs.Prelude.{◌≡◌, ℕ, List, [], ◌∷◌, codes}
+use Rattle.std.specs.Prelude.{◌≡◌, ◌<◌, ◌^◌, ℕ, List, [], ◌∷◌, codes}
+use Rattle.run_file.specs.Reading.{AreTextsOf}
 use Rattle.run_file.specs.RunFile.{IsPacketText}
-use Rattle.run_file.specs.Steps.{IsImage, IsTrigger, spaced}
+use Rattle.run_file.specs.Steps.{IsDecimal, IsImage, spaced}
 
--- what a line does. A packet and an image are the bytes of it
+-- what a line does. A packet is the bytes of it, and memory a slice for each word, in their order:
+-- the bytes of a segment, or no byte if it isn't there
 pub data LineData : Type 0 where
   master : List ℕ → LineData
-  trigger : ℕ → ℕ → List ℕ → LineData
-  memory : List ℕ → LineData
+  trigger : ℕ → ℕ → List (List ℕ) → LineData
+  memory : List (List ℕ) → LineData
   send : LineData
   lose : LineData
   hang_up : LineData
@@ -18,18 +20,37 @@ IsMaster text [] = text ≡ codes "master"
 IsMaster text (b ∷ packet) =
     (word : List ℕ) × (text ≡ spaced (codes "master" ∷ word ∷ [])) × IsPacketText word (b ∷ packet)
 
--- memory HEX: the next packets read this image; memory -: none is there
-abbrev pub IsMemory : List ℕ → List ℕ → Type 0
-IsMemory text [] = text ≡ spaced (codes "memory" ∷ codes "-" ∷ [])
-IsMemory text (b ∷ image) =
-    (word : List ℕ) × (text ≡ spaced (codes "memory" ∷ word ∷ [])) × IsImage word (b ∷ image)
+-- the word is a slice: its bytes in hexadecimal, or `-` if it has none
+abbrev pub IsSlice : List ℕ → List ℕ → Type 0
+IsSlice word [] = word ≡ codes "-"
+IsSlice word (b ∷ bytes) = IsImage word (b ∷ bytes)
+
+-- memory SLICE SLICE ..: the next packets read this memory
+pub record IsMemory (text : List ℕ) (slices : List (List ℕ)) : Type 0 where
+  pub first : List ℕ
+  pub more : List (List ℕ)
+  pub words : text ≡ spaced (codes "memory" ∷ first ∷ more)
+  pub slices_are : AreTextsOf IsSlice (first ∷ more) slices
+
+-- trigger C STAMP SLICE SLICE ..
+pub record IsTrigger (text : List ℕ) (channel stamp : ℕ) (slices : List (List ℕ)) : Type 0 where
+  pub c : List ℕ
+  pub s : List ℕ
+  pub first : List ℕ
+  pub more : List (List ℕ)
+  pub words : text ≡ spaced (codes "trigger" ∷ c ∷ s ∷ first ∷ more)
+  pub channel_word : IsDecimal c channel
+  pub below : channel < 256
+  pub stamp_word : IsDecimal s stamp
+  pub fits : stamp < 2 ^ 32
+  pub slices_are : AreTextsOf IsSlice (first ∷ more) slices
 
 -- the text is this line. An event channel has 8 bits: whether there is one of this number is seen
 -- when the line is done
 abbrev pub IsLineText : List ℕ → LineData → Type 0
 IsLineText text (master packet) = IsMaster text packet
-IsLineText text (trigger channel stamp image) = IsTrigger 256 text channel stamp image
-IsLineText text (memory image) = IsMemory text image
+IsLineText text (trigger channel stamp slices) = IsTrigger text channel stamp slices
+IsLineText text (memory slices) = IsMemory text slices
 IsLineText text send = text ≡ codes "send"
 IsLineText text lose = text ≡ codes "lose"
 IsLineText text hang_up = text ≡ codes "hang_up"

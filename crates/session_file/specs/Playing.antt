@@ -17,8 +17,8 @@ use Rattle.slave.specs.Thinned.{IsWithout}
 abbrev pub masters : List LineData → List (List ℕ)
 masters [] = []
 masters (master packet ∷ lines) = packet ∷ masters lines
-masters (trigger c stamp image ∷ lines) = masters lines
-masters (memory image ∷ lines) = masters lines
+masters (trigger c stamp slices ∷ lines) = masters lines
+masters (memory slices ∷ lines) = masters lines
 masters (send ∷ lines) = masters lines
 masters (lose ∷ lines) = masters lines
 masters (hang_up ∷ lines) = masters lines

@@ -3,8 +3,9 @@ ghost use Rattle.std.specs.Prelude.{IfSome};
 ghost use Rattle.toml.specs.View.{table_view};
 ghost use Rattle.session_file.specs.Keys.{HasBadKey};
 
-use crate::keys::{has_file_keys, number_or_0, text_or_empty};
+use crate::keys::{has_file_keys, has_key, text_or_empty};
 use crate::limits::MAX_LINES;
+use crate::memory_keys::memory_of;
 use run_file::{array_at, id_of, number_at, ring_of, stamp_of, texts_at};
 use toml::Table;
 use xcp_base::limits::{MAX_IMAGE_LEN, MAX_UNIT};
@@ -14,13 +15,15 @@ use xcp_base::limits::{MAX_IMAGE_LEN, MAX_UNIT};
 pub enum BadKey {
     /// A key that is none of a session file.
     Unknown,
+    /// It is also the bad one if it is missing, and `segments` too.
     ImageLen,
+    Base,
+    Segments,
     Id,
     StampSize,
     Ring,
     Unit,
     Ticks,
-    Base,
     Name,
     A2lName,
     Epk,
@@ -38,8 +41,8 @@ impl BadKey {
         if !has_file_keys(table) {
             return Some(BadKey::Unknown);
         }
-        let Some(_) = number_at(table, "image_len", 1, MAX_IMAGE_LEN) else {
-            return Some(BadKey::ImageLen);
+        let Some(_) = memory_of(table) else {
+            return Some(bad_memory(table));
         };
         let Some(_) = id_of(table) else {
             return Some(BadKey::Id);
@@ -55,9 +58,6 @@ impl BadKey {
         };
         let Some(_) = number_at(table, "ticks", 1, u16::MAX as usize) else {
             return Some(BadKey::Ticks);
-        };
-        let Some(_) = number_or_0(table, "base", u32::MAX as usize) else {
-            return Some(BadKey::Base);
         };
         let Some(_) = text_or_empty(table, "name") else {
             return Some(BadKey::Name);
@@ -79,4 +79,26 @@ impl BadKey {
         };
         None
     }
+}
+
+/// The first bad key of memory, if one is bad.
+fn bad_memory(table: &Table) -> BadKey {
+    if has_key(table, "segments") {
+        return beside_segments(table);
+    }
+    let Some(_) = number_at(table, "image_len", 1, MAX_IMAGE_LEN) else {
+        return BadKey::ImageLen;
+    };
+    BadKey::Base
+}
+
+/// The bad key of memory if `segments` is there: one that may not stand beside it, or itself.
+fn beside_segments(table: &Table) -> BadKey {
+    if has_key(table, "image_len") {
+        return BadKey::ImageLen;
+    }
+    if has_key(table, "base") {
+        return BadKey::Base;
+    }
+    BadKey::Segments
 }

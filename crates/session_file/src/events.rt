@@ -3,11 +3,12 @@ ghost use Rattle.std.specs.Prelude.{◌≡◌, ◌⊎◌, ℕ, IfErr, IfOk, Some
 ghost use Rattle.toml.specs.View.{items_view, table_view, view};
 ghost use Rattle.run_file.specs.Keys.{all_of};
 ghost use Rattle.session_file.specs.declared.file_fault.FileFault.TheVariants.{BadEvent, Memory};
-ghost use Rattle.session_file.specs.Events.{event_data, event_in, event_of, first_none};
+ghost use Rattle.session_file.specs.Events.{event_data, event_in, event_of};
+ghost use Rattle.session_file.specs.Keys.{first_none};
 
 use crate::file_fault::FileFault;
 use crate::keys::{bytes_in, has_event_keys, number_or_0, text_or_empty};
-use crate::limits::MAX_CAPACITY;
+use crate::limits::MAX_INTEGER;
 use run_file::number_at;
 use session::EventChannel;
 use std::alloc::{AllocError, Global};
@@ -52,7 +53,7 @@ fn event_of(alloc: Global, table: &Table) -> Result<Option<EventChannel>, AllocE
     if !has_event_keys(table) {
         return Ok(None);
     }
-    let Some(capacity) = number_at(table, "capacity", 0, MAX_CAPACITY) else {
+    let Some(capacity) = number_at(table, "capacity", 0, MAX_INTEGER) else {
         return Ok(None);
     };
     let Some(name) = text_or_empty(table, "name") else {

@@ -6,16 +6,18 @@ ghost use Rattle.run_file.specs.Keys.{all_of};
 ghost use Rattle.session_file.specs.declared.file_fault.FileFault.TheVariants.{Memory, NotToml};
 ghost use Rattle.session_file.specs.Events.{event_data, event_in};
 ghost use Rattle.session_file.specs.Inner.{values_data};
-ghost use Rattle.session_file.specs.Files.{HasBadEvent, HasBadKeyText, HasBadLine, IsProfileOf};
-ghost use Rattle.session_file.specs.Files.{IsSessionText};
+ghost use Rattle.session_file.specs.Files.{HasBadEvent, HasBadKeyText, HasBadLine, HasBadSegment};
+ghost use Rattle.session_file.specs.Files.{IsProfileOf, IsSessionText};
+ghost use Rattle.session_file.specs.Memory.{count_of, segments_of};
 
 use crate::events::events_of;
 use crate::file_fault::FileFault;
 use crate::keys::bytes_in;
 use crate::line::Line;
 use crate::lines::lines_of;
-use crate::values::{Values, values_of};
-use segments::{Segment, all_readers};
+use crate::memory::segments_of;
+use crate::values::{Values, channels_of, values_of};
+use segments::Segment;
 use session::{EventChannel, Profile};
 use std::alloc::{AllocError, Global};
 use toml::Table;
@@ -31,13 +33,15 @@ pub struct SessionFile {
 impl SessionFile {
     /// The session of a text.
     ///
-    /// Refused with the first of these faults: `NotToml`, `BadKey`, `BadEvent`, `BadLine`. Lack of
-    /// memory, `Memory`, may be answered before any of them.
+    /// Refused with the first of these faults: `NotToml`, `BadKey`, `BadSegment`, `BadEvent`,
+    /// `BadLine`. Lack of memory, `Memory`, may be answered before any of them.
     pub fn read(alloc: Global, text: &str) -> Result<SessionFile, FileFault>
         ensures ok { IfOk result (IsSessionText text.now) }
 
         ensures not_toml { IsErrOf result FileFault.NotToml → parse_document text.now ≡ None }
         ensures bad_key { IsErrOf result FileFault.BadKey → HasBadKeyText text.now }
+        ensures bad_segment { (i : ℕ)
+            → IsErrOf result (FileFault.BadSegment i) → HasBadSegment text.now i }
         ensures bad_event { (i : ℕ)
             → IsErrOf result (FileFault.BadEvent i) → HasBadEvent text.now i }
         ensures bad_line { (i : ℕ)
@@ -45,9 +49,10 @@ impl SessionFile {
     {
         let table = table_of(alloc, text)?;
         let values = values_of(&table)?;
+        let segments = segments_of(alloc, values.memory, channels_of(&values))?;
         let events = events_of(alloc, values.events)?;
         let script = lines_of(alloc, values.script)?;
-        let Ok(profile) = profile_of(alloc, &values, events) else {
+        let Ok(profile) = profile_of(alloc, &values, segments, events) else {
             return Err(FileFault::Memory);
         };
         Ok(SessionFile { profile, script })
@@ -71,24 +76,21 @@ fn table_of(alloc: Global, text: &str) -> Result<Table, FileFault>
     }
 }
 
-/// The profile with these values and event channels.
+/// The profile with these values, segments and event channels.
 fn profile_of(
     alloc: Global,
     values: &Values<'_>,
+    segments: Vec<Segment>,
     events: Vec<EventChannel>,
 ) -> Result<Profile, AllocError>
+    requires memory { segments_of (count_of (values_data values.now).events)
+        (values_data values.now).memory ≡ Some segments.items }
     requires read { all_of event_in (values_data values.now).events
         ≡ Some (map event_data events.items) }
     ensures { IfOk result (IsProfileOf (values_data values.now)) }
 {
-    let image = Segment {
-        extension: 0,
-        base: values.base,
-        len: values.image_len,
-        events: all_readers(events.len()),
-    };
     Ok(Profile {
-        segments: vec![in alloc; image]?,
+        segments,
         id: values.id,
         stamp_size: values.stamp.bytes(),
         unit: values.unit,

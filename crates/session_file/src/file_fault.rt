@@ -1,4 +1,4 @@
-//! The faults of a session file, with the place of a bad event channel or a bad line.
+//! The faults of a session file, with the place of a bad segment, event channel or line.
 use thiserror::Error;
 
 /// Why a text is no session file, in the order in which it is looked for. Places are counted from
@@ -12,6 +12,9 @@ pub enum FileFault {
     /// within its limits.
     #[error("key")]
     BadKey,
+    /// This item of `segments` is the first that is no segment.
+    #[error("segment {0}")]
+    BadSegment(usize),
     /// This item of `events` is the first that is no event channel.
     #[error("event {0}")]
     BadEvent(usize),

@@ -1,7 +1,9 @@
 //! Values of keys, with their defaults.
 ghost use Rattle.std.specs.Prelude.{◌≡◌, ◌≤◌, IfOk, IfSome, option_copied};
 ghost use Rattle.toml.specs.View.{table_view};
-ghost use Rattle.session_file.specs.Keys.{event_keys, keys, number_or_0, only_keys, text_or_empty};
+ghost use Rattle.session_file.specs.Keys.{event_keys, has_key, keys, number_or_0, only_keys};
+ghost use Rattle.session_file.specs.Keys.{text_or_empty};
+ghost use Rattle.session_file.specs.Memory.{segment_keys};
 ghost use Rattle.run_file.specs.Keys.{is_among};
 
 use run_file::number_in;
@@ -30,6 +32,7 @@ pub fn is_file_key(word: &str) -> bool
         || word == "a2l_name"
         || word == "epk"
         || word == "a2l"
+        || word == "segments"
         || word == "events"
         || word == "script"
 }
@@ -50,6 +53,30 @@ fn is_event_key(word: &str) -> bool
         || word == "cycle"
         || word == "cycle_unit"
         || word == "priority"
+}
+
+/// Whether each key of a table is one of a segment.
+pub fn has_segment_keys(table: &Table) -> bool
+    ensures { result ≡ only_keys segment_keys (table_view table.now) }
+{
+    table.keys().all(|key| is_segment_key(key.as_str()))
+}
+
+/// Whether a word is a key of a segment.
+fn is_segment_key(word: &str) -> bool
+    ensures { result ≡ is_among segment_keys word.now }
+{
+    word == "extension" || word == "base" || word == "len" || word == "events"
+}
+
+/// Whether a table has a key.
+pub fn has_key(table: &Table, key: &str) -> bool
+    ensures { result ≡ has_key key.now (table_view table.now) }
+{
+    match table.get(key) {
+        Some(_) => true,
+        None => false,
+    }
 }
 
 /// The integer of a key, if it is no more than `most`; 0 if the key is absent.

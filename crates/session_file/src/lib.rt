@@ -10,6 +10,8 @@ mod keys;
 pub mod limits;
 mod line;
 mod lines;
+mod memory;
+mod memory_keys;
 mod parts;
 mod play_fault;
 mod played;
@@ -17,6 +19,7 @@ mod player;
 mod playing;
 mod transport;
 mod values;
+mod words;
 
 pub use bad_key::BadKey;
 pub use file::SessionFile;

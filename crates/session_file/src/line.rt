@@ -1,5 +1,6 @@
 //! What a line of a session does: a packet, a trigger, a sending, or a loss.
-/// A line of a session's script.
+/// A line of a session's script. Memory is a slice for each segment, in their order; one without a
+/// byte isn't there.
 #[derive(Debug, Drop)]
 pub enum Line {
     /// A packet of the master, without LEN and CTR.
@@ -8,10 +9,10 @@ pub enum Line {
     Trigger {
         channel: u8,
         stamp: u32,
-        image: Vec<u8>,
+        memory: Vec<Vec<u8>>,
     },
-    /// What the next packets read without a DAQ list: the image, or none if it has no byte.
-    Memory(Vec<u8>),
+    /// What the next packets read without a DAQ list.
+    Memory(Vec<Vec<u8>>),
     /// Items are taken off the rings, and all that waits is sent.
     Send,
     /// The same is shown, and the transport refuses it.

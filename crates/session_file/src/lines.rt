@@ -2,16 +2,17 @@
 ghost use Rattle.std.specs.Prelude.{◌≡◌, ◌⊎◌, ℕ, IfErr, IfOk, map, option_map};
 ghost use Rattle.run_file.specs.Inner.{text_in};
 ghost use Rattle.run_file.specs.Reading.{AreTextsOf, IsFirstBad};
-ghost use Rattle.run_file.specs.StepOf.{image_of, step_of, packet_of};
+ghost use Rattle.run_file.specs.StepOf.{words_of};
 ghost use Rattle.session_file.specs.declared.file_fault.FileFault.TheVariants.{BadLine, Memory};
-ghost use Rattle.session_file.specs.LineOf.{line_of, master_line, memory_line, trigger_line};
-ghost use Rattle.session_file.specs.LineOf.{trigger_with, two_word_line, word_line};
+ghost use Rattle.session_file.specs.LineOf.{line_of, master_line, memory_line, other_line};
+ghost use Rattle.session_file.specs.LineOf.{trigger_line, verb_line, word_line};
 ghost use Rattle.session_file.specs.Lines.{IsLineText};
 ghost use Rattle.session_file.specs.Inner.{line_data};
 
 use crate::file_fault::FileFault;
 use crate::line::Line;
-use run_file::{Wording, bytes_of, cut, packet_of, text_in, wording_of};
+use crate::words::{number_of, slices_of};
+use run_file::{cut, packet_of, text_in};
 use std::alloc::{AllocError, Global};
 use toml::Value;
 
@@ -46,10 +47,7 @@ fn line_of(alloc: Global, text: &str) -> Result<Option<Line>, AllocError>
     let Some((verb, rest)) = cut(text) else {
         return Ok(word_line(alloc, text));
     };
-    let Some(_) = cut(rest) else {
-        return two_word_line(alloc, verb, rest);
-    };
-    trigger_line(alloc, text)
+    verb_line(alloc, verb, rest)
 }
 
 /// The line of one word.
@@ -71,30 +69,39 @@ fn word_line(alloc: Global, verb: &str) -> Option<Line>
     None
 }
 
-/// The line of two words.
-fn two_word_line(alloc: Global, verb: &str, digits: &str) -> Result<Option<Line>, AllocError>
-    ensures { IfOk result (λ line. option_map line_data line ≡ two_word_line verb.now digits.now) }
+/// The line of a verb and of the words behind it.
+fn verb_line(alloc: Global, verb: &str, rest: &str) -> Result<Option<Line>, AllocError>
+    ensures { IfOk result (λ line.
+        option_map line_data line ≡ verb_line verb.now (words_of rest.now)) }
 {
     if verb == "memory" {
-        return memory_line(alloc, digits);
+        return memory_line(alloc, rest);
     }
-    master_line(alloc, verb, digits)
+    other_line(alloc, verb, rest)
 }
 
-/// The line of memory that is there, in hexadecimal, or isn't.
-fn memory_line(alloc: Global, digits: &str) -> Result<Option<Line>, AllocError>
-    ensures { IfOk result (λ line. option_map line_data line ≡ memory_line digits.now) }
+/// The line of the words of memory.
+fn memory_line(alloc: Global, words: &str) -> Result<Option<Line>, AllocError>
+    ensures { IfOk result (λ line. option_map line_data line ≡ memory_line (words_of words.now)) }
 {
-    if digits == "-" {
-        return Ok(Some(Line::Memory(Vec::new(alloc))));
-    }
-    if digits.is_empty() {
-        return Ok(None);
-    }
-    match bytes_of(alloc, digits)? {
-        Some(image) => Ok(Some(Line::Memory(image))),
+    match slices_of(alloc, words)? {
+        Some(slices) => Ok(Some(Line::Memory(slices))),
         None => Ok(None),
     }
+}
+
+/// The line of a verb, which isn't `memory`, and of the words behind it.
+fn other_line(alloc: Global, verb: &str, rest: &str) -> Result<Option<Line>, AllocError>
+    ensures { IfOk result (λ line.
+        option_map line_data line ≡ other_line verb.now (words_of rest.now)) }
+{
+    let Some((channel, rest)) = cut(rest) else {
+        return master_line(alloc, verb, rest);
+    };
+    let Some((stamp, words)) = cut(rest) else {
+        return Ok(None);
+    };
+    trigger_line(alloc, verb, channel, stamp, words)
 }
 
 /// The line of a verb and the digits of a packet.
@@ -110,41 +117,31 @@ fn master_line(alloc: Global, verb: &str, digits: &str) -> Result<Option<Line>, 
     }
 }
 
-/// The line of a text of more words.
-fn trigger_line(alloc: Global, text: &str) -> Result<Option<Line>, AllocError>
-    ensures { IfOk result (λ line.
-        option_map line_data line ≡ trigger_line (step_of 255 text.now)) }
-{
-    match wording_of(255, text) {
-        Some(
-            Wording::Trigger {
-                channel,
-                stamp,
-                digits,
-            },
-        ) => trigger_with(alloc, channel, stamp, digits),
-        _ => Ok(None),
-    }
-}
-
-/// The trigger of an event channel, with the image of a word.
-fn trigger_with(
+/// The line of a verb, an event channel, a timestamp and the words of memory.
+fn trigger_line(
     alloc: Global,
-    channel: u8,
-    stamp: u32,
-    digits: &str,
+    verb: &str,
+    channel: &str,
+    stamp: &str,
+    words: &str,
 ) -> Result<Option<Line>, AllocError>
     ensures { IfOk result (λ line. option_map line_data line
-        ≡ trigger_with channel stamp (image_of digits.now)) }
+        ≡ trigger_line verb.now channel.now stamp.now (words_of words.now)) }
 {
-    if digits.is_empty() {
+    if verb != "trigger" {
         return Ok(None);
     }
-    match bytes_of(alloc, digits)? {
-        Some(image) => Ok(Some(Line::Trigger {
-            channel,
+    let Some(channel) = number_of(channel, 255) else {
+        return Ok(None);
+    };
+    let Some(stamp) = number_of(stamp, u32::MAX) else {
+        return Ok(None);
+    };
+    match slices_of(alloc, words)? {
+        Some(memory) => Ok(Some(Line::Trigger {
+            channel: channel as u8,
             stamp,
-            image,
+            memory,
         })),
         None => Ok(None),
     }

@@ -1,5 +1,6 @@
 //! A slave, its tasks and its transport, which play lines.
-ghost use Rattle.std.specs.Prelude.{◌≡◌, ◌+◌, ◌<◌, ◌≤◌, ◌∷◌, [], IfOk, OnOk, map};
+ghost use Rattle.std.specs.Prelude.{◌≡◌, ◌+◌, ◌<◌, ◌≤◌, ◌∷◌, [], IfOk, OnOk, map, true, vec_items};
+ghost use Rattle.segments.specs.Memory.{fits, parts};
 ghost use Rattle.slave.specs.Standing.{SlaveState};
 ghost use Rattle.session_file.specs.Inner.{line_data};
 ghost use Rattle.session_file.specs.Lines.{master};
@@ -15,6 +16,8 @@ use crate::transport::{collect, lose, send};
 use channel_ring::SendEnd;
 use daq_engine::Ring;
 use frame_writer::VecOut;
+use segments::limits::MAX_READERS;
+use segments::{Segment, fits};
 use slave::Slave;
 use std::alloc::{AllocError, Global};
 use tasks::{Task, TaskEnd};
@@ -24,31 +27,54 @@ use tasks::{Task, TaskEnd};
 pub struct Player<R: Ring> {
     pub(crate) slave: Slave<R>,
     pub(crate) tasks: Vec<Task<R::Send>>,
-    pub(crate) image_len: usize,
+    pub(crate) segments: Vec<Segment>,
     pub(crate) clock: u32,
-    pub(crate) memory: Vec<u8>,
+    pub(crate) memory: Vec<Vec<u8>>,
     pub(crate) out: VecOut,
     pub(crate) ends: Vec<usize>,
     pub(crate) parts: Parts,
     pub(crate) refused: u64,
 }
 
-/// The task of an event channel takes a trigger, if there is one and the image has the length that
-/// it has to have; and returns whether it did.
+/// Slices, lent.
+fn lent<'a>(alloc: Global, slices: &'a [Vec<u8>]) -> Result<Vec<&'a [u8]>, AllocError>
+    ensures { IfOk result (λ memory. parts memory.items ≡ map vec_items slices.now) }
+{
+    let mut memory = Vec::with_capacity(alloc, slices.len())?;
+    for slice in slices {
+        memory.push(slice.as_slice())?;
+    }
+    Ok(memory)
+}
+
+/// Whether the memory is that of a trigger of an event channel: a slice for each segment, and of
+/// those that it may read their lengths.
+fn is_memory_of(segments: &[Segment], channel: u8, memory: &[&[u8]]) -> bool
+    ensures { result ≡ true → fits channel segments.now (parts memory.now) ≡ true }
+{
+    if channel as u16 >= MAX_READERS {
+        return false;
+    }
+    fits(segments, channel, memory)
+}
+
+/// The task of an event channel takes a trigger, if there is one and the memory is one of it; and
+/// returns whether it did.
 fn is_taken<S: SendEnd>(
     tasks: &mut [Task<S>],
-    image_len: usize,
+    segments: &[Segment],
     channel: u8,
-    image: &[u8],
+    memory: &[&[u8]],
     stamp: u32,
 ) -> bool
     ensures lines { lines_of tasks.new ≡ lines_of tasks.old }
+    ensures fitting { result ≡ true → fits channel segments.now (parts memory.now) ≡ true }
 {
     let c = channel as usize;
-    if c >= tasks.len() || image.len() != image_len {
+    if c >= tasks.len() || !is_memory_of(segments, channel, memory) {
         return false;
     }
-    tasks[c].trigger(&[image], stamp).is_ok()
+    tasks[c].trigger(memory, stamp).is_ok()
 }
 
 /// Finishes tasks, which give back what is left of what they hold: what is left of each.
@@ -78,12 +104,9 @@ impl<R: Ring> Player<R> {
             Line::Trigger {
                 channel,
                 stamp,
-                image,
-            } => {
-                self.trigger(*channel, *stamp, image);
-                Ok(())
-            }
-            Line::Memory(image) => self.put_memory(image),
+                memory,
+            } => self.trigger(alloc, *channel, *stamp, memory),
+            Line::Memory(memory) => self.put_memory(memory),
             Line::Send => self.send(),
             Line::Lose => {
                 self.lose();
@@ -108,7 +131,7 @@ impl<R: Ring> Player<R> {
         ensures tasks_stay { self.new.tasks ≡ self.old.tasks }
     {
         collect(&mut self.slave, &mut self.parts)?;
-        let memory = [self.memory.as_slice()];
+        let memory = lent(alloc, &self.memory)?;
         if self.slave.hear(alloc, packet, self.clock, &memory) {
             return Ok(());
         }
@@ -117,18 +140,24 @@ impl<R: Ring> Player<R> {
     }
 
     /// The next packets read this memory.
-    fn put_memory(&mut self, image: &[u8]) -> Result<(), AllocError>
+    fn put_memory(&mut self, memory: &Vec<Vec<u8>>) -> Result<(), AllocError>
         ensures slave_stays { self.new.slave ≡ self.old.slave }
         ensures out_stays { self.new.out ≡ self.old.out }
         ensures refused_stays { self.new.refused ≡ self.old.refused }
         ensures tasks_stay { self.new.tasks ≡ self.old.tasks }
     {
-        self.memory.clear();
-        self.memory.extend_from_slice(image)
+        self.memory = memory.clone()?;
+        Ok(())
     }
 
     /// A task takes a trigger. One that isn't taken is refused, and changes nothing.
-    fn trigger(&mut self, channel: u8, stamp: u32, image: &[u8])
+    fn trigger(
+        &mut self,
+        alloc: Global,
+        channel: u8,
+        stamp: u32,
+        slices: &[Vec<u8>],
+    ) -> Result<(), AllocError>
         requires few { self.old.refused < 0xFFFFFFFFFFFFFFFF }
         ensures slave_stays { self.new.slave ≡ self.old.slave }
         ensures out_stays { self.new.out ≡ self.old.out }
@@ -136,11 +165,13 @@ impl<R: Ring> Player<R> {
         ensures counted { self.old.refused ≤ self.new.refused }
         ensures most { self.new.refused ≤ self.old.refused + 1 }
     {
-        if is_taken(&mut self.tasks, self.image_len, channel, image, stamp) {
+        let memory = lent(alloc, slices)?;
+        if is_taken(&mut self.tasks, &self.segments, channel, &memory, stamp) {
             self.clock = stamp;
         } else {
             self.refused += 1;
         }
+        Ok(())
     }
 
     /// Sends what waits, as one datagram.
@@ -198,7 +229,7 @@ impl<R: Ring> Player<R> {
         let Player {
             mut slave,
             tasks,
-            image_len: _,
+            segments: _,
             clock: _,
             memory: _,
             out,

@@ -14,7 +14,6 @@ use byte_ring::ByteRing;
 use channel_ring::SampleRing;
 use daq_engine::Ring;
 use frame_writer::VecOut;
-use segments::Segment;
 use session::{Profile, ProfileFault};
 use slave::{OpenFault, Slave};
 use std::alloc::{AllocError, Global};
@@ -59,12 +58,12 @@ fn open<R: Ring>(alloc: Global, profile: Profile) -> Result<Player<R>, PlayFault
     ensures none_refused { IfOk result (λ player. player.refused ≡ 0) }
     ensures tasks { IfOk result (λ player. AreTasksOf player.slave player.tasks.items) }
 {
-    let image_len = image_len_of(&profile.segments);
+    let segments = profile.segments.clone()?;
     match Slave::<R>::open(alloc, profile) {
         Ok((slave, tasks)) => Ok(Player {
             slave,
             tasks,
-            image_len,
+            segments,
             clock: 0,
             memory: Vec::new(alloc),
             out: VecOut::new(alloc),
@@ -73,14 +72,6 @@ fn open<R: Ring>(alloc: Global, profile: Profile) -> Result<Player<R>, PlayFault
             refused: 0,
         }),
         Err(fault) => Err(fault_of(fault)),
-    }
-}
-
-/// The length of the first of these segments.
-fn image_len_of(segments: &[Segment]) -> usize {
-    match segments {
-        [image, ..] => image.len,
-        [] => 0,
     }
 }
 

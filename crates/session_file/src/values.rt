@@ -1,29 +1,30 @@
-//! The keys of a session file become values; event channels and lines are read later.
+//! The keys of a session file become values; segments, event channels and lines are read later.
 ghost use Rattle.std.specs.Prelude.{◌≡◌, IfErr, IfOk};
 ghost use Rattle.toml.specs.View.{table_view};
 ghost use Rattle.session_file.specs.declared.file_fault.FileFault.TheVariants.{BadKey};
 ghost use Rattle.session_file.specs.Keys.{AreKeyValues, HasBadKey};
 ghost use Rattle.session_file.specs.Inner.{values_data};
+ghost use Rattle.session_file.specs.Memory.{count_of};
 
 use crate::file_fault::FileFault;
-use crate::keys::{has_file_keys, number_or_0, text_or_empty};
+use crate::keys::{has_file_keys, text_or_empty};
 use crate::limits::MAX_LINES;
+use crate::memory_keys::{MemoryKeys, memory_of};
 use run_file::{array_at, id_of, number_at, ring_of, stamp_of, texts_at};
 use toml::{Table, Value};
-use xcp_base::limits::{MAX_IMAGE_LEN, MAX_UNIT};
+use xcp_base::limits::MAX_UNIT;
 use xcp_base::{IdKind, RingKind, StampSize};
 
-/// The values of the keys, each of its type and within its limits. Event channels are still values,
-/// and lines still texts.
+/// The values of the keys, each of its type and within its limits. Segments and event channels are
+/// still values, and lines still texts.
 #[derive(Drop)]
 pub struct Values<'a> {
-    pub(crate) image_len: usize,
+    pub(crate) memory: MemoryKeys<'a>,
     pub(crate) id: IdKind,
     pub(crate) stamp: StampSize,
     pub(crate) ring: RingKind,
     pub(crate) unit: u8,
     pub(crate) ticks: u16,
-    pub(crate) base: u32,
     pub(crate) name: &'a str,
     pub(crate) a2l_name: &'a str,
     pub(crate) epk: &'a str,
@@ -40,7 +41,7 @@ pub fn values_of(table: &Table) -> Result<Values<'_>, FileFault>
     if !has_file_keys(table) {
         return Err(FileFault::BadKey);
     }
-    let Some(image_len) = number_at(table, "image_len", 1, MAX_IMAGE_LEN) else {
+    let Some(memory) = memory_of(table) else {
         return Err(FileFault::BadKey);
     };
     let Some(id) = id_of(table) else {
@@ -56,9 +57,6 @@ pub fn values_of(table: &Table) -> Result<Values<'_>, FileFault>
         return Err(FileFault::BadKey);
     };
     let Some(ticks) = number_at(table, "ticks", 1, u16::MAX as usize) else {
-        return Err(FileFault::BadKey);
-    };
-    let Some(base) = number_or_0(table, "base", u32::MAX as usize) else {
         return Err(FileFault::BadKey);
     };
     let Some(name) = text_or_empty(table, "name") else {
@@ -80,13 +78,12 @@ pub fn values_of(table: &Table) -> Result<Values<'_>, FileFault>
         return Err(FileFault::BadKey);
     };
     Ok(Values {
-        image_len,
+        memory,
         id,
         stamp,
         ring,
         unit: unit as u8,
         ticks: ticks as u16,
-        base: base as u32,
         name,
         a2l_name,
         epk,
@@ -94,4 +91,11 @@ pub fn values_of(table: &Table) -> Result<Values<'_>, FileFault>
         events,
         script,
     })
+}
+
+/// How many event channels the values have.
+pub fn channels_of(values: &Values<'_>) -> usize
+    ensures { result ≡ count_of (values_data values.now).events }
+{
+    values.events.len()
 }

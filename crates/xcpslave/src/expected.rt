@@ -7,12 +7,13 @@ pub fn key_of(bad: BadKey) -> Option<&'static str> {
     match bad {
         BadKey::Unknown => None,
         BadKey::ImageLen => Some("image_len"),
+        BadKey::Base => Some("base"),
+        BadKey::Segments => Some("segments"),
         BadKey::Id => Some("id"),
         BadKey::StampSize => Some("stamp_size"),
         BadKey::Ring => Some("ring"),
         BadKey::Unit => Some("unit"),
         BadKey::Ticks => Some("ticks"),
-        BadKey::Base => Some("base"),
         BadKey::Name => Some("name"),
         BadKey::A2lName => Some("a2l_name"),
         BadKey::Epk => Some("epk"),
@@ -27,13 +28,15 @@ pub fn write_expected(why: &mut String, bad: BadKey) -> Result<(), AllocError> {
     why.push_str("expected: ")?;
     why.push_str(match bad {
         BadKey::Unknown => "a key of a session file\n",
-        BadKey::ImageLen => "an integer from 1 to 4096\n",
+        BadKey::ImageLen =>
+            "an integer from 1 to 4096, or segments in place of image_len and base\n",
+        BadKey::Base => "an integer from 0 to 4294967295, and no segments\n",
+        BadKey::Segments => "an array of tables, one for each segment\n",
         BadKey::Id => "\"absolute\", \"byte\" or \"word\"\n",
         BadKey::StampSize => "1, 2 or 4\n",
         BadKey::Ring => "\"samples\" or \"bytes\"\n",
         BadKey::Unit => "an integer from 0 to 9\n",
         BadKey::Ticks => "an integer from 1 to 65535\n",
-        BadKey::Base => "an integer from 0 to 4294967295\n",
         BadKey::Name | BadKey::A2lName | BadKey::Epk | BadKey::A2l => "a string\n",
         BadKey::Events => "an array of tables, one for each event channel\n",
         BadKey::Script => "an array of at most 1000000 strings\n",

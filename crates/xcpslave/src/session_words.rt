@@ -23,25 +23,48 @@ fn write_line(text: &mut String, line: &Line) -> Result<(), AllocError> {
         Line::Trigger {
             channel,
             stamp,
-            image,
+            memory,
         } => {
-            let bytes = ByteText { bytes: image };
-            writeln!(
+            write!(
                 text,
-                "trigger of event channel {channel}, timestamp {stamp}: {bytes}"
-            )
+                "trigger of event channel {channel}, timestamp {stamp}: "
+            )?;
+            write_slices(text, memory)
         }
-        Line::Memory(image) if image.is_empty() => {
-            text.push_str("memory: none is there for the next packets\n")
-        }
-        Line::Memory(image) => {
-            let bytes = ByteText { bytes: image };
-            writeln!(text, "memory for the next packets: {bytes}")
-        }
+        Line::Memory(memory) => write_memory(text, memory),
         Line::Send => text.push_str("send: all that waits is sent\n"),
         Line::Lose => text.push_str("lose: the transport refuses what waits\n"),
         Line::HangUp => text.push_str("hang_up: the transport is lost\n"),
     }
+}
+
+/// Writes the memory that is there for the next packets.
+fn write_memory(text: &mut String, memory: &[Vec<u8>]) -> Result<(), AllocError> {
+    if memory.iter().all(|slice| slice.is_empty()) {
+        return text.push_str("memory: none is there for the next packets\n");
+    }
+    text.push_str("memory for the next packets: ")?;
+    write_slices(text, memory)
+}
+
+/// Writes a slice for each segment, and ends the line.
+fn write_slices(text: &mut String, memory: &[Vec<u8>]) -> Result<(), AllocError> {
+    for (i, slice) in memory.iter().enumerate() {
+        if i > 0 {
+            text.push_str(", ")?;
+        }
+        write_slice(text, slice)?;
+    }
+    writeln!(text)
+}
+
+/// Writes the slice of a segment, or that it isn't there.
+fn write_slice(text: &mut String, slice: &[u8]) -> Result<(), AllocError> {
+    if slice.is_empty() {
+        return text.push_str("none");
+    }
+    let bytes = ByteText { bytes: slice };
+    write!(text, "{bytes}")
 }
 
 /// Writes a line for each frame that was sent.

@@ -6,7 +6,7 @@ use std::alloc::{AllocError, Global};
 use toml::Table;
 
 /// The keys of a session file.
-const KEYS: [&str; 13] = [
+const KEYS: [&str; 14] = [
     "image_len",
     "id",
     "stamp_size",
@@ -18,18 +18,24 @@ const KEYS: [&str; 13] = [
     "a2l_name",
     "epk",
     "a2l",
+    "segments",
     "events",
     "script",
 ];
+
+/// What an item of `segments` should be.
+const SEGMENT: &str = "expected: a table with len, an integer of 0 or more, and at will extension, \
+an integer from 0 to 255, base, an integer from 0 to 4294967295, and events, an array of integers \
+from 0 to 255\n";
 
 /// What an item of `events` should be.
 const EVENT: &str = "expected: a table with capacity, an integer of 0 or more, and at will name, \
 a string, and cycle, cycle_unit and priority, integers from 0 to 255\n";
 
 /// What a string of `script` should be.
-const LINE: &str = "expected: master, master HEX, trigger C STAMP IMAGE, memory IMAGE, memory -, \
-send, lose or hang_up; one space between words, HEX 1 to 255 bytes, C 0 to 255, \
-STAMP 0 to 4294967295, IMAGE hexadecimal\n";
+const LINE: &str = "expected: master, master HEX, trigger C STAMP SLICE .., memory SLICE .., send, \
+lose or hang_up; one space between words, HEX 1 to 255 bytes, C 0 to 255, STAMP 0 to 4294967295, \
+SLICE hexadecimal or -, for each segment\n";
 
 /// Why a text, which has this name and this fault, is no session: where it stands, what stands
 /// there, and what was expected.
@@ -58,8 +64,12 @@ fn write_fault(
 ) -> Result<(), AllocError> {
     match fault {
         FileFault::BadKey => write_key(alloc, why, name, text, table),
+        FileFault::BadSegment(i) => {
+            write_item(why, name, text, table, "segments", i)?;
+            why.push_str(SEGMENT)
+        }
         FileFault::BadEvent(i) => {
-            write_event(why, name, text, table, i)?;
+            write_item(why, name, text, table, "events", i)?;
             why.push_str(EVENT)
         }
         FileFault::BadLine(i) => {
@@ -117,15 +127,16 @@ fn write_unknown(
     Ok(())
 }
 
-/// Writes an item of `events`, and where they stand.
-fn write_event(
+/// Writes an item of the array of a key, and where the array stands.
+fn write_item(
     why: &mut String,
     name: &str,
     text: &str,
     table: &Table,
+    key: &str,
     i: usize,
 ) -> Result<(), AllocError> {
-    let Some(value) = table.get("events") else {
+    let Some(value) = table.get(key) else {
         return Ok(());
     };
     let Some(array) = value.as_array() else {
@@ -134,6 +145,6 @@ fn write_event(
     let Some(value) = array.as_slice().get(i) else {
         return Ok(());
     };
-    write_place(why, name, line_of_key(text, "events"))?;
-    writeln!(why, "item {i} of events is {value}")
+    write_place(why, name, line_of_key(text, key))?;
+    writeln!(why, "item {i} of {key} is {value}")
 }

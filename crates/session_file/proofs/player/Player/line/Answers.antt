@@ -11,14 +11,13 @@ returns-in-Trigger g c =
     let take = g.R.Take.TakeEnd in
     let was = c.args.self.now in
     let now = c.trigger.new.self in
-    record {
-      does = does-other take (sending was.slave was.out.contents) (sending now.slave now.out.contents) was.refused now.refused (line_data c.args.line.now)
-          (ap (λ l. masters (line_data l ∷ [])) c.in-Trigger.is) c.trigger.ensures.counted c.trigger.ensures.most
-          (subst (λ s. Advances take most_a_line (sending was.slave was.out.contents) (sending s now.out.contents) []) (sym c.trigger.ensures.slave_stays)
-          (subst (λ (o : VecOutState). Advances take most_a_line (sending was.slave was.out.contents) (sending was.slave o.contents) []) (sym c.trigger.ensures.out_stays)
-          (advances-within take 0 most_a_line (sending was.slave was.out.contents) (sending was.slave was.out.contents) [] (omega arith) (nothing take was.slave was.out.contents))));
-      tasks = c.trigger.ensures.tasks;
-    }
+    let does =
+    does-other take (sending was.slave was.out.contents) (sending now.slave now.out.contents) was.refused now.refused (line_data c.args.line.now)
+    (ap (λ l. masters (line_data l ∷ [])) c.in-Trigger.is) c.trigger.ensures.counted c.trigger.ensures.most
+    (subst (λ s. Advances take most_a_line (sending was.slave was.out.contents) (sending s now.out.contents) []) (sym c.trigger.ensures.slave_stays)
+    (subst (λ (o : VecOutState). Advances take most_a_line (sending was.slave was.out.contents) (sending was.slave o.contents) []) (sym c.trigger.ensures.out_stays)
+    (advances-within take 0 most_a_line (sending was.slave was.out.contents) (sending was.slave was.out.contents) [] (omega arith) (nothing take was.slave was.out.contents)))) in
+    record { does = on-any c.trigger.result does; tasks = c.trigger.ensures.tasks }
 
 -- nor does memory
 pub returns-in-Memory : goal.returns-in-Memory

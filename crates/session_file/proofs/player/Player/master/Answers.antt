@@ -2,7 +2,6 @@ use Rattle.std.proofs.Common.{◌+◌, ◌*◌, [], ◌∷◌, refl, sym, subst,
 use Rattle.xcp_base.specs.declared.limits.TheConstants.{MAX_CHANNELS}
 use Rattle.slave.specs.Hearing.{most_before}
 use Rattle.session_file.specs.Playing.{Advances, most_a_line, sending}
-use Rattle.session.specs.Standing.{given_by}
 use Rattle.session_file.proofs.PlayLemmas.{advances-more, advances-within, does-heard, does-unheard, hears}
 use Rattle.session_file.proofs.player.Player.master.Goals as goal
 
@@ -18,7 +17,7 @@ returns-then-hear g c =
           (advances-within take (4 * MAX_CHANNELS + (1 + most_before)) most_a_line (sending was.slave sent) (sending c.hear.new.self sent) (packet ∷ []) (omega arith)
           (advances-more take (4 * MAX_CHANNELS) (1 + most_before) (sending was.slave sent) (sending c.collect.new.slave sent) (sending c.hear.new.self sent) [] (packet ∷ [])
           (c.in_ok-collect.ensures.collects sent)
-          (hears take c.collect.new.slave c.hear.new.self sent packet (given_by was.clock (c.as_slice.result ∷ [])) (c.hear.ensures.heard c.if-hear.true))));
+          (hears take c.collect.new.slave c.hear.new.self sent packet _ (c.hear.ensures.heard c.if-hear.true))));
       tasks_stay = refl;
     }
 
