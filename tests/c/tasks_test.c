@@ -1,7 +1,7 @@
 /* Two tasks in threads of their own, beside a slave in the first thread whose master starts and
  * stops their DAQ lists, many times over. Each thread finishes its task itself; the first one
- * closes the slave, in every other pair of runs before it joins the threads. The images are
- * numbered, so that each frame tells what came before it. Prints one line; ends with status 1 at
+ * closes the slave, in every other pair of runs before it joins the threads. Triggers are
+ * numbered in memory, so that each frame tells what came before it. Prints one line; ends with status 1 at
  * the first thing that isn't as wanted. */
 #include "memory.h"
 #include "nerthogal.h"
@@ -10,8 +10,9 @@
 #include <stdlib.h>
 #include <string.h>
 
-/* No image is there to be read without a DAQ list; no A2L file. */
-#define NO_MEMORY (const uint8_t *)"", 0
+/* No segment is there to be read without a DAQ list; no A2L file. */
+static const ng_memory not_there = NG_NOT_THERE;
+#define NO_MEMORY &not_there, 0
 #define NO_A2L (const uint8_t *)"", 0
 
 #define CHANNELS 2
@@ -36,9 +37,10 @@ struct sampling {
 static void *sample(void *argument) {
     struct sampling *sampling = argument;
     for (uint32_t k = 1; k <= TRIGGERS; k++) {
-        uint8_t image[4] = {(uint8_t)k, (uint8_t)(k >> 8), 0, 0};
+        uint8_t bytes[4] = {(uint8_t)k, (uint8_t)(k >> 8), 0, 0};
+        ng_memory memory = {bytes, sizeof bytes};
         ng_taken taken;
-        if (ng_task_trigger(&sampling->task, image, 4, k, &taken) != NG_OK) sampling->fault = true;
+        if (ng_task_trigger(&sampling->task, &memory, 1, k, &taken) != NG_OK) sampling->fault = true;
         if ((taken.accepted | taken.dropped) != taken.due) sampling->fault = true;
         sampling->due += taken.due != 0;
         sampling->dropped += taken.dropped != 0;
@@ -108,7 +110,7 @@ static bool send(ng_slave *slave) {
     return len > 0;
 }
 
-/* A DAQ list for each event channel, whose one entry is the whole image of four bytes. */
+/* A DAQ list for each event channel, whose one entry is the whole segment of four bytes. */
 static void set_up(ng_slave *slave) {
     static const struct {
         uint8_t bytes[8], len;
@@ -140,12 +142,12 @@ static void turn(ng_slave *slave, unsigned list) {
 }
 
 static void open_slave(ng_ring ring, size_t cap, ng_slave *slave, struct sampling *samplings) {
-    ng_profile profile = {.image_len = 4, .id = NG_ABSOLUTE, .ticks = 1, .unit = 3,
-                          .stamp_size = 4, .name = "ng"};
+    ng_profile profile = {.id = NG_ABSOLUTE, .ticks = 1, .unit = 3, .stamp_size = 4, .name = "ng"};
+    ng_segment segment = {.len = 4, .events = 3};
     ng_event events[CHANNELS] = {{.name = "e0"}, {.name = "e1"}};
     profile.ring = ring;
     for (unsigned c = 0; c < CHANNELS; c++) events[c].capacity = cap;
-    want(ng_slave_open(&profile, events, CHANNELS, NO_A2L, slave) == NG_OK, "open");
+    want(ng_slave_open(&profile, &segment, 1, events, CHANNELS, NO_A2L, slave) == NG_OK, "open");
     counter = 0;
     for (unsigned c = 0; c < CHANNELS; c++) {
         struct sampling none = {NG_TASK_INIT, 0, 0, false};
