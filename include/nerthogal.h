@@ -36,10 +36,9 @@
  *     drained or closed, only freed.
  *
  * Pointers
- *   - A pointer is never null, even if its length is 0, except in an ng_memory of length 0. It is
- *     aligned, and the stated number of elements may be read, and written if it isn't const. The
- *     memory behind two pointers of one call doesn't overlap, unless both are const. The library
- *     keeps no pointer after a call.
+ *   - A pointer is never null, even if its length is 0. It is aligned, and the stated number of
+ *     elements may be read, and written if it isn't const. The memory behind two pointers of one
+ *     call doesn't overlap, unless both are const. The library keeps no pointer after a call.
  *   - A length is below 2^63.
  *   - During a call, only the call itself changes the memory behind its pointers, and nobody else
  *     reads what isn't const.
@@ -208,12 +207,13 @@ typedef struct {
     uint16_t events;   /* the event channels that may read it: bit c stands for event channel c */
 } ng_segment;
 
-/* The bytes of a segment, where they lie during a call; or none, if it isn't there. */
+/* The bytes of a segment, where they lie during a call; or none, if it isn't there. With length 0 a
+ * null pointer does as well as that of NG_NOT_THERE, but that is only tested. */
 typedef struct {
     const uint8_t *at;
     size_t len; /* that of the segment, or 0 */
 } ng_memory;
-#define NG_NOT_THERE { NULL, 0 }
+#define NG_NOT_THERE { (const uint8_t *)"", 0 }
 
 /* What a slave is opened with, beside its segments and event channels. */
 typedef struct {
@@ -638,8 +638,7 @@ ng_status ng_slave_status(ng_slave *slave, ng_slave_state *state);
  * They are checked in this order. Except on NG_OK, *taken is unchanged, and no trigger is taken.
  * Proved: all of this, and that what is left of a measurement goes back, once and in order; but not
  * that it finds what the slave ordered. The tests show that, and that it calls neither malloc nor
- * realloc nor free. They show too that an ng_memory of length 0 may have a null pointer, of which
- * the proofs know nothing. */
+ * realloc nor free. */
 ng_status ng_task_trigger(ng_task *task, const ng_memory *memory, size_t count, uint32_t stamp,
                           ng_taken *taken);
 
