@@ -44,15 +44,16 @@
  *     reads what isn't const.
  *
  * Segments
- *   - What a master may name of a slave's memory lies in segments, each a stretch of addresses.
- *     A segment says which event channels may read it. A trigger is handed all segments as they lie
- *     there; of those that its event channel may not read nothing is looked at.
- *   - Those that it may read aren't written during the trigger, not even bytes that no DAQ list
- *     names. So variables that another task or an interrupt writes meanwhile lie in a segment that
- *     this event channel may not read: give the variables of each task a linker section of their
- *     own, and make it a segment. What is never written may be read by all event channels.
- *   - Nor is any segment written while ng_slave_receive or ng_slave_datagram has it, to be read
- *     without a DAQ list. Where you can't keep that, pass a copy, or NG_NOT_THERE.
+ *   - What a master may name of a slave's memory lies in segments, each a stretch of addresses. A
+ *     segment says which event channels may read it: their triggers are handed it where it lies.
+ *   - What is handed in isn't written during the call, not even bytes that no DAQ list names. So
+ *     for a segment that its event channel may not read a trigger is handed NG_NOT_THERE, if
+ *     another task or an interrupt may write it meanwhile. What ng_slave_receive and
+ *     ng_slave_datagram are handed is to be read without a DAQ list: where somebody may write a
+ *     segment meanwhile, pass a copy, or NG_NOT_THERE.
+ *   - So variables are laid out by who writes them. Give those of each task a linker section of
+ *     their own, which is a segment that the task's event channel alone may read. What nobody
+ *     writes may be read by all event channels.
  *
  * Threads
  *   - Only one call at a time may use a handle. A handle may move from one thread to another if the
@@ -623,11 +624,11 @@ ng_status ng_slave_status(ng_slave *slave, ng_slave_state *state);
 
 /* Does what the slave ordered of this task, and then takes a trigger of its event channel, as
  * ng_trigger does, but off memory as it lies there: memory[i] is segment i, for each i below count.
- * One that this event channel may not read may be NG_NOT_THERE. While there is no measurement
- * nothing is due. Orders are done in the order of the master's commands. A stop needs room in the
- * ring, a place or 3 bytes: in a full one it waits, and the orders behind it with it, until a
- * trigger after ng_slave_peek took something off. Till then the list goes on being due, as *taken
- * says; but the master was answered, and gets nothing of it any more.
+ * One that this event channel may not read isn't looked at, and may be NG_NOT_THERE. While there is
+ * no measurement nothing is due. Orders are done in the order of the master's commands. A stop
+ * needs room in the ring, a place or 3 bytes: in a full one it waits, and the orders behind it with
+ * it, until a trigger after ng_slave_peek took something off. Till then the list goes on being due,
+ * as *taken says; but the master was answered, and gets nothing of it any more.
  *
  *   NG_EMPTY         *task is empty
  *   NG_WRONG_MEMORY  in a measurement: count isn't the slave's number of segments, or one that the
