@@ -1,8 +1,8 @@
 /* Two tasks in threads of their own, beside a slave in the first thread whose master starts and
  * stops their DAQ lists, many times over. Each thread finishes its task itself; the first one
  * closes the slave, in every other pair of runs before it joins the threads. Each task numbers its
- * triggers in a segment of its own, so that each frame tells what came before it. Prints one line; ends with status 1 at
- * the first thing that isn't as wanted. */
+ * triggers in a segment of its own, so that each frame tells what came before it. Prints one line;
+ * ends with status 1 at the first thing that isn't as wanted. */
 #include "memory.h"
 #include "nerthogal.h"
 #include <pthread.h>
@@ -152,7 +152,8 @@ static void open_slave(ng_ring ring, size_t cap, ng_slave *slave, struct samplin
     ng_event events[CHANNELS] = {{.name = "e0"}, {.name = "e1"}};
     profile.ring = ring;
     for (unsigned c = 0; c < CHANNELS; c++) events[c].capacity = cap;
-    want(ng_slave_open(&profile, segments, CHANNELS, events, CHANNELS, NO_A2L, slave) == NG_OK, "open");
+    want(ng_slave_open(&profile, segments, CHANNELS, events, CHANNELS, NO_A2L, slave) == NG_OK,
+         "open");
     counter = 0;
     for (unsigned c = 0; c < CHANNELS; c++) {
         struct sampling none = {NG_TASK_INIT, c, {0}, 0, 0, false};
