@@ -52,8 +52,9 @@
  *     ng_slave_datagram are handed is to be read without a DAQ list: where somebody may write a
  *     segment meanwhile, pass a copy, or NG_NOT_THERE.
  *   - So variables are laid out by who writes them. Give those of each task a linker section of
- *     their own, which is a segment that the task's event channel alone may read. What nobody
- *     writes may be read by all event channels.
+ *     their own, which is a segment that the task's event channel alone may read. (GNU ld tells
+ *     where section NAME lies: from __start_NAME to __stop_NAME.) What nobody writes may be read by
+ *     all event channels.
  *
  * Threads
  *   - Only one call at a time may use a handle. A handle may move from one thread to another if the
