@@ -16,11 +16,13 @@
 #include <time.h>
 #include <unistd.h>
 
-/* No image is there to be read without a DAQ list; no A2L file. */
-#define NO_MEMORY (const uint8_t *)"", 0
+/* No segment is there to be read without a DAQ list; no A2L file. */
+static const ng_memory not_there = NG_NOT_THERE;
+#define NO_MEMORY &not_there, 0
 #define NO_A2L (const uint8_t *)"", 0
 
 #define PLACES 64u
+#define SEGMENT_BYTES 4096u
 #define MEASUREMENTS 5
 
 /* So many DAQ lists of event channel 0, each of so many ODTs of one entry: a whole packet, or two
@@ -105,14 +107,15 @@ typedef struct {
 
 /* Rounds for a second; pages go to a socket, or nowhere if that is negative. */
 static cost measure(ng_slave *slave, ng_task *task, const set *set, int out) {
-    static uint8_t image[NG_MAX_IMAGE], page[1400];
+    static uint8_t bytes[SEGMENT_BYTES], page[1400];
+    static const ng_memory memory = {bytes, sizeof bytes};
     double wall = seconds(CLOCK_MONOTONIC), processor = seconds(CLOCK_THREAD_CPUTIME_ID), now;
     unsigned long samples = 0;
     do {
         size_t len;
         for (unsigned k = 0; k < PLACES / set->lists; k++) {
             ng_taken taken;
-            want(ng_task_trigger(task, image, sizeof image, k, &taken) == NG_OK, "trigger");
+            want(ng_task_trigger(task, &memory, 1, k, &taken) == NG_OK, "trigger");
             want(taken.dropped == 0, "no sample is dropped");
             samples += set->lists;
         }
@@ -129,12 +132,13 @@ static cost measure(ng_slave *slave, ng_task *task, const set *set, int out) {
 
 static void measure_set(const set *set, int out) {
     static const ng_event event = {.capacity = PLACES};
-    static const ng_profile profile = {.image_len = NG_MAX_IMAGE, .id = NG_ABSOLUTE, .ring = NG_RING_ITEMS,
-                                       .ticks = 1, .unit = 3, .stamp_size = 4};
+    static const ng_segment segment = {.len = SEGMENT_BYTES, .events = 1};
+    static const ng_profile profile = {.id = NG_ABSOLUTE, .ring = NG_RING_ITEMS, .ticks = 1, .unit = 3,
+                                       .stamp_size = 4};
     ng_slave slave = NG_SLAVE_INIT;
     ng_task task = NG_TASK_INIT;
     cost sent = {1e9, 1e9}, kept = {1e9, 1e9};
-    want(ng_slave_open(&profile, &event, 1, NO_A2L, &slave) == NG_OK, "open");
+    want(ng_slave_open(&profile, &segment, 1, &event, 1, NO_A2L, &slave) == NG_OK, "open");
     want(ng_slave_task(&slave, 0, &task) == NG_OK, "task");
     set_up(&slave, set);
     for (int m = 0; m < MEASUREMENTS; m++) {

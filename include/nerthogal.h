@@ -38,9 +38,23 @@
  * Pointers
  *   - A pointer is never null, even if its length is 0. It is aligned, and the stated number of
  *     elements may be read, and written if it isn't const. The memory behind two pointers of one
- *     call doesn't overlap. The library keeps no pointer after a call.
+ *     call doesn't overlap, unless both are const. The library keeps no pointer after a call.
  *   - A length is below 2^63.
- *   - During a call, only the call itself changes the memory behind its pointers.
+ *   - During a call, only the call itself changes the memory behind its pointers, and nobody else
+ *     reads what isn't const.
+ *
+ * Segments
+ *   - What a master may name of a slave's memory lies in segments, each a stretch of addresses. A
+ *     segment says which event channels may read it: their triggers are handed it where it lies.
+ *   - What is handed in isn't written during the call, not even bytes that no DAQ list names. So
+ *     for a segment that its event channel may not read a trigger is handed NG_NOT_THERE, if
+ *     another task or an interrupt may write it meanwhile. What ng_slave_receive and
+ *     ng_slave_datagram are handed is to be read without a DAQ list: where somebody may write a
+ *     segment meanwhile, pass a copy, or NG_NOT_THERE.
+ *   - So variables are laid out by who writes them. Give those of each task a linker section of
+ *     their own, which is a segment that the task's event channel alone may read. (GNU ld tells
+ *     where section NAME lies: from __start_NAME to __stop_NAME.) What nobody writes may be read by
+ *     all event channels.
  *
  * Threads
  *   - Only one call at a time may use a handle. A handle may move from one thread to another if the
@@ -89,7 +103,8 @@ extern "C" {
 #endif
 
 #define NG_MAX_CHANNELS 8u      /* event channels: 1 to 8 */
-#define NG_MAX_IMAGE 4096u      /* bytes of a memory image: 1 to 4096 */
+#define NG_MAX_SEGMENTS 16u     /* segments of a slave's memory: 1 to 16 */
+#define NG_MAX_IMAGE 4096u      /* bytes of a store's memory image: 1 to 4096 */
 #define NG_MAX_RING 1024u       /* places of an event channel's ring of items: 1 to 1024 */
 #define NG_MIN_BYTE_RING 532u   /* bytes of an event channel's ring of bytes: from 532 .. */
 #define NG_MAX_BYTE_RING 65536u /* .. to 65536 */
@@ -122,7 +137,8 @@ enum {
     NG_UNFINISHED = 15,     /* a sampler of the engine, or a task of the slave, wasn't finished */
     NG_NO_ENGINE = 16,      /* the sampler's engine was freed */
     NG_NO_TASK = 17,        /* the task of the event channel was handed out before */
-    NG_BAD_FRAME = 18       /* a frame of the stream has LEN 0 or over 64 */
+    NG_BAD_FRAME = 18,      /* a frame of the stream has LEN 0 or over 64 */
+    NG_WRONG_MEMORY = 19    /* a segment that the event channel may read isn't there */
 };
 
 /* The identification field at the front of each DAQ packet of a store: one of the numbers below. */
@@ -185,10 +201,24 @@ typedef struct {
     uint8_t priority;
 } ng_event;
 
-/* What a slave is opened with, beside its event channels. */
+/* A segment of a slave's memory: bytes whose addresses follow one another. */
 typedef struct {
-    size_t image_len;           /* bytes of a memory image: 1 to 2^32 */
-    uint32_t base;              /* the address of its first byte: base + image_len <= 2^32 */
+    uint8_t extension; /* of their addresses */
+    uint32_t base;     /* the address of the first */
+    size_t len;        /* how many: 1 to 2^32, and base + len <= 2^32 */
+    uint16_t events;   /* the event channels that may read it: bit c stands for event channel c */
+} ng_segment;
+
+/* The bytes of a segment, where they lie during a call; or none, if it isn't there. With length 0 a
+ * null pointer does as well as that of NG_NOT_THERE, but that is only tested. */
+typedef struct {
+    const uint8_t *at;
+    size_t len; /* that of the segment, or 0 */
+} ng_memory;
+#define NG_NOT_THERE { (const uint8_t *)"", 0 }
+
+/* What a slave is opened with, beside its segments and event channels. */
+typedef struct {
     ng_id_kind id;              /* the identification field of each DAQ packet */
     ng_ring ring;               /* the kind of the rings, one ring per event channel */
     uint16_t ticks;             /* so many units are one tick of a timestamp: not 0 */
@@ -490,25 +520,28 @@ ng_status ng_sampler_free(ng_sampler *sampler);
  * what tasks gave back is found before. docs/PROVED.md says what is proved of the parts of a
  * slave. */
 
-/* Opens a slave with a profile, and with so many event channels: events[c] is event channel c. a2l
- * is its A2L file, a2l_len bytes, for a master that fetches it; 0 bytes, there is none. It is
- * copied, as all is. No master is connected, there is no DAQ list, and nothing waits. Its CTR
- * begins at 0.
+/* Opens a slave with a profile, with count segments of memory, and with so many event channels:
+ * events[c] is event channel c. The segments stand in rising order of extension, then base, and
+ * two of one extension share no address. a2l is its A2L file, a2l_len bytes, for a master that
+ * fetches it; 0 bytes, there is none. All is copied. No master is connected, there is no DAQ list,
+ * and nothing waits. Its CTR begins at 0.
  *
  *   NG_IN_USE      *slave isn't empty
- *   NG_BAD_LIMITS  channels is 0 or over NG_MAX_CHANNELS; or one of these is out of its limits: of
- *                  the profile image_len, base with image_len, id, ring, ticks, unit,
+ *   NG_BAD_LIMITS  channels is 0 or over NG_MAX_CHANNELS, or count 0 or over NG_MAX_SEGMENTS; or
+ *                  one of these is out of its limits: of the profile id, ring, ticks, unit,
  *                  stamp_size, name, a2l_name or epk; of an event channel capacity, for this kind
- *                  of rings, name or cycle_unit; a2l_len is 2^32 or more. cycle and priority have
- *                  any value
+ *                  of rings, name or cycle_unit; of a segment len, base with len, its place behind
+ *                  the one before it, or events, where one isn't there; a2l_len is 2^32 or more.
+ *                  cycle, priority and extension have any value
  *   NG_MEMORY      malloc failed
  *   NG_OK          *slave holds the new slave
  *
  * NG_IN_USE is checked first; the next two come in either order. Except on NG_OK, *slave is
  * unchanged. Proved: all of this, but not that malloc failed if NG_MEMORY is returned, nor that the
  * rings have their capacities, which is only tested. Calls malloc, realloc and free. */
-ng_status ng_slave_open(const ng_profile *profile, const ng_event *events, size_t channels,
-                        const uint8_t *a2l, size_t a2l_len, ng_slave *slave);
+ng_status ng_slave_open(const ng_profile *profile, const ng_segment *segments, size_t count,
+                        const ng_event *events, size_t channels, const uint8_t *a2l,
+                        size_t a2l_len, ng_slave *slave);
 
 /* Hands out the task of an event channel, once. It may then move to a thread of its own.
  *
@@ -526,10 +559,9 @@ ng_status ng_slave_task(ng_slave *slave, uint16_t channel, ng_task *task);
 
 /* Takes bytes of a master's stream, as TCP has it, in whatever pieces they come. Each packet that
  * is whole is answered: its reply waits to be sent. The clock is the one that GET_DAQ_CLOCK tells.
- * SHORT_UPLOAD, and UPLOAD behind SET_MTA, read variables without a DAQ list, off memory: the image
- * as it is now, memory_len bytes. Unless these are the profile's image_len, the image isn't there,
- * and what reads it is answered by ERR_ACCESS_DENIED. Nobody writes it during the call: where you
- * can't keep that, pass a copy, or 0 bytes.
+ * SHORT_UPLOAD, and UPLOAD behind SET_MTA, read variables without a DAQ list, off memory: memory[i]
+ * is segment i as it is now, for each i below count. One that is left out, or that has another
+ * length than its segment, isn't there, and what reads it is answered by ERR_ACCESS_DENIED.
  *
  *   NG_EMPTY      *slave is empty
  *   NG_SPENT      the slave is spent; nothing changes
@@ -546,7 +578,7 @@ ng_status ng_slave_task(ng_slave *slave, uint16_t channel, ng_task *task);
  * reply is ERR_MEMORY_OVERFLOW. Calls malloc, realloc and free, for allocations, and where
  * measurements begin and end. */
 ng_status ng_slave_receive(ng_slave *slave, const uint8_t *bytes, size_t len, uint32_t clock,
-                           const uint8_t *memory, size_t memory_len, size_t *taken);
+                           const ng_memory *memory, size_t count, size_t *taken);
 
 /* The same of one datagram, as UDP has it, which holds whole frames. A part of a frame at the end,
  * or a frame with LEN 0 or over 64, drops what is left of the datagram, and nothing else. *taken is
@@ -556,7 +588,7 @@ ng_status ng_slave_receive(ng_slave *slave, const uint8_t *bytes, size_t len, ui
  * NG_SPENT if the slave is spent; then *taken is unchanged. Proved and only tested: as for
  * ng_slave_receive. */
 ng_status ng_slave_datagram(ng_slave *slave, const uint8_t *bytes, size_t len, uint32_t clock,
-                            const uint8_t *memory, size_t memory_len, size_t *taken);
+                            const ng_memory *memory, size_t count, size_t *taken);
 
 /* The transport was lost: all DAQ lists stop and are freed, and no master is connected, as after
  * DISCONNECT; but nothing is replied. While no master is connected, the lists are as they are. What
@@ -592,22 +624,24 @@ ng_status ng_slave_sent(ng_slave *slave);
 ng_status ng_slave_status(ng_slave *slave, ng_slave_state *state);
 
 /* Does what the slave ordered of this task, and then takes a trigger of its event channel, as
- * ng_trigger does. While there is no measurement nothing is due. Orders are done in the order of
- * the master's commands. A stop needs room in the ring, a place or 3 bytes: in a full one it waits,
- * and the orders behind it with it, until a trigger after ng_slave_peek took something off. Till
- * then the list goes on being due, as *taken says; but the master was answered, and gets nothing of
- * it any more.
+ * ng_trigger does, but off memory as it lies there: memory[i] is segment i, for each i below count.
+ * One that this event channel may not read isn't looked at, and may be NG_NOT_THERE. While there is
+ * no measurement nothing is due. Orders are done in the order of the master's commands. A stop
+ * needs room in the ring, a place or 3 bytes: in a full one it waits, and the orders behind it with
+ * it, until a trigger after ng_slave_peek took something off. Till then the list goes on being due,
+ * as *taken says; but the master was answered, and gets nothing of it any more.
  *
- *   NG_EMPTY        *task is empty
- *   NG_WRONG_IMAGE  in a measurement: image_len isn't that of the profile
- *   NG_SPENT        in a measurement: 2^59 triggers were taken
- *   NG_OK           *taken says what it did
+ *   NG_EMPTY         *task is empty
+ *   NG_WRONG_MEMORY  in a measurement: count isn't the slave's number of segments, or one that the
+ *                    event channel may read has another length
+ *   NG_SPENT         in a measurement: 2^59 triggers were taken
+ *   NG_OK            *taken says what it did
  *
  * They are checked in this order. Except on NG_OK, *taken is unchanged, and no trigger is taken.
  * Proved: all of this, and that what is left of a measurement goes back, once and in order; but not
  * that it finds what the slave ordered. The tests show that, and that it calls neither malloc nor
  * realloc nor free. */
-ng_status ng_task_trigger(ng_task *task, const uint8_t *image, size_t image_len, uint32_t stamp,
+ng_status ng_task_trigger(ng_task *task, const ng_memory *memory, size_t count, uint32_t stamp,
                           ng_taken *taken);
 
 /* Finishes a task. What is left of it goes back to its slave, which is still open. *task is then

@@ -110,6 +110,7 @@ static void copy_image(uint8_t *image) {
 static void *run_task(void *argument) {
     struct task *self = argument;
     uint8_t image[IMAGE_BYTES];
+    const ng_memory memory = {image, sizeof image};
     struct timespec next;
     clock_gettime(CLOCK_MONOTONIC, &next);
     for (uint32_t turn = 0; !is_over(); turn++) {
@@ -119,7 +120,7 @@ static void *run_task(void *argument) {
         self->compute(variables, turn, now);
         memcpy(image, variables, sizeof image);
         pthread_mutex_unlock(&gate);
-        if (ng_task_trigger(&self->task, image, sizeof image, now, &taken) != NG_OK)
+        if (ng_task_trigger(&self->task, &memory, 1, now, &taken) != NG_OK)
             self->fault = true;
         else if (taken.due != 0)
             __atomic_store_n(&due_at, now_ms(), __ATOMIC_SEQ_CST);
@@ -220,14 +221,14 @@ static void send_waiting(struct server *s) {
 /* Hands what was heard to the slave, as far as replies find room. */
 static void pass_on(struct server *s) {
     uint8_t image[IMAGE_BYTES]; /* for what is read without a DAQ list */
+    const ng_memory memory = {image, sizeof image};
     while (!nothing_heard(s)) {
         copy_image(image);
         size_t taken = 0, len = s->to - s->from;
         const uint8_t *bytes = s->heard + s->from;
         if (s->tcp < 0)
-            ng_slave_datagram(&s->slave, bytes, len, now_us(), image, sizeof image, &taken);
-        else if (ng_slave_receive(&s->slave, bytes, len, now_us(), image, sizeof image, &taken)
-                 != NG_OK) {
+            ng_slave_datagram(&s->slave, bytes, len, now_us(), &memory, 1, &taken);
+        else if (ng_slave_receive(&s->slave, bytes, len, now_us(), &memory, 1, &taken) != NG_OK) {
             send_waiting(s); /* the replies to what came before a bad frame */
             lose(s);         /* behind it a stream can't be read on */
             return;
@@ -410,13 +411,13 @@ static int listen_on(int kind, unsigned port, bool any, unsigned *is) {
 
 static bool open_slave(struct server *s, struct task *tasks) {
     static const ng_profile profile = {
-        .image_len = IMAGE_BYTES, .base = BASE, .id = NG_ABSOLUTE, .ring = NG_RING_ITEMS,
-        .ticks = 1, .unit = 3, .stamp_size = 4, .name = "xcp_server",
-        .a2l_name = "xcp_server"};
+        .id = NG_ABSOLUTE, .ring = NG_RING_ITEMS, .ticks = 1, .unit = 3, .stamp_size = 4,
+        .name = "xcp_server", .a2l_name = "xcp_server"};
+    static const ng_segment image = {.base = BASE, .len = IMAGE_BYTES, .events = 3};
     static const ng_event events[2] = {
         {.capacity = 64, .name = "1 ms", .cycle = 1, .cycle_unit = 6, .priority = 1},
         {.capacity = 64, .name = "10 ms", .cycle = 10, .cycle_unit = 6}};
-    return ng_slave_open(&profile, events, 2, (const uint8_t *)"", 0, &s->slave) == NG_OK
+    return ng_slave_open(&profile, &image, 1, events, 2, (const uint8_t *)"", 0, &s->slave) == NG_OK
         && ng_slave_task(&s->slave, 0, &tasks[0].task) == NG_OK
         && ng_slave_task(&s->slave, 1, &tasks[1].task) == NG_OK;
 }

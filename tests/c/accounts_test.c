@@ -1,5 +1,5 @@
 /* 500 runs of a slave and of its two tasks, each in a thread of its own, whose accounts are those
- * that the tasks counted themselves. An image carries the number of its trigger. A task counts what
+ * that the tasks counted themselves. Memory has the number of the trigger. A task counts what
  * its triggers answer, and notes each sample that was accepted. The first thread is the master, and
  * notes each sample that was sent. In a run there are several measurements: some stop while a task
  * is in the middle of them, and some no task fetches, since all tasks stand still, don't run yet,
@@ -75,9 +75,10 @@ static bool count(struct sampling *sampling, unsigned l, ng_taken taken, uint32_
 
 /* Takes trigger k. Answers whether all was as it should be. */
 static bool trigger(struct sampling *sampling, uint32_t k) {
-    uint8_t image[4] = {(uint8_t)k, (uint8_t)(k >> 8), (uint8_t)(k >> 16), (uint8_t)(k >> 24)};
+    uint8_t bytes[4] = {(uint8_t)k, (uint8_t)(k >> 8), (uint8_t)(k >> 16), (uint8_t)(k >> 24)};
+    ng_memory memory = {bytes, sizeof bytes};
     ng_taken taken = {0, 0, 0};
-    if (ng_task_trigger(&sampling->task, image, sizeof image, 0, &taken) != NG_OK) return false;
+    if (ng_task_trigger(&sampling->task, &memory, 1, 0, &taken) != NG_OK) return false;
     if ((taken.accepted | taken.dropped) != taken.due) return false;
     if ((taken.accepted & taken.dropped) != 0 || taken.due >> LISTS != 0) return false;
     for (unsigned l = 0; l < LISTS; l++) {

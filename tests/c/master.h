@@ -1,7 +1,7 @@
 /* A master of a slave in the same thread, for tests that roll what it does. What the slave sends is
  * read as a master reads it: CTR rises by one, each command has its reply, in order, no packet of a
  * list stands outside of a run, and each sample is whole. Each packet of a list has the number that
- * stands in the image. The test defines LISTS before, the number of DAQ lists, and take. */
+ * stands in memory. The test defines LISTS before, the number of DAQ lists, and take. */
 #ifndef MASTER_H
 #define MASTER_H
 
@@ -10,8 +10,9 @@
 #include <stdlib.h>
 #include <string.h>
 
-/* No image is there to be read without a DAQ list; no A2L file. */
-#define NO_MEMORY (const uint8_t *)"", 0
+/* No segment is there to be read without a DAQ list; no A2L file. */
+static const ng_memory not_there = NG_NOT_THERE;
+#define NO_MEMORY &not_there, 0
 #define NO_A2L (const uint8_t *)"", 0
 
 #define PAGE 1400
@@ -54,7 +55,7 @@ static bool has_rest;          /* of a sample of two packets: the second's PID a
 static unsigned rest_pid;
 static uint32_t rest_number;
 
-/* A sample of a list was sent, of the image with this number, marked by an overload or not. */
+/* A sample of a list was sent, of memory with this number, marked by an overload or not. */
 static void take(unsigned l, uint32_t number, bool marked);
 
 static uint32_t number_in(const uint8_t *bytes) {
@@ -197,15 +198,15 @@ static void lose(ng_slave *slave) {
 
 /* ---- the slave */
 
-/* Opens a slave of two event channels, and images of four bytes. Nothing was sent so far. */
+/* Opens a slave of two event channels, and of a segment of four bytes. Nothing was sent so far. */
 static void open_with(ng_ring ring, size_t cap, size_t other, ng_slave *slave) {
-    ng_profile profile = {.image_len = 4, .id = NG_ABSOLUTE, .ticks = 1, .unit = 3,
-                          .stamp_size = 4, .name = ""};
+    ng_profile profile = {.id = NG_ABSOLUTE, .ticks = 1, .unit = 3, .stamp_size = 4, .name = ""};
+    ng_segment segment = {.len = 4, .events = 3};
     ng_event events[2] = {{.name = "e0"}, {.name = "e1"}};
     profile.ring = ring;
     events[0].capacity = cap;
     events[1].capacity = other;
-    want(ng_slave_open(&profile, events, 2, NO_A2L, slave) == NG_OK, "open");
+    want(ng_slave_open(&profile, &segment, 1, events, 2, NO_A2L, slave) == NG_OK, "open");
     counter = 0;
     waiting = running = 0;
     shown = 0;

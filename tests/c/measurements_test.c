@@ -28,15 +28,16 @@ struct sampling {
 
 static bool over;
 
-/* Takes triggers until all is over, and finishes the task. The image has the number of the trigger,
+/* Takes triggers until all is over, and finishes the task. Memory has the number of the trigger,
  * from 1 on. */
 static void *sample(void *argument) {
     struct sampling *sampling = argument;
     unsigned long calls = memory_calls();
     for (uint32_t k = 1; !__atomic_load_n(&over, __ATOMIC_SEQ_CST); k++) {
-        uint8_t image[4] = {(uint8_t)k, (uint8_t)(k >> 8), (uint8_t)(k >> 16), (uint8_t)(k >> 24)};
+        uint8_t bytes[4] = {(uint8_t)k, (uint8_t)(k >> 8), (uint8_t)(k >> 16), (uint8_t)(k >> 24)};
+        ng_memory memory = {bytes, sizeof bytes};
         ng_taken taken = {0, 0, 0};
-        if (ng_task_trigger(&sampling->task, image, 4, 0, &taken) != NG_OK) sampling->fault = true;
+        if (ng_task_trigger(&sampling->task, &memory, 1, 0, &taken) != NG_OK) sampling->fault = true;
         for (unsigned l = 0; l < LISTS; l++) {
             sampling->due[l] += taken.due >> l & 1u;
             sampling->dropped[l] += taken.dropped >> l & 1u;

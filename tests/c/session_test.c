@@ -7,8 +7,9 @@
 #include <stdlib.h>
 #include <string.h>
 
-/* No image is there to be read without a DAQ list; no A2L file. */
-#define NO_MEMORY (const uint8_t *)"", 0
+/* No segment is there to be read without a DAQ list; no A2L file. */
+static const ng_memory not_there = NG_NOT_THERE;
+#define NO_MEMORY &not_there, 0
 #define NO_A2L (const uint8_t *)"", 0
 
 #define UNWRITTEN 0xA5u
@@ -43,11 +44,9 @@ static size_t unhex(const char *text, uint8_t *bytes) {
     return len;
 }
 
-/* An identification field of one byte, images of two bytes from address 0 on, and timestamps of
- * four bytes in microseconds. */
+/* An identification field of one byte, and timestamps of four bytes in microseconds. */
 static ng_profile profile_of(void) {
-    ng_profile profile = {.image_len = 2, .id = NG_ABSOLUTE, .ticks = 1, .unit = 3,
-                          .stamp_size = 4, .name = "ng"};
+    ng_profile profile = {.id = NG_ABSOLUTE, .ticks = 1, .unit = 3, .stamp_size = 4, .name = "ng"};
     profile.ring = ring;
     return profile;
 }
@@ -60,12 +59,19 @@ static ng_event event_of(const char *name) {
     return event;
 }
 
-/* A slave of one event channel, or of two. */
+/* A segment of addresses from 0 on, that each of so many event channels may read. */
+static ng_segment segment_of(size_t len, size_t channels) {
+    ng_segment segment = {.len = len, .events = (uint16_t)((1u << channels) - 1)};
+    return segment;
+}
+
+/* A slave of one event channel, or of two, and of one segment of two bytes. */
 static ng_slave open_slave(size_t channels) {
     ng_profile profile = profile_of();
+    ng_segment segment = segment_of(2, channels);
     ng_event events[2] = {event_of("e0"), event_of("e1")};
     ng_slave slave = NG_SLAVE_INIT;
-    want(ng_slave_open(&profile, events, channels, NO_A2L, &slave) == NG_OK, "open");
+    want(ng_slave_open(&profile, &segment, 1, events, channels, NO_A2L, &slave) == NG_OK, "open");
     return slave;
 }
 
@@ -81,20 +87,19 @@ static enum { STREAM, PIECES, DATAGRAMS } way = STREAM;
 /* The bytes of a piece. */
 static size_t piece = 1;
 
-/* With so many bytes of an image, to be read without a DAQ list. */
-static void hear_with(ng_slave *slave, const char *frames, const uint8_t *image, size_t image_len) {
+/* With so many segments, to be read without a DAQ list. */
+static void hear_with(ng_slave *slave, const char *frames, const ng_memory *memory, size_t count) {
     static uint8_t bytes[1024];
     size_t len = unhex(frames, bytes), taken = 77, step;
     if (way == DATAGRAMS) {
-        want(ng_slave_datagram(slave, bytes, len, CLOCK, image, image_len, &taken) == NG_OK, frames);
+        want(ng_slave_datagram(slave, bytes, len, CLOCK, memory, count, &taken) == NG_OK, frames);
         want(taken == len, frames);
         return;
     }
     for (size_t at = 0; at < len; at += step) {
         step = way == PIECES && piece < len - at ? piece : len - at;
         taken = 77;
-        want(ng_slave_receive(slave, bytes + at, step, CLOCK, image, image_len, &taken) == NG_OK,
-             frames);
+        want(ng_slave_receive(slave, bytes + at, step, CLOCK, memory, count, &taken) == NG_OK, frames);
         want(taken == step, frames);
     }
 }
@@ -121,15 +126,29 @@ static void sends(ng_slave *slave, const char *frames) {
     want(ng_slave_sent(slave) == NG_OK, "sent");
 }
 
-static void trigger(ng_task *task, const char *image, unsigned due, unsigned accepted) {
-    uint8_t bytes[2] = {0};
+/* A trigger with so many segments. */
+static void trigger_with(ng_task *task, const ng_memory *memory, size_t count, unsigned due,
+                         unsigned accepted) {
     ng_taken taken = {0x5555, 0x5555, 0x5555};
-    size_t len = unhex(image, bytes);
     unsigned long asked = memory_asked, held = memory_held;
-    want(ng_task_trigger(task, bytes, len, 0, &taken) == NG_OK, image);
+    want(ng_task_trigger(task, memory, count, 0, &taken) == NG_OK, "trigger");
     want(asked == memory_asked && held == memory_held, "no memory is asked for or given back");
     want(taken.due == due && taken.accepted == accepted && taken.dropped == (due & ~accepted),
          "what the trigger did");
+}
+
+/* A trigger with the bytes of one segment. */
+static void trigger(ng_task *task, const char *segment, unsigned due, unsigned accepted) {
+    uint8_t bytes[2] = {0};
+    ng_memory memory = {bytes, unhex(segment, bytes)};
+    trigger_with(task, &memory, 1, due, accepted);
+}
+
+/* A trigger whose memory is wrong. */
+static void wrong_memory(ng_task *task, const ng_memory *memory, size_t count, const char *what) {
+    ng_taken taken = {1, 2, 3};
+    want(ng_task_trigger(task, memory, count, 0, &taken) == NG_WRONG_MEMORY, what);
+    want(taken.due == 1 && taken.accepted == 2 && taken.dropped == 3, "nothing is written");
 }
 
 static ng_line lines[NG_MAX_LISTS + 1];
@@ -176,51 +195,73 @@ static void finish(ng_task *task) {
     want(ng_task_finish(task) == NG_OK && ng_task_finish(task) == NG_EMPTY, "finish");
 }
 
+/* Changes one thing of a profile, of an event channel, or of two segments that touch, so that it is
+ * out of a limit. */
+static void spoil(unsigned k, ng_profile *p, ng_event *e, ng_segment *s) {
+    switch (k) {
+    case 0: s[0].len = 0; break;
+    case 1: s[1].len = 0x100000001u; break;
+    case 2: p->id = 3; break;
+    case 3: p->ring = 2; break;
+    case 4: p->ticks = 0; break;
+    case 5: p->unit = 10; break;
+    case 6: p->stamp_size = 3; break;
+    case 7: p->stamp_size = 0; break;
+    case 8: s[1].base = 0xFFFFFFFFu; break;
+    case 9: memset(p->name, 'n', sizeof p->name); break;
+    case 10: p->name[0] = 0x1F; break;
+    case 11: p->name[0] = 0x7F; break;
+    case 12: e->capacity = 0; break;
+    case 13: e->capacity = ring == NG_RING_BYTES ? NG_MAX_BYTE_RING + 1 : NG_MAX_RING + 1; break;
+    case 14: e->capacity = SIZE_MAX; break;
+    case 15: memset(e->name, 'n', sizeof e->name); break;
+    case 16: e->name[1] = '\n'; break;
+    case 17: e->cycle_unit = 10; break;
+    case 18: e->capacity = ring == NG_RING_BYTES ? NG_MIN_BYTE_RING - 1 : NG_MAX_RING + 1; break;
+    case 19: p->id = UINT32_MAX; break;
+    case 20: memset(p->a2l_name, 'n', sizeof p->a2l_name); break;
+    case 21: memset(p->epk, 'n', sizeof p->epk); break;
+    case 22: p->epk[0] = 0x7F; break;
+    case 23: s[1].base = 1; break;        /* a byte is of both */
+    case 24: s[1].base = 0; break;        /* all are */
+    case 25: s[0].extension = 1; break;   /* the other order */
+    case 26: s[0].events = 4; break;      /* event channel 2 */
+    default: s[1].events = 0x8001; break; /* event channel 15 */
+    }
+}
+
 static void openings(void) {
     ng_profile good = profile_of();
     ng_event events[9] = {event_of("e0")};
+    ng_segment segments[17];
     ng_slave slave = NG_SLAVE_INIT;
     begin("openings");
     for (size_t c = 1; c < 9; c++) events[c] = event_of("e1");
-    for (unsigned k = 0; k < 23; k++) {
+    for (unsigned k = 0; k < 28; k++) {
         ng_profile p = good;
         ng_event e = event_of("e0");
-        if (k == 0) p.image_len = 0;
-        if (k == 1) p.image_len = 0x100000001u;
-        if (k == 2) p.id = 3;
-        if (k == 3) p.ring = 2;
-        if (k == 4) p.ticks = 0;
-        if (k == 5) p.unit = 10;
-        if (k == 6) p.stamp_size = 3;
-        if (k == 7) p.stamp_size = 0;
-        if (k == 8) p.base = 0xFFFFFFFFu;
-        if (k == 9) memset(p.name, 'n', sizeof p.name);
-        if (k == 10) p.name[0] = 0x1F;
-        if (k == 11) p.name[0] = 0x7F;
-        if (k == 12) e.capacity = 0;
-        if (k == 13) e.capacity = ring == NG_RING_BYTES ? NG_MAX_BYTE_RING + 1 : NG_MAX_RING + 1;
-        if (k == 14) e.capacity = SIZE_MAX;
-        if (k == 15) memset(e.name, 'n', sizeof e.name);
-        if (k == 16) e.name[1] = '\n';
-        if (k == 17) e.cycle_unit = 10;
-        if (k == 18) e.capacity = ring == NG_RING_BYTES ? NG_MIN_BYTE_RING - 1 : NG_MAX_RING + 1;
-        if (k == 19) p.id = UINT32_MAX;
-        if (k == 20) memset(p.a2l_name, 'n', sizeof p.a2l_name);
-        if (k == 21) memset(p.epk, 'n', sizeof p.epk);
-        if (k == 22) p.epk[0] = 0x7F;
+        ng_segment s[2] = {segment_of(2, 2), segment_of(2, 1)};
+        s[1].base = 2;
+        spoil(k, &p, &e, s);
         events[1] = e;
-        want(ng_slave_open(&p, events, 2, NO_A2L, &slave) == NG_BAD_LIMITS, "out of a limit");
+        want(ng_slave_open(&p, s, 2, events, 2, NO_A2L, &slave) == NG_BAD_LIMITS, "out of a limit");
         want(!slave.full, "nothing is made");
     }
     events[1] = event_of("");
-    want(ng_slave_open(&good, events, 0, NO_A2L, &slave) == NG_BAD_LIMITS, "no event channel");
-    want(ng_slave_open(&good, events, 9, NO_A2L, &slave) == NG_BAD_LIMITS, "nine event channels");
-    good.base = 0xFFFFFFFEu;
+    for (size_t i = 0; i < 17; i++) {
+        segments[i] = segment_of(i % 2 == 0 ? 2 : 0xFFFFFFFEu, 8);
+        segments[i].extension = (uint8_t)(i / 2 * 36);
+        segments[i].base = (uint32_t)(i % 2 * 2);
+    }
+    want(ng_slave_open(&good, segments, 1, events, 0, NO_A2L, &slave) == NG_BAD_LIMITS, "no event channel");
+    want(ng_slave_open(&good, segments, 1, events, 9, NO_A2L, &slave) == NG_BAD_LIMITS, "nine");
+    want(ng_slave_open(&good, segments, 0, events, 8, NO_A2L, &slave) == NG_BAD_LIMITS, "no segment");
+    want(ng_slave_open(&good, segments, 17, events, 8, NO_A2L, &slave) == NG_BAD_LIMITS, "seventeen");
     memset(good.name, 'n', NG_MAX_NAME);
     memset(good.a2l_name, 'a', NG_MAX_NAME);
     memset(good.epk, 'e', NG_MAX_NAME);
-    want(ng_slave_open(&good, events, 8, NO_A2L, &slave) == NG_OK, "eight");
-    want(ng_slave_open(&good, events, 9, NO_A2L, &slave) == NG_IN_USE, "it is in use");
+    want(ng_slave_open(&good, segments, 16, events, 8, NO_A2L, &slave) == NG_OK, "eight and sixteen");
+    want(ng_slave_open(&good, segments, 17, events, 9, NO_A2L, &slave) == NG_IN_USE, "it is in use");
     close_with(&slave, NULL, 0);
     end();
 }
@@ -241,7 +282,7 @@ static void empty_handles(void) {
     want(ng_slave_sent(&slave) == NG_EMPTY, "sent");
     want(ng_slave_status(&slave, &state) == NG_EMPTY, "status");
     want(ng_slave_close(&slave, lines, 0, &whole, &each) == NG_EMPTY, "close");
-    want(ng_task_trigger(&task, buffer, 0, 0, &taken) == NG_EMPTY, "trigger");
+    want(ng_task_trigger(&task, NO_MEMORY, 0, &taken) == NG_EMPTY, "trigger");
     want(ng_task_finish(&task) == NG_EMPTY, "finish");
     want(len == 77 && whole && taken.due == 1 && taken.dropped == 3, "nothing is written");
     want(state.connected && state.measuring && state.waiting == 77, "nothing is written");
@@ -319,14 +360,17 @@ static void session(void) {
 static void reading(void) {
     static const uint8_t first[3] = {0xAB, 0xCD, 0xEF}, second[2] = {0x12, 0x34};
     static const char told[] = "an A2L file, of more bytes than one reply has, which are sixty-three";
+    static const ng_memory one = {first, 1}, two = {first, 2}, three = {first, 3}, other = {second, 2};
     ng_profile profile = profile_of();
+    ng_segment segment = segment_of(2, 1);
     ng_event event = event_of("e0");
     ng_slave slave = NG_SLAVE_INIT;
     char a2l[sizeof told];
     memcpy(a2l, told, sizeof told);
     memcpy(profile.a2l_name, "file", 4);
     memcpy(profile.epk, "v1", 2);
-    want(ng_slave_open(&profile, &event, 1, (const uint8_t *)a2l, sizeof a2l, &slave) == NG_OK, "open");
+    want(ng_slave_open(&profile, &segment, 1, &event, 1, (const uint8_t *)a2l, sizeof a2l, &slave)
+             == NG_OK, "open");
     memset(a2l, 0, sizeof a2l); /* the slave has a copy */
     hear(&slave, "02000000ff00" "02000000fa01" "02000000f504" "02000000fa05" "02000000f502");
     sends(&slave, "08000000ff04804040000101" "08000100ff00000004000000" "05000200ff66696c65"
@@ -338,13 +382,13 @@ static void reading(void) {
                   "7874792d"
                   "07000700ff746872656500");
     /* each packet reads what was handed in with it; of another length, or none, it isn't there */
-    hear_with(&slave, "08000000f402000000000000", first, 2);
-    hear_with(&slave, "08000000f600000000000000" "02000000f501", first, 2);
-    hear_with(&slave, "02000000f501", second, 2);
-    hear_with(&slave, "02000000f501", second, 2);
+    hear_with(&slave, "08000000f402000000000000", &two, 1);
+    hear_with(&slave, "08000000f600000000000000" "02000000f501", &two, 1);
+    hear_with(&slave, "02000000f501", &other, 1);
+    hear_with(&slave, "02000000f501", &other, 1);
     sends(&slave, "03000800ffabcd" "01000900ff" "02000a00ffab" "02000b00ff34" "02000c00fe22");
-    hear_with(&slave, "08000000f401000000000000", first, 3);
-    hear_with(&slave, "08000000f401000000000000", first, 1);
+    hear_with(&slave, "08000000f401000000000000", &three, 1);
+    hear_with(&slave, "08000000f401000000000000", &one, 1);
     hear(&slave, "08000000f401000000000000" "01000000fe");
     sends(&slave, "02000d00fe24" "02000e00fe24" "02000f00fe24" "01001000ff");
     close_with(&slave, NULL, 0);
@@ -413,6 +457,106 @@ static void two_channels(void) {
         finish(&tasks[1]);
         close_with(&slave, account, 2);
     }
+    end();
+}
+
+/* Three segments: one that both event channels may read, one behind it for event channel 0 alone,
+ * and one of another extension for event channel 1 alone. */
+static const ng_segment segments_of_tasks[3] = {{0, 0x1000, 4, 3}, {0, 0x1004, 4, 1}, {1, 0x1000, 2, 2}};
+
+static const uint8_t common[4] = {0x10, 0x11, 0x12, 0x13}, fast[4] = {0x20, 0x21, 0x22, 0x23},
+                     slow[2] = {0x30, 0x31};
+
+static ng_slave open_segments(void) {
+    ng_profile profile = profile_of();
+    ng_event events[2] = {event_of("e0"), event_of("e1")};
+    ng_slave slave = NG_SLAVE_INIT;
+    want(ng_slave_open(&profile, segments_of_tasks, 3, events, 2, NO_A2L, &slave) == NG_OK, "open");
+    return slave;
+}
+
+/* Two DAQ lists: one of variables of the first two segments, and one of the first and the last. What
+ * lies in no segment, or in two, or is another event channel's, is refused. */
+static void set_up_segments(ng_slave *slave) {
+    hear(slave, "02000000ff00" "04000000d5000200" "05000000d400000001" "05000000d400010001"
+                "06000000d30000000003" "06000000d30001000002" "06000000e20000000000");
+    sends(slave, "08000000ff04804040000101" "01000100ff" "01000200ff" "01000300ff" "01000400ff"
+                 "01000500ff" "01000600ff");
+    hear(slave, "08000000e1ff020003100000" "08000000e1ff010108100000" "08000000e1ff010102100000"
+                "08000000e1ff010200100000" "08000000e1ff020002100000" "08000000e1ff010004100000"
+                "08000000e1ff020006100000" "06000000e20001000000" "08000000e1ff010000100000"
+                "08000000e1ff010101100000");
+    sends(slave, "02000700fe22" "02000800fe22" "02000900fe22" "02000a00fe22" "01000b00ff"
+                 "01000c00ff" "01000d00ff" "01000e00ff" "01000f00ff" "01001000ff");
+    hear(slave, "06000000e20001000001" "01000000db" "08000000e000000001000100"
+                "08000000e000010001000100" "04000000de010000" "08000000e000000000000100"
+                "04000000de010100" "04000000de010000");
+    sends(slave, "01001100ff" "08001200ffff010101100000" "01001300ff" "01001400ff" "02001500fe2a"
+                 "01001600ff" "02001700ff01" "02001800ff00");
+}
+
+/* A part that an event channel may read is there in its length, and what it reads is what stands
+ * there; of the others it knows nothing. */
+static void trigger_segments(ng_slave *slave, ng_task *tasks) {
+    ng_memory first[3] = {{common, 4}, {fast, 4}, NG_NOT_THERE};
+    ng_memory second[4] = {{common, 4}, NG_NOT_THERE, {slow, 2}, NG_NOT_THERE};
+    trigger_with(&tasks[0], first, 3, 1, 1);
+    sends(slave, "06001900001213202223");
+    trigger_with(&tasks[1], second, 3, 2, 2);
+    sends(slave, "03001a00011031");
+    for (size_t count = 0; count < 5; count++)
+        if (count != 3) wrong_memory(&tasks[1], second, count, "not a part for each segment");
+    for (size_t len = 0; len < 4; len++) {
+        first[1] = (ng_memory){len == 0 ? NULL : fast, len};
+        wrong_memory(&tasks[0], first, 3, "a part of its own of another length");
+        second[1] = first[1];
+        trigger_with(&tasks[1], second, 3, 2, 2);
+    }
+    sends(slave, "03001b00011031" "03001c00011031" "03001d00011031" "03001e00011031");
+    first[0] = (ng_memory){slow, 2};
+    first[1] = (ng_memory){fast, 4};
+    wrong_memory(&tasks[0], first, 3, "a common part of another length");
+    second[2] = (ng_memory)NG_NOT_THERE;
+    wrong_memory(&tasks[1], second, 3, "no part of its own");
+    first[0] = (ng_memory){fast, 4};
+    first[1] = (ng_memory){common, 4};
+    trigger_with(&tasks[0], first, 3, 1, 1);
+    sends(slave, "06001f00002223101213");
+}
+
+/* Without a DAQ list all segments are read that are there, but never from one into another. */
+static void read_segments(ng_slave *slave) {
+    const ng_memory all[3] = {{common, 4}, {fast, 4}, {slow, 2}};
+    const ng_memory some[3] = {{NULL, 0}, {fast, 4}, {slow, 1}};
+    hear_with(slave, "08000000f402000002100000" "08000000f404000004100000" "08000000f402000100100000"
+                     "08000000f402000003100000" "08000000f401000102100000" "08000000f401000200100000",
+              all, 3);
+    sends(slave, "03002000ff1213" "05002100ff20212223" "03002200ff3031" "02002300fe22"
+                 "02002400fe22" "02002500fe22");
+    hear_with(slave, "08000000f600000003100000" "02000000f502" "02000000f501" "02000000f502"
+                     "02000000f503" "02000000f502" "08000000f600000108100000", all, 3);
+    sends(slave, "01002600ff" "02002700fe22" "02002800ff13" "03002900ff2021" "02002a00fe22"
+                 "03002b00ff2223" "02002c00fe22");
+    hear_with(slave, "08000000f401000000100000" "08000000f401000007100000" "08000000f401000101100000"
+                     "08000000f402000003100000", some, 3);
+    sends(slave, "02002d00fe24" "02002e00ff23" "02002f00fe24" "02003000fe22");
+    hear_with(slave, "08000000f401000000100000" "08000000f401000004100000", all, 1);
+    hear(slave, "08000000f401000000100000");
+    sends(slave, "02003100ff10" "02003200fe24" "02003300fe24");
+}
+
+static void segments(void) {
+    static const ng_line account[] = {{0, 2, 2, 0, 0}, {1, 5, 5, 0, 0}};
+    ng_slave slave = open_segments();
+    ng_task tasks[2] = {task_of(&slave, 0), task_of(&slave, 1)};
+    begin("memory in segments, each for some event channels");
+    trigger_with(&tasks[0], NO_MEMORY, 0, 0);
+    set_up_segments(&slave);
+    trigger_segments(&slave, tasks);
+    read_segments(&slave);
+    finish(&tasks[0]);
+    finish(&tasks[1]);
+    close_with(&slave, account, 2);
     end();
 }
 
@@ -591,11 +735,12 @@ static void start_all(ng_slave *slave, const struct load *load) {
 }
 
 static void trigger_all(ng_task *tasks, const struct load *load) {
-    static uint8_t image[256];
+    static uint8_t bytes_of_first[256];
+    static const ng_memory memory[NG_MAX_SEGMENTS] = {{bytes_of_first, sizeof bytes_of_first}};
     unsigned long bytes = memory_bytes;
     ng_taken taken;
     for (unsigned c = 0; c < load->channels; c++)
-        want(ng_task_trigger(&tasks[c], image, sizeof image, 0, &taken) == NG_OK, "trigger");
+        want(ng_task_trigger(&tasks[c], memory, NG_MAX_SEGMENTS, 0, &taken) == NG_OK, "trigger");
     want(bytes == memory_bytes, "triggers take no memory, and give none back");
 }
 
@@ -607,7 +752,8 @@ static void within(unsigned long least, unsigned long bytes, unsigned long most,
 }
 
 /* What nerthogal.h says of the bytes that a slave takes at most, and when it gives them back. All its
- * texts are as long as may be. */
+ * texts are as long as may be, and there are as many segments as may be; of these each event channel
+ * may read the first. */
 static void heap_of(const struct load *load) {
     static const uint8_t a2l[1000] = {0};
     bool of_bytes = ring == NG_RING_BYTES;
@@ -618,11 +764,15 @@ static void heap_of(const struct load *load) {
     unsigned long of_lists = 40 * l + 24 * o + 16 * e, of_ring = (of_bytes ? 1 : 560) * capacity;
     unsigned long most = 3000 * n + 160 * l + 100 * o + 80 * e + n * of_ring;
     ng_profile profile = profile_of();
+    ng_segment segments[NG_MAX_SEGMENTS] = {segment_of(256, n)};
     ng_event events[8] = {event_of("e")};
     ng_slave slave = NG_SLAVE_INIT;
     ng_task tasks[8];
     unsigned long before = memory_bytes;
-    profile.image_len = 256;
+    for (uint8_t i = 1; i < NG_MAX_SEGMENTS; i++) {
+        segments[i] = segment_of(1, 0);
+        segments[i].extension = i;
+    }
     profile.id = load->id;
     memset(profile.name, 'n', NG_MAX_NAME);
     memset(profile.a2l_name, 'a', NG_MAX_NAME);
@@ -632,7 +782,8 @@ static void heap_of(const struct load *load) {
         events[c] = events[0];
         events[c].capacity = capacity;
     }
-    want(ng_slave_open(&profile, events, n, a2l, sizeof a2l, &slave) == NG_OK, "open");
+    want(ng_slave_open(&profile, segments, NG_MAX_SEGMENTS, events, n, a2l, sizeof a2l, &slave) == NG_OK,
+         "open");
     for (unsigned c = 0; c < n; c++) tasks[c] = task_of(&slave, (uint16_t)c);
     unsigned long opened = memory_bytes;
     within(0, opened - before, of_slave, "of a slave");
@@ -686,7 +837,8 @@ static void waiting_stop(void) {
     static const struct load load = {1, 4, 3, 1, 1, 1, NG_ABSOLUTE};
     ng_slave slave = open_slave(1);
     ng_task task = task_of(&slave, 0);
-    uint8_t image[2] = {0};
+    static const uint8_t bytes[2] = {0};
+    static const ng_memory memory = {bytes, sizeof bytes};
     ng_taken taken = {0};
     size_t len;
     begin("a stop waits for room in a full ring, and a later start behind it");
@@ -694,12 +846,12 @@ static void waiting_stop(void) {
     ask(&slave, "de010000"); /* three lists are ready, and the first one is started */
     /* each sample takes 12 bytes of a record, 1 for the packet's length, and 6: 532 has 28 */
     while (taken.dropped == 0)
-        want(ng_task_trigger(&task, image, 2, 0, &taken) == NG_OK && taken.due == 1, "0 is due");
+        want(ng_task_trigger(&task, &memory, 1, 0, &taken) == NG_OK && taken.due == 1, "0 is due");
     hear(&slave, "04000000de010200" "04000000de000000" "04000000de010100");
-    want(ng_task_trigger(&task, image, 2, 0, &taken) == NG_OK, "trigger");
+    want(ng_task_trigger(&task, &memory, 1, 0, &taken) == NG_OK, "trigger");
     want(taken.due == 5 && taken.accepted == 0, "2 was started before; 0 still runs, 1 doesn't");
     want(ng_slave_peek(&slave, buffer, sizeof buffer, &len) == NG_OK && len > 0, "peek");
-    want(ng_task_trigger(&task, image, 2, 0, &taken) == NG_OK, "trigger");
+    want(ng_task_trigger(&task, &memory, 1, 0, &taken) == NG_OK, "trigger");
     want(taken.due == 6 && taken.accepted == 6, "the stop is done, and then the start");
     want(ng_task_finish(&task) == NG_OK, "finish");
     bool whole = false;
@@ -790,8 +942,9 @@ static void skip(ng_slave *slave) {
 }
 
 /* Wants a buffer of so many bytes to show samples of eight packets of 64 bytes: so many of them,
- * each of images of one byte, which is that of the first one and then one more, and so is CTR. */
-static void shows_long(ng_slave *slave, size_t cap, size_t samples, unsigned image,
+ * each of one byte again and again, which is that of the first one and then one more, and so is
+ * CTR. */
+static void shows_long(ng_slave *slave, size_t cap, size_t samples, unsigned byte,
                        unsigned counter) {
     size_t len = 77;
     want(ng_slave_peek(slave, buffer, cap, &len) == NG_OK && len == samples * 544, "whole samples");
@@ -799,7 +952,7 @@ static void shows_long(ng_slave *slave, size_t cap, size_t samples, unsigned ima
         const uint8_t *frame = buffer + k * 68;
         want(frame[0] == 64 && frame[1] == 0 && frame[2] == counter + k && frame[3] == 0, "header");
         want(frame[4] == k % 8, "PID");
-        for (size_t i = 5; i < 68; i++) want(frame[i] == image + k / 8, "the image");
+        for (size_t i = 5; i < 68; i++) want(frame[i] == byte + k / 8, "the segment's bytes");
     }
 }
 
@@ -809,12 +962,12 @@ static void full_buffers(void) {
     ng_profile profile = profile_of();
     ng_event event = event_of("e0");
     ng_slave slave = NG_SLAVE_INIT;
-    ng_taken taken;
-    uint8_t image[63];
+    uint8_t bytes[63];
+    ng_segment segment = segment_of(sizeof bytes, 1);
+    ng_memory memory = {bytes, sizeof bytes};
     begin("a buffer that one sample fills");
-    profile.image_len = sizeof image;
     if (ring == NG_RING_BYTES) event.capacity = 3 * NG_MIN_BYTE_RING;
-    want(ng_slave_open(&profile, &event, 1, NO_A2L, &slave) == NG_OK, "open");
+    want(ng_slave_open(&profile, &segment, 1, &event, 1, NO_A2L, &slave) == NG_OK, "open");
     ng_task task = task_of(&slave, 0);
     hear(&slave, "02000000ff00" "04000000d5000100" "05000000d400000008");
     skip(&slave);
@@ -834,9 +987,8 @@ static void full_buffers(void) {
     hear(&slave, "08000000e000000000000100" "04000000de010000");
     skip(&slave);
     for (unsigned k = 1; k < 4; k++) {
-        memset(image, 0x10 + (int)k, sizeof image);
-        want(ng_task_trigger(&task, image, sizeof image, 0, &taken) == NG_OK, "trigger");
-        want(taken.accepted == 1, "it finds room");
+        memset(bytes, 0x10 + (int)k, sizeof bytes);
+        trigger_with(&task, &memory, 1, 1, 1);
     }
     shows_long(&slave, NG_PEEK_BYTES, 1, 0x11, 29);
     shows_long(&slave, NG_PEEK_BYTES, 1, 0x11, 29);
@@ -858,17 +1010,16 @@ static void small_buffers(void) {
     ng_task task = task_of(&slave, 0);
     size_t len = 77;
     bool whole = true;
-    ng_taken taken = {1, 2, 3};
-    begin("buffers that are too short, and images of another length");
+    const ng_memory one = {buffer, 1}, three = {buffer, 3};
+    begin("buffers that are too short, and segments of another length");
     start(&slave);
     trigger(&task, "aabb", 1, 1);
     memset(buffer, UNWRITTEN, sizeof buffer);
     want(ng_slave_peek(&slave, buffer, NG_PEEK_BYTES - 1, &len) == NG_SMALL_BUFFER, "peek");
     want(len == 77 && buffer[0] == UNWRITTEN, "nothing is written");
     want(ng_slave_peek(&slave, buffer, NG_PEEK_BYTES, &len) == NG_OK && len == 7, "peek");
-    want(ng_task_trigger(&task, buffer, 1, 0, &taken) == NG_WRONG_IMAGE, "one byte");
-    want(ng_task_trigger(&task, buffer, 3, 0, &taken) == NG_WRONG_IMAGE, "three bytes");
-    want(taken.due == 1 && taken.dropped == 3, "nothing is written");
+    wrong_memory(&task, &one, 1, "one byte");
+    wrong_memory(&task, &three, 1, "three bytes");
     want(ng_slave_close(&slave, lines, NG_MAX_LISTS - 1, &whole, &each) == NG_SMALL_BUFFER, "close");
     finish(&task);
     close_with(&slave, account, 1);
@@ -934,12 +1085,13 @@ static void no_memory(void) {
     begin("want of memory");
     for (unsigned long k = 0;; k++) {
         ng_profile profile = profile_of();
+        ng_segment segment = segment_of(2, 2);
         ng_event events[2] = {event_of("e0"), event_of("e1")};
         ng_slave slave = NG_SLAVE_INIT;
         ng_task task = NG_TASK_INIT;
         unsigned long held = memory_held;
         memory_refuse_behind(k);
-        ng_status opened = ng_slave_open(&profile, events, 2, NO_A2L, &slave);
+        ng_status opened = ng_slave_open(&profile, &segment, 1, events, 2, NO_A2L, &slave);
         if (opened == NG_MEMORY) want(held == memory_held, "what was had is given back");
         unsigned long before = memory_held;
         ng_status lent = opened == NG_OK ? ng_slave_task(&slave, 1, &task) : NG_OK;
@@ -947,7 +1099,8 @@ static void no_memory(void) {
         bool refused = memory_refused();
         unsigned long lacking = (opened == NG_MEMORY) + (lent == NG_MEMORY);
         want(lacking <= (refused ? 1u : 0u), "want of memory is answered where it was met");
-        if (opened == NG_MEMORY) want(ng_slave_open(&profile, events, 2, NO_A2L, &slave) == NG_OK, "again");
+        if (opened == NG_MEMORY)
+            want(ng_slave_open(&profile, &segment, 1, events, 2, NO_A2L, &slave) == NG_OK, "again");
         if (!task.full) task = task_of(&slave, 1);
         finish(&task);
         close_with(&slave, NULL, 0);
@@ -972,12 +1125,13 @@ static void long_run(void) {
     sends(&slave, "03000800000000");
     unsigned long asked = memory_asked, held = memory_held;
     for (uint32_t k = 1; k < 70000; k++) {
-        uint8_t image[2] = {(uint8_t)k, (uint8_t)(k >> 8)};
-        want(ng_task_trigger(&task, image, 2, k, &taken) == NG_OK && taken.accepted == 1, "taken");
+        uint8_t bytes[2] = {(uint8_t)k, (uint8_t)(k >> 8)};
+        ng_memory memory = {bytes, sizeof bytes};
+        want(ng_task_trigger(&task, &memory, 1, k, &taken) == NG_OK && taken.accepted == 1, "taken");
         want(ng_slave_peek(&slave, buffer, sizeof buffer, &len) == NG_OK && len == 7, "a frame");
         want(buffer[0] == 3 && buffer[1] == 0 && buffer[4] == 0, "a whole frame");
         want((buffer[2] | buffer[3] << 8) == (int)((k + 8) & 0xFFFF), "its counter");
-        want(buffer[5] == image[0] && buffer[6] == image[1], "its bytes");
+        want(buffer[5] == bytes[0] && buffer[6] == bytes[1], "its bytes");
         want(ng_slave_sent(&slave) == NG_OK, "sent");
     }
     want(asked == memory_asked && held == memory_held, "none was asked for, none given back");
@@ -996,6 +1150,7 @@ int main(void) {
         sessions();
         readings();
         two_channels();
+        segments();
         pieces();
         datagrams();
         bad_frames();

@@ -24,3 +24,4 @@ number_of status.Unfinished = 15
 number_of status.NoEngine = 16
 number_of status.NoTask = 17
 number_of status.BadFrame = 18
+number_of status.WrongMemory = 19

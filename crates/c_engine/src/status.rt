@@ -43,6 +43,8 @@ pub enum Status {
     NoTask,
     /// A frame's LEN is 0 or too great.
     BadFrame,
+    /// Memory isn't there as the segments of the profile have it.
+    WrongMemory,
 }
 
 impl Status {
@@ -70,6 +72,7 @@ impl Status {
             Status::NoEngine => 16,
             Status::NoTask => 17,
             Status::BadFrame => 18,
+            Status::WrongMemory => 19,
         }
     }
 }

@@ -1,6 +1,6 @@
 -- What the calls by which a slave hears its master, and is shown and sent what waits, answer and
 -- leave, by their status.
-use Rattle.std.specs.Prelude.{◌≡◌, ℕ, ◌<◌, ◌≤◌, false, true, List, [], ◌∷◌, length, Option}
+use Rattle.std.specs.Prelude.{◌≡◌, ℕ, ◌<◌, ◌≤◌, false, true, List, length, Option}
 use Rattle.channel_ring.specs.declared.ends.TakeEnd.{Ghosts as TakeGhosts}
 use Rattle.c_engine.specs.States.{Bytes, Items}
 use Rattle.c_slave.specs.declared.content.Content.{Content}
@@ -11,12 +11,9 @@ use Rattle.slave_lending.specs.Bytes.{HangsUp, HearsBytes, RefusesBytes, TakesBy
 use Rattle.slave_lending.specs.Sending.{Peeks, Sends}
 use Rattle.slave_lending.specs.States.{LendingSlaveState}
 use Rattle.session.specs.Past.{Given}
+pub use Rattle.session.specs.Standing.{given_by}
 use Rattle.c_slave.specs.OnHandles.{OnSlave}
 use Rattle.c_slave.specs.declared.sending_calls.TheConstants.{PEEK_BYTES}
-
--- what was handed in: a clock, and the image, which isn't there if it has another length
-abbrev pub given_with : ℕ → List ℕ → Given
-given_with clock image = record { clock = clock; memory = image ∷ [] }
 
 -- the buffer of what is shown, and how many bytes of it that takes up
 pub record ShownRoom : Type 0 where

@@ -12,6 +12,7 @@ use Rattle.slave_lending.specs.Lends.{IsOpenedWith}
 use Rattle.c_slave.specs.Profiles.{IsGoodProfileOf, IsOutOfLimits}
 use Rattle.c_slave.specs.declared.profile_in.EventIn.{EventIn}
 use Rattle.c_slave.specs.declared.profile_in.ProfileIn.{ProfileIn}
+use Rattle.c_slave.specs.declared.profile_in.SegmentIn.{SegmentIn}
 
 module _ (items : Items) (bytes : Bytes) where
   -- a slave was opened with this profile, over rings of this kind
@@ -21,19 +22,21 @@ module _ (items : Items) (bytes : Bytes) where
   IsSlaveOf kind d _ = ⊥
 
   -- the same, with the profile that was asked for, over its kind of rings
-  pub record SlaveOf (p : ProfileIn) (events : List EventIn) (a2l : List ℕ) (it : Content)
+  pub record SlaveOf (p : ProfileIn) (segments : List SegmentIn) (events : List EventIn)
+      (a2l : List ℕ) (it : Content)
       : Type 0 where
     pub profile : Profile
-    pub good : IsGoodProfileOf p events a2l profile
+    pub good : IsGoodProfileOf p segments events a2l profile
     pub opened : IsSlaveOf profile.ring profile it
 
   -- what ng_slave_open does to a handle
   abbrev pub OpensSlave
-      : Option Content → Option Content → ProfileIn → List EventIn → List ℕ → Status → Type 0
-  OpensSlave old new p events a2l status.Ok =
-      (old ≡ None) × ((it : Content) × (new ≡ Some it) × SlaveOf p events a2l it)
-  OpensSlave old new p events a2l status.InUse = IsSome old × (new ≡ old)
-  OpensSlave old new p events a2l status.BadLimits =
-      (old ≡ None) × (new ≡ old) × IsOutOfLimits p events a2l
-  OpensSlave old new p events a2l status.Memory = (old ≡ None) × (new ≡ old)
-  OpensSlave old new p events a2l _ = ⊥
+      : Option Content → Option Content → ProfileIn → List SegmentIn → List EventIn → List ℕ
+      → Status → Type 0
+  OpensSlave old new p segments events a2l status.Ok =
+      (old ≡ None) × ((it : Content) × (new ≡ Some it) × SlaveOf p segments events a2l it)
+  OpensSlave old new p segments events a2l status.InUse = IsSome old × (new ≡ old)
+  OpensSlave old new p segments events a2l status.BadLimits =
+      (old ≡ None) × (new ≡ old) × IsOutOfLimits p segments events a2l
+  OpensSlave old new p segments events a2l status.Memory = (old ≡ None) × (new ≡ old)
+  OpensSlave old new p segments events a2l _ = ⊥

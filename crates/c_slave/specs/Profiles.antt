@@ -1,16 +1,16 @@
 -- The profile that C asks for.
-use Rattle.std.specs.Prelude.{◌≡◌, ◌≢◌, ◌⊎◌, ℕ, ◌==◌, if◌then◌else◌, List, [], ◌∷◌, length, map}
+use Rattle.std.specs.Prelude.{◌≡◌, ◌≢◌, ◌⊎◌, ℕ, ◌==◌, if◌then◌else◌, List, [], ◌∷◌, map}
 use Rattle.std.specs.Prelude.{Some, None}
 use Rattle.c_engine.specs.Kinds.{kind_of, ring_of}
 use Rattle.c_engine.specs.declared.status.Status.{Status}
 use Rattle.c_engine.specs.declared.status.Status.TheVariants as status
-use Rattle.segments.specs.Segment.{all_readers}
 use Rattle.segments.specs.declared.segment.Segment.{Segment}
 use Rattle.session.specs.Profiles.{profile_fault}
 use Rattle.session.specs.declared.event_channel.EventChannel.{EventChannel}
 use Rattle.session.specs.declared.profile.Profile.{Profile}
 use Rattle.c_slave.specs.declared.profile_in.EventIn.{EventIn}
 use Rattle.c_slave.specs.declared.profile_in.ProfileIn.{ProfileIn}
+use Rattle.c_slave.specs.declared.profile_in.SegmentIn.{SegmentIn}
 
 -- the bytes before the first zero byte
 abbrev pub text_of : List ℕ → List ℕ
@@ -44,21 +44,16 @@ told_of e = record {
   priority = e.priority;
 }
 
--- the image as one segment, that all of so many event channels may read
-abbrev pub memory_in : ProfileIn → ℕ → List Segment
-memory_in p channels =
-    record {
-      extension = 0;
-      base = p.base;
-      len = p.image_len;
-      events = all_readers channels;
-    }
-    ∷ []
+-- a segment
+abbrev pub segment_in : SegmentIn → Segment
+segment_in s =
+    record { extension = s.extension; base = s.base; len = s.len; events = s.events }
 
 -- this is the profile that is asked for
-pub record IsProfileOf (p : ProfileIn) (events : List EventIn) (a2l : List ℕ) (d : Profile)
+pub record IsProfileOf (p : ProfileIn) (segments : List SegmentIn) (events : List EventIn)
+    (a2l : List ℕ) (d : Profile)
     : Type 0 where
-  pub memory : d.segments.items ≡ memory_in p (length events)
+  pub memory : d.segments.items ≡ map segment_in segments
   pub id : kind_of p.id ≡ Some d.id
   pub stamp_size : d.stamp_size ≡ p.stamp_size
   pub unit : d.unit ≡ p.unit
@@ -71,21 +66,23 @@ pub record IsProfileOf (p : ProfileIn) (events : List EventIn) (a2l : List ℕ) 
   pub a2l_is : d.a2l.items ≡ a2l
 
 -- the same, and it is within its limits
-pub record IsGoodProfileOf (p : ProfileIn) (events : List EventIn) (a2l : List ℕ) (d : Profile)
+pub record IsGoodProfileOf (p : ProfileIn) (segments : List SegmentIn) (events : List EventIn)
+    (a2l : List ℕ) (d : Profile)
     : Type 0 where
-  pub is : IsProfileOf p events a2l d
+  pub is : IsProfileOf p segments events a2l d
   pub within : profile_fault d ≡ None
 
 -- there is no such identification field, or no such kind of rings; or else the profile is out of a
 -- limit
-abbrev pub IsOutOfLimits : ProfileIn → List EventIn → List ℕ → Type 0
-IsOutOfLimits p events a2l =
+abbrev pub IsOutOfLimits : ProfileIn → List SegmentIn → List EventIn → List ℕ → Type 0
+IsOutOfLimits p segments events a2l =
     (kind_of p.id ≡ None)
     ⊎ ((ring_of p.ring ≡ None)
-    ⊎ ((d : Profile) × IsProfileOf p events a2l d × (profile_fault d ≢ None)))
+    ⊎ ((d : Profile) × IsProfileOf p segments events a2l d × (profile_fault d ≢ None)))
 
 -- why there is no profile
-abbrev pub RefusesProfile : ProfileIn → List EventIn → List ℕ → Status → Type 0
-RefusesProfile p events a2l status.BadLimits = IsOutOfLimits p events a2l
-RefusesProfile p events a2l status.Memory = Unit {0}
-RefusesProfile p events a2l _ = ⊥
+abbrev pub RefusesProfile
+    : ProfileIn → List SegmentIn → List EventIn → List ℕ → Status → Type 0
+RefusesProfile p segments events a2l status.BadLimits = IsOutOfLimits p segments events a2l
+RefusesProfile p segments events a2l status.Memory = Unit {0}
+RefusesProfile p segments events a2l _ = ⊥

@@ -1,6 +1,6 @@
 -- What the calls of tasks answer and what they leave, by their status.
 use Rattle.std.specs.Prelude.{◌≡◌, ℕ, ◌≤◌, List, length, slice_get, Option, Some, None, Result}
-use Rattle.std.specs.Prelude.{Ok, Err, [], ◌∷◌}
+use Rattle.std.specs.Prelude.{Ok, Err}
 use Rattle.channel_ring.specs.declared.ends.SendEnd.{Ghosts as SendGhosts}
 use Rattle.channel_ring.specs.declared.ends.RingEnd.{Ghosts as EndGhosts}
 use Rattle.c_engine.specs.Samplers.{taken_out}
@@ -10,6 +10,7 @@ use Rattle.c_slave.specs.declared.content.Content.TheVariants as held
 use Rattle.c_engine.specs.declared.status.Status.{Status}
 use Rattle.c_engine.specs.declared.status.Status.TheVariants as status
 use Rattle.c_engine.specs.declared.taken_out.TakenOut.{TakenOut}
+pub use Rattle.segments.specs.Memory.{parts}
 use Rattle.sampler.specs.declared.faults.MemoryFault.TheVariants as fault
 use Rattle.sampler.specs.declared.taken.Taken.{Taken}
 use Rattle.slave_lending.specs.Lends.{LendsTask, most_steps, none_due}
@@ -56,19 +57,19 @@ GivesTask old new c None given result =
     (λ s t. LendsInto held.ByteTask s t c given result)
 
 module _ {S E : Type 0} (send : SendGhosts S E) (ring : EndGhosts E) where
-  -- what a task does at a trigger
+  -- what a task does at a trigger, with the bytes of each segment
   abbrev pub TriggersTask
-      : TaskState S → TaskState S → List ℕ → ℕ → TakenOut → TakenOut → Status → Type 0
-  TriggersTask s t image stamp before after status.Ok =
+      : TaskState S → TaskState S → List (List ℕ) → ℕ → TakenOut → TakenOut → Status → Type 0
+  TriggersTask s t memory stamp before after status.Ok =
       (taken : Taken) × (after ≡ taken_out taken)
-      × TakesTurn send ring most_steps none_due s t (image ∷ []) stamp (Ok taken)
-  TriggersTask s t image stamp before after status.WrongImage =
-      TakesTurn send ring most_steps none_due s t (image ∷ []) stamp (Err fault.WrongMemory)
+      × TakesTurn send ring most_steps none_due s t memory stamp (Ok taken)
+  TriggersTask s t memory stamp before after status.WrongMemory =
+      TakesTurn send ring most_steps none_due s t memory stamp (Err fault.WrongMemory)
       × (after ≡ before)
-  TriggersTask s t image stamp before after status.Spent =
-      TakesTurn send ring most_steps none_due s t (image ∷ []) stamp (Err fault.Spent)
+  TriggersTask s t memory stamp before after status.Spent =
+      TakesTurn send ring most_steps none_due s t memory stamp (Err fault.Spent)
       × (after ≡ before)
-  TriggersTask s t image stamp before after _ = ⊥
+  TriggersTask s t memory stamp before after _ = ⊥
 
 -- a task is held
 abbrev pub IsTask : Content → Type 0
@@ -102,8 +103,9 @@ module _ (items : Items) (bytes : Bytes) where
 
   -- what ng_task_trigger does to a handle
   abbrev pub TriggersHeldTask
-      : Option Content → Option Content → List ℕ → ℕ → TakenOut → TakenOut → Status → Type 0
-  TriggersHeldTask old new image stamp before after result =
+      : Option Content → Option Content → List (List ℕ) → ℕ → TakenOut → TakenOut → Status
+      → Type 0
+  TriggersHeldTask old new memory stamp before after result =
       OnTask old new result (after ≡ before)
-      (λ s t. TriggersTask items.send items.ring s t image stamp before after result)
-      (λ s t. TriggersTask bytes.send bytes.ring s t image stamp before after result)
+      (λ s t. TriggersTask items.send items.ring s t memory stamp before after result)
+      (λ s t. TriggersTask bytes.send bytes.ring s t memory stamp before after result)

@@ -2,7 +2,7 @@
 
 ghost use Rattle.std.specs.Prelude.{Some};
 ghost use Rattle.c_slave.specs.Bytes.{HangsUpSlave, HearsDatagrams, Receives, ReceivesBytes};
-ghost use Rattle.c_slave.specs.Bytes.{ReceivesDatagram, given_with};
+ghost use Rattle.c_slave.specs.Bytes.{ReceivesDatagram, given_by};
 
 use crate::content::Content;
 use crate::handle::Handle;
@@ -13,22 +13,22 @@ use daq_engine::Ring;
 use slave_lending::LendingSlave;
 use std::alloc::Global;
 
-/// Takes bytes of a stream.
+/// Takes bytes of a stream, with a slice for each segment that is there, in their order.
 fn receive<R: Ring>(
     alloc: Global,
     slave: &mut LendingSlave<R>,
     bytes: &[u8],
     clock: u32,
-    memory: &[u8],
+    memory: &[&[u8]],
     taken: &mut usize,
 ) -> Status
     ensures { ReceivesBytes R.Take.TakeEnd slave.old slave.new bytes.now
-        (given_with clock memory.now) taken.old taken.new result }
+        (given_by clock memory.now) taken.old taken.new result }
 {
     if slave.is_spent() {
         return Status::Spent;
     }
-    match slave.receive(alloc, bytes, clock, &[memory]) {
+    match slave.receive(alloc, bytes, clock, memory) {
         Ok(count) => {
             *taken = count;
             Status::Ok
@@ -43,11 +43,11 @@ fn receive_in(
     content: &mut Content,
     bytes: &[u8],
     clock: u32,
-    memory: &[u8],
+    memory: &[&[u8]],
     taken: &mut usize,
 ) -> Status
     ensures { Receives ⟦<SampleRing as HeldRing>⟧.rings ⟦<ByteRing as HeldRing>⟧.rings
-        (Some content.old) (Some content.new) bytes.now (given_with clock memory.now)
+        (Some content.old) (Some content.new) bytes.now (given_by clock memory.now)
         taken.old taken.new result }
 {
     match content {
@@ -63,11 +63,11 @@ pub fn receive_by(
     handle: &mut Handle,
     bytes: &[u8],
     clock: u32,
-    memory: &[u8],
+    memory: &[&[u8]],
     taken: &mut usize,
 ) -> Status
     ensures { Receives ⟦<SampleRing as HeldRing>⟧.rings ⟦<ByteRing as HeldRing>⟧.rings
-        handle.old.held handle.new.held bytes.now (given_with clock memory.now)
+        handle.old.held handle.new.held bytes.now (given_by clock memory.now)
         taken.old taken.new result }
 {
     let Some(mut held) = handle.take(alloc) else {
@@ -84,16 +84,16 @@ fn hear<R: Ring>(
     slave: &mut LendingSlave<R>,
     bytes: &[u8],
     clock: u32,
-    memory: &[u8],
+    memory: &[&[u8]],
     taken: &mut usize,
 ) -> Status
     ensures { ReceivesDatagram R.Take.TakeEnd slave.old slave.new bytes.now
-        (given_with clock memory.now) taken.old taken.new result }
+        (given_by clock memory.now) taken.old taken.new result }
 {
     if slave.is_spent() {
         return Status::Spent;
     }
-    *taken = slave.datagram(alloc, bytes, clock, &[memory]);
+    *taken = slave.datagram(alloc, bytes, clock, memory);
     Status::Ok
 }
 
@@ -103,11 +103,11 @@ fn datagram_in(
     content: &mut Content,
     bytes: &[u8],
     clock: u32,
-    memory: &[u8],
+    memory: &[&[u8]],
     taken: &mut usize,
 ) -> Status
     ensures { HearsDatagrams ⟦<SampleRing as HeldRing>⟧.rings ⟦<ByteRing as HeldRing>⟧.rings
-        (Some content.old) (Some content.new) bytes.now (given_with clock memory.now)
+        (Some content.old) (Some content.new) bytes.now (given_by clock memory.now)
         taken.old taken.new result }
 {
     match content {
@@ -123,11 +123,11 @@ pub fn datagram_by(
     handle: &mut Handle,
     bytes: &[u8],
     clock: u32,
-    memory: &[u8],
+    memory: &[&[u8]],
     taken: &mut usize,
 ) -> Status
     ensures { HearsDatagrams ⟦<SampleRing as HeldRing>⟧.rings ⟦<ByteRing as HeldRing>⟧.rings
-        handle.old.held handle.new.held bytes.now (given_with clock memory.now)
+        handle.old.held handle.new.held bytes.now (given_by clock memory.now)
         taken.old taken.new result }
 {
     let Some(mut held) = handle.take(alloc) else {

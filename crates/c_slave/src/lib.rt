@@ -26,7 +26,7 @@ pub use handle::Handle;
 pub use lending::give_task;
 pub use measurements_out::{MeasurementOut, MeasurementsOut};
 pub use opening::open_slave;
-pub use profile_in::{EventIn, ProfileIn};
+pub use profile_in::{EventIn, ProfileIn, SegmentIn};
 pub use sending_calls::{peek_by, sent_by};
 pub use state_calls::state_by;
 pub use state_out::StateOut;

@@ -5,7 +5,7 @@ ghost use Rattle.c_slave.specs.Profiles.{RefusesProfile};
 
 use crate::content::Content;
 use crate::handle::Handle;
-use crate::profile_in::{EventIn, ProfileIn};
+use crate::profile_in::{EventIn, ProfileIn, SegmentIn};
 use crate::profiles::good_profile;
 use byte_ring::ByteRing;
 use c_engine::{HeldRing, Status};
@@ -38,15 +38,16 @@ fn opened_as(alloc: Global, profile: Profile) -> Result<Content, Status>
 fn opened_on_heap(
     alloc: Global,
     asked: &ProfileIn,
+    segments: &[SegmentIn],
     events: &[EventIn],
     a2l: &[u8],
 ) -> Result<Box<Content>, Status>
     ensures ok { IfOk result (λ it.
         SlaveOf ⟦<SampleRing as HeldRing>⟧.rings ⟦<ByteRing as HeldRing>⟧.rings
-        asked.now events.now a2l.now it.value) }
-    ensures err { IfErr result (RefusesProfile asked.now events.now a2l.now) }
+        asked.now segments.now events.now a2l.now it.value) }
+    ensures err { IfErr result (RefusesProfile asked.now segments.now events.now a2l.now) }
 {
-    let profile = good_profile(alloc, asked, events, a2l)?;
+    let profile = good_profile(alloc, asked, segments, events, a2l)?;
     let content = opened_as(alloc, profile)?;
     content.boxed(alloc)
 }
@@ -55,18 +56,19 @@ fn opened_on_heap(
 pub fn open_slave(
     alloc: Global,
     asked: &ProfileIn,
+    segments: &[SegmentIn],
     events: &[EventIn],
     a2l: &[u8],
     slave: &mut Handle,
 ) -> Status
     ensures { OpensSlave ⟦<SampleRing as HeldRing>⟧.rings ⟦<ByteRing as HeldRing>⟧.rings
-        slave.old.held slave.new.held asked.now events.now a2l.now result }
+        slave.old.held slave.new.held asked.now segments.now events.now a2l.now result }
 {
     if let Some(held) = slave.take(alloc) {
         slave.put(alloc, held);
         return Status::InUse;
     }
-    match opened_on_heap(alloc, asked, events, a2l) {
+    match opened_on_heap(alloc, asked, segments, events, a2l) {
         Ok(content) => {
             slave.put(alloc, content);
             Status::Ok

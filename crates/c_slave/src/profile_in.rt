@@ -1,4 +1,4 @@
-//! The profile of a slave and its event channels, laid out as C gives them.
+//! The profile of a slave, its segments and its event channels, laid out as C gives them.
 /// The places for the bytes of a name: one more than a name may have.
 pub const NAME_PLACES: usize = 57;
 
@@ -18,14 +18,24 @@ pub struct EventIn {
     pub priority: u8,
 }
 
+/// A segment of a slave's memory, of any numbers. In C it is `ng_segment`.
+#[repr(C)]
+#[derive(Clone, Copy)]
+pub struct SegmentIn {
+    /// The extension of its addresses.
+    pub extension: u8,
+    /// The address of its first byte.
+    pub base: u32,
+    /// How many bytes it has.
+    pub len: usize,
+    /// The event channels that may read it: bit `c` stands for event channel `c`.
+    pub events: u16,
+}
+
 /// What a slave is asked for by, of any numbers. In C it is `ng_profile`.
 #[repr(C)]
 #[derive(Clone, Copy)]
 pub struct ProfileIn {
-    /// The length of an image, in bytes.
-    pub image_len: usize,
-    /// The address of the image's first byte.
-    pub base: u32,
     /// The number of the identification field, as in `ng_id_kind`.
     pub id: u32,
     /// The number of the kind of rings, as in `ng_ring`.

@@ -1,11 +1,11 @@
 //! The profile that is asked for.
 ghost use Rattle.std.specs.Prelude.{◌≡◌, IfErr, IfOk, map};
 ghost use Rattle.c_slave.specs.Profiles.{IsGoodProfileOf, IsProfileOf, RefusesProfile};
-ghost use Rattle.c_slave.specs.Profiles.{memory_in, text_of, told_in, told_of};
+ghost use Rattle.c_slave.specs.Profiles.{segment_in, text_of, told_in, told_of};
 
-use crate::profile_in::{EventIn, ProfileIn};
+use crate::profile_in::{EventIn, ProfileIn, SegmentIn};
 use c_engine::{Status, kind_numbered, ring_numbered};
-use segments::{Segment, all_readers};
+use segments::Segment;
 use session::{EventChannel, Profile};
 use std::alloc::{AllocError, Global};
 
@@ -73,17 +73,26 @@ fn texts_of(
     Ok((a2l_name, epk, copy_of(alloc, a2l)?))
 }
 
-/// The memory that is asked for: the image, as one segment, that all event channels may read.
-fn memory_of(alloc: Global, asked: &ProfileIn, channels: usize) -> Result<Vec<Segment>, AllocError>
-    ensures { IfOk result (λ made. made.items ≡ memory_in asked.now channels) }
+/// A segment that is asked for.
+fn segment_of(asked: &SegmentIn) -> Segment
+    ensures { result ≡ segment_in asked.now }
+{
+    Segment {
+        extension: asked.extension,
+        base: asked.base,
+        len: asked.len,
+        events: asked.events,
+    }
+}
+
+/// The segments that are asked for, in their order.
+fn segments_of(alloc: Global, segments: &[SegmentIn]) -> Result<Vec<Segment>, AllocError>
+    ensures { IfOk result (λ made. made.items ≡ map segment_in segments.now) }
 {
     let mut made = Vec::new(alloc);
-    made.push(Segment {
-        extension: 0,
-        base: asked.base,
-        len: asked.image_len,
-        events: all_readers(channels),
-    })?;
+    for segment in segments {
+        made.push(segment_of(segment))?;
+    }
     Ok(made)
 }
 
@@ -91,11 +100,12 @@ fn memory_of(alloc: Global, asked: &ProfileIn, channels: usize) -> Result<Vec<Se
 fn profile_of(
     alloc: Global,
     asked: &ProfileIn,
+    segments: &[SegmentIn],
     events: &[EventIn],
     a2l: &[u8],
 ) -> Result<Profile, Status>
-    ensures ok { IfOk result (IsProfileOf asked.now events.now a2l.now) }
-    ensures err { IfErr result (RefusesProfile asked.now events.now a2l.now) }
+    ensures ok { IfOk result (IsProfileOf asked.now segments.now events.now a2l.now) }
+    ensures err { IfErr result (RefusesProfile asked.now segments.now events.now a2l.now) }
 {
     let Some(id) = kind_numbered(asked.id) else {
         return Err(Status::BadLimits);
@@ -106,7 +116,7 @@ fn profile_of(
     let Ok(name) = text_of(alloc, &asked.name) else {
         return Err(Status::Memory);
     };
-    let Ok(segments) = memory_of(alloc, asked, events.len()) else {
+    let Ok(segments) = segments_of(alloc, segments) else {
         return Err(Status::Memory);
     };
     let Ok(events) = events_of(alloc, events) else {
@@ -134,13 +144,14 @@ fn profile_of(
 pub fn good_profile(
     alloc: Global,
     asked: &ProfileIn,
+    segments: &[SegmentIn],
     events: &[EventIn],
     a2l: &[u8],
 ) -> Result<Profile, Status>
-    ensures ok { IfOk result (IsGoodProfileOf asked.now events.now a2l.now) }
-    ensures err { IfErr result (RefusesProfile asked.now events.now a2l.now) }
+    ensures ok { IfOk result (IsGoodProfileOf asked.now segments.now events.now a2l.now) }
+    ensures err { IfErr result (RefusesProfile asked.now segments.now events.now a2l.now) }
 {
-    let profile = profile_of(alloc, asked, events, a2l)?;
+    let profile = profile_of(alloc, asked, segments, events, a2l)?;
     match profile.fault() {
         None => Ok(profile),
         Some(_) => Err(Status::BadLimits),

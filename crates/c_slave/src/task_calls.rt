@@ -2,7 +2,7 @@
 
 ghost use Rattle.std.specs.Prelude.{◌≡◌, ◌↔◌, IsTrue, Some};
 ghost use Rattle.c_slave.specs.Tasks.{FinishesHeldBy, IsTask, TriggersHeldTask, TriggersTask};
-ghost use Rattle.c_slave.specs.Tasks.{status_of_finish};
+ghost use Rattle.c_slave.specs.Tasks.{parts, status_of_finish};
 
 use crate::content::Content;
 use crate::given_back::GivenBack;
@@ -14,34 +14,34 @@ use sampler::MemoryFault;
 use slave_lending::LentTask;
 use std::alloc::Global;
 
-/// Takes a trigger.
+/// Takes a trigger, with a slice for each segment, in their order.
 fn trigger<S: SendEnd>(
     task: &mut LentTask<S>,
-    image: &[u8],
+    memory: &[&[u8]],
     stamp: u32,
     taken: &mut TakenOut,
 ) -> Status
     ensures { TriggersTask S.SendEnd S.End.RingEnd
-        task.old task.new image.now stamp taken.old taken.new result }
+        task.old task.new (parts memory.now) stamp taken.old taken.new result }
 {
-    match task.trigger(&[image], stamp) {
+    match task.trigger(memory, stamp) {
         Ok(sets) => {
             *taken = TakenOut::of(sets);
             Status::Ok
         }
-        Err(MemoryFault::WrongMemory) => Status::WrongImage,
+        Err(MemoryFault::WrongMemory) => Status::WrongMemory,
         Err(MemoryFault::Spent) => Status::Spent,
     }
 }
 
 /// Takes a trigger by a task, if this is one.
-fn trigger_in(content: &mut Content, image: &[u8], stamp: u32, taken: &mut TakenOut) -> Status
+fn trigger_in(content: &mut Content, memory: &[&[u8]], stamp: u32, taken: &mut TakenOut) -> Status
     ensures { TriggersHeldTask ⟦<SampleRing as HeldRing>⟧.rings ⟦<ByteRing as HeldRing>⟧.rings
-        (Some content.old) (Some content.new) image.now stamp taken.old taken.new result }
+        (Some content.old) (Some content.new) (parts memory.now) stamp taken.old taken.new result }
 {
     match content {
-        Content::Task(task) => trigger(task, image, stamp, taken),
-        Content::ByteTask(task) => trigger(task, image, stamp, taken),
+        Content::Task(task) => trigger(task, memory, stamp, taken),
+        Content::ByteTask(task) => trigger(task, memory, stamp, taken),
         _ => Status::Empty,
     }
 }
@@ -50,17 +50,17 @@ fn trigger_in(content: &mut Content, image: &[u8], stamp: u32, taken: &mut Taken
 pub fn trigger_task_by(
     alloc: Global,
     handle: &mut Handle,
-    image: &[u8],
+    memory: &[&[u8]],
     stamp: u32,
     taken: &mut TakenOut,
 ) -> Status
     ensures { TriggersHeldTask ⟦<SampleRing as HeldRing>⟧.rings ⟦<ByteRing as HeldRing>⟧.rings
-        handle.old.held handle.new.held image.now stamp taken.old taken.new result }
+        handle.old.held handle.new.held (parts memory.now) stamp taken.old taken.new result }
 {
     let Some(mut held) = handle.take(alloc) else {
         return Status::Empty;
     };
-    let status = trigger_in(held.as_mut(), image, stamp, taken);
+    let status = trigger_in(held.as_mut(), memory, stamp, taken);
     handle.put(alloc, held);
     status
 }

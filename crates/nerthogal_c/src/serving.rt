@@ -4,7 +4,7 @@ ghost use Rattle.std.specs.Prelude.{◌≡◌};
 ghost use Rattle.c_engine.specs.Statuses.{number_of};
 ghost use Rattle.c_engine.specs.declared.status.Status.{Status as StatusOf};
 ghost use Rattle.c_slave.specs.Bytes.{HangsUpSlave, HearsDatagrams, PeeksSlave, Receives};
-ghost use Rattle.c_slave.specs.Bytes.{SendsSlave, given_with};
+ghost use Rattle.c_slave.specs.Bytes.{SendsSlave, given_by};
 ghost use Rattle.c_slave.specs.Ends.{ClosesSlaveOf};
 ghost use Rattle.c_slave.specs.Openings.{OpensSlave};
 ghost use Rattle.c_slave.specs.States.{TellsState};
@@ -13,15 +13,15 @@ ghost use Rattle.c_slave.specs.Tasks.{GivesTask};
 use byte_ring::ByteRing;
 use c_engine::HeldRing;
 use c_slave::{
-    EventIn, Handle, MeasurementsOut, ProfileIn, StateOut, close_slave_by, datagram_by, give_task,
-    hang_up_by, open_slave, peek_by, receive_by, sent_by, state_by,
+    EventIn, Handle, MeasurementsOut, ProfileIn, SegmentIn, StateOut, close_slave_by, datagram_by,
+    give_task, hang_up_by, open_slave, peek_by, receive_by, sent_by, state_by,
 };
 use channel_ring::SampleRing;
 use daq_engine::ListReport;
 use std::alloc::Global;
 
-/// Opens a slave with the profile, the event channels and the A2L file that are asked for, in an
-/// empty handle. All are copied.
+/// Opens a slave with the profile, the segments of memory, the event channels and the A2L file that
+/// are asked for, in an empty handle. All are copied.
 ///
 /// Refused first if the handle isn't empty; then if the profile is out of a limit or for lack of
 /// memory, in either order.
@@ -29,15 +29,16 @@ use std::alloc::Global;
 pub extern "C" fn ng_slave_open(
     alloc: Global,
     profile: &ProfileIn,
+    segments: &[SegmentIn],
     events: &[EventIn],
     a2l: &[u8],
     slave: &mut Handle,
 ) -> u32
     ensures { (status : StatusOf) × (result ≡ number_of status)
         × OpensSlave ⟦<SampleRing as HeldRing>⟧.rings ⟦<ByteRing as HeldRing>⟧.rings
-        slave.old.held slave.new.held profile.now events.now a2l.now status }
+        slave.old.held slave.new.held profile.now segments.now events.now a2l.now status }
 {
-    open_slave(alloc, profile, events, a2l, slave).number()
+    open_slave(alloc, profile, segments, events, a2l, slave).number()
 }
 
 /// Hands the task of event channel `channel` out, into an empty handle.
@@ -58,8 +59,8 @@ pub extern "C" fn ng_slave_task(
 }
 
 /// Takes bytes of a master's stream, and answers each packet; how many it took is told. What reads
-/// memory without a DAQ list reads it off `memory`, the image as it is now; with another length it
-/// isn't there.
+/// memory without a DAQ list reads it off `memory`, a slice for each segment as it is now, in their
+/// order; one that is left out, or that has another length than its segment, isn't there.
 ///
 /// Refused in this order: no slave, a frame whose LEN is 0 or over 64, in these bytes or earlier.
 #[unsafe(no_mangle)]
@@ -68,12 +69,12 @@ pub extern "C" fn ng_slave_receive(
     slave: &mut Handle,
     bytes: &[u8],
     clock: u32,
-    memory: &[u8],
+    memory: &[&[u8]],
     taken: &mut usize,
 ) -> u32
     ensures { (status : StatusOf) × (result ≡ number_of status)
         × Receives ⟦<SampleRing as HeldRing>⟧.rings ⟦<ByteRing as HeldRing>⟧.rings
-        slave.old.held slave.new.held bytes.now (given_with clock memory.now)
+        slave.old.held slave.new.held bytes.now (given_by clock memory.now)
         taken.old taken.new status }
 {
     receive_by(alloc, slave, bytes, clock, memory, taken).number()
@@ -89,12 +90,12 @@ pub extern "C" fn ng_slave_datagram(
     slave: &mut Handle,
     bytes: &[u8],
     clock: u32,
-    memory: &[u8],
+    memory: &[&[u8]],
     taken: &mut usize,
 ) -> u32
     ensures { (status : StatusOf) × (result ≡ number_of status)
         × HearsDatagrams ⟦<SampleRing as HeldRing>⟧.rings ⟦<ByteRing as HeldRing>⟧.rings
-        slave.old.held slave.new.held bytes.now (given_with clock memory.now)
+        slave.old.held slave.new.held bytes.now (given_by clock memory.now)
         taken.old taken.new status }
 {
     datagram_by(alloc, slave, bytes, clock, memory, taken).number()

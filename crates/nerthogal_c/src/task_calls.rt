@@ -3,7 +3,7 @@
 ghost use Rattle.std.specs.Prelude.{◌≡◌};
 ghost use Rattle.c_engine.specs.Statuses.{number_of};
 ghost use Rattle.c_engine.specs.declared.status.Status.{Status as StatusOf};
-ghost use Rattle.c_slave.specs.Tasks.{FinishesHeld, TriggersHeldTask};
+ghost use Rattle.c_slave.specs.Tasks.{FinishesHeld, TriggersHeldTask, parts};
 
 use byte_ring::ByteRing;
 use c_engine::{HeldRing, TakenOut};
@@ -11,24 +11,26 @@ use c_slave::{Handle, finish_task_by, status_of_finish, trigger_task_by};
 use channel_ring::SampleRing;
 use std::alloc::Global;
 
-/// Does all that the slave ordered, and then takes a trigger of the task's event channel, with the
-/// memory image and a timestamp in ticks. While there is no measurement nothing is due.
+/// Does all that the slave ordered, and then takes a trigger of the task's event channel, with a
+/// slice for each segment of memory, in their order, and a timestamp in ticks. While there is no
+/// measurement nothing is due.
 ///
-/// Refused in this order: no task; in a measurement, an image of another length, `MAX_TRIGGERS`
-/// triggers taken. What the slave ordered is done then too.
+/// Refused in this order: no task; in a measurement, not a slice for each segment, or one that the
+/// event channel may read and that has another length, `MAX_TRIGGERS` triggers taken. What the
+/// slave ordered is done then too.
 #[unsafe(no_mangle)]
 pub extern "C" fn ng_task_trigger(
     alloc: Global,
     task: &mut Handle,
-    image: &[u8],
+    memory: &[&[u8]],
     stamp: u32,
     taken: &mut TakenOut,
 ) -> u32
     ensures { (status : StatusOf) × (result ≡ number_of status)
         × TriggersHeldTask ⟦<SampleRing as HeldRing>⟧.rings ⟦<ByteRing as HeldRing>⟧.rings
-        task.old.held task.new.held image.now stamp taken.old taken.new status }
+        task.old.held task.new.held (parts memory.now) stamp taken.old taken.new status }
 {
-    trigger_task_by(alloc, task, image, stamp, taken).number()
+    trigger_task_by(alloc, task, memory, stamp, taken).number()
 }
 
 /// Finishes a task, and gives what is left of it back to its slave. The handle is empty then.
