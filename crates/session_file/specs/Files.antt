@@ -21,6 +21,7 @@ pub record IsProfileOf (v : KeyValues) (p : Profile) : Type 0 where
   pub stamp_is : p.stamp_size ≡ stamp_bytes v.stamp
   pub unit_is : p.unit ≡ v.unit
   pub ticks_are : p.ticks ≡ v.ticks
+  pub max_cto_is : p.max_cto ≡ v.max_cto
   pub ring_is : p.ring ≡ v.ring
   pub name_is : p.name.items ≡ v.name
   pub a2l_name_is : p.a2l_name.items ≡ v.a2l_name

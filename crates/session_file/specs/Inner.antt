@@ -33,6 +33,7 @@ values_data v = record {
   ring = v.ring;
   unit = v.unit;
   ticks = v.ticks;
+  max_cto = v.max_cto;
   name = v.name.now;
   a2l_name = v.a2l_name.now;
   epk = v.epk.now;

@@ -5,17 +5,17 @@ use Rattle.toml.specs.Data.{Data, Items, no_items, item, Members, no_members, me
 use Rattle.toml.specs.Data.{as_array, as_str}
 use Rattle.xcp_base.specs.declared.id_kind.IdKind.{IdKind}
 use Rattle.xcp_base.specs.declared.stamp_size.StampSize.{StampSize}
-use Rattle.xcp_base.specs.declared.limits.TheConstants.{MAX_UNIT}
+use Rattle.xcp_base.specs.declared.limits.TheConstants.{MAX_CTO, MAX_UNIT, MIN_CTO}
 use Rattle.run_file.specs.Keys.{at_key, id_of, image_len_of, is_among, number_in, ring_of, stamp_of}
 use Rattle.run_file.specs.Keys.{texts_at}
 use Rattle.xcp_base.specs.declared.ring_kind.RingKind.{RingKind}
-use Rattle.session_file.specs.declared.limits.TheConstants.{MAX_LINES}
+use Rattle.session_file.specs.declared.limits.TheConstants.{MAX_LINES, USUAL_CTO}
 
 -- the keys of a session file, and of an event channel
 abbrev pub keys : List (List ℕ)
 keys =
     codes "image_len" ∷ codes "id" ∷ codes "stamp_size" ∷ codes "ring" ∷ codes "unit"
-    ∷ codes "ticks" ∷ codes "base" ∷ codes "name" ∷ codes "a2l_name" ∷ codes "epk" ∷ codes "a2l"
+    ∷ codes "ticks" ∷ codes "max_cto" ∷ codes "base" ∷ codes "name" ∷ codes "a2l_name" ∷ codes "epk" ∷ codes "a2l"
     ∷ codes "segments" ∷ codes "events" ∷ codes "script" ∷ []
 
 abbrev pub event_keys : List (List ℕ)
@@ -43,6 +43,14 @@ number_or most (Some d) = number_in 0 most d
 
 abbrev pub number_or_0 : ℕ → List ℕ → Members → Option ℕ
 number_or_0 most key ms = number_or most (get_member key ms)
+
+-- MAX_CTO of a value; 64 if there is none
+abbrev pub cto_or : Option Data → Option ℕ
+cto_or None = Some USUAL_CTO
+cto_or (Some d) = number_in MIN_CTO MAX_CTO d
+
+abbrev pub max_cto_of : Members → Option ℕ
+max_cto_of ms = cto_or (get_member (codes "max_cto") ms)
 
 -- the string of a value; the empty one if there is none
 abbrev pub text_or : Option Data → Option (List ℕ)
@@ -86,6 +94,7 @@ pub record KeyValues : Type 0 where
   pub ring : RingKind
   pub unit : ℕ
   pub ticks : ℕ
+  pub max_cto : ℕ
   pub name : List ℕ
   pub a2l_name : List ℕ
   pub epk : List ℕ
@@ -102,6 +111,7 @@ pub record AreKeyValues (ms : Members) (v : KeyValues) : Type 0 where
   pub ring_is : ring_of ms ≡ Some v.ring
   pub unit_is : at_key (number_in 0 MAX_UNIT) (codes "unit") ms ≡ Some v.unit
   pub ticks_are : at_key (number_in 1 65535) (codes "ticks") ms ≡ Some v.ticks
+  pub max_cto_is : max_cto_of ms ≡ Some v.max_cto
   pub name_is : text_or_empty (codes "name") ms ≡ Some v.name
   pub a2l_name_is : text_or_empty (codes "a2l_name") ms ≡ Some v.a2l_name
   pub epk_is : text_or_empty (codes "epk") ms ≡ Some v.epk

@@ -1,11 +1,11 @@
 -- The segments of a session file.
-use Rattle.std.specs.Prelude.{ℕ, suc, ◌^◌, bit_or, nat_lt, if◌then◌else◌, List, [], ◌∷◌, codes}
+use Rattle.std.specs.Prelude.{ℕ, suc, ◌^◌, bit_or, if◌then◌else◌, List, [], ◌∷◌, codes}
 use Rattle.std.specs.Prelude.{Option, Some, None, option_and_then, option_map}
 use Rattle.toml.specs.Data.{Data, Items, no_items, item, Members, as_array, as_table}
 use Rattle.segments.specs.Segment.{all_readers}
 use Rattle.segments.specs.declared.segment.Segment.{Segment}
 use Rattle.run_file.specs.Keys.{all_of, at_key, number_in}
-use Rattle.session_file.specs.declared.limits.TheConstants.{MAX_INTEGER, NO_CHANNEL}
+use Rattle.session_file.specs.declared.limits.TheConstants.{LAST_CHANNEL, MAX_INTEGER}
 use Rattle.session_file.specs.Keys.{MemoryData, first_none, has_key, image, number_or_0, only_keys}
 use Rattle.session_file.specs.Keys.{segments as items_of}
 
@@ -18,18 +18,13 @@ count_of (item d ds) = suc (count_of ds)
 abbrev pub segment_keys : List (List ℕ)
 segment_keys = codes "extension" ∷ codes "base" ∷ codes "len" ∷ codes "events" ∷ []
 
--- the set of one event channel. No slave has one from 15 on, so these are one: the profile is out
--- of a limit where a segment names it
-abbrev pub reader : ℕ → ℕ
-reader c = if nat_lt c NO_CHANNEL then 2 ^ c else 0x8000
-
 -- a set with these event channels
 abbrev pub with_readers : ℕ → List ℕ → ℕ
 with_readers set [] = set
-with_readers set (c ∷ cs) = with_readers (bit_or set (reader c)) cs
+with_readers set (c ∷ cs) = with_readers (bit_or set (2 ^ c)) cs
 
 abbrev pub readers_in : Items → Option ℕ
-readers_in ds = option_map (with_readers 0) (all_of (number_in 0 255) ds)
+readers_in ds = option_map (with_readers 0) (all_of (number_in 0 LAST_CHANNEL) ds)
 
 -- the set of the event channels that `events` lists; of all, if the key is absent
 abbrev pub readers_of : ℕ → Members → Option ℕ

@@ -24,6 +24,7 @@ pub enum BadKey {
     Ring,
     Unit,
     Ticks,
+    MaxCto,
     Name,
     A2lName,
     Epk,
@@ -58,6 +59,9 @@ impl BadKey {
         };
         let Some(_) = number_at(table, "ticks", 1, u16::MAX as usize) else {
             return Some(BadKey::Ticks);
+        };
+        let Some(_) = max_cto_of(table) else {
+            return Some(BadKey::MaxCto);
         };
         let Some(_) = text_or_empty(table, "name") else {
             return Some(BadKey::Name);

@@ -95,6 +95,7 @@ fn profile_of(
         stamp_size: values.stamp.bytes(),
         unit: values.unit,
         ticks: values.ticks,
+        max_cto: values.max_cto,
         ring: values.ring,
         name: bytes_in(alloc, values.name)?,
         events,

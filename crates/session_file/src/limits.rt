@@ -7,6 +7,8 @@ pub const MAX_LINES: usize = 1_000_000;
 /// TOML document. Whether a ring or a segment may have it is a limit of the profile.
 pub const MAX_INTEGER: usize = 0x7FFF_FFFF_FFFF_FFFF;
 
-/// The event channels from here on, which no slave has, are one in the set of those that may read a
-/// segment.
-pub const NO_CHANNEL: usize = 15;
+/// MAX_CTO where a session file doesn't say it.
+pub const USUAL_CTO: usize = 64;
+
+/// The last event channel that may read a segment. Whether a slave has it is a limit of the profile.
+pub const LAST_CHANNEL: usize = 15;

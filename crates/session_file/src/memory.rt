@@ -1,16 +1,16 @@
 //! Reads the segments of a session file.
-ghost use Rattle.std.specs.Prelude.{◌≡◌, ◌⊎◌, ◌∷◌, [], ℕ, IfErr, IfOk, Some};
+ghost use Rattle.std.specs.Prelude.{◌≡◌, ◌≤◌, ◌⊎◌, ◌^◌, ◌∷◌, [], ℕ, IfErr, IfOk, Some};
 ghost use Rattle.toml.specs.View.{items_view, table_view, view};
 ghost use Rattle.run_file.specs.Keys.{all_of};
 ghost use Rattle.session_file.specs.declared.file_fault.FileFault.TheVariants.{BadSegment, Memory};
 ghost use Rattle.session_file.specs.Inner.{memory_data};
 ghost use Rattle.session_file.specs.Keys.{first_none};
-ghost use Rattle.session_file.specs.Memory.{bad_segment, image_segment, reader, readers_in};
+ghost use Rattle.session_file.specs.Memory.{bad_segment, image_segment, readers_in};
 ghost use Rattle.session_file.specs.Memory.{readers_of, segment_in, segment_of, segments_of};
 
 use crate::file_fault::FileFault;
 use crate::keys::{has_key, has_segment_keys, number_or_0};
-use crate::limits::{MAX_INTEGER, NO_CHANNEL};
+use crate::limits::{LAST_CHANNEL, MAX_INTEGER};
 use crate::memory_keys::MemoryKeys;
 use run_file::{array_at, number_at, number_in};
 use segments::{Segment, all_readers};
@@ -132,7 +132,7 @@ fn readers_in(values: &[Value]) -> Option<u16>
 {
     let mut readers = 0;
     for value in values {
-        let Some(channel) = number_in(value, 0, 255) else {
+        let Some(channel) = number_in(value, 0, LAST_CHANNEL) else {
             return None;
         };
         readers |= reader(channel);
@@ -142,10 +142,8 @@ fn readers_in(values: &[Value]) -> Option<u16>
 
 /// The set of one event channel.
 fn reader(channel: usize) -> u16
-    ensures { result ≡ reader channel }
+    requires { channel ≤ LAST_CHANNEL }
+    ensures { result ≡ 2 ^ channel }
 {
-    if channel >= NO_CHANNEL {
-        return 0x8000;
-    }
     (1_u32 << channel) as u16
 }

@@ -7,7 +7,7 @@ ghost use Rattle.session_file.specs.Inner.{values_data};
 ghost use Rattle.session_file.specs.Memory.{count_of};
 
 use crate::file_fault::FileFault;
-use crate::keys::{has_file_keys, text_or_empty};
+use crate::keys::{has_file_keys, max_cto_of, text_or_empty};
 use crate::limits::MAX_LINES;
 use crate::memory_keys::{MemoryKeys, memory_of};
 use run_file::{array_at, id_of, number_at, ring_of, stamp_of, texts_at};
@@ -25,6 +25,7 @@ pub struct Values<'a> {
     pub(crate) ring: RingKind,
     pub(crate) unit: u8,
     pub(crate) ticks: u16,
+    pub(crate) max_cto: u8,
     pub(crate) name: &'a str,
     pub(crate) a2l_name: &'a str,
     pub(crate) epk: &'a str,
@@ -59,6 +60,9 @@ pub fn values_of(table: &Table) -> Result<Values<'_>, FileFault>
     let Some(ticks) = number_at(table, "ticks", 1, u16::MAX as usize) else {
         return Err(FileFault::BadKey);
     };
+    let Some(max_cto) = max_cto_of(table) else {
+        return Err(FileFault::BadKey);
+    };
     let Some(name) = text_or_empty(table, "name") else {
         return Err(FileFault::BadKey);
     };
@@ -84,6 +88,7 @@ pub fn values_of(table: &Table) -> Result<Values<'_>, FileFault>
         ring,
         unit: unit as u8,
         ticks: ticks as u16,
+        max_cto: max_cto as u8,
         name,
         a2l_name,
         epk,

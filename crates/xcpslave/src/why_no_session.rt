@@ -6,13 +6,14 @@ use std::alloc::{AllocError, Global};
 use toml::Table;
 
 /// The keys of a session file.
-const KEYS: [&str; 14] = [
+const KEYS: [&str; 15] = [
     "image_len",
     "id",
     "stamp_size",
     "ring",
     "unit",
     "ticks",
+    "max_cto",
     "base",
     "name",
     "a2l_name",
@@ -26,7 +27,7 @@ const KEYS: [&str; 14] = [
 /// What an item of `segments` should be.
 const SEGMENT: &str = "expected: a table with len, an integer of 0 or more, and at will extension, \
 an integer from 0 to 255, base, an integer from 0 to 4294967295, and events, an array of integers \
-from 0 to 255\n";
+from 0 to 15\n";
 
 /// What an item of `events` should be.
 const EVENT: &str = "expected: a table with capacity, an integer of 0 or more, and at will name, \
