@@ -134,7 +134,7 @@ static void measure_set(const set *set, int out) {
     static const ng_event event = {.capacity = PLACES};
     static const ng_segment segment = {.len = SEGMENT_BYTES, .events = 1};
     static const ng_profile profile = {.id = NG_ABSOLUTE, .ring = NG_RING_ITEMS, .ticks = 1, .unit = 3,
-                                       .stamp_size = 4};
+                                       .stamp_size = 4, .max_cto = 64};
     ng_slave slave = NG_SLAVE_INIT;
     ng_task task = NG_TASK_INIT;
     cost sent = {1e9, 1e9}, kept = {1e9, 1e9};

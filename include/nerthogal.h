@@ -102,7 +102,8 @@
 extern "C" {
 #endif
 
-#define NG_MAX_CHANNELS 8u      /* event channels: 1 to 8 */
+#define NG_MAX_CHANNELS 8u      /* event channels of a store: 1 to 8 */
+#define NG_MAX_EVENTS 16u       /* event channels of a slave: 1 to 16 */
 #define NG_MAX_SEGMENTS 16u     /* segments of a slave's memory: 1 to 16 */
 #define NG_MAX_IMAGE 4096u      /* bytes of a store's memory image: 1 to 4096 */
 #define NG_MAX_RING 1024u       /* places of an event channel's ring of items: 1 to 1024 */
@@ -137,7 +138,7 @@ enum {
     NG_UNFINISHED = 15,     /* a sampler of the engine, or a task of the slave, wasn't finished */
     NG_NO_ENGINE = 16,      /* the sampler's engine was freed */
     NG_NO_TASK = 17,        /* the task of the event channel was handed out before */
-    NG_BAD_FRAME = 18,      /* a frame of the stream has LEN 0 or over 64 */
+    NG_BAD_FRAME = 18,      /* a frame of the stream has LEN 0 or over MAX_CTO */
     NG_WRONG_MEMORY = 19    /* a segment that the event channel may read isn't there */
 };
 
@@ -224,6 +225,7 @@ typedef struct {
     uint16_t ticks;             /* so many units are one tick of a timestamp: not 0 */
     uint8_t unit;               /* of a timestamp: 0 to 9, for 1 ns, 10 ns, .. 1 s */
     uint8_t stamp_size;         /* bytes of a timestamp: 1, 2 or 4 */
+    uint8_t max_cto;            /* MAX_CTO, of commands and replies: 8 to 255 bytes */
     char name[NG_MAX_NAME + 1]; /* as that of an event channel */
     char a2l_name[NG_MAX_NAME + 1]; /* of its A2L file, without path and extension; the same */
     char epk[NG_MAX_NAME + 1];  /* which program it is; the same */
@@ -527,11 +529,12 @@ ng_status ng_sampler_free(ng_sampler *sampler);
  * and nothing waits. Its CTR begins at 0.
  *
  *   NG_IN_USE      *slave isn't empty
- *   NG_BAD_LIMITS  channels is 0 or over NG_MAX_CHANNELS, or count 0 or over NG_MAX_SEGMENTS; or
+ *   NG_BAD_LIMITS  channels is 0 or over NG_MAX_EVENTS, or count 0 or over NG_MAX_SEGMENTS; or
  *                  one of these is out of its limits: of the profile id, ring, ticks, unit,
- *                  stamp_size, name, a2l_name or epk; of an event channel capacity, for this kind
- *                  of rings, name or cycle_unit; of a segment len, base with len, its place behind
- *                  the one before it, or events, where one isn't there; a2l_len is 2^32 or more.
+ *                  stamp_size, max_cto, name (over max_cto - 8 bytes too), a2l_name or epk; of an
+ *                  event channel capacity, for this kind of rings, name or cycle_unit; of a segment
+ *                  len, base with len, its place behind the one before it, or events, where one
+ *                  isn't there; a2l_len is 2^32 or more.
  *                  cycle, priority and extension have any value
  *   NG_MEMORY      malloc failed
  *   NG_OK          *slave holds the new slave
@@ -565,7 +568,7 @@ ng_status ng_slave_task(ng_slave *slave, uint16_t channel, ng_task *task);
  *
  *   NG_EMPTY      *slave is empty
  *   NG_SPENT      the slave is spent; nothing changes
- *   NG_BAD_FRAME  a frame has LEN 0 or over 64, in these bytes or in earlier ones of this stream.
+ *   NG_BAD_FRAME  a frame has LEN 0 or over MAX_CTO, in these or in earlier bytes of this stream.
  *                 The packets before it were answered, and then all lists stopped and no master
  *                 is connected, as after DISCONNECT. What waits is still to be sent. No byte is
  *                 taken any more until ng_slave_hang_up
@@ -581,7 +584,7 @@ ng_status ng_slave_receive(ng_slave *slave, const uint8_t *bytes, size_t len, ui
                            const ng_memory *memory, size_t count, size_t *taken);
 
 /* The same of one datagram, as UDP has it, which holds whole frames. A part of a frame at the end,
- * or a frame with LEN 0 or over 64, drops what is left of the datagram, and nothing else. *taken is
+ * or a frame with LEN 0 or over MAX_CTO, drops what is left of the datagram, no more. *taken is
  * len, with what was dropped; or less, where no reply finds room behind a frame. Then the first
  * *taken bytes were heard, and the others are this datagram's: pass them, from bytes + *taken on,
  * to this call once replies were sent, before any later datagram. NG_EMPTY if *slave is empty,

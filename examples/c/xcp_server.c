@@ -411,7 +411,7 @@ static int listen_on(int kind, unsigned port, bool any, unsigned *is) {
 
 static bool open_slave(struct server *s, struct task *tasks) {
     static const ng_profile profile = {
-        .id = NG_ABSOLUTE, .ring = NG_RING_ITEMS, .ticks = 1, .unit = 3, .stamp_size = 4,
+        .id = NG_ABSOLUTE, .ring = NG_RING_ITEMS, .ticks = 1, .unit = 3, .stamp_size = 4, .max_cto = 64,
         .name = "xcp_server", .a2l_name = "xcp_server"};
     static const ng_segment image = {.base = BASE, .len = IMAGE_BYTES, .events = 3};
     static const ng_event events[2] = {

@@ -200,7 +200,8 @@ static void lose(ng_slave *slave) {
 
 /* Opens a slave of two event channels, and of a segment of four bytes. Nothing was sent so far. */
 static void open_with(ng_ring ring, size_t cap, size_t other, ng_slave *slave) {
-    ng_profile profile = {.id = NG_ABSOLUTE, .ticks = 1, .unit = 3, .stamp_size = 4, .name = ""};
+    ng_profile profile = {
+        .id = NG_ABSOLUTE, .ticks = 1, .unit = 3, .stamp_size = 4, .max_cto = 64, .name = ""};
     ng_segment segment = {.len = 4, .events = 3};
     ng_event events[2] = {{.name = "e0"}, {.name = "e1"}};
     profile.ring = ring;

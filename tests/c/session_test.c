@@ -46,7 +46,8 @@ static size_t unhex(const char *text, uint8_t *bytes) {
 
 /* An identification field of one byte, and timestamps of four bytes in microseconds. */
 static ng_profile profile_of(void) {
-    ng_profile profile = {.id = NG_ABSOLUTE, .ticks = 1, .unit = 3, .stamp_size = 4, .name = "ng"};
+    ng_profile profile = {
+        .id = NG_ABSOLUTE, .ticks = 1, .unit = 3, .stamp_size = 4, .max_cto = 64, .name = "ng"};
     profile.ring = ring;
     return profile;
 }
@@ -226,18 +227,21 @@ static void spoil(unsigned k, ng_profile *p, ng_event *e, ng_segment *s) {
     case 24: s[1].base = 0; break;        /* all are */
     case 25: s[0].extension = 1; break;   /* the other order */
     case 26: s[0].events = 4; break;      /* event channel 2 */
+    case 27: p->max_cto = 7; break;
+    case 28: p->max_cto = 0; break;
+    case 29: p->max_cto = 9; break;       /* the reply with the name has 10 bytes */
     default: s[1].events = 0x8001; break; /* event channel 15 */
     }
 }
 
 static void openings(void) {
     ng_profile good = profile_of();
-    ng_event events[9] = {event_of("e0")};
+    ng_event events[17] = {event_of("e0")};
     ng_segment segments[17];
     ng_slave slave = NG_SLAVE_INIT;
     begin("openings");
-    for (size_t c = 1; c < 9; c++) events[c] = event_of("e1");
-    for (unsigned k = 0; k < 28; k++) {
+    for (size_t c = 1; c < 17; c++) events[c] = event_of("e1");
+    for (unsigned k = 0; k < 31; k++) {
         ng_profile p = good;
         ng_event e = event_of("e0");
         ng_segment s[2] = {segment_of(2, 2), segment_of(2, 1)};
@@ -254,14 +258,14 @@ static void openings(void) {
         segments[i].base = (uint32_t)(i % 2 * 2);
     }
     want(ng_slave_open(&good, segments, 1, events, 0, NO_A2L, &slave) == NG_BAD_LIMITS, "no event channel");
-    want(ng_slave_open(&good, segments, 1, events, 9, NO_A2L, &slave) == NG_BAD_LIMITS, "nine");
+    want(ng_slave_open(&good, segments, 1, events, 17, NO_A2L, &slave) == NG_BAD_LIMITS, "too many");
     want(ng_slave_open(&good, segments, 0, events, 8, NO_A2L, &slave) == NG_BAD_LIMITS, "no segment");
     want(ng_slave_open(&good, segments, 17, events, 8, NO_A2L, &slave) == NG_BAD_LIMITS, "seventeen");
     memset(good.name, 'n', NG_MAX_NAME);
     memset(good.a2l_name, 'a', NG_MAX_NAME);
     memset(good.epk, 'e', NG_MAX_NAME);
-    want(ng_slave_open(&good, segments, 16, events, 8, NO_A2L, &slave) == NG_OK, "eight and sixteen");
-    want(ng_slave_open(&good, segments, 17, events, 9, NO_A2L, &slave) == NG_IN_USE, "it is in use");
+    want(ng_slave_open(&good, segments, 16, events, 16, NO_A2L, &slave) == NG_OK, "sixteen of each");
+    want(ng_slave_open(&good, segments, 17, events, 17, NO_A2L, &slave) == NG_IN_USE, "it is in use");
     close_with(&slave, NULL, 0);
     end();
 }

@@ -147,7 +147,8 @@ static void turn(ng_slave *slave, unsigned list) {
 }
 
 static void open_slave(ng_ring ring, size_t cap, ng_slave *slave, struct sampling *samplings) {
-    ng_profile profile = {.id = NG_ABSOLUTE, .ticks = 1, .unit = 3, .stamp_size = 4, .name = "ng"};
+    ng_profile profile = {
+        .id = NG_ABSOLUTE, .ticks = 1, .unit = 3, .stamp_size = 4, .max_cto = 64, .name = "ng"};
     ng_segment segments[CHANNELS] = {{.len = 4, .events = 1}, {.base = 4, .len = 4, .events = 2}};
     ng_event events[CHANNELS] = {{.name = "e0"}, {.name = "e1"}};
     profile.ring = ring;

@@ -58,6 +58,7 @@ pub record IsProfileOf (p : ProfileIn) (segments : List SegmentIn) (events : Lis
   pub stamp_size : d.stamp_size ≡ p.stamp_size
   pub unit : d.unit ≡ p.unit
   pub ticks : d.ticks ≡ p.ticks
+  pub max_cto : d.max_cto ≡ p.max_cto
   pub rings : ring_of p.ring ≡ Some d.ring
   pub name : d.name.items ≡ text_of p.name
   pub channels : map told_of d.events.items ≡ map told_in events

@@ -46,6 +46,8 @@ pub struct ProfileIn {
     pub unit: u8,
     /// The length of a timestamp, in bytes.
     pub stamp_size: u8,
+    /// MAX_CTO.
+    pub max_cto: u8,
     /// The name of the slave, up to the first zero byte.
     pub name: [u8; NAME_PLACES],
     /// The name of its A2L file, up to the first zero byte.

@@ -131,6 +131,7 @@ fn profile_of(
         stamp_size: asked.stamp_size,
         unit: asked.unit,
         ticks: asked.ticks,
+        max_cto: asked.max_cto,
         ring,
         name,
         events,

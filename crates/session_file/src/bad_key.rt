@@ -3,7 +3,7 @@ ghost use Rattle.std.specs.Prelude.{IfSome};
 ghost use Rattle.toml.specs.View.{table_view};
 ghost use Rattle.session_file.specs.Keys.{HasBadKey};
 
-use crate::keys::{has_file_keys, has_key, text_or_empty};
+use crate::keys::{has_file_keys, has_key, max_cto_of, text_or_empty};
 use crate::limits::MAX_LINES;
 use crate::memory_keys::memory_of;
 use run_file::{array_at, id_of, number_at, ring_of, stamp_of, texts_at};
