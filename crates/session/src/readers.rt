@@ -1,5 +1,5 @@
 //! What a session shows of its DAQ lists.
-ghost use Rattle.std.specs.Prelude.{◌≡◌, ℕ, ◌<◌};
+ghost use Rattle.std.specs.Prelude.{◌≡◌, ℕ, ◌<◌, ◌≤◌};
 ghost use Rattle.xcp_base.specs.Lists.{has_list};
 ghost use Rattle.session.specs.Past.{Past};
 ghost use Rattle.session.specs.Profiles.{lists_of};
@@ -15,7 +15,8 @@ use xcp_base::{ChannelId, ListSet};
 impl Session {
     /// MAX_CTO, as the profile says.
     pub fn max_cto(&self) -> u8
-        ensures { result ≡ self.now.profile.max_cto }
+        ensures value { result ≡ self.now.profile.max_cto }
+        ensures least { 8 ≤ result }
     {
         self.profile.max_cto
     }

@@ -102,6 +102,8 @@ impl Session {
         ensures profile_stays { self.new.profile ≡ self.old.profile }
         ensures fits { IfSome result (λ reply. length reply ≤ self.old.profile.max_cto) }
     {
+        // for the proof: a reply of eight bytes fits
+        self.max_cto();
         match self.carry_packet(packet, clock, memory) {
             Ok(reply) => reply,
             Err(NoMemory) => Some(Cto::error(ErrCode::MemoryOverflow)),
@@ -186,6 +188,8 @@ impl Session {
         ensures profile_stays { self.new.profile ≡ self.old.profile }
         ensures fits { IfOk result (λ reply. length reply ≤ self.old.profile.max_cto) }
     {
+        // for the proof: a reply of eight bytes fits
+        self.max_cto();
         match asked {
             Request::Connect { mode } => Ok(self.connect_again(mode)),
             Request::Disconnect => Ok(self.disconnect()),
@@ -246,7 +250,7 @@ impl Session {
         ensures no_memory { OnErr result (MayRunOut self.old (Request.Lists command)) }
         ensures unchanged { OnErr result (self.new ≡ self.old) }
         ensures profile_stays { self.new.profile ≡ self.old.profile }
-        ensures few { IfOk result (λ reply. length reply ≤ 8) }
+        ensures fits { IfOk result (λ reply. length reply ≤ self.old.profile.max_cto) }
     {
         let reply = command::carry_out(&mut self.store, command)?;
         Ok(Cto::of_store(reply))

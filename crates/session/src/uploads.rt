@@ -26,6 +26,8 @@ impl Session {
         ensures profile_stays { self.new.profile ≡ self.old.profile }
         ensures fits { length result ≤ self.old.profile.max_cto }
     {
+        // for the proof: a reply of eight bytes fits
+        self.max_cto();
         match kind {
             0 => self.name_reply(),
             1 => self.named(TextOf::A2lName),

@@ -16,6 +16,7 @@ use Rattle.frame_writer.proofs.ReadingLemmas.{leads_then}
 use Rattle.slave.specs.Hearing.{GoesBy, Hears, may_hear}
 use Rattle.slave.specs.Log.{Act}
 use Rattle.slave.specs.Standing.{SlaveStandsAfter, SlaveState}
+use Rattle.slave.specs.declared.limits.TheConstants.{PER_PACKET}
 use Rattle.slave.specs.Receiving.{AreHeard, BreaksOff, HearsAll, HearsDatagram, Receives}
 
 -- packets that were heard, and others behind them
@@ -88,7 +89,7 @@ module _ {S T F : Type 0} (take : TakeGhosts T F) where
   hears-none : (a : SlaveState S T) (given : Given) → HearsAll take a a given []
   hears-none a given = record { acts = []; are = refl; goes = (refl, λ log stands. stands); counted = omega arith; next = refl; shown = refl; profile = refl }
 
-  hears-one : (a b : SlaveState S T) (given : Given) (packet : List ℕ) → Hears take a b packet given → b.acts ≡ a.acts + 64 → b.next ≡ a.next → b.outbox.shown ≡ a.outbox.shown → b.session.profile ≡ a.session.profile → HearsAll take a b given (packet ∷ [])
+  hears-one : (a b : SlaveState S T) (given : Given) (packet : List ℕ) → Hears take a b packet given → b.acts ≡ a.acts + PER_PACKET → b.next ≡ a.next → b.outbox.shown ≡ a.outbox.shown → b.session.profile ≡ a.session.profile → HearsAll take a b given (packet ∷ [])
   hears-one a b given packet hears counts next shown profile = record {
     acts = hears.act ∷ hears.opening;
     are = ([], hears.act, hears.opening, refl, hears.is, hears.may_open, refl);
@@ -128,7 +129,7 @@ module _ {S T F : Type 0} (take : TakeGhosts T F) where
   no-packet r s a given bytes leads = record { packets = []; leads = leads; hears = hears-none a given }
 
   -- bytes that end a frame, whose packet is heard
-  pub one-packet : (r s : ReaderState) (a b : SlaveState S T) (given : Given) (bytes packet : List ℕ) → Leads r s bytes (packet ∷ []) → Hears take a b packet given → b.acts ≡ a.acts + 64 → b.next ≡ a.next → b.outbox.shown ≡ a.outbox.shown → b.session.profile ≡ a.session.profile
+  pub one-packet : (r s : ReaderState) (a b : SlaveState S T) (given : Given) (bytes packet : List ℕ) → Leads r s bytes (packet ∷ []) → Hears take a b packet given → b.acts ≡ a.acts + PER_PACKET → b.next ≡ a.next → b.outbox.shown ≡ a.outbox.shown → b.session.profile ≡ a.session.profile
       → Receives take r s a b given bytes
   one-packet r s a b given bytes packet leads hears counts next shown profile = record { packets = packet ∷ []; leads = leads; hears = hears-one a b given packet hears counts next shown profile }
 

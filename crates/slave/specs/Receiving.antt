@@ -8,6 +8,7 @@ use Rattle.frame_writer.specs.Pieces.{EndsSplit, SplitsInto}
 use Rattle.slave.specs.Hearing.{GoesBy, IsHearing, MayOpen, most_before}
 use Rattle.slave.specs.Log.{Act, losing}
 use Rattle.slave.specs.Standing.{SlaveState}
+use Rattle.slave.specs.declared.limits.TheConstants.{PER_PACKET}
 
 -- packets, the oldest first, were heard with this clock and memory by these acts, the newest first,
 -- and by no others: each was answered, or refused, and before that a measurement may have been
@@ -19,14 +20,14 @@ AreHeard given (packet ∷ packets) acts =
     × IsHearing packet given act × MayOpen most_before opening × AreHeard given packets later
 
 module _ {S T F : Type 0} (take : TakeGhosts T F) where
-  -- the packets were heard with this clock and memory, in order, each of which counts as 64;
+  -- the packets were heard with this clock and memory, in order, each of which counts as 128;
   -- nothing else that a log tells of; and what the last peek showed is shown still
   pub record HearsAll (a b : SlaveState S T) (given : Given) (packets : List (List ℕ))
       : Type 0 where
     pub acts : List Act
     pub are : AreHeard given packets acts
     pub goes : GoesBy take a b acts
-    pub counted : b.acts ≡ a.acts + 64 * length packets
+    pub counted : b.acts ≡ a.acts + PER_PACKET * length packets
     pub next : b.next ≡ a.next
     pub shown : b.outbox.shown ≡ a.outbox.shown
     pub profile : b.session.profile ≡ a.session.profile

@@ -1,4 +1,5 @@
 use Rattle.std.proofs.Common.{◌≡◌, ◌≤◌, length, map, take}
+use Rattle.xcp_base.specs.declared.limits.TheConstants.{MAX_ENTRIES}
 use Rattle.session.specs.Replies.{most_of}
 use Rattle.session.proofs.looks.most_entries.Given as goal
 
@@ -6,5 +7,5 @@ use Rattle.session.proofs.looks.most_entries.Given as goal
 abbrev pub invariant-loop-odt : goal.invariant-loop-odt
 invariant-loop-odt l = record {
   is : l.most ≡ most_of (map length (take l.odt l.conf.odts));
-  few : l.most ≤ 32;
+  few : l.most ≤ MAX_ENTRIES;
 }

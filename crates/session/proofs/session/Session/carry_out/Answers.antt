@@ -1,3 +1,7 @@
+use Rattle.std.proofs.Common.{ℕ, List, subst}
+use Rattle.std.proofs.lemmas.List.{take_rest}
+use Rattle.session.specs.Requests.{writes}
+use Rattle.session.specs.Standing.{WritesAll}
 use Rattle.session.proofs.session.Session.carry_out.Goals as goal
 
 -- a request is answered as the function says that carries it out
@@ -46,3 +50,8 @@ returns-in-Synch-clause-ok c = λ past stands. rw c.in-Synch.is (c.error.ensures
 
 pub returns-in-GetCommModeInfo-clause-ok : goal.returns-in-GetCommModeInfo-clause-ok
 returns-in-GetCommModeInfo-clause-ok c = λ past stands. rw c.in-GetCommModeInfo.is (c.positive.ensures, stands)
+
+pub returns-in-WriteDaqMultiple-clause-ok : goal.returns-in-WriteDaqMultiple-clause-ok
+returns-in-WriteDaqMultiple-clause-ok c =
+    let P : List ℕ → Type 0 = λ bytes. WritesAll c.args.self.now c.write_multiple.new.self (writes c.in-WriteDaqMultiple.count bytes) c.write_multiple.result in
+    rw c.in-WriteDaqMultiple.is (subst P (take_rest c.args.packet.now 2) c.write_multiple.ensures.reply)
