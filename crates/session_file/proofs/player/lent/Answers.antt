@@ -1,4 +1,4 @@
-use Rattle.std.proofs.Common.{◌≡◌, ◌++◌, ◌∷◌, [], map, take, vec_items, sym, ap, ◌∙◌, rules}
+use Rattle.std.proofs.Common.{◌≡◌, ◌+◌, ◌++◌, ◌∷◌, [], map, take, vec_items, sym, ap, ◌∙◌, rules}
 use Rattle.std.proofs.lemmas.List.{map_more}
 use Rattle.run_file.proofs.ReadLemmas.{map-push}
 use Rattle.segments.specs.Memory.{parts}
