@@ -5,7 +5,7 @@ use Rattle.toml.specs.Data.{Data, Items, no_items, item, Members, as_array, as_t
 use Rattle.segments.specs.Segment.{all_readers}
 use Rattle.segments.specs.declared.segment.Segment.{Segment}
 use Rattle.run_file.specs.Keys.{all_of, at_key, number_in}
-use Rattle.session_file.specs.declared.limits.TheConstants.{MAX_INTEGER, NO_CHANNEL}
+use Rattle.session_file.specs.declared.limits.TheConstants.{MAX_INTEGER}
 use Rattle.session_file.specs.Keys.{MemoryData, first_none, has_key, image, number_or_0, only_keys}
 use Rattle.session_file.specs.Keys.{segments as items_of}
 
@@ -18,24 +18,29 @@ count_of (item d ds) = suc (count_of ds)
 abbrev pub segment_keys : List (List ℕ)
 segment_keys = codes "extension" ∷ codes "base" ∷ codes "len" ∷ codes "events" ∷ []
 
--- the set of one event channel. No slave has one from 15 on, so these are one: the profile is out
--- of a limit where a segment names it
-abbrev pub reader : ℕ → ℕ
-reader c = if nat_lt c NO_CHANNEL then 2 ^ c else 0x8000
+-- the set of one event channel, where there are so many: sets have those below 16. For one from 16
+-- on stands the first that isn't there, so that the profile is out of a limit; none if all 16 are
+abbrev pub reader : ℕ → ℕ → Option ℕ
+reader channels c =
+    if nat_lt c 16 then Some (2 ^ c)
+    else if nat_lt channels 16 then Some (2 ^ channels) else None
 
--- a set with these event channels
+abbrev pub reader_in : ℕ → Data → Option ℕ
+reader_in channels d = option_and_then (reader channels) (number_in 0 255 d)
+
+-- all of a set and of these
 abbrev pub with_readers : ℕ → List ℕ → ℕ
 with_readers set [] = set
-with_readers set (c ∷ cs) = with_readers (bit_or set (reader c)) cs
+with_readers set (one ∷ more) = with_readers (bit_or set one) more
 
-abbrev pub readers_in : Items → Option ℕ
-readers_in ds = option_map (with_readers 0) (all_of (number_in 0 255) ds)
+abbrev pub readers_in : ℕ → Items → Option ℕ
+readers_in channels ds = option_map (with_readers 0) (all_of (reader_in channels) ds)
 
 -- the set of the event channels that `events` lists; of all, if the key is absent
 abbrev pub readers_of : ℕ → Members → Option ℕ
 readers_of channels ms =
     if has_key (codes "events") ms
-    then option_and_then readers_in (at_key as_array (codes "events") ms)
+    then option_and_then (readers_in channels) (at_key as_array (codes "events") ms)
     else Some (all_readers channels)
 
 -- all of it, if each value is there

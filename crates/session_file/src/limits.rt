@@ -6,7 +6,3 @@ pub const MAX_LINES: usize = 1_000_000;
 /// The greatest capacity and the greatest length that can be written: the greatest integer of a
 /// TOML document. Whether a ring or a segment may have it is a limit of the profile.
 pub const MAX_INTEGER: usize = 0x7FFF_FFFF_FFFF_FFFF;
-
-/// The event channels from here on, which no slave has, are one in the set of those that may read a
-/// segment.
-pub const NO_CHANNEL: usize = 15;

@@ -5,14 +5,16 @@ ghost use Rattle.run_file.specs.Keys.{all_of};
 ghost use Rattle.session_file.specs.declared.file_fault.FileFault.TheVariants.{BadSegment, Memory};
 ghost use Rattle.session_file.specs.Inner.{memory_data};
 ghost use Rattle.session_file.specs.Keys.{first_none};
-ghost use Rattle.session_file.specs.Memory.{bad_segment, image_segment, reader, readers_in};
-ghost use Rattle.session_file.specs.Memory.{readers_of, segment_in, segment_of, segments_of};
+ghost use Rattle.session_file.specs.Memory.{bad_segment, image_segment, reader, reader_in};
+ghost use Rattle.session_file.specs.Memory.{readers_in, readers_of, segment_in, segment_of};
+ghost use Rattle.session_file.specs.Memory.{segments_of};
 
 use crate::file_fault::FileFault;
 use crate::keys::{has_key, has_segment_keys, number_or_0};
-use crate::limits::{MAX_INTEGER, NO_CHANNEL};
+use crate::limits::MAX_INTEGER;
 use crate::memory_keys::MemoryKeys;
 use run_file::{array_at, number_at, number_in};
+use segments::limits::MAX_READERS;
 use segments::{Segment, all_readers};
 use std::alloc::Global;
 use toml::{Table, Value};
@@ -123,29 +125,43 @@ fn readers_of(channels: usize, table: &Table) -> Option<u16>
     let Some(values) = array_at(table, "events") else {
         return None;
     };
-    readers_in(values)
+    readers_in(channels, values)
 }
 
-/// The set of the event channels that values are.
-fn readers_in(values: &[Value]) -> Option<u16>
-    ensures { result ≡ readers_in (items_view values.now) }
+/// The set of the event channels that values are, where there are so many.
+fn readers_in(channels: usize, values: &[Value]) -> Option<u16>
+    ensures { result ≡ readers_in channels (items_view values.now) }
 {
     let mut readers = 0;
     for value in values {
-        let Some(channel) = number_in(value, 0, 255) else {
+        let Some(one) = reader_in(channels, value) else {
             return None;
         };
-        readers |= reader(channel);
+        readers |= one;
     }
     Some(readers)
 }
 
-/// The set of one event channel.
-fn reader(channel: usize) -> u16
-    ensures { result ≡ reader channel }
+/// The set of the event channel that a value is.
+fn reader_in(channels: usize, value: &Value) -> Option<u16>
+    ensures { result ≡ reader_in channels (view value.now) }
 {
-    if channel >= NO_CHANNEL {
-        return 0x8000;
+    let Some(channel) = number_in(value, 0, 255) else {
+        return None;
+    };
+    reader(channels, channel)
+}
+
+/// The set of one event channel, where there are so many. For one that no set has stands the first
+/// that isn't there, which the profile refuses.
+fn reader(channels: usize, channel: usize) -> Option<u16>
+    ensures { result ≡ reader channels channel }
+{
+    if channel < MAX_READERS as usize {
+        return Some((1_u32 << channel) as u16);
     }
-    (1_u32 << channel) as u16
+    if channels < MAX_READERS as usize {
+        return Some((1_u32 << channels) as u16);
+    }
+    None
 }

@@ -5,4 +5,4 @@ use Rattle.session_file.proofs.memory.readers_in.Given as goal
 
 -- the set so far is that of the values so far
 abbrev pub invariant-loop-value : goal.invariant-loop-value
-invariant-loop-value l = readers_in (items_view (take l.value-index l.values)) ≡ Some l.readers
+invariant-loop-value l = readers_in l.channels (items_view (take l.value-index l.values)) ≡ Some l.readers

@@ -1,4 +1,5 @@
 use Rattle.std.proofs.Common.{◌≡◌, ◌+◌, ◌++◌, ◌∷◌, [], map, take, vec_items, sym, ap, ◌∙◌, rules}
+use Rattle.std.specs.List.{each_same}
 use Rattle.std.proofs.lemmas.List.{map_more}
 use Rattle.run_file.proofs.ReadLemmas.{map-push}
 use Rattle.session_file.proofs.player.copied.Goals as goal
@@ -14,4 +15,4 @@ loop-slice-preserved c =
     let more : map vec_items (take (i + 1) slices) ≡ map vec_items (take i slices) ++ vec_items slice ∷ [] =
     map_more vec_items slices i slice c.loop-slice-test.true ∙ ap (λ w. map vec_items (take i slices) ++ vec_items w ∷ []) (sym c.slice-item.is) in
     ap (map vec_items) pushed ∙ map-push vec_items c.loop-slice.copies.items copy
-    ∙ ap (λ bs. bs ++ vec_items copy ∷ []) c.loop-slice.invariant ∙ ap (λ b. map vec_items (take i slices) ++ b ∷ []) c.in_ok-clone.ensures ∙ sym more
+    ∙ ap (λ bs. bs ++ vec_items copy ∷ []) c.loop-slice.invariant ∙ ap (λ b. map vec_items (take i slices) ++ b ∷ []) (each_same slice.items copy.items c.in_ok-clone.ensures.cases.0) ∙ sym more
