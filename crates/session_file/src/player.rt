@@ -82,7 +82,10 @@ fn is_taken<S: SendEnd>(
     ensures fitting { result ≡ true → fits channel segments.now (parts memory.now) ≡ true }
 {
     let c = channel as usize;
-    if c >= tasks.len() || !is_memory_of(segments, channel, memory) {
+    if c >= tasks.len() {
+        return false;
+    }
+    if !is_memory_of(segments, channel, memory) {
         return false;
     }
     tasks[c].trigger(memory, stamp).is_ok()
