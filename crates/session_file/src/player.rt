@@ -47,6 +47,17 @@ fn lent<'a>(alloc: Global, slices: &'a [Vec<u8>]) -> Result<Vec<&'a [u8]>, Alloc
     Ok(memory)
 }
 
+/// Slices, copied.
+fn copied(alloc: Global, slices: &[Vec<u8>]) -> Result<Vec<Vec<u8>>, AllocError>
+    ensures { IfOk result (λ copies. map vec_items copies.items ≡ map vec_items slices.now) }
+{
+    let mut copies = Vec::with_capacity(alloc, slices.len())?;
+    for slice in slices {
+        copies.push(slice.clone()?)?;
+    }
+    Ok(copies)
+}
+
 /// Whether the memory is that of a trigger of an event channel: a slice for each segment, and of
 /// those that it may read their lengths.
 fn is_memory_of(segments: &[Segment], channel: u8, memory: &[&[u8]]) -> bool
@@ -71,7 +82,10 @@ fn is_taken<S: SendEnd>(
     ensures fitting { result ≡ true → fits channel segments.now (parts memory.now) ≡ true }
 {
     let c = channel as usize;
-    if c >= tasks.len() || !is_memory_of(segments, channel, memory) {
+    if c >= tasks.len() {
+        return false;
+    }
+    if !is_memory_of(segments, channel, memory) {
         return false;
     }
     tasks[c].trigger(memory, stamp).is_ok()
@@ -106,7 +120,7 @@ impl<R: Ring> Player<R> {
                 stamp,
                 memory,
             } => self.trigger(alloc, *channel, *stamp, memory),
-            Line::Memory(memory) => self.put_memory(memory),
+            Line::Memory(memory) => self.put_memory(alloc, memory),
             Line::Send => self.send(),
             Line::Lose => {
                 self.lose();
@@ -140,13 +154,13 @@ impl<R: Ring> Player<R> {
     }
 
     /// The next packets read this memory.
-    fn put_memory(&mut self, memory: &Vec<Vec<u8>>) -> Result<(), AllocError>
+    fn put_memory(&mut self, alloc: Global, slices: &[Vec<u8>]) -> Result<(), AllocError>
         ensures slave_stays { self.new.slave ≡ self.old.slave }
         ensures out_stays { self.new.out ≡ self.old.out }
         ensures refused_stays { self.new.refused ≡ self.old.refused }
         ensures tasks_stay { self.new.tasks ≡ self.old.tasks }
     {
-        self.memory = memory.clone()?;
+        self.memory = copied(alloc, slices)?;
         Ok(())
     }
 
@@ -168,9 +182,9 @@ impl<R: Ring> Player<R> {
         let memory = lent(alloc, slices)?;
         if is_taken(&mut self.tasks, &self.segments, channel, &memory, stamp) {
             self.clock = stamp;
-        } else {
-            self.refused += 1;
+            return Ok(());
         }
+        self.refused += 1;
         Ok(())
     }
 

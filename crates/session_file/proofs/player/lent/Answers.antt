@@ -1,4 +1,4 @@
-use Rattle.std.proofs.Common.{◌≡◌, ◌++◌, ◌∷◌, [], map, take, vec_items, sym, ap, ◌∙◌, rules}
+use Rattle.std.proofs.Common.{◌≡◌, ◌+◌, ◌++◌, ◌∷◌, [], map, take, vec_items, sym, ap, ◌∙◌, rules}
 use Rattle.std.proofs.lemmas.List.{map_more}
 use Rattle.run_file.proofs.ReadLemmas.{map-push}
 use Rattle.segments.specs.Memory.{parts}
@@ -14,4 +14,4 @@ loop-slice-preserved c =
     let more : map vec_items (take (i + 1) slices) ≡ map vec_items (take i slices) ++ vec_items slice ∷ [] =
     map_more vec_items slices i slice c.loop-slice-test.true ∙ ap (λ w. map vec_items (take i slices) ++ vec_items w ∷ []) (sym c.slice-item.is) in
     ap parts pushed ∙ map-push (λ part. part.now) c.loop-slice.memory.items c.as_slice.result
-    ∙ ap (λ bs. bs ++ c.as_slice.result.now ∷ []) c.loop-slice.invariant ∙ ap (λ b. map vec_items (take i slices) ++ b ∷ []) c.as_slice.ensures ∙ sym more
+    ∙ ap (λ bs. bs ++ c.as_slice.result.now ∷ []) c.loop-slice.invariant ∙ ap (λ b. map vec_items (take i slices) ++ b ∷ []) c.as_slice.ensures.value ∙ sym more
