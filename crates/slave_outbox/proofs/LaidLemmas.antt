@@ -40,7 +40,8 @@ one-frame n q = sym (append-nil (frame n q))
 
 pub one-sent : (w : WriterState) (q : List ℕ) → after_frame w q ≡ after_text w (q ∷ [])
 one-sent w q =
-    ap (λ t. record { out = after_bytes w.out t; counter = (w.counter + 1) % 65536; closed = w.closed }) (one-frame w.counter q)
+    let F : List ℕ → WriterState = λ t. record { out = after_bytes w.out t; counter = (w.counter + 1) % 65536; closed = w.closed } in
+    ap F (one-frame w.counter q)
 
 mod-plus : (n k : ℕ) → (n % 65536 + k) % 65536 ≡ (n + k) % 65536
 mod-plus n k = omega arith
