@@ -93,13 +93,14 @@ static struct a2l a2l;
 static char *a2l_bytes;
 static size_t a2l_len;
 
-static void add_variable(const char *name) {
+/* Looks a variable up. Answers whether the file has it. */
+static bool add_variable(const char *name) {
     size_t block = a2l_block(&a2l, "MEASUREMENT", name);
     struct variable *v = &variables[count++];
     want(count < VARIABLES, "too many variables");
     if (block == 0) {
         fprintf(stderr, "xcp_master: no such measurement in the A2L file: %s\n", name);
-        leave(2);
+        return false;
     }
     v->name = name;
     for (size_t t = 0; t < sizeof types / sizeof *types; t++)
@@ -111,21 +112,23 @@ static void add_variable(const char *name) {
     v->event = (unsigned)strtoul(a2l_word(&a2l, block, "DEFAULT_EVENT_LIST", 2), NULL, 0);
     v->method = a2l_block(&a2l, "COMPU_METHOD", a2l_word(&a2l, block, "MEASUREMENT", 4));
     v->texts = a2l_block(&a2l, "COMPU_VTAB", a2l_word(&a2l, v->method, "COMPU_TAB_REF", 1));
+    return true;
 }
 
-/* Chooses variables by their names, which commas part; or all. */
-static void choose(char *names) {
+/* Chooses variables by their names, which commas part; or all. Answers whether there are any, and
+ * the file has each. */
+static bool choose(char *names) {
     const char *name;
     for (size_t n = 0; names == NULL && (name = a2l_nth(&a2l, "MEASUREMENT", n)) != NULL; n++)
-        add_variable(name);
+        if (!add_variable(name)) return false;
     while (names != NULL) {
         char *comma = strchr(names, ',');
         if (comma != NULL) *comma++ = 0;
-        add_variable(names);
+        if (!add_variable(names)) return false;
         names = comma;
     }
-    want(count > 0, "no variables");
     if (count > 1) polled = &variables[--count];
+    return count > 0;
 }
 
 /* The text that a raw value has, or NULL. */
@@ -560,7 +563,10 @@ int main(int argc, char **argv) {
     if (o.record != NULL) record_to(&record, o.record, line, by_stream);
     ask_who_is_there();
     fetch(o.a2l);
-    choose(o.names);
+    if (!choose(o.names)) {
+        ASK(0xFE); /* DISCONNECT */
+        leave(2);
+    }
     place();
     printf("seconds,event,overload");
     for (unsigned v = 0; v < count + (polled != NULL); v++) printf(",%s", variables[v].name);
