@@ -168,6 +168,7 @@ size_t a2l_write(const struct a2l_table *t, char *buffer, size_t size, char epk[
     struct text text = {buffer, size, 0};
     const char *name = t->profile->name;
     unsigned long long sum = 0xCBF29CE484222325;
+    if (a2l_misplaced(t) != NULL) return 0;
     put(&text, "ASAP2_VERSION 1 61\n/begin PROJECT %s \"\"\n/begin MODULE %s \"\"\n\n%s"
                "/begin MOD_COMMON \"\" BYTE_ORDER MSB_LAST ALIGNMENT_BYTE 1 ALIGNMENT_WORD 1\n"
                "  ALIGNMENT_LONG 1 ALIGNMENT_FLOAT32_IEEE 1 ALIGNMENT_FLOAT64_IEEE 1\n"

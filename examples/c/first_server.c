@@ -14,10 +14,10 @@
 #include <sys/timerfd.h>
 #include <unistd.h>
 
+static struct pollfd line[2];     /* a socket, and a timer of 10 ms */
 static struct sockaddr_in master; /* who sent the last datagram */
 
-/* A socket on a port, and a timer of 10 ms. */
-static bool open_line(unsigned port, struct pollfd *line) {
+static bool listen_on(int port) {
     struct sockaddr_in at = {.sin_family = AF_INET, .sin_port = htons((uint16_t)port)};
     const struct itimerspec each = {{0, 10000000}, {0, 10000000}};
     at.sin_addr.s_addr = htonl(INADDR_LOOPBACK);
@@ -27,28 +27,28 @@ static bool open_line(unsigned port, struct pollfd *line) {
         && timerfd_settime(line[1].fd, 0, &each, NULL) == 0;
 }
 
-static void send_waiting(int line, ng_slave *slave) {
+static void send_waiting(ng_slave *slave) {
     uint8_t page[1400];
     size_t len;
     while (ng_slave_peek(slave, page, sizeof page, &len) == NG_OK && len > 0) {
-        sendto(line, page, len, 0, (struct sockaddr *)&master, sizeof master);
+        sendto(line[0].fd, page, len, 0, (struct sockaddr *)&master, sizeof master);
         ng_slave_sent(slave);
     }
 }
 
 /* Sends what waits, and answers the master, until the next period begins. */
-static void serve(struct pollfd *line, ng_slave *slave, const ng_memory *memory, uint32_t now) {
+static void serve(ng_slave *slave, const ng_memory *memory, uint32_t now) {
     uint8_t bytes[1400];
     uint64_t periods;
-    send_waiting(line[0].fd, slave);
+    send_waiting(slave);
     while (poll(line, 2, -1) > 0 && line[1].revents == 0) {
         socklen_t size = sizeof master;
-        ssize_t got = recvfrom(line[0].fd, bytes, sizeof bytes, 0, (struct sockaddr *)&master,
-                               &size);
+        ssize_t got = recvfrom(line[0].fd, bytes, sizeof bytes, MSG_DONTWAIT,
+                               (struct sockaddr *)&master, &size);
         size_t taken = 0;
         for (size_t at = 0; got > 0 && at < (size_t)got; at += taken) {
             ng_slave_datagram(slave, bytes + at, (size_t)got - at, now, memory, 1, &taken);
-            send_waiting(line[0].fd, slave);
+            send_waiting(slave);
         }
     }
     if (read(line[1].fd, &periods, sizeof periods) < 0) exit(1);
@@ -70,16 +70,16 @@ int main(int argc, char **argv) {
     const ng_segment segment = {.base = 0x10000000, .len = memory.len, .events = 1};
     const ng_event event = {.capacity = 64, .name = "10 ms", .cycle = 10, .cycle_unit = 6};
     ng_profile profile = {.ticks = 1, .unit = 7, .stamp_size = 4, .name = "first_server"};
-    size_t len = a2l_write(&(struct a2l_table){&profile, &segment, &memory, &event, variables,
-                           1, 1, 3, "127.0.0.1", 5555}, a2l, sizeof a2l, profile.epk);
-    struct pollfd line[2];
+    const struct a2l_table table = {&profile, &segment, &memory, &event, variables, 1, 1, 3,
+                                    "127.0.0.1", 5555};
+    size_t len = a2l_write(&table, a2l, sizeof a2l, profile.epk);
     ng_slave slave = NG_SLAVE_INIT;
     ng_task task = NG_TASK_INIT;
     ng_taken taken;
-    if (ng_slave_open(&profile, &segment, 1, &event, 1, (uint8_t *)a2l, len, &slave) != NG_OK
-        || ng_slave_task(&slave, 0, &task) != NG_OK
-        || !open_line(argc > 1 ? (unsigned)atoi(argv[1]) : 5555, line)) return 1;
-    for (;; serve(line, &slave, &memory, counter)) {
+    if (len == 0 || len >= sizeof a2l || !listen_on(argc > 1 ? atoi(argv[1]) : 5555)
+        || ng_slave_open(&profile, &segment, 1, &event, 1, (uint8_t *)a2l, len, &slave) != NG_OK
+        || ng_slave_task(&slave, 0, &task) != NG_OK) return 1;
+    for (;; serve(&slave, &memory, counter)) {
         counter++;
         engine_speed = (uint16_t)(4 * (800 + counter % 1000));
         state = counter / 100 % 2;
