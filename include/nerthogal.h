@@ -36,24 +36,25 @@
  *     drained or closed, only freed.
  *
  * Pointers
- *   - A pointer is never null, even if its length is 0, except in an ng_memory of length 0. It is
- *     aligned, and the stated number of elements may be read, and written if it isn't const. The
- *     memory behind two pointers of one call doesn't overlap, unless both are const. The library
- *     keeps no pointer after a call.
+ *   - A pointer is never null, even if its length is 0. It is aligned, and the stated number of
+ *     elements may be read, and written if it isn't const. The memory behind two pointers of one
+ *     call doesn't overlap, unless both are const. The library keeps no pointer after a call.
  *   - A length is below 2^63.
  *   - During a call, only the call itself changes the memory behind its pointers, and nobody else
  *     reads what isn't const.
  *
  * Segments
- *   - What a master may name of a slave's memory lies in segments, each a stretch of addresses.
- *     A segment says which event channels may read it. A trigger is handed all segments as they lie
- *     there; of those that its event channel may not read nothing is looked at.
- *   - Those that it may read aren't written during the trigger, not even bytes that no DAQ list
- *     names. So variables that another task or an interrupt writes meanwhile lie in a segment that
- *     this event channel may not read: give the variables of each task a linker section of their
- *     own, and make it a segment. What is never written may be read by all event channels.
- *   - Nor is any segment written while ng_slave_receive or ng_slave_datagram has it, to be read
- *     without a DAQ list. Where you can't keep that, pass a copy, or NG_NOT_THERE.
+ *   - What a master may name of a slave's memory lies in segments, each a stretch of addresses. A
+ *     segment says which event channels may read it: their triggers are handed it where it lies.
+ *   - What is handed in isn't written during the call, not even bytes that no DAQ list names. So
+ *     for a segment that its event channel may not read a trigger is handed NG_NOT_THERE, if
+ *     another task or an interrupt may write it meanwhile. What ng_slave_receive and
+ *     ng_slave_datagram are handed is to be read without a DAQ list: where somebody may write a
+ *     segment meanwhile, pass a copy, or NG_NOT_THERE.
+ *   - So variables are laid out by who writes them. Give those of each task a linker section of
+ *     their own, which is a segment that the task's event channel alone may read. (GNU ld tells
+ *     where section NAME lies: from __start_NAME to __stop_NAME.) What nobody writes may be read by
+ *     all event channels.
  *
  * Threads
  *   - Only one call at a time may use a handle. A handle may move from one thread to another if the
@@ -208,12 +209,13 @@ typedef struct {
     uint16_t events;   /* the event channels that may read it: bit c stands for event channel c */
 } ng_segment;
 
-/* The bytes of a segment, where they lie during a call; or none, if it isn't there. */
+/* The bytes of a segment, where they lie during a call; or none, if it isn't there. With length 0 a
+ * null pointer does as well as that of NG_NOT_THERE, but that is only tested. */
 typedef struct {
     const uint8_t *at;
     size_t len; /* that of the segment, or 0 */
 } ng_memory;
-#define NG_NOT_THERE { NULL, 0 }
+#define NG_NOT_THERE { (const uint8_t *)"", 0 }
 
 /* What a slave is opened with, beside its segments and event channels. */
 typedef struct {
@@ -623,11 +625,11 @@ ng_status ng_slave_status(ng_slave *slave, ng_slave_state *state);
 
 /* Does what the slave ordered of this task, and then takes a trigger of its event channel, as
  * ng_trigger does, but off memory as it lies there: memory[i] is segment i, for each i below count.
- * One that this event channel may not read may be NG_NOT_THERE. While there is no measurement
- * nothing is due. Orders are done in the order of the master's commands. A stop needs room in the
- * ring, a place or 3 bytes: in a full one it waits, and the orders behind it with it, until a
- * trigger after ng_slave_peek took something off. Till then the list goes on being due, as *taken
- * says; but the master was answered, and gets nothing of it any more.
+ * One that this event channel may not read isn't looked at, and may be NG_NOT_THERE. While there is
+ * no measurement nothing is due. Orders are done in the order of the master's commands. A stop
+ * needs room in the ring, a place or 3 bytes: in a full one it waits, and the orders behind it with
+ * it, until a trigger after ng_slave_peek took something off. Till then the list goes on being due,
+ * as *taken says; but the master was answered, and gets nothing of it any more.
  *
  *   NG_EMPTY         *task is empty
  *   NG_WRONG_MEMORY  in a measurement: count isn't the slave's number of segments, or one that the
@@ -638,8 +640,7 @@ ng_status ng_slave_status(ng_slave *slave, ng_slave_state *state);
  * They are checked in this order. Except on NG_OK, *taken is unchanged, and no trigger is taken.
  * Proved: all of this, and that what is left of a measurement goes back, once and in order; but not
  * that it finds what the slave ordered. The tests show that, and that it calls neither malloc nor
- * realloc nor free. They show too that an ng_memory of length 0 may have a null pointer, of which
- * the proofs know nothing. */
+ * realloc nor free. */
 ng_status ng_task_trigger(ng_task *task, const ng_memory *memory, size_t count, uint32_t stamp,
                           ng_taken *taken);
 

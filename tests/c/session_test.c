@@ -527,7 +527,7 @@ static void trigger_segments(ng_slave *slave, ng_task *tasks) {
 /* Without a DAQ list all segments are read that are there, but never from one into another. */
 static void read_segments(ng_slave *slave) {
     const ng_memory all[3] = {{common, 4}, {fast, 4}, {slow, 2}};
-    const ng_memory some[3] = {NG_NOT_THERE, {fast, 4}, {slow, 1}};
+    const ng_memory some[3] = {{NULL, 0}, {fast, 4}, {slow, 1}};
     hear_with(slave, "08000000f402000002100000" "08000000f404000004100000" "08000000f402000100100000"
                      "08000000f402000003100000" "08000000f401000102100000" "08000000f401000200100000",
               all, 3);

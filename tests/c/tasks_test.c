@@ -1,8 +1,8 @@
 /* Two tasks in threads of their own, beside a slave in the first thread whose master starts and
  * stops their DAQ lists, many times over. Each thread finishes its task itself; the first one
- * closes the slave, in every other pair of runs before it joins the threads. Triggers are
- * numbered in memory, so that each frame tells what came before it. Prints one line; ends with status 1 at
- * the first thing that isn't as wanted. */
+ * closes the slave, in every other pair of runs before it joins the threads. Each task numbers its
+ * triggers in a segment of its own, so that each frame tells what came before it. Prints one line;
+ * ends with status 1 at the first thing that isn't as wanted. */
 #include "memory.h"
 #include "nerthogal.h"
 #include <pthread.h>
@@ -26,9 +26,11 @@ static void want(bool holds, const char *what) {
     exit(1);
 }
 
-/* A task in its thread, and what its triggers did. */
+/* A task in its thread, its segment of memory, and what its triggers did. */
 struct sampling {
     ng_task task;
+    unsigned channel;
+    uint8_t bytes[4];
     uint64_t due, dropped;
     bool fault;
 };
@@ -36,11 +38,14 @@ struct sampling {
 /* Takes triggers by a task, whose channel has the DAQ list of its number, and finishes it. */
 static void *sample(void *argument) {
     struct sampling *sampling = argument;
+    ng_memory memory[CHANNELS] = {NG_NOT_THERE, NG_NOT_THERE};
+    memory[sampling->channel] = (ng_memory){sampling->bytes, sizeof sampling->bytes};
     for (uint32_t k = 1; k <= TRIGGERS; k++) {
-        uint8_t bytes[4] = {(uint8_t)k, (uint8_t)(k >> 8), 0, 0};
-        ng_memory memory = {bytes, sizeof bytes};
         ng_taken taken;
-        if (ng_task_trigger(&sampling->task, &memory, 1, k, &taken) != NG_OK) sampling->fault = true;
+        sampling->bytes[0] = (uint8_t)k;
+        sampling->bytes[1] = (uint8_t)(k >> 8);
+        if (ng_task_trigger(&sampling->task, memory, CHANNELS, k, &taken) != NG_OK)
+            sampling->fault = true;
         if ((taken.accepted | taken.dropped) != taken.due) sampling->fault = true;
         sampling->due += taken.due != 0;
         sampling->dropped += taken.dropped != 0;
@@ -110,7 +115,7 @@ static bool send(ng_slave *slave) {
     return len > 0;
 }
 
-/* A DAQ list for each event channel, whose one entry is the whole segment of four bytes. */
+/* A DAQ list for each event channel, whose one entry is the whole segment of its task. */
 static void set_up(ng_slave *slave) {
     static const struct {
         uint8_t bytes[8], len;
@@ -125,7 +130,7 @@ static void set_up(ng_slave *slave) {
         {{0xE1, 0xFF, 4, 0, 0, 0, 0, 0}, 8},
         {{0xE0, 0, 0, 0, 0, 0, 1, 0}, 8},
         {{0xE2, 0, 1, 0, 0, 0}, 6},
-        {{0xE1, 0xFF, 4, 0, 0, 0, 0, 0}, 8},
+        {{0xE1, 0xFF, 4, 0, 4, 0, 0, 0}, 8},
         {{0xE0, 0, 1, 0, 1, 0, 1, 0}, 8},
     };
     struct command other = {false, false, 0};
@@ -143,14 +148,15 @@ static void turn(ng_slave *slave, unsigned list) {
 
 static void open_slave(ng_ring ring, size_t cap, ng_slave *slave, struct sampling *samplings) {
     ng_profile profile = {.id = NG_ABSOLUTE, .ticks = 1, .unit = 3, .stamp_size = 4, .name = "ng"};
-    ng_segment segment = {.len = 4, .events = 3};
+    ng_segment segments[CHANNELS] = {{.len = 4, .events = 1}, {.base = 4, .len = 4, .events = 2}};
     ng_event events[CHANNELS] = {{.name = "e0"}, {.name = "e1"}};
     profile.ring = ring;
     for (unsigned c = 0; c < CHANNELS; c++) events[c].capacity = cap;
-    want(ng_slave_open(&profile, &segment, 1, events, CHANNELS, NO_A2L, slave) == NG_OK, "open");
+    want(ng_slave_open(&profile, segments, CHANNELS, events, CHANNELS, NO_A2L, slave) == NG_OK,
+         "open");
     counter = 0;
     for (unsigned c = 0; c < CHANNELS; c++) {
-        struct sampling none = {NG_TASK_INIT, 0, 0, false};
+        struct sampling none = {NG_TASK_INIT, c, {0}, 0, 0, false};
         samplings[c] = none;
         received[c] = next[c] = 0;
         running[c] = false;
