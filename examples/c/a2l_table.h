@@ -50,9 +50,9 @@ struct a2l_table {
 /* The first variable that isn't in a segment which its event channel may read, or NULL. */
 const struct a2l_variable *a2l_misplaced(const struct a2l_table *table);
 
-/* Writes the A2L file as snprintf does: it returns the length, and if that isn't below size, not all
- * of it found room. It returns 0 if a variable is misplaced. epk gets a text for the profile, also
- * in the file, with a number of all the rest. Decimal points are those of the locale "C". */
+/* Writes the A2L file as snprintf does: it returns the length, and if that isn't below size, not
+ * all of it found room. It returns 0 if a variable is misplaced. epk gets a text for the profile,
+ * also in the file, with a number of all the rest. Decimal points are those of the locale "C". */
 size_t a2l_write(const struct a2l_table *table, char *buffer, size_t size,
                  char epk[NG_MAX_NAME + 1]);
 #endif

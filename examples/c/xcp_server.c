@@ -9,10 +9,10 @@
  * Its first line says the ports. It ends after N seconds, or at SIGINT or SIGTERM, and prints the
  * account of the session.
  *
- * Each task has its variables in a section of its own, which no one else writes, and hands the
- * sections to its triggers as they are: there is no image, no copy and no lock. Its event channel
- * may read its own section alone. For what is read without a DAQ list each task leaves a copy of
- * its section once a period, since that is read while the task goes on.
+ * Each task has its variables in a section of its own, which no one else writes and its event
+ * channel alone may read. It hands that to its triggers as it is: there is no image, no copy and no
+ * lock. What is read without a DAQ list is read while the tasks go on, so for that each leaves a
+ * copy of its section once a period.
  *
  * One master at a time, and --help says which. No line carries out a command: CONNECT and
  * DISCONNECT tell who the master is, what the master sends goes to the library, and what that lays
@@ -95,7 +95,7 @@ enum { TASKS = 2, MOST = 1024 /* bytes of a section, which is copied */ };
 extern const uint8_t __start_fast_vars[], __stop_fast_vars[];
 extern const uint8_t __start_slow_vars[], __stop_slow_vars[];
 
-static ng_memory memory[TASKS]; /* the sections, as they are */
+static ng_memory memory[TASKS]; /* the sections, where they are */
 static ng_segment segments[TASKS] = {{.base = 0x10000000, .events = 1 << 0},
                                      {.base = 0x20000000, .events = 1 << 1}};
 static const ng_event events[TASKS] = {
@@ -115,8 +115,10 @@ static ng_memory section(const uint8_t *start, const uint8_t *stop) {
  * its task samples it. */
 static bool describe(void) {
     const struct a2l_table table = {
-        &profile, segments, memory, events, variables, TASKS, TASKS,
-        sizeof variables / sizeof *variables, .address = "127.0.0.1", .port = 5555};
+        .profile = &profile, .segments = segments, .memory = memory, .events = events,
+        .variables = variables, .segment_count = TASKS, .event_count = TASKS,
+        .variable_count = sizeof variables / sizeof *variables, .address = "127.0.0.1",
+        .port = 5555};
     memory[0] = section(__start_fast_vars, __stop_fast_vars);
     memory[1] = section(__start_slow_vars, __stop_slow_vars);
     for (int t = 0; t < TASKS; t++) segments[t].len = memory[t].len;
@@ -197,9 +199,12 @@ static void leave_copy(struct task *self) {
     pthread_mutex_unlock(&self->gate);
 }
 
+/* Takes a trigger of the task's own section. The other one may be written just now: it isn't there. */
 static void take_trigger(struct task *self, uint32_t now) {
+    ng_memory own[TASKS] = {NG_NOT_THERE, NG_NOT_THERE};
     ng_taken taken;
-    if (ng_task_trigger(&self->task, memory, TASKS, now, &taken) != NG_OK) {
+    own[self - tasks] = memory[self - tasks];
+    if (ng_task_trigger(&self->task, own, TASKS, now, &taken) != NG_OK) {
         self->fault = true;
         return;
     }
