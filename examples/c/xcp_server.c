@@ -75,7 +75,7 @@ static void compute_fast(uint32_t turn, uint32_t now) {
     counter = turn;
     stamp = now;
     engine_speed = (uint16_t)lround(4 * (3000 + 2000 * sin(angle)));
-    torque = (int16_t)(turn % 1000 - 500);
+    torque = (int16_t)((int)(turn % 1000) - 500);
     distance = turn / 1000.0;
 }
 
@@ -199,7 +199,7 @@ static void leave_copy(struct task *self) {
     pthread_mutex_unlock(&self->gate);
 }
 
-/* Takes a trigger of the task's own section. The other one may be written just now: it isn't there. */
+/* Takes a trigger of the task's own section. The other one is written meanwhile: it isn't there. */
 static void take_trigger(struct task *self, uint32_t now) {
     ng_memory own[TASKS] = {NG_NOT_THERE, NG_NOT_THERE};
     ng_taken taken;
