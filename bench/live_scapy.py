@@ -14,10 +14,12 @@ import subprocess
 import sys
 import tempfile
 
-sys.path.append(os.path.join(os.path.dirname(os.path.abspath(__file__)), "..", "tests"))
-from a2l_variables import variables_of
 from scapy.config import conf
 from scapy.contrib.automotive.xcp.xcp import *
+
+sys.dont_write_bytecode = True
+sys.path.append(os.path.join(os.path.dirname(os.path.abspath(__file__)), "..", "tests"))
+from a2l_variables import variables_of  # noqa: E402
 
 # what is measured of each event channel
 FAST = ["counter", "stamp", "torque"]

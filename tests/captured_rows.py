@@ -6,7 +6,8 @@
 
 import sys
 
-from a2l_variables import variables_of
+sys.dont_write_bytecode = True
+from a2l_variables import variables_of  # noqa: E402
 
 variables = variables_of(sys.argv[1])
 places = {(it.extension, it.address): at for at, it in enumerate(variables)}

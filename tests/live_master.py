@@ -12,10 +12,12 @@ import struct
 import sys
 import tempfile
 
-from a2l_variables import variables_of
-from captures_kept.refusing_session import (OUT_OF_RANGE, Master, alloc_daq, alloc_odt, alloc_odt_entry, connect, set_daq_list_mode,
-                                            set_daq_ptr, start_stop_daq_list, start_stop_synch, write_daq)
-from live_values import is_of_one_trigger
+sys.dont_write_bytecode = True
+from a2l_variables import variables_of  # noqa: E402
+from captures_kept.refusing_session import (  # noqa: E402
+    OUT_OF_RANGE, Master, alloc_daq, alloc_odt, alloc_odt_entry, connect, set_daq_list_mode, set_daq_ptr, start_stop_daq_list,
+    start_stop_synch, write_daq)
+from live_values import is_of_one_trigger  # noqa: E402
 
 NOT_READY = 0x2A                                  # ERR_DAQ_CONFIG
 DISCONNECT, FREE_DAQ, GET_DAQ_CLOCK = b"\xfe", b"\xd6", b"\xdc"

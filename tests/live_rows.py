@@ -7,7 +7,8 @@ time, a mark stands just where samples are missing, and what was polled is what 
 import csv
 import sys
 
-from live_values import STATES, is_of_one_trigger
+sys.dont_write_bytecode = True
+from live_values import STATES, is_of_one_trigger  # noqa: E402
 
 COUNTERS = {"1 ms": "counter", "10 ms": "slow_counter"}
 

@@ -8,7 +8,8 @@ import csv
 import sys
 from decimal import Decimal
 
-from a2l_variables import variables_of
+sys.dont_write_bytecode = True
+from a2l_variables import variables_of  # noqa: E402
 
 variables = variables_of(sys.argv[1])
 rows = open(sys.argv[2], encoding="utf-8").read()
