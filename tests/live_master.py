@@ -101,7 +101,8 @@ def poll(master, seconds):
     master.ask(start_stop_synch(1))
     while master.samples.get(0, 0) < 1000 * float(seconds):
         for number, (_, variables) in enumerate(lists):
-            turns[number].append((len(master.lines), poll_once(master, variables, stamps[number])))
+            before = len(master.lines)
+            turns[number].append((before, poll_once(master, variables, stamps[number])))
             polls += 1
     master.ask(start_stop_synch(0))
     seen = [[], []]
@@ -115,15 +116,12 @@ def poll(master, seconds):
 
 
 def look_at_turns(seen, turns):
-    """What was polled isn't of before the samples that had come by then, but for two triggers, and never falls."""
-    last, at = 0, 0
+    """What was polled isn't older than the samples that had come before the question."""
+    at = 0
     for lines, turn in turns:
-        want(turn >= last, "what was polled falls back")
-        last = turn
         while at < len(seen) and seen[at][0] < lines:
             at += 1
-        # the reply came behind them, so the slave may have been asked before the last ones
-        want(at < 2 or turn >= seen[at - 2][1] - 2, f"polled is {turn}, where {seen[at - 1][1]} was measured")
+        want(at == 0 or turn >= seen[at - 1][1], f"polled is {turn}, where {seen[at - 1][1]} was measured before")
 
 
 def refused(master):

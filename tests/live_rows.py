@@ -38,17 +38,15 @@ def look_at_samples(rows, event, times):
 
 
 def look_at_polled(polled, slow):
-    """Each state is one that the slow task had between the samples before and behind it, or up to two triggers beside."""
-    seen = 0
-    for row in polled:
+    """Each state is one that the slow task had from the sample before on until the one behind the next poll. The time is that of the
+    question before, and the newest trigger then may not have computed yet."""
+    for row, following in zip(polled, polled[1:]):
         assert row["state"] in STATES and len(values_of(row)) == 1, f"no state was polled: {row}"
         before = [it for it in slow if float(it["seconds"]) <= float(row["seconds"])]
-        behind = slow[len(before):]
+        behind = [it for it in slow if float(it["seconds"]) > float(following["seconds"])]
         if before and behind:
-            turns = range(int(before[-1]["slow_counter"]) - 2, int(behind[0]["slow_counter"]) + 3)
+            turns = range(int(before[-1]["slow_counter"]) - 1, int(behind[0]["slow_counter"]) + 1)
             assert row["state"] in {STATES[turn // 25 % 4] for turn in turns}, f"a state of another time: {row}"
-            seen += 1
-    return seen
 
 
 def main(path, times="1"):

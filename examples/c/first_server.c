@@ -65,7 +65,7 @@ static const struct a2l_variable variables[] = {
 extern const uint8_t __start_measured[], __stop_measured[]; /* the linker has them */
 
 int main(int argc, char **argv) {
-    static char a2l[16384];
+    static char a2l[65536];
     const ng_memory memory = {__start_measured, (size_t)(__stop_measured - __start_measured)};
     const ng_segment segment = {.base = 0x10000000, .len = memory.len, .events = 1};
     const ng_event event = {.capacity = 64, .name = "10 ms", .cycle = 10, .cycle_unit = 6};

@@ -466,7 +466,7 @@ static void measure(const struct options *o) {
         take_packet(packet, len);
         if (polled != NULL && now_ms() - polled_at >= o->poll) {
             poll_variable();
-            polled_at += o->poll;
+            polled_at = now_ms();
         }
         if (lists[0].samples - begun < o->samples / 2 || disturbed) continue;
         disturbed = true;

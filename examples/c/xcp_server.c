@@ -12,7 +12,7 @@
  * Each task has its variables in a section of its own, which no one else writes and its event
  * channel alone may read. It hands that to its triggers as it is: there is no image, no copy and no
  * lock. What is read without a DAQ list is read while the tasks go on, so for that each leaves a
- * copy of its section once a period.
+ * copy of its section once a period, and waits for nobody.
  *
  * One master at a time, and --help says which. No line carries out a command: CONNECT and
  * DISCONNECT tell who the master is, what the master sends goes to the library, and what that lays
@@ -174,29 +174,45 @@ static uint32_t now_ms(void) { return (uint32_t)(now_ns() / 1000000u); }
 
 static uint32_t due_at; /* when a trigger last found a DAQ list due, by now_ms */
 
+/* Copies of a task's section: the one that the task writes, the one that is read, and between them
+ * one that they exchange, with FRESH if the task left it. So none is written while it is read. */
+struct copies {
+    uint8_t bytes[3][MOST];
+    unsigned written, between, read;
+};
+
+enum { FRESH = 4 };
+
 struct task {
     ng_task task;
     void (*compute)(uint32_t turn, uint32_t now);
     long period; /* nanoseconds */
     bool fault;
     pthread_t thread;
-    pthread_mutex_t gate; /* of the copy */
-    uint8_t copy[MOST];
+    struct copies copies;
 };
 
 static struct task tasks[TASKS] = {
     {.task = NG_TASK_INIT, .compute = compute_fast, .period = 1000000,
-     .gate = PTHREAD_MUTEX_INITIALIZER},
+     .copies = {.between = 1, .read = 2}},
     {.task = NG_TASK_INIT, .compute = compute_slow, .period = 10000000,
-     .gate = PTHREAD_MUTEX_INITIALIZER}};
+     .copies = {.between = 1, .read = 2}}};
 
-/* Leaves a copy of the task's section. The task never waits: while somebody reads the copy, that
- * stays as it was a period before. */
 static void leave_copy(struct task *self) {
-    const ng_memory *mine = &memory[self - tasks];
-    if (pthread_mutex_trylock(&self->gate) != 0) return;
-    memcpy(self->copy, mine->at, mine->len);
-    pthread_mutex_unlock(&self->gate);
+    struct copies *copies = &self->copies;
+    const ng_memory *own = &memory[self - tasks];
+    memcpy(copies->bytes[copies->written], own->at, own->len);
+    copies->written = ~FRESH
+        & __atomic_exchange_n(&copies->between, copies->written | FRESH, __ATOMIC_SEQ_CST);
+}
+
+/* The copy that a task left last. It stays as it is until the next call. */
+static ng_memory last_copy(struct task *task) {
+    struct copies *copies = &task->copies;
+    if (__atomic_load_n(&copies->between, __ATOMIC_SEQ_CST) & FRESH)
+        copies->read = ~FRESH
+            & __atomic_exchange_n(&copies->between, copies->read, __ATOMIC_SEQ_CST);
+    return (ng_memory){copies->bytes[copies->read], memory[task - tasks].len};
 }
 
 /* Takes a trigger of the task's own section. The other one is written meanwhile: it isn't there. */
@@ -212,7 +228,7 @@ static void take_trigger(struct task *self, uint32_t now) {
     if (taken.accepted != 0) ring();
 }
 
-/* Computes its variables, takes a trigger of them, and leaves a copy, once a period. */
+/* Computes its variables, leaves a copy, and takes a trigger of them, once a period. */
 static void *run_task(void *argument) {
     struct task *self = argument;
     struct timespec next;
@@ -220,8 +236,8 @@ static void *run_task(void *argument) {
     for (uint32_t turn = 0; !is_over(); turn++) {
         uint32_t now = now_us();
         self->compute(turn, now);
-        take_trigger(self, now);
         leave_copy(self);
+        take_trigger(self, now);
         next.tv_nsec += self->period;
         if (next.tv_nsec >= 1000000000) {
             next.tv_nsec -= 1000000000;
@@ -351,25 +367,12 @@ static void send_waiting(struct server *s) {
     }
 }
 
-/* What is read without a DAQ list: of each task what it left last, copied once more, since nobody
- * writes it meanwhile. */
-static void take_copies(uint8_t bytes[TASKS][MOST], ng_memory *copies) {
-    for (int t = 0; t < TASKS; t++) {
-        pthread_mutex_lock(&tasks[t].gate);
-        memcpy(bytes[t], tasks[t].copy, memory[t].len);
-        pthread_mutex_unlock(&tasks[t].gate);
-        copies[t] = (ng_memory){bytes[t], memory[t].len};
-    }
-}
-
 /* Hands what was heard to the slave, as far as replies find room. */
 static void pass_on(struct server *s) {
-    uint8_t bytes[TASKS][MOST];
-    ng_memory copies[TASKS];
     while (!nothing_heard(s)) {
         size_t taken = 0, len = s->to - s->from;
         const uint8_t *heard = s->heard + s->from;
-        take_copies(bytes, copies);
+        const ng_memory copies[TASKS] = {last_copy(&tasks[0]), last_copy(&tasks[1])};
         if (s->tcp < 0)
             ng_slave_datagram(&s->slave, heard, len, now_us(), copies, TASKS, &taken);
         else if (ng_slave_receive(&s->slave, heard, len, now_us(), copies, TASKS, &taken)
