@@ -16,25 +16,25 @@ enum a2l_type { A2L_UBYTE, A2L_SBYTE, A2L_UWORD, A2L_SWORD, A2L_ULONG, A2L_SLONG
                 A2L_INT64, A2L_FLOAT32, A2L_FLOAT64 };
 
 struct a2l_variable {
-    const char *name;
+    const char *name, *unit, *comment;
     const volatile void *at;
     enum a2l_type type;
     unsigned event;            /* the event channel that measures it */
-    const char *unit;
     double factor, offset;     /* its value is factor * raw + offset; a factor of 0 stands for 1 */
     unsigned digits;           /* that are shown of it behind the point */
     const char *const *states; /* or the texts of 0, 1 and so on, and NULL behind the last one */
     double lower, upper;       /* of its value; both 0, all that its type can have */
-    const char *comment;
 };
 
 /* A variable of the program: its name, place and type, and the fields that it needs beside. */
 #define A2L_VARIABLE(variable, ...) \
     { .name = #variable, .at = &(variable), .type = A2L_TYPE(variable), __VA_ARGS__ }
 #define A2L_TYPE(variable) _Generic((variable), bool: A2L_UBYTE, \
-    uint8_t: A2L_UBYTE, int8_t: A2L_SBYTE, uint16_t: A2L_UWORD, int16_t: A2L_SWORD, \
-    uint32_t: A2L_ULONG, int32_t: A2L_SLONG, uint64_t: A2L_UINT64, int64_t: A2L_INT64, \
-    float: A2L_FLOAT32, double: A2L_FLOAT64)
+    unsigned char: A2L_UBYTE, signed char: A2L_SBYTE, unsigned short: A2L_UWORD, \
+    short: A2L_SWORD, unsigned: A2L_ULONG, int: A2L_SLONG, float: A2L_FLOAT32, \
+    unsigned long: sizeof(long) == 4 ? A2L_ULONG : A2L_UINT64, double: A2L_FLOAT64, \
+    long: sizeof(long) == 4 ? A2L_SLONG : A2L_INT64, \
+    unsigned long long: A2L_UINT64, long long: A2L_INT64)
 
 struct a2l_table {
     const ng_profile *profile; /* its name is the module's too: letters, digits and _ */
