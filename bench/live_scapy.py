@@ -12,14 +12,18 @@ import socket
 import struct
 import subprocess
 import sys
+import tempfile
 
 from scapy.config import conf
 from scapy.contrib.automotive.xcp.xcp import *
 
-BASE = 0x10000000
-# address, size and event channel of what is measured: counter, time, sine, saw_tooth; slow_counter, temperature, state
-FAST = [(0, 4), (4, 4), (8, 2), (10, 2)]
-SLOW = [(16, 4), (24, 2), (26, 1)]
+sys.dont_write_bytecode = True
+sys.path.append(os.path.join(os.path.dirname(os.path.abspath(__file__)), "..", "tests"))
+from a2l_variables import variables_of  # noqa: E402
+
+# what is measured of each event channel
+FAST = ["counter", "stamp", "torque"]
+SLOW = ["slow_counter", "temperature", "state"]
 
 
 def want(holds, what):
@@ -111,10 +115,10 @@ def set_up(line, lists):
     for number, (event, entries) in enumerate(lists):
         line.ask(SetDaqPtr(daq_list_num=number, odt_num=0, odt_entry_num=0))
         for address, size in entries:
-            line.ask(WriteDaq(bit_offset=0xFF, size_of_daq_element=size, address=BASE + address))
+            line.ask(WriteDaq(bit_offset=0xFF, size_of_daq_element=size, address=address))
         line.ask(SetDaqPtr(daq_list_num=number, odt_num=0, odt_entry_num=0))
         entry = line.ask(ReadDaq())
-        want((entry.daq_element_address, entry.size_daq_element) == (BASE + entries[0][0], entries[0][1]), "READ_DAQ")
+        want((entry.daq_element_address, entry.size_daq_element) == entries[0], "READ_DAQ")
         line.ask(SetDaqListMode(mode="timestamp", daq_list_num=number, event_channel_num=event, transmission_rate_prescaler=1))
         tell("GET_DAQ_LIST_MODE", line.ask(GetDaqListMode(daq_list_number=number)))
         tell("GET_DAQ_LIST_INFO", line.ask(GetDaqListInfo(daq_list_num=number)))
@@ -140,19 +144,27 @@ def measure(line, lists, many):
     print("  measured: " + ", ".join(f"list {number}: {len(packets)}" for number, packets in sorted(line.samples.items())))
 
 
-def try_by(kind, port):
+def elements_of(server):
+    """The address and size of each variable, by the A2L file that the server writes."""
+    with tempfile.NamedTemporaryFile(suffix=".a2l") as file:
+        subprocess.run([server, "--a2l", file.name], check=True)
+        return {it.name: (it.address, it.size) for it in variables_of(file.name)}
+
+
+def try_by(kind, port, elements):
+    fast, slow = ([elements[name] for name in names] for names in (FAST, SLOW))
     line = Line(kind, port)
     conf.contribs["XCP"]["byte_order"] = 0
     tell("CONNECT", line.ask(Connect()))
     read_all(line)
-    set_up(line, [(0, FAST), (1, SLOW)])
+    set_up(line, [(0, fast), (1, slow)])
     measure(line, 2, 500)
     want(len(line.samples.get(1, [])) >= 40, "both event channels are measured")
     for packet in line.samples[0]:
-        time, counter, stamp, _, saw = struct.unpack("<IIIhH", packet[1:])
-        want(stamp == time and saw == counter % 1000, "values of one trigger")
+        time, counter, stamp, torque = struct.unpack("<IIIh", packet[1:])
+        want(stamp == time and torque == counter % 1000 - 500, "values of one trigger")
     measure(line, 2, 300)
-    set_up(line, [(1, SLOW)])
+    set_up(line, [(1, slow)])
     measure(line, 1, 30)
     line.ask(Disconnect())
     line.socket.close()
@@ -165,7 +177,7 @@ def main():
         _, udp, _, tcp = process.stdout.readline().split()
         for name, kind, port in [("UDP", socket.SOCK_DGRAM, int(udp)), ("TCP", socket.SOCK_STREAM, int(tcp))]:
             print(name)
-            try_by(kind, port)
+            try_by(kind, port, elements_of(server))
         process.send_signal(signal.SIGINT)
         print(process.stdout.read(), end="")
         want(process.wait() == 0, "the server's status")

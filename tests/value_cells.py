@@ -5,13 +5,16 @@ what tests/wire_reader.py read of it: the times since the first row, lists, mark
     ./xcpread --a2l A2L --csv FILE | tests/value_cells.py A2L ROWS      prints what differs, and ends with status 1 if anything does"""
 
 import csv
-import re
 import sys
 from decimal import Decimal
 
-a2l, rows = (open(it, encoding="utf-8").read() for it in sys.argv[1:])
-numbers = {text: Decimal(number) for number, text in re.findall(r'^ *(\d+) "(\w+)"$', a2l, re.M)}
-names = re.findall(r"/begin MEASUREMENT (\w+)", a2l)
+sys.dont_write_bytecode = True
+from a2l_variables import variables_of  # noqa: E402
+
+variables = variables_of(sys.argv[1])
+rows = open(sys.argv[2], encoding="utf-8").read()
+numbers = {text: Decimal(number) for it in variables for number, text in it.texts.items()}
+names = [it.name for it in variables]
 
 
 def number_of(cell):

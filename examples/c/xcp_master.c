@@ -1,26 +1,28 @@
-/* A small master of XCP on Ethernet, to try xcp_server with: it measures all variables of
- * xcp_server.a2l, and prints a row of CSV for each sample.
+/* A small master of XCP on Ethernet, to try a slave with: it fetches the slave's A2L file, measures
+ * variables by their names, and prints a row of CSV for each sample.
  *
- *   xcp_master --tcp PORT [--samples N] [--times N] [--pause MS] [--vanish] [--bad] [--wait MS]
- *              [--record FILE]
+ *   xcp_master --tcp PORT [--names NAME,..] [--samples N | --seconds N] [--times N] [--poll MS]
+ *              [--a2l FILE] [--pause MS] [--vanish] [--bad] [--wait MS] [--record FILE]
  *   xcp_master --udp PORT [the same]
  *   xcp_master --help
  *
- * It measures until N samples of the fast task came (100), and that as often as is said (once), each
- * time with lists that are set up anew. It checks what comes: counters rise by one; each reply is to
- * its command; no sample stands outside of a measurement; a sample's values are those of one trigger,
- * and its timestamp is theirs; an overload is marked exactly where triggers are missing. The slow
- * task's counter is measured by the fast task too, and rises there as well.
+ * It knows no address: names, types, addresses, event channels and conversions are those of the
+ * file (a2l_reader.h). Of two or more variables the last is polled, by SHORT_UPLOAD, while the
+ * others are measured, each by a DAQ list of its event channel. That goes on until N samples of the
+ * first list came (100), or for N seconds, and as often as is said (once), each time with lists set
+ * up anew. It checks what comes: counters rise by one; each reply is to its command; no
+ * sample stands outside of a measurement; a sample's packets are whole, and in order.
  * With --pause it reads nothing for so long in the middle of a measurement, so that samples are
  * dropped. With --vanish it goes in the middle of one, and with --bad it sends a bad frame then. It
  * waits for a reply for as long as is said (10000).
  * With --record it keeps what it sends and hears as a capture, by capture_file.h.
- * Its last line on standard error says how many samples came, and how many overloads. Ends with
- * status 1 at the first thing that isn't as it should be. Link with -lm. */
+ * Its last line on standard error says how many samples came of each event channel, how often it
+ * polled, and how many overloads there were. Ends with status 1 at the first thing that isn't as it
+ * should be. */
 #define _POSIX_C_SOURCE 200809L
+#include "a2l_reader.h"
 #include "capture_file.h"
 #include <arpa/inet.h>
-#include <math.h>
 #include <netinet/in.h>
 #include <poll.h>
 #include <stdbool.h>
@@ -31,41 +33,6 @@
 #include <sys/socket.h>
 #include <time.h>
 #include <unistd.h>
-
-/* ---- what is measured; tests/live compares this table with xcp_server.a2l */
-
-enum { ULONG, UWORD, SWORD, UBYTE };
-static const unsigned char sizes[] = {4, 2, 2, 1};
-
-static const struct variable {
-    const char *name;
-    unsigned type;
-    uint32_t address;
-    unsigned event;
-    double raw_of_one; /* the raw value of one unit */
-} variables[] = {
-    {"counter", ULONG, 0x10000000, 0, 1},
-    {"time", ULONG, 0x10000004, 0, 1},
-    {"sine", SWORD, 0x10000008, 0, 1000},
-    {"saw_tooth", UWORD, 0x1000000A, 0, 1},
-    {"slow_counter", ULONG, 0x10000010, 1, 1},
-    {"slow_time", ULONG, 0x10000014, 1, 1},
-    {"temperature", SWORD, 0x10000018, 1, 10},
-    {"state", UBYTE, 0x1000001A, 1, 1},
-};
-
-enum { VARIABLES = sizeof variables / sizeof variables[0], EVENTS = 2, SLOW_COUNTER = 4 };
-
-/* Whether the list of an event channel has a variable: its own, and the slow counter in both. */
-static bool has(unsigned event, unsigned v) {
-    return variables[v].event == event || v == SLOW_COUNTER;
-}
-
-static unsigned entries_of(unsigned event) {
-    unsigned n = 0;
-    for (unsigned v = 0; v < VARIABLES; v++) n += has(event, v);
-    return n;
-}
 
 static struct record record; /* what is kept of it as a capture, if anything */
 
@@ -85,9 +52,9 @@ static void want(bool holds, const char *what) {
     if (!holds) fail(what);
 }
 
-static uint32_t get(const uint8_t *at, unsigned bytes) {
-    uint32_t value = 0;
-    for (unsigned i = 0; i < bytes; i++) value |= (uint32_t)at[i] << 8 * i;
+static uint64_t get(const uint8_t *at, unsigned bytes) {
+    uint64_t value = 0;
+    for (unsigned i = 0; i < bytes; i++) value |= (uint64_t)at[i] << 8 * i;
     return value;
 }
 
@@ -95,75 +62,182 @@ static void put(uint8_t *at, unsigned bytes, uint32_t value) {
     for (unsigned i = 0; i < bytes; i++) at[i] = (uint8_t)(value >> 8 * i);
 }
 
+/* ---- the variables, as the A2L file has them */
+
+enum { VARIABLES = 256, LISTS = 16, MAX_ODT = 8, MAX_ENTRIES = 32, PACKET = 64 };
+enum { UNSIGNED, SIGNED, FLOAT };
+
+static const struct type {
+    const char *name;
+    unsigned size, kind;
+} types[] = {{"UBYTE", 1, UNSIGNED}, {"SBYTE", 1, SIGNED}, {"UWORD", 2, UNSIGNED},
+             {"SWORD", 2, SIGNED}, {"ULONG", 4, UNSIGNED}, {"SLONG", 4, SIGNED},
+             {"A_UINT64", 8, UNSIGNED}, {"A_INT64", 8, SIGNED}, {"FLOAT32_IEEE", 4, FLOAT},
+             {"FLOAT64_IEEE", 8, FLOAT}};
+
+static struct variable {
+    const char *name;
+    const struct type *type;
+    uint32_t address;
+    uint8_t extension;
+    unsigned event;
+    size_t method, texts; /* its COMPU_METHOD and COMPU_VTAB, or 0 */
+    unsigned list, odt;   /* where it is measured */
+    uint64_t raw;         /* its value in the sample that came last */
+} variables[VARIABLES];
+
+static unsigned count;           /* so many are to be shown: all but the last are measured .. */
+static struct variable *polled;  /* .. and that is polled, if there are two */
+
+static struct a2l a2l;
+static char *a2l_bytes;
+static size_t a2l_len;
+
+/* Looks a variable up. Answers whether the file has it. */
+static bool add_variable(const char *name) {
+    size_t block = a2l_block(&a2l, "MEASUREMENT", name);
+    struct variable *v = &variables[count++];
+    want(count < VARIABLES, "too many variables");
+    if (block == 0) {
+        fprintf(stderr, "xcp_master: no such measurement in the A2L file: %s\n", name);
+        return false;
+    }
+    v->name = name;
+    for (size_t t = 0; t < sizeof types / sizeof *types; t++)
+        if (strcmp(a2l_word(&a2l, block, "MEASUREMENT", 3), types[t].name) == 0)
+            v->type = &types[t];
+    want(v->type != NULL, "a type that isn't known");
+    v->address = (uint32_t)strtoul(a2l_word(&a2l, block, "ECU_ADDRESS", 1), NULL, 0);
+    v->extension = (uint8_t)strtoul(a2l_word(&a2l, block, "ECU_ADDRESS_EXTENSION", 1), NULL, 0);
+    v->event = (unsigned)strtoul(a2l_word(&a2l, block, "DEFAULT_EVENT_LIST", 2), NULL, 0);
+    v->method = a2l_block(&a2l, "COMPU_METHOD", a2l_word(&a2l, block, "MEASUREMENT", 4));
+    v->texts = a2l_block(&a2l, "COMPU_VTAB", a2l_word(&a2l, v->method, "COMPU_TAB_REF", 1));
+    return true;
+}
+
+/* Chooses variables by their names, which commas part; or all. Answers whether there are any, and
+ * the file has each. */
+static bool choose(char *names) {
+    const char *name;
+    for (size_t n = 0; names == NULL && (name = a2l_nth(&a2l, "MEASUREMENT", n)) != NULL; n++)
+        if (!add_variable(name)) return false;
+    while (names != NULL) {
+        char *comma = strchr(names, ',');
+        if (comma != NULL) *comma++ = 0;
+        if (!add_variable(names)) return false;
+        names = comma;
+    }
+    if (count > 1) polled = &variables[--count];
+    return count > 0;
+}
+
+/* The text that a raw value has, or NULL. */
+static const char *text_of(const struct variable *v) {
+    unsigned long many = strtoul(a2l_word(&a2l, v->texts, "COMPU_VTAB", 4), NULL, 0);
+    for (unsigned long k = 0; k < many; k++)
+        if (strtoull(a2l_word(&a2l, v->texts, "COMPU_VTAB", 5 + 2 * k), NULL, 0) == v->raw)
+            return a2l_word(&a2l, v->texts, "COMPU_VTAB", 6 + 2 * k);
+    return NULL;
+}
+
+static double number_of(const struct variable *v) {
+    double wide;
+    float narrow;
+    uint32_t bits = (uint32_t)v->raw;
+    if (v->type->kind == FLOAT && v->type->size == 4) {
+        memcpy(&narrow, &bits, sizeof narrow);
+        return narrow;
+    }
+    if (v->type->kind == UNSIGNED) return (double)v->raw;
+    if (v->type->kind == SIGNED) {
+        uint64_t sign = (uint64_t)1 << (8 * v->type->size - 1);
+        return (double)(int64_t)((v->raw ^ sign) - sign);
+    }
+    memcpy(&wide, &v->raw, sizeof wide);
+    return wide;
+}
+
+/* Prints a value with as many digits behind the point as its conversion says. */
+static void print_value(const struct variable *v) {
+    const char *text = text_of(v), *linear = a2l_word(&a2l, v->method, "COEFFS_LINEAR", 1);
+    const char *point = strchr(a2l_word(&a2l, v->method, "COMPU_METHOD", 4), '.');
+    double value = number_of(v);
+    if (*linear != 0)
+        value = strtod(linear, NULL) * value
+            + strtod(a2l_word(&a2l, v->method, "COEFFS_LINEAR", 2), NULL);
+    if (text != NULL) printf("%s", text);
+    else printf("%.*f", point == NULL ? 0 : atoi(point + 1), value);
+}
+
+/* The name of an event channel. */
+static const char *event_name(unsigned event) {
+    const char *name;
+    for (size_t n = 0; (name = a2l_nth(&a2l, "EVENT", n)) != NULL; n++)
+        if (strtoul(a2l_word(&a2l, a2l_block(&a2l, "EVENT", name), "EVENT", 3), NULL, 0) == event)
+            return name;
+    return "";
+}
+
 /* ---- the samples */
 
-static bool measures;                      /* between the reply to a start and that to a stop */
-static bool came[EVENTS];                  /* whether a sample of the list came in this measurement */
-static uint32_t last[EVENTS];              /* the counter of its last one */
-static unsigned long samples[EVENTS], overloads;
-static struct {
-    uint32_t slow, stamp;
-} begun, now; /* the slow counter, as the fast task first and last sampled it, and when */
+static struct list {
+    unsigned event, odts, first_pid, next; /* next: the ODT whose packet comes next */
+    const char *name;                      /* of the event channel */
+    uint32_t stamp;
+    bool marked;
+    unsigned long samples;
+} lists[LISTS];
 
-/* Whether a task computes these values at one trigger; as xcp_server.c does. */
-static bool are_of_one_trigger(unsigned event, const int32_t *raw, uint32_t stamp) {
-    uint32_t turn = (uint32_t)raw[0];
-    if ((uint32_t)raw[1] != stamp) return false;
-    if (event == 0) {
-        double angle = 2 * 3.14159265358979 * (turn % 1000) / 1000;
-        return raw[2] == lround(1000 * sin(angle)) && raw[3] == (int32_t)(turn % 1000);
-    }
-    return raw[2] == (int32_t)(200 + turn % 50) && raw[3] == (int32_t)(turn / 25 % 4);
-}
+static unsigned list_count;
+static bool measures;                  /* between the reply to a start and that to a stop */
+static double tick;                    /* seconds */
+static unsigned long overloads, polls;
 
-/* The slow counter in a sample of the fast task: it never falls. */
-static void look_at_slow_counter(uint32_t slow, uint32_t stamp) {
-    if (samples[0] == 0) {
-        begun.slow = slow;
-        begun.stamp = stamp;
-    } else want(slow >= now.slow, "slow_counter falls by event 1 ms");
-    now.slow = slow;
-    now.stamp = stamp;
-}
-
-static void print_row(unsigned event, uint32_t stamp, bool marked, const int32_t *raw) {
-    unsigned n = 0;
-    printf("%.6f,%s,%d", stamp / 1e6, event == 0 ? "1 ms" : "10 ms", marked);
-    for (unsigned v = 0; v < VARIABLES; v++) {
+static void print_row(uint32_t stamp, const char *event, const char *mark, unsigned list) {
+    printf("%.6f,%s,%s", stamp * tick, event, mark);
+    for (unsigned v = 0; v < count; v++) {
         printf(",");
-        if (!has(event, v)) continue;
-        int32_t value = raw[n++];
-        if (variables[v].type == ULONG) printf("%lu", (unsigned long)(uint32_t)value);
-        else printf("%g", value / variables[v].raw_of_one);
+        if (variables[v].list == list) print_value(&variables[v]);
+    }
+    if (polled != NULL) {
+        printf(",");
+        if (list == LISTS) print_value(polled);
     }
     printf("\n");
 }
 
-/* A DAQ packet: PID, timestamp, and the values of the list of its event channel. */
-static void take_sample(const uint8_t *packet, unsigned len) {
-    unsigned event = packet[0] & 0x7Fu, at = 5, n = 0;
-    bool marked = (packet[0] & 0x80u) != 0;
-    int32_t raw[VARIABLES];
+static struct list *list_of(unsigned pid) {
+    for (unsigned l = 0; l < list_count; l++)
+        if (pid >= lists[l].first_pid && pid < lists[l].first_pid + lists[l].odts)
+            return &lists[l];
+    fail("a PID of no list");
+    return NULL;
+}
+
+/* A DAQ packet: PID, in the first ODT a timestamp, and the values of the ODT. */
+static void take_packet(const uint8_t *packet, unsigned len) {
+    struct list *list = list_of(packet[0] & 0x7Fu);
+    unsigned odt = (packet[0] & 0x7Fu) - list->first_pid, at = odt == 0 ? 5 : 1;
     want(measures, "a sample outside of a measurement");
-    want(event < EVENTS, "a PID of no list");
-    for (unsigned v = 0; v < VARIABLES; v++) {
-        unsigned size = sizes[variables[v].type];
-        if (!has(event, v)) continue;
+    want(odt == list->next, "a packet of a sample is missing");
+    if (odt == 0) {
+        want(len >= 5, "a sample that is too short");
+        list->marked = (packet[0] & 0x80u) != 0;
+        list->stamp = (uint32_t)get(packet + 1, 4);
+    }
+    for (unsigned v = 0; v < count; v++) {
+        unsigned size = variables[v].type->size;
+        if (&lists[variables[v].list] != list || variables[v].odt != odt) continue;
         want(at + size <= len, "a sample that is too short");
-        uint32_t value = get(packet + at, size);
-        raw[n++] = variables[v].type == SWORD ? (int16_t)value : (int32_t)value;
+        variables[v].raw = get(packet + at, size);
         at += size;
     }
     want(at == len, "a sample that is too long");
-    want(are_of_one_trigger(event, raw, get(packet + 1, 4)), "values of more than one trigger");
-    if (came[event])
-        want(((uint32_t)raw[0] != last[event] + 1) == marked, "a gap without a mark, or a mark without a gap");
-    if (event == 0) look_at_slow_counter((uint32_t)raw[4], get(packet + 1, 4));
-    came[event] = true;
-    last[event] = (uint32_t)raw[0];
-    samples[event]++;
-    overloads += marked;
-    print_row(event, get(packet + 1, 4), marked, raw);
+    list->next = (odt + 1) % list->odts;
+    if (list->next != 0) return;
+    list->samples++;
+    overloads += list->marked;
+    print_row(list->stamp, list->name, list->marked ? "1" : "0", (unsigned)(list - lists));
 }
 
 /* ---- frames, and the commands */
@@ -192,11 +266,11 @@ static bool hear_more(int wait) {
 
 /* The next packet, if one comes within so many milliseconds. */
 static const uint8_t *next_packet(unsigned *len, int wait) {
-    while (to - from < 4 || to - from < 4u + get(heard + from, 2))
+    while (to - from < 4 || to - from < 4 + get(heard + from, 2))
         if (!hear_more(wait)) return NULL;
     const uint8_t *frame = heard + from;
-    *len = get(frame, 2);
-    want(*len > 0 && *len <= 64, "LEN");
+    *len = (unsigned)get(frame, 2);
+    want(*len > 0 && *len <= PACKET, "LEN");
     want(!counts || get(frame + 2, 2) == expected, "CTR rises by one");
     counts = true;
     expected = (uint16_t)(get(frame + 2, 2) + 1);
@@ -226,7 +300,7 @@ static const uint8_t *ask(const uint8_t *packet, unsigned len) {
         unsigned size = 0;
         const uint8_t *reply = next_packet(&size, patience);
         want(reply != NULL, "no reply");
-        if (reply[0] < 0xFE) take_sample(reply, size);
+        if (reply[0] < 0xFE) take_packet(reply, size);
         else {
             want(reply[0] == 0xFF, "a command was refused");
             return reply;
@@ -236,7 +310,7 @@ static const uint8_t *ask(const uint8_t *packet, unsigned len) {
 
 #define ASK(...) ask((const uint8_t[]){__VA_ARGS__}, sizeof((const uint8_t[]){__VA_ARGS__}))
 
-/* Connects, and makes sure that samples come in the form in which take_sample reads them; a capture
+/* Connects, and makes sure that samples come in the form in which take_packet reads them; a capture
  * has that then too. */
 static void ask_who_is_there(void) {
     const uint8_t *reply = ASK(0xFF, 0); /* CONNECT */
@@ -245,46 +319,158 @@ static void ask_who_is_there(void) {
     want(reply[1] >> 6 == 1, "no overload indication in the PID");
     want(reply[7] >> 6 == 0, "no absolute ODT numbers");
     reply = ASK(0xD9);                   /* GET_DAQ_RESOLUTION_INFO */
-    want((reply[5] & 0xF7) == 0x34, "no timestamps of 4 bytes, in microseconds");
+    want((reply[5] & 0x07) == 4, "no timestamps of 4 bytes");
+    tick = (double)get(reply + 6, 2) / 1e9;
+    for (unsigned unit = reply[5] >> 4; unit > 0; unit--) tick *= 10;
 }
 
-/* A list for each event channel, of one ODT: a timestamp, and what its event channel samples. */
-static void set_up(void) {
-    ASK(0xD6);                       /* FREE_DAQ */
-    ASK(0xD5, 0, EVENTS, 0);         /* ALLOC_DAQ */
-    for (uint8_t l = 0; l < EVENTS; l++) ASK(0xD4, 0, l, 0, 1);             /* ALLOC_ODT */
-    for (uint8_t l = 0; l < EVENTS; l++)
-        ASK(0xD3, 0, l, 0, 0, (uint8_t)entries_of(l)); /* ALLOC_ODT_ENTRY */
-    for (uint8_t l = 0; l < EVENTS; l++) {
-        ASK(0xE2, 0, l, 0, 0, 0);    /* SET_DAQ_PTR */
-        for (unsigned v = 0; v < VARIABLES; v++) {
-            uint8_t write[8] = {0xE1, 0xFF, sizes[variables[v].type], 0};
-            put(write + 4, 4, variables[v].address);
-            if (has(l, v)) ask(write, sizeof write); /* WRITE_DAQ */
+/* The text of GET_ID, which UPLOAD reads. */
+static char *upload(uint8_t kind, size_t *len) {
+    *len = (size_t)get(ASK(0xFA, kind) + 4, 4); /* GET_ID */
+    char *text = malloc(*len + 1);
+    want(text != NULL, "out of memory");
+    for (size_t at = 0; at < *len;) {
+        uint8_t part = *len - at < PACKET - 1 ? (uint8_t)(*len - at) : PACKET - 1;
+        memcpy(text + at, ASK(0xF5, part) + 1, part); /* UPLOAD */
+        at += part;
+    }
+    text[*len] = 0;
+    return text;
+}
+
+/* Fetches the A2L file, which is kept if that is wanted. It has the EPK that the slave answers. */
+static void fetch(const char *path) {
+    size_t len;
+    a2l_bytes = upload(4, &a2l_len);
+    if (path != NULL) {
+        FILE *file = fopen(path, "wb");
+        bool whole = file != NULL && fwrite(a2l_bytes, 1, a2l_len, file) == a2l_len;
+        want(file != NULL && fclose(file) == 0 && whole, "the A2L file can't be written");
+    }
+    char *epk = upload(5, &len);
+    want(a2l_read(&a2l, a2l_bytes, a2l_len), "out of memory");
+    const char *name = a2l_nth(&a2l, "MOD_PAR", 0);
+    want(name != NULL, "an A2L file without MOD_PAR");
+    want(strcmp(a2l_word(&a2l, a2l_block(&a2l, "MOD_PAR", name), "EPK", 1), epk) == 0,
+         "the A2L file is of another program");
+    free(epk);
+}
+
+/* Gives each variable that is measured a list of its event channel, and an ODT that has room. */
+static void place(void) {
+    unsigned room[LISTS] = {0}, entries[LISTS] = {0};
+    list_count = 0;
+    for (unsigned v = 0; v < count; v++) {
+        unsigned l = 0, size = variables[v].type->size;
+        while (l < list_count && lists[l].event != variables[v].event) l++;
+        want(l < LISTS, "too many event channels");
+        if (l == list_count) {
+            lists[list_count++] = (struct list){
+                .event = variables[v].event, .odts = 1, .name = event_name(variables[v].event)};
+            room[l] = PACKET - 5;
         }
-        ASK(0xE0, 0x10, l, 0, l, 0, 1, 0); /* SET_DAQ_LIST_MODE: TIMESTAMP, event channel l */
-        ASK(0xDE, 2, l, 0);          /* START_STOP_DAQ_LIST: select */
+        if (room[l] < size || entries[l] == MAX_ENTRIES) {
+            want(lists[l].odts++ < MAX_ODT, "more variables than a list has room for");
+            room[l] = PACKET - 1;
+            entries[l] = 0;
+        }
+        room[l] -= size;
+        entries[l]++;
+        variables[v].list = l;
+        variables[v].odt = lists[l].odts - 1;
     }
 }
 
-/* Takes samples until so many of the fast task came in this measurement. */
-static void measure(unsigned long many, int pause, bool vanish, bool bad) {
-    unsigned long until = samples[0] + many, middle = samples[0] + many / 2;
-    bool paused = false;
-    memset(came, 0, sizeof came);
+/* The variables of an ODT, as its entries. */
+static uint8_t entries_of(unsigned list, unsigned odt) {
+    uint8_t n = 0;
+    for (unsigned v = 0; v < count; v++)
+        n += variables[v].list == list && variables[v].odt == odt;
+    return n;
+}
+
+static void write_odt(unsigned list, unsigned odt) {
+    ASK(0xE2, 0, (uint8_t)list, 0, (uint8_t)odt, 0); /* SET_DAQ_PTR */
+    for (unsigned v = 0; v < count; v++) {
+        uint8_t write[8] = {0xE1, 0xFF, (uint8_t)variables[v].type->size, variables[v].extension};
+        put(write + 4, 4, variables[v].address);
+        if (variables[v].list == list && variables[v].odt == odt)
+            ask(write, sizeof write); /* WRITE_DAQ */
+    }
+}
+
+/* Lists with a timestamp, each of them by its event channel, selected. */
+static void set_up(void) {
+    ASK(0xD6);                         /* FREE_DAQ */
+    ASK(0xD5, 0, (uint8_t)list_count, 0); /* ALLOC_DAQ */
+    for (uint8_t l = 0; l < list_count; l++)
+        ASK(0xD4, 0, l, 0, (uint8_t)lists[l].odts); /* ALLOC_ODT */
+    for (uint8_t l = 0; l < list_count; l++)
+        for (uint8_t k = 0; k < lists[l].odts; k++)
+            ASK(0xD3, 0, l, 0, k, entries_of(l, k)); /* ALLOC_ODT_ENTRY */
+    for (uint8_t l = 0; l < list_count; l++) {
+        for (unsigned k = 0; k < lists[l].odts; k++) write_odt(l, k);
+        ASK(0xE0, 0x10, l, 0, (uint8_t)lists[l].event, 0, 1, 0); /* SET_DAQ_LIST_MODE: TIMESTAMP */
+        lists[l].first_pid = ASK(0xDE, 2, l, 0)[1]; /* START_STOP_DAQ_LIST: select */
+        lists[l].next = 0;
+    }
+}
+
+/* Reads a variable without a list, at a time by the slave's clock. */
+static void poll_variable(void) {
+    uint8_t read[8] = {0xF4, (uint8_t)polled->type->size, 0, polled->extension};
+    uint32_t clock = (uint32_t)get(ASK(0xDC) + 4, 4); /* GET_DAQ_CLOCK */
+    put(read + 4, 4, polled->address);
+    polled->raw = get(ask(read, sizeof read) + 1, polled->type->size); /* SHORT_UPLOAD */
+    polls++;
+    print_row(clock, "polled", "", LISTS);
+}
+
+static long now_ms(void) {
+    struct timespec now;
+    clock_gettime(CLOCK_MONOTONIC, &now);
+    return (long)now.tv_sec * 1000 + now.tv_nsec / 1000000;
+}
+
+struct options {
+    int kind;
+    unsigned port;
+    unsigned long samples, times;
+    int pause, poll, seconds;
+    bool vanish, bad;
+    char *names;
+    const char *record, *a2l;
+};
+
+/* What is done in the middle of a measurement. */
+static void disturb(const struct options *o) {
+    if (o->vanish) leave(0);
+    if (o->bad) send_bytes((const uint8_t[4]){0}, 4);
+    if (o->pause > 0)
+        nanosleep(&(struct timespec){o->pause / 1000, o->pause % 1000 * 1000000L}, NULL);
+}
+
+/* Takes samples until so many of the first list came in this measurement, or time is up. */
+static void measure(const struct options *o) {
+    unsigned long begun = lists[0].samples;
+    long start = now_ms(), polled_at = start - o->poll;
+    bool disturbed = false;
     measures = true; /* a start is answered before its first sample, so none came yet */
     ASK(0xDD, 1);    /* START_STOP_SYNCH: start */
-    while (samples[0] < until) {
+    while (o->seconds > 0 ? now_ms() - start < o->seconds * 1000L
+                          : lists[0].samples - begun < o->samples) {
         unsigned len = 0;
         const uint8_t *packet = next_packet(&len, 10000);
         want(packet != NULL, "no sample");
         want(packet[0] < 0xFE, "a reply to nothing");
-        take_sample(packet, len);
-        if (samples[0] < middle || paused) continue;
-        paused = true;
-        if (vanish) leave(0);
-        if (bad) send_bytes((const uint8_t[4]){0}, 4);
-        if (pause > 0) nanosleep(&(struct timespec){pause / 1000, pause % 1000 * 1000000L}, NULL);
+        take_packet(packet, len);
+        if (polled != NULL && now_ms() - polled_at >= o->poll) {
+            poll_variable();
+            polled_at = now_ms();
+        }
+        if (lists[0].samples - begun < o->samples / 2 || disturbed) continue;
+        disturbed = true;
+        disturb(o);
     }
     ASK(0xDD, 0);    /* START_STOP_SYNCH: stop all */
     measures = false;
@@ -301,26 +487,23 @@ static void connect_to(int kind, unsigned port) {
     want(line >= 0 && connect(line, (struct sockaddr *)&at, sizeof at) == 0, "no connection");
 }
 
-struct options {
-    int kind;
-    unsigned port;
-    unsigned long samples, times;
-    int pause;
-    bool vanish, bad;
-    const char *record;
-};
-
-static const char usage[] = "usage: xcp_master --tcp PORT | --udp PORT [--samples N] [--times N] "
-                            "[--pause MS] [--vanish] [--bad] [--wait MS] [--record FILE]\n";
+static const char usage[] =
+    "usage: xcp_master --tcp PORT | --udp PORT [--names NAME,..] [--samples N | --seconds N]\n"
+    "                  [--times N] [--poll MS] [--a2l FILE] [--pause MS] [--vanish] [--bad]\n"
+    "                  [--wait MS] [--record FILE]\n";
 
 static const char help[] =
     "\n"
-    "Measures all variables of xcp_server.a2l on this machine, prints a row of CSV for each sample,\n"
-    "and checks what comes.\n"
+    "Fetches the A2L file of a slave on this machine, measures variables by name, polls the last\n"
+    "of them meanwhile, and prints a row of CSV for each sample. It checks what comes.\n"
     "\n"
-    "  --tcp PORT, --udp PORT  where the server listens\n"
-    "  --samples N             measures until so many samples of the task of 1 ms came; else 100\n"
+    "  --tcp PORT, --udp PORT  where the slave listens\n"
+    "  --names NAME,..         these variables; else all of the A2L file\n"
+    "  --samples N             measures until so many samples of the first list came; else 100\n"
+    "  --seconds N             measures for so long\n"
     "  --times N               measures so often; else once\n"
+    "  --poll MS               polls so often; else each 100\n"
+    "  --a2l FILE              keeps the A2L file\n"
     "  --pause MS              reads nothing for so long in the middle of each measurement\n"
     "  --vanish                goes in the middle of one, and says nothing\n"
     "  --bad                   sends a bad frame in the middle of each\n"
@@ -328,34 +511,50 @@ static const char help[] =
     "  --record FILE           keeps what it sends and hears as a capture that Wireshark and\n"
     "                          tcpdump read; if it can't all be written, the status is 1\n";
 
+/* Takes an option that has a value. Answers whether there is such a one. */
+static bool take_option(struct options *o, const char *name, char *value) {
+    if (strcmp(name, "--samples") == 0) o->samples = strtoul(value, NULL, 10);
+    else if (strcmp(name, "--seconds") == 0) o->seconds = atoi(value);
+    else if (strcmp(name, "--times") == 0) o->times = strtoul(value, NULL, 10);
+    else if (strcmp(name, "--poll") == 0) o->poll = atoi(value);
+    else if (strcmp(name, "--pause") == 0) o->pause = atoi(value);
+    else if (strcmp(name, "--wait") == 0) patience = atoi(value);
+    else if (strcmp(name, "--names") == 0) o->names = value;
+    else if (strcmp(name, "--a2l") == 0) o->a2l = value;
+    else if (strcmp(name, "--record") == 0) o->record = value;
+    else if (strcmp(name, "--tcp") == 0 || strcmp(name, "--udp") == 0) {
+        o->kind = name[2] == 't' ? SOCK_STREAM : SOCK_DGRAM;
+        o->port = (unsigned)atoi(value);
+    } else return false;
+    return true;
+}
+
 static struct options read_options(int argc, char **argv) {
-    struct options o = {.samples = 100, .times = 1};
-    for (int i = 1; i < argc; i++) {
-        bool more = i + 1 < argc;
+    struct options o = {.samples = 100, .times = 1, .poll = 100};
+    bool good = true;
+    for (int i = 1; i < argc && good; i++) {
         if (strcmp(argv[i], "--vanish") == 0) o.vanish = true;
         else if (strcmp(argv[i], "--bad") == 0) o.bad = true;
-        else if (more && strcmp(argv[i], "--samples") == 0) o.samples = strtoul(argv[++i], NULL, 10);
-        else if (more && strcmp(argv[i], "--times") == 0) o.times = strtoul(argv[++i], NULL, 10);
-        else if (more && strcmp(argv[i], "--pause") == 0) o.pause = atoi(argv[++i]);
-        else if (more && strcmp(argv[i], "--wait") == 0) patience = atoi(argv[++i]);
-        else if (more && strcmp(argv[i], "--record") == 0) o.record = argv[++i];
         else if (strcmp(argv[i], "--help") == 0) {
             printf("%s%s", usage, help);
             exit(0);
+        } else {
+            good = i + 1 < argc && take_option(&o, argv[i], argv[i + 1]);
+            i++;
         }
-        else if (more && strcmp(argv[i], "--tcp") == 0) {
-            o.kind = SOCK_STREAM;
-            o.port = (unsigned)atoi(argv[++i]);
-        } else if (more && strcmp(argv[i], "--udp") == 0) {
-            o.kind = SOCK_DGRAM;
-            o.port = (unsigned)atoi(argv[++i]);
-        } else o.port = 0, i = argc;
     }
-    if (o.port == 0) {
+    if (!good || o.port == 0) {
         fprintf(stderr, "%s", usage);
         exit(2);
     }
     return o;
+}
+
+static void print_account(void) {
+    fprintf(stderr, "samples");
+    for (unsigned l = 0; l < list_count; l++)
+        fprintf(stderr, "%s %lu of %s", l == 0 ? "" : ",", lists[l].samples, lists[l].name);
+    fprintf(stderr, ", polls %lu, overloads %lu\n", polls, overloads);
 }
 
 int main(int argc, char **argv) {
@@ -363,17 +562,23 @@ int main(int argc, char **argv) {
     connect_to(o.kind, o.port);
     if (o.record != NULL) record_to(&record, o.record, line, by_stream);
     ask_who_is_there();
+    fetch(o.a2l);
+    if (!choose(o.names)) {
+        ASK(0xFE); /* DISCONNECT */
+        leave(2);
+    }
+    place();
     printf("seconds,event,overload");
-    for (unsigned v = 0; v < VARIABLES; v++) printf(",%s", variables[v].name);
+    for (unsigned v = 0; v < count + (polled != NULL); v++) printf(",%s", variables[v].name);
     printf("\n");
     for (unsigned long k = 0; k < o.times; k++) {
         set_up();
-        measure(o.samples, o.pause, o.vanish, o.bad);
+        measure(&o);
     }
     ASK(0xFE); /* DISCONNECT */
-    /* it counts each 10 ms */
-    want(now.slow > begun.slow || now.stamp - begun.stamp < 200000, "slow_counter stands still");
     bool whole = record_end(&record);
-    fprintf(stderr, "samples %lu and %lu, overloads %lu\n", samples[0], samples[1], overloads);
+    print_account();
+    a2l_free(&a2l);
+    free(a2l_bytes);
     return whole ? 0 : 1;
 }

@@ -1,8 +1,9 @@
 #!/usr/bin/env bash
-# Records the captures of this folder anew, as root, with tcpdump on this machine's loopback: examples/c/xcp_server.c on port 5555, as
-# ./live leaves it in out/live, with a short session of examples/c/xcp_master.c by UDP and by TCP, one of Scapy's master (Debian's
-# python3-scapy) by UDP, in which it sets lists up twice, and one of refusing_session.py by UDP and by TCP, in which commands are refused
-# and lists set up twice; that one writes down beside its capture what it received.
+# Records the captures of this folder anew, as root, with tcpdump on this machine's loopback, in a checkout of version 0.3.0, whose server
+# had one image for both tasks; xcp_server.a2l here is of that. examples/c/xcp_server.c on port 5555, as ./live leaves it in out/live, with
+# a short session of examples/c/xcp_master.c by UDP and by TCP, one of Scapy's master (Debian's python3-scapy) by UDP, in which it sets
+# lists up twice, and one of refusing_session.py by UDP and by TCP, in which commands are refused and lists set up twice; that one writes
+# down beside its capture what it received.
 #
 #   tests/captures_kept/keep.sh [NAME ..]      all, or those of these names, such as refused_by_udp
 set -u

@@ -1,6 +1,6 @@
 #!/usr/bin/env python3
-"""A master of examples/c/xcp_server.c, over a plain socket, in whose session the slave refuses commands that would change the DAQ lists
-if they counted, and sets lists up twice.
+"""A master of examples/c/xcp_server.c as it was in version 0.3.0, over a plain socket, in whose session the slave refuses commands that
+would change the DAQ lists if they counted, and sets lists up twice.
 
     tests/captures_kept/refusing_session.py udp|tcp PORT EXPECTED
 
