@@ -1,7 +1,6 @@
 //! The packets of a master are written in words, by the standard's names.
 use crate::command_text::{CommandText, write_name};
 use std::fmt::{self, Display};
-use xcp_base::limits::MAX_CTO;
 
 /// The command of a packet of a master by its name (ASAM MCD-1 XCP, protocol layer), with its
 /// fields.
@@ -43,8 +42,9 @@ fn write_number<W: fmt::Write>(
     write!(f, " {what} {number}")
 }
 
-/// The most entries that WRITE_DAQ_MULTIPLE has, if MAX_CTO is the greatest.
-const MOST_ENTRIES: usize = (MAX_CTO - 2) / 8;
+/// The most entries of WRITE_DAQ_MULTIPLE that find room in a packet of 64 bytes. How many a slave
+/// takes goes by its MAX_CTO, which a packet doesn't tell: of more than these the number is shown.
+const MOST_ENTRIES: u8 = 7;
 
 /// Writes WRITE_DAQ_MULTIPLE of so many entries, for which there are so many bytes.
 fn write_multiple<W: fmt::Write>(
@@ -52,8 +52,7 @@ fn write_multiple<W: fmt::Write>(
     count: u8,
     bytes: usize,
 ) -> fmt::Result {
-    let count = count as usize;
-    if count <= MOST_ENTRIES && bytes < 8 * count {
+    if count <= MOST_ENTRIES && bytes < 8 * count as usize {
         return f.write_str("too short for its command");
     }
     write_number(f, &[0xC7], "count", count as u16)
