@@ -8,6 +8,7 @@ use Rattle.std.specs.Str.{bytes_eq}
 use Rattle.std.proofs.lemmas.List.{map-append, take_more, length-map, length-take}
 use Rattle.std.proofs.lemmas.Slice.Eq.{bytes_eq-Decides}
 use Rattle.std.proofs.lemmas.Bool.{ltb-true, ltb-false}
+use Rattle.std.proofs.lemmas.Option.{slice_get-get_or, slice_get_past}
 use Rattle.a2l.specs.Names.{place_from, place_of}
 
 same_bytes : (n : List ℕ) → bytes_eq n n ≡ true
@@ -75,18 +76,8 @@ get_map f [] k = refl
 get_map f (x ∷ xs) zero = refl
 get_map f (x ∷ xs) (suc k) = get_map f xs k
 
-pub get_past : {X : Type 0} (xs : List X) (k : ℕ) → length xs ≤ k → slice_get xs k ≡ None
-get_past [] k le = refl
-get_past (x ∷ xs) zero le = absurd (omega arith)
-get_past (x ∷ xs) (suc k) le = get_past xs k (omega arith)
-
-pub get_in : {X : Type 0} (xs : List X) (k : ℕ) (d : X) → k < length xs → slice_get xs k ≡ Some (get_or xs k d)
-get_in [] k d lt = absurd (omega arith)
-get_in (x ∷ xs) zero d lt = refl
-get_in (x ∷ xs) (suc k) d lt = get_in xs k d (omega arith)
-
 pub none_at : {X : Type 0} (xs : List X) (k : ℕ) → IsItemAt xs k None → slice_get xs k ≡ None
-none_at xs k h = get_past xs k (ltb-false k (length xs) (sym h.0))
+none_at xs k h = slice_get_past xs k (ltb-false k (length xs) (sym h.0))
 
 pub some_at : {X : Type 0} (xs : List X) (k : ℕ) (x : Bor X) → IsItemAt xs k (Some x) → slice_get xs k ≡ Some x.now
-some_at xs k x h = get_in xs k x.now (ltb-true k (length xs) (sym h.0)) ∙ ap Some (sym h.1)
+some_at xs k x h = slice_get-get_or xs k x.now (ltb-true k (length xs) (sym h.0)) ∙ ap Some (sym h.1)

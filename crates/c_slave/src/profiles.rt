@@ -8,7 +8,6 @@ use c_engine::{Status, kind_numbered, ring_numbered};
 use segments::{Segment, all_readers};
 use session::{EventChannel, Profile};
 use std::alloc::{AllocError, Global};
-use xcp_base::limits::ADDRESS_EXTENSION;
 
 /// The bytes of a name, up to the first zero byte.
 fn text_of(alloc: Global, name: &[u8]) -> Result<Vec<u8>, AllocError>
@@ -75,16 +74,12 @@ fn texts_of(
 }
 
 /// The memory that is asked for: the image, as one segment, that all event channels may read.
-fn memory_of(
-    alloc: Global,
-    asked: &ProfileIn,
-    channels: usize,
-) -> Result<Vec<Segment>, AllocError>
+fn memory_of(alloc: Global, asked: &ProfileIn, channels: usize) -> Result<Vec<Segment>, AllocError>
     ensures { IfOk result (λ made. made.items ≡ memory_in asked.now channels) }
 {
     let mut made = Vec::new(alloc);
     made.push(Segment {
-        extension: ADDRESS_EXTENSION,
+        extension: 0,
         base: asked.base,
         len: asked.image_len,
         events: all_readers(channels),

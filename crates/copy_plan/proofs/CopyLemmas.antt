@@ -1,16 +1,15 @@
 -- What the spans of stretches copy of memory is what they copy of its image.
 use Rattle.std.proofs.Common.{◌≡◌, ℕ, zero, suc, ◌+◌, ◌-◌, ◌≤◌, true, List, [], ◌∷◌, ◌++◌, length, map, take, drop, replicate, refl, sym, ap, ◌∙◌, arith}
-use Rattle.std.specs.Prelude.{All, slice_range, slice_index_or, flat_map}
+use Rattle.std.specs.Prelude.{All, slice_range, slice_index_or}
 use Rattle.std.specs.Borrow.{Bor}
-use Rattle.std.proofs.lemmas.List.{length-map, nil_from_length, take-append-drop}
-use Rattle.std.proofs.lemmas.List.Concat.{flat_map-append}
+use Rattle.std.proofs.lemmas.List.{length-map, nil_from_length}
 use Rattle.std.proofs.lemmas.List.Elements.{All-nil, All-cons, All-head, All-tail, All-drop, All-take}
 use Rattle.xcp_base.specs.declared.memory_view.MemoryView.{MemoryView}
 use Rattle.xcp_base.specs.declared.memory_view.MemoryView.TheVariants.{Image, Parts}
 use Rattle.xcp_base.specs.declared.span.Span.{Span}
 use Rattle.xcp_base.specs.declared.stretch.Stretch.{Stretch}
 use Rattle.xcp_base.specs.Copied.{AreSpansIn, AreStretches, IsSpanAt, IsSpanInside, copied, copied_at, copied_from, span_size, sizes_in}
-use Rattle.xcp_base.proofs.ImageLemmas.{copied_from-image, spans_in-image}
+use Rattle.xcp_base.proofs.ImageLemmas.{copied-parts, copied_from-image, spans_in-image}
 use Rattle.xcp_base.proofs.StretchLemmas.{parts as stretch_parts}
 use Rattle.segments.specs.declared.segment.Segment.{Segment}
 use Rattle.segments.specs.Image.{image_len, image_of, image_start, lies_in}
@@ -49,11 +48,6 @@ copied_shown c segments memory n start (r ∷ rs) fit at lies ordered =
     ∙ ap (λ bytes. bytes ++ copied_at (bytes_in memory n) start rs) (sym one)
     ∙ ap (λ bytes. slice_range (image_of c segments memory) r.start r.end ++ bytes) (copied_shown c segments memory n start rs fit at (All-tail (LiesHere c segments n) r rs lies) (All-tail Ordered r rs ordered))
 
-copied_parts : (image : List ℕ) (spans : List Span) (n : ℕ) → copied image (take n spans) ++ copied image (drop n spans) ≡ copied image spans
-copied_parts image spans n =
-    let copy : Span → List ℕ = λ r. slice_range image r.start r.end in
-    sym (flat_map-append copy (take n spans) (drop n spans)) ∙ ap (copied image) (take-append-drop n spans)
-
 of_parts : (c : ℕ) (segments : List Segment) (memory : Bor (List (Bor (List ℕ)))) (stretches : List Stretch) (spans : List Span) → fits c segments (parts memory.now) ≡ true
     → AreStretches stretches spans → LieInThese c segments (segments_in stretches) spans → All (HasStart segments) stretches → All Ordered spans
     → copied_from (Parts memory) stretches spans ≡ copied (image_of c segments (parts memory.now)) spans
@@ -66,7 +60,7 @@ of_parts c segments memory (s ∷ more) spans fit sizes lie starts ordered =
     ap (λ bytes. bytes ++ copied_from (Parts memory) more (drop s.count spans))
     (copied_shown c segments (parts memory.now) s.segment s.start (take s.count spans) fit (All-head (HasStart segments) s more starts) both.first (All-take Ordered s.count spans ordered))
     ∙ ap (λ bytes. copied image (take s.count spans) ++ bytes) (of_parts c segments memory more (drop s.count spans) fit behind both.behind (All-tail (HasStart segments) s more starts) (All-drop Ordered s.count spans ordered))
-    ∙ copied_parts image spans s.count
+    ∙ copied-parts image spans s.count
 
 pub copied_of_memory : (c : ℕ) (segments : List Segment) (memory : MemoryView) (s : SpansState) → FitsMemory c segments memory → ArePlaced c segments s → All Ordered s.spans
     → copied_from memory s.stretches s.spans ≡ copied (image_in c segments memory) s.spans

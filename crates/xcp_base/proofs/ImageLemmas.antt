@@ -30,7 +30,8 @@ copied_at-image image (r ∷ rs) =
     ∙ ap (λ b. slice_range image r.start b ++ copied_at image 0 rs) end
     ∙ ap (λ bytes. slice_range image r.start r.end ++ bytes) (copied_at-image image rs)
 
-copied-parts : (image : List ℕ) (spans : List Span) (n : ℕ) → copied image (take n spans) ++ copied image (drop n spans) ≡ copied image spans
+-- what the first spans copy and what those behind copy
+pub copied-parts : (image : List ℕ) (spans : List Span) (n : ℕ) → copied image (take n spans) ++ copied image (drop n spans) ≡ copied image spans
 copied-parts image spans n =
     let copy : Span → List ℕ = λ r. slice_range image r.start r.end in
     sym (flat_map-append copy (take n spans) (drop n spans)) ∙ ap (copied image) (take-append-drop n spans)

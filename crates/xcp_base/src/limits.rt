@@ -41,9 +41,6 @@ pub const MAX_ENTRY_SIZE: u8 = 63;
 /// The longest memory image, in bytes; the shortest has one.
 pub const MAX_IMAGE_LEN: usize = 4096;
 
-/// The one address extension that there is.
-pub const ADDRESS_EXTENSION: u8 = 0;
-
 /// The most triggers that one event channel accepts: 2^59.
 pub const MAX_TRIGGERS: u64 = 0x0800_0000_0000_0000;
 
