@@ -64,7 +64,7 @@ static void put(uint8_t *at, unsigned bytes, uint32_t value) {
 
 /* ---- the variables, as the A2L file has them */
 
-enum { VARIABLES = 256, LISTS = 16, MAX_ODT = 8, MAX_ENTRIES = 32, PACKET = 64 };
+enum { VARIABLES = 256, LISTS = 16, MAX_ODT = 8, MAX_ENTRIES = 32 };
 enum { UNSIGNED, SIGNED, FLOAT };
 
 static const struct type {
@@ -248,6 +248,7 @@ static int patience = 10000;          /* for a reply, in milliseconds */
 static uint8_t heard[1 << 16];        /* what came and wasn't looked at yet */
 static size_t from, to;
 static uint16_t sent, expected;       /* CTR of the next frame, there and here */
+static unsigned max_cto = 8, max_dto; /* bytes of a packet, as the reply to CONNECT says */
 static bool counts;                   /* whether a frame came */
 
 /* Waits for bytes for so many milliseconds. */
@@ -270,7 +271,7 @@ static const uint8_t *next_packet(unsigned *len, int wait) {
         if (!hear_more(wait)) return NULL;
     const uint8_t *frame = heard + from;
     *len = (unsigned)get(frame, 2);
-    want(*len > 0 && *len <= PACKET, "LEN");
+    want(*len > 0 && *len <= (max_cto > max_dto ? max_cto : max_dto), "LEN");
     want(!counts || get(frame + 2, 2) == expected, "CTR rises by one");
     counts = true;
     expected = (uint16_t)(get(frame + 2, 2) + 1);
@@ -315,6 +316,9 @@ static const uint8_t *ask(const uint8_t *packet, unsigned len) {
 static void ask_who_is_there(void) {
     const uint8_t *reply = ASK(0xFF, 0); /* CONNECT */
     want((reply[2] & 0x07) == 0, "another byte order or address granularity");
+    max_cto = reply[3];
+    max_dto = (unsigned)get(reply + 4, 2);
+    want(max_cto >= 8 && max_dto >= 16, "packets that are too short");
     reply = ASK(0xDA);                   /* GET_DAQ_PROCESSOR_INFO */
     want(reply[1] >> 6 == 1, "no overload indication in the PID");
     want(reply[7] >> 6 == 0, "no absolute ODT numbers");
@@ -330,7 +334,7 @@ static char *upload(uint8_t kind, size_t *len) {
     char *text = malloc(*len + 1);
     want(text != NULL, "out of memory");
     for (size_t at = 0; at < *len;) {
-        uint8_t part = *len - at < PACKET - 1 ? (uint8_t)(*len - at) : PACKET - 1;
+        uint8_t part = (uint8_t)(*len - at < max_cto - 1 ? *len - at : max_cto - 1);
         memcpy(text + at, ASK(0xF5, part) + 1, part); /* UPLOAD */
         at += part;
     }
@@ -367,11 +371,11 @@ static void place(void) {
         if (l == list_count) {
             lists[list_count++] = (struct list){
                 .event = variables[v].event, .odts = 1, .name = event_name(variables[v].event)};
-            room[l] = PACKET - 5;
+            room[l] = max_dto - 5;
         }
         if (room[l] < size || entries[l] == MAX_ENTRIES) {
             want(lists[l].odts++ < MAX_ODT, "more variables than a list has room for");
-            room[l] = PACKET - 1;
+            room[l] = max_dto - 1;
             entries[l] = 0;
         }
         room[l] -= size;
