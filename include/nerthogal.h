@@ -71,8 +71,8 @@
  * Memory
  *   - A slave with n event channels and their tasks, and with l DAQ lists that have o ODTs and e
  *     entries in all, has at most so many bytes of malloc's. Only tested, by session_test.c:
- *         the slave, from its opening on   28800 + 21600 n + a2l_len; with NG_RING_BYTES
- *                                          28800 + 26600 n + a2l_len
+ *         the slave, from its opening on   32000 + 24500 n + a2l_len; with NG_RING_BYTES
+ *                                          32000 + 29500 n + a2l_len
  *         its lists, until they are freed  40 l + 24 o + 16 e
  *         a measurement                    3000 n + 160 l + 100 o + 80 e, and for each ring 560
  *                                          times its capacity, or with NG_RING_BYTES its capacity
@@ -80,8 +80,8 @@
  *     ng_slave_close. A task that took no trigger since, or whose stops found no room, keeps it
  *     longer; then it stands beside the next one. There are never more than two.
  *   - For example, two event channels of 64 samples and 15 lists of 8 ODTs of 15 entries take some
- *     310 kB while they are measured. At the limits, 8 event channels of 1024 samples and 16 lists
- *     of 8 ODTs of 32 entries, it is at most 5.4 MB, and with two measurements 10.5 MB.
+ *     315 kB while they are measured. 16 event channels of 1024 samples and 16 lists of 8 ODTs of 32
+ *     entries take at most 10.1 MB, and with two measurements 19.7 MB.
  *
  * No call aborts, and none reads or writes beyond the given lengths, whatever bytes and numbers it
  * is given. */

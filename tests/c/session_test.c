@@ -764,14 +764,14 @@ static void heap_of(const struct load *load) {
     unsigned l = load->lists, o = l * load->odts, e = o * load->entries, n = load->channels;
     unsigned long capacity = of_bytes ? 64 * load->capacity : load->capacity;
     if (of_bytes && capacity < NG_MIN_BYTE_RING) capacity = NG_MIN_BYTE_RING;
-    unsigned long of_slave = 28800 + (of_bytes ? 26600 : 21600) * n + sizeof a2l;
+    unsigned long of_slave = 32000 + (of_bytes ? 29500 : 24500) * n + sizeof a2l;
     unsigned long of_lists = 40 * l + 24 * o + 16 * e, of_ring = (of_bytes ? 1 : 560) * capacity;
     unsigned long most = 3000 * n + 160 * l + 100 * o + 80 * e + n * of_ring;
     ng_profile profile = profile_of();
     ng_segment segments[NG_MAX_SEGMENTS] = {segment_of(256, n)};
-    ng_event events[8] = {event_of("e")};
+    ng_event events[16] = {event_of("e")};
     ng_slave slave = NG_SLAVE_INIT;
-    ng_task tasks[8];
+    ng_task tasks[16];
     unsigned long before = memory_bytes;
     for (uint8_t i = 1; i < NG_MAX_SEGMENTS; i++) {
         segments[i] = segment_of(1, 0);
@@ -796,7 +796,7 @@ static void heap_of(const struct load *load) {
     start_all(&slave, load);
     unsigned long measures = memory_bytes;
     within(0, measures - opened - of_lists, most, "of a measurement");
-    if (n == 2 && !of_bytes) within(290000, measures - before, 330000, "some 310 kB");
+    if (n == 2 && !of_bytes) within(305000, measures - before, 325000, "some 315 kB");
     trigger_all(tasks, load);
     ask(&slave, "fe");
     /* each stop of a list finds room, also in a ring of one place */
@@ -829,8 +829,8 @@ static void heap(void) {
     static const struct load loads[] = {{1, 1, 1, 1, 1, 1, NG_ABSOLUTE},
                                         {1, 64, 15, 8, 17, 1, NG_ABSOLUTE},
                                         {2, 64, 15, 8, 15, 3, NG_ABSOLUTE},
-                                        {8, 1, 16, 1, 1, 1, NG_ABSOLUTE},
-                                        {8, 1024, 16, 8, 32, 1, NG_RELATIVE_WORD}};
+                                        {16, 1, 16, 1, 1, 1, NG_ABSOLUTE},
+                                        {16, 1024, 16, 8, 32, 1, NG_RELATIVE_WORD}};
     begin("a slave takes as many bytes as are said, and gives them back");
     for (size_t k = 0; k < LEN(loads); k++) heap_of(&loads[k]);
     end();
