@@ -21,4 +21,4 @@ pub use run::Run;
 pub use run_fault::RunFault;
 pub use step::Step;
 pub use texts::{bytes_of, packet_of, text_in};
-pub use wording::{Wording, cut, wording_of};
+pub use wording::{Wording, cut, number_of, wording_of};

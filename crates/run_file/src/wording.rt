@@ -1,5 +1,5 @@
 //! Reads the words of a step. The image of a trigger stays a word.
-ghost use Rattle.std.specs.Prelude.{◌≡◌, ◌∷◌, [], MatchOption, option_map};
+ghost use Rattle.std.specs.Prelude.{◌≡◌, ◌≤◌, ◌∷◌, [], IfSome, MatchOption, option_map};
 ghost use Rattle.std.specs.Str.{all_ascii_digits};
 ghost use Rattle.run_file.specs.StepOf.{is_plain, number_of, pump_of, switch_of, trigger_of};
 ghost use Rattle.run_file.specs.StepOf.{verb_switch, wording_of, words_of};
@@ -109,8 +109,9 @@ fn trigger_of<'a>(
 }
 
 /// The number of a word in decimal digits, without a leading zero, if it is at most `most`.
-fn number_of(word: &str, most: u32) -> Option<u32>
-    ensures { result ≡ number_of most word.now }
+pub fn number_of(word: &str, most: u32) -> Option<u32>
+    ensures value { result ≡ number_of most word.now }
+    ensures within { IfSome result (λ n. n ≤ most) }
 {
     if !is_plain(word.as_bytes()) {
         return None;

@@ -11,8 +11,8 @@ ghost use Rattle.session_file.specs.Inner.{line_data};
 
 use crate::file_fault::FileFault;
 use crate::line::Line;
-use crate::words::{number_of, slices_of};
-use run_file::{cut, packet_of, text_in};
+use crate::words::slices_of;
+use run_file::{cut, number_of, packet_of, text_in};
 use std::alloc::{AllocError, Global};
 use toml::Value;
 
