@@ -7,3 +7,4 @@ pub mod ReadyLemmas
 pub mod StandardFacts
 pub mod StretchLemmas
 pub mod WrittenLemmas
+pub mod FrameLemmas

@@ -1,18 +1,18 @@
 -- The elements of a ready list are what its entries name in memory.
-use Rattle.std.proofs.Common.{◌≡◌, ℕ, ◌+◌, ◌<◌, ◌≤◌, true, false, List, [], ◌∷◌, ◌++◌, length, map, get_or, refl, sym, ap, ◌∙◌, arith, Option, Some, None}
-use Rattle.std.specs.Prelude.{All, slice_range, filter_map, flat_map, option_map, unwrap_or, Ok}
+use Rattle.std.proofs.Common.{◌≡◌, ℕ, ◌+◌, ◌<◌, true, List, [], ◌∷◌, ◌++◌, get_or, refl, sym, ap, ◌∙◌, Option, Some, None}
+use Rattle.std.specs.Prelude.{All, slice_range, filter_map, flat_map, unwrap_or}
 use Rattle.std.specs.List.{list_all}
 use Rattle.std.proofs.lemmas.Bool.{and_parts}
-use Rattle.std.proofs.lemmas.List.Elements.{All-head, All-tail, All-get_or}
+use Rattle.std.proofs.lemmas.List.Elements.{All-head, All-tail}
 use Rattle.std.proofs.lemmas.Option.{unwrap_or-slice_get}
 use Rattle.segments.specs.declared.segment.Segment.{Segment}
 use Rattle.segments.specs.Faults.{segments_fault}
-use Rattle.segments.specs.Image.{image_of, image_place}
-use Rattle.segments.specs.Memory.{fits, read}
+use Rattle.segments.specs.Image.{image_of}
+use Rattle.segments.specs.Memory.{fits}
 use Rattle.segments.proofs.ReadLemmas.{has_place, shows_memory}
 use Rattle.daq_store.specs.declared.entry.Entry.{Entry}
-use Rattle.daq_store.specs.Configuration.{Configuration, IsEntry, IsOdt, IsWithinLimits, channel_of, is_ready, is_within, odt_entries}
-use Rattle.copy_plan.specs.Config.{odt, placed, plan_of, written_entries}
+use Rattle.daq_store.specs.Configuration.{IsEntry, IsOdt, channel_of, is_within, odt_entries}
+use Rattle.copy_plan.specs.Config.{placed, written_entries}
 use Rattle.copy_plan.specs.Laws.{ElementsAreMemory, bytes_at, bytes_of}
 use Rattle.copy_plan.specs.Packet.{elements}
 use Rattle.copy_plan.proofs.ReadyLemmas.{odt-written_entries, ready}

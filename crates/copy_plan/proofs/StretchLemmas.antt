@@ -1,17 +1,16 @@
 -- Stretches of spans, one span more at a time.
-use Rattle.std.proofs.Common.{◌≡◌, ℕ, zero, suc, ◌+◌, ◌<◌, List, [], ◌∷◌, ◌++◌, length, map, take, get_or, replicate, refl, sym, ap, ◌∙◌, arith, append-nil, append_assoc, add-one, true, subst, ◌&&◌, ◌==◌}
+use Rattle.std.proofs.Common.{◌≡◌, ℕ, zero, suc, ◌+◌, List, [], ◌∷◌, ◌++◌, map, replicate, refl, sym, ap, ◌∙◌, arith, append-nil, append_assoc, add-one, true, subst, ◌&&◌, ◌==◌}
 use Rattle.std.specs.Prelude.{All, flat_map}
 use Rattle.std.proofs.lemmas.Bool.{and_parts}
 use Rattle.std.proofs.lemmas.Bool.Decides.{nat_tests}
-use Rattle.std.proofs.lemmas.List.{take_more}
 use Rattle.std.proofs.lemmas.List.Concat.{flat_map-append}
 use Rattle.std.proofs.lemmas.List.Elements.{All-append, All-cons, All-nil, All-head, All-tail}
 use Rattle.xcp_base.specs.declared.span.Span.{Span}
 use Rattle.xcp_base.specs.declared.stretch.Stretch.{Stretch}
-use Rattle.xcp_base.specs.Copied.{AreStretches, span_size, sizes_in}
+use Rattle.xcp_base.specs.Copied.{span_size, sizes_in}
 use Rattle.segments.specs.declared.segment.Segment.{Segment}
-use Rattle.segments.specs.Image.{image_start, lies_in}
-use Rattle.copy_plan.specs.Inner.Stretched.{ArePlaced, HasStart, IsStretchAt, LieInThese, SpansState, segments_in}
+use Rattle.segments.specs.Image.{lies_in}
+use Rattle.copy_plan.specs.Inner.Stretched.{ArePlaced, HasStart, IsStretchAt, LieInThese, segments_in}
 
 replicate_more : {X : Type 0} (n : ℕ) (x : X) → replicate (n + 1) x ≡ replicate n x ++ x ∷ []
 replicate_more zero x = refl

@@ -1,18 +1,17 @@
 -- The written entries of an ODT, one by one, and what a ready list says of them.
-use Rattle.std.proofs.Common.{true, false, ◌≡◌, ◌≢◌, ℕ, zero, suc, ◌+◌, ◌<◌, ◌≤◌, List, [], ◌∷◌, length, drop, refl, sym, ap, ◌∙◌, add-one, zero-add, arith, Option, Some, None}
+use Rattle.std.proofs.Common.{true, false, ◌≡◌, ℕ, zero, suc, ◌+◌, ◌<◌, ◌≤◌, List, [], ◌∷◌, length, drop, refl, sym, ap, ◌∙◌, add-one, zero-add, arith, Option, Some, None}
 use Rattle.std.specs.Prelude.{All, IsSome, slice_get, option_map, option_and_then, sum_by, unwrap_or}
 use Rattle.std.specs.List.{list_all}
 use Rattle.std.proofs.lemmas.List.Sums.{sum_by-cons}
-use Rattle.std.proofs.lemmas.List.Elements.{All-nil, All-cons, All-head, All-tail}
+use Rattle.std.proofs.lemmas.List.Elements.{All-nil, All-cons, All-head}
 use Rattle.std.proofs.lemmas.Bool.{and_parts}
 use Rattle.segments.specs.declared.segment.Segment.{Segment}
-use Rattle.segments.specs.Image.{image_len, image_place, image_start}
-use Rattle.segments.specs.Places.{len_of}
+use Rattle.segments.specs.Image.{image_len, image_place}
 use Rattle.segments.proofs.FitLemmas.{no_segment}
 use Rattle.segments.proofs.ImageLemmas.{ends_within, len_at}
-use Rattle.segments.proofs.PlaceLemmas.{PlacedAt, placed as placed_at, placed_lies, there_if_open}
-use Rattle.segments.proofs.ReadLemmas.{HasPlace, has_place}
-use Rattle.segments.proofs.ShownLemmas.{Lie, lie, lies_if}
+use Rattle.segments.proofs.PlaceLemmas.{placed as placed_at, placed_lies, there_if_open}
+use Rattle.segments.proofs.ReadLemmas.{has_place}
+use Rattle.segments.proofs.ShownLemmas.{Lie, lies_if}
 use Rattle.daq_store.specs.declared.entry.Entry.{Entry}
 use Rattle.daq_store.specs.Configuration.{is_within, entry_len}
 use Rattle.copy_plan.specs.Config.{OdtEntry, placed, written_entries, IsInside, IsReadable}

@@ -3,3 +3,4 @@ pub mod Filled
 pub mod Joined
 pub mod Kept
 pub mod Stretched
+pub mod Lens

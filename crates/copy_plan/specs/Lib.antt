@@ -1,4 +1,5 @@
 pub mod Config
+pub mod Frames
 pub mod Inner
 pub mod Laws
 pub mod Memory

@@ -59,7 +59,7 @@ impl CopyPlan {
     }
 
     /// The copies that the packet of an ODT is made of: its entries, neighbours joined.
-    fn copies_of(&self, k: usize) -> &Spans
+    pub(crate) fn copies_of(&self, k: usize) -> &Spans
         requires { k < length self.now.odts }
         ensures spans { result.now.spans ≡ joined_spans (odt self.now k) }
         ensures placed { ArePlaced self.now.channel self.now.segments result.now }
@@ -108,7 +108,7 @@ impl CopyPlan {
     }
 
     /// The identification field of an ODT: the first bytes.
-    fn field(&self, k: usize, overload: bool) -> [u8; 4]
+    pub(crate) fn field(&self, k: usize, overload: bool) -> [u8; 4]
         requires odt { k < length self.now.odts }
         ensures { take (field_len self.now.form.id) result ≡ field self.now k overload }
     {
@@ -116,7 +116,7 @@ impl CopyPlan {
     }
 
     /// The bytes of the timestamp in the packet of an ODT: in a stamped list ODT 0 has one.
-    fn stamp_len(&self, k: usize) -> usize
+    pub(crate) fn stamp_len(&self, k: usize) -> usize
         ensures value { result ≡ stamp_len self.now.form.stamp self.now.stamped k }
         ensures limit { result ≤ MAX_STAMP }
     {

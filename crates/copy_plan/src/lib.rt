@@ -2,6 +2,7 @@
 #![tactic(auto)]
 
 mod fill;
+mod frames;
 pub mod laws;
 mod plan;
 mod spans;

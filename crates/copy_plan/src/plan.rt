@@ -6,6 +6,7 @@ ghost use Rattle.copy_plan.specs.declared.plan.PlanFault.TheVariants.{Memory};
 ghost use Rattle.copy_plan.specs.Config.{IsPlan, plan_of, written_entries};
 ghost use Rattle.copy_plan.specs.Inner.Filled.{AreFilled};
 ghost use Rattle.copy_plan.specs.Inner.Joined.{joined_spans};
+ghost use Rattle.copy_plan.specs.Inner.Lens.{lens_upto};
 ghost use Rattle.copy_plan.specs.Inner.Stretched.{ArePlaced, SpansState};
 ghost use Rattle.segments.specs.Image.{HaveImage, image_len, image_segments};
 
@@ -22,6 +23,9 @@ use std::snapshot::Snapshot;
 use thiserror::Error;
 use xcp_base::limits::{MAX_CHANNELS, MAX_LISTS, MAX_ODTS};
 use xcp_base::{IdKind, PacketForm};
+
+/// LEN and CTR, in bytes.
+pub(crate) const HEADER: usize = 4;
 
 /// Why no plan was made.
 #[derive(Clone, Copy, Debug, PartialEq, Eq, Error)]
@@ -55,6 +59,8 @@ pub struct CopyPlan {
     pub(crate) stamped: bool,
     pub(crate) image_len: usize,
     pub(crate) odts: Vec<Spans>,
+    // The bytes of the frames of a sample.
+    pub(crate) frames_len: usize,
     pub(crate) conf: Snapshot<ListConf>,
     pub(crate) segments: Snapshot<ArrayVec<Segment, MAX_SEGMENTS>>,
 }
@@ -139,6 +145,7 @@ impl CopyPlan {
             stamped: conf.stamped(),
             image_len: image_len(segments.as_slice()),
             odts,
+            frames_len: frames_len_of(conf),
             conf: Snapshot::of(conf),
             segments: Snapshot::of(segments),
         })
@@ -205,6 +212,17 @@ impl CopyPlan {
     {
         self.image_len
     }
+}
+
+/// The bytes of the frames of a list's sample.
+fn frames_len_of(conf: &ListConf) -> usize
+    ensures { result ≡ lens_upto conf.now (length conf.now.odts) }
+{
+    let mut len = 0;
+    for odt in 0..conf.odts() {
+        len += HEADER + conf.packet_len(odt);
+    }
+    len
 }
 
 /// The spans of each ODT of a list, whose event channel may read its entries.

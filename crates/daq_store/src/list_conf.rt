@@ -1,10 +1,10 @@
 //! What is set of a DAQ list, and whether this makes the list ready to be started.
-ghost use Rattle.std.specs.Prelude.{◌≡◌, ◌<◌, ◌≤◌, IfOk, IfSome, OnOk, OnErr, IsSome, [], None};
+ghost use Rattle.std.specs.Prelude.{◌≡◌, ◌+◌, ◌*◌, ◌<◌, ◌≤◌, IfOk, IfSome, OnOk, OnErr, IsSome, [], None};
 ghost use Rattle.std.specs.Prelude.{Some, length, map, option_map, replicate, slice_set};
 ghost use Rattle.xcp_base.specs.Forms.{field_len, stamp_bytes};
-ghost use Rattle.xcp_base.specs.Packets.{stamp_len};
+ghost use Rattle.xcp_base.specs.Packets.{packet_len, stamp_len};
 ghost use Rattle.daq_store.specs.Configuration.{channel_of, prescaler_of, priority_of, is_stamped};
-ghost use Rattle.daq_store.specs.Configuration.{odt_entries, entry_of, is_ready};
+ghost use Rattle.daq_store.specs.Configuration.{entries_len, entry_of, is_ready, odt_entries};
 ghost use Rattle.daq_store.specs.Configuration.{fresh_conf, IsMode};
 ghost use Rattle.daq_store.specs.Inner.Effects.{unwritten};
 
@@ -157,11 +157,21 @@ impl ListConf {
             if !odt.is_filled(channel, segments) {
                 return false;
             }
-            if self.field_len() + self.stamp_len(k) + odt.bytes() > MAX_DTO {
+            if self.packet_len(k) > MAX_DTO {
                 return false;
             }
         }
         !self.odts.is_empty()
+    }
+
+    /// The bytes of the packet of an ODT.
+    pub fn packet_len(&self, odt: usize) -> usize
+        requires { odt < length self.now.odts }
+        ensures value { result ≡ packet_len self.now.form (is_stamped self.now.mode) odt
+            (entries_len self.now odt) }
+        ensures limit { result ≤ MAX_FIELD + MAX_STAMP + MAX_ENTRIES * MAX_ENTRY_SIZE }
+    {
+        self.field_len() + self.stamp_len(odt) + self.odts[odt].bytes()
     }
 
     /// The bytes of the identification field.

@@ -20,6 +20,11 @@ abbrev pub text : ℕ → List (List ℕ) → List ℕ
 text n [] = []
 text n (q ∷ qs) = frame n q ++ text (n + 1) qs
 
+-- the packets, not numbered yet: each has CTR 0
+abbrev pub unnumbered : List (List ℕ) → List ℕ
+unnumbered [] = []
+unnumbered (q ∷ qs) = frame 0 q ++ unnumbered qs
+
 -- a counter, and a packet whose length LEN can say
 pub record IsFrame (f : ℕ × List ℕ) : Type 0 where
   pub counter : f.0 < 65536

@@ -23,7 +23,7 @@ pub use byte_log::ByteLog;
 pub use fed::{BadFrame, Fed};
 pub use frame_reader::FrameReader;
 pub use fuse_out::FuseOut;
-pub use layout::MAX_SAMPLE_BYTES;
+pub use layout::{MAX_SAMPLE_BYTES, place};
 pub use out::{Out, OutFault};
 pub use reader::next_frame;
 pub use sink_out::SinkOut;

@@ -3,6 +3,7 @@ use Rattle.std.specs.Prelude.{◌≡◌, All, map}
 use Rattle.segments.specs.Image.{image_len}
 use Rattle.copy_plan.specs.declared.plan.CopyPlan.TheInside.{Inside}
 use Rattle.copy_plan.specs.Config.{ListPlan, IsPlan, written_entries}
+use Rattle.copy_plan.specs.Frames.{frames_len}
 use Rattle.copy_plan.specs.Inner.Joined.{joined_spans}
 use Rattle.copy_plan.specs.Inner.Stretched.{ArePlaced, SpansState}
 
@@ -25,3 +26,4 @@ pub record IsKept (a : Inside) : Type 0 where
   pub len : a.image_len ≡ image_len a.segments.value.items
   pub odts : map (λ (s : SpansState). s.spans) a.odts.items ≡ map joined_spans (plan_view a).odts
   pub placed : All (ArePlaced a.channel a.segments.value.items) a.odts.items
+  pub frames : a.frames_len ≡ frames_len (plan_view a)

@@ -1,11 +1,9 @@
-use Rattle.std.proofs.Common.{◌≡◌, ◌+◌, ◌<◌, ◌++◌, [], ◌∷◌, List, length, map, take, get_or, ap, sym, ◌∙◌, arith, Option}
-use Rattle.std.specs.Prelude.{All}
+use Rattle.std.proofs.Common.{◌≡◌, ◌<◌, ◌++◌, [], ◌∷◌, List, length, map, take, get_or, ap, sym, ◌∙◌, arith, Option}
 use Rattle.std.proofs.lemmas.List.{take_more}
 use Rattle.std.proofs.lemmas.List.Elements.{All-append, All-cons, All-nil}
 use Rattle.std.proofs.lemmas.Option.{unwrap_or-slice_get}
 use Rattle.xcp_base.specs.declared.span.Span.{Span}
 use Rattle.daq_store.specs.declared.entry.Entry.{Entry}
-use Rattle.daq_store.specs.Configuration.{odt_entries}
 use Rattle.copy_plan.specs.Config.{written_entries}
 use Rattle.copy_plan.specs.Inner.Joined.{joined_spans}
 use Rattle.copy_plan.specs.Inner.Stretched.{ArePlaced, SpansState}

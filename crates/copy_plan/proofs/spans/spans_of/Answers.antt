@@ -1,4 +1,4 @@
-use Rattle.std.proofs.Common.{◌<◌, length, arith, ◌≡◌, ◌+◌, List, ◌∷◌, Option, ◌++◌, ◌≤◌, drop, subst, sym, ◌∙◌, ap, ℕ}
+use Rattle.std.proofs.Common.{length, arith, ◌≡◌, ◌+◌, List, ◌∷◌, Option, ◌++◌, ◌≤◌, drop, subst, sym, ◌∙◌, ℕ}
 use Rattle.std.specs.Prelude.{All}
 use Rattle.std.proofs.lemmas.List.{at_drop_all}
 use Rattle.xcp_base.specs.declared.span.Span.{Span}

@@ -1,9 +1,8 @@
-use Rattle.std.proofs.Common.{◌≡◌, ◌+◌, ◌<◌, ◌≤◌, ◌++◌, [], ◌∷◌, length, take, get_or, ap, sym, ◌∙◌, arith, List, refl}
+use Rattle.std.proofs.Common.{◌≡◌, ◌+◌, ◌++◌, [], ◌∷◌, take, get_or, sym, ◌∙◌, arith, List, refl}
 use Rattle.std.proofs.lemmas.List.{take_more}
 use Rattle.xcp_base.specs.declared.span.Span.{Span}
 use Rattle.xcp_base.specs.declared.stretch.Stretch.{Stretch}
-use Rattle.copy_plan.specs.Inner.Stretched.{ArePlaced}
-use Rattle.copy_plan.proofs.StretchLemmas.{no_span, same_both, span_more, stretch_more, stretch_with}
+use Rattle.copy_plan.proofs.StretchLemmas.{no_span, same_both, span_more, stretch_more}
 use Rattle.copy_plan.proofs.spans.stretches_of.Goals as goal
 use Rattle.copy_plan.proofs.spans.stretches_of.Goals.{then-not-goes_on+in_ok-push, else-not-goes_on}
 

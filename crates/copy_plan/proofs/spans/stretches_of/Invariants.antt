@@ -1,4 +1,4 @@
-use Rattle.std.proofs.Common.{◌≡◌, ◌≤◌, ◌++◌, [], ◌∷◌, map, take}
+use Rattle.std.proofs.Common.{◌≤◌, ◌++◌, [], ◌∷◌, take}
 use Rattle.copy_plan.specs.Inner.Stretched.{ArePlaced}
 use Rattle.copy_plan.proofs.spans.stretches_of.Given as goal
 

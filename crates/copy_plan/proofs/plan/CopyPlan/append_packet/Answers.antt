@@ -5,7 +5,6 @@ use Rattle.xcp_base.specs.Copied.{copied, copied_from, copied_packet}
 use Rattle.xcp_base.specs.Forms.{field_len}
 use Rattle.xcp_base.specs.Packets.{stamp_len}
 use Rattle.copy_plan.specs.Config.{ListPlan, odt}
-use Rattle.copy_plan.specs.Inner.Joined.{joined_spans}
 use Rattle.copy_plan.specs.Memory.{image_in}
 use Rattle.copy_plan.specs.Packet.{elements, packet, timestamp}
 use Rattle.copy_plan.specs.Pids.{field}

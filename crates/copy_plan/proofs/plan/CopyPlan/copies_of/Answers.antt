@@ -1,7 +1,7 @@
-use Rattle.std.proofs.Common.{◌≡◌, ◌∙◌, ap, sym, length, map, [], get_or, ◌<◌, ◌≤◌, arith, List}
-use Rattle.std.proofs.lemmas.List.{get_or-map, get_or_default, length-map}
+use Rattle.std.proofs.Common.{◌∙◌, ap, sym, length, [], get_or, ◌<◌, arith, List}
+use Rattle.std.proofs.lemmas.List.{get_or-map, length-map}
 use Rattle.xcp_base.specs.declared.span.Span.{Span}
-use Rattle.copy_plan.specs.Config.{ListPlan, OdtEntry, odt}
+use Rattle.copy_plan.specs.Config.{ListPlan, odt}
 use Rattle.copy_plan.specs.Inner.Joined.{joined_spans}
 use Rattle.copy_plan.specs.Inner.Kept.{plan_view}
 use Rattle.copy_plan.specs.Inner.Stretched.{SpansState}

@@ -1,5 +1,6 @@
-use Rattle.std.proofs.Common.{arith, ◌∙◌}
+use Rattle.std.proofs.Common.{arith, sym, ◌∙◌}
 use Rattle.copy_plan.specs.Config.{IsPlan, plan_of}
+use Rattle.copy_plan.proofs.FrameLemmas.{lens_are}
 use Rattle.copy_plan.proofs.JoinedLemmas.{map-joined_spans-written_entries}
 use Rattle.copy_plan.proofs.ReadyLemmas.{filled, ready, plan_is}
 use Rattle.copy_plan.proofs.plan.CopyPlan.in_these.Goals as goal
@@ -24,6 +25,8 @@ invariant_of-result c = record {
   len = rw (c.of-2.ensures, ← c.as_slice-2.ensures.value) c.image_len.ensures;
   odts = rw (c.of.ensures, c.of-2.ensures) (c.in_ok-odts.ensures.value ∙ rw c.as_slice.ensures.value (map-joined_spans-written_entries c.channel-channel.result c.args.segments.now.items c.args.conf.now.odts));
   placed = rw c.of-2.ensures (rw c.as_slice.ensures.value at c.in_ok-odts.ensures.placed);
+  frames = rw (c.channel-channel.ensures.value, c.prescaler.ensures.value, c.form.ensures, c.stamped.ensures, c.of.ensures, c.of-2.ensures)
+      (c.frames_len_of.ensures ∙ sym (lens_are c.args.list c.args.conf.now c.args.first_pid c.args.segments.now.items));
 }
 
 pub returns-clause-plan : goal.returns-clause-plan

@@ -4,7 +4,7 @@ use Rattle.std.proofs.lemmas.List.Elements.{All-from_get_or}
 use Rattle.std.proofs.lemmas.List.Folds.{length-flat_map-take}
 use Rattle.xcp_base.specs.declared.span.Span.{Span}
 use Rattle.xcp_base.proofs.CopiedLemmas.{copied_at_small}
-use Rattle.xcp_base.proofs.body.put_spans.Goals as goal
+use Rattle.xcp_base.proofs.put.put_spans.Goals as goal
 
 -- what the next span copies is a part of what all copy
 pub put_by_size-requires : goal.put_by_size-requires

@@ -5,7 +5,7 @@ use Rattle.xcp_base.specs.declared.span.Span.{Span}
 use Rattle.xcp_base.specs.declared.stretch.Stretch.{Stretch}
 use Rattle.xcp_base.specs.Copied.{copied_at, copied_from}
 use Rattle.xcp_base.proofs.StretchLemmas.{copied_from-end, copied_from-next, next_parts, next_spans}
-use Rattle.xcp_base.proofs.body.put_stretches.Goals as goal
+use Rattle.xcp_base.proofs.put.put_stretches.Goals as goal
 
 -- so many spans are there
 pub split_at-requires : goal.split_at-requires
@@ -58,6 +58,7 @@ loop-stretch-preserved c =
           ∙ ap (λ bytes. take c.loop-stretch.at c.loop-stretch.cells ++ bytes) (sym both)
           ∙ c.loop-stretch.invariant.3,
       λ small. c.loop-stretch.invariant.4 (rw both (All-append (λ (b : ℕ). b < 256) these those c.put_stretch-at.ensures.each small)),
+      c.put_stretch-at.ensures.len ∙ c.loop-stretch.invariant.5,
     )
 
 -- no stretch is left

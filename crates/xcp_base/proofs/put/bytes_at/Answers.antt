@@ -1,7 +1,7 @@
 use Rattle.std.proofs.Common.{◌+◌, ◌<◌, length, arith, ◌∙◌}
 use Rattle.std.proofs.lemmas.List.{length-set}
 use Rattle.xcp_base.proofs.CopiedLemmas.{read-all, read-more}
-use Rattle.xcp_base.proofs.body.bytes_at.Goals as goal
+use Rattle.xcp_base.proofs.put.bytes_at.Goals as goal
 
 -- one byte more
 pub loop-k-preserved : goal.loop-k-preserved

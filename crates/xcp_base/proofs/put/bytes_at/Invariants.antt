@@ -1,5 +1,5 @@
 use Rattle.std.proofs.Common.{◌≡◌, drop, length, take}
-use Rattle.xcp_base.proofs.body.bytes_at.Given as goal
+use Rattle.xcp_base.proofs.put.bytes_at.Given as goal
 
 -- the bytes read so far are those from the place on
 abbrev pub invariant-loop-k : goal.invariant-loop-k

@@ -1,0 +1,84 @@
+//! The frames of a sample, laid out where they are wanted, with CTR 0.
+ghost use Rattle.std.specs.Prelude.{◌≡◌, ℕ, ◌+◌, ◌<◌, ◌≤◌, Bool, List, ◌++◌, length, take};
+ghost use Rattle.segments.specs.Image.{image_len};
+ghost use Rattle.frame_writer.specs.Frame.{frame, unnumbered};
+ghost use Rattle.copy_plan.specs.Frames.{frame_len, frames_len};
+ghost use Rattle.copy_plan.specs.Memory.{FitsMemory, image_in};
+ghost use Rattle.copy_plan.specs.Packet.{packet, packets};
+
+use crate::plan::{CopyPlan, HEADER};
+use frame_writer::place;
+use xcp_base::{MemoryView, put_packet};
+
+impl CopyPlan {
+    /// The bytes of the frames of a sample.
+    pub fn frames_len(&self) -> usize
+        ensures value { result ≡ frames_len self.now }
+        ensures law { (image : List ℕ) (stamp : ℕ) (overload : Bool)
+            → length image ≡ image_len self.now.segments
+            → result ≡ length (unnumbered (packets self.now image stamp overload)) }
+    {
+        self.frames_len
+    }
+
+    /// Lays the frames of a sample out, from `at` on, each with a CTR of 0, and answers where they
+    /// end. They have the packets that `fill_into` makes.
+    pub fn lay_frames(
+        &self,
+        out: &mut [u8],
+        at: usize,
+        memory: MemoryView<'_>,
+        stamp: u32,
+        overload: bool,
+    ) -> usize
+        requires memory { FitsMemory self.now.channel self.now.segments memory }
+        requires room { at + frames_len self.now ≤ length out.old }
+        ensures end { result ≡ at + frames_len self.now }
+        ensures front { take result out.new ≡ take at out.old ++ unnumbered (packets self.now
+            (image_in self.now.channel self.now.segments memory.entry) stamp overload) }
+        ensures len { length out.new ≡ length out.old }
+    {
+        let mut end = at;
+        for k in 0..self.odts() {
+            end = self.lay_frame(out, end, memory, stamp, overload, k);
+        }
+        end
+    }
+
+    /// Lays the frame of an ODT out.
+    fn lay_frame(
+        &self,
+        out: &mut [u8],
+        at: usize,
+        memory: MemoryView<'_>,
+        stamp: u32,
+        overload: bool,
+        k: usize,
+    ) -> usize
+        requires memory { FitsMemory self.now.channel self.now.segments memory }
+        requires odt { k < length self.now.odts }
+        requires room { at + frame_len self.now k ≤ length out.old }
+        ensures end { result ≡ at + frame_len self.now k }
+        ensures front { take result out.new ≡ take at out.old ++ frame 0 (packet self.now
+            (image_in self.now.channel self.now.segments memory.entry) stamp overload k) }
+        ensures len { length out.new ≡ length out.old }
+    {
+        let field = self.field(k, overload);
+        let stamp = stamp.to_le_bytes();
+        let copies = self.copies_of(k);
+        let body = at + HEADER;
+        let end = put_packet(
+            out,
+            body,
+            &field[..self.form.id.field_len()],
+            &stamp[..self.stamp_len(k)],
+            memory,
+            copies.as_slice(),
+            copies.stretches(),
+        );
+        // LEN, and a CTR of 0
+        let header = ((end - body) as u32).to_le_bytes();
+        place(out, at, &header[..]);
+        end
+    }
+}

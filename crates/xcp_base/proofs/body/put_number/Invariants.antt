@@ -1,6 +1,0 @@
-use Rattle.std.proofs.Common.{◌≡◌, ◌+◌, ◌++◌, take}
-use Rattle.xcp_base.proofs.body.put_number.Given as goal
-
--- the bytes so far stand behind those in front of the place
-abbrev pub invariant-loop-k : goal.invariant-loop-k
-invariant-loop-k g l = take (l.start + l.k) l.cells ≡ take l.start l.fn.cells ++ take l.k l.bytes

@@ -1,0 +1,6 @@
+use Rattle.std.proofs.Common.{◌≡◌, ◌+◌, ◌++◌, length, take}
+use Rattle.xcp_base.proofs.put.put_number.Given as goal
+
+-- the bytes so far stand behind those in front of the place
+abbrev pub invariant-loop-k : goal.invariant-loop-k
+invariant-loop-k g l = (take (l.start + l.k) l.cells ≡ take l.start l.fn.cells ++ take l.k l.bytes) × (length l.cells ≡ length l.fn.cells)
