@@ -1,0 +1,9 @@
+pub mod StandardFacts
+pub mod BlockLemmas
+pub mod FrameLemmas
+pub mod RecordLemmas
+pub mod LayLemmas
+pub mod HeldLemmas
+pub mod TakeLemmas
+pub mod EndLemmas
+pub mod NumberLemmas

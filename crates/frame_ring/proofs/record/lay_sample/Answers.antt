@@ -1,0 +1,52 @@
+use Rattle.std.proofs.Common.{arith, ap, ◌∙◌, sym, ◌≡◌, ◌+◌, ◌-◌, ◌*◌, length, take, ℕ, subst, ◌++◌}
+use Rattle.xcp_base.specs.Samples.{SampleParts}
+use Rattle.frame_ring.specs.Records.{blocks_for}
+use Rattle.frame_writer.specs.Frame.{unnumbered}
+use Rattle.frame_ring.proofs.LayLemmas.{fill_len, head_same, laid, zeros}
+use Rattle.frame_ring.proofs.RecordLemmas.{frames_fit, sample_bytes}
+use Rattle.frame_ring.proofs.record.lay_sample.Goals as goal
+
+pub overflow_cast-len : goal.overflow_cast-len
+overflow_cast-len g c =
+    let packets = g.F.SampleFrames.packets c.args.frames.now in
+    omega (arith, c.len-len.ensures, frames_fit packets (g.met.F.SampleFrames.within c.args.frames.now))
+
+pub place-behind-requires : goal.place-behind-requires
+place-behind-requires g c =
+    let s : SampleParts = record { channel = c.args.channel; list = c.args.list; number = c.args.number; packets = g.F.SampleFrames.packets c.args.frames.now } in
+    record { room = omega (arith, c.requires.room, sample_bytes s, ap length c.head_of-head.ensures) }
+
+pub lay-end-requires : goal.lay-end-requires
+lay-end-requires g c =
+    let s : SampleParts = record { channel = c.args.channel; list = c.args.list; number = c.args.number; packets = g.F.SampleFrames.packets c.args.frames.now } in
+    record { room = omega (arith, c.requires.room, sample_bytes s, ap length c.head_of-head.ensures, c.place-behind.ensures.end, c.place-behind.ensures.len) }
+
+pub blocks_for-requires : goal.blocks_for-requires
+blocks_for-requires g c =
+    let packets = g.F.SampleFrames.packets c.args.frames.now in
+    omega (arith, c.len-len.ensures, frames_fit packets (g.met.F.SampleFrames.within c.args.frames.now))
+
+-- so many bytes fill the last block
+fills : (n blocks len : ℕ) → len ≡ n → blocks ≡ blocks_for len → length (take (blocks * 8 - len) zeros) ≡ 8 * blocks_for n - n
+fills n blocks len e f = subst (λ b. length (take (b * 8 - len) zeros) ≡ 8 * blocks_for n - n) (sym f) (fill_len len ∙ ap (λ m. 8 * blocks_for m - m) e)
+
+pub place-requires : goal.place-requires
+place-requires g c =
+    let s : SampleParts = record { channel = c.args.channel; list = c.args.list; number = c.args.number; packets = g.F.SampleFrames.packets c.args.frames.now } in
+    let fill = fills (length (unnumbered s.packets)) c.blocks_for.result c.len-len.result c.len-len.ensures c.blocks_for.ensures in
+    record { room = omega (arith, c.requires.room, sample_bytes s, ap length c.head_of-head.ensures, c.place-behind.ensures.end, c.place-behind.ensures.len, c.lay-end.ensures.end, c.lay-end.ensures.len, fill) }
+
+pub returns-clause-bytes : goal.returns-clause-bytes
+returns-clause-bytes g c =
+    let s : SampleParts = record { channel = c.args.channel; list = c.args.list; number = c.args.number; packets = g.F.SampleFrames.packets c.args.frames.now } in
+    let n = length (unnumbered s.packets) in
+    let fill = fills n c.blocks_for.result c.len-len.result c.len-len.ensures c.blocks_for.ensures in
+    let zeros_are : take (c.blocks_for.result * 8 - c.len-len.result) zeros ≡ take (blocks_for n * 8 - n) zeros =
+    ap (λ b. take (b * 8 - c.len-len.result) zeros) c.blocks_for.ensures
+    ∙ ap (λ m. take (blocks_for m * 8 - m) zeros) c.len-len.ensures in
+    let here : c.place-behind.result ≡ c.args.at + 16 = c.place-behind.ensures.end ∙ ap (λ h. c.args.at + length h) c.head_of-head.ensures in
+    let there : c.place.result ≡ c.lay-end.result + (8 * blocks_for n - n) = c.place.ensures.end ∙ ap (λ k. c.lay-end.result + k) fill in
+    laid s c.args.at c.place-behind.result c.lay-end.result c.place.result c.args.out.now c.place-behind.new.room c.lay-end.new.out c.place.new.room
+    (c.place-behind.ensures.bytes ∙ ap (λ h. take c.args.at c.args.out.now ++ h) (c.head_of-head.ensures ∙ head_same s c.count.result c.len-len.result c.count.ensures c.len-len.ensures))
+    c.lay-end.ensures.end c.lay-end.ensures.front
+    (c.place.ensures.bytes ∙ ap (λ f. take c.lay-end.result c.lay-end.new.out ++ f) zeros_are) here there

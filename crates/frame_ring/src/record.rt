@@ -1,0 +1,100 @@
+//! Items as records: how they are written.
+ghost use Rattle.std.specs.Prelude.{◌≡◌, ℕ, ◌+◌, ◌<◌, ◌≤◌, ◌^◌, ◌∷◌, ◌++◌, length, take};
+ghost use Rattle.std.specs.Int.{to_le_bytes, w32, w64};
+ghost use Rattle.channel_ring.specs.Ends.{sample_item};
+ghost use Rattle.frame_ring.specs.Records.{IsItem, blocks_for, bytes_of, cost};
+ghost use Rattle.frame_writer.specs.Frame.{unnumbered};
+ghost use Rattle.xcp_base.specs.Samples.{SampleParts};
+ghost use Rattle.xcp_base.specs.declared.item.Item.TheVariants.{Marker, Sample};
+
+use crate::block::BLOCK;
+use crate::sample_frames::SampleFrames;
+use frame_writer::place;
+use xcp_base::{ChannelId, ListId, StopMark};
+
+/// The first byte of a sample's record.
+pub(crate) const SAMPLE: u8 = 1;
+
+/// The first byte of a stop marker's record.
+const MARKER: u8 = 2;
+
+/// The bytes in front of the frames in the record of a sample.
+pub(crate) const HEAD: usize = 16;
+
+/// The blocks of the head.
+pub(crate) const HEAD_BLOCKS: usize = HEAD / BLOCK;
+
+/// Fills the last block of a record.
+const FILL: [u8; BLOCK] = [0; BLOCK];
+
+/// The blocks that have room for so many bytes.
+pub(crate) fn blocks_for(bytes: usize) -> usize
+    requires { bytes < 2 ^ 32 }
+    ensures { result ≡ blocks_for bytes }
+{
+    (bytes + BLOCK - 1) / BLOCK
+}
+
+/// The blocks that a sample takes up whose frames have so many bytes.
+pub fn sample_blocks(frames_len: usize) -> usize
+    requires { frames_len < 2 ^ 32 }
+    ensures { (s : SampleParts) → frames_len ≡ length (unnumbered s.packets)
+        → result ≡ cost (Sample s) }
+{
+    HEAD_BLOCKS + blocks_for(frames_len)
+}
+
+/// The blocks that a sample takes up.
+pub(crate) fn sample_cost<F: SampleFrames>(frames: &F) -> usize
+    ensures { (c l n : ℕ) → result ≡ cost (sample_item c l n (F.packets frames.now)) }
+{
+    sample_blocks(frames.len())
+}
+
+/// The head of a sample's record.
+fn head_of(channel: ChannelId, list: ListId, number: u64, count: u8, len: u32) -> [u8; HEAD]
+    ensures { result
+        ≡ 1 ∷ channel ∷ list ∷ count ∷ (to_le_bytes w32 len ++ to_le_bytes w64 number) }
+{
+    let (channel, list) = (channel.byte(), list.byte());
+    let [a, b, c, d] = len.to_le_bytes();
+    let [e, f, g, h, i, j, k, l] = number.to_le_bytes();
+    [
+        SAMPLE, channel, list, count, a, b, c, d, e, f, g, h, i, j, k, l,
+    ]
+}
+
+/// Writes the record of a sample from a place on.
+pub(crate) fn lay_sample<F: SampleFrames>(
+    out: &mut [u8],
+    at: usize,
+    channel: ChannelId,
+    list: ListId,
+    number: u64,
+    frames: &F,
+)
+    requires room { at + length (bytes_of (sample_item channel list number (F.packets frames.now)))
+        ≤ length out.old }
+    ensures bytes { take (at
+        + length (bytes_of (sample_item channel list number (F.packets frames.now)))) out.new
+        ≡ take at out.old ++ bytes_of (sample_item channel list number (F.packets frames.now)) }
+    ensures item { IsItem (sample_item channel list number (F.packets frames.now)) }
+    ensures len { length out.new ≡ length out.old }
+{
+    let len = frames.len();
+    let head = head_of(channel, list, number, frames.count(), len as u32);
+    let behind = place(out, at, &head[..]);
+    let end = frames.lay(out, behind);
+    place(out, end, &FILL[..blocks_for(len) * BLOCK - len]);
+}
+
+/// Writes the record of a stop marker from a place on.
+pub(crate) fn lay_marker(out: &mut [u8], at: usize, marker: StopMark)
+    requires room { at + BLOCK ≤ length out.old }
+    ensures bytes { take (at + BLOCK) out.new ≡ take at out.old ++ bytes_of (Marker marker) }
+    ensures item { IsItem (Marker marker) }
+    ensures len { length out.new ≡ length out.old }
+{
+    let bytes = [MARKER, marker.channel(), marker.list(), 0, 0, 0, 0, 0];
+    place(out, at, &bytes[..]);
+}
