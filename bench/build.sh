@@ -12,7 +12,7 @@ libraries=${all%%-- *}
 others=${all##*-- }
 build=${DAQ_BENCH:-${XDG_CACHE_HOME:-$HOME/.cache}/daq_bench}/$name
 
-rm -rf "$build/crates/$name/src" "$build/crates/$name/proofs"
+rm -rf "$build/crates/$name/src" "$build/crates/$name/specs" "$build/crates/$name/proofs"
 mkdir -p "$build/crates/$name/out"
 for crate in $libraries; do
     mkdir -p "$build/crates/$crate/out"
