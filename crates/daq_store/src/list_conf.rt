@@ -1,5 +1,6 @@
 //! What is set of a DAQ list, and whether this makes the list ready to be started.
-ghost use Rattle.std.specs.Prelude.{◌≡◌, ◌+◌, ◌*◌, ◌<◌, ◌≤◌, IfOk, IfSome, OnOk, OnErr, IsSome, [], None};
+ghost use Rattle.std.specs.Prelude.{◌≡◌, ◌+◌, ◌*◌, ◌<◌, ◌≤◌, [], None};
+ghost use Rattle.std.specs.Prelude.{IfOk, IfSome, IsSome, OnErr, OnOk};
 ghost use Rattle.std.specs.Prelude.{Some, length, map, option_map, replicate, slice_set};
 ghost use Rattle.xcp_base.specs.Forms.{field_len, stamp_bytes};
 ghost use Rattle.xcp_base.specs.Packets.{packet_len, stamp_len};

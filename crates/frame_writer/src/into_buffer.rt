@@ -32,8 +32,8 @@ impl FrameWriter<SinkOut> {
         self.lay_out(buffer, at, packets)
     }
 
-    /// `send`, and lays the frame out in a buffer, from `at` on; answers where it ends. The packet may
-    /// have as many bytes as LEN can say. It never fails, since the writer takes all.
+    /// `send`, and lays the frame out in a buffer, from `at` on; answers where it ends. The packet
+    /// may have as many bytes as LEN can say. It never fails, since the writer takes all.
     pub fn send_one_into(&mut self, buffer: &mut [u8], at: usize, packet: &[u8]) -> usize
         requires was_open { (sink_writer self.old).closed ≡ false }
         requires not_empty { 0 < length packet.now }

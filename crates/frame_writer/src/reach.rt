@@ -13,7 +13,8 @@ pub enum Reach {
     Bad,
 }
 
-/// How far some bytes reach into the frame that they begin, if packets have at most `max_cto` bytes.
+/// How far some bytes reach into the frame that they begin, if packets have at most `max_cto`
+/// bytes.
 pub fn how_far(bytes: &[u8], max_cto: u8) -> Reach
     ensures { result ≡ reach max_cto bytes.now }
 {

@@ -62,7 +62,8 @@ pub extern "C" fn ng_slave_task(
 /// memory without a DAQ list reads it off `memory`, a slice for each segment as it is now, in their
 /// order; one that is left out, or that has another length than its segment, isn't there.
 ///
-/// Refused in this order: no slave, a frame whose LEN is 0 or over MAX_CTO, in these bytes or earlier.
+/// Refused in this order: no slave, a frame whose LEN is 0 or over MAX_CTO, in these bytes or
+/// earlier.
 #[unsafe(no_mangle)]
 pub extern "C" fn ng_slave_receive(
     alloc: Global,

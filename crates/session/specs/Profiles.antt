@@ -69,8 +69,8 @@ names_fault d =
 abbrev pub memory_fault : Profile → Option ProfileFault
 memory_fault d = option_map fault.Segments (segments_fault (length d.events.items) (segments_of d))
 
--- MAX_CTO is out of its limits, or the reply to GET_ID, which has eight bytes before the name, has no
--- room for it
+-- MAX_CTO is out of its limits, or the reply to GET_ID, which has eight bytes before the name, has
+-- no room for it
 abbrev pub cto_fault : Profile → Option ProfileFault
 cto_fault d =
     if nat_lt d.max_cto MIN_CTO || nat_lt MAX_CTO d.max_cto then Some fault.MaxCto

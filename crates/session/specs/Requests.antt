@@ -67,8 +67,8 @@ of_lists (Err code) = Err code
 abbrev pub clear_list : ℕ → Request
 clear_list list = Lists (ClearDaqList list)
 
--- the request of a packet to a slave of this MAX_CTO, or its error: it is empty, or else its code is
--- unknown, or else it is too short
+-- the request of a packet to a slave of this MAX_CTO, or its error: it is empty, or else its code
+-- is unknown, or else it is too short
 abbrev pub request : ℕ → List ℕ → Result Request ErrCode
 request max_cto [] = Err CmdSyntax
 request max_cto (code ∷ more) =

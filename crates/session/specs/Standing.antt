@@ -95,7 +95,8 @@ Looks s asked bytes =
 abbrev pub Greets : SessionState → SessionState → Result Request ErrCode → Option (List ℕ) → Type 0
 Greets old new read reply =
     (past : Past) → SessionStandsAfter old past
-    → (reply ≡ greeting_reply old.profile read) × SessionStandsAfter new (past_after_greeting past read)
+    → (reply ≡ greeting_reply old.profile read)
+    × SessionStandsAfter new (past_after_greeting past read)
 
 -- the same of a packet
 abbrev pub AnswersMaster

@@ -45,8 +45,8 @@ pub struct Profile {
     pub a2l: Vec<u8>,
 }
 
-/// Which limit a profile is out of. The variants stand in the order of the checks; that the reply to
-/// GET_ID has no room for the name is looked for behind MAX_CTO.
+/// Which limit a profile is out of. The variants stand in the order of the checks; that the reply
+/// to GET_ID has no room for the name is looked for behind MAX_CTO.
 #[derive(Clone, Copy, Debug, PartialEq, Eq, Error)]
 pub enum ProfileFault {
     #[error("there are no event channels, or more than 16")]

@@ -15,7 +15,8 @@ use Rattle.session_file.specs.declared.limits.TheConstants.{MAX_LINES, USUAL_CTO
 abbrev pub keys : List (List ℕ)
 keys =
     codes "image_len" ∷ codes "id" ∷ codes "stamp_size" ∷ codes "ring" ∷ codes "unit"
-    ∷ codes "ticks" ∷ codes "max_cto" ∷ codes "base" ∷ codes "name" ∷ codes "a2l_name" ∷ codes "epk" ∷ codes "a2l"
+    ∷ codes "ticks" ∷ codes "max_cto" ∷ codes "base" ∷ codes "name" ∷ codes "a2l_name"
+    ∷ codes "epk" ∷ codes "a2l"
     ∷ codes "segments" ∷ codes "events" ∷ codes "script" ∷ []
 
 abbrev pub event_keys : List (List ℕ)

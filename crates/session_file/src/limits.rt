@@ -10,5 +10,6 @@ pub const MAX_INTEGER: usize = 0x7FFF_FFFF_FFFF_FFFF;
 /// MAX_CTO where a session file doesn't say it.
 pub const USUAL_CTO: usize = 64;
 
-/// The last event channel that may read a segment. Whether a slave has it is a limit of the profile.
+/// The last event channel that may read a segment. Whether a slave has it is a limit of the
+/// profile.
 pub const LAST_CHANNEL: usize = 15;

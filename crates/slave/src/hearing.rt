@@ -34,8 +34,8 @@ impl<R: Ring> Slave<R> {
     /// the reply out, if there is one; and returns whether there was room for a reply, and the
     /// slave isn't spent. If not, the packet isn't heard.
     ///
-    /// What reads variables without a DAQ list reads them off `memory`, a slice for each segment. If
-    /// that of its segment has another length, or isn't there, the answer is ERR_ACCESS_DENIED.
+    /// What reads variables without a DAQ list reads them off `memory`, a slice for each segment.
+    /// If that of its segment has another length, or isn't there, the answer is ERR_ACCESS_DENIED.
     ///
     /// A start is refused, beside what a session refuses, in this order: with ERR_SEQUENCE if a
     /// list isn't set up as it was when the measurement was opened; with ERR_CMD_BUSY if a task has
