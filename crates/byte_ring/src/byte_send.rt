@@ -1,15 +1,16 @@
 //! Items go into a ring of bytes, each as a whole record or not at all.
-ghost use Rattle.std.specs.Prelude.{◌≡◌, ◌+◌, ◌%◌, ◌^◌, ◌≤◌, true, false, [], ◌++◌, length};
+ghost use Rattle.std.specs.Prelude.{◌≡◌, ◌+◌, ◌%◌, ◌^◌, ◌≤◌, true, false, [], ◌∷◌, ◌++◌, length};
 ghost use Rattle.rtrb.specs.Ring.{SameProducer, sent, known_free, producer_capacity};
 ghost use Rattle.channel_ring.specs.Names.{name_of};
 ghost use Rattle.byte_ring.specs.Held.{AreRecords};
 ghost use Rattle.byte_ring.specs.Reading.{items_in};
+ghost use Rattle.byte_ring.specs.Records.{record_len};
 
 use crate::byte_left::ByteLeft;
 use crate::record::{MAX_RECORD, record_len, write_record, write_sample};
-use channel_ring::SendEnd;
+use channel_ring::{ItemSend, SampleMaker, SendEnd};
 use rtrb::Producer;
-use xcp_base::{ChannelId, Item, ListId, Packets};
+use xcp_base::{ChannelId, Item, ListId, Packets, StopMark};
 
 /// The send end of a ring of bytes.
 #[derive(Drop)]
@@ -17,6 +18,8 @@ pub struct ByteSend {
     pub(crate) producer: Producer<u8>,
     // The record of the item that is sent stands first.
     spelled: [u8; MAX_RECORD],
+    // The packets of the sample that was made last. Each is made in this place.
+    packets: Packets,
     // The items sent, modulo 2^64.
     pub(crate) count: u64,
     // The bytes sent are the records of the items sent, each whole or not at all.
@@ -33,54 +36,74 @@ impl ByteSend {
         ByteSend {
             producer,
             spelled: [0; MAX_RECORD],
+            packets: Packets::new(),
             count: 0,
         }
+    }
+
+    /// Sends the record of an item, whole, or does nothing; returns which.
+    fn push_item(&mut self, item: &Item) -> bool
+        ensures ring { SameProducer self.old.producer self.new.producer }
+        ensures succeeds { record_len item.now ≤ known_free self.old.producer → result ≡ true }
+
+        ensures sends { result ≡ true → items_in (sent self.new.producer)
+            ≡ items_in (sent self.old.producer) ++ item.now ∷ [] }
+        ensures spent { result ≡ true
+            → known_free self.old.producer ≤ known_free self.new.producer + record_len item.now }
+
+        ensures sent_stays { result ≡ false
+            → items_in (sent self.new.producer) ≡ items_in (sent self.old.producer) }
+        ensures free_stays { result ≡ false
+            → known_free self.old.producer ≤ known_free self.new.producer }
+    {
+        let len = write_record(&mut self.spelled, item);
+        push_whole(&mut self.producer, &mut self.count, &self.spelled[..len])
     }
 }
 
 impl SendEnd for ByteSend {
-    ghost use Rattle.std.proofs.Common.{arith, ◌+◌, length};
+    ghost use Rattle.std.proofs.Common.{arith, ◌+◌, length, refl};
+    ghost use Rattle.channel_ring.specs.Making.{by_value};
     ghost use Rattle.byte_ring.specs.Enough.{records_enough};
 
     type End = ByteLeft;
 
     ghost sent = { λ s. items_in (sent s.producer) };
 
+    // what is sent is there at once
+    ghost held = { λ _. 0 };
+
     ghost free = { λ s. known_free s.producer };
 
     ghost capacity = { λ s. producer_capacity s.producer };
+
+    ghost limit = { λ _. by_value };
 
     ghost ring = { λ s. name_of s.producer.end };
 
     // that the take end is gone is told by no ring
     ghost is_lost = { λ _. Unit {0} };
 
-    fn offer(&mut self, item: Item) -> Result<(), Item> {
-        let len = write_record(&mut self.spelled, &item);
-        if push_whole(&mut self.producer, &mut self.count, &self.spelled[..len]) {
-            Ok(())
-        } else {
-            Err(item)
-        }
-    }
-
-    fn offer_sample(
+    fn offer_sample<M: SampleMaker>(
         &mut self,
         channel: ChannelId,
         list: ListId,
         number: u64,
-        packets: &Packets,
+        maker: &M,
     ) -> bool {
-        let len = write_sample(&mut self.spelled, channel, list, number, packets);
+        maker.fill(&mut self.packets);
+        let len = write_sample(&mut self.spelled, channel, list, number, &self.packets);
         push_whole(&mut self.producer, &mut self.count, &self.spelled[..len])
     }
 
-    fn room(&mut self) -> usize {
-        self.producer.slots()
+    fn offer_marker(&mut self, marker: StopMark) -> bool {
+        self.push_item(&Item::Marker(marker))
     }
 
-    fn cost(item: &Item) -> usize {
-        record_len(item)
+    fn publish(&mut self) {}
+
+    fn room(&mut self) -> usize {
+        self.producer.slots()
     }
 
     fn capacity(&self) -> usize {
@@ -91,6 +114,7 @@ impl SendEnd for ByteSend {
         let ByteSend {
             producer,
             spelled: _,
+            packets: _,
             count,
         } = self;
         let finished = producer.finish()?;
@@ -99,6 +123,28 @@ impl SendEnd for ByteSend {
 
     ghost enough = { λ s. records_enough (sent s.producer) s.whole (producer_capacity s.producer)
         (known_free s.producer) (Prim.omega (arith, s.producer.counts)) };
+
+    ghost least = { λ _. record {
+      count = Prim.omega arith;
+      packet = Prim.omega arith;
+      frames = Prim.omega arith;
+    } };
+
+    ghost nothing_held = { λ _ _. refl };
+}
+
+impl ItemSend for ByteSend {
+    fn offer(&mut self, item: Item) -> Result<(), Item> {
+        if self.push_item(&item) {
+            Ok(())
+        } else {
+            Err(item)
+        }
+    }
+
+    fn cost(item: &Item) -> usize {
+        record_len(item)
+    }
 }
 
 /// Pushes the bytes of a record, whole, and counts it, or does nothing; returns which.

@@ -11,7 +11,7 @@ use crate::byte_send::ByteSend;
 use crate::first_record::{nothing, read, take_out};
 use crate::front::Front;
 use crate::popping::let_go;
-use channel_ring::{Beside, TakeEnd};
+use channel_ring::{Beside, ItemTake, TakeEnd};
 use rtrb::Consumer;
 use xcp_base::Item;
 
@@ -54,6 +54,13 @@ impl TakeEnd for ByteTake {
 
     ghost ring = { λ t. name_of t.consumer.end };
 
+    fn after(&mut self, end: &mut ByteLeft) -> usize {
+        self.front.ahead = self.consumer.slots_after(&mut end.finished);
+        end.count.wrapping_sub(self.count) as usize
+    }
+}
+
+impl ItemTake for ByteTake {
     ghost ready = { λ t. t.front.is_ready };
 
     fn take(&mut self) -> Option<Item> {
@@ -83,11 +90,6 @@ impl TakeEnd for ByteTake {
         let _ = read(&mut self.consumer, &mut self.front);
         let_go(&mut self.consumer, &mut self.front);
         self.count = self.count.wrapping_add(1);
-    }
-
-    fn after(&mut self, end: &mut ByteLeft) -> usize {
-        self.front.ahead = self.consumer.slots_after(&mut end.finished);
-        end.count.wrapping_sub(self.count) as usize
     }
 }
 

@@ -1,5 +1,5 @@
 -- A sampler that was handed out, and what came of it.
-use Rattle.std.proofs.Common.{◌≡◌, ℕ, Bool, List, [], ◌∷◌, ◌++◌, refl, sym, ap, ◌∙◌, subst}
+use Rattle.std.proofs.Common.{◌≡◌, ℕ, Bool, List, [], ◌∷◌, ◌++◌, arith, le_refl, refl, sym, ap, ◌∙◌, subst}
 use Rattle.std.specs.Prelude.{IfOk, OnErr, OnOk, Result, Ok, Err}
 use Rattle.std.proofs.lemmas.List.{append_assoc, append-nil}
 use Rattle.channel_ring.specs.declared.ends.SendEnd.{Ghosts as SendGhosts}
@@ -35,7 +35,7 @@ module _ {S E : Type 0} (send : SendGhosts S E) (ring : EndGhosts E) where
   -- a sampler as it is
   pub later-here : (s : SamplerState S) → IsLaterOf send ring s s
   later-here s = record {
-    set_up = record { channel = refl; segments = refl; plans = refl; capacity = refl; ring = refl };
+    set_up = record { channel = refl; segments = refl; plans = refl; capacity = refl; held = le_refl (send.held s.end); ring = refl };
     stands = λ past st. (past, goes-on-here past, st);
   }
 
@@ -45,6 +45,7 @@ module _ {S E : Type 0} (send : SendGhosts S E) (ring : EndGhosts E) where
     segments = b.segments ∙ a.segments;
     plans = b.plans ∙ a.plans;
     capacity = b.capacity ∙ a.capacity;
+    held = omega (arith, a.held, b.held);
     ring = b.ring ∙ a.ring;
   }
 
@@ -69,6 +70,7 @@ module _ {S E : Type 0} (send : SendGhosts S E) (ring : EndGhosts E) where
       segments = ap (λ (v : SamplerState S). v.segments) looked.rest;
       plans = ap (λ (v : SamplerState S). v.plans) looked.rest;
       capacity = looked.capacity;
+      held = looked.held;
       ring = looked.ring;
     });
     stands = λ past st. let on = later.stands past st in (on.0, on.1, looked.stands on.0 on.2);

@@ -1,4 +1,5 @@
 pub mod Ends
+pub mod Making
 pub mod Names
 pub mod Room
 pub mod Orders

@@ -7,7 +7,7 @@ ghost use Rattle.daq_engine.specs.PumpSteps.{IsPumpStep};
 ghost use Rattle.daq_engine.specs.Samplers.{AllOnlyLooked, AreBeside, AreRoomy, IsRoomyAt};
 ghost use Rattle.daq_engine.specs.Samplers.{sent_of_each};
 
-use channel_ring::{Beside, RingEnd, SendEnd, TakeEnd};
+use channel_ring::{Beside, ItemTake, RingEnd, SendEnd, TakeEnd};
 use frame_writer::Out;
 use sampler::Sampler;
 use transmitter::{PumpFault, Pumped, Transmitter};
@@ -15,7 +15,7 @@ use transmitter::{PumpFault, Pumped, Transmitter};
 /// Looks at all that was sent to ring `c`.
 ///
 /// From then on each item left is known there, and each unit to be free that no item takes up.
-pub(crate) fn look_at<O: Out, T: Beside>(
+pub(crate) fn look_at<O: Out, T: Beside + ItemTake>(
     samplers: &mut Vec<Sampler<T::Send>>,
     transmitter: &mut Transmitter<O, T>,
     c: usize,
@@ -43,7 +43,7 @@ pub(crate) fn look_at<O: Out, T: Beside>(
 /// Looks at all that was sent to each ring.
 ///
 /// From then on each item left is known, and each unit to be free that no item takes up.
-pub(crate) fn look<O: Out, T: Beside>(
+pub(crate) fn look<O: Out, T: Beside + ItemTake>(
     samplers: &mut Vec<Sampler<T::Send>>,
     transmitter: &mut Transmitter<O, T>,
 )
@@ -69,7 +69,7 @@ pub(crate) fn look<O: Out, T: Beside>(
 /// Looks at all that was sent, pumps, and looks again, whatever the pump answered.
 ///
 /// From then on each item left is known, and each unit to be free that no item takes up.
-pub(crate) fn pump_step<O: Out, T: Beside>(
+pub(crate) fn pump_step<O: Out, T: Beside + ItemTake>(
     samplers: &mut Vec<Sampler<T::Send>>,
     transmitter: &mut Transmitter<O, T>,
 ) -> Result<Pumped, PumpFault>

@@ -7,7 +7,7 @@ use crate::channel_fault::ChannelFault;
 use crate::finishing::{account_after, finish_all};
 use crate::report::Report;
 use crate::unclosed::Unclosed;
-use channel_ring::{Beside, RingEnd, SendEnd, TakeEnd};
+use channel_ring::{Beside, ItemTake, RingEnd, SendEnd, TakeEnd};
 use frame_writer::Out;
 use sampler::{ListCounts, Sampler, StartFault, StopFault, Taken, TriggerFault};
 use std::alloc::Global;
@@ -26,7 +26,7 @@ pub struct Engine<O: Out, T: Beside> {
         (transmission O.Out T.TakeEnd transmitter) },
 }
 
-impl<O: Out, T: Beside> Engine<O, T>
+impl<O: Out, T: Beside + ItemTake> Engine<O, T>
 where
     T::Send: SendEnd<End = T::End>,
 {

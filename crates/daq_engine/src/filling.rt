@@ -8,12 +8,12 @@ ghost use Rattle.transmitter.specs.Merge.{of_ring};
 
 use crate::beside::look;
 use crate::engine::Engine;
-use channel_ring::{Beside, RingEnd, SendEnd, TakeEnd};
+use channel_ring::{Beside, ItemTake, RingEnd, SendEnd, TakeEnd};
 use frame_writer::SinkOut;
 use sampler::Sampler;
 use transmitter::{PumpFault, PumpedAll, Transmitter};
 
-impl<T: Beside> Engine<SinkOut, T>
+impl<T: Beside + ItemTake> Engine<SinkOut, T>
 where
     T::Send: SendEnd<End = T::End>,
 {
@@ -39,7 +39,7 @@ where
 }
 
 /// Looks at all that was sent, fills the buffer, and looks again, whatever the pumps answered.
-fn fill_step<T: Beside>(
+fn fill_step<T: Beside + ItemTake>(
     samplers: &mut Vec<Sampler<T::Send>>,
     transmitter: &mut Transmitter<SinkOut, T>,
     buffer: &mut [u8],

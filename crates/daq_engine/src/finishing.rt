@@ -15,7 +15,7 @@ use crate::closing::{account, room_for};
 use crate::faults::CloseFault;
 use crate::laws::drained_engines_leave_nothing;
 use crate::report::{ListReport, Report};
-use channel_ring::{RingEnd, SendEnd, TakeEnd};
+use channel_ring::{ItemTake, RingEnd, SendEnd, TakeEnd};
 use frame_writer::Out;
 use sampler::{Sampler, SamplerEnd};
 use std::alloc::Global;
@@ -44,7 +44,7 @@ pub fn finish_all<S: SendEnd>(
 }
 
 /// Drains the rings, where that is wanted. A fault of the drain stands in the transmitter.
-fn drain_if<O: Out, T: TakeEnd>(
+fn drain_if<O: Out, T: ItemTake>(
     transmitter: &mut Transmitter<O, T>,
     ends: &mut Vec<SamplerEnd<T::End>>,
     drain: bool,
@@ -68,7 +68,7 @@ fn drain_if<O: Out, T: TakeEnd>(
 
 /// The report of an engine, in the room that was made for its lines, and the writer, after a drain
 /// where that is wanted.
-pub fn account_after<O: Out, T: TakeEnd>(
+pub fn account_after<O: Out, T: ItemTake>(
     room: Vec<ListReport>,
     mut transmitter: Transmitter<O, T>,
     mut ends: Vec<SamplerEnd<T::End>>,
@@ -93,7 +93,7 @@ pub fn account_after<O: Out, T: TakeEnd>(
 /// A fault of the drain doesn't keep the engine from being closed: the report says that the writer
 /// failed. Refused as `close` is, before anything is drained; each refusal hands all back, as it
 /// was.
-pub fn drain_and_close<O: Out, T: TakeEnd>(
+pub fn drain_and_close<O: Out, T: ItemTake>(
     alloc: Global,
     transmitter: Transmitter<O, T>,
     ends: Vec<SamplerEnd<T::End>>,

@@ -24,7 +24,7 @@ pub use engine_opening::engine_over;
 pub use faults::CloseFault;
 pub use finishing::{drain_and_close, finish_all};
 pub use open_fault::OpenFault;
-pub use opening::{open, open_bytes, open_channel, open_over};
+pub use opening::{open, open_bytes, open_channel, open_over, sampler_over};
 pub use report::{ListReport, Report};
 pub use ring::Ring;
 pub use unclosed::Unclosed;

@@ -1,12 +1,12 @@
 //! Samplers and transmitter are opened over a store, with a ring for each event channel.
-ghost use Rattle.std.specs.Prelude.{◌≡◌, ◌<◌, ◌≤◌, false, length, IfOk};
+ghost use Rattle.std.specs.Prelude.{◌≡◌, ◌<◌, ◌≤◌, [], false, length, IfOk};
 ghost use Rattle.std.specs.List.{list_all};
 ghost use Rattle.sampler.specs.History.{Opening};
 ghost use Rattle.frame_writer.specs.Writing.{state_of};
 ghost use Rattle.transmitter.specs.Written.{next_of, transmission, writer_of};
 ghost use Rattle.daq_engine.specs.Openings.{AnswersOpening, IsOpenedOver, fit_caps_of};
 ghost use Rattle.daq_engine.specs.Openings.{is_byte_cap, is_cap, some_list_runs};
-ghost use Rattle.daq_engine.specs.Opened.{AreOpenedTo, IsOpenedAt};
+ghost use Rattle.daq_engine.specs.Opened.{AreOpenedTo, IsOpenedAt, IsSamplerAt};
 
 use crate::channel_plans::{plans_of, running_of};
 use crate::open_fault::OpenFault;
@@ -121,11 +121,29 @@ fn any_runs(store: &Store) -> bool
     (0..store.lists()).any(|l| store.running(l))
 }
 
-/// The sampler of one event channel of a store, and the take end of its ring, which has `cap`
-/// places.
+/// The sampler of one event channel of a store, over a send end through which nothing was sent.
 ///
 /// It has the DAQ lists of the channel that are ready, and of these run those that run in the
 /// store.
+pub fn sampler_over<S: SendEnd>(
+    alloc: Global,
+    store: &Store,
+    c: ChannelId,
+    end: S,
+) -> Result<Sampler<S>, AllocError>
+    requires nothing_sent { S.sent end ≡ [] }
+    ensures sampler { IfOk result (λ sampler. (opening : Opening)
+        × IsSamplerAt S.SendEnd S.End.RingEnd store.now c end sampler opening) }
+{
+    let Ok(plans) = plans_of(alloc, store, c) else {
+        return Err(AllocError);
+    };
+    let running = running_of(store, plans.as_slice());
+    Ok(Sampler::over(c.byte(), plans, end, store.segments(), running))
+}
+
+/// The sampler of one event channel of a store, and the take end of its ring, which has `cap`
+/// places.
 pub fn open_channel<R: Ring>(
     alloc: Global,
     store: &Store,
@@ -136,14 +154,10 @@ pub fn open_channel<R: Ring>(
         × IsOpenedAt R.Send.SendEnd R.Send.End.RingEnd R.Take.TakeEnd
         store.now c cap r.0 r.1 opening) }
 {
-    let Ok(plans) = plans_of(alloc, store, c) else {
-        return Err(AllocError);
-    };
     let Ok((send, take)) = R::make(alloc, cap) else {
         return Err(AllocError);
     };
-    let running = running_of(store, plans.as_slice());
-    let sampler = Sampler::over(c.byte(), plans, send, store.segments(), running);
+    let sampler = sampler_over(alloc, store, c, send)?;
     Ok((sampler, take))
 }
 

@@ -3,7 +3,7 @@ ghost use Rattle.std.specs.Prelude.{◌≡◌, ℕ, Bool, [], IfOk};
 ghost use Rattle.daq_engine.specs.Openings.{is_byte_cap, is_cap};
 
 use byte_ring::{ByteRing, ByteSend, ByteTake};
-use channel_ring::{Beside, RingFault, SampleRing, SendEnd, SendHalf, TakeEnd, TakeHalf};
+use channel_ring::{Beside, ItemTake, RingFault, SampleRing, SendEnd, SendHalf, TakeEnd, TakeHalf};
 use std::alloc::Global;
 use xcp_base::limits::{MAX_BYTE_RING, MAX_SAMPLE_RING, MIN_BYTE_RING};
 
@@ -13,7 +13,7 @@ pub trait Ring {
     type Send: SendEnd;
 
     /// The take end of such a ring.
-    type Take: Beside<Send = Self::Send> + TakeEnd<End = <Self::Send as SendEnd>::End>;
+    type Take: ItemTake + Beside<Send = Self::Send> + TakeEnd<End = <Self::Send as SendEnd>::End>;
 
     /// Whether such a ring may have this capacity.
     ghost is_cap: { ℕ → Bool };

@@ -1,5 +1,5 @@
 -- What a sampler does in its thread, and what the transmitter takes meanwhile.
-use Rattle.std.proofs.Common.{◌≡◌, ℕ, ◌+◌, All, List, [], ◌∷◌, ◌++◌, map, true, false, cond, IfSome, refl, sym, ap, ap₂, subst, ◌∙◌, arith, append-nil, append_assoc}
+use Rattle.std.proofs.Common.{◌≡◌, ℕ, ◌+◌, All, List, [], ◌∷◌, ◌++◌, map, true, false, cond, IfSome, refl, sym, ap, ap₂, subst, ◌∙◌, arith, le_refl, append-nil, append_assoc}
 use Rattle.std.specs.Prelude.{Option, Some, None, count_by}
 use Rattle.std.specs.Option.{is_some}
 use Rattle.std.proofs.lemmas.List.{map-append}
@@ -60,7 +60,7 @@ module _ {S E : Type 0} (send : SendGhosts S E) (ring : EndGhosts E) where
       ap₂ (λ (i n : ℕ). record { image_len = i; capacity = n; cost = ring.cost }) (ap image_len stays.segments) stays.capacity
 
   pub stays_still : (a : SamplerState S) → KeepsSetUp send a a
-  stays_still a = record { channel = refl; segments = refl; plans = refl; capacity = refl; ring = refl }
+  stays_still a = record { channel = refl; segments = refl; plans = refl; capacity = refl; held = le_refl (send.held a.end); ring = refl }
 
   pub stays_on : (a b c : SamplerState S) → KeepsSetUp send a b → KeepsSetUp send b c → KeepsSetUp send a c
   stays_on a b c first then = record {
@@ -68,6 +68,7 @@ module _ {S E : Type 0} (send : SendGhosts S E) (ring : EndGhosts E) where
     segments = then.segments ∙ first.segments;
     plans = then.plans ∙ first.plans;
     capacity = then.capacity ∙ first.capacity;
+    held = omega (arith, first.held, then.held);
     ring = then.ring ∙ first.ring;
   }
 

@@ -13,13 +13,13 @@ ghost use Rattle.daq_run.specs.Watched.{TellsSteps, cause_of, refusals};
 use crate::came::Came;
 use crate::cause::Cause;
 use crate::watch::{NoWatch, Watch};
-use channel_ring::{Beside, RingEnd, SendEnd, TakeEnd};
+use channel_ring::{Beside, ItemTake, RingEnd, SendEnd, TakeEnd};
 use daq_engine::{ChannelFault, Engine};
 use frame_writer::Out;
 use run_file::{Run, Step};
 
 /// Does a step, and returns what came of it. A pump at which the writer fails is no refusal.
-pub fn do_step<O: Out, T: Beside>(engine: &mut Engine<O, T>, step: Step<'_>) -> Came
+pub fn do_step<O: Out, T: Beside + ItemTake>(engine: &mut Engine<O, T>, step: Step<'_>) -> Came
 where
     T::Send: SendEnd<End = T::End>,
     requires of_channel { IsStepOf (length (engine_state O.Out T.TakeEnd engine.old).samplers)
@@ -77,7 +77,7 @@ fn count(came: Came) -> u64
 
 /// Does the steps of a run in order, and returns how many were refused. They go on if the writer
 /// fails.
-pub fn do_steps<O: Out, T: Beside>(engine: &mut Engine<O, T>, run: &Run) -> u64
+pub fn do_steps<O: Out, T: Beside + ItemTake>(engine: &mut Engine<O, T>, run: &Run) -> u64
 where
     T::Send: SendEnd<End = T::End>,
     requires channels { length (engine_state O.Out T.TakeEnd engine.old).samplers
@@ -96,7 +96,7 @@ where
 }
 
 /// Does the same before a watch, which is told what came of each step.
-pub fn do_watched<O: Out, T: Beside, W: Watch>(
+pub fn do_watched<O: Out, T: Beside + ItemTake, W: Watch>(
     engine: &mut Engine<O, T>,
     run: &Run,
     watch: &mut W,

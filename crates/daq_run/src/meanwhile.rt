@@ -4,7 +4,7 @@ ghost use Rattle.transmitter.specs.Written.{transmission};
 ghost use Rattle.daq_run.specs.Inner.Workers.{KeepsTaking};
 
 use crate::gate::Gate;
-use channel_ring::TakeEnd;
+use channel_ring::{ItemTake, TakeEnd};
 use frame_writer::Out;
 use std::sync::Wait;
 use std::sync::atomic::{AtomicBool, Ordering};
@@ -39,7 +39,7 @@ pub struct Pumping<'a, R, O, T, G> {
     pub ended: &'a Flags,
 }
 
-impl<'a, R: Wait, O: Out, T: TakeEnd, G: Gate> Meanwhile for Pumping<'a, R, O, T, G> {
+impl<'a, R: Wait, O: Out, T: ItemTake, G: Gate> Meanwhile for Pumping<'a, R, O, T, G> {
     type Output = &'a mut Transmitter<O, T>;
 
     ghost gives = { λ p lent. (lent.ghost_name ≡ p.transmitter.ghost_name)
@@ -59,7 +59,7 @@ impl<'a, R: Wait, O: Out, T: TakeEnd, G: Gate> Meanwhile for Pumping<'a, R, O, T
 }
 
 /// Pumps until the first `threads` have ended.
-fn pump_until<R: Wait, O: Out, T: TakeEnd, G: Gate>(
+fn pump_until<R: Wait, O: Out, T: ItemTake, G: Gate>(
     rt: &R,
     transmitter: &mut Transmitter<O, T>,
     gate: &G,
@@ -80,7 +80,7 @@ fn pump_until<R: Wait, O: Out, T: TakeEnd, G: Gate>(
 }
 
 /// Pumps once, tells the gate if that answered Ok, and returns whether anything was taken.
-fn pumps_some<O: Out, T: TakeEnd, G: Gate>(transmitter: &mut Transmitter<O, T>, gate: &G) -> bool
+fn pumps_some<O: Out, T: ItemTake, G: Gate>(transmitter: &mut Transmitter<O, T>, gate: &G) -> bool
     ensures { KeepsTaking (transmission O.Out T.TakeEnd transmitter.old)
         (transmission O.Out T.TakeEnd transmitter.new) }
 {

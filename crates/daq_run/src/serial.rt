@@ -14,7 +14,7 @@ use crate::setting_up::opened;
 use crate::sim_fault::SimFault;
 use crate::{NoWatch, Watch, do_watched};
 use byte_ring::ByteRing;
-use channel_ring::{Beside, RingEnd, SampleRing, SendEnd, TakeEnd};
+use channel_ring::{Beside, ItemTake, RingEnd, SampleRing, SendEnd, TakeEnd};
 use daq_engine::{Engine, Ring, Unclosed};
 use frame_writer::Out;
 use run_file::Run;
@@ -86,7 +86,7 @@ fn run_over<K: Ring, O: Out, W: Watch>(
 }
 
 /// The fault of an engine that was not closed, and its writer.
-fn given_back<O: Out, T: Beside>(unclosed: Unclosed<O, T>) -> (SimFault, O)
+fn given_back<O: Out, T: Beside + ItemTake>(unclosed: Unclosed<O, T>) -> (SimFault, O)
 where
     T::Send: SendEnd<End = T::End>,
     ensures fault { (result.0 ≡ Memory) ⊎ (result.0 ≡ EndLost) }

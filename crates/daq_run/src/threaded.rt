@@ -17,7 +17,7 @@ use crate::setting_up::opened;
 use crate::sim_fault::SimFault;
 use crate::worker::{WillWork, Worked, work};
 use byte_ring::ByteRing;
-use channel_ring::{RingEnd, SampleRing, SendEnd, TakeEnd};
+use channel_ring::{ItemTake, RingEnd, SampleRing, SendEnd, TakeEnd};
 use daq_engine::{CloseFault, Ring, drain_and_close};
 use frame_writer::Out;
 use run_file::Run;
@@ -99,7 +99,7 @@ where
 
 /// Runs each sampler in a thread of its own, and pumps in the caller's until each was finished:
 /// what is left of the samplers, in their order, and how many of their steps were refused.
-fn work_and_pump<R: Threads + Wait + Sync, S: SendEnd + Send, O: Out, T: TakeEnd, G: Gate + Sync>(
+fn work_and_pump<R: Threads + Wait + Sync, S: SendEnd + Send, O: Out, T: ItemTake, G: Gate + Sync>(
     rt: &R,
     alloc: Global,
     samplers: Vec<Sampler<S>>,

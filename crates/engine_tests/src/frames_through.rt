@@ -1,15 +1,16 @@
 //! Samples through a ring of frames, as they will be sent.
-ghost use Rattle.std.specs.Prelude.{◌≡◌, ◌<◌, ◌≤◌, [], ◌∷◌, IfOk, IfSome, length};
+ghost use Rattle.std.specs.Prelude.{◌≡◌, ◌<◌, ◌≤◌, [], ◌∷◌, IfOk, IfSome, OnOk, length};
+ghost use Rattle.channel_ring.specs.Making.{FitsSample, by_value};
 ghost use Rattle.frame_ring.specs.Heads.{head_blocks};
 
 use crate::same::same;
-use frame_ring::{
-    BLOCK, Block, FrameRing, FrameSend, FrameTake, Head, SampleFrames, frames_of, sample_blocks,
-};
+use channel_ring::{Beside, SampleMaker, SendEnd, TakeEnd};
+use frame_ring::limits::MIN_ROOM;
+use frame_ring::{BLOCK, Block, FrameRing, FrameSend, FrameTake, Head, frames_of};
 use std::alloc::Global;
 use std::process::Abort;
 use std::test::Fail;
-use xcp_base::{ChannelId, ListId, StopMark};
+use xcp_base::{ChannelId, ListId, Packets, StopMark};
 
 /// The blocks of the ring.
 const BLOCKS: usize = 8;
@@ -21,7 +22,7 @@ struct OnePacket {
     ghost long: { length packet ≡ 3 },
 }
 
-impl SampleFrames for OnePacket {
+impl SampleMaker for OnePacket {
     ghost use Rattle.engine_tests.specs.OnePacket.{one_packet};
 
     ghost packets = { λ o. o.packet ∷ [] };
@@ -30,11 +31,16 @@ impl SampleFrames for OnePacket {
         1
     }
 
-    fn len(&self) -> usize {
+    fn frames_len(&self) -> usize {
         7
     }
 
-    fn lay(&self, out: &mut [u8], at: usize) -> usize {
+    fn fill(&self, sample: &mut Packets) {
+        sample.clear();
+        let _ = sample.push(&self.packet[..]);
+    }
+
+    fn lay_frames(&self, out: &mut [u8], at: usize) -> usize {
         let [a, b, c] = self.packet;
         out[at..at + 7].copy_from_slice(&[3, 0, 0, 0, a, b, c]);
         at + 7
@@ -43,31 +49,42 @@ impl SampleFrames for OnePacket {
     ghost within = { λ o. one_packet o.packet o.long };
 }
 
-/// Offers the sample of this number of list 2; `false` if the end has no room for its record.
-fn offer(send: &mut FrameSend, number: u8) -> bool {
+/// Offers the sample of this number of list 2.
+fn offer(send: &mut FrameSend, number: u8) -> bool
+    ensures ring_stays { ⟦<FrameSend as SendEnd>⟧.ring send.new
+        ≡ ⟦<FrameSend as SendEnd>⟧.ring send.old }
+{
     let sample = OnePacket {
         packet: [0, number, 0xFF],
     };
-    let len = sample.len();
-    if len > 7 {
-        return false;
-    }
-    if send.room() < sample_blocks(len) {
-        return false;
-    }
     send.offer_sample(ChannelId::at(1), ListId::at(2), number as u64, &sample)
 }
 
-/// Offers a stop marker of list 2; `false` if the end has no room for its record.
-fn offer_stop(send: &mut FrameSend) -> bool {
-    if send.room() < 1 {
-        return false;
+/// Offers a stop marker of list 2, which isn't published.
+fn offer_stop(send: &mut FrameSend) -> bool
+    ensures ring_stays { ⟦<FrameSend as SendEnd>⟧.ring send.new
+        ≡ ⟦<FrameSend as SendEnd>⟧.ring send.old }
+{
+    send.send_marker(StopMark::new(1, 2))
+}
+
+/// The bytes of the frames of what stands first.
+fn len_of(head: Head) -> usize {
+    match head {
+        Head::Sample {
+            list: _,
+            packets: _,
+            len,
+        } => len as usize,
+        Head::Marker { list: _ } => 0,
     }
-    send.offer_marker(StopMark::new(1, 2))
 }
 
 /// The first item of a ring, which is taken, and its frames.
-fn taken(alloc: Global, take: &mut FrameTake) -> Result<Option<(Head, Vec<u8>)>, Fail> {
+pub fn taken(alloc: Global, take: &mut FrameTake) -> Result<Option<(Head, Vec<u8>)>, Fail>
+    ensures ring_stays { ⟦<FrameTake as TakeEnd>⟧.ring take.new
+        ≡ ⟦<FrameTake as TakeEnd>⟧.ring take.old }
+{
     let Some(head) = take.look() else {
         return Ok(None);
     };
@@ -77,14 +94,11 @@ fn taken(alloc: Global, take: &mut FrameTake) -> Result<Option<(Head, Vec<u8>)>,
         return Err(Fail::from("a record that is longer than the ring"));
     }
     take.take(&mut blocks[..count]);
-    let frames = match head {
-        Head::Sample {
-            list: _,
-            packets: _,
-            len,
-        } if len == 7 => frames_of(&blocks[..count], 7),
-        _ => &[],
-    };
+    if count < 2 {
+        return Ok(Some((head, Vec::new(alloc))));
+    }
+    let len = len_of(head).min(count * BLOCK - 16);
+    let frames = frames_of(&blocks[..count], len);
     Ok(Some((head, frames.to_vec(alloc)?)))
 }
 
@@ -94,7 +108,10 @@ fn sample_comes(
     alloc: Global,
     take: &mut FrameTake,
     number: u8,
-) -> Result<(), Fail> {
+) -> Result<(), Fail>
+    ensures ring_stays { ⟦<FrameTake as TakeEnd>⟧.ring take.new
+        ≡ ⟦<FrameTake as TakeEnd>⟧.ring take.old }
+{
     let Some((head, frames)) = taken(alloc, take)? else {
         return Err(Fail::from("no sample"));
     };
@@ -114,10 +131,23 @@ fn sample_comes(
     Ok(())
 }
 
+/// Compares the first item of a ring with a stop marker of list 2.
+fn marker_comes(rt: &impl Abort, alloc: Global, take: &mut FrameTake) -> Result<(), Fail>
+    ensures ring_stays { ⟦<FrameTake as TakeEnd>⟧.ring take.new
+        ≡ ⟦<FrameTake as TakeEnd>⟧.ring take.old }
+{
+    let head = taken(alloc, take)?.map(|found| found.0);
+    let wanted = Some(Head::Marker { list: 2 });
+    same(rt, head, wanted, "a stop marker", "its head");
+    Ok(())
+}
+
 #[test]
 fn samples_go_through_a_ring_of_frames(rt: HostRuntime) -> Result<(), Fail> {
-    let (mut send, mut take) = FrameRing::new(rt.alloc(), BLOCKS * BLOCK, 6)?;
+    let (mut send, mut take) = FrameRing::new(rt.alloc(), BLOCKS * BLOCK, MIN_ROOM)?;
     let row = "a ring of 64 bytes";
+    let made = (send.longest(), send.capacity());
+    same(&rt, made, (MIN_ROOM, BLOCKS), row, "its room");
     let offered = (
         offer(&mut send, 0),
         offer(&mut send, 1),
@@ -136,32 +166,51 @@ fn samples_go_through_a_ring_of_frames(rt: HostRuntime) -> Result<(), Fail> {
         offer_stop(&mut send),
     );
     same(&rt, marked, (true, true, false), row, "three stop markers");
-    same(&rt, send.free(), 0, row, "blocks that are free");
+    same(&rt, send.room(), 0, row, "blocks that are free");
+    same(&rt, take.look(), None, row, "what is held back at first");
     send.publish();
     sample_comes(&rt, rt.alloc(), &mut take, 0)?;
     same(
         &rt,
-        send.free(),
+        send.room(),
         3,
         row,
         "blocks that are free behind a sample taken",
     );
     same(&rt, offer(&mut send, 3), true, row, "a fourth sample");
     sample_comes(&rt, rt.alloc(), &mut take, 1)?;
-    let marker = Head::Marker { list: 2 };
-    for _ in 0..2 {
-        let head = taken(rt.alloc(), &mut take)?.map(|found| found.0);
-        same(&rt, head, Some(marker), row, "a stop marker");
-    }
+    marker_comes(&rt, rt.alloc(), &mut take)?;
+    marker_comes(&rt, rt.alloc(), &mut take)?;
     same(&rt, take.look(), None, row, "what is held back");
-    send.publish();
-    sample_comes(&rt, rt.alloc(), &mut take, 3)?;
     same(
         &rt,
-        (take.look(), send.free()),
-        (None, BLOCKS),
+        send.offer_marker(StopMark::new(1, 2)),
+        true,
         row,
-        "what is left",
+        "a stop marker that is published with it",
     );
+    sample_comes(&rt, rt.alloc(), &mut take, 3)?;
+    let Some(mut left) = send.finish() else {
+        return Err(Fail::from("no end was left"));
+    };
+    same(
+        &rt,
+        take.after(&mut left),
+        1,
+        row,
+        "what is left at the end",
+    );
+    marker_comes(&rt, rt.alloc(), &mut take)
+}
+
+#[test]
+fn a_look_beside_finds_what_is_held_back(rt: HostRuntime) -> Result<(), Fail> {
+    let (mut send, mut take) = FrameRing::new(rt.alloc(), BLOCKS * BLOCK, MIN_ROOM)?;
+    let row = "a look beside";
+    same(&rt, offer(&mut send, 7), true, row, "a sample");
+    same(&rt, take.beside(&mut send), 1, row, "items");
+    sample_comes(&rt, rt.alloc(), &mut take, 7)?;
+    same(&rt, take.beside(&mut send), 0, row, "items behind it");
+    same(&rt, send.room(), BLOCKS, row, "blocks that are free");
     Ok(())
 }

@@ -1,6 +1,6 @@
 //! The send end over a list, which hands back what finds no place.
 use crate::same::same;
-use channel_ring::{ListSend, SendEnd};
+use channel_ring::{ItemSend, ListSend, SendEnd};
 use std::test::Fail;
 use xcp_base::{Item, StopMark};
 

@@ -2,50 +2,53 @@
 ghost use Rattle.std.specs.Prelude.{[]};
 ghost use Rattle.channel_ring.specs.Ends.{no_ring};
 
-use channel_ring::SendEnd;
+use channel_ring::{SampleMaker, SendEnd};
 use sampler::Sampler;
 use std::test::Fail;
-use xcp_base::{ChannelId, Item, ListId, Packets};
+use xcp_base::{ChannelId, Item, ListId, StopMark};
 
 /// A send end without any room, of which nothing is left once it is finished.
 #[derive(Drop)]
 struct NoEnd;
 
 impl SendEnd for NoEnd {
-    ghost use Rattle.std.proofs.Common.{arith};
+    ghost use Rattle.std.proofs.Common.{arith, refl};
+    ghost use Rattle.channel_ring.specs.Making.{by_value};
 
     type End = Vec<Item>;
 
     ghost sent = { λ _. [] };
 
+    ghost held = { λ _. 0 };
+
     ghost free = { λ _. 0 };
 
     ghost capacity = { λ _. 0 };
+
+    ghost limit = { λ _. by_value };
 
     ghost ring = { λ _. no_ring };
 
     ghost is_lost = { λ _. Unit {0} };
 
-    fn offer(&mut self, item: Item) -> Result<(), Item> {
-        Err(item)
-    }
-
-    fn offer_sample(
+    fn offer_sample<M: SampleMaker>(
         &mut self,
         _channel: ChannelId,
         _list: ListId,
         _number: u64,
-        _packets: &Packets,
+        _maker: &M,
     ) -> bool {
         false
     }
 
-    fn room(&mut self) -> usize {
-        0
+    fn offer_marker(&mut self, _marker: StopMark) -> bool {
+        false
     }
 
-    fn cost(_item: &Item) -> usize {
-        1
+    fn publish(&mut self) {}
+
+    fn room(&mut self) -> usize {
+        0
     }
 
     fn capacity(&self) -> usize {
@@ -57,6 +60,14 @@ impl SendEnd for NoEnd {
     }
 
     ghost enough = { λ _. Prim.omega arith };
+
+    ghost least = { λ _. record {
+      count = Prim.omega arith;
+      packet = Prim.omega arith;
+      frames = Prim.omega arith;
+    } };
+
+    ghost nothing_held = { λ _ _. refl };
 }
 
 #[test]

@@ -6,8 +6,8 @@ use crate::same::same;
 use crate::stores::one_list;
 use byte_ring::ByteRing;
 use channel_ring::{
-    ControlEnded, ControlRing, ControlSend, ControlTake, Order, RingEnd, SampleRing, SendEnd,
-    TakeEnd,
+    ControlEnded, ControlRing, ControlSend, ControlTake, ItemTake, Order, RingEnd, SampleRing,
+    SendEnd, TakeEnd,
 };
 use daq_engine::{Report, Ring, close, open_over};
 use frame_writer::{FrameWriter, Out, VecOut};
@@ -75,7 +75,7 @@ fn next_order(sent: usize) -> Order {
 }
 
 /// Tries to send the next order, and pumps behind each try. Appends the orders that were sent.
-fn order_all<T: TakeEnd>(
+fn order_all<T: ItemTake>(
     send: ControlSend,
     transmitter: Transmitter<VecOut<Global>, T>,
     orders: Vec<Order>,
@@ -98,7 +98,7 @@ fn order_all<T: TakeEnd>(
 }
 
 /// Runs a sampler in a thread of its own, and a master's orders beside it.
-fn sample_beside<R: Threads, S: SendEnd + Send, T: TakeEnd + Send>(
+fn sample_beside<R: Threads, S: SendEnd + Send, T: ItemTake + Send>(
     rt: &R,
     sampling: (Sampler<S>, ControlTake, Vec<Order>),
     ordering: (ControlSend, Transmitter<VecOut<Global>, T>, Vec<Order>),
@@ -121,7 +121,7 @@ where
 }
 
 /// Drains the ring of one sampler, and closes its engine.
-fn close_one<T: TakeEnd>(
+fn close_one<T: ItemTake>(
     alloc: Global,
     transmitter: Transmitter<VecOut<Global>, T>,
     end: SamplerEnd<T::End>,
@@ -158,7 +158,7 @@ fn with_left(ctl: ControlTake, end: ControlEnded, answered: Vec<Order>) -> Vec<O
 /// Drains and closes, and compares the orders that were answered and left with those that were
 /// sent, and the account with itself. The first order is sent before the sampler's first look, so
 /// some are answered, however the threads run.
-fn settle<T: TakeEnd>(
+fn settle<T: ItemTake>(
     rt: &impl Abort,
     alloc: Global,
     sampled: (SamplerEnd<T::End>, ControlTake, Vec<Order>),
@@ -199,7 +199,7 @@ fn orders_come_through<R, S, T>(
 where
     R: Threads + Abort,
     S: SendEnd + Send,
-    T: TakeEnd<End = S::End> + Send,
+    T: ItemTake<End = S::End> + Send,
     S::End: Send,
     requires rings { (transmission ⟦<VecOut<Global> as Out>⟧ T.TakeEnd transmitter).rings
         ≡ S.ring sampler.end ∷ [] }

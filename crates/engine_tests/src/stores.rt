@@ -31,6 +31,20 @@ const OF_TWO: &[&[u8]] = &[
     &[0xDE, 1, 1, 0],
 ];
 
+/// A list of two ODTs that runs: each has two bytes of the image, the first also a timestamp.
+const OF_TWO_ODTS: &[&[u8]] = &[
+    &[0xD5, 0, 1, 0],
+    &[0xD4, 0, 0, 0, 2],
+    &[0xD3, 0, 0, 0, 0, 1],
+    &[0xD3, 0, 0, 0, 1, 1],
+    &[0xE2, 0, 0, 0, 0, 0],
+    &[0xE1, 0xFF, 2, 0, 0, 0, 0, 0],
+    &[0xE2, 0, 0, 0, 1, 0],
+    &[0xE1, 0xFF, 2, 0, 2, 0, 0, 0],
+    &[0xE0, 0x10, 0, 0, 0, 0, 1, 0],
+    &[0xDE, 1, 0, 0],
+];
+
 /// Carries a command packet out.
 fn carry(store: &mut Store, packet: &[u8]) -> Result<(), Fail> {
     let Ok(command) = command::read(packet) else {
@@ -66,4 +80,10 @@ pub fn two_lists(alloc: Global) -> Result<Store, Fail> {
 /// The same with one event channel and its list.
 pub fn one_list(alloc: Global) -> Result<Store, Fail> {
     store_of(alloc, 1, 2, WHOLE)
+}
+
+/// A store of one event channel, for images of four bytes, whose list has two ODTs: two bytes
+/// each, and a timestamp before the first.
+pub fn two_odts(alloc: Global) -> Result<Store, Fail> {
+    store_of(alloc, 1, 4, OF_TWO_ODTS)
 }

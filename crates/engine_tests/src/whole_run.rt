@@ -7,7 +7,7 @@ ghost use Rattle.engine_tests.specs.WholeRun.{RecordsOnce, RunsOnce};
 
 use crate::same::same;
 use crate::stores::two_lists;
-use channel_ring::{Beside, RingEnd, SendEnd, SendHalf, SendLeft, TakeEnd};
+use channel_ring::{Beside, ItemTake, RingEnd, SendEnd, SendHalf, SendLeft, TakeEnd};
 use daq_engine::{Engine, ListReport, Report, open_bytes};
 use daq_store::Store;
 use frame_writer::{FrameWriter, Out, VecOut};
@@ -16,7 +16,7 @@ use std::test::Fail;
 
 /// Takes a trigger of event channel 0, pumps, stops list 0 and starts it again, and closes the
 /// engine once its rings are drained.
-fn run_once<O: Out + Drop, T: Beside>(
+fn run_once<O: Out + Drop, T: Beside + ItemTake>(
     alloc: Global,
     engine: Engine<O, T>,
     image: &[u8],

@@ -7,7 +7,7 @@ ghost use Rattle.daq_engine.specs.Configuration.{upto};
 use crate::same::same;
 use crate::stores::two_lists;
 use byte_ring::ByteRing;
-use channel_ring::{Beside, RingEnd, SampleRing, SendEnd, TakeEnd};
+use channel_ring::{Beside, ItemTake, RingEnd, SampleRing, SendEnd, TakeEnd};
 use daq_engine::{CloseFault, Engine, ListReport, Ring, close, engine_over, finish_all};
 use frame_writer::{FrameWriter, Out, VecOut};
 use sampler::SamplerEnd;
@@ -44,7 +44,7 @@ fn triggered<K: Ring>(alloc: Global, cap: usize) -> Result<Engine<VecOut<Global>
 }
 
 /// What is left of the samplers of an engine, and the transmitter of their rings.
-fn finished<T: Beside>(
+fn finished<T: Beside + ItemTake>(
     alloc: Global,
     engine: Engine<VecOut<Global>, T>,
 ) -> Result<(Vec<SamplerEnd<T::End>>, Writing<T>), Fail>
@@ -87,7 +87,7 @@ fn may_fit<E>(ends: &[SamplerEnd<E>], rings: usize) -> bool
 }
 
 /// Hands ends to `close` that don't fit: compares the fault and the ends that come back.
-fn refused<T: TakeEnd>(
+fn refused<T: ItemTake>(
     rt: &impl Abort,
     alloc: Global,
     transmitter: Writing<T>,
@@ -117,7 +117,7 @@ fn refused<T: TakeEnd>(
 }
 
 /// Closes an engine with its own ends: compares its account and its bytes.
-fn closes<T: TakeEnd>(
+fn closes<T: ItemTake>(
     rt: &impl Abort,
     alloc: Global,
     transmitter: Writing<T>,

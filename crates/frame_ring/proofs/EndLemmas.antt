@@ -1,22 +1,24 @@
 -- The ends of a ring of frames, by what their consumers and producers tell.
-use Rattle.std.proofs.Common.{◌≡◌, ℕ, zero, suc, ◌+◌, ◌-◌, ◌%◌, take, ◌<◌, ◌≤◌, List, [], ◌∷◌, ◌++◌, length, refl, sym, ap, ◌∙◌, subst, arith, append_assoc, ⊎_elim}
-use Rattle.std.specs.Prelude.{Bool, cond, true, false, slice_index, ◌==◌}
+use Rattle.std.proofs.Common.{◌≡◌, ℕ, zero, suc, ◌+◌, ◌-◌, ◌%◌, ◌^◌, take, drop, ◌<◌, ◌≤◌, List, [], ◌∷◌, ◌++◌, length, refl, sym, ap, ◌∙◌, subst, arith, append_assoc, ⊎_elim}
+use Rattle.std.proofs.lemmas.List.{length-append}
+use Rattle.std.specs.Prelude.{Bool, cond, true, false, nat_le, slice_index, ◌==◌}
 use mathlib.Core.List.{IsPrefix}
 use Rattle.rtrb.specs.declared.consumer.Consumer.{Consumer}
 use Rattle.rtrb.specs.Ends.{SameRing}
 use Rattle.rtrb.specs.Fifo.{Allowed}
 use Rattle.rtrb.specs.Ring.{ConsumerLooked, known_items, received}
 use Rattle.channel_ring.specs.Names.{name_of}
+use Rattle.channel_ring.specs.Room.{units, units-append}
 use Rattle.xcp_base.specs.declared.item.Item.{Item}
 use Rattle.frame_ring.specs.Ends.{LooksForItems, TakeState, TakesFirst}
 use Rattle.frame_ring.specs.Fronts.{AreRecords, BeginRecords}
 use Rattle.frame_ring.specs.Heads.{IsHeadOf, head_blocks, head_of}
-use Rattle.frame_ring.specs.Inner.{front_block}
-use Rattle.frame_ring.specs.Reading.{blocks_of, flat, frames_len, item_of, items_in}
-use Rattle.frame_ring.specs.Records.{blocks_for}
+use Rattle.frame_ring.specs.Inner.{counts, front_block}
+use Rattle.frame_ring.specs.Reading.{blocks_of, flat, frames_len, item_of, items_from, items_in}
+use Rattle.frame_ring.specs.Records.{blocks_for, cost}
 use Rattle.frame_ring.specs.declared.head.Head.TheVariants.{Sample, Marker}
-use Rattle.frame_ring.proofs.HeldLemmas.{same_name, same_records}
-use Rattle.frame_ring.proofs.RecordLemmas.{all_read, blocks_of_some, items_step, nothing_read, parts, records_read}
+use Rattle.frame_ring.proofs.HeldLemmas.{all_cost, same_name, same_records}
+use Rattle.frame_ring.proofs.RecordLemmas.{blocks_of_some, items_step, nothing_read, parts, records_read}
 use Rattle.frame_ring.proofs.TakeLemmas.{all_allowed, first_known, is_taken, items_grow, names_item, none_known, or_less}
 
 -- ---- looks
@@ -143,5 +145,34 @@ module _ {A P : Type 0} where
 -- what is read behind whole records
 pub split_read : (received known : List (List ℕ)) → AreRecords received → items_in (received ++ known) ≡ items_in received ++ items_in known
 split_read received known w =
-    ap (λ bs. items_in (bs ++ known)) w.are ∙ records_read w.items known w.each
-    ∙ ap (λ xs. xs ++ items_in known) (sym (all_read w.items w.each) ∙ sym (ap items_in w.are))
+    ap (λ bs. items_in (bs ++ known)) w.are ∙ records_read (items_in received) known w.each
+
+-- ---- how many items are left
+
+few_by : (c : Bool) (n : ℕ) (x : Item) (xs : List Item) → length xs ≤ n → length (cond c (x ∷ xs) []) ≤ suc n
+few_by true n x xs h = omega (arith, h)
+few_by false n x xs h = omega arith
+
+from_few : (n : ℕ) (bs : List (List ℕ)) → length (items_from n bs) ≤ n
+unfolding items_from
+from_few zero bs = omega arith
+from_few (suc n) [] = omega arith
+from_few (suc n) (b ∷ bs) = few_by (nat_le (blocks_of b) (length (b ∷ bs))) n _ _ (from_few n (drop (blocks_of b) (b ∷ bs)))
+
+-- there are no more items than blocks
+items_few : (bs : List (List ℕ)) → length (items_in bs) ≤ length bs
+unfolding items_in
+items_few bs = from_few (length bs) bs
+
+-- how many are left, by two numbers that are counted modulo 2^64
+pub left_counted : (received known all : List (List ℕ)) (a b : ℕ) → AreRecords received → received ++ known ≡ all → counts a all → counts b received → length known < 2 ^ 64
+    → (a + (2 ^ 64 - b)) % 2 ^ 64 ≡ length (items_in known)
+left_counted received known all a b w is of_all of_received few =
+    let left : items_in received ++ items_in known ≡ items_in all = sym (split_read received known w) ∙ ap items_in is in
+    omega (arith, of_all, of_received, few, items_few known, ap length left, length-append (items_in received) (items_in known))
+
+-- what is left takes up its blocks
+pub left_cost : (received known all : List (List ℕ)) → AreRecords received → AreRecords all → received ++ known ≡ all → units cost (items_in known) ≡ length known
+left_cost received known all w v is =
+    let left : items_in received ++ items_in known ≡ items_in all = sym (split_read received known w) ∙ ap items_in is in
+    omega (arith, all_cost received w, all_cost all v, ap (units cost) left, units-append cost (items_in received) (items_in known), ap length is, length-append received known)

@@ -4,7 +4,7 @@ use Rattle.std.proofs.lemmas.List.{drop_at, drop_more, length-append, take_at, t
 use Rattle.std.proofs.lemmas.List.Elements.{All-head, All-tail}
 use Rattle.std.specs.Prelude.{All}
 use Rattle.frame_writer.specs.Frame.{frame}
-use Rattle.frame_ring.specs.Records.{IsPacket}
+use Rattle.channel_ring.specs.Making.{IsPacket}
 use Rattle.frame_writer.specs.Frame.{unnumbered}
 use Rattle.frame_ring.specs.Reading.{len_at, packets_in}
 use Rattle.frame_ring.specs.Sending.{AreFramesOf}

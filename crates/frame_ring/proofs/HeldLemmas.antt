@@ -1,5 +1,6 @@
 -- What a send end holds back.
-use Rattle.std.proofs.Common.{◌≡◌, ℕ, ◌+◌, ◌-◌, ◌*◌, ◌/◌, ◌<◌, ◌≤◌, List, [], ◌∷◌, ◌++◌, length, take, drop, get_or, refl, sym, ap, ◌∙◌, arith, append_assoc, append-nil, take-append-drop}
+use Rattle.std.specs.Prelude.{All}
+use Rattle.std.proofs.Common.{◌≡◌, subst, ℕ, ◌+◌, ◌-◌, ◌*◌, ◌/◌, ◌%◌, ◌^◌, ◌<◌, ◌≤◌, List, [], ◌∷◌, ◌++◌, length, take, drop, get_or, refl, sym, ap, ◌∙◌, arith, append_assoc, append-nil, take-append-drop}
 use Rattle.std.proofs.lemmas.List.{length-append, length-take, take_more}
 use Rattle.std.specs.Prelude.{slice_index_or}
 use Rattle.std.specs.Simd.{first_chunks}
@@ -13,7 +14,7 @@ use Rattle.xcp_base.specs.declared.item.Item.{Item}
 use Rattle.xcp_base.specs.declared.item.Item.TheVariants.{Marker}
 use Rattle.frame_ring.specs.Ends.{SendState}
 use Rattle.frame_ring.specs.Fronts.{AreRecords, BeginRecords}
-use Rattle.frame_ring.specs.Inner.{IsSend, held_back}
+use Rattle.frame_ring.specs.Inner.{IsSend, counts, held_back}
 use Rattle.frame_ring.specs.Reading.{items_in}
 use Rattle.frame_ring.specs.Records.{IsItem, bytes_of, cost, record_of, records_of}
 use Rattle.std.proofs.lemmas.List.Elements.{All-append, All-cons, All-nil}
@@ -41,13 +42,19 @@ each_begins pushed blocks whole i d h =
     let more : take (i + 1) blocks ≡ take i blocks ++ get_or blocks i d ∷ [] = take_more blocks i d h in
     let is : (pushed ++ take i blocks) ++ get_or blocks i d ∷ [] ≡ pushed ++ take (i + 1) blocks = append_assoc pushed (take i blocks) (get_or blocks i d ∷ []) ∙ ap (λ t. pushed ++ t) (sym more) in
     record {
-      items = whole.items;
+      items = items_in (pushed ++ blocks);
       each = whole.each;
       begin = (drop (i + 1) blocks, ap (λ t. t ++ drop (i + 1) blocks) is ∙ append_assoc pushed (take (i + 1) blocks) (drop (i + 1) blocks) ∙ ap (λ t. pushed ++ t) (take-append-drop (i + 1) blocks) ∙ whole.are);
     }
 
 pub same_records : (a b : List (List ℕ)) → a ≡ b → AreRecords a → AreRecords b
-same_records a b e w = record { items = w.items; each = w.each; are = sym e ∙ w.are }
+same_records a b e w = subst AreRecords e w
+
+-- the records of some items, one behind another
+pub as_records : (blocks : List (List ℕ)) (items : List Item) → All IsItem items → blocks ≡ records_of items → AreRecords blocks
+as_records blocks items each are =
+    let back : items_in blocks ≡ items = ap items_in are ∙ all_read items each in
+    record { each = subst (All IsItem) (sym back) each; are = are ∙ ap records_of (sym back) }
 
 pub same_state : (xs ys : List Item) (held free capacity c room : ℕ) (ring r : RingName) → ys ≡ xs → c ≡ capacity → r ≡ ring
     → ◌≡◌ {A = SendState} (record { sent = ys; held = held; free = free; capacity = c; room = room; ring = r }) (record { sent = xs; held = held; free = free; capacity = capacity; room = room; ring = ring })
@@ -77,28 +84,62 @@ more_held x old new held blocks room long same is fits laid =
     ∙ ap (λ cs. cs ++ first_chunks 8 blocks (bytes_of x)) (chunks-take held old (omega (arith, fits, long)))
     ∙ ap (λ n. first_chunks 8 held old ++ first_chunks 8 n (bytes_of x)) count
 
+-- the records of one item more
+one_more : (blocks : List (List ℕ)) (x : Item) → AreRecords blocks → blocks ++ record_of x ≡ records_of (items_in blocks ++ x ∷ [])
+one_more blocks x w =
+    ap (λ b. b ++ record_of x) w.are ∙ ap (λ r. records_of (items_in blocks) ++ r) (sym (append-nil (record_of x))) ∙ sym (records-append (items_in blocks) (x ∷ []))
+
+each_more : (blocks : List (List ℕ)) (x : Item) → IsItem x → AreRecords blocks → All IsItem (items_in blocks ++ x ∷ [])
+each_more blocks x h w = All-append IsItem (items_in blocks) (x ∷ []) w.each (All-cons IsItem x [] h (All-nil IsItem))
+
 pub more_records : (blocks : List (List ℕ)) (x : Item) → IsItem x → AreRecords blocks → AreRecords (blocks ++ record_of x)
-more_records blocks x h w =
-    record {
-      items = w.items ++ x ∷ [];
-      each = All-append IsItem w.items (x ∷ []) w.each (All-cons IsItem x [] h (All-nil IsItem));
-      are = ap (λ b. b ++ record_of x) w.are ∙ ap (λ r. records_of w.items ++ r) (sym (append-nil (record_of x))) ∙ sym (records-append w.items (x ∷ []));
-    }
+more_records blocks x h w = as_records _ (items_in blocks ++ x ∷ []) (each_more blocks x h w) (one_more blocks x w)
 
 pub read_more : (blocks : List (List ℕ)) (x : Item) → IsItem x → AreRecords blocks → items_in (blocks ++ record_of x) ≡ items_in blocks ++ x ∷ []
-unfolding more_records
-read_more blocks x h w =
-    let m = more_records blocks x h w in
-    ap items_in m.are ∙ all_read m.items m.each ∙ ap (λ ys. ys ++ x ∷ []) (sym (all_read w.items w.each) ∙ sym (ap items_in w.are))
+read_more blocks x h w = ap items_in (one_more blocks x w) ∙ all_read (items_in blocks ++ x ∷ []) (each_more blocks x h w)
+
+-- nothing is records
+pub are_none : (blocks : List (List ℕ)) → blocks ≡ [] → AreRecords blocks
+are_none blocks e = as_records blocks [] (All-nil IsItem) e
+
+-- ---- what is taken up
+
+pub units-records : (xs : List Item) → units cost xs ≡ length (records_of xs)
+units-records [] = refl
+units-records (x ∷ xs) = omega (arith, units-records xs, length-append (record_of x) (records_of xs))
+
+-- records take up their blocks
+pub all_cost : (blocks : List (List ℕ)) → AreRecords blocks → units cost (items_in blocks) ≡ length blocks
+all_cost blocks w = units-records (items_in blocks) ∙ sym (ap length w.are)
+
+pub costs : (pushed : List (List ℕ)) (buffer : List ℕ) (held : ℕ) → AreRecords (pushed ++ held_back held buffer)
+    → units cost (items_in (pushed ++ held_back held buffer)) ≡ length pushed + held
+costs pushed buffer held w =
+    let blocks = pushed ++ held_back held buffer in
+    omega (arith, all_cost blocks w, length-append pushed (held_back held buffer), length-chunks held buffer)
+
+-- one item more
+pub counts_one_more : (n : ℕ) (xs ys : List Item) (x : Item) → n ≡ length xs % 2 ^ 64 → ys ≡ xs ++ x ∷ [] → (n + 1) % 2 ^ 64 ≡ length ys % 2 ^ 64
+counts_one_more n xs ys x e more = omega (arith, e, ap length more, length-append xs (x ∷ []))
+
+pub counts_same : (n : ℕ) (a b : List (List ℕ)) → a ≡ b → counts n a → counts n b
+counts_same n a b e h = h ∙ ap (λ bs. length (items_in bs) % 2 ^ 64) e
+
+pub counts_none : (blocks : List (List ℕ)) → items_in blocks ≡ [] → counts 0 blocks
+counts_none blocks e = rw e refl
 
 pub holds : (x : Item) → IsItem x → (pushed : List (List ℕ)) (old new : List ℕ) (held blocks room free : ℕ) → IsSend pushed old held room free → length new ≡ length old → blocks ≡ cost x → held + blocks ≤ room → held + blocks ≤ free
     → take (held * 8 + length (bytes_of x)) new ≡ take (held * 8) old ++ bytes_of x → IsSend pushed new (held + blocks) room free
 holds x h pushed old new held blocks room free s same is fits there laid =
+    let whole : AreRecords (pushed ++ held_back (held + blocks) new) =
+    same_records _ _ (append_assoc pushed (held_back held old) (record_of x) ∙ ap (λ b. pushed ++ b) (sym (more_held x old new held blocks room s.long same is fits laid))) (more_records (pushed ++ held_back held old) x h s.whole) in
     record {
-      whole = same_records _ _ (append_assoc pushed (held_back held old) (record_of x) ∙ ap (λ b. pushed ++ b) (sym (more_held x old new held blocks room s.long same is fits laid))) (more_records (pushed ++ held_back held old) x h s.whole);
+      whole = whole;
       fits = fits;
+      least = s.least;
       long = s.long ∙ sym same;
       there = there;
+      costs = costs pushed new (held + blocks) whole;
     }
 
 pub holds_sent : (x : Item) → IsItem x → (pushed : List (List ℕ)) (old new : List ℕ) (held blocks room free : ℕ) → IsSend pushed old held room free → length new ≡ length old → blocks ≡ cost x → held + blocks ≤ room
@@ -120,20 +161,6 @@ one_block m = refl
 pub marker_bytes : (m : MarkParts) → length (bytes_of (Marker m)) ≡ 8
 unfolding bytes_of
 marker_bytes m = refl
-
--- ---- what is taken up
-
-pub units-records : (xs : List Item) → units cost xs ≡ length (records_of xs)
-units-records [] = refl
-units-records (x ∷ xs) = omega (arith, units-records xs, length-append (record_of x) (records_of xs))
-
-pub all_enough : (pushed : List (List ℕ)) (buffer : List ℕ) (held room free capacity : ℕ) → IsSend pushed buffer held room free → capacity ≤ free + length pushed
-    → capacity ≤ (free - held) + units cost (items_in (pushed ++ held_back held buffer))
-all_enough pushed buffer held room free capacity s h =
-    let blocks = pushed ++ held_back held buffer in
-    let items : items_in blocks ≡ s.whole.items = ap items_in s.whole.are ∙ all_read s.whole.items s.whole.each in
-    let same : units cost (items_in blocks) ≡ length blocks = ap (units cost) items ∙ units-records s.whole.items ∙ sym (ap length s.whole.are) in
-    omega (arith, h, same, length-append pushed (held_back held buffer), length-chunks held buffer, s.there)
 
 pub first_state : (ys : List Item) (free capacity room r : ℕ) (ring : RingName) → ys ≡ [] → room ≡ r
     → ◌≡◌ {A = SendState} (record { sent = ys; held = 0; free = free - 0; capacity = capacity; room = room; ring = ring }) (record { sent = []; held = 0; free = free; capacity = capacity; room = r; ring = ring })

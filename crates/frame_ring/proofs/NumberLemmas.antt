@@ -6,7 +6,7 @@ use Rattle.std.specs.Prelude.{All}
 use Rattle.frame_writer.specs.Frame.{frame, text, two_bytes}
 use Rattle.frame_writer.proofs.TextLemmas.{text-append}
 use Rattle.frame_ring.specs.Reading.{len_at}
-use Rattle.frame_ring.specs.Records.{IsPacket}
+use Rattle.channel_ring.specs.Making.{IsPacket}
 use Rattle.frame_writer.specs.Frame.{unnumbered}
 use Rattle.frame_ring.specs.Sending.{AreFramesOf}
 use Rattle.frame_ring.proofs.FrameLemmas.{unnumbered-append}

@@ -10,7 +10,8 @@ use Rattle.std.specs.Simd.{first_chunks}
 use Rattle.xcp_base.specs.Samples.{MarkParts, SampleParts}
 use Rattle.xcp_base.specs.declared.item.Item.{Item}
 use Rattle.xcp_base.specs.declared.item.Item.TheVariants.{Sample, Marker}
-use Rattle.frame_ring.specs.Records.{ArePackets, IsItem, IsPacket, blocks_for, bytes_of, cost, record_of, records_of}
+use Rattle.channel_ring.specs.Making.{ArePackets, IsPacket}
+use Rattle.frame_ring.specs.Records.{IsItem, blocks_for, bytes_of, cost, record_of, records_of}
 use Rattle.frame_writer.specs.Frame.{unnumbered}
 use Rattle.frame_ring.specs.Heads.{head_of, item_head}
 use Rattle.frame_ring.specs.declared.head.Head.TheVariants as heads

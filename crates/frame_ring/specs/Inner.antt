@@ -1,7 +1,13 @@
 -- Inner: what the ends of a ring of frames keep to.
-use Rattle.std.specs.Prelude.{◌≡◌, ℕ, ◌*◌, ◌≤◌, List, [], ◌∷◌, ◌++◌, length}
+use Rattle.std.specs.Prelude.{◌≡◌, ℕ, ◌+◌, ◌-◌, ◌*◌, ◌%◌, ◌^◌, ◌≤◌, List, [], ◌∷◌, ◌++◌, length}
 use Rattle.std.specs.Simd.{first_chunks}
+use Rattle.xcp_base.specs.declared.limits.TheConstants.{MAX_ODTS_IN_ALL, MAX_PACKET}
+use Rattle.channel_ring.specs.Making.{SampleLimit}
+use Rattle.channel_ring.specs.Room.{units}
 use Rattle.frame_ring.specs.Fronts.{AreRecords}
+use Rattle.frame_ring.specs.Reading.{items_in}
+use Rattle.frame_ring.specs.Records.{cost}
+use Rattle.frame_ring.specs.declared.limits.TheConstants.{MIN_ROOM}
 
 -- the blocks that are held back: they stand first in a buffer
 abbrev pub held_back : ℕ → List ℕ → List (List ℕ)
@@ -12,10 +18,24 @@ held_back held buffer = first_chunks 8 held buffer
 pub record IsSend (pushed : List (List ℕ)) (buffer : List ℕ) (held room free : ℕ) : Type 0 where
   pub whole : AreRecords (pushed ++ held_back held buffer)
   pub fits : held ≤ room
+  pub least : MIN_ROOM ≤ room
   pub long : 8 * room ≡ length buffer
   pub there : held ≤ free
+  pub costs : units cost (items_in (pushed ++ held_back held buffer)) ≡ length pushed + held
 
 -- the first block, if there is one
 abbrev pub front_block : List (List ℕ) → List ℕ
 front_block [] = []
 front_block (b ∷ bs) = b
+
+-- so many items are read off these blocks, as 64 bits count them
+abbrev pub counts : ℕ → List (List ℕ) → Type 0
+counts n blocks = n ≡ length (items_in blocks) % 2 ^ 64
+
+-- the samples whose records have at most so many blocks, two of which are the head
+abbrev pub limit_of : ℕ → SampleLimit
+limit_of room = record {
+  count = MAX_ODTS_IN_ALL;
+  packet = MAX_PACKET;
+  frames = 8 * (room - 2);
+}

@@ -6,3 +6,4 @@ pub mod Laws
 pub mod Reading
 pub mod Records
 pub mod Sending
+pub mod States

@@ -1,15 +1,16 @@
 -- Records of a ring of frames: each item in blocks of eight bytes, as it will be sent.
-use Rattle.std.specs.Prelude.{ℕ, ◌+◌, ◌-◌, ◌*◌, ◌/◌, ◌<◌, ◌≤◌, ◌^◌, All, List, [], ◌∷◌, ◌++◌}
+use Rattle.std.specs.Prelude.{ℕ, ◌+◌, ◌-◌, ◌*◌, ◌/◌, ◌<◌, ◌^◌, List, [], ◌∷◌, ◌++◌}
 use Rattle.std.specs.Prelude.{length}
 use Rattle.std.specs.Prelude.{replicate}
 use Rattle.std.specs.Int.{to_le_bytes, w32, w64}
+use Rattle.std.proofs.Props.{props}
 use Rattle.std.specs.Simd.{first_chunks}
 use Rattle.xcp_base.specs.Samples.{IsMark, SampleParts}
 use Rattle.xcp_base.specs.declared.item.Item.{Item}
 use Rattle.xcp_base.specs.declared.item.Item.TheVariants.{Sample, Marker}
-use Rattle.xcp_base.specs.declared.limits.TheConstants.{MAX_CHANNELS, MAX_LISTS, MAX_ODTS_IN_ALL}
+use Rattle.xcp_base.specs.declared.limits.TheConstants.{MAX_CHANNELS, MAX_LISTS}
+use Rattle.channel_ring.specs.Making.{ArePackets}
 use Rattle.frame_writer.specs.Frame.{unnumbered}
-use Rattle.frame_ring.specs.declared.limits.TheConstants.{MAX_PACKET}
 
 -- as many blocks as have room for n bytes
 abbrev pub blocks_for : ℕ → ℕ
@@ -48,17 +49,6 @@ abbrev pub records_of : List Item → List (List ℕ)
 records_of [] = []
 records_of (x ∷ xs) = record_of x ++ records_of xs
 
--- a packet of 1 to MAX_PACKET bytes
-pub record IsPacket (packet : List ℕ) : Type 0 where
-  pub some : 0 < length packet
-  pub fits : length packet ≤ MAX_PACKET
-
--- the packets of a sample
-pub record ArePackets (packets : List (List ℕ)) : Type 0 where
-  pub some : 0 < length packets
-  pub few : length packets ≤ MAX_ODTS_IN_ALL
-  pub each : All IsPacket packets
-
 -- what every sample keeps to
 pub record IsSample (s : SampleParts) : Type 0 where
   pub channel : s.channel < MAX_CHANNELS
@@ -70,3 +60,11 @@ pub record IsSample (s : SampleParts) : Type 0 where
 abbrev pub IsItem : Item → Type 0
 IsItem (Sample s) = IsSample s
 IsItem (Marker m) = IsMark m
+
+-- it is a fact
+pub IsItem-prop : (x : Item) → IsProp (IsItem x)
+IsItem-prop (Sample s) = hlevel props
+IsItem-prop (Marker m) = hlevel props
+
+-- so what is kept of records has one proof at most
+pub ruleset item_props = (props, IsItem-prop)

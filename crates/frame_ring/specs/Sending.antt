@@ -1,6 +1,6 @@
 -- Frames without a number, laid out and numbered.
 use Rattle.std.specs.Prelude.{◌≡◌, ℕ, ◌+◌, ◌<◌, ◌≤◌, All, List, length, take}
-use Rattle.frame_ring.specs.Records.{IsPacket}
+use Rattle.channel_ring.specs.Making.{IsPacket}
 use Rattle.frame_writer.specs.Frame.{unnumbered}
 use Rattle.frame_ring.specs.declared.fitting.Front.{Front}
 

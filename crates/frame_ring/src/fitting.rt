@@ -1,6 +1,6 @@
 //! A sample's frames are laid out where they find room, and numbered.
 ghost use Rattle.std.specs.Prelude.{◌≡◌, ℕ, ◌+◌, ◌-◌, ◌<◌, ◌≤◌, List, ◌++◌, drop, length, take};
-ghost use Rattle.frame_writer.specs.Frame.{text};
+ghost use Rattle.frame_writer.specs.Frame.{text, unnumbered};
 ghost use Rattle.frame_ring.specs.Reading.{len_at};
 ghost use Rattle.frame_ring.specs.Sending.{AreFrames, AreFramesOf, FrontFits};
 
@@ -39,6 +39,20 @@ fn front_that_fits(frames: &[u8], count: usize, room: usize) -> Front
         len = end;
     }
     Front { count, len }
+}
+
+/// The bytes of the first so many of these frames.
+pub fn front_len(frames: &[u8], count: usize, first: usize) -> usize
+    requires frames { AreFrames frames.now count }
+    requires few { first ≤ count }
+    ensures { (packets : List (List ℕ)) → AreFramesOf frames.now count packets
+        → result ≡ length (unnumbered (take first packets)) }
+{
+    let mut len = 0;
+    for k in 0..first {
+        len = frame_end(frames, len);
+    }
+    len
 }
 
 /// Numbers so many frames, the first of which gets this counter.

@@ -2,11 +2,12 @@
 ghost use Rattle.std.specs.Prelude.{◌≡◌, ◌≢◌, ◌*◌, ◌/◌, ◌%◌, ◌<◌, ◌≤◌, ◌⊎◌, ◌↔◌, IfOk, IsErrOf};
 ghost use Rattle.std.specs.Prelude.{length, true};
 ghost use Rattle.frame_ring.specs.Ends.{AreEnds};
+ghost use Rattle.frame_ring.specs.States.{send_state, take_state};
 
 use crate::block::{BLOCK, Block, WholeRecords};
 use crate::frame_send::FrameSend;
 use crate::frame_take::FrameTake;
-use crate::limits::{MAX_FRAME_RING, MIN_FRAME_RING};
+use crate::limits::{MAX_FRAME_RING, MIN_FRAME_RING, MIN_ROOM};
 use channel_ring::RingFault;
 use rtrb::RingBuffer;
 use std::alloc::{AllocError, Global};
@@ -18,10 +19,12 @@ pub struct FrameRing;
 impl FrameRing {
     /// The two ends of a new ring with `cap` bytes, a multiple of eight from `MIN_FRAME_RING` to
     /// `MAX_FRAME_RING`; outside of these limits it is refused with `BadCap`. The send end makes
-    /// records of up to `room` blocks.
+    /// records of up to `room` blocks, at least `MIN_ROOM`.
     pub fn new(alloc: Global, cap: usize, room: usize) -> Result<(FrameSend, FrameTake), RingFault>
+        requires least { MIN_ROOM ≤ room }
         requires few { room ≤ MAX_FRAME_RING / BLOCK }
-        ensures ends { IfOk result (λ ends. AreEnds (cap / 8) room ends.0 ends.1) }
+        ensures ends { IfOk result
+            (λ ends. AreEnds (cap / 8) room (send_state ends.0) (take_state ends.1)) }
         ensures bad_cap { IsErrOf result RingFault.BadCap
             ↔ ((cap < MIN_FRAME_RING) ⊎ (MAX_FRAME_RING < cap) ⊎ (cap % 8 ≢ 0)) }
     {
@@ -37,7 +40,7 @@ impl FrameRing {
         ) else {
             return Err(RingFault::Memory);
         };
-        Ok((FrameSend::new(producer, buffer), FrameTake { consumer }))
+        Ok((FrameSend::new(producer, buffer), FrameTake::new(consumer)))
     }
 }
 

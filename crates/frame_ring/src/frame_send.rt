@@ -1,23 +1,22 @@
 //! Items go into a ring of frames, each as a whole record or not at all.
 ghost use Rattle.std.specs.Prelude.{◌≡◌, ℕ, ◌+◌, ◌*◌, ◌/◌, ◌%◌, ◌<◌, ◌≤◌, ◌-◌, [], ◌∷◌, ◌++◌, true};
 ghost use Rattle.std.specs.Prelude.{false, length};
-ghost use Rattle.std.specs.Prelude.{IfSome};
 ghost use Rattle.rtrb.specs.Ring.{known_free, producer_capacity, sent};
 ghost use Rattle.channel_ring.specs.Ends.{sample_item};
 ghost use Rattle.channel_ring.specs.Names.{name_of};
-ghost use Rattle.channel_ring.specs.Room.{units};
 ghost use Rattle.frame_ring.specs.Ends.{LooksForRoom, Sends, SendsNothing, StaysMade};
-ghost use Rattle.frame_ring.specs.Inner.{held_back};
-ghost use Rattle.frame_ring.specs.Records.{cost};
+ghost use Rattle.frame_ring.specs.Inner.{IsSend, counts, held_back, limit_of};
+ghost use Rattle.frame_ring.specs.Reading.{items_in};
+ghost use Rattle.frame_ring.specs.Records.{cost, item_props};
+ghost use Rattle.frame_ring.specs.declared.limits.TheConstants.{MIN_ROOM};
 ghost use Rattle.xcp_base.specs.declared.item.Item.TheVariants.{Marker};
 
 use crate::block::{BLOCK, Block, WholeRecords};
 use crate::frame_left::FrameLeft;
 use crate::record::{lay_marker, lay_sample, sample_cost};
-use crate::sample_frames::SampleFrames;
+use channel_ring::{SampleMaker, SendEnd};
 use rtrb::Producer;
 use std::alloc::Global;
-use std::marker::Model;
 use xcp_base::{ChannelId, ListId, StopMark};
 
 /// The send end of a ring of frames.
@@ -34,33 +33,14 @@ pub struct FrameSend {
     held: usize,
     // The blocks that the buffer has room for.
     room: usize,
-}
-
-impl Model for FrameSend {
-    ghost use Rattle.std.specs.Prelude.{◌-◌, ◌++◌};
-    ghost use Rattle.rtrb.specs.Ring.{known_free, producer_capacity, sent};
-    ghost use Rattle.channel_ring.specs.Names.{name_of};
-    ghost use Rattle.frame_ring.specs.Ends.{SendState};
-    ghost use Rattle.frame_ring.specs.Inner.{IsSend, held_back};
-    ghost use Rattle.frame_ring.specs.Reading.{items_in};
-
-    ghost Value = { SendState };
-
-    ghost view = { λ s. record {
-      sent = items_in (sent s.producer ++ held_back s.held s.buffer.items);
-      held = s.held;
-      free = known_free s.producer - s.held;
-      capacity = producer_capacity s.producer;
-      room = s.room;
-      ring = name_of s.producer.end;
-    } };
-
-    ghost invariant = { λ s.
-        IsSend (sent s.producer) s.buffer.items s.held s.room (known_free s.producer) };
+    // The items sent, modulo 2^64.
+    pub(crate) count: u64,
+    ghost kept: { IsSend (sent producer) buffer.items held room (known_free producer) } by { Prim.hlevel item_props },
+    ghost counted: { counts count (sent producer ++ held_back held buffer.items) },
 }
 
 /// So many blocks, of bytes that they begin.
-fn first_blocks(bytes: &[u8], count: usize) -> &[Block]
+pub fn first_blocks(bytes: &[u8], count: usize) -> &[Block]
     requires { 8 * count ≤ length bytes.now }
     ensures blocks { result.now ≡ held_back count bytes.now }
     ensures len { length result.now ≡ count }
@@ -70,11 +50,15 @@ fn first_blocks(bytes: &[u8], count: usize) -> &[Block]
 }
 
 impl FrameSend {
+    ghost use Rattle.std.specs.Prelude.{◌≡◌, ◌+◌, ◌*◌, ◌/◌, ◌%◌, ◌<◌, ◌≤◌, ◌-◌, [], ◌∷◌, ◌++◌};
+    ghost use Rattle.frame_ring.specs.States.{send_state};
+
     /// The send end over a producer that pushed nothing, with room for a record of so many blocks.
     pub(crate) fn new(producer: Producer<Block, Global, WholeRecords>, buffer: Vec<u8>) -> FrameSend
         requires nothing_pushed { sent producer ≡ [] }
         requires whole { length buffer.items % 8 ≡ 0 }
-        ensures { result ≡ record {
+        requires least { 8 * MIN_ROOM ≤ length buffer.items }
+        ensures { send_state result ≡ record {
           sent = [];
           held = 0;
           free = known_free producer;
@@ -89,14 +73,15 @@ impl FrameSend {
             buffer,
             held: 0,
             room,
+            count: 0,
         }
     }
 
     /// Whether so many blocks are known to be free, after a look at the other end where fewer were.
     fn find_room(&mut self, blocks: usize) -> bool
-        ensures yes { result ≡ true → blocks ≤ self.new.free }
-        ensures no { result ≡ false → self.new.free < blocks }
-        ensures looked { LooksForRoom self.old self.new }
+        ensures yes { result ≡ true → blocks ≤ (send_state self.new).free }
+        ensures no { result ≡ false → (send_state self.new).free < blocks }
+        ensures looked { LooksForRoom (send_state self.old) (send_state self.new) }
     {
         if blocks <= self.producer.cached_slots() - self.held {
             return true;
@@ -104,10 +89,11 @@ impl FrameSend {
         blocks <= self.producer.slots() - self.held
     }
 
-    /// Puts what is held back into the ring, by one push, so that the other end finds it.
-    pub fn publish(&mut self)
-        ensures rest_stays { self.new ≡ record self.old { held = 0; free = self.new.free } }
-        ensures grows { self.old.free ≤ self.new.free }
+    /// Puts what is held back into the ring, by one push.
+    pub(crate) fn push_held(&mut self)
+        ensures rest_stays { send_state self.new
+            ≡ record (send_state self.old) { held = 0; free = (send_state self.new).free } }
+        ensures grows { (send_state self.old).free ≤ (send_state self.new).free }
     {
         let blocks = first_blocks(&self.buffer, self.held);
         let Ok(()) = self.producer.push_entire_slice(blocks) else {
@@ -118,102 +104,98 @@ impl FrameSend {
 
     /// Has room for so many blocks more in the buffer.
     fn make_room(&mut self, blocks: usize)
-        requires fits { blocks ≤ self.old.room }
-        ensures room { self.new.held + blocks ≤ self.new.room }
-        ensures rest_stays { self.new
-            ≡ record self.old { held = self.new.held; free = self.new.free } }
-        ensures grows { self.old.free ≤ self.new.free }
+        requires fits { blocks ≤ (send_state self.old).room }
+        ensures room { (send_state self.new).held + blocks ≤ (send_state self.new).room }
+        ensures rest_stays { send_state self.new ≡ record (send_state self.old) {
+          held = (send_state self.new).held;
+          free = (send_state self.new).free;
+        } }
+        ensures grows { (send_state self.old).free ≤ (send_state self.new).free }
     {
         if blocks > self.room - self.held {
-            self.publish();
+            self.push_held();
         }
     }
 
     /// Makes the record of a sample behind those that are held back.
-    fn make<F: SampleFrames>(
+    fn make<M: SampleMaker>(
         &mut self,
         channel: ChannelId,
         list: ListId,
         number: u64,
-        frames: &F,
+        maker: &M,
         blocks: usize,
     )
-        requires cost { blocks ≡ cost (sample_item channel list number (F.packets frames.now)) }
-        requires room { self.old.held + blocks ≤ self.old.room }
-        requires free { blocks ≤ self.old.free }
-        ensures { self.new ≡ record self.old {
-          sent = self.old.sent ++ sample_item channel list number (F.packets frames.now) ∷ [];
-          held = self.old.held + blocks;
-          free = self.old.free - blocks;
+        requires cost { blocks ≡ cost (sample_item channel list number (M.packets maker.now)) }
+        requires room { (send_state self.old).held + blocks ≤ (send_state self.old).room }
+        requires free { blocks ≤ (send_state self.old).free }
+        ensures { send_state self.new ≡ record (send_state self.old) {
+          sent = (send_state self.old).sent
+              ++ sample_item channel list number (M.packets maker.now) ∷ [];
+          held = (send_state self.old).held + blocks;
+          free = (send_state self.old).free - blocks;
         } }
     {
-        lay_sample(
-            &mut self.buffer,
-            self.held * BLOCK,
-            channel,
-            list,
-            number,
-            frames,
-        );
+        let at = self.held * BLOCK;
+        lay_sample(&mut self.buffer, at, channel, list, number, maker);
         self.held += blocks;
+        self.count = self.count.wrapping_add(1);
     }
 
-    /// Sends a sample, or nothing, if its record finds no room; and returns which. It takes no
-    /// memory. The record is held back until `publish`, or until the buffer has no room for another
-    /// one.
-    ///
-    /// It may succeed if too few blocks are known to be free: the other end may have freed some
-    /// since.
-    pub fn offer_sample<F: SampleFrames>(
+    /// Sends a sample, or nothing, if its record finds no room, also after a look at the other end;
+    /// and returns which. It takes no memory. The record is held back until it is published, or
+    /// until the buffer has no room for another one.
+    pub fn send_sample<M: SampleMaker>(
         &mut self,
         channel: ChannelId,
         list: ListId,
         number: u64,
-        frames: &F,
+        maker: &M,
     ) -> bool
-        requires fits { cost (sample_item channel list number (F.packets frames.now))
-            ≤ self.old.room }
-        ensures succeeds { cost (sample_item channel list number (F.packets frames.now))
-            ≤ self.old.free → result ≡ true }
-        ensures sends { result ≡ true → Sends self.old self.new
-            (sample_item channel list number (F.packets frames.now)) }
-        ensures drops { result ≡ false → SendsNothing self.old self.new
-            (sample_item channel list number (F.packets frames.now)) }
-        ensures made_stays { StaysMade self.old self.new }
+        requires fits { cost (sample_item channel list number (M.packets maker.now))
+            ≤ (send_state self.old).room }
+        ensures succeeds { cost (sample_item channel list number (M.packets maker.now))
+            ≤ (send_state self.old).free → result ≡ true }
+        ensures sends { result ≡ true → Sends (send_state self.old) (send_state self.new)
+            (sample_item channel list number (M.packets maker.now)) }
+        ensures drops { result ≡ false → SendsNothing (send_state self.old) (send_state self.new)
+            (sample_item channel list number (M.packets maker.now)) }
+        ensures made_stays { StaysMade (send_state self.old) (send_state self.new) }
     {
-        let blocks = sample_cost(frames);
+        let blocks = sample_cost(maker);
         if !self.find_room(blocks) {
             return false;
         }
         self.make_room(blocks);
-        self.make(channel, list, number, frames, blocks);
+        self.make(channel, list, number, maker, blocks);
         true
     }
 
     /// Makes the record of a stop marker behind those that are held back.
     fn make_marker(&mut self, marker: StopMark)
-        requires room { self.old.held + 1 ≤ self.old.room }
-        requires free { 1 ≤ self.old.free }
-        ensures { self.new ≡ record self.old {
-          sent = self.old.sent ++ Marker marker ∷ [];
-          held = self.old.held + 1;
-          free = self.old.free - 1;
+        requires room { (send_state self.old).held + 1 ≤ (send_state self.old).room }
+        requires free { 1 ≤ (send_state self.old).free }
+        ensures { send_state self.new ≡ record (send_state self.old) {
+          sent = (send_state self.old).sent ++ Marker marker ∷ [];
+          held = (send_state self.old).held + 1;
+          free = (send_state self.old).free - 1;
         } }
     {
-        lay_marker(&mut self.buffer, self.held * BLOCK, marker);
+        let at = self.held * BLOCK;
+        lay_marker(&mut self.buffer, at, marker);
         self.held += 1;
+        self.count = self.count.wrapping_add(1);
     }
 
     /// Sends a stop marker, or nothing, if it finds no room; and returns which. It takes no memory.
     /// It is held back as a sample is.
-    ///
-    /// It may succeed if no block is known to be free: the other end may have freed one since.
-    pub fn offer_marker(&mut self, marker: StopMark) -> bool
-        requires fits { 1 ≤ self.old.room }
-        ensures succeeds { 1 ≤ self.old.free → result ≡ true }
-        ensures sends { result ≡ true → Sends self.old self.new (Marker marker) }
-        ensures drops { result ≡ false → SendsNothing self.old self.new (Marker marker) }
-        ensures made_stays { StaysMade self.old self.new }
+    pub fn send_marker(&mut self, marker: StopMark) -> bool
+        ensures succeeds { 1 ≤ (send_state self.old).free → result ≡ true }
+        ensures sends { result ≡ true
+            → Sends (send_state self.old) (send_state self.new) (Marker marker) }
+        ensures drops { result ≡ false
+            → SendsNothing (send_state self.old) (send_state self.new) (Marker marker) }
+        ensures made_stays { StaysMade (send_state self.old) (send_state self.new) }
     {
         if !self.find_room(1) {
             return false;
@@ -223,51 +205,84 @@ impl FrameSend {
         true
     }
 
-    /// Looks at the other end, and returns the blocks known to be free from then on.
-    pub fn free(&mut self) -> usize
-        ensures value { result ≡ self.new.free }
-        ensures looked { LooksForRoom self.old self.new }
-    {
-        self.producer.slots() - self.held
-    }
-
     /// The blocks of the longest record that it makes.
-    pub fn room(&self) -> usize
-        ensures { result ≡ self.now.room }
+    pub fn longest(&self) -> usize
+        ensures { result ≡ (send_state self.now).room }
     {
         self.room
     }
+}
 
-    /// The blocks that the ring has in all.
-    pub fn capacity(&self) -> usize
-        ensures { result ≡ self.now.capacity }
-    {
+impl SendEnd for FrameSend {
+    ghost use Rattle.std.proofs.Common.{arith, ap};
+    ghost use Rattle.channel_ring.specs.Room.{units};
+
+    type End = FrameLeft;
+
+    ghost sent = { λ s. items_in (sent s.producer ++ held_back s.held s.buffer.items) };
+
+    ghost held = { λ s. s.held };
+
+    ghost free = { λ s. known_free s.producer - s.held };
+
+    ghost capacity = { λ s. producer_capacity s.producer };
+
+    ghost limit = { λ s. limit_of s.room };
+
+    ghost ring = { λ s. name_of s.producer.end };
+
+    // that the take end is gone is told by no ring
+    ghost is_lost = { λ _. Unit {0} };
+
+    fn offer_sample<M: SampleMaker>(
+        &mut self,
+        channel: ChannelId,
+        list: ListId,
+        number: u64,
+        maker: &M,
+    ) -> bool {
+        self.send_sample(channel, list, number, maker)
+    }
+
+    fn offer_marker(&mut self, marker: StopMark) -> bool {
+        let is_sent = self.send_marker(marker);
+        self.push_held();
+        is_sent
+    }
+
+    fn publish(&mut self) {
+        self.push_held();
+    }
+
+    fn room(&mut self) -> usize {
+        self.producer.slots() - self.held
+    }
+
+    fn capacity(&self) -> usize {
         self.producer.capacity()
     }
 
-    /// What isn't known to be free is taken up by what was sent.
-    pub fn enough(&self)
-        ensures { self.now.capacity ≤ self.now.free + units cost self.now.sent }
-    {
-        // for the proof: opens what the end keeps of its ring
-        let _ = &self.producer;
-    }
-
-    /// Publishes what is held back, and gives the end up. What was sent stays in the ring. `None`
-    /// if the take end was dropped before; no clause says that the answer is `Some`.
-    pub fn finish(self) -> Option<FrameLeft>
-        ensures sent { IfSome result (λ left. left.sent ≡ self.sent) }
-        ensures ring { IfSome result (λ left. left.ring ≡ self.ring) }
-    {
+    fn finish(self) -> Option<FrameLeft> {
         let mut end = self;
-        end.publish();
+        end.push_held();
         let FrameSend {
             producer,
             buffer: _,
             held: _,
             room: _,
+            count,
         } = end;
         let finished = producer.finish()?;
-        Some(FrameLeft { finished })
+        Some(FrameLeft { finished, count })
     }
+
+    ghost enough = { λ s. Prim.omega (arith, s.kept.costs, s.kept.there, s.producer.counts) };
+
+    ghost least = { λ s. record {
+      count = Prim.omega arith;
+      packet = Prim.omega arith;
+      frames = Prim.omega (arith, s.kept.least);
+    } };
+
+    ghost nothing_held = { λ s none. Prim.omega (arith, s.kept.costs, ap (units cost) none) };
 }

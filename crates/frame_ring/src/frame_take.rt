@@ -4,53 +4,52 @@ ghost use Rattle.std.specs.Prelude.{length};
 ghost use Rattle.rtrb.specs.Ring.{ConsumerLooked, SameConsumer, known_items, received};
 ghost use Rattle.rtrb.specs.Fifo.{Allowed};
 ghost use mathlib.Core.List.{IsPrefix};
+ghost use Rattle.channel_ring.specs.Names.{name_of};
 ghost use Rattle.frame_ring.specs.Ends.{IsFirstHead, LooksForItems, TakesFirst};
-ghost use Rattle.frame_ring.specs.Fronts.{BeginRecords};
+ghost use Rattle.frame_ring.specs.Fronts.{AreRecords, BeginRecords};
 ghost use Rattle.frame_ring.specs.Heads.{head_blocks, head_of};
+ghost use Rattle.frame_ring.specs.Inner.{counts};
+ghost use Rattle.frame_ring.specs.Reading.{items_in};
+ghost use Rattle.frame_ring.specs.Records.{item_props};
 
 use crate::block::{Block, WholeRecords};
 use crate::frame_left::FrameLeft;
 use crate::frame_send::FrameSend;
 use crate::head::{Head, head_of};
+use channel_ring::{Beside, TakeEnd};
 use rtrb::Consumer;
 use std::alloc::Global;
-use std::marker::Model;
 
 /// The take end of a ring of frames.
 #[derive(Drop)]
 pub struct FrameTake {
     pub(crate) consumer: Consumer<Block, Global, WholeRecords>,
-}
-
-impl Model for FrameTake {
-    ghost use Rattle.rtrb.specs.Ring.{known_items, received};
-    ghost use Rattle.channel_ring.specs.Names.{name_of};
-    ghost use Rattle.frame_ring.specs.Ends.{TakeState};
-    ghost use Rattle.frame_ring.specs.Fronts.{AreRecords};
-    ghost use Rattle.frame_ring.specs.Inner.{front_block};
-    ghost use Rattle.frame_ring.specs.Reading.{items_in};
-
-    ghost Value = { TakeState };
-
-    ghost view = { λ t. record {
-      received = items_in (received t.consumer);
-      known = items_in (known_items t.consumer);
-      front = front_block (known_items t.consumer);
-      ring = name_of t.consumer.end;
-    } };
-
-    ghost invariant = { λ t. AreRecords (received t.consumer) };
+    // The items taken, modulo 2^64.
+    count: u64,
+    ghost whole: { AreRecords (received consumer) } by { Prim.hlevel item_props },
+    ghost counted: { counts count (received consumer) },
 }
 
 impl FrameTake {
+    ghost use Rattle.std.specs.Prelude.{◌≡◌, ◌<◌, [], ◌++◌, IfSome, IsNone, length};
+    ghost use Rattle.frame_ring.specs.States.{take_state};
+
+    /// The take end over a consumer that popped nothing.
+    pub(crate) fn new(consumer: Consumer<Block, Global, WholeRecords>) -> FrameTake
+        requires { received consumer ≡ [] }
+        ensures { result.consumer ≡ consumer }
+    {
+        FrameTake { consumer, count: 0 }
+    }
+
     /// What stands first in the ring, and stays there; `None` if no item is known.
     ///
     /// It may find an item if none is known: the send end may have published one since. It takes
     /// nothing: the record's place isn't free before it is taken.
     pub fn look(&mut self) -> Option<Head>
-        ensures some { IfSome result (λ head. IsFirstHead head self.new) }
-        ensures none { IsNone result → self.new.known ≡ [] }
-        ensures looked { LooksForItems self.old self.new }
+        ensures some { IfSome result (λ head. IsFirstHead head (take_state self.new)) }
+        ensures none { IsNone result → (take_state self.new).known ≡ [] }
+        ensures looked { LooksForItems (take_state self.old) (take_state self.new) }
     {
         if self.consumer.is_empty() {
             return None;
@@ -65,37 +64,38 @@ impl FrameTake {
     /// Takes the first item: its record goes into these blocks, of which there are as many as it
     /// has. It takes no memory.
     pub fn take(&mut self, blocks: &mut [Block])
-        requires some { 0 < length self.old.known }
-        requires size { length blocks.old ≡ head_blocks (head_of self.old.front) }
-        ensures { TakesFirst self.old self.new blocks.new }
+        requires some { 0 < length (take_state self.old).known }
+        requires size { length blocks.old ≡ head_blocks (head_of (take_state self.old).front) }
+        ensures { TakesFirst (take_state self.old) (take_state self.new) blocks.new }
     {
         pop_blocks(&mut self.consumer, blocks);
+        self.count = self.count.wrapping_add(1);
     }
+}
 
-    /// Looks at all that was sent through the send end of this ring, which is beside; what that
-    /// held back is published first. From then on each item left is known.
-    pub fn beside(&mut self, send: &mut FrameSend)
-        requires one_ring { send.old.ring ≡ self.old.ring }
-        ensures left { self.new.received ++ self.new.known ≡ send.new.sent }
-        ensures looked { LooksForItems self.old self.new }
-        ensures published { send.new ≡ record send.old { held = 0; free = send.new.free } }
-        ensures grows { send.old.free ≤ send.new.free }
-    {
-        send.publish();
+impl TakeEnd for FrameTake {
+    type End = FrameLeft;
+
+    ghost received = { λ t. items_in (received t.consumer) };
+
+    ghost known = { λ t. items_in (known_items t.consumer) };
+
+    ghost ring = { λ t. name_of t.consumer.end };
+
+    fn after(&mut self, end: &mut FrameLeft) -> usize {
+        self.consumer.slots_after(&mut end.finished);
+        end.count.wrapping_sub(self.count) as usize
+    }
+}
+
+impl Beside for FrameTake {
+    type Send = FrameSend;
+
+    fn beside(&mut self, send: &mut FrameSend) -> usize {
+        send.push_held();
         let _ = send.producer.slots_beside(&mut self.consumer);
         self.consumer.slots_beside(&mut send.producer);
-    }
-
-    /// Looks at all that was sent through the finished send end of this ring.
-    ///
-    /// From then on each item left is known. It holds in whichever threads the two ends were.
-    pub fn after(&mut self, left: &mut FrameLeft)
-        requires one_ring { left.old.ring ≡ self.old.ring }
-        ensures left { self.new.received ++ self.new.known ≡ left.new.sent }
-        ensures looked { LooksForItems self.old self.new }
-        ensures left_stays { left.new ≡ left.old }
-    {
-        self.consumer.slots_after(&mut left.finished);
+        send.count.wrapping_sub(self.count) as usize
     }
 }
 

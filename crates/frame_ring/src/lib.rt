@@ -13,15 +13,13 @@ mod head;
 pub mod laws;
 pub mod limits;
 mod record;
-mod sample_frames;
 
 pub use block::{BLOCK, Block};
-pub use fitting::{Front, put_frames};
+pub use fitting::{Front, front_len, put_frames};
 pub use frame_left::FrameLeft;
 pub use frame_ring::FrameRing;
-pub use frame_send::FrameSend;
+pub use frame_send::{FrameSend, first_blocks};
 pub use frame_take::FrameTake;
 pub use frames::frames_of;
 pub use head::Head;
 pub use record::sample_blocks;
-pub use sample_frames::SampleFrames;

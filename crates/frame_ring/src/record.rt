@@ -8,7 +8,7 @@ ghost use Rattle.xcp_base.specs.Samples.{SampleParts};
 ghost use Rattle.xcp_base.specs.declared.item.Item.TheVariants.{Marker, Sample};
 
 use crate::block::BLOCK;
-use crate::sample_frames::SampleFrames;
+use channel_ring::SampleMaker;
 use frame_writer::place;
 use xcp_base::{ChannelId, ListId, StopMark};
 
@@ -38,17 +38,18 @@ pub(crate) fn blocks_for(bytes: usize) -> usize
 /// The blocks that a sample takes up whose frames have so many bytes.
 pub fn sample_blocks(frames_len: usize) -> usize
     requires { frames_len < 2 ^ 32 }
-    ensures { (s : SampleParts) → frames_len ≡ length (unnumbered s.packets)
+    ensures value { result ≡ 2 + blocks_for frames_len }
+    ensures cost { (s : SampleParts) → frames_len ≡ length (unnumbered s.packets)
         → result ≡ cost (Sample s) }
 {
     HEAD_BLOCKS + blocks_for(frames_len)
 }
 
 /// The blocks that a sample takes up.
-pub(crate) fn sample_cost<F: SampleFrames>(frames: &F) -> usize
-    ensures { (c l n : ℕ) → result ≡ cost (sample_item c l n (F.packets frames.now)) }
+pub(crate) fn sample_cost<M: SampleMaker>(maker: &M) -> usize
+    ensures { (c l n : ℕ) → result ≡ cost (sample_item c l n (M.packets maker.now)) }
 {
-    sample_blocks(frames.len())
+    sample_blocks(maker.frames_len())
 }
 
 /// The head of a sample's record.
@@ -65,26 +66,26 @@ fn head_of(channel: ChannelId, list: ListId, number: u64, count: u8, len: u32) -
 }
 
 /// Writes the record of a sample from a place on.
-pub(crate) fn lay_sample<F: SampleFrames>(
+pub(crate) fn lay_sample<M: SampleMaker>(
     out: &mut [u8],
     at: usize,
     channel: ChannelId,
     list: ListId,
     number: u64,
-    frames: &F,
+    maker: &M,
 )
-    requires room { at + length (bytes_of (sample_item channel list number (F.packets frames.now)))
+    requires room { at + length (bytes_of (sample_item channel list number (M.packets maker.now)))
         ≤ length out.old }
     ensures bytes { take (at
-        + length (bytes_of (sample_item channel list number (F.packets frames.now)))) out.new
-        ≡ take at out.old ++ bytes_of (sample_item channel list number (F.packets frames.now)) }
-    ensures item { IsItem (sample_item channel list number (F.packets frames.now)) }
+        + length (bytes_of (sample_item channel list number (M.packets maker.now)))) out.new
+        ≡ take at out.old ++ bytes_of (sample_item channel list number (M.packets maker.now)) }
+    ensures item { IsItem (sample_item channel list number (M.packets maker.now)) }
     ensures len { length out.new ≡ length out.old }
 {
-    let len = frames.len();
-    let head = head_of(channel, list, number, frames.count(), len as u32);
+    let len = maker.frames_len();
+    let head = head_of(channel, list, number, maker.count(), len as u32);
     let behind = place(out, at, &head[..]);
-    let end = frames.lay(out, behind);
+    let end = maker.lay_frames(out, behind);
     place(out, end, &FILL[..blocks_for(len) * BLOCK - len]);
 }
 

@@ -242,3 +242,24 @@ IsSampler-handled send ring m image_len segments plans first last triggers soone
   limit = omega (arith, below);
   accepted_limit = omega (arith, limit, s.accepted_limit, s.room);
 }
+
+-- the same once what was sent is published
+pub handles-published :
+    {S E : Type 0} (send : SendGhosts S E) (ring : EndGhosts E) (m : MomentParts) (plans : List ListPlan) (first last : Stage S) (e : S)
+    → send.sent e ≡ send.sent last.end → send.free last.end ≤ send.free e
+    → HandlesLists send ring m plans first last → HandlesLists send ring m plans first (record last { end = e })
+handles-published send ring m plans first last e same grows h =
+    record {
+      rows = h.rows;
+      of_plans = h.of_plans;
+      kept = h.kept;
+      dues = h.dues;
+      keeps = h.keeps;
+      count = h.count;
+      sends = same ∙ h.sends;
+      free = omega (arith, h.free, grows);
+      over = h.over;
+      due = h.due;
+      accepted = h.accepted;
+      dropped = h.dropped;
+    }

@@ -8,7 +8,7 @@ use Rattle.sampler.specs.Standing.{ExceedsCapacity, StandsAfter}
 use Rattle.sampler.specs.State.{SamplerState}
 
 -- it is still the sampler of its channel and its ring, for memory in the same segments and with the
--- same plans
+-- same plans, and holds nothing more back
 pub record KeepsSetUp
     {S E : Type 0} (send : SendGhosts S E) (old new : SamplerState S)
     : Type 0 where
@@ -16,6 +16,7 @@ pub record KeepsSetUp
   pub segments : new.segments ≡ old.segments
   pub plans : new.plans ≡ old.plans
   pub capacity : send.capacity new.end ≡ send.capacity old.end
+  pub held : send.held new.end ≤ send.held old.end
   pub ring : send.ring new.end ≡ send.ring old.end
 
 -- it only looked at its ring: nothing but its end changed, through which nothing more was sent; no
@@ -27,6 +28,7 @@ pub record OnlyLooked
   pub sent : send.sent new.end ≡ send.sent old.end
   pub free : send.free old.end ≤ send.free new.end
   pub capacity : send.capacity new.end ≡ send.capacity old.end
+  pub held : send.held new.end ≤ send.held old.end
   pub ring : send.ring new.end ≡ send.ring old.end
   pub stands : (past : Past) → StandsAfter send left old past → StandsAfter send left new past
 

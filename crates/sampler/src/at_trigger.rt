@@ -13,7 +13,6 @@ use crate::taken::{NONE_TAKEN, Taken};
 use crate::track::Track;
 use channel_ring::SendEnd;
 use copy_plan::CopyPlan;
-use xcp_base::Packets;
 
 /// What a trigger sends of one list, which is due or not, and whether a sample of it was accepted;
 /// `track` is what was kept of it before.
@@ -25,7 +24,6 @@ fn sample_list<S: SendEnd>(
     number: u64,
     track: Track,
     due: bool,
-    packets: &mut Packets,
 ) -> bool
     requires channel { plan.now.channel ≡ moment.now.channel }
     requires segments { plan.now.segments ≡ moment.now.segments }
@@ -42,20 +40,19 @@ fn sample_list<S: SendEnd>(
     if !due {
         return false;
     }
-    offer_sample(end, moment, plan, number, track.pending, packets)
+    offer_sample(end, moment, plan, number, track.pending)
 }
 
 /// What a trigger does for all lists of a channel: the sets of those due, accepted and dropped, and
 /// the next sample's number.
 ///
-/// `number` is that of the first sample; `packets` is where the packets of each are made.
+/// `number` is that of the first sample.
 pub fn sample_lists<S: SendEnd>(
     end: &mut S,
     moment: &Moment,
     number: u64,
     plans: &[CopyPlan],
     tracks: &mut [Track],
-    packets: &mut Packets,
 ) -> (Taken, u64)
     requires plans_of { ArePlansOf moment.now.channel moment.now.segments plans.now }
     requires room { length plans.now ≤ length tracks.old }
@@ -74,7 +71,7 @@ pub fn sample_lists<S: SendEnd>(
     for (place, plan) in plans.iter().enumerate() {
         let track = tracks[place];
         let due = track.is_due(moment.trigger);
-        let accepted = sample_list(end, moment, plan, next, track, due, packets);
+        let accepted = sample_list(end, moment, plan, next, track, due);
         taken.add(plan, due, accepted);
         if accepted {
             next += 1;

@@ -4,6 +4,7 @@
 
 mod at_trigger;
 mod counts;
+mod due_sample;
 mod faults;
 pub mod laws;
 mod lists;

@@ -1,14 +1,14 @@
-//! A due list's sample is made, and offered to the ring.
+//! A due list's sample is offered to the ring, which has it made where it wants it.
 ghost use Rattle.std.specs.Prelude.{◌≡◌, ◌+◌, ◌<◌, ◌≤◌, true, false, [], ◌∷◌, ◌++◌, length};
 ghost use Rattle.sampler.specs.Inner.AtTrigger.{item_of};
 
+use crate::due_sample::DueSample;
 use crate::moment::Moment;
 use channel_ring::SendEnd;
 use copy_plan::CopyPlan;
-use xcp_base::{ListId, Packets};
+use xcp_base::ListId;
 
-/// Offers the sample of a list, and returns whether it was accepted. Its packets are made in a
-/// value that is kept from sample to sample.
+/// Offers the sample of a list, and returns whether it was accepted.
 #[tactic(auto, unfolding(crate::specs::Inner::AtTrigger::item_of))]
 pub fn offer_sample<S: SendEnd>(
     end: &mut S,
@@ -16,7 +16,6 @@ pub fn offer_sample<S: SendEnd>(
     plan: &CopyPlan,
     number: u64,
     marked: bool,
-    packets: &mut Packets,
 ) -> bool
     requires channel { plan.now.channel ≡ moment.now.channel }
     requires segments { plan.now.segments ≡ moment.now.segments }
@@ -34,6 +33,6 @@ pub fn offer_sample<S: SendEnd>(
     ensures ring_stays { S.ring end.new ≡ S.ring end.old }
 {
     let list = ListId::at(plan.list() as u16);
-    plan.fill_into(packets, moment.memory, moment.stamp, marked);
-    end.offer_sample(moment.channel, list, number, packets)
+    let sample = DueSample::of(plan, moment.memory, moment.stamp, marked);
+    end.offer_sample(moment.channel, list, number, &sample)
 }

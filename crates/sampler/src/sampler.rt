@@ -38,7 +38,7 @@ use segments::limits::MAX_SEGMENTS;
 use segments::{Segment, Segments, fits, image_len, image_segment};
 use std::marker::Model;
 use xcp_base::limits::MAX_TRIGGERS;
-use xcp_base::{ChannelId, Item, MemoryView, Packets, StopMark};
+use xcp_base::{ChannelId, MemoryView, StopMark};
 
 /// The sampler of one event channel: it takes the triggers, decides which DAQ lists are due, and
 /// sends their samples.
@@ -57,8 +57,6 @@ pub struct Sampler<S: SendEnd> {
     // No list is due before this trigger, so a trigger at which none is costs one comparison.
     soonest: u64,
     accepted: u64,
-    // The packets of the sample that was made last. Each is made in this place.
-    packets: Packets,
 }
 
 impl<S: SendEnd> Model for Sampler<S> {
@@ -164,7 +162,6 @@ impl<S: SendEnd> Sampler<S> {
             triggers: 0,
             soonest,
             accepted: 0,
-            packets: Packets::new(),
         }
     }
 
@@ -263,8 +260,8 @@ impl<S: SendEnd> Sampler<S> {
             self.accepted,
             self.lists.plans.as_slice(),
             &mut self.lists.tracks,
-            &mut self.packets,
         );
+        self.end.publish();
         self.accepted = accepted;
         self.triggers += 1;
         self.soonest = self.lists.soonest();
@@ -326,10 +323,9 @@ impl<S: SendEnd> Sampler<S> {
         if !self.lists.tracks[place].running {
             return Err(StopFault::NotRunning);
         }
-        let marker = Item::Marker(StopMark::new(self.channel.byte(), l));
-        let Ok(()) = self.end.offer(marker) else {
+        if !self.end.offer_marker(StopMark::new(self.channel.byte(), l)) {
             return Err(StopFault::NoRoom);
-        };
+        }
         self.lists.tracks[place] = self.lists.tracks[place].stopped();
         self.soonest = self.lists.soonest();
         Ok(())
@@ -420,7 +416,6 @@ impl<S: SendEnd> Sampler<S> {
             triggers: _,
             soonest: _,
             accepted: _,
-            packets: _,
         } = self;
         let capacity = end.capacity();
         let end = end.finish()?;

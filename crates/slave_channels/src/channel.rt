@@ -3,7 +3,7 @@
 use crate::finished::Finished;
 use crate::opened_with::OpenedWith;
 use crate::share::Share;
-use channel_ring::{SendEnd, TakeEnd};
+use channel_ring::{ItemTake, SendEnd, TakeEnd};
 use daq_engine::{Ring, open_channel};
 use daq_store::Store;
 use hand_over::keep_newest;
@@ -57,7 +57,7 @@ fn is_within<T: TakeEnd>(part: &Option<Share<T>>, from: u64, to: u64) -> bool
 }
 
 /// The intake of the newest part is told of a start.
-fn note_start<T: TakeEnd>(newer: &mut Option<Share<T>>, l: ListId)
+fn note_start<T: ItemTake>(newer: &mut Option<Share<T>>, l: ListId)
     ensures goes_on { IsSome newer.old → NewestGoesOn T.TakeEnd newer.old newer.new (Started l) }
     ensures end_stays { EndStays newer.old newer.new }
 {
@@ -67,7 +67,7 @@ fn note_start<T: TakeEnd>(newer: &mut Option<Share<T>>, l: ListId)
 }
 
 /// The intake of the newest part is told of a stop.
-fn note_stop<T: TakeEnd>(newer: &mut Option<Share<T>>, l: ListId)
+fn note_stop<T: ItemTake>(newer: &mut Option<Share<T>>, l: ListId)
     ensures goes_on { IsSome newer.old → NewestGoesOn T.TakeEnd newer.old newer.new (Stopped l) }
     ensures end_stays { EndStays newer.old newer.new }
 {

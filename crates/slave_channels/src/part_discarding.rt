@@ -6,13 +6,13 @@ ghost use Rattle.slave_channels.specs.PartInner.{EndStays};
 
 use crate::channel::Channel;
 use crate::share::Share;
-use channel_ring::TakeEnd;
+use channel_ring::{ItemTake, TakeEnd};
 use daq_engine::Ring;
 use xcp_base::ListId;
 
 /// Tells a part that a sample of it was thrown away, if it is of this measurement, and returns
 /// whether it is.
-fn tell<T: TakeEnd>(part: &mut Option<Share<T>>, number: u64, l: ListId) -> bool
+fn tell<T: ItemTake>(part: &mut Option<Share<T>>, number: u64, l: ListId) -> bool
     ensures told { result ≡ true → PartGoesOn T.TakeEnd number (Unsent l) part.old part.new }
     ensures other { result ≡ false → number_of part.old ≢ Some number }
     ensures stays { result ≡ false → part.new ≡ part.old }

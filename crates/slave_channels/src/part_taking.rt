@@ -4,13 +4,13 @@ ghost use Rattle.slave_channels.specs.Channels.{TakesOf};
 
 use crate::channel::Channel;
 use crate::share::Share;
-use channel_ring::TakeEnd;
+use channel_ring::{ItemTake, TakeEnd};
 use daq_engine::Ring;
 use slave_outbox::{Outbox, Step};
 use xcp_base::ChannelId;
 
 /// Takes the next item of a part's ring, if the part is there.
-fn take_of<T: TakeEnd>(part: &mut Option<Share<T>>, c: ChannelId, outbox: &mut Outbox) -> Step
+fn take_of<T: ItemTake>(part: &mut Option<Share<T>>, c: ChannelId, outbox: &mut Outbox) -> Step
     ensures takes { TakesOf T.TakeEnd c part.old part.new outbox.old outbox.new result }
     ensures shown_stays { outbox.new.shown ≡ outbox.old.shown }
 {

@@ -19,6 +19,7 @@ use Rattle.circular_buffer.specs.contracts.ring.Ring as Ring
 use Rattle.channel_ring.specs.declared.ends.SendEnd.{Ghosts as SendGhosts}
 use Rattle.channel_ring.specs.declared.ends.RingEnd.{Ghosts as EndGhosts}
 use Rattle.channel_ring.specs.declared.ends.TakeEnd.{Ghosts as TakeGhosts}
+use Rattle.channel_ring.specs.declared.item_ends.ItemTake.{Ghosts as ItemGhosts}
 use Rattle.daq_engine.specs.declared.ring.Ring.{Ghosts as RingGhosts}
 use Rattle.slave_outbox.specs.contracts.outbox.Outbox as Outbox
 use Rattle.slave_outbox.specs.contracts.unit.Unit as OutUnit
@@ -91,15 +92,15 @@ module _ (S E : RattleType) (send : SendGhosts S.Denot E.Denot) (ring : EndGhost
 
 -- over rings of one kind, whose ends may go
 module _ (R S T E : RattleType) (kind : RingGhosts R.Denot S.Denot T.Denot E.Denot) (send : SendGhosts S.Denot E.Denot)
-    (ring : EndGhosts E.Denot) (give : TakeGhosts T.Denot E.Denot) (s_goes : IsSend S) (t_goes : IsSend T) (e_goes : IsSend E) where
-  channel_send : IsSend (Channel.the_row R S T E kind send ring give)
+    (ring : EndGhosts E.Denot) (pass : ItemGhosts T.Denot E.Denot) (give : TakeGhosts T.Denot E.Denot) (s_goes : IsSend S) (t_goes : IsSend T) (e_goes : IsSend E) where
+  channel_send : IsSend (Channel.the_row R S T E kind send ring pass give)
   channel_send = search (sendable, crosses, link_send) depth 60 fits 20000
 
-  channels_send : IsSend (Channels.the_row R S T E kind send ring give)
+  channels_send : IsSend (Channels.the_row R S T E kind send ring pass give)
   channels_send = search (sendable, crosses, channel_send) depth 60 fits 20000
 
-  slave_send : IsSend (Slave.the_row R S T E kind send ring give)
+  slave_send : IsSend (Slave.the_row R S T E kind send ring pass give)
   slave_send = search (sendable, crosses, session_send, outbox_send, plan_send, account_send, channels_send) depth 60 fits 20000
 
-  pub lending_slave_send : IsSend (LendingSlave.the_row R S T E kind send ring give)
+  pub lending_slave_send : IsSend (LendingSlave.the_row R S T E kind send ring pass give)
   lending_slave_send = search (sendable, crosses, slave_send, stream_send, slot_send, end_goes) depth 60 fits 20000

@@ -1,11 +1,11 @@
 //! The account of an event channel, once what is left of its sampler is back.
 use crate::intake::Intake;
-use channel_ring::TakeEnd;
+use channel_ring::{ItemTake, TakeEnd};
 use daq_engine::ListReport;
 use sampler::SamplerEnd;
 use xcp_base::ListId;
 
-impl<T: TakeEnd> Intake<T> {
+impl<T: ItemTake> Intake<T> {
     ghost use Rattle.std.specs.Prelude.{◌≡◌, ◌++◌, IfSome, IsNone, List, None, length};
     ghost use mathlib.Core.List.{IsPrefix};
     ghost use Rattle.sampler.specs.Past.{Past};

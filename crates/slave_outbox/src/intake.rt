@@ -7,7 +7,7 @@ ghost use Rattle.slave_outbox.specs.IntakeInner.{IsOfList, Notes, takes_one};
 use crate::laying::lay_first;
 use crate::list_intake::{FIRST, ListIntake};
 use crate::step::Step;
-use channel_ring::TakeEnd;
+use channel_ring::{ItemTake, TakeEnd};
 use frame_writer::{FrameWriter, SinkOut};
 use std::marker::Model;
 use xcp_base::{ListId, PerList};
@@ -35,7 +35,7 @@ impl<T> Model for Intake<T> {
     ghost view = { λ i. record { end = i.end; lists = i.lists } };
 }
 
-impl<T: TakeEnd> Intake<T> {
+impl<T: ItemTake> Intake<T> {
     ghost use Rattle.std.specs.Prelude.{◌≡◌, ◌+◌, ◌<◌, ◌≤◌, [], List, false, length};
     ghost use Rattle.frame_writer.specs.Sinks.{sink_writer};
     ghost use Rattle.frame_writer.specs.declared.layout.TheConstants.{MAX_SAMPLE_BYTES};
@@ -145,7 +145,7 @@ fn note_step(lists: &mut PerList<ListIntake>, step: Step)
 }
 
 /// Lets the first item go, if the step takes it.
-fn let_go<T: TakeEnd>(end: &mut T, step: Step)
+fn let_go<T: ItemTake>(end: &mut T, step: Step)
     requires some { 0 < length (T.known end.old) }
     ensures takes { takes_one step ≡ true → PassesFirst (T.received end.old) (T.received end.new)
         (T.known end.old) (T.known end.new) }

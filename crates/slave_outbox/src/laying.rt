@@ -8,7 +8,7 @@ ghost use Rattle.slave_outbox.specs.IntakeInner.{LaysFirst, LaysSample};
 
 use crate::list_intake::ListIntake;
 use crate::step::Step;
-use channel_ring::TakeEnd;
+use channel_ring::{ItemTake, TakeEnd};
 use frame_writer::{FrameWriter, MAX_SAMPLE_BYTES, SinkOut};
 use xcp_base::{Item, ListId, Packets, PerList, Sample};
 
@@ -54,7 +54,7 @@ fn lay_sample(
 
 /// What the first item of a ring comes to, which was read and stays there; the frames of a sample
 /// are laid out if it passes and they find room.
-pub fn lay_first<T: TakeEnd>(
+pub fn lay_first<T: ItemTake>(
     end: &T,
     lists: &PerList<ListIntake>,
     writer: &mut FrameWriter<SinkOut>,

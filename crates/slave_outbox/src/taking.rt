@@ -7,7 +7,7 @@ use crate::limits::PAGE;
 use crate::outbox::Outbox;
 use crate::unit::{Origin, Unit};
 use crate::{Intake, Step};
-use channel_ring::TakeEnd;
+use channel_ring::{ItemTake, TakeEnd};
 
 /// Up to where a sample's frames may go behind so many bytes: to the page's end, or nowhere.
 fn limit_of(end: usize) -> usize
@@ -24,7 +24,7 @@ impl Outbox {
     /// Takes the next item of an event channel's ring, if one is there, by its intake. A sample
     /// that passes is laid out behind all that waits, as one of this measurement and event channel,
     /// if its frames end within the page; else it stays in the ring. It takes no memory.
-    pub fn take<T: TakeEnd>(
+    pub fn take<T: ItemTake>(
         &mut self,
         intake: &mut Intake<T>,
         measurement: u64,

@@ -1,5 +1,5 @@
 -- A sampler that went with its orders, and what came of it.
-use Rattle.std.proofs.Common.{◌≡◌, ℕ, List, [], ◌∷◌, ◌++◌, append-nil, append_assoc, le_refl, refl, sym, ap, ◌∙◌, subst, inl, inr, Result, Ok, Err, Option, Some, None, true, false}
+use Rattle.std.proofs.Common.{◌≡◌, ℕ, List, [], ◌∷◌, ◌++◌, append-nil, append_assoc, arith, le_refl, refl, sym, ap, ◌∙◌, subst, inl, inr, Result, Ok, Err, Option, Some, None, true, false}
 use Rattle.std.specs.Prelude.{IfOk, OnErr}
 use Rattle.segments.specs.Image.{image_of}
 use Rattle.channel_ring.specs.declared.ends.SendEnd.{Ghosts as SendGhosts}
@@ -32,6 +32,7 @@ module _ {S E : Type 0} (send : SendGhosts S E) (ring : EndGhosts E) where
     segments = b.segments ∙ a.segments;
     plans = b.plans ∙ a.plans;
     capacity = b.capacity ∙ a.capacity;
+    held = omega (arith, a.held, b.held);
     ring = b.ring ∙ a.ring;
   }
 
@@ -59,6 +60,7 @@ module _ {S E : Type 0} (send : SendGhosts S E) (ring : EndGhosts E) where
       segments = ap (λ (v : SamplerState S). v.segments) does.looked.rest;
       plans = ap (λ (v : SamplerState S). v.plans) does.looked.rest;
       capacity = does.looked.capacity;
+      held = does.looked.held;
       ring = does.looked.ring;
     });
     deeds = come.deeds;
@@ -98,6 +100,7 @@ module _ {S E : Type 0} (send : SendGhosts S E) (ring : EndGhosts E) where
     sent = refl;
     free = le_refl (send.free s.end);
     capacity = refl;
+    held = le_refl (send.held s.end);
     ring = refl;
     stands = λ past st. st;
   }
@@ -155,7 +158,7 @@ module _ {S E : Type 0} (send : SendGhosts S E) (ring : EndGhosts E) where
   pub come-here : (s : SamplerState S) (o : TakeState) → HasCome send ring s o s o
   come-here s o = record {
     one_ring = refl;
-    set_up = record { channel = refl; segments = refl; plans = refl; capacity = refl; ring = refl };
+    set_up = record { channel = refl; segments = refl; plans = refl; capacity = refl; held = le_refl (send.held s.end); ring = refl };
     deeds = [];
     obeyed = sym (append-nil o.received);
     stands = λ past st. st;

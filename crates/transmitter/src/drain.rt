@@ -8,13 +8,13 @@ ghost use Rattle.transmitter.specs.Inner.Turns.{AllStay};
 
 use crate::faults::PumpFault;
 use crate::transmitter::Transmitter;
-use channel_ring::TakeEnd;
+use channel_ring::{ItemTake, TakeEnd};
 use frame_writer::Out;
 use sampler::SamplerEnd;
 
 /// Looks at all that was sent to ring `c`, so that each item left in it is known from then on, and
 /// tells whether there is one.
-fn look_at<T: TakeEnd>(takes: &mut Vec<T>, ends: &mut [SamplerEnd<T::End>], c: usize) -> bool
+fn look_at<T: ItemTake>(takes: &mut Vec<T>, ends: &mut [SamplerEnd<T::End>], c: usize) -> bool
     requires rings { map T.ring takes.old.items ≡ map (λ e. T.End.ring e.end) ends.old }
     requires ring { c < length ends.old }
     ensures stay { AllStay T.TakeEnd T.End.RingEnd takes.old.items takes.new.items
@@ -33,7 +33,7 @@ fn look_at<T: TakeEnd>(takes: &mut Vec<T>, ends: &mut [SamplerEnd<T::End>], c: u
 
 /// Looks at all that was sent to all rings, so that each item left in them is known from then on,
 /// and tells whether there is one.
-fn look<T: TakeEnd>(takes: &mut Vec<T>, ends: &mut [SamplerEnd<T::End>]) -> bool
+fn look<T: ItemTake>(takes: &mut Vec<T>, ends: &mut [SamplerEnd<T::End>]) -> bool
     requires rings { map T.ring takes.old.items ≡ map (λ e. T.End.ring e.end) ends.old }
     ensures stay { AllStay T.TakeEnd T.End.RingEnd takes.old.items takes.new.items
         ends.old ends.new }
@@ -52,7 +52,7 @@ fn look<T: TakeEnd>(takes: &mut Vec<T>, ends: &mut [SamplerEnd<T::End>]) -> bool
     some
 }
 
-impl<O: Out, T: TakeEnd> Transmitter<O, T> {
+impl<O: Out, T: ItemTake> Transmitter<O, T> {
     ghost use Rattle.std.specs.Prelude.{◌≡◌, true, false, map};
     ghost use Rattle.sampler.specs.State.{joined, sent_by};
     ghost use Rattle.transmitter.specs.Looks.{AreOfRings, EndsStay};

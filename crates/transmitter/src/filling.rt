@@ -6,7 +6,7 @@ use crate::faults::PumpFault;
 use crate::fit_turn::Fit;
 use crate::pumped_all::{NOTHING, PumpedAll};
 use crate::transmitter::Transmitter;
-use channel_ring::TakeEnd;
+use channel_ring::{ItemTake, TakeEnd};
 use frame_writer::SinkOut;
 use xcp_base::limits::MAX_TAKEN;
 use xcp_base::with_list;
@@ -18,7 +18,7 @@ fn found_nothing(from: usize, before: u64, taken: u64) -> bool
     from == 0 && taken == before
 }
 
-impl<T: TakeEnd> Transmitter<SinkOut, T> {
+impl<T: ItemTake> Transmitter<SinkOut, T> {
     ghost use Rattle.std.specs.Prelude.{◌≡◌, ◌+◌, ◌*◌, ◌<◌, ◌≤◌, length};
     ghost use Rattle.std.specs.Prelude.{None, IfErr, IfOk, vec_len};
     ghost use Rattle.xcp_base.specs.declared.limits.TheConstants.{MAX_TAKEN};

@@ -7,7 +7,7 @@ ghost use Rattle.transmitter.specs.Inner.Turns.{Lays};
 
 use crate::transmitter::Transmitter;
 use crate::turn::{first_of, let_go, look_for};
-use channel_ring::TakeEnd;
+use channel_ring::{ItemTake, TakeEnd};
 use frame_writer::{FrameWriter, SinkOut};
 use xcp_base::{Item, Packets};
 
@@ -24,7 +24,7 @@ pub enum Fit {
     TooLong,
 }
 
-impl<T: TakeEnd> Transmitter<SinkOut, T> {
+impl<T: ItemTake> Transmitter<SinkOut, T> {
     ghost use Rattle.std.specs.Prelude.{◌≡◌, ◌^◌, ◌<◌, ◌≤◌, None, length, vec_len};
     ghost use Rattle.frame_writer.specs.Sinks.{sink_writer};
     ghost use Rattle.transmitter.specs.Sinks.{sink_transmitter};

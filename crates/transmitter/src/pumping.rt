@@ -4,7 +4,7 @@ use crate::faults::PumpFault;
 use crate::pumped::Pumped;
 use crate::pumped_all::NOTHING;
 use crate::transmitter::Transmitter;
-use channel_ring::TakeEnd;
+use channel_ring::{ItemTake, TakeEnd};
 use frame_writer::{MAX_SAMPLE_BYTES, SinkOut};
 use xcp_base::limits::{MAX_TAKEN, RUN_CHANNELS};
 
@@ -12,7 +12,7 @@ use xcp_base::limits::{MAX_TAKEN, RUN_CHANNELS};
 /// channel.
 pub const MAX_PUMP: usize = RUN_CHANNELS as usize * MAX_SAMPLE_BYTES;
 
-impl<T: TakeEnd> Transmitter<SinkOut, T> {
+impl<T: ItemTake> Transmitter<SinkOut, T> {
     ghost use Rattle.std.specs.Prelude.{◌≤◌, length, Ok, IfErr, IfOk};
     ghost use Rattle.transmitter.specs.Fills.{IsInFront};
     ghost use Rattle.transmitter.specs.Pumps.{IsPump};

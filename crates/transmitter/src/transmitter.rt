@@ -7,7 +7,7 @@ use crate::faults::PumpFault;
 use crate::pumped::Pumped;
 use crate::pumped_all::NOTHING;
 use crate::turn::Turn;
-use channel_ring::{Beside, TakeEnd};
+use channel_ring::{Beside, ItemTake, TakeEnd};
 use frame_writer::{FrameWriter, Out};
 use sampler::Sampler;
 use xcp_base::limits::{MAX_LISTS, MAX_TAKEN};
@@ -35,7 +35,7 @@ pub struct Transmitter<O, T> {
     ghost held: { is_closed writer ≡ is_some hand },
 }
 
-impl<O: Out, T: TakeEnd> Transmitter<O, T> {
+impl<O: Out, T: ItemTake> Transmitter<O, T> {
     ghost use Rattle.std.specs.Prelude.{◌≡◌, ℕ, ◌≤◌, All, List, [], false};
     ghost use Rattle.std.specs.Prelude.{OnOk, length, map, slice_index, vec_len};
     ghost use Rattle.std.specs.Option.{option_copied};

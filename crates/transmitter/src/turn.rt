@@ -8,7 +8,7 @@ ghost use Rattle.transmitter.specs.Inner.Turns.{BeginsWithSample, HoldsFirst, Ta
 ghost use Rattle.transmitter.specs.Written.{BreaksWithin};
 
 use crate::transmitter::Transmitter;
-use channel_ring::TakeEnd;
+use channel_ring::{ItemTake, TakeEnd};
 use frame_writer::{FrameWriter, Out};
 use xcp_base::{Item, Packets, Sample};
 
@@ -25,7 +25,7 @@ pub enum Turn {
     Broke,
 }
 
-impl<O: Out, T: TakeEnd> Transmitter<O, T> {
+impl<O: Out, T: ItemTake> Transmitter<O, T> {
     ghost use Rattle.std.specs.Prelude.{◌≡◌, ◌+◌, ◌^◌, ◌<◌, None, vec_len};
     ghost use Rattle.transmitter.specs.Written.{transmission};
     ghost use Rattle.transmitter.specs.Inner.Turns.{TurnMeans};
@@ -66,7 +66,7 @@ impl<O: Out, T: TakeEnd> Transmitter<O, T> {
 }
 
 /// Whether an item of ring `c` is there, which is then known, and was read.
-pub(crate) fn look_for<T: TakeEnd>(ends: &mut Vec<T>, c: usize) -> bool
+pub(crate) fn look_for<T: ItemTake>(ends: &mut Vec<T>, c: usize) -> bool
     requires within { c < vec_len ends.old }
     ensures value { IsTrue result ↔ (0 < length (of_ring (map T.known ends.new.items) c)) }
     ensures reads { result ≡ true → slice_index_or (map T.ready ends.new.items) c false ≡ true }
@@ -79,7 +79,7 @@ pub(crate) fn look_for<T: TakeEnd>(ends: &mut Vec<T>, c: usize) -> bool
 }
 
 /// The first item of ring `c`, which was read.
-pub(crate) fn first_of<T: TakeEnd>(ends: &Vec<T>, c: usize) -> &Item
+pub(crate) fn first_of<T: ItemTake>(ends: &Vec<T>, c: usize) -> &Item
     requires within { c < vec_len ends.now }
     requires ready { slice_index_or (map T.ready ends.now.items) c false ≡ true }
     ensures { IsPrefix (result.now ∷ []) (of_ring (map T.known ends.now.items) c) }
@@ -88,7 +88,7 @@ pub(crate) fn first_of<T: TakeEnd>(ends: &Vec<T>, c: usize) -> &Item
 }
 
 /// Lets the first item of ring `c` go, which is known to be there.
-pub(crate) fn let_go<T: TakeEnd>(ends: &mut Vec<T>, c: usize)
+pub(crate) fn let_go<T: ItemTake>(ends: &mut Vec<T>, c: usize)
     requires within { c < vec_len ends.old }
     requires some { 0 < length (of_ring (map T.known ends.old.items) c) }
     ensures takes { TakesFirst c (map T.received ends.old.items) (map T.received ends.new.items)
@@ -103,7 +103,7 @@ pub(crate) fn let_go<T: TakeEnd>(ends: &mut Vec<T>, c: usize)
 ///
 /// It stands out of line, so that a turn doesn't clear the place of a sample that it seldom moves.
 #[inline(never)]
-fn hold<T: TakeEnd>(ends: &mut Vec<T>, c: usize, hand: &mut Option<Sample>)
+fn hold<T: ItemTake>(ends: &mut Vec<T>, c: usize, hand: &mut Option<Sample>)
     requires within { c < vec_len ends.old }
     requires sample { BeginsWithSample (of_ring (map T.known ends.old.items) c) }
     ensures holds { HoldsFirst c (map T.received ends.old.items) (map T.received ends.new.items)
@@ -115,7 +115,7 @@ fn hold<T: TakeEnd>(ends: &mut Vec<T>, c: usize, hand: &mut Option<Sample>)
 }
 
 /// Takes the sample that is the first item of ring `c`.
-fn take_sample<T: TakeEnd>(ends: &mut Vec<T>, c: usize) -> Sample
+fn take_sample<T: ItemTake>(ends: &mut Vec<T>, c: usize) -> Sample
     requires within { c < vec_len ends.old }
     requires sample { BeginsWithSample (of_ring (map T.known ends.old.items) c) }
     ensures takes { Takes (map T.received ends.old.items) (map T.received ends.new.items)

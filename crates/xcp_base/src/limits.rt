@@ -25,6 +25,9 @@ pub const RUN_ENTRIES: u8 = 32;
 /// MAX_DTO: the longest packet, in bytes.
 pub const MAX_DTO: usize = 64;
 
+/// The greatest MAX_DTO: the longest packet that goes through a ring of frames, in bytes.
+pub const MAX_PACKET: usize = 8192;
+
 /// The greatest MAX_CTO of a slave: of its master's command packets and its replies, in bytes.
 pub const MAX_CTO: usize = 255;
 

@@ -1,5 +1,4 @@
 use Rattle.std.proofs.Common.{◌≡◌, ◌++◌, ◌+◌, ◌≤◌, ap, sym, subst, ◌∙◌}
-use Rattle.segments.specs.Image.{image_len}
 use Rattle.channel_ring.specs.Room.{units}
 use Rattle.sampler.specs.State.{SamplerState}
 use Rattle.transmitter.specs.Looks.{LookedAt}
@@ -25,7 +24,7 @@ returns-clause-samplers g c =
     let new = c.beside.new.sampler in
     let at = c.index_mut-sampler.ensures.value in
     let look = c.beside.ensures.sampler_looked in
-    let only = only_at send xs i old new at c.requires.place (record { channel = ap (λ (s : SamplerState _). s.channel) look.rest; segments = ap (λ (s : SamplerState _). s.segments) look.rest; plans = ap (λ (s : SamplerState _). s.plans) look.rest; capacity = look.capacity; ring = look.ring }) in
+    let only = only_at send xs i old new at c.requires.place (record { channel = ap (λ (s : SamplerState _). s.channel) look.rest; segments = ap (λ (s : SamplerState _). s.segments) look.rest; plans = ap (λ (s : SamplerState _). s.plans) look.rest; capacity = look.capacity; held = look.held; ring = look.ring }) in
     record {
       those = only.those;
       sent = sent-set send xs i old new at c.requires.place look.sent;

@@ -8,23 +8,23 @@ use Rattle.frame_ring.proofs.record.lay_sample.Goals as goal
 
 pub overflow_cast-len : goal.overflow_cast-len
 overflow_cast-len g c =
-    let packets = g.F.SampleFrames.packets c.args.frames.now in
-    omega (arith, c.len-len.ensures, frames_fit packets (g.met.F.SampleFrames.within c.args.frames.now))
+    let packets = g.M.SampleMaker.packets c.args.maker.now in
+    omega (arith, c.frames_len-len.ensures, frames_fit packets (g.met.M.SampleMaker.within c.args.maker.now))
 
 pub place-behind-requires : goal.place-behind-requires
 place-behind-requires g c =
-    let s : SampleParts = record { channel = c.args.channel; list = c.args.list; number = c.args.number; packets = g.F.SampleFrames.packets c.args.frames.now } in
+    let s : SampleParts = record { channel = c.args.channel; list = c.args.list; number = c.args.number; packets = g.M.SampleMaker.packets c.args.maker.now } in
     record { room = omega (arith, c.requires.room, sample_bytes s, ap length c.head_of-head.ensures) }
 
-pub lay-end-requires : goal.lay-end-requires
-lay-end-requires g c =
-    let s : SampleParts = record { channel = c.args.channel; list = c.args.list; number = c.args.number; packets = g.F.SampleFrames.packets c.args.frames.now } in
+pub lay_frames-end-requires : goal.lay_frames-end-requires
+lay_frames-end-requires g c =
+    let s : SampleParts = record { channel = c.args.channel; list = c.args.list; number = c.args.number; packets = g.M.SampleMaker.packets c.args.maker.now } in
     record { room = omega (arith, c.requires.room, sample_bytes s, ap length c.head_of-head.ensures, c.place-behind.ensures.end, c.place-behind.ensures.len) }
 
 pub blocks_for-requires : goal.blocks_for-requires
 blocks_for-requires g c =
-    let packets = g.F.SampleFrames.packets c.args.frames.now in
-    omega (arith, c.len-len.ensures, frames_fit packets (g.met.F.SampleFrames.within c.args.frames.now))
+    let packets = g.M.SampleMaker.packets c.args.maker.now in
+    omega (arith, c.frames_len-len.ensures, frames_fit packets (g.met.M.SampleMaker.within c.args.maker.now))
 
 -- so many bytes fill the last block
 fills : (n blocks len : ℕ) → len ≡ n → blocks ≡ blocks_for len → length (take (blocks * 8 - len) zeros) ≡ 8 * blocks_for n - n
@@ -32,21 +32,21 @@ fills n blocks len e f = subst (λ b. length (take (b * 8 - len) zeros) ≡ 8 * 
 
 pub place-requires : goal.place-requires
 place-requires g c =
-    let s : SampleParts = record { channel = c.args.channel; list = c.args.list; number = c.args.number; packets = g.F.SampleFrames.packets c.args.frames.now } in
-    let fill = fills (length (unnumbered s.packets)) c.blocks_for.result c.len-len.result c.len-len.ensures c.blocks_for.ensures in
-    record { room = omega (arith, c.requires.room, sample_bytes s, ap length c.head_of-head.ensures, c.place-behind.ensures.end, c.place-behind.ensures.len, c.lay-end.ensures.end, c.lay-end.ensures.len, fill) }
+    let s : SampleParts = record { channel = c.args.channel; list = c.args.list; number = c.args.number; packets = g.M.SampleMaker.packets c.args.maker.now } in
+    let fill = fills (length (unnumbered s.packets)) c.blocks_for.result c.frames_len-len.result c.frames_len-len.ensures c.blocks_for.ensures in
+    record { room = omega (arith, c.requires.room, sample_bytes s, ap length c.head_of-head.ensures, c.place-behind.ensures.end, c.place-behind.ensures.len, c.lay_frames-end.ensures.end, c.lay_frames-end.ensures.len, fill) }
 
 pub returns-clause-bytes : goal.returns-clause-bytes
 returns-clause-bytes g c =
-    let s : SampleParts = record { channel = c.args.channel; list = c.args.list; number = c.args.number; packets = g.F.SampleFrames.packets c.args.frames.now } in
+    let s : SampleParts = record { channel = c.args.channel; list = c.args.list; number = c.args.number; packets = g.M.SampleMaker.packets c.args.maker.now } in
     let n = length (unnumbered s.packets) in
-    let fill = fills n c.blocks_for.result c.len-len.result c.len-len.ensures c.blocks_for.ensures in
-    let zeros_are : take (c.blocks_for.result * 8 - c.len-len.result) zeros ≡ take (blocks_for n * 8 - n) zeros =
-    ap (λ b. take (b * 8 - c.len-len.result) zeros) c.blocks_for.ensures
-    ∙ ap (λ m. take (blocks_for m * 8 - m) zeros) c.len-len.ensures in
+    let fill = fills n c.blocks_for.result c.frames_len-len.result c.frames_len-len.ensures c.blocks_for.ensures in
+    let zeros_are : take (c.blocks_for.result * 8 - c.frames_len-len.result) zeros ≡ take (blocks_for n * 8 - n) zeros =
+    ap (λ b. take (b * 8 - c.frames_len-len.result) zeros) c.blocks_for.ensures
+    ∙ ap (λ m. take (blocks_for m * 8 - m) zeros) c.frames_len-len.ensures in
     let here : c.place-behind.result ≡ c.args.at + 16 = c.place-behind.ensures.end ∙ ap (λ h. c.args.at + length h) c.head_of-head.ensures in
-    let there : c.place.result ≡ c.lay-end.result + (8 * blocks_for n - n) = c.place.ensures.end ∙ ap (λ k. c.lay-end.result + k) fill in
-    laid s c.args.at c.place-behind.result c.lay-end.result c.place.result c.args.out.now c.place-behind.new.room c.lay-end.new.out c.place.new.room
-    (c.place-behind.ensures.bytes ∙ ap (λ h. take c.args.at c.args.out.now ++ h) (c.head_of-head.ensures ∙ head_same s c.count.result c.len-len.result c.count.ensures c.len-len.ensures))
-    c.lay-end.ensures.end c.lay-end.ensures.front
-    (c.place.ensures.bytes ∙ ap (λ f. take c.lay-end.result c.lay-end.new.out ++ f) zeros_are) here there
+    let there : c.place.result ≡ c.lay_frames-end.result + (8 * blocks_for n - n) = c.place.ensures.end ∙ ap (λ k. c.lay_frames-end.result + k) fill in
+    laid s c.args.at c.place-behind.result c.lay_frames-end.result c.place.result c.args.out.now c.place-behind.new.room c.lay_frames-end.new.out c.place.new.room
+    (c.place-behind.ensures.bytes ∙ ap (λ h. take c.args.at c.args.out.now ++ h) (c.head_of-head.ensures ∙ head_same s c.count.result c.frames_len-len.result c.count.ensures c.frames_len-len.ensures))
+    c.lay_frames-end.ensures.end c.lay_frames-end.ensures.front
+    (c.place.ensures.bytes ∙ ap (λ f. take c.lay_frames-end.result c.lay_frames-end.new.out ++ f) zeros_are) here there

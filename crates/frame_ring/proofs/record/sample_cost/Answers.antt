@@ -4,9 +4,9 @@ use Rattle.frame_ring.proofs.record.sample_cost.Goals as goal
 
 pub sample_blocks-requires : goal.sample_blocks-requires
 sample_blocks-requires g c =
-    let packets = g.F.SampleFrames.packets c.args.frames.now in
-    omega (arith, c.len.ensures, frames_fit packets (g.met.F.SampleFrames.within c.args.frames.now))
+    let packets = g.M.SampleMaker.packets c.args.maker.now in
+    omega (arith, c.frames_len.ensures, frames_fit packets (g.met.M.SampleMaker.within c.args.maker.now))
 
 pub returns : goal.returns
 returns g c = λ channel list number.
-    c.sample_blocks.ensures (record { channel = channel; list = list; number = number; packets = g.F.SampleFrames.packets c.args.frames.now }) c.len.ensures
+    c.sample_blocks.ensures.cost (record { channel = channel; list = list; number = number; packets = g.M.SampleMaker.packets c.args.maker.now }) c.frames_len.ensures

@@ -14,7 +14,7 @@ returns-clause-value g c =
 pub returns-clause-reads : goal.returns-clause-reads
 returns-clause-reads g c = λ yes_item.
     let within : c.args.c < length c.args.ends.now.items = omega (arith, c.args.ends.now.ok.0) in
-    shown_here g.T.TakeEnd.ready c.args.ends.now.items c.args.c c.look.new.self false within ∙ c.look.ensures.reads yes_item
+    shown_here g.T.ItemTake.ready c.args.ends.now.items c.args.c c.look.new.self false within ∙ c.look.ensures.reads yes_item
 
 pub returns-clause-looks : goal.returns-clause-looks
 returns-clause-looks g c =

@@ -1,4 +1,4 @@
-use Rattle.std.proofs.Common.{ap, ◌∙◌, ◌++◌, take}
+use Rattle.std.proofs.Common.{ap, ◌∙◌, ◌∷◌, [], ◌++◌, take}
 use Rattle.rtrb.specs.Ring.{sent}
 use Rattle.channel_ring.specs.Ends.{sample_item}
 use Rattle.byte_ring.specs.Reading.{items_in}
@@ -8,15 +8,16 @@ use Rattle.byte_ring.proofs.byte_send.ByteSendSendEnd.offer_sample.Goals as goal
 
 -- one record more, whole, or none
 pub invariant_of-self : goal.invariant_of-self
-invariant_of-self c =
+invariant_of-self g c =
     let s = c.args.self.now in
     let e = c.push_whole.ensures in
-    let item = sample_item c.args.channel c.args.list c.args.number c.args.packets.now in
+    let item = sample_item c.args.channel c.args.list c.args.number c.fill.new.sample in
     let p = pushed c.push_whole.result (sent s.producer) (sent c.push_whole.new.producer) (take c.write_sample-len.result c.write_sample-len.new.out) item s.count c.push_whole.new.count c.write_sample-len.ensures.item (c.write_sample-len.ensures.bytes) s.whole s.counted e.sends e.sent_stays e.counts e.count_stays in
     record { whole = p.whole; counted = p.counted }
 
 pub returns-clause-sends : goal.returns-clause-sends
-returns-clause-sends c = λ is_sent.
+returns-clause-sends g c = λ is_sent.
     let s = c.args.self.now in
-    let item = sample_item c.args.channel c.args.list c.args.number c.args.packets.now in
+    let item = sample_item c.args.channel c.args.list c.args.number c.fill.new.sample in
     ap items_in (c.push_whole.ensures.sends is_sent ∙ ap (λ l. sent s.producer ++ l) (c.write_sample-len.ensures.bytes)) ∙ items_in-push (sent s.producer) item c.write_sample-len.ensures.item s.whole
+    ∙ ap (λ packets. items_in (sent s.producer) ++ sample_item c.args.channel c.args.list c.args.number packets ∷ []) c.fill.ensures

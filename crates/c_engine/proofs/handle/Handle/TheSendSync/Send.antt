@@ -16,11 +16,13 @@ use Rattle.byte_ring.specs.contracts.byte_left.ByteLeftRingEnd.TheImpl.{ghosts a
 use Rattle.byte_ring.specs.contracts.byte_send.ByteSend as ByteSend
 use Rattle.byte_ring.specs.contracts.byte_send.ByteSendSendEnd.TheImpl.{ghosts as byte_send_ghosts}
 use Rattle.byte_ring.specs.contracts.byte_take.ByteTake as ByteTake
+use Rattle.byte_ring.specs.contracts.byte_take.ByteTakeItemTake.TheImpl.{ghosts as byte_item_ghosts}
 use Rattle.byte_ring.specs.contracts.byte_take.ByteTakeTakeEnd.TheImpl.{ghosts as byte_take_ghosts}
 use Rattle.channel_ring.specs.contracts.sample_ring.SampleRing as SampleRing
 use Rattle.channel_ring.specs.contracts.sample_ring.SendHalf as SendHalf
 use Rattle.channel_ring.specs.contracts.sample_ring.SendHalfSendEnd.TheImpl.{ghosts as half_ghosts}
 use Rattle.channel_ring.specs.contracts.sample_ring.SendLeftRingEnd.TheImpl.{ghosts as left_ghosts}
+use Rattle.channel_ring.specs.contracts.sample_ring.TakeHalfItemTake.TheImpl.{ghosts as item_ghosts}
 use Rattle.channel_ring.specs.contracts.sample_ring.TakeHalfTakeEnd.TheImpl.{ghosts as take_ghosts}
 use Rattle.daq_engine.specs.contracts.ring.ByteRingRing.TheImpl.{ghosts as byte_rings}
 use Rattle.daq_engine.specs.contracts.ring.SampleRingRing.TheImpl.{ghosts as item_rings}
@@ -28,6 +30,7 @@ use Rattle.channel_ring.specs.contracts.sample_ring.TakeHalf as TakeHalf
 use Rattle.channel_ring.specs.declared.ends.SendEnd.{Ghosts as SendGhosts}
 use Rattle.channel_ring.specs.declared.ends.RingEnd.{Ghosts as EndGhosts}
 use Rattle.channel_ring.specs.declared.ends.TakeEnd.{Ghosts as TakeGhosts}
+use Rattle.channel_ring.specs.declared.item_ends.ItemTake.{Ghosts as ItemGhosts}
 use Rattle.daq_engine.specs.declared.ring.Ring.{Ghosts as RingGhosts}
 use Rattle.frame_writer.specs.contracts.byte_log.ByteLog as Log
 use Rattle.hand_over.proofs.SendLemmas.{coming_send, way_send}
@@ -47,34 +50,34 @@ log_send =
 
 -- over rings of one kind, whose ends may go
 module _ (R S T E : RattleType) (kind : RingGhosts R.Denot S.Denot T.Denot E.Denot) (send : SendGhosts S.Denot E.Denot)
-    (ring : EndGhosts E.Denot) (give : TakeGhosts T.Denot E.Denot) (s_goes : IsSend S) (t_goes : IsSend T) (e_goes : IsSend E) where
-  lent_send : IsSend (Lent.the_field R S T E kind send ring give).row
+    (ring : EndGhosts E.Denot) (pass : ItemGhosts T.Denot E.Denot) (give : TakeGhosts T.Denot E.Denot) (s_goes : IsSend S) (t_goes : IsSend T) (e_goes : IsSend E) where
+  lent_send : IsSend (Lent.the_field R S T E kind send ring pass give).row
   lent_send = search (sendable, crosses, copy_plan, way_send) depth 60 fits 20000
 
-  lending_send : IsSend (Lending.the_row R S T E kind send ring give)
+  lending_send : IsSend (Lending.the_row R S T E kind send ring pass give)
   lending_send = search (sendable, crosses, copy_plan, coming_send) depth 60 fits 20000
 
-  engine_send : IsSend (Engine.the_field R S T E kind send ring give).row
+  engine_send : IsSend (Engine.the_field R S T E kind send ring pass give).row
   engine_send = search (sendable, crosses, ring_end, lending_send, log_send) depth 60 fits 20000
 
-items_lent : IsSend (Lent.the_field SampleRing.the_row SendHalf.the_row TakeHalf.the_row Left item_rings half_ghosts left_ghosts take_ghosts).row
+items_lent : IsSend (Lent.the_field SampleRing.the_row SendHalf.the_row TakeHalf.the_row Left item_rings half_ghosts left_ghosts item_ghosts take_ghosts).row
 items_lent =
-    lent_send SampleRing.the_row SendHalf.the_row TakeHalf.the_row Left item_rings half_ghosts left_ghosts take_ghosts
+    lent_send SampleRing.the_row SendHalf.the_row TakeHalf.the_row Left item_rings half_ghosts left_ghosts item_ghosts take_ghosts
     send_half take_half left_send
 
-items_engine : IsSend (Engine.the_field SampleRing.the_row SendHalf.the_row TakeHalf.the_row Left item_rings half_ghosts left_ghosts take_ghosts).row
+items_engine : IsSend (Engine.the_field SampleRing.the_row SendHalf.the_row TakeHalf.the_row Left item_rings half_ghosts left_ghosts item_ghosts take_ghosts).row
 items_engine =
-    engine_send SampleRing.the_row SendHalf.the_row TakeHalf.the_row Left item_rings half_ghosts left_ghosts take_ghosts
+    engine_send SampleRing.the_row SendHalf.the_row TakeHalf.the_row Left item_rings half_ghosts left_ghosts item_ghosts take_ghosts
     send_half take_half left_send
 
-bytes_lent : IsSend (Lent.the_field ByteRing.the_row ByteSend.the_row ByteTake.the_row ByteLeft.the_row byte_rings byte_send_ghosts byte_left_ghosts byte_take_ghosts).row
+bytes_lent : IsSend (Lent.the_field ByteRing.the_row ByteSend.the_row ByteTake.the_row ByteLeft.the_row byte_rings byte_send_ghosts byte_left_ghosts byte_item_ghosts byte_take_ghosts).row
 bytes_lent =
-    lent_send ByteRing.the_row ByteSend.the_row ByteTake.the_row ByteLeft.the_row byte_rings byte_send_ghosts byte_left_ghosts byte_take_ghosts
+    lent_send ByteRing.the_row ByteSend.the_row ByteTake.the_row ByteLeft.the_row byte_rings byte_send_ghosts byte_left_ghosts byte_item_ghosts byte_take_ghosts
     byte_send byte_take byte_left
 
-bytes_engine : IsSend (Engine.the_field ByteRing.the_row ByteSend.the_row ByteTake.the_row ByteLeft.the_row byte_rings byte_send_ghosts byte_left_ghosts byte_take_ghosts).row
+bytes_engine : IsSend (Engine.the_field ByteRing.the_row ByteSend.the_row ByteTake.the_row ByteLeft.the_row byte_rings byte_send_ghosts byte_left_ghosts byte_item_ghosts byte_take_ghosts).row
 bytes_engine =
-    engine_send ByteRing.the_row ByteSend.the_row ByteTake.the_row ByteLeft.the_row byte_rings byte_send_ghosts byte_left_ghosts byte_take_ghosts
+    engine_send ByteRing.the_row ByteSend.the_row ByteTake.the_row ByteLeft.the_row byte_rings byte_send_ghosts byte_left_ghosts byte_item_ghosts byte_take_ghosts
     byte_send byte_take byte_left
 
 store_send : IsSend (Store.the_field).row

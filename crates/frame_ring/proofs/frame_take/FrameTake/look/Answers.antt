@@ -1,9 +1,8 @@
 use Rattle.std.proofs.Common.{◌∙◌, ap, sym, subst, arith, [], ◌∷◌}
 use mathlib.Core.List.{IsPrefix}
 use Rattle.rtrb.specs.Ring.{known_items}
-use Rattle.frame_ring.specs.Ends.{LooksForItems, TakeState}
 use Rattle.frame_ring.specs.Heads.{IsHeadOf, head_blocks, head_of}
-use Rattle.frame_ring.proofs.EndLemmas.{first_there, looks, looks_twice, none_there, prefix_then, taking, too_few}
+use Rattle.frame_ring.proofs.EndLemmas.{first_there, looks, looks_twice, none_there, prefix_then, too_few}
 use Rattle.frame_ring.proofs.frame_take.FrameTake.look.Goals as goal
 
 pub returns-then-is_empty-clause-none : goal.returns-then-is_empty-clause-none
@@ -19,8 +18,8 @@ returns-then-not-is_there-clause-none c = λ _.
 pub returns-then-not-is_there-clause-looked : goal.returns-then-not-is_there-clause-looked
 returns-then-not-is_there-clause-looked c =
     let now = c.is_there.new.consumer in
-    subst (λ (old : TakeState). LooksForItems old (taking now)) c.self.view_is
-    (looks c.self.inside.consumer now (looks_twice c.self.inside.consumer c.is_empty.new.self now c.is_empty.ensures.looked c.is_there.ensures.looked))
+    let was = c.args.self.now.consumer in
+    looks was now (looks_twice was c.is_empty.new.self now c.is_empty.ensures.looked c.is_there.ensures.looked)
 
 pub returns-clause-some : goal.returns-clause-some
 returns-clause-some c =
@@ -38,5 +37,5 @@ returns-clause-some c =
 pub returns-clause-looked : goal.returns-clause-looked
 returns-clause-looked c =
     let now = c.is_there.new.consumer in
-    subst (λ (old : TakeState). LooksForItems old (taking now)) c.self.view_is
-    (looks c.self.inside.consumer now (looks_twice c.self.inside.consumer c.is_empty.new.self now c.is_empty.ensures.looked c.is_there.ensures.looked))
+    let was = c.args.self.now.consumer in
+    looks was now (looks_twice was c.is_empty.new.self now c.is_empty.ensures.looked c.is_there.ensures.looked)

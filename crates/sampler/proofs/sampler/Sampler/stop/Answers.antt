@@ -52,7 +52,7 @@ returns-clause-ok g c = λ past stands.
     let R = g.S.End.RingEnd in
     let P : SamplerState g.row.S.Denot → Type 0 = λ s. StandsAfter E R s past in
     let w : In-Some g = (goal.at.returns-clause-ok g c).In-Some in
-    stop-inside E R c.self.inside.channel c.self.inside.segments.items c.self.inside.lists.plans.items c.self.inside.end c.offer.new.self c.self.inside.lists.tracks c.stopped.result c.self.inside.triggers c.self.inside.accepted c.args.l c.in-Some.place c.self.invariant.rising (at_place g w) past c.stopped.ensures (c.in-Ok.ensures.ok ∙ ap (λ m. E.sent c.self.inside.end ++ Marker m ∷ []) (rw c.byte.ensures.value at c.new.ensures)) c.offer.ensures.capacity_stays (subst P (sym c.self.view_is) stands)
+    stop-inside E R c.self.inside.channel c.self.inside.segments.items c.self.inside.lists.plans.items c.self.inside.end c.offer_marker.new.self c.self.inside.lists.tracks c.stopped.result c.self.inside.triggers c.self.inside.accepted c.args.l c.in-Some.place c.self.invariant.rising (at_place g w) past c.stopped.ensures (c.offer_marker.ensures.sends c.if-not-offer_marker.false ∙ ap (λ m. E.sent c.self.inside.end ++ Marker m ∷ []) (rw c.byte.ensures.value at c.new.ensures)) c.offer_marker.ensures.capacity_stays (subst P (sym c.self.view_is) stands)
 
 pub invariant_of-self-2 : goal.invariant_of-self-2
 invariant_of-self-2 g c =
@@ -74,18 +74,18 @@ returns-then-not-self-place-clause-refused g c = λ past stands.
     subst (λ r. AnswersStop r (Some NotRunning)) why refl
 
 -- one whose marker finds no room
-pub returns-in_default-offer-clause-not_of_channel : goal.returns-in_default-offer-clause-not_of_channel
-returns-in_default-offer-clause-not_of_channel g c =
-    let f = found g (goal.at.returns-in_default-offer-clause-not_of_channel g c).In-Some in
+pub returns-then-not-offer_marker-clause-not_of_channel : goal.returns-then-not-offer_marker-clause-not_of_channel
+returns-then-not-offer_marker-clause-not_of_channel g c =
+    let f = found g (goal.at.returns-then-not-offer_marker-clause-not_of_channel g c).In-Some in
     ((λ e. absurd cc), (λ e. absurd (cc (f, e))))
 
-pub returns-in_default-offer-clause-not_running : goal.returns-in_default-offer-clause-not_running
-returns-in_default-offer-clause-not_running g c =
-    ((λ e. absurd cc), (λ e. absurd (still_runs g (goal.at.returns-in_default-offer-clause-not_running g c).In-Some c.if-not-self-place.false e)))
+pub returns-then-not-offer_marker-clause-not_running : goal.returns-then-not-offer_marker-clause-not_running
+returns-then-not-offer_marker-clause-not_running g c =
+    ((λ e. absurd cc), (λ e. absurd (still_runs g (goal.at.returns-then-not-offer_marker-clause-not_running g c).In-Some c.if-not-self-place.false e)))
 
-pub returns-in_default-offer-clause-refused : goal.returns-in_default-offer-clause-refused
-returns-in_default-offer-clause-refused g c = λ past stands.
-    let why = refusal_found g (goal.at.returns-in_default-offer-clause-refused g c).In-Some past stands true c.if-not-self-place.false in
+pub returns-then-not-offer_marker-clause-refused : goal.returns-then-not-offer_marker-clause-refused
+returns-then-not-offer_marker-clause-refused g c = λ past stands.
+    let why = refusal_found g (goal.at.returns-then-not-offer_marker-clause-refused g c).In-Some past stands true c.if-not-self-place.false in
     subst (λ r. AnswersStop r (Some NoRoom)) why (inr refl)
 
 -- one that is stopped

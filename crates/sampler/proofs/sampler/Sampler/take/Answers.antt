@@ -1,34 +1,38 @@
-use Rattle.std.proofs.Common.{◌+◌, ◌^◌, List, length, take, refl, sym, ap, subst, arith}
+use Rattle.std.proofs.Common.{◌+◌, ◌^◌, List, length, take, refl, sym, ap, ◌∙◌, subst, arith}
 use Rattle.copy_plan.specs.Config.{ListPlan}
 use Rattle.copy_plan.specs.Memory.{image_in}
 use Rattle.sampler.specs.State.{SamplerState}
 use Rattle.sampler.specs.Standing.{StandsAfter, TakesTrigger}
 use Rattle.sampler.specs.Inner.AtTrigger.{HandlesLists, Stage, first_stage}
 use Rattle.sampler.specs.Inner.Moments.{MomentParts}
-use Rattle.sampler.proofs.Handled.{TracksFit-mono, IsSampler-handled}
+use Rattle.sampler.proofs.Handled.{TracksFit-mono, IsSampler-handled, handles-published}
 use Rattle.sampler.specs.declared.taken.Taken.{Taken}
 use Rattle.sampler.proofs.NoneDue.{IsSampler-none_due, handles-none_due}
 use Rattle.sampler.proofs.Triggers.{takes-trigger}
 use Rattle.sampler.proofs.sampler.Sampler.take.Given.{Over}
 use Rattle.sampler.proofs.sampler.Sampler.take.Goals as goal
-use Rattle.sampler.proofs.sampler.Sampler.take.Goals.{After-sample_lists-accepted}
+use Rattle.sampler.proofs.sampler.Sampler.take.Goals.{After-publish}
 
 pub sample_lists-accepted-requires-clause-fit : goal.sample_lists-accepted-requires-clause-fit
 sample_lists-accepted-requires-clause-fit g c = rw c.as_slice.ensures.value (TracksFit-mono c.self.inside.triggers (2 ^ 59) c.self.inside.lists.plans.items c.self.inside.lists.tracks c.self.invariant.limit c.self.invariant.tracks_fit)
 
-abbrev moment_of : (g : Over) (c : After-sample_lists-accepted g) → MomentParts
+abbrev moment_of : (g : Over) (c : After-publish g) → MomentParts
 moment_of g c = record { channel = c.self.inside.channel; trigger = c.self.inside.triggers; segments = c.self.inside.segments.items; image = image_in c.self.inside.channel c.self.inside.segments.items c.args.memory; stamp = c.args.stamp }
 
-abbrev first_of : (g : Over) (c : After-sample_lists-accepted g) → Stage g.row.S.Denot
+abbrev first_of : (g : Over) (c : After-publish g) → Stage g.row.S.Denot
 first_of g c = first_stage c.self.inside.end c.self.inside.lists.tracks c.self.inside.accepted
 
-abbrev last_of : (g : Over) (c : After-sample_lists-accepted g) → Stage g.row.S.Denot
-last_of g c = record { end = c.sample_lists-accepted.new.end; tracks = c.sample_lists-accepted.new.tracks; taken = c.sample_lists-accepted.result.0; next = c.sample_lists-accepted.result.1 }
+abbrev last_of : (g : Over) (c : After-publish g) → Stage g.row.S.Denot
+last_of g c = record { end = c.publish.new.self; tracks = c.sample_lists-accepted.new.tracks; taken = c.sample_lists-accepted.result.0; next = c.sample_lists-accepted.result.1 }
 
-the_lists : (g : Over) (c : After-sample_lists-accepted g) → HandlesLists g.S.SendEnd g.S.End.RingEnd (moment_of g c) c.self.inside.lists.plans.items (first_of g c) (last_of g c)
+the_lists : (g : Over) (c : After-publish g) → HandlesLists g.S.SendEnd g.S.End.RingEnd (moment_of g c) c.self.inside.lists.plans.items (first_of g c) (last_of g c)
 the_lists g c =
-    let P : List ListPlan → Type 0 = λ ps. HandlesLists g.S.SendEnd g.S.End.RingEnd (moment_of g c) ps (first_of g c) (last_of g c) in
-    subst P c.as_slice.ensures.value c.sample_lists-accepted.ensures.handled
+    let E = g.S.SendEnd in
+    let R = g.S.End.RingEnd in
+    let sampled : Stage g.row.S.Denot = record { end = c.sample_lists-accepted.new.end; tracks = c.sample_lists-accepted.new.tracks; taken = c.sample_lists-accepted.result.0; next = c.sample_lists-accepted.result.1 } in
+    let P : List ListPlan → Type 0 = λ ps. HandlesLists E R (moment_of g c) ps (first_of g c) sampled in
+    handles-published E R (moment_of g c) c.self.inside.lists.plans.items (first_of g c) sampled c.publish.new.self c.publish.ensures.sent_stays c.publish.ensures.grows
+    (subst P c.as_slice.ensures.value c.sample_lists-accepted.ensures.handled)
 
 -- where none of the lists is due
 pub invariant_of-self : goal.invariant_of-self
@@ -56,7 +60,7 @@ returns-then-self-clause-taken g c = λ past stands.
 -- where the lists had their turns
 pub invariant_of-self-2 : goal.invariant_of-self-2
 invariant_of-self-2 g c =
-    let w : After-sample_lists-accepted g = (goal.at.invariant_of-self-2 g c).After-sample_lists-accepted in
+    let w : After-publish g = (goal.at.invariant_of-self-2 g c).After-publish in
     IsSampler-handled g.S.SendEnd g.S.End.RingEnd (moment_of g w) c.self.inside.image_len c.self.inside.segments.items c.self.inside.lists.plans.items (first_of g w) (last_of g w) c.self.inside.triggers c.self.inside.soonest c.soonest-self-inside.result
     c.self.invariant (the_lists g w) (omega (arith, c.sample_lists-accepted.ensures.next, ap (λ (ps : List ListPlan). length ps) c.as_slice.ensures.value)) c.sample_lists-accepted.auto.tracks (omega (arith, c.self.invariant.limit, c.requires.more, ap (λ (s : SamplerState _). s.triggers) c.self.view_is)) c.soonest-self-inside.ensures
 
@@ -64,11 +68,11 @@ pub returns-clause-taken : goal.returns-clause-taken
 returns-clause-taken g c = λ past stands.
     let E = g.S.SendEnd in
     let R = g.S.End.RingEnd in
-    let w : After-sample_lists-accepted g = (goal.at.returns-clause-taken g c).After-sample_lists-accepted in
+    let w : After-publish g = (goal.at.returns-clause-taken g c).After-publish in
     let before : SamplerState g.row.S.Denot = record { channel = c.self.inside.channel; segments = c.self.inside.segments.items; plans = c.self.inside.lists.plans.items; end = c.self.inside.end; tracks = take (length c.self.inside.lists.plans.items) c.self.inside.lists.tracks; triggers = c.self.inside.triggers; accepted = c.self.inside.accepted } in
-    let after : SamplerState g.row.S.Denot = record { channel = c.self.inside.channel; segments = c.self.inside.segments.items; plans = c.self.inside.lists.plans.items; end = c.sample_lists-accepted.new.end; tracks = take (length c.self.inside.lists.plans.items) c.sample_lists-accepted.new.tracks; triggers = c.self.inside.triggers + 1; accepted = c.sample_lists-accepted.result.1 } in
+    let after : SamplerState g.row.S.Denot = record { channel = c.self.inside.channel; segments = c.self.inside.segments.items; plans = c.self.inside.lists.plans.items; end = c.publish.new.self; tracks = take (length c.self.inside.lists.plans.items) c.sample_lists-accepted.new.tracks; triggers = c.self.inside.triggers + 1; accepted = c.sample_lists-accepted.result.1 } in
     let Old : SamplerState g.row.S.Denot → Type 0 = λ s. StandsAfter E R s past in
     let New : SamplerState g.row.S.Denot → Type 0 = λ s. TakesTrigger E R s after c.sample_lists-accepted.result.0 past (image_in s.channel s.segments c.args.memory) c.args.stamp in
     subst New c.self.view_is
     (takes-trigger E R before after past (image_in c.self.inside.channel c.self.inside.segments.items c.args.memory) c.args.stamp c.self.inside.lists.tracks c.sample_lists-accepted.new.tracks c.sample_lists-accepted.result.0
-    c.self.inside.segments.items c.self.invariant.plans_of c.self.invariant.rising (subst Old (sym c.self.view_is) stands) (the_lists g w) refl (g.met.S.SendEnd.enough c.self.inside.end) refl refl refl refl c.sample_lists-accepted.ensures.capacity_stays)
+    c.self.inside.segments.items c.self.invariant.plans_of c.self.invariant.rising (subst Old (sym c.self.view_is) stands) (the_lists g w) refl (g.met.S.SendEnd.enough c.self.inside.end) refl refl refl refl (c.publish.ensures.capacity_stays ∙ c.sample_lists-accepted.ensures.capacity_stays))
