@@ -8,6 +8,8 @@ mod filled_buffer;
 #[cfg(test)]
 mod first_path;
 #[cfg(test)]
+mod frames_paged;
+#[cfg(test)]
 mod frames_sampled;
 #[cfg(test)]
 mod frames_through;

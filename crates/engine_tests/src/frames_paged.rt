@@ -1,0 +1,113 @@
+//! Frames of a sampler over a ring of frames, and of replies, as they go out of a page.
+use crate::same::same;
+use crate::stores::two_odts;
+use daq_engine::sampler_over;
+use frame_page::FramePage;
+use frame_ring::limits::MIN_ROOM;
+use frame_ring::{FrameRing, FrameTake, Front, Head};
+use std::process::Abort;
+use std::test::Fail;
+use xcp_base::ChannelId;
+
+/// The image of each trigger.
+const IMAGE: [u8; 4] = [0xAA, 0xBB, 0xCC, 0xDD];
+
+/// Takes the first sample of a ring into a page, if there is one and it finds room.
+fn take_into(page: &mut FramePage<u8>, ring: &mut FrameTake) -> bool {
+    let Some(head) = ring.look() else {
+        return false;
+    };
+    let Head::Sample {
+        list: _,
+        packets,
+        len,
+    } = head
+    else {
+        return false;
+    };
+    if head.blocks() > page.free() || !page.has_place() {
+        return false;
+    }
+    page.take_sample(ring, packets, len, 1);
+    true
+}
+
+/// Lays out a positive reply of two bytes, if it finds room.
+fn reply_into(page: &mut FramePage<u8>) -> bool {
+    if page.free() == 0 || !page.has_place() {
+        return false;
+    }
+    page.put_reply(&[0xFF, 0][..], 0);
+    true
+}
+
+/// Hands as many frames as find room over to a buffer, as a transport would.
+fn send_into(page: &mut FramePage<u8>, buffer: &mut [u8]) -> Front {
+    let front = page.peek(buffer);
+    page.sent(front.count);
+    front
+}
+
+/// Compares what goes into a buffer with the frames that are wanted.
+fn frames_go(rt: &impl Abort, page: &mut FramePage<u8>, room: usize, wanted: &[u8], what: &str) {
+    let mut buffer = [0; 64];
+    let room = room.min(64);
+    let front = send_into(page, &mut buffer[..room]);
+    let len = front.len.min(room);
+    same(rt, &buffer[..len], wanted, "a page", what);
+}
+
+#[test]
+fn a_sample_goes_out_in_several_datagrams(rt: HostRuntime) -> Result<(), Fail> {
+    let store = two_odts(rt.alloc())?;
+    let (send, mut take) = FrameRing::new(rt.alloc(), 64, MIN_ROOM)?;
+    let mut sampler = sampler_over(rt.alloc(), &store, ChannelId::at(0), send)?;
+    let mut page = FramePage::new(rt.alloc(), 10, 3)?;
+    let row = "a page of ten blocks";
+    let _ = sampler.trigger(&IMAGE, 5)?;
+    let first = take_into(&mut page, &mut take);
+    let _ = sampler.trigger(&IMAGE, 6)?;
+    let rest = (
+        reply_into(&mut page),
+        take_into(&mut page, &mut take),
+        page.free(),
+    );
+    same(
+        &rt,
+        (first, rest),
+        (true, (true, false, 4)),
+        row,
+        "a sample of five blocks, a reply of one, a sample",
+    );
+    // the first frame has 11 bytes, so no second one finds room in 17
+    frames_go(
+        &rt,
+        &mut page,
+        17,
+        &[7, 0, 0, 0, 0, 5, 0, 0, 0, 0xAA, 0xBB],
+        "the first frame of the sample",
+    );
+    frames_go(
+        &rt,
+        &mut page,
+        64,
+        &[3, 0, 1, 0, 1, 0xCC, 0xDD, 2, 0, 2, 0, 0xFF, 0],
+        "its second one, and the reply",
+    );
+    let freed = (page.free(), take_into(&mut page, &mut take));
+    same(&rt, freed, (10, true), row, "room behind what was sent");
+    page.discard();
+    let _ = sampler.trigger(&IMAGE, 7)?;
+    let taken = take_into(&mut page, &mut take);
+    same(&rt, taken, true, row, "a sample behind what was discarded");
+    frames_go(
+        &rt,
+        &mut page,
+        64,
+        &[
+            7, 0, 3, 0, 0, 7, 0, 0, 0, 0xAA, 0xBB, 3, 0, 4, 0, 1, 0xCC, 0xDD,
+        ],
+        "its frames, with the CTR behind what was sent",
+    );
+    Ok(())
+}

@@ -1,0 +1,5 @@
+pub mod UnitLemmas
+pub mod TakeLemmas
+pub mod ShownLemmas
+pub mod SentLemmas
+pub mod ReplyLemmas

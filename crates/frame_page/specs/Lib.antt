@@ -1,0 +1,5 @@
+pub mod Laid
+pub mod Pages
+pub mod Inner
+pub mod Taking
+pub mod Showing

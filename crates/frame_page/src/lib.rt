@@ -1,0 +1,14 @@
+//! A page of frames that wait for the transport: those of samples, as they came out of rings of
+//! frames, and of replies. They are numbered where they are handed over.
+#![tactic(auto)]
+
+mod page;
+mod peeking;
+mod replying;
+mod sending;
+mod taking;
+mod unit;
+
+pub use page::FramePage;
+pub use replying::REPLY_BLOCKS;
+pub use unit::Unit;
