@@ -1,7 +1,7 @@
 //! A sampler over a ring of frames.
 ghost use Rattle.std.specs.Prelude.{◌≡◌, IfOk};
 
-use crate::frames_through::taken;
+use crate::frames_through::item_comes;
 use crate::same::same;
 use crate::stores::two_odts;
 use channel_ring::SendEnd;
@@ -32,20 +32,15 @@ fn sample_comes(
     pid: u8,
     stamp: u8,
 ) -> Result<(), Fail> {
-    let Some((head, frames)) = taken(alloc, take)? else {
-        return Err(Fail::from("no sample"));
-    };
-    let wanted = Head::Sample {
+    let head = Head::Sample {
         list: 0,
         packets: 2,
         len: 18,
     };
-    same(rt, head, wanted, "a sample", "its head");
-    let wanted = [
+    let frames = [
         7, 0, 0, 0, pid, stamp, 0, 0, 0, 0xAA, 0xBB, 3, 0, 0, 0, 1, 0xCC, 0xDD,
     ];
-    same(rt, frames.as_slice(), &wanted[..], "a sample", "its frames");
-    Ok(())
+    item_comes(rt, alloc, take, head, &frames[..])
 }
 
 #[test]
@@ -101,8 +96,7 @@ fn a_sampler_sends_samples_as_frames(rt: HostRuntime) -> Result<(), Fail> {
         "behind the stop",
     );
     sample_comes(&rt, rt.alloc(), &mut take, 0x00, 9)?;
-    let marker = taken(rt.alloc(), &mut take)?.map(|found| found.0);
-    same(&rt, marker, Some(Head::Marker { list: 0 }), row, "the stop");
+    item_comes(&rt, rt.alloc(), &mut take, Head::Marker { list: 0 }, &[])?;
     same(&rt, take.look(), None, row, "behind the stop marker");
     same(&rt, sampler.room(), 8, row, "blocks that are free");
     Ok(())

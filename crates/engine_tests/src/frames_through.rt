@@ -81,7 +81,7 @@ fn len_of(head: Head) -> usize {
 }
 
 /// The first item of a ring, which is taken, and its frames.
-pub fn taken(alloc: Global, take: &mut FrameTake) -> Result<Option<(Head, Vec<u8>)>, Fail>
+fn taken(alloc: Global, take: &mut FrameTake) -> Result<Option<(Head, Vec<u8>)>, Fail>
     ensures ring_stays { ⟦<FrameTake as TakeEnd>⟧.ring take.new
         ≡ ⟦<FrameTake as TakeEnd>⟧.ring take.old }
 {
@@ -102,6 +102,25 @@ pub fn taken(alloc: Global, take: &mut FrameTake) -> Result<Option<(Head, Vec<u8
     Ok(Some((head, frames.to_vec(alloc)?)))
 }
 
+/// Takes the first item of a ring, and compares it with one of this head and these frames.
+pub fn item_comes(
+    rt: &impl Abort,
+    alloc: Global,
+    take: &mut FrameTake,
+    head: Head,
+    frames: &[u8],
+) -> Result<(), Fail>
+    ensures ring_stays { ⟦<FrameTake as TakeEnd>⟧.ring take.new
+        ≡ ⟦<FrameTake as TakeEnd>⟧.ring take.old }
+{
+    let Some((shown, bytes)) = taken(alloc, take)? else {
+        return Err(Fail::from("no item"));
+    };
+    same(rt, shown, head, "an item", "its head");
+    same(rt, bytes.as_slice(), frames, "an item", "its frames");
+    Ok(())
+}
+
 /// Compares the first item of a ring with a sample of list 2 of this number.
 fn sample_comes(
     rt: &impl Abort,
@@ -112,23 +131,12 @@ fn sample_comes(
     ensures ring_stays { ⟦<FrameTake as TakeEnd>⟧.ring take.new
         ≡ ⟦<FrameTake as TakeEnd>⟧.ring take.old }
 {
-    let Some((head, frames)) = taken(alloc, take)? else {
-        return Err(Fail::from("no sample"));
-    };
-    let wanted = Head::Sample {
+    let head = Head::Sample {
         list: 2,
         packets: 1,
         len: 7,
     };
-    same(rt, head, wanted, "a sample", "its head");
-    same(
-        rt,
-        frames.as_slice(),
-        &[3, 0, 0, 0, 0, number, 0xFF][..],
-        "a sample",
-        "its frames",
-    );
-    Ok(())
+    item_comes(rt, alloc, take, head, &[3, 0, 0, 0, 0, number, 0xFF][..])
 }
 
 /// Compares the first item of a ring with a stop marker of list 2.
@@ -136,10 +144,7 @@ fn marker_comes(rt: &impl Abort, alloc: Global, take: &mut FrameTake) -> Result<
     ensures ring_stays { ⟦<FrameTake as TakeEnd>⟧.ring take.new
         ≡ ⟦<FrameTake as TakeEnd>⟧.ring take.old }
 {
-    let head = taken(alloc, take)?.map(|found| found.0);
-    let wanted = Some(Head::Marker { list: 2 });
-    same(rt, head, wanted, "a stop marker", "its head");
-    Ok(())
+    item_comes(rt, alloc, take, Head::Marker { list: 2 }, &[])
 }
 
 #[test]

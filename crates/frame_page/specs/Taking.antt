@@ -29,6 +29,10 @@ pub record TakesSample {O : Type 0} (t u : TakeState) (a b : PageState O) (origi
   pub ring : u.ring ≡ t.ring
   pub page :
       b ≡ record a {
-        waits = a.waits ++ record { origin = origin; packets = sample.packets; blocks = cost (Sample sample) } ∷ [];
+        waits = a.waits ++ record {
+          origin = origin;
+          packets = sample.packets;
+          blocks = cost (Sample sample);
+        } ∷ [];
         used = a.used + cost (Sample sample);
       }
