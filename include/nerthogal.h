@@ -71,8 +71,8 @@
  * Memory
  *   - A slave with n event channels and their tasks, and with l DAQ lists that have o ODTs and e
  *     entries in all, has at most so many bytes of malloc's. Only tested, by session_test.c:
- *         the slave, from its opening on   32000 + 24500 n + a2l_len; with NG_RING_BYTES
- *                                          32000 + 29500 n + a2l_len
+ *         the slave, from its opening on   47000 + 24500 n + a2l_len; with NG_RING_BYTES
+ *                                          47000 + 29500 n + a2l_len
  *         its lists, until they are freed  40 l + 24 o + 16 e
  *         a measurement                    3000 n + 160 l + 100 o + 80 e, and for each ring 560
  *                                          times its capacity, or with NG_RING_BYTES its capacity
@@ -80,7 +80,7 @@
  *     ng_slave_close. A task that took no trigger since, or whose stops found no room, keeps it
  *     longer; then it stands beside the next one. There are never more than two.
  *   - For example, two event channels of 64 samples and 15 lists of 8 ODTs of 15 entries take some
- *     315 kB while they are measured. 16 event channels of 1024 samples and 16 lists of 8 ODTs of 32
+ *     325 kB while they are measured. 16 event channels of 1024 samples and 16 lists of 8 ODTs of 32
  *     entries take at most 10.1 MB, and with two measurements 19.7 MB.
  *
  * No call aborts, and none reads or writes beyond the given lengths, whatever bytes and numbers it
@@ -114,7 +114,7 @@ extern "C" {
 #define NG_REPLY_BYTES 8u       /* room that the answer to a command needs */
 #define NG_PUMP_BYTES 4352u     /* room that a pump needs: 8 samples of 8 frames of 4 + 64 bytes */
 #define NG_PUMP_ALL_BYTES 544u  /* room that ng_pump_all needs: a sample of 8 frames */
-#define NG_PEEK_BYTES 544u      /* room that a peek needs: a sample of 8 frames of 4 + 64 bytes */
+#define NG_PEEK_BYTES 259u      /* room that a peek never lacks: the longest frame, 4 + 255 bytes */
 #define NG_MAX_NAME 56u         /* bytes of a slave's and of an event channel's name: 0 to 56 */
 
 /* What a call returns: one of the numbers below. */
@@ -597,16 +597,18 @@ ng_status ng_slave_datagram(ng_slave *slave, const uint8_t *bytes, size_t len, u
  * DISCONNECT; but nothing is replied. While no master is connected, the lists are as they are. What
  * is held of a frame is dropped: the next byte of a stream is the first of a frame. What waits to
  * be sent is thrown away, also what ng_slave_peek laid out, so that it never reaches another
- * master; its samples are left. The next frame that is sent has the CTR behind that of the last one
- * that was. NG_EMPTY if *slave is empty. Proved: all of this. Calls free. */
+ * master; its samples are left, also one of which only some frames were sent. The next frame that
+ * is sent has the CTR behind that of the last one that was. NG_EMPTY if *slave is empty. Proved: all
+ * of this. Calls free. */
 ng_status ng_slave_hang_up(ng_slave *slave);
 
 /* Takes samples off the rings, and lays frames that wait out in buffer[0] to buffer[*len - 1]: as
- * many replies and samples as find room, whole, the oldest first. They wait on until ng_slave_sent:
- * the next peek lays out the same first. From frame to frame of a slave the counter rises by one.
+ * many as find room, whole, the oldest first; so a sample of several packets may go out in several
+ * datagrams. They wait on until ng_slave_sent: the next peek lays out the same first. From frame to
+ * frame of a slave the counter rises by one.
  *
  *   NG_EMPTY         *slave is empty
- *   NG_SMALL_BUFFER  buffer_cap is below NG_PEEK_BYTES
+ *   NG_SMALL_BUFFER  buffer_cap is below 4 and the greater of max_cto and 64 (MAX_DTO)
  *   NG_OK            the frames stand in the buffer; *len is 0 if nothing waits
  *
  * They are checked in this order. Except on NG_OK, nothing changes. On NG_OK, the bytes after the

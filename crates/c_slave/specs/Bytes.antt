@@ -7,13 +7,13 @@ use Rattle.c_slave.specs.declared.content.Content.{Content}
 use Rattle.c_engine.specs.declared.status.Status.{Status}
 use Rattle.c_engine.specs.declared.status.Status.TheVariants as status
 use Rattle.slave.specs.Hearing.{is_spent}
+use Rattle.slave.specs.Taking.{least_peek}
 use Rattle.slave_lending.specs.Bytes.{HangsUp, HearsBytes, RefusesBytes, TakesBytes}
 use Rattle.slave_lending.specs.Sending.{Peeks, Sends}
 use Rattle.slave_lending.specs.States.{LendingSlaveState}
 use Rattle.session.specs.Past.{Given}
 pub use Rattle.session.specs.Standing.{given_by}
 use Rattle.c_slave.specs.OnHandles.{OnSlave}
-use Rattle.c_slave.specs.declared.sending_calls.TheConstants.{PEEK_BYTES}
 
 -- the buffer of what is shown, and how many bytes of it that takes up
 pub record ShownRoom : Type 0 where
@@ -45,9 +45,10 @@ module _ {S T F : Type 0} (take : TakeGhosts T F) where
   abbrev pub ShowsWaiting
       : LendingSlaveState S T → LendingSlaveState S T → ShownRoom → ShownRoom → Status → Type 0
   ShowsWaiting s t before after status.Ok =
-      (PEEK_BYTES ≤ length before.buffer) × Peeks take s t before.buffer after.buffer after.len
+      (least_peek s.slave.session.profile ≤ length before.buffer)
+      × Peeks take s t before.buffer after.buffer after.len
   ShowsWaiting s t before after status.SmallBuffer =
-      (length before.buffer < PEEK_BYTES) × (t ≡ s) × (after ≡ before)
+      (length before.buffer < least_peek s.slave.session.profile) × (t ≡ s) × (after ≡ before)
   ShowsWaiting s t before after _ = ⊥
 
 module _ (items : Items) (bytes : Bytes) where

@@ -1,5 +1,6 @@
 -- What a slave is about.
-use Rattle.std.specs.Prelude.{◌≡◌, true, false, length, Option}
+use Rattle.std.specs.Prelude.{◌≡◌, true, false, Option}
+use Rattle.slave_outbox.specs.Outboxes.{bytes_in}
 use Rattle.c_slave.specs.declared.content.Content.{Content}
 use Rattle.c_engine.specs.declared.status.Status.{Status}
 use Rattle.c_engine.specs.declared.status.Status.TheVariants as status
@@ -14,7 +15,7 @@ module _ {S T : Type 0} where
     pub connected : state.connected ≡ s.slave.session.connected
     pub busy : state.measuring ≡ true → Busy s.slave.session
     pub idle : state.measuring ≡ false → Idle s.slave.session
-    pub waiting : state.waiting ≡ length s.slave.outbox.waits
+    pub waiting : state.waiting ≡ bytes_in s.slave.outbox.waits
 
 -- what ng_slave_status does to a handle: it is told, and the slave is as it was
 abbrev pub TellsState : Option Content → Option Content → StateOut → StateOut → Status → Type 0

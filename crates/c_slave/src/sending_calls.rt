@@ -12,17 +12,13 @@ use daq_engine::Ring;
 use slave_lending::LendingSlave;
 use std::alloc::Global;
 
-/// The bytes that the longest sample takes: 8 packets of 64 bytes, each behind a header of 4. A
-/// buffer of so many shows at least what waits first.
-pub const PEEK_BYTES: usize = 544;
-
-/// Shows what waits, in the front of the buffer.
+/// Shows what waits, in the front of a buffer in which one frame finds room, whichever waits first.
 fn peek<R: Ring>(slave: &mut LendingSlave<R>, buffer: &mut [u8], len: &mut usize) -> Status
     ensures { ShowsWaiting R.Take.TakeEnd slave.old slave.new
         (record { buffer = buffer.old; len = len.old })
         (record { buffer = buffer.new; len = len.new }) result }
 {
-    if buffer.len() < PEEK_BYTES {
+    if buffer.len() < slave.least_peek() {
         return Status::SmallBuffer;
     }
     *len = slave.peek(buffer);

@@ -2,4 +2,4 @@ pub mod UnitLemmas
 pub mod TakeLemmas
 pub mod ShownLemmas
 pub mod SentLemmas
-pub mod ReplyLemmas
+pub mod PutLemmas

@@ -1,5 +1,6 @@
 -- Units, one behind another, and what stands in their blocks.
 use Rattle.std.proofs.Common.{◌≡◌, ℕ, zero, suc, ◌+◌, ◌≤◌, List, [], ◌∷◌, ◌++◌, length, take, drop, refl, sym, ap, ◌∙◌, subst, arith, take-append-drop}
+use Rattle.std.specs.Prelude.{Some, slice_get}
 use Rattle.std.proofs.lemmas.List.{length-append, length-drop, length-take, take_all}
 use borrow.Rule.Slice.PartMut.{put_mid}
 use Rattle.frame_ring.specs.Reading.{flat, packets_in}
@@ -7,6 +8,7 @@ use Rattle.frame_ring.specs.Sending.{AreFrames}
 use Rattle.frame_writer.specs.Frame.{unnumbered}
 use Rattle.frame_ring.proofs.FrameLemmas.{packets-read}
 use Rattle.frame_page.specs.Inner.{AreUnits, IsUnit}
+use Rattle.frame_page.specs.Laid.{Laid}
 use Rattle.frame_page.specs.Pages.{laid_in, waits_in}
 use Rattle.frame_page.specs.declared.unit.Unit.{Unit}
 
@@ -68,3 +70,14 @@ pub read_front : (bytes : List ℕ) (count len : ℕ) (frames : AreFrames (take 
 read_front bytes count len frames =
     let is : bytes ≡ unnumbered frames.packets ++ drop len bytes = sym (take-append-drop len bytes) ∙ ap (λ b. b ++ drop len bytes) frames.of.are in
     ap (packets_in count) is ∙ ap (λ n. packets_in n (unnumbered frames.packets ++ drop len bytes)) frames.of.many ∙ packets-read frames.packets (drop len bytes) frames.of.each
+
+-- the one at a place is from where its unit is
+pub origin_at : {O : Type 0} (blocks : List (List ℕ)) (us : List (Unit O)) (i : ℕ) (u : Unit O) (x : Laid O) → slice_get us i ≡ Some u → slice_get (waits_in blocks us) i ≡ Some x → u.origin ≡ x.origin
+origin_at blocks [] i u x there at = absurd (none i there) where
+  none : {A : Type 0} {a : A} (i : ℕ) → slice_get [] i ≡ Some a → ⊥
+  none zero e = cc
+  none (suc i) e = cc
+origin_at blocks (v ∷ vs) zero u x there at = sym (ap (λ (w : Unit _). w.origin) (same v u there)) ∙ ap (λ (w : Laid _). w.origin) (same (laid_in blocks v) x at) where
+  same : {A : Type 0} (a b : A) → Some a ≡ Some b → a ≡ b
+  same a b e = cc
+origin_at blocks (v ∷ vs) (suc i) u x there at = origin_at (drop v.blocks blocks) vs i u x there at

@@ -4,6 +4,7 @@
 
 mod page;
 mod peeking;
+mod putting;
 mod replying;
 mod sending;
 mod taking;

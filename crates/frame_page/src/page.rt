@@ -1,5 +1,7 @@
 //! What waits for the transport, in blocks.
-ghost use Rattle.std.specs.Prelude.{◌≡◌, ◌-◌, ◌<◌, ◌≤◌, [], IfOk, false, length, true};
+ghost use Rattle.std.specs.Prelude.{◌≡◌, ◌-◌, ◌<◌, ◌≤◌, [], IfOk, Some, false, length, slice_get};
+ghost use Rattle.std.specs.Prelude.{true};
+ghost use Rattle.frame_page.specs.Laid.{Laid};
 
 use crate::unit::Unit;
 use circular_buffer::HeapCircularBuffer;
@@ -72,5 +74,23 @@ impl<O: Copy> FramePage<O> {
         ensures no { result ≡ false → self.now.most ≤ length self.now.waits }
     {
         self.units.len() < self.units.capacity()
+    }
+
+    /// How many samples and replies wait.
+    pub fn len(&self) -> usize
+        ensures { result ≡ length self.now.waits }
+    {
+        self.units.len()
+    }
+
+    /// Where the sample or the reply is from that waits at place `i`, of the oldest first.
+    pub fn origin(&self, i: usize) -> O
+        requires place { i < length self.now.waits }
+        ensures { (x : Laid O) → slice_get self.now.waits i ≡ Some x → result ≡ x.origin }
+    {
+        let Some(unit) = self.units.get(i) else {
+            unreachable!()
+        };
+        unit.origin
     }
 }

@@ -4,9 +4,8 @@ ghost use Rattle.frame_writer.specs.Frame.{frame};
 ghost use Rattle.frame_ring.specs.Records.{blocks_for};
 
 use crate::page::FramePage;
-use crate::unit::Unit;
-use frame_ring::{BLOCK, first_blocks};
-use frame_writer::place;
+use crate::putting::place_frame;
+use frame_ring::BLOCK;
 use xcp_base::limits::MAX_CTO;
 
 /// The blocks of the longest reply.
@@ -20,9 +19,7 @@ fn framed(packet: &[u8]) -> ([u8; REPLY_BLOCKS * BLOCK], usize)
     ensures room { length result.0 ≡ 264 }
 {
     let mut bytes = [0; REPLY_BLOCKS * BLOCK];
-    let header = [packet.len() as u8, 0, 0, 0];
-    let body = place(&mut bytes, 0, &header[..]);
-    let end = place(&mut bytes, body, packet);
+    let end = place_frame(&mut bytes, 0, packet);
     (bytes, end)
 }
 
@@ -43,16 +40,6 @@ impl<O: Copy> FramePage<O> {
         } }
     {
         let (bytes, len) = framed(packet);
-        let blocks = (len + BLOCK - 1) / BLOCK;
-        let start = self.end;
-        self.blocks[start..start + blocks].copy_from_slice(first_blocks(&bytes, blocks));
-        let _ = self.units.push_back(Unit {
-            origin,
-            blocks,
-            at: 0,
-            len,
-            count: 1,
-        });
-        self.end = start + blocks;
+        self.put(&bytes, len, 1, origin);
     }
 }

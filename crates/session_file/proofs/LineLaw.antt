@@ -1,5 +1,5 @@
 -- The grammar of a script and the function that computes it agree.
-use Rattle.std.proofs.Common.{◌≡◌, ◌<◌, ◌≤◌, ◌*◌, ◌==◌, ◌&&◌, not, ℕ, Bool, true, false, if◌then◌else◌, List, [], ◌∷◌, length, get_or, codes, Option, Some, None, option_map, refl, sym, ap, ◌∙◌, subst, arith, ne_eqb}
+use Rattle.std.proofs.Common.{◌≡◌, ◌<◌, ◌*◌, ◌==◌, ◌&&◌, not, ℕ, Bool, true, false, if◌then◌else◌, List, [], ◌∷◌, length, get_or, codes, Option, Some, None, option_map, refl, sym, ap, ◌∙◌, subst, arith, ne_eqb}
 use Rattle.std.specs.List.{All}
 use Rattle.std.specs.Str.{all_ascii_digits}
 use Rattle.std.proofs.lemmas.Bool.{and_parts}
@@ -18,8 +18,9 @@ use Rattle.run_file.proofs.RunLemmas.{packet_of-IsPacketText, packet_read, some_
 use Rattle.run_file.proofs.StepLaw.{IsDecimal-number_of, IsImage-image_of, if_then, map-some, same_verb, spaced-words_of}
 use Rattle.run_file.proofs.WordLemmas.{has_word}
 use Rattle.run_file.proofs.StepWhole.{image_of-image, image_one_word, number_of-decimal}
-use Rattle.session_file.specs.Lines.{IsLineText, IsMaster, IsMemory, IsSlice, IsTrigger, LineData, master, memory, trigger, send, lose, hang_up}
-use Rattle.session_file.specs.LineOf.{line_of, line_of_words, master_line, memory_line, other_line, slice_of, slices_of, trigger_line, trigger_with, verb_line, word_line}
+use Rattle.session_file.specs.Lines.{IsLineText, IsMaster, IsMemory, IsSlice, IsSendIn, IsTrigger, LineData, master, memory, trigger, send, send_in, lose, hang_up}
+use Rattle.session_file.specs.declared.limits.TheConstants.{ROOM}
+use Rattle.session_file.specs.LineOf.{line_of, line_of_words, master_line, memory_line, one_word_line, other_line, send_line, slice_of, slices_of, trigger_line, trigger_with, verb_line, word_line}
 
 -- what is read of one word is a line of the grammar
 word_read : (verb : List ℕ) (line : LineData) → word_line verb ≡ Some line → IsLineText verb line
@@ -110,9 +111,23 @@ trigger_read verb c s first more line h =
     } in
     subst (IsLineText (spaced (verb ∷ c ∷ s ∷ first ∷ more))) read.6 is
 
+send_read : (word : List ℕ) (line : LineData) → send_line word ≡ Some line → IsLineText (spaced (codes "send" ∷ word ∷ [])) line
+send_read word line h =
+    let read = map-some send_in (number_of ROOM word) line h in
+    let number = IsDecimal-number_of ROOM read.0 word read.1 in
+    let is : IsSendIn (spaced (codes "send" ∷ word ∷ [])) read.0 = record { word = word; words = refl; number = number.0; fits = number.1 } in
+    subst (IsLineText (spaced (codes "send" ∷ word ∷ []))) read.2 is
+
+one_read : (verb word : List ℕ) (line : LineData) → one_word_line verb word ≡ Some line → IsLineText (spaced (verb ∷ word ∷ [])) line
+one_read verb word line h = by_verb (is_verb verb (codes "send")) refl h
+  where
+    by_verb : (b : Bool) → is_verb verb (codes "send") ≡ b → (if b then send_line word else master_line verb word) ≡ Some line → IsLineText (spaced (verb ∷ word ∷ [])) line
+    by_verb true e h = subst (λ v. IsLineText (spaced (v ∷ word ∷ [])) line) (sym (same_verb verb (codes "send") e)) (send_read word line h)
+    by_verb false e h = master_read verb word line h
+
 other_read : (verb word : List ℕ) (words : List (List ℕ)) (line : LineData) → other_line verb (word ∷ words) ≡ Some line
     → IsLineText (spaced (verb ∷ word ∷ words)) line
-other_read verb word [] line h = master_read verb word line h
+other_read verb word [] line h = one_read verb word line h
 other_read verb c (s ∷ []) line h = cc h
 other_read verb c (s ∷ first ∷ more) line h = trigger_read verb c s first more line h
 
@@ -208,6 +223,16 @@ decimal_one_word word n d =
     All-from_get_or (λ b. is_space b ≡ false) word 0
     (λ i l. ne_eqb (get_or word i 0) 32 (not_in_digits own word 32 (own.from word d.digits.1) (λ r. omega (arith, r)) i l))
 
+no_space_in_send : All (λ b. is_space b ≡ false) (codes "send")
+no_space_in_send = All-from_recursion (λ b. is_space b ≡ false) (codes "send") (refl, (refl, (refl, (refl, tt))))
+
+line_of-send_in : (text : List ℕ) (room : ℕ) → IsSendIn text room → line_of text ≡ Some (send_in room)
+line_of-send_in text room is =
+    let words : words_of text ≡ codes "send" ∷ is.word ∷ [] =
+    ap words_of is.words ∙ slice_split_at is_space (codes "send") 32 is.word no_space_in_send refl
+    ∙ ap (λ ws. codes "send" ∷ ws) (slice_split_none is_space is.word (decimal_one_word is.word room is.number)) in
+    ap line_of_words words ∙ ap (option_map send_in) (number_of-decimal ROOM room is.word is.number is.fits)
+
 no_space_in_trigger : All (λ b. is_space b ≡ false) (codes "trigger")
 no_space_in_trigger = All-from_recursion (λ b. is_space b ≡ false) (codes "trigger") (refl, (refl, (refl, (refl, (refl, (refl, (refl, tt)))))))
 
@@ -230,6 +255,7 @@ line_of-IsLineText text (master (b ∷ packet)) is = line_of-master text b packe
 line_of-IsLineText text (trigger c s slices) is = line_of-trigger text c s slices is
 line_of-IsLineText text (memory slices) is = line_of-memory text slices is
 line_of-IsLineText text send is = ap line_of is
+line_of-IsLineText text (send_in room) is = line_of-send_in text room is
 line_of-IsLineText text lose is = ap line_of is
 line_of-IsLineText text hang_up is = ap line_of is
 

@@ -7,9 +7,9 @@ use Rattle.frame_writer.specs.Frame.{text}
 use Rattle.session.specs.Past.{Given}
 use Rattle.session.specs.declared.profile.Profile.{Profile}
 use Rattle.slave.specs.Hearing.{IsHearing, MayOpen, is_before, most_before}
-use Rattle.slave.specs.Log.{Act, CameBack, Discarded, Heard, HungUp, Opened, Refused, Sent, Took, sent_units}
+use Rattle.slave.specs.Log.{Act, CameBack, Discarded, Heard, HungUp, Opened, Refused, Sent, Took, sent_laid}
 use Rattle.slave.specs.Taking.{is_take}
-use Rattle.session_file.specs.Lines.{LineData, master, memory, trigger, send, lose, hang_up}
+use Rattle.session_file.specs.Lines.{LineData, master, memory, trigger, send, send_in, lose, hang_up}
 use Rattle.slave.specs.Session.{sent_text}
 use Rattle.session_file.specs.Playing.{heard_by, masters}
 use Rattle.slave.proofs.ThinnedLemmas.{assoc}
@@ -21,6 +21,7 @@ masters-append (master packet ∷ xs) ys = ap (λ ps. packet ∷ ps) (masters-ap
 masters-append (trigger c stamp slices ∷ xs) ys = masters-append xs ys
 masters-append (memory slices ∷ xs) ys = masters-append xs ys
 masters-append (send ∷ xs) ys = masters-append xs ys
+masters-append (send_in room ∷ xs) ys = masters-append xs ys
 masters-append (lose ∷ xs) ys = masters-append xs ys
 masters-append (hang_up ∷ xs) ys = masters-append xs ys
 
@@ -48,7 +49,7 @@ is_silent HungUp = true
 is_silent Discarded = true
 
 -- acts that send nothing leave what was sent as it is
-units-stay : (d : Profile) (acts log : List Act) → list_all is_silent acts ≡ true → sent_units d (acts ++ log) ≡ sent_units d log
+units-stay : (d : Profile) (acts log : List Act) → list_all is_silent acts ≡ true → sent_laid d (acts ++ log) ≡ sent_laid d log
 units-stay d [] log are = refl
 units-stay d (Heard x ∷ acts) log are = units-stay d acts log are
 units-stay d (Refused packet code ∷ acts) log are = units-stay d acts log are

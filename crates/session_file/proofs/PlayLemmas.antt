@@ -1,19 +1,18 @@
 -- A slave goes on by what it hears, takes and sends.
 use Rattle.std.proofs.Common.{◌≡◌, ℕ, Bool, true, false, zero, suc, ◌+◌, ◌*◌, ◌≤◌, List, [], ◌∷◌, ◌++◌, append-nil, length, length-append, take as first, Result, Ok, Err, IfOk, OnOk, refl, sym, ap, ◌∙◌, subst, arith, inl, inr}
 use Rattle.std.specs.List.{list_all}
-use Rattle.std.proofs.lemmas.List.{length-map}
 use Rattle.channel_ring.specs.declared.ends.TakeEnd.{Ghosts as TakeGhosts}
-use Rattle.slave_outbox.specs.Outboxes.{has_waiting, packets_in, unit_of}
-use Rattle.slave_outbox.proofs.LaidLemmas.{whole_text}
+use Rattle.slave_outbox.specs.Outboxes.{has_waiting, packets_in}
+use Rattle.slave_outbox.proofs.LaidLemmas.{more_text}
 use Rattle.frame_writer.specs.Frame.{text}
 use Rattle.session.specs.Past.{Given}
 use Rattle.session.specs.declared.profile.Profile.{Profile}
 use Rattle.slave.specs.Hearing.{GoesBy, Hears, most_before}
 use Rattle.slave.specs.Finishing.{GivesBack}
 use Rattle.slave_channels.specs.Channels.{FinishedState, IsFinished}
-use Rattle.std.specs.Prelude.{Some}
+use Rattle.std.specs.Prelude.{Some, min}
 use Rattle.channel_ring.specs.declared.ends.RingEnd.{Ghosts as EndGhosts}
-use Rattle.slave.specs.Log.{Act, CameBack, Discarded, HungUp, Sent, discarding, losing, sending as sent_acts, sent_units, waits}
+use Rattle.slave.specs.Log.{Act, CameBack, Discarded, HungUp, Sent, discarding, losing, sending as sent_acts, sent_laid, waits}
 use Rattle.slave.specs.Standing.{SlaveStandsAfter, SlaveState}
 use Rattle.slave.specs.Taking.{TakesItems, most_taken}
 use Rattle.session_file.specs.Lines.{LineData, master}
@@ -28,11 +27,19 @@ pub if-ok-both : {A B : Type 0} (r : Result A B) (P Q R : A → Type 0) → ((x 
 if-ok-both (Ok x) P Q R f p q = f x p q
 if-ok-both (Err e) P Q R f p q = tt
 
-take-whole : {X : Type 0} (n : ℕ) (xs : List X) → length xs ≤ n → first n xs ≡ xs
-take-whole zero [] least = refl
-take-whole (suc n) [] least = refl
-take-whole zero (x ∷ xs) least = absurd (omega (arith, least))
-take-whole (suc n) (x ∷ xs) least = ap (λ ys. x ∷ ys) (take-whole n xs (omega (arith, least)))
+-- what is shown is no more than what waits
+first-none : {X : Type 0} (n : ℕ) → ◌≡◌ {A = List X} (first n []) []
+first-none zero = refl
+first-none (suc n) = refl
+
+first-min : {X : Type 0} (n : ℕ) (xs : List X) → first (min n (length xs)) xs ≡ first n xs
+first-min zero xs =
+    let none : min 0 (length xs) ≡ 0 = omega arith in
+    ap (λ n. first n xs) none
+first-min (suc n) [] = first-none (min (suc n) 0)
+first-min (suc n) (x ∷ xs) =
+    let same : min (suc n) (suc (length xs)) ≡ suc (min n (length xs)) = omega arith in
+    ap (λ k. first k (x ∷ xs)) same ∙ ap (λ ys. x ∷ ys) (first-min n xs)
 
 pub on_ok : {A E : Type 0} (r : Result A E) {P Q : Type 0} → (P → Q) → OnOk r P → OnOk r Q
 on_ok (Ok a) f p = f p
@@ -89,55 +96,38 @@ module _ {S T F : Type 0} (take : TakeGhosts T F) where
       let none = takes-nothing t.acts t.are in
       silent most_taken a b t.acts sent [] t.few t.goes none.0 none.1
 
-  -- all that waits is sent
-  text-puts : (a : SlaveState S T) (d : Profile) (log : List Act) (sent : List ℕ) → SlaveStandsAfter take d a log → sent ≡ sent_text d log
-      → sent ++ a.outbox.waits ≡ sent_text d (Sent (length a.outbox.units) ∷ log)
-  text-puts a d log sent stands so =
-      let n = length a.outbox.units in
-      let box = stands.parts.has.outbox in
-      let wait = waits d log in
-      let gone = sent_units d log in
-      let all : first n wait ≡ wait = take-whole n wait (omega (arith, ap length box.units, length-map wait unit_of)) in
-      ap (λ bs. bs ++ a.outbox.waits) so ∙ ap (λ bs. text 0 (packets_in gone) ++ bs) box.waiting
-      ∙ whole_text gone wait ∙ ap (λ ys. text 0 (packets_in (gone ++ ys))) (sym all)
+  -- the first frames that wait are sent
+  text-sends : (a : SlaveState S T) (d : Profile) (log : List Act) (sent : List ℕ) (n : ℕ) → SlaveStandsAfter take d a log → sent ≡ sent_text d log
+      → sent ++ text a.outbox.counter (packets_in (first n a.outbox.waits)) ≡ sent_text d (Sent n ∷ log)
+  text-sends a d log sent n stands so =
+      ap (λ bs. bs ++ text a.outbox.counter (packets_in (first n a.outbox.waits))) so
+      ∙ more_text a.outbox n (sent_laid d log) (waits d log) stands.parts.has.outbox
 
-  -- nothing waits
-  text-none : (a : SlaveState S T) (d : Profile) (log : List Act) (sent : List ℕ) → SlaveStandsAfter take d a log → sent ≡ sent_text d log → length a.outbox.units ≡ 0
-      → sent ++ a.outbox.waits ≡ sent_text d log
-  text-none a d log sent stands so none =
-      let box = stands.parts.has.outbox in
-      let units : length (waits d log) ≡ 0 = sym (length-map (waits d log) unit_of) ∙ sym (ap length box.units) ∙ none in
-      ap (λ bs. sent ++ bs) (box.waiting ∙ ap (λ ys. text (length (packets_in (sent_units d log))) (packets_in ys)) (empty (waits d log) units)) ∙ append-nil sent ∙ so where
-        empty : {X : Type 0} (xs : List X) → length xs ≡ 0 → xs ≡ []
-        empty [] is = refl
-        empty (x ∷ xs) is = absurd (omega (arith, is))
-
-  puts-some : (a b : SlaveState S T) (sent more : List ℕ) (n : ℕ) → n ≡ length a.outbox.units → more ≡ sent ++ a.outbox.waits → GoesBy take a b (sent_acts n)
+  sends-some : (a b : SlaveState S T) (sent more : List ℕ) (n : ℕ) → more ≡ sent ++ text a.outbox.counter (packets_in (first n a.outbox.waits)) → GoesBy take a b (sent_acts n)
       → Advances take 1 (sending a sent) (sending b more) []
-  puts-some a b sent more zero are is goes = record {
+  sends-some a b sent more zero is goes = record {
     lines = goes.0;
     acts = [];
     few = omega arith;
     heard = refl;
-    goes = λ d log so. record {
-      stands = log-goes a b [] goes d log so.stands;
-      text_is = is ∙ text-none a d log sent so.stands so.text_is (sym are);
-    };
+    goes = λ d log so. record { stands = log-goes a b [] goes d log so.stands; text_is = is ∙ append-nil sent ∙ so.text_is };
   }
-  puts-some a b sent more (suc n) are is goes = record {
+  sends-some a b sent more (suc n) is goes = record {
     lines = goes.0;
     acts = Sent (suc n) ∷ [];
     few = omega arith;
     heard = refl;
     goes = λ d log so. record {
       stands = log-goes a b (Sent (suc n) ∷ []) goes d log so.stands;
-      text_is = is ∙ text-puts a d log sent so.stands so.text_is ∙ ap (λ k. sent_text d (Sent k ∷ log)) (sym are);
+      text_is = is ∙ text-sends a d log sent (suc n) so.stands so.text_is;
     };
   }
 
-  pub puts : (a b : SlaveState S T) (sent more : List ℕ) → more ≡ sent ++ a.outbox.waits → GoesBy take a b (sent_acts (length a.outbox.units))
-      → Advances take 1 (sending a sent) (sending b more) []
-  puts a b sent more is goes = puts-some a b sent more (length a.outbox.units) refl is goes
+  pub sends : (a b : SlaveState S T) (sent more : List ℕ) → more ≡ sent ++ text a.outbox.counter (packets_in (first a.outbox.shown a.outbox.waits))
+      → GoesBy take a b (sent_acts (min a.outbox.shown (length a.outbox.waits))) → Advances take 1 (sending a sent) (sending b more) []
+  sends a b sent more is goes =
+      let n = min a.outbox.shown (length a.outbox.waits) in
+      sends-some a b sent more n (is ∙ ap (λ xs. sent ++ text a.outbox.counter (packets_in xs)) (sym (first-min a.outbox.shown a.outbox.waits))) goes
 
   -- the master is lost, if one was connected, and what waits is thrown away
   hangs-if : (a b : SlaveState S T) (sent : List ℕ) (some on : Bool) → GoesBy take a b (discarding some ++ losing on) → Advances take 2 (sending a sent) (sending b sent) []

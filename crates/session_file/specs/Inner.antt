@@ -8,7 +8,8 @@ use Rattle.session_file.specs.declared.memory_keys.MemoryKeys.{MemoryKeys}
 use Rattle.session_file.specs.declared.memory_keys.MemoryKeys.TheVariants as told
 use Rattle.session_file.specs.declared.values.Values.{Values}
 use Rattle.session_file.specs.Keys.{KeyValues, MemoryData, image, segments}
-use Rattle.session_file.specs.Lines.{LineData, master, memory, trigger, send, lose, hang_up}
+use Rattle.session_file.specs.Lines.{LineData, master, memory, trigger, send, send_in, lose}
+use Rattle.session_file.specs.Lines.{hang_up}
 
 -- what a line does
 abbrev pub line_data : Line → LineData
@@ -16,6 +17,7 @@ line_data (held.Master packet) = master packet.items
 line_data (held.Trigger c s slices) = trigger c s (map vec_items slices.items)
 line_data (held.Memory slices) = memory (map vec_items slices.items)
 line_data held.Send = send
+line_data (held.SendIn room) = send_in room
 line_data held.Lose = lose
 line_data held.HangUp = hang_up
 

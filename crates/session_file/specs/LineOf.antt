@@ -3,7 +3,9 @@ use Rattle.std.specs.Prelude.{ℕ, ◌==◌, ◌&&◌, not, if◌then◌else◌,
 use Rattle.std.specs.Prelude.{Option, Some, None, option_map}
 use Rattle.run_file.specs.Keys.{onto}
 use Rattle.run_file.specs.StepOf.{image_of, is_verb, number_of, packet_of, words_of}
-use Rattle.session_file.specs.Lines.{LineData, master, memory, trigger, send, lose, hang_up}
+use Rattle.session_file.specs.declared.limits.TheConstants.{ROOM}
+use Rattle.session_file.specs.Lines.{LineData, master, memory, trigger, send, send_in, lose}
+use Rattle.session_file.specs.Lines.{hang_up}
 
 -- the line of one word
 abbrev pub word_line : List ℕ → Option LineData
@@ -18,6 +20,15 @@ abbrev pub master_line : List ℕ → List ℕ → Option LineData
 master_line verb digits =
     if is_verb verb (codes "master") && not (length digits == 0)
     then option_map master (packet_of digits) else None
+
+-- the line of the digits of a room
+abbrev pub send_line : List ℕ → Option LineData
+send_line digits = option_map send_in (number_of ROOM digits)
+
+-- the line of a verb and one word behind it
+abbrev pub one_word_line : List ℕ → List ℕ → Option LineData
+one_word_line verb word =
+    if is_verb verb (codes "send") then send_line word else master_line verb word
 
 -- the slice of a word
 abbrev pub slice_of : List ℕ → Option (List ℕ)
@@ -47,7 +58,7 @@ trigger_line verb channel stamp words =
 -- the line of a verb, which isn't `memory`, and of the words behind it
 abbrev pub other_line : List ℕ → List (List ℕ) → Option LineData
 other_line verb [] = None
-other_line verb (digits ∷ []) = master_line verb digits
+other_line verb (word ∷ []) = one_word_line verb word
 other_line verb (channel ∷ stamp ∷ []) = None
 other_line verb (channel ∷ stamp ∷ word ∷ words) = trigger_line verb channel stamp (word ∷ words)
 

@@ -1,8 +1,9 @@
 -- The grammar of a script: which text is which line.
-use Rattle.std.specs.Prelude.{◌≡◌, ◌<◌, ◌^◌, ℕ, List, [], ◌∷◌, codes}
+use Rattle.std.specs.Prelude.{◌≡◌, ◌<◌, ◌≤◌, ◌^◌, ℕ, List, [], ◌∷◌, codes}
 use Rattle.run_file.specs.Reading.{AreTextsOf}
 use Rattle.run_file.specs.RunFile.{IsPacketText}
 use Rattle.run_file.specs.Steps.{IsDecimal, IsImage, spaced}
+use Rattle.session_file.specs.declared.limits.TheConstants.{ROOM}
 
 -- what a line does. A packet is the bytes of it, and memory a slice for each word, in their order:
 -- the bytes of a segment, or no byte if it isn't there
@@ -11,6 +12,7 @@ pub data LineData : Type 0 where
   trigger : ℕ → ℕ → List (List ℕ) → LineData
   memory : List (List ℕ) → LineData
   send : LineData
+  send_in : ℕ → LineData
   lose : LineData
   hang_up : LineData
 
@@ -45,6 +47,13 @@ pub record IsTrigger (text : List ℕ) (channel stamp : ℕ) (slices : List (Lis
   pub fits : stamp < 2 ^ 32
   pub slices_are : AreTextsOf IsSlice (first ∷ more) slices
 
+-- send N: frames of N bytes at most, which is no more than ever waits
+pub record IsSendIn (text : List ℕ) (room : ℕ) : Type 0 where
+  pub word : List ℕ
+  pub words : text ≡ spaced (codes "send" ∷ word ∷ [])
+  pub number : IsDecimal word room
+  pub fits : room ≤ ROOM
+
 -- the text is this line. An event channel has 8 bits: whether there is one of this number is seen
 -- when the line is done
 abbrev pub IsLineText : List ℕ → LineData → Type 0
@@ -52,5 +61,6 @@ IsLineText text (master packet) = IsMaster text packet
 IsLineText text (trigger channel stamp slices) = IsTrigger text channel stamp slices
 IsLineText text (memory slices) = IsMemory text slices
 IsLineText text send = text ≡ codes "send"
+IsLineText text (send_in room) = IsSendIn text room
 IsLineText text lose = text ≡ codes "lose"
 IsLineText text hang_up = text ≡ codes "hang_up"

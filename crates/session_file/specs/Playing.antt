@@ -10,7 +10,8 @@ use Rattle.slave.specs.Log.{Act, CameBack, Discarded, Heard, HungUp, Opened, Ref
 use Rattle.slave.specs.Session.{SessionLaw, sent_text}
 use Rattle.slave.specs.Standing.{IsLog, SlaveStandsAfter, SlaveState}
 use Rattle.slave.specs.Taking.{most_taken}
-use Rattle.session_file.specs.Lines.{LineData, master, memory, trigger, send, lose, hang_up}
+use Rattle.session_file.specs.Lines.{LineData, master, memory, trigger, send, send_in, lose}
+use Rattle.session_file.specs.Lines.{hang_up}
 use Rattle.slave.specs.Thinned.{IsWithout}
 
 -- the packets of the lines that are packets of the master
@@ -20,6 +21,7 @@ masters (master packet ∷ lines) = packet ∷ masters lines
 masters (trigger c stamp slices ∷ lines) = masters lines
 masters (memory slices ∷ lines) = masters lines
 masters (send ∷ lines) = masters lines
+masters (send_in room ∷ lines) = masters lines
 masters (lose ∷ lines) = masters lines
 masters (hang_up ∷ lines) = masters lines
 

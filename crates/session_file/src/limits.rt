@@ -13,3 +13,6 @@ pub const USUAL_CTO: usize = 64;
 /// The last event channel that may read a segment. Whether a slave has it is a limit of the
 /// profile.
 pub const LAST_CHANNEL: usize = 15;
+
+/// The bytes of the greatest datagram: more than ever waits.
+pub const ROOM: usize = 8192;

@@ -15,6 +15,8 @@ pub enum Line {
     Memory(Vec<Vec<u8>>),
     /// Items are taken off the rings, and all that waits is sent.
     Send,
+    /// The same, of what waits as many frames as find room in so many bytes.
+    SendIn(u16),
     /// The same is shown, and the transport refuses it.
     Lose,
     /// The transport is lost.

@@ -4,12 +4,14 @@ ghost use Rattle.run_file.specs.Inner.{text_in};
 ghost use Rattle.run_file.specs.Reading.{AreTextsOf, IsFirstBad};
 ghost use Rattle.run_file.specs.StepOf.{words_of};
 ghost use Rattle.session_file.specs.declared.file_fault.FileFault.TheVariants.{BadLine, Memory};
-ghost use Rattle.session_file.specs.LineOf.{line_of, master_line, memory_line, other_line};
-ghost use Rattle.session_file.specs.LineOf.{trigger_line, verb_line, word_line};
+ghost use Rattle.session_file.specs.LineOf.{line_of, master_line, memory_line, one_word_line};
+ghost use Rattle.session_file.specs.LineOf.{other_line, send_line, trigger_line, verb_line};
+ghost use Rattle.session_file.specs.LineOf.{word_line};
 ghost use Rattle.session_file.specs.Lines.{IsLineText};
 ghost use Rattle.session_file.specs.Inner.{line_data};
 
 use crate::file_fault::FileFault;
+use crate::limits::ROOM;
 use crate::line::Line;
 use crate::words::slices_of;
 use run_file::{cut, number_of, packet_of, text_in};
@@ -96,12 +98,30 @@ fn other_line(alloc: Global, verb: &str, rest: &str) -> Result<Option<Line>, All
         option_map line_data line ≡ other_line verb.now (words_of rest.now)) }
 {
     let Some((channel, rest)) = cut(rest) else {
-        return master_line(alloc, verb, rest);
+        return one_word_line(alloc, verb, rest);
     };
     let Some((stamp, words)) = cut(rest) else {
         return Ok(None);
     };
     trigger_line(alloc, verb, channel, stamp, words)
+}
+
+/// The line of a verb and one word behind it.
+fn one_word_line(alloc: Global, verb: &str, word: &str) -> Result<Option<Line>, AllocError>
+    ensures { IfOk result (λ line. option_map line_data line ≡ one_word_line verb.now word.now) }
+{
+    if verb == "send" {
+        return Ok(send_line(word));
+    }
+    master_line(alloc, verb, word)
+}
+
+/// The line of the digits of a room.
+fn send_line(digits: &str) -> Option<Line>
+    ensures { option_map line_data result ≡ send_line digits.now }
+{
+    let room = number_of(digits, ROOM as u32)?;
+    Some(Line::SendIn(room as u16))
 }
 
 /// The line of a verb and the digits of a packet.

@@ -4,11 +4,13 @@ ghost use Rattle.segments.specs.Memory.{fits, parts};
 ghost use Rattle.slave.specs.Standing.{SlaveState};
 ghost use Rattle.session_file.specs.Inner.{line_data};
 ghost use Rattle.session_file.specs.Lines.{master};
+ghost use Rattle.session_file.specs.declared.limits.TheConstants.{ROOM};
 ghost use Rattle.session_file.specs.Playing.{Advances, AreTasksOf, Does, lines_of, most_a_line};
 ghost use Rattle.session_file.specs.Playing.{sending};
 ghost use Rattle.tasks.specs.Tasks.{TaskEndState};
 
 use crate::Line;
+use crate::limits::ROOM;
 use crate::parts::Parts;
 use crate::play_fault::PlayFault;
 use crate::played::Played;
@@ -121,7 +123,8 @@ impl<R: Ring> Player<R> {
                 memory,
             } => self.trigger(alloc, *channel, *stamp, memory),
             Line::Memory(memory) => self.put_memory(alloc, memory),
-            Line::Send => self.send(),
+            Line::Send => self.send(ROOM),
+            Line::SendIn(room) => self.send((*room as usize).min(ROOM)),
             Line::Lose => {
                 self.lose();
                 Ok(())
@@ -188,8 +191,9 @@ impl<R: Ring> Player<R> {
         Ok(())
     }
 
-    /// Sends what waits, as one datagram.
-    fn send(&mut self) -> Result<(), AllocError>
+    /// Sends as many of the frames that wait as find room in so many bytes, as one datagram.
+    fn send(&mut self, room: usize) -> Result<(), AllocError>
+        requires few { room ≤ ROOM }
         ensures sends { OnOk result (Advances R.Take.TakeEnd most_a_line
             (sending self.old.slave self.old.out.contents)
             (sending self.new.slave self.new.out.contents) []) }
@@ -197,7 +201,7 @@ impl<R: Ring> Player<R> {
         ensures tasks_stay { self.new.tasks ≡ self.old.tasks }
     {
         let before = self.out.bytes().len();
-        send(&mut self.slave, &mut self.out)?;
+        send(&mut self.slave, &mut self.out, room)?;
         let after = self.out.bytes().len();
         if after > before {
             self.ends.push(after)?;

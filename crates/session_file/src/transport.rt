@@ -1,33 +1,38 @@
 //! What a transport does with a slave: it sends what waits, or refuses it; and what came back of
 //! measurements is collected.
-ghost use Rattle.std.specs.Prelude.{◌+◌, ◌*◌, [], ℕ, List, OnOk};
+ghost use Rattle.std.specs.Prelude.{◌+◌, ◌*◌, ◌≤◌, [], ℕ, List, OnOk};
 ghost use Rattle.xcp_base.specs.declared.limits.TheConstants.{MAX_CHANNELS};
 ghost use Rattle.slave.specs.Taking.{most_taken};
 ghost use Rattle.session_file.specs.Playing.{Advances, sending};
+ghost use Rattle.session_file.specs.declared.limits.TheConstants.{ROOM};
 
+use crate::limits::ROOM;
 use crate::parts::Parts;
 use daq_engine::Ring;
-use frame_writer::VecOut;
+use frame_writer::{Out, VecOut};
 use slave::Slave;
 use std::alloc::AllocError;
 use xcp_base::limits::MAX_CHANNELS;
-
-/// The room for what is shown: more than ever waits.
-const ROOM: usize = 4096;
 
 /// The most parts of measurements that are collected in a row at one event channel: more than can
 /// be out.
 const MOST_PARTS: usize = 4;
 
-/// Takes items off the rings, and sends all that waits.
-pub fn send<R: Ring>(slave: &mut Slave<R>, out: &mut VecOut) -> Result<(), AllocError>
+/// Takes items off the rings, and sends as many of the frames that wait as find room in so many
+/// bytes.
+pub fn send<R: Ring>(slave: &mut Slave<R>, out: &mut VecOut, room: usize) -> Result<(), AllocError>
+    requires few { room ≤ ROOM }
     ensures sends { OnOk result (Advances R.Take.TakeEnd (most_taken + 1)
         (sending slave.old out.old.contents) (sending slave.new out.new.contents) []) }
 {
     slave.take();
-    let Ok(()) = slave.put(out) else {
+    let mut buffer = [0; ROOM];
+    let shown = &mut buffer[..room];
+    let len = slave.peek(shown);
+    let Ok(_) = out.put(&shown[..len]) else {
         return Err(AllocError);
     };
+    slave.sent();
     Ok(())
 }
 

@@ -22,10 +22,11 @@ use Rattle.slave_outbox.specs.Outboxes.{StandsAfter as OutboxStandsAfter}
 use Rattle.slave.specs.Inner.{PartsGoBy}
 use Rattle.slave.specs.Inner.{Answers, LaysReply, Settles}
 use Rattle.slave_channels.specs.Accounts.{AccountStandsAfter}
-use Rattle.slave.specs.Log.{Heard, HungUp, entries_of, is_out, late_in, past_of, reply_laid, sent_units, waits}
+use Rattle.slave.specs.Log.{Heard, HungUp, entries_of, is_out, late_in, past_of, reply_laid, sent_laid, waits}
 use Rattle.slave.specs.Standing.{logged, SlaveState}
 use Rattle.slave.proofs.SettlingLemmas.{settled, settled-lines, settled-many, settled-opens, settled-out}
 use Rattle.slave.proofs.StandingLemmas.{starts-no-list}
+use Rattle.slave.proofs.WaitsLemmas.{laid-behind}
 
 -- an allocation starts no list
 allocates-plain : (call : Command) → Allocates call → StartsNoList call
@@ -69,7 +70,7 @@ pub reply-laid : (o p : OutboxState) (reply : Option (List ℕ)) (sent wait : Li
     → OutboxStandsAfter o sent wait → OutboxStandsAfter p sent (wait ++ reply_laid reply)
 reply-laid o p None sent wait lays stands =
     subst (λ ys. OutboxStandsAfter p sent ys) (sym (append-nil wait)) (subst (λ z. OutboxStandsAfter z sent wait) (sym lays) stands)
-reply-laid o p (Some packet) sent wait lays stands = lays sent wait stands
+reply-laid o p (Some packet) sent wait lays stands = laid-behind o p (reply_laid (Some packet)) sent wait lays stands
 
 module _ {S T F : Type 0} (take : TakeGhosts T F) where
   -- a packet was answered
@@ -101,8 +102,8 @@ module _ {S T F : Type 0} (take : TakeGhosts T F) where
                 profile = profile;
                 session = behind;
                 outbox =
-                    subst (λ r. OutboxStandsAfter b.outbox (sent_units d log) (waits d log ++ reply_laid r)) said
-                    (reply-laid a.outbox b.outbox reply (sent_units d log) (waits d log) lays has.outbox);
+                    subst (λ r. OutboxStandsAfter b.outbox (sent_laid d log) (waits d log ++ reply_laid r)) said
+                    (reply-laid a.outbox b.outbox reply (sent_laid d log) (waits d log) lays has.outbox);
                 channels = λ c ch at. (both c ch at).0;
                 out = settled-out take a.channels b.channels before now (λ c m. is_out m c log) settles has.out;
                 as_logged = settled-opens take a.channels b.channels before now d (logged d log) settles has.as_logged;
@@ -136,7 +137,7 @@ module _ {S T F : Type 0} (take : TakeGhosts T F) where
             is_log = has.is_log;
             profile = profile;
             session = fresh;
-            outbox = subst (λ o. OutboxStandsAfter o (sent_units d log) (waits d log)) (sym outbox) has.outbox;
+            outbox = subst (λ o. OutboxStandsAfter o (sent_laid d log) (waits d log)) (sym outbox) has.outbox;
             channels = λ c ch at. (both c ch at).0;
             out = settled-out take a.channels b.channels before 0 (λ c m. is_out m c log) settles stands.has.out;
             as_logged = settled-opens take a.channels b.channels before 0 d (logged d log) settles stands.has.as_logged;

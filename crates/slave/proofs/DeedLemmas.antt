@@ -1,8 +1,7 @@
 -- How much was done with the rings of a slave.
-use Rattle.std.proofs.Common.{◌≡◌, ◌≢◌, ℕ, zero, suc, ◌+◌, ◌*◌, ◌<◌, ◌≤◌, Bool, true, false, ◌&&◌, ◌||◌, not, nat_eq, nat_lt, if◌then◌else◌, List, [], ◌∷◌, ◌++◌, append_assoc, length, drop, refl, sym, ap, ◌∙◌, arith, length-append, inl, inr}
+use Rattle.std.proofs.Common.{◌≡◌, ◌≢◌, ℕ, zero, suc, ◌+◌, ◌*◌, ◌<◌, ◌≤◌, Bool, true, false, ◌&&◌, ◌||◌, not, nat_eq, nat_lt, if◌then◌else◌, List, [], ◌∷◌, ◌++◌, append_assoc, length, refl, sym, ap, ◌∙◌, arith, length-append, inl, inr}
 use Rattle.std.specs.Prelude.{count_by, Err, Option, Some, None}
-use Rattle.std.proofs.lemmas.List.{drop-map, map-append}
-use Rattle.std.proofs.lemmas.List.Sums.{sum_by-append, sum_by-cons, sum_by-take-drop}
+use Rattle.std.proofs.lemmas.List.Sums.{sum_by-cons}
 use Rattle.std.proofs.lemmas.Bool.{false≢true}
 use Rattle.std.proofs.lemmas.Bool.Decides.{eqb_tells}
 use Rattle.xcp_base.specs.Samples.{SampleParts}
@@ -14,12 +13,13 @@ use Rattle.session.specs.declared.profile.Profile.{Profile}
 use Rattle.slave_outbox.specs.Deeds.{Deed, Started, Stopped, Unsent, marks_of, passed, passes, stops_of, taken}
 use Rattle.slave_outbox.specs.Deeds.{Took as TookItem}
 use Rattle.slave_outbox.specs.Deeds.{runs as runs_there}
-use Rattle.slave_outbox.specs.Outboxes.{Laid}
-use Rattle.slave_outbox.specs.declared.unit.Origin.{Origin}
-use Rattle.slave_outbox.specs.declared.unit.Origin.TheVariants as origin
+use Rattle.slave_outbox.specs.Outboxes.{origins_in, together}
+use Rattle.slave_outbox.specs.declared.origin.Origin.{Origin}
+use Rattle.slave_outbox.specs.declared.origin.Origin.TheVariants as origin
 use Rattle.slave_channels.specs.Ordering.{one_if, starts_noted, stops_noted}
-use Rattle.slave.specs.Log.{Act, CameBack, Discarded, Heard, HungUp, Opened, Refused, Sent, Took, deeds_of, has_part, is_back, is_newest, is_of_ring, is_opening, is_out, opened, ordered_by, origins, past_of, reply_laid, sample_laid, starts_on, stops_at, unsent_by, unsent_one, waits, with_starts}
+use Rattle.slave.specs.Log.{Act, CameBack, Discarded, Heard, HungUp, Opened, Refused, Sent, Took, deeds_of, has_part, is_back, is_newest, is_of_ring, is_opening, is_out, opened, ordered_by, past_of, reply_laid, sample_laid, starts_on, stops_at, unsent_by, unsent_one, waits, with_starts}
 use Rattle.slave.specs.Standing.{IsLog}
+use Rattle.slave.proofs.TogetherLemmas.{count-origins-append, count-origins-drop, origins-together}
 
 -- what no sample that was thrown away changes, none of them do
 unsent-changes-not : {X : Type 0} (f : List Deed → X) → ((k : ℕ) (ds : List Deed) → f (Unsent k ∷ ds) ≡ f ds) → (m c : ℕ) (os : List Origin) (ds : List Deed) → f (unsent_by m c os ++ ds) ≡ f ds
@@ -71,18 +71,6 @@ unsent-length m c (o ∷ os) =
       one origin.Reply = refl
       one (origin.Sample n k l) = if-one (nat_eq n m && nat_eq k c) l
 
--- how many of some origins are so, in two parts, and behind the first
-pub origins-append : (xs ys : List Laid) → origins (xs ++ ys) ≡ origins xs ++ origins ys
-origins-append xs ys = map-append (λ (x : Laid). x.origin) xs ys
-
-pub count-origins-append : (p : Origin → Bool) (xs ys : List Laid) → count_by p (origins (xs ++ ys)) ≡ count_by p (origins xs) + count_by p (origins ys)
-count-origins-append p xs ys =
-    ap (count_by p) (origins-append xs ys) ∙ sum_by-append (λ x. if p x then 1 else 0) (origins xs) (origins ys)
-
-pub count-origins-drop : (p : Origin → Bool) (n : ℕ) (xs : List Laid) → count_by p (origins (drop n xs)) ≤ count_by p (origins xs)
-count-origins-drop p n xs =
-    omega (arith, ap (count_by p) (drop-map (λ (x : Laid). x.origin) n xs), sum_by-take-drop (λ x. if p x then 1 else 0) (origins xs) n)
-
 one-few : {X : Type 0} (b : Bool) (x : X) → length (one_if b x) ≤ 1
 one-few true x = omega arith
 one-few false x = omega arith
@@ -106,19 +94,26 @@ if-few true xs ys k x y = x
 if-few false xs ys k x y = y
 
 -- a reply that waits is of no ring, and an act lays out no more than one sample
-reply-of-none : (m c : ℕ) (reply : Option (List ℕ)) → count_by (is_of_ring m c) (origins (reply_laid reply)) ≡ 0
+reply-of-none : (m c : ℕ) (reply : Option (List ℕ)) → count_by (is_of_ring m c) (origins_in (reply_laid reply)) ≡ 0
 reply-of-none m c None = refl
 reply-of-none m c (Some packet) = refl
 
-sample-one : (m c n k : ℕ) (b : Bool) (s : SampleParts) → count_by (is_of_ring m c) (origins (sample_laid b n k s)) ≤ 1
+sample-one : (m c n k : ℕ) (b : Bool) (s : SampleParts) → count_by (is_of_ring m c) (origins_in (sample_laid b n k s)) ≤ 1
 sample-one m c n k false s = omega arith
-sample-one m c n k true s = omega (arith, if-one (nat_eq n m && nat_eq k c), sum_by-cons (λ x. if is_of_ring m c x then 1 else 0) (origin.Sample n k s.list) []) where
+sample-one m c n k true s = by s.packets where
   if-one : (b : Bool) → (if b then 1 else 0) ≤ 1
   if-one true = omega arith
   if-one false = omega arith
 
+  by : (qs : List (List ℕ)) → count_by (is_of_ring m c) (origins_in (together (origin.Sample n k s.list) qs)) ≤ 1
+  by [] = omega arith
+  by (q ∷ qs) =
+      let o = origin.Sample n k s.list in
+      let one : count_by (is_of_ring m c) (origins_in (together o (q ∷ qs))) ≡ count_by (is_of_ring m c) (o ∷ []) = ap (count_by (is_of_ring m c)) (origins-together o (q ∷ qs) (omega arith)) in
+      omega (arith, one, if-one (nat_eq n m && nat_eq k c), sum_by-cons (λ x. if is_of_ring m c x then 1 else 0) o [])
+
 -- no act does more than 32 deeds at a ring, where each sample of it that waits is one that may come
-pub deeds-and-waits-few : (d : Profile) (m c : ℕ) (log : List Act) → length (deeds_of d m c log) + count_by (is_of_ring m c) (origins (waits d log)) ≤ 32 * length log
+pub deeds-and-waits-few : (d : Profile) (m c : ℕ) (log : List Act) → length (deeds_of d m c log) + count_by (is_of_ring m c) (origins_in (waits d log)) ≤ 32 * length log
 deeds-and-waits-few d m c [] = omega arith
 deeds-and-waits-few d m c (Heard x ∷ log) =
     let ds = deeds_of d m c log in
@@ -161,7 +156,7 @@ deeds-and-waits-few d m c (HungUp ∷ log) =
       if-few (is_newest m log) (ordered_by d c HungUp log ds) ds (32 + length ds) (ordered-few d c HungUp log ds) (omega arith),
     )
 deeds-and-waits-few d m c (Discarded ∷ log) =
-    let os = origins (waits d log) in
+    let os = origins_in (waits d log) in
     omega (arith, deeds-and-waits-few d m c log, length-append (unsent_by m c os) (deeds_of d m c log), unsent-length m c os)
 
 pub deeds-few : (d : Profile) (m c : ℕ) (log : List Act) → length (deeds_of d m c log) ≤ 32 * length log
@@ -185,12 +180,17 @@ not-taken n m k c less =
     ]
 
 -- no sample of a measurement that was not opened waits
-sample-none : (n m k c : ℕ) (b : Bool) (s : SampleParts) → n < m → count_by (is_of_ring m c) (origins (sample_laid b n k s)) ≡ 0
+sample-none : (n m k c : ℕ) (b : Bool) (s : SampleParts) → n < m → count_by (is_of_ring m c) (origins_in (sample_laid b n k s)) ≡ 0
 sample-none n m k c false s less = refl
-sample-none n m k c true s less =
-    sum_by-cons (λ x. if is_of_ring m c x then 1 else 0) (origin.Sample n k s.list) [] ∙ ap (λ b. (if b then 1 else 0) + 0) (not-taken n m k c less)
+sample-none n m k c true s less = by s.packets where
+  by : (qs : List (List ℕ)) → count_by (is_of_ring m c) (origins_in (together (origin.Sample n k s.list) qs)) ≡ 0
+  by [] = refl
+  by (q ∷ qs) =
+      let o = origin.Sample n k s.list in
+      ap (count_by (is_of_ring m c)) (origins-together o (q ∷ qs) (omega arith))
+      ∙ sum_by-cons (λ x. if is_of_ring m c x then 1 else 0) o [] ∙ ap (λ b. (if b then 1 else 0) + 0) (not-taken n m k c less)
 
-waits-none : (d : Profile) (m c : ℕ) (log : List Act) → IsLog d log → opened log ≤ m → count_by (is_of_ring m c) (origins (waits d log)) ≡ 0
+waits-none : (d : Profile) (m c : ℕ) (log : List Act) → IsLog d log → opened log ≤ m → count_by (is_of_ring m c) (origins_in (waits d log)) ≡ 0
 waits-none d m c [] is least = refl
 waits-none d m c (Heard x ∷ log) is least =
     let reply = reply_in d (past_of d log) x in
@@ -226,7 +226,7 @@ deeds-none d m c (Sent n ∷ log) is least = deeds-none d m c log is.1 least
 deeds-none d m c (HungUp ∷ log) is least =
     ap (λ b. if b then ordered_by d c HungUp log (deeds_of d m c log) else deeds_of d m c log) (not-newest m log least) ∙ deeds-none d m c log is least
 deeds-none d m c (Discarded ∷ log) is least =
-    let os = origins (waits d log) in
+    let os = origins_in (waits d log) in
     ap (λ ds. ds ++ deeds_of d m c log) (none-long (unsent_by m c os) (unsent-length m c os ∙ waits-none d m c log is least)) ∙ deeds-none d m c log is least
 
 -- nothing came back of a measurement that was not opened

@@ -1,29 +1,23 @@
 -- What a slave stands after once what waited was thrown away.
-use Rattle.std.proofs.Common.{◌≡◌, ◌≢◌, ℕ, ◌+◌, ◌-◌, ◌*◌, ◌<◌, ◌≤◌, Bool, true, false, ◌&&◌, not, nat_eq, if◌then◌else◌, List, [], ◌∷◌, ◌++◌, append_assoc, append-nil, drop, length, length-append, map, zero, suc, take as first, refl, sym, ap, ◌∙◌, subst, arith, ◌⊎◌, inl, inr, get_or, slice_get}
-use Rattle.std.specs.Prelude.{count_by, Option, Some, None}
-use Rattle.std.specs.List.{AllByRecursion}
+use Rattle.std.proofs.Common.{◌≡◌, ◌≢◌, ℕ, ◌+◌, ◌-◌, ◌*◌, ◌<◌, ◌≤◌, Bool, true, false, ◌&&◌, not, nat_eq, if◌then◌else◌, List, [], ◌∷◌, ◌++◌, append_assoc, append-nil, length, length-append, take as first, refl, sym, ap, ◌∙◌, subst, arith, ◌⊎◌, inl, inr, slice_get}
+use Rattle.std.specs.Prelude.{count_by, Option, Some}
 use Rattle.std.proofs.lemmas.Bool.{eq-eqb, ne_eqb}
 use Rattle.std.proofs.lemmas.Bool.Decides.{eqb_tells}
-use Rattle.std.proofs.lemmas.List.{length-map, take_more}
+use Rattle.std.proofs.lemmas.List.{take_more}
 use Rattle.std.proofs.lemmas.List.Sums.{sum_by-append, sum_by-take-le}
-use Rattle.std.proofs.lemmas.Option.{get_or_from_slice_get, slice_get-get_or, slice_get_within}
-use Rattle.xcp_base.specs.Samples.{SampleParts}
-use Rattle.xcp_base.specs.declared.item.Item.TheVariants.{Marker, Sample}
+use Rattle.std.proofs.lemmas.Option.{get_or_from_slice_get, slice_get_within}
 use Rattle.xcp_base.specs.declared.limits.TheConstants.{MAX_LISTS, MAX_TAKEN}
 use Rattle.channel_ring.specs.declared.ends.TakeEnd.{Ghosts as TakeGhosts}
-use Rattle.session.specs.Exchanges.{reply_in}
 use Rattle.session.specs.Standing.{SessionStandsAfter, SessionState}
 use Rattle.session.specs.declared.profile.Profile.{Profile}
-use Rattle.slave_outbox.specs.Deeds.{Deed, Unsent, passes}
+use Rattle.slave_outbox.specs.Deeds.{Deed, Unsent}
 use Rattle.slave_outbox.specs.Deeds.{runs as runs_there}
 use Rattle.slave_outbox.specs.Intakes.{StandsAfter}
 use Rattle.slave_outbox.proofs.DeedLemmas.{stands-beyond}
-use Rattle.daq_engine.proofs.PidLemmas.{all-append}
-use Rattle.slave_outbox.specs.Outboxes.{Laid, OutboxState, has_waiting, unit_of}
+use Rattle.slave_outbox.specs.Outboxes.{Laid, OutboxState, has_waiting, origins_in}
 use Rattle.slave_outbox.specs.Outboxes.{StandsAfter as OutboxStandsAfter}
-use Rattle.slave_outbox.specs.declared.unit.Origin.{Origin}
-use Rattle.slave_outbox.specs.declared.unit.Origin.TheVariants as origin
-use Rattle.slave_outbox.specs.declared.unit.Unit.{Unit as Frames}
+use Rattle.slave_outbox.specs.declared.origin.Origin.{Origin}
+use Rattle.slave_outbox.specs.declared.origin.Origin.TheVariants as origin
 use Rattle.slave_channels.specs.Accounts.{AccountStandsAfter, Entry, end_of, more_unsent}
 use Rattle.slave_channels.proofs.AccountLemmas.{same-unsent}
 use Rattle.slave_channels.specs.Channels.{ChannelState, GoesOnThere, ShareState}
@@ -32,8 +26,8 @@ use Rattle.slave.specs.Hearing.{GoesBy, KeepsLines}
 use Rattle.slave_channels.specs.Calls.{rings_of}
 use Rattle.slave.proofs.KeepingLemmas.{lines-but}
 use Rattle.slave.specs.Inner.{LeavesFirst, LeavesOne, PartsGoBy, TellsAccount, TellsPart, left_deeds, left_late}
-use Rattle.slave.specs.Log.{Act, CameBack, Discarded, Heard, HungUp, Opened, Refused, Sent, Took, deeds_of, discarding, entries_of, has_part, is_back, is_late, is_of_ring, is_out, late_in, losing, opened, origins, past_of, reply_laid, sample_laid, sent_units, unsent_by, unsent_one, waits}
-use Rattle.slave.specs.Standing.{logged, ChannelHas, HasEnded, IsLog, IsOut, SlaveStandsAfter, SlaveState, StandsBy, number_of}
+use Rattle.slave.specs.Log.{Act, Discarded, deeds_of, discarding, entries_of, has_part, is_back, is_late, is_of_ring, is_out, late_in, losing, opened, past_of, sent_laid, unsent_by, unsent_one, waits}
+use Rattle.slave.specs.Standing.{logged, ChannelHas, HasEnded, IsOut, SlaveStandsAfter, SlaveState, StandsBy, number_of}
 use Rattle.slave.proofs.ChannelLemmas.{channel-same}
 use Rattle.slave.proofs.KnownLemmas.{back-end, part-at, parts-wait}
 use Rattle.slave.proofs.DeedLemmas.{deeds-and-waits-few, unsent-length}
@@ -59,20 +53,20 @@ unsent-more m c [] x = sym (append-nil (unsent_one m c x))
 unsent-more m c (y ∷ xs) x =
     ap (λ ys. ys ++ unsent_one m c y) (unsent-more m c xs x) ∙ append_assoc (unsent_one m c x) (unsent_by m c xs) (unsent_one m c y)
 
-deeds-more : (d : Profile) (log : List Act) (n c m : ℕ) (x : Origin) → slice_get (origins (waits d log)) n ≡ Some x → left_deeds d log (n + 1) c m ≡ unsent_one m c x ++ left_deeds d log n c m
+deeds-more : (d : Profile) (log : List Act) (n c m : ℕ) (x : Origin) → slice_get (origins_in (waits d log)) n ≡ Some x → left_deeds d log (n + 1) c m ≡ unsent_one m c x ++ left_deeds d log n c m
 deeds-more d log n c m x at =
-    let os = origins (waits d log) in
+    let os = origins_in (waits d log) in
     ap (λ ys. unsent_by m c ys ++ deeds_of d m c log) (first-more os n x at) ∙ ap (λ ys. ys ++ deeds_of d m c log) (unsent-more m c (first n os) x)
     ∙ append_assoc (unsent_one m c x) (unsent_by m c (first n os)) (deeds_of d m c log)
 
-late-more : (d : Profile) (log : List Act) (n m l : ℕ) (x : Origin) → slice_get (origins (waits d log)) n ≡ Some x → left_late d log (n + 1) m l ≡ left_late d log n m l + (if is_late log m l x then 1 else 0)
+late-more : (d : Profile) (log : List Act) (n m l : ℕ) (x : Origin) → slice_get (origins_in (waits d log)) n ≡ Some x → left_late d log (n + 1) m l ≡ left_late d log n m l + (if is_late log m l x then 1 else 0)
 late-more d log n m l x at =
-    let os = origins (waits d log) in
+    let os = origins_in (waits d log) in
     let one = sum_by-append (λ o. if is_late log m l o then 1 else 0) (first n os) (x ∷ []) in
     let more = ap (count_by (is_late log m l)) (first-more os n x at) in
     omega (arith, more, one)
 
-late-not : (d : Profile) (log : List Act) (n m l : ℕ) (x : Origin) → slice_get (origins (waits d log)) n ≡ Some x → is_late log m l x ≡ false → left_late d log n m l ≡ left_late d log (n + 1) m l
+late-not : (d : Profile) (log : List Act) (n m l : ℕ) (x : Origin) → slice_get (origins_in (waits d log)) n ≡ Some x → is_late log m l x ≡ false → left_late d log n m l ≡ left_late d log (n + 1) m l
 late-not d log n m l x at none =
     let zero_more : ◌≡◌ {A = ℕ} (if is_late log m l x then 1 else 0) 0 = ap (λ b. if b then 1 else 0) none in
     omega (arith, late-more d log n m l x at, zero_more)
@@ -115,7 +109,7 @@ one-runs m c (origin.Sample n k j) ds l = by (nat_eq n m && nat_eq k c) where
 -- so much was done at a ring at most, with what of it waits
 few-left : (d : Profile) (log : List Act) (n c m : ℕ) → 32 * (1 + length log) ≤ MAX_TAKEN → length (left_deeds d log n c m) < MAX_TAKEN
 few-left d log n c m few =
-    let os = origins (waits d log) in
+    let os = origins_in (waits d log) in
     let front = sum_by-take-le (λ o. if is_of_ring m c o then 1 else 0) os n in
     omega (arith, few, deeds-and-waits-few d m c log, unsent-length m c (first n os), length-append (unsent_by m c (first n os)) (deeds_of d m c log), front)
 
@@ -143,7 +137,7 @@ module _ {S T F : Type 0} (take : TakeGhosts T F) where
   }
 
   -- where no event channel changed
-  left-beside : (d : Profile) (log : List Act) (n : ℕ) (x : Origin) (a b : SlaveState S T) → slice_get (origins (waits d log)) n ≡ Some x → b ≡ record a { account = b.account }
+  left-beside : (d : Profile) (log : List Act) (n : ℕ) (x : Origin) (a b : SlaveState S T) → slice_get (origins_in (waits d log)) n ≡ Some x → b ≡ record a { account = b.account }
       → ((c : ℕ) (ch : ChannelState S T) (p : ShareState T) → slice_get a.channels c ≡ Some ch → (ch.newer ≡ Some p) ⊎ (ch.older ≡ Some p)
       → StandsAfter take p.intake (left_deeds d log n c p.number) → StandsAfter take p.intake (unsent_one p.number c x ++ left_deeds d log n c p.number))
       → AccountStandsAfter b.account (entries_of d log) (left_late d log (n + 1))
@@ -156,7 +150,7 @@ module _ {S T F : Type 0} (take : TakeGhosts T F) where
         is_log = has.is_log;
         profile = ap (λ (s : SessionState). s.profile) session ∙ has.profile;
         session = subst (λ s. SessionStandsAfter s (past_of d log)) (sym session) has.session;
-        outbox = subst (λ o. OutboxStandsAfter o (sent_units d log) (waits d log)) (sym (ap (λ (s : SlaveState S T). s.outbox) rest)) has.outbox;
+        outbox = subst (λ o. OutboxStandsAfter o (sent_laid d log) (waits d log)) (sym (ap (λ (s : SlaveState S T). s.outbox) rest)) has.outbox;
         channels = λ c ch there.
             let was = ap (λ zs. slice_get zs c) (sym channels) ∙ there in
             has-where _ (left_deeds d log n c) (left_deeds d log (n + 1) c) ch
@@ -171,7 +165,7 @@ module _ {S T F : Type 0} (take : TakeGhosts T F) where
       }
 
   -- a reply is thrown away
-  left-reply : (d : Profile) (log : List Act) (n : ℕ) (a b : SlaveState S T) → slice_get (origins (waits d log)) n ≡ Some origin.Reply → b ≡ a
+  left-reply : (d : Profile) (log : List Act) (n : ℕ) (a b : SlaveState S T) → slice_get (origins_in (waits d log)) n ≡ Some origin.Reply → b ≡ a
       → StandsBy take (left_deeds d log n) (left_late d log n) d a log → StandsBy take (left_deeds d log (n + 1)) (left_late d log (n + 1)) d b log
   left-reply d log n a b at same has =
       left-beside d log n origin.Reply a b at (same ∙ ap (λ z. record a { account = z }) (ap (λ (s : SlaveState S T). s.account) (sym same))) (λ c ch p is kept stands. stands)
@@ -179,7 +173,7 @@ module _ {S T F : Type 0} (take : TakeGhosts T F) where
       (same-unsent a.account (entries_of d log) (left_late d log n) (left_late d log (n + 1)) (λ q l below. late-not d log n q l origin.Reply at refl) has.account)) has
 
   -- a sample of a list that there can't be
-  left-beyond : (d : Profile) (log : List Act) (n m c l : ℕ) (a b : SlaveState S T) → 32 * (1 + length log) ≤ MAX_TAKEN → slice_get (origins (waits d log)) n ≡ Some (origin.Sample m c l) → MAX_LISTS ≤ l → b ≡ a
+  left-beyond : (d : Profile) (log : List Act) (n m c l : ℕ) (a b : SlaveState S T) → 32 * (1 + length log) ≤ MAX_TAKEN → slice_get (origins_in (waits d log)) n ≡ Some (origin.Sample m c l) → MAX_LISTS ≤ l → b ≡ a
       → StandsBy take (left_deeds d log n) (left_late d log n) d a log → StandsBy take (left_deeds d log (n + 1)) (left_late d log (n + 1)) d b log
   left-beyond d log n m c l a b few at beyond same has =
       left-beside d log n (origin.Sample m c l) a b at (same ∙ ap (λ z. record a { account = z }) (ap (λ (s : SlaveState S T). s.account) (sym same)))
@@ -206,7 +200,7 @@ module _ {S T F : Type 0} (take : TakeGhosts T F) where
       ]
 
   -- a sample of a part that came back: the account is told
-  left-late-one : (d : Profile) (log : List Act) (n m c l : ℕ) (a b : SlaveState S T) → slice_get (origins (waits d log)) n ≡ Some (origin.Sample m c l) → TellsAccount take m c l a b
+  left-late-one : (d : Profile) (log : List Act) (n m c l : ℕ) (a b : SlaveState S T) → slice_get (origins_in (waits d log)) n ≡ Some (origin.Sample m c l) → TellsAccount take m c l a b
       → StandsBy take (left_deeds d log n) (left_late d log n) d a log → StandsBy take (left_deeds d log (n + 1)) (left_late d log (n + 1)) d b log
   left-late-one d log n m c l a b at tells has =
       let x = origin.Sample m c l in
@@ -303,7 +297,7 @@ module _ {S T F : Type 0} (take : TakeGhosts T F) where
     number = ap (λ (s : SlaveState S T). s.number) tells.rest;
   }
 
-  left-told : (d : Profile) (log : List Act) (n m c l : ℕ) (a b : SlaveState S T) → 32 * (1 + length log) ≤ MAX_TAKEN → slice_get (origins (waits d log)) n ≡ Some (origin.Sample m c l) → TellsPart take m c l a b
+  left-told : (d : Profile) (log : List Act) (n m c l : ℕ) (a b : SlaveState S T) → 32 * (1 + length log) ≤ MAX_TAKEN → slice_get (origins_in (waits d log)) n ≡ Some (origin.Sample m c l) → TellsPart take m c l a b
       → StandsBy take (left_deeds d log n) (left_late d log n) d a log → StandsBy take (left_deeds d log (n + 1)) (left_late d log (n + 1)) d b log
   left-told d log n m c l a b few at tells has =
       let o = origin.Sample m c l in
@@ -328,7 +322,7 @@ module _ {S T F : Type 0} (take : TakeGhosts T F) where
         is_log = has.is_log;
         profile = ap (λ (z : SessionState). z.profile) changes.session ∙ has.profile;
         session = subst (λ z. SessionStandsAfter z (past_of d log)) (sym changes.session) has.session;
-        outbox = subst (λ z. OutboxStandsAfter z (sent_units d log) (waits d log)) (sym (ap (λ (s : SlaveState S T). s.outbox) tells.rest)) has.outbox;
+        outbox = subst (λ z. OutboxStandsAfter z (sent_laid d log) (waits d log)) (sym (ap (λ (s : SlaveState S T). s.outbox) tells.rest)) has.outbox;
         channels = channels-changed take count f g a b c x y changes (λ k q other. same k q (λ e z. other (sym z))) here has.channels;
         out = out-changed take (λ k q. is_out q k log) (λ k q. is_out q k log) a b c x y changes (λ k q other. refl) (out-kept (λ q. is_out q c log) x y told.part.keeps (has.out c x was)) has.out;
         as_logged = opened-changed take d (logged d log) (logged d log) a b c x y changes (λ k ch other is. is) (opened-kept d (logged d log) c x y told.part.keeps (has.as_logged c x was)) has.as_logged;
@@ -341,7 +335,7 @@ module _ {S T F : Type 0} (take : TakeGhosts T F) where
       }
 
   -- what is from there isn't sent
-  left-one : (d : Profile) (log : List Act) (n : ℕ) (x : Origin) (a b : SlaveState S T) → 32 * (1 + length log) ≤ MAX_TAKEN → slice_get (origins (waits d log)) n ≡ Some x → LeavesOne take x a b
+  left-one : (d : Profile) (log : List Act) (n : ℕ) (x : Origin) (a b : SlaveState S T) → 32 * (1 + length log) ≤ MAX_TAKEN → slice_get (origins_in (waits d log)) n ≡ Some x → LeavesOne take x a b
       → StandsBy take (left_deeds d log n) (left_late d log n) d a log → StandsBy take (left_deeds d log (n + 1)) (left_late d log (n + 1)) d b log
   left-one d log n origin.Reply a b few at leaves has = left-reply d log n a b at leaves has
   left-one d log n (origin.Sample m c l) a b few at leaves has =
@@ -423,8 +417,8 @@ module _ {S T F : Type 0} (take : TakeGhosts T F) where
   }
 
   -- one more of what waits
-  pub leaves-more : (n : ℕ) (a s b : SlaveState S T) (x : Origin) (u : Frames) → slice_get a.outbox.units n ≡ Some u → x ≡ u.origin → LeavesFirst take n a s → LeavesOne take x s b → LeavesFirst take (n + 1) a b
-  leaves-more n a s b x u at is leaves one =
+  leaves-more : (n : ℕ) (a s b : SlaveState S T) (x : Origin) → slice_get (origins_in a.outbox.waits) n ≡ Some x → LeavesFirst take n a s → LeavesOne take x s b → LeavesFirst take (n + 1) a b
+  leaves-more n a s b x at leaves one =
       let (session, outbox, acts, next) = one-stays x s b one in
       record {
         lines = one-lines x s b one ∙ leaves.lines;
@@ -433,24 +427,14 @@ module _ {S T F : Type 0} (take : TakeGhosts T F) where
         counted = acts ∙ leaves.counted;
         next = next ∙ leaves.next;
         leaves = λ log few stands.
-            let d = a.session.profile in
-            left-one d log n x s b few (origin-at (waits d log) n (ap (λ us. slice_get us n) (sym stands.has.outbox.units) ∙ at) ∙ ap Some (sym is)) one (leaves.leaves log few stands);
+            left-one a.session.profile log n x s b few (ap (λ xs. slice_get (origins_in xs) n) (sym stands.has.outbox.waiting) ∙ at) one (leaves.leaves log few stands);
         ended = λ log few stands. one-ended x s b (past_of a.session.profile log) one (leaves.ended log few stands);
-      } where
-        origin-at : (xs : List Laid) (k : ℕ) → slice_get (map unit_of xs) k ≡ Some u → slice_get (origins xs) k ≡ Some u.origin
-        origin-at [] k there = absurd (none there) where
-          none : {y : Frames} → None ≡ Some y → ⊥
-          none e = cc
-        origin-at (y ∷ xs) zero there = ap (λ (v : Frames). Some v.origin) (some_inj (unit_of y) u there)
-        origin-at (y ∷ xs) (suc k) there = origin-at xs k there
+      }
 
-  pub leaves-next : (n : ℕ) (a s b v : SlaveState S T) (x : Origin) → v ≡ s → n < length a.outbox.units → ((u : Frames) → slice_get v.outbox.units n ≡ Some u → x ≡ u.origin) → LeavesFirst take n a s → LeavesOne take x s b
-      → LeavesFirst take (n + 1) a b
-  leaves-next n a s b v x view below is leaves one =
-      let u : Frames = get_or a.outbox.units n (record { origin = origin.Reply; len = 0 }) in
-      let at : slice_get a.outbox.units n ≡ Some u = slice_get-get_or a.outbox.units n (record { origin = origin.Reply; len = 0 }) below in
+  pub leaves-next : (n : ℕ) (a s b v : SlaveState S T) (x : Origin) → v ≡ s → slice_get (origins_in v.outbox.waits) n ≡ Some x → LeavesFirst take n a s → LeavesOne take x s b → LeavesFirst take (n + 1) a b
+  leaves-next n a s b v x view at leaves one =
       let same = ap (λ (z : SlaveState S T). z.outbox) view ∙ leaves.outbox in
-      leaves-more n a s b x u at (is u (ap (λ (o : OutboxState). slice_get o.units n) same ∙ at)) leaves one
+      leaves-more n a s b x (ap (λ (o : OutboxState). slice_get (origins_in o.waits) n) (sym same) ∙ at) leaves one
 
   pub leaves-all : (n m : ℕ) (a b : SlaveState S T) → n ≡ m → LeavesFirst take n a b → LeavesFirst take m a b
   leaves-all n m a b same leaves = subst (λ k. LeavesFirst take k a b) same leaves
@@ -467,16 +451,17 @@ module _ {S T F : Type 0} (take : TakeGhosts T F) where
       }))))
 
   -- all of what waited was thrown away
-  pub throws-away : (a s b : SlaveState S T) → LeavesFirst take (length a.outbox.units) a s → b ≡ record s { outbox = b.outbox }
+  pub throws-away : (a s b : SlaveState S T) → LeavesFirst take (length (origins_in a.outbox.waits)) a s → b ≡ record s { outbox = b.outbox }
       → ((sent wait : List Laid) → OutboxStandsAfter s.outbox sent wait → OutboxStandsAfter b.outbox sent []) → PartsGoBy take a b (Discarded ∷ [])
   throws-away a s b leaves rest discards = (
     ap (λ (z : SlaveState S T). rings_of z.channels) rest ∙ leaves.lines,
     λ log few stands.
         let d = a.session.profile in
-        let os = origins (waits d log) in
+        let os = origins_in (waits d log) in
         let has = leaves.leaves log few stands in
-        let many : length os ≤ length a.outbox.units = omega (arith, ap length stands.has.outbox.units, length-map (waits d log) unit_of, length-map (waits d log) (λ (x : Laid). x.origin)) in
-        let all : first (length a.outbox.units) os ≡ os = take-whole (length a.outbox.units) os many in
+        let n = length (origins_in a.outbox.waits) in
+        let many : length os ≤ n = omega (arith, ap (λ xs. length (origins_in xs)) stands.has.outbox.waiting) in
+        let all : first n os ≡ os = take-whole n os many in
         let channels = ap (λ (z : SlaveState S T). z.channels) rest in
         let session = ap (λ (z : SlaveState S T). z.session) rest in
         record {
@@ -485,9 +470,9 @@ module _ {S T F : Type 0} (take : TakeGhosts T F) where
             is_log = has.is_log;
             profile = ap (λ (z : SessionState). z.profile) session ∙ has.profile;
             session = subst (λ z. SessionStandsAfter z (past_of d log)) (sym session) has.session;
-            outbox = discards (sent_units d log) (waits d log) has.outbox;
+            outbox = discards (sent_laid d log) (waits d log) has.outbox;
             channels = λ c ch at.
-                channel-same take (opened log) (left_deeds d log (length a.outbox.units) c) (λ m. deeds_of d m c (Discarded ∷ log)) (λ m. ap (λ ys. unsent_by m c ys ++ deeds_of d m c log) all) ch
+                channel-same take (opened log) (left_deeds d log n c) (λ m. deeds_of d m c (Discarded ∷ log)) (λ m. ap (λ ys. unsent_by m c ys ++ deeds_of d m c log) all) ch
                 (has.channels c ch (ap (λ zs. slice_get zs c) (sym channels) ∙ at));
             out = λ c ch at. has.out c ch (ap (λ zs. slice_get zs c) (sym channels) ∙ at);
             as_logged = λ c ch at. has.as_logged c ch (ap (λ zs. slice_get zs c) (sym channels) ∙ at);
@@ -495,7 +480,7 @@ module _ {S T F : Type 0} (take : TakeGhosts T F) where
             plan = ap (λ (z : SlaveState S T). z.plan) rest ∙ has.plan;
             number = ap (λ (z : SlaveState S T). z.number) rest ∙ has.number;
             account = subst (λ z. AccountStandsAfter z (entries_of d log) (late_in d (Discarded ∷ log))) (sym (ap (λ (z : SlaveState S T). z.account) rest))
-                (same-unsent s.account (entries_of d log) (left_late d log (length a.outbox.units)) (late_in d (Discarded ∷ log)) (λ q l below. ap (λ ys. late_in d log q l + count_by (is_late log q l) ys) all) has.account);
+                (same-unsent s.account (entries_of d log) (left_late d log n) (late_in d (Discarded ∷ log)) (λ q l below. ap (λ ys. late_in d log q l + count_by (is_late log q l) ys) all) has.account);
           };
           ended = λ none c ch at. leaves.ended log few stands none c ch (ap (λ zs. slice_get zs c) (sym channels) ∙ at);
         },

@@ -122,7 +122,7 @@ module _ {T F : Type 0} (take : TakeGhosts T F) where
   looks-item s t o p m c Full takes other = absurd (other refl)
   looks-item s t o p m c (Marked l) (mark, takes, list, out) other = looks-took s t _ takes
   looks-item s t o p m c (Skipped l) (sample, takes, list, held, out) other = looks-took s t _ takes
-  looks-item s t o p m c (Wrote l end) (sample, takes, list, passes, each, lays) other = looks-took s t _ takes
+  looks-item s t o p m c (Wrote l len) (sample, takes, list, passes, each, room, lays) other = looks-took s t _ takes
 
   pub looks-turn : (c : ℕ) (u v : Option (ShareState T)) (o p : OutboxState) (step : Step) → TakesOf take c u v o p step → step ≢ Full → LooksTimes take 1 u v
   looks-turn c None None o p step takes other = looks-nowhere 1

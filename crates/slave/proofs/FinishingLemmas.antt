@@ -20,7 +20,7 @@ use Rattle.slave_channels.specs.Each.{IsOnlyAt}
 use Rattle.slave.specs.Finishing.{GivesBack, GivesBackBy, IsFinishedOf, IsOpenedThere}
 use Rattle.slave_channels.specs.Accounts.{AccountStandsAfter, AccountState}
 use Rattle.slave.specs.Inner.{IsOver, Notes}
-use Rattle.slave.specs.Log.{Act, CameBack, deeds_of, entries_of, has_part, is_back, is_out, late_in, opened, past_of, sent_units, waits}
+use Rattle.slave.specs.Log.{Act, CameBack, deeds_of, entries_of, has_part, is_back, is_out, late_in, opened, past_of, sent_laid, waits}
 use Rattle.daq_engine.specs.Openings.{IsOpeningOf}
 use Rattle.session.specs.declared.profile.Profile.{Profile}
 use Rattle.slave.specs.Openings.{IsOpenedAfter, IsOpeningAfter, past_at}
@@ -179,7 +179,7 @@ module _ {S T F : Type 0} (take : TakeGhosts T F) where
             profile = ap (λ (z : SessionState). z.profile) changes.session;
             session = subst (λ z. SessionStandsAfter z (past_of d log)) (sym changes.session) has.session;
             outbox =
-                subst (λ o. OutboxStandsAfter o (sent_units d log) (waits d log)) (sym outbox) has.outbox;
+                subst (λ o. OutboxStandsAfter o (sent_laid d log) (waits d log)) (sym outbox) has.outbox;
             channels = channels-changed take (opened log) (λ k q. deeds_of d q k log) (λ k q. deeds_of d q k log) a b c x y changes (λ k q other. refl) here has.channels;
             out = out-changed take (λ k q. is_out q k log) (λ k q. is_out q k (CameBack m c past ∷ log)) a b c x y changes
                 (λ k q other. ap (λ e. has_part q k log && not e) (elsewhere m q c k (is_back q k log) (λ e. other (sym e)))) out has.out;

@@ -1,5 +1,5 @@
 -- What a slave stands after once a packet was heard.
-use Rattle.std.proofs.Common.{◌≡◌, ℕ, ◌+◌, ◌≤◌, ◌<◌, List, [], ◌∷◌, ◌++◌, ◌&&◌, length, length-append, slice_get, refl, sym, ap, ◌∙◌, subst, arith, inl, inr, Err}
+use Rattle.std.proofs.Common.{◌≡◌, ℕ, ◌+◌, ◌<◌, List, [], ◌∷◌, ◌++◌, ◌&&◌, length, length-append, slice_get, refl, sym, ap, ◌∙◌, subst, arith, inl, inr, Err}
 use Rattle.std.specs.Prelude.{Some}
 use Rattle.xcp_base.specs.Lists.{has_list}
 use Rattle.xcp_base.specs.declared.err_code.ErrCode.{ErrCode}
@@ -12,15 +12,15 @@ use Rattle.session.specs.Exchanges.{Exchange}
 use Rattle.session.specs.Starts.{is_on, starts}
 use Rattle.slave_channels.specs.Channels.{ChannelState}
 use Rattle.slave_channels.specs.Calls.{rings_of}
-use Rattle.slave.specs.Hearing.{FindsNoPlaces, GoesBy, Hears, most_before, HasNoRoom, IsIdleRefusal}
+use Rattle.slave.specs.Hearing.{FindsNoPlaces, GoesBy, Hears, MayOpen, most_before, HasNoRoom, IsIdleRefusal}
 use Rattle.session.specs.declared.profile.Profile.{Profile}
 use Rattle.slave.specs.Inner.{Answers, PartsGoBy, counting, AreAsOpened, HasOther, HasParts, IsOfOne, LaysReply, Prepares, SlaveStarted, StartsInVain, WantsPlaces}
 use Rattle.slave_channels.specs.Accounts.{AccountStandsAfter}
-use Rattle.slave.specs.Log.{Act, Heard, Refused, entries_of, late_in, past_of, sent_units, waits}
+use Rattle.slave.specs.Log.{Act, Heard, Refused, entries_of, late_in, past_of, sent_laid, waits}
 use Rattle.slave.specs.Standing.{PartsStandAfter, SlaveState, StartsOther, StartsWell}
 use Rattle.slave.proofs.AnsweringLemmas.{reply-laid}
 use Rattle.slave.proofs.StartLemmas.{starts-list}
-use Rattle.slave.proofs.WeightLemmas.{counted, recounted}
+use Rattle.slave.proofs.WeightLemmas.{cost, costs-before, counted, recounted}
 use Rattle.slave.specs.declared.limits.TheConstants.{MOST_ACTS, PER_PACKET}
 
 pub assoc : (a b c : List Act) → (a ++ b) ++ c ≡ a ++ (b ++ c)
@@ -85,10 +85,11 @@ module _ {S T : Type 0} where
       }
 
 module _ {S T F : Type 0} (take : TakeGhosts T F) where
-  goes-counted : (a b : SlaveState S T) (act : Act) (opening : List Act) → a.acts < MOST_ACTS + PER_PACKET → b.acts ≡ a.acts → length opening ≤ most_before
+  goes-counted : (a b : SlaveState S T) (act : Act) (opening : List Act) → a.acts < MOST_ACTS + PER_PACKET → b.acts ≡ a.acts → cost act ≡ 3 → MayOpen most_before opening
       → PartsGoBy take a b (act ∷ opening) → GoesBy take a (counting b PER_PACKET) (act ∷ opening)
-  goes-counted a b act opening fits counts few goes =
-      counted take a (counting b PER_PACKET) (act ∷ opening) fits (omega (arith, few)) (omega (arith, counts, few)) (recounted take a b (act ∷ opening) PER_PACKET goes)
+  goes-counted a b act opening fits counts own may_open goes =
+      let few = may_open.few in
+      counted take a (counting b PER_PACKET) (act ∷ opening) fits (omega (arith, few)) (omega (arith, counts, own, few, costs-before opening may_open.are)) (recounted take a b (act ∷ opening) PER_PACKET goes)
 
   -- a packet whose lists were started was answered
   pub heard : (a k b : SlaveState S T) (lists : ℕ) (packet : List ℕ) (given : Given) → Prepares take most_before a k lists → k.session ≡ a.session → b.acts ≡ a.acts → a.acts < MOST_ACTS + PER_PACKET
@@ -109,7 +110,7 @@ module _ {S T F : Type 0} (take : TakeGhosts T F) where
             ];
         places = λ log stands run code is other. absurd (not-refused answers.exchange packet code is);
         when_idle = λ log stands none code is. absurd (not-refused answers.exchange packet code is);
-        goes = goes-counted a b (Heard answers.exchange) prepares.opening fits counts prepares.may_open.few (
+        goes = goes-counted a b (Heard answers.exchange) prepares.opening fits counts refl prepares.may_open (
           answers.lines ∙ prepares.lines,
           λ log few stands.
               let before = prepares.opening ++ log in
@@ -148,7 +149,7 @@ module _ {S T F : Type 0} (take : TakeGhosts T F) where
         when_idle = λ log stands none named is.
             idle-refused a.session.profile (past_of d log) a.number k (counting b PER_PACKET) named vain.opening channels
             (subst (λ z. IsIdleRefusal d (past_of d log) a.number k z vain.opening) (code-of packet code named is) (vain.when_idle (past_of d log) stands.parts.has.session none));
-        goes = goes-counted a b (Refused packet code) vain.opening fits (ap (λ (s : SlaveState S T). s.acts) rest ∙ counts) vain.may_open.few (
+        goes = goes-counted a b (Refused packet code) vain.opening fits (ap (λ (s : SlaveState S T). s.acts) rest ∙ counts) refl vain.may_open (
           ap rings_of channels ∙ vain.goes.0,
           λ log few stands.
               let before = vain.opening ++ log in
@@ -170,7 +171,7 @@ module _ {S T F : Type 0} (take : TakeGhosts T F) where
                   );
                   profile = ap (λ (s : SessionState). s.profile) (session ∙ same);
                   session = subst (λ s. SessionStandsAfter s (past_of d before)) (sym session) has.session;
-                  outbox = reply-laid k.outbox b.outbox reply (sent_units d before) (waits d before) lays has.outbox;
+                  outbox = reply-laid k.outbox b.outbox reply (sent_laid d before) (waits d before) lays has.outbox;
                   channels = λ c ch at. has.channels c ch (ap (λ xs. slice_get xs c) (sym channels) ∙ at);
                   out = λ c ch at. has.out c ch (ap (λ xs. slice_get xs c) (sym channels) ∙ at);
                   as_logged = λ c ch at. has.as_logged c ch (ap (λ xs. slice_get xs c) (sym channels) ∙ at);

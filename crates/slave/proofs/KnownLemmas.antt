@@ -1,5 +1,5 @@
 -- Once all parts came back, all that was laid out is known.
-use Rattle.std.proofs.Common.{◌≡◌, ℕ, zero, suc, ◌+◌, ◌<◌, Bool, true, false, ◌&&◌, ◌||◌, nat_eq, if◌then◌else◌, List, [], ◌∷◌, drop, length, slice_get, sym, ap, ◌∙◌, subst, arith, inl, inr}
+use Rattle.std.proofs.Common.{◌≡◌, ℕ, zero, suc, ◌<◌, Bool, true, false, ◌&&◌, ◌||◌, nat_eq, if◌then◌else◌, List, [], ◌∷◌, drop, length, slice_get, sym, ap, ◌∙◌, subst, arith, inl, inr}
 use Rattle.std.proofs.lemmas.Bool.{false≢true}
 use Rattle.std.proofs.lemmas.Bool.Decides.{eqb_tells}
 use Rattle.slave_channels.specs.Accounts.{end_of}
@@ -12,15 +12,16 @@ use Rattle.session.specs.Exchanges.{reply_in}
 use Rattle.session.specs.declared.profile.Profile.{Profile}
 use Rattle.daq_engine.proofs.PidLemmas.{all-append, all-mono}
 use Rattle.slave_outbox.specs.Deeds.{passes}
-use Rattle.slave_outbox.specs.Outboxes.{Laid}
-use Rattle.slave_outbox.specs.declared.unit.Origin.{Origin}
-use Rattle.slave_outbox.specs.declared.unit.Origin.TheVariants as origin
-use Rattle.slave.specs.Log.{AllBack, Act, CameBack, Discarded, Heard, HungUp, Opened, Refused, Sent, Took, deeds_of, entries_of, has_part, is_back, laid, laid_by, opened, origins, past_of, reply_laid, sample_laid, sent_units, waits}
+use Rattle.slave_outbox.specs.Outboxes.{Laid, origins_in}
+use Rattle.slave_outbox.specs.declared.origin.Origin.{Origin}
+use Rattle.slave_outbox.specs.declared.origin.Origin.TheVariants as origin
+use Rattle.slave.specs.Log.{AllBack, Act, CameBack, Discarded, Heard, HungUp, Opened, Refused, Sent, Took, deeds_of, entries_of, has_part, is_back, laid, laid_by, opened, past_of, reply_laid, sample_laid, sent_laid, waits}
 use Rattle.slave.specs.Session.{AreKnown, IsKnown}
 use Rattle.slave.specs.Standing.{IsLog}
 use Rattle.slave.proofs.DeedLemmas.{opened-more, out-part}
 use Rattle.slave.proofs.LaidLemmas.{all-parts}
 use Rattle.slave.proofs.RunLemmas.{apart}
+use Rattle.slave.proofs.TogetherLemmas.{all-from}
 
 -- what is from a ring is from that of a part
 abbrev pub IsOfPart : Profile → List Act → Origin → Type 0
@@ -49,7 +50,7 @@ reply-of-part d log (Some packet) = (tt, tt)
 
 sample-of-part : (d : Profile) (log : List Act) (m c : ℕ) (b : Bool) (s : SampleParts) → IsOfPart d log (origin.Sample m c s.list) → AllByRecursion (OfPart d log) (sample_laid b m c s)
 sample-of-part d log m c false s is = tt
-sample-of-part d log m c true s is = (is, tt)
+sample-of-part d log m c true s is = all-from (IsOfPart d log) (origin.Sample m c s.list) s.packets is
 
 by-part : (d : Profile) (act : Act) (log : List Act) → IsLog d (act ∷ log) → AllByRecursion (OfPart d (act ∷ log)) (laid_by d act log)
 by-part d (Heard x) log is = reply-of-part d (Heard x ∷ log) (reply_in d (past_of d log) x)
@@ -101,14 +102,27 @@ parts-wait d (act ∷ log) is = by act is (all-mono (OfPart d log) (OfPart d (ac
   by Discarded is before = tt
 
 -- so the one at a place is
-pub part-at : (d : Profile) (log : List Act) (xs : List Laid) (n : ℕ) (x : Origin) → AllByRecursion (λ (y : Laid). IsOfPart d log y.origin) xs → slice_get (origins xs) n ≡ Some x → IsOfPart d log x
-part-at d log [] n x are at = absurd (none at) where
+pub part-at : (d : Profile) (log : List Act) (xs : List Laid) (n : ℕ) (x : Origin) → AllByRecursion (λ (y : Laid). IsOfPart d log y.origin) xs → slice_get (origins_in xs) n ≡ Some x → IsOfPart d log x
+part-at d log xs n x are at = among (origins_in xs) n (origins-are xs are) at where
   none : {y : Origin} → None ≡ Some y → ⊥
   none e = cc
-part-at d log (y ∷ xs) zero x are at = subst (IsOfPart d log) (some-inj y.origin x at) are.0 where
+
   some-inj : (u v : Origin) → Some u ≡ Some v → u ≡ v
   some-inj u v e = cc
-part-at d log (y ∷ xs) (suc n) x are at = part-at d log xs n x are.1 at
+
+  among : (os : List Origin) (k : ℕ) → AllByRecursion (IsOfPart d log) os → slice_get os k ≡ Some x → IsOfPart d log x
+  among [] k all there = absurd (none there)
+  among (o ∷ os) zero all there = subst (IsOfPart d log) (some-inj o x there) all.0
+  among (o ∷ os) (suc k) all there = among os k all.1 there
+
+  origins-are : (ys : List Laid) → AllByRecursion (λ (y : Laid). IsOfPart d log y.origin) ys → AllByRecursion (IsOfPart d log) (origins_in ys)
+  origins-are [] all = tt
+  origins-are (y ∷ ys) all =
+      let more = origins-are ys all.1 in
+      elim y.last as (λ b. AllByRecursion (IsOfPart d log) (if b then y.origin ∷ origins_in ys else origins_in ys)) [
+        | true ↦ (all.0, more)
+        | false ↦ more
+      ]
 
 -- what came back is among the entries
 pub back-end : (d : Profile) (log : List Act) (m c : ℕ) → is_back m c log ≡ true → m < end_of (entries_of d log)
@@ -132,8 +146,8 @@ part-known : (d : Profile) (log : List Act) → AllBack d log → (o : Origin) �
 part-known d log back origin.Reply is = tt
 part-known d log back (origin.Sample m c l) is = back m c is.0 is.2
 
-pub all-known : (d : Profile) (log : List Act) → IsLog d log → AllBack d log → AreKnown log (sent_units d log)
+pub all-known : (d : Profile) (log : List Act) → IsLog d log → AllBack d log → AreKnown log (sent_laid d log)
 all-known d log is back =
     let Known : Laid → Type 0 = λ x. IsKnown log x.origin in
     let laid_known = all-mono (OfPart d log) Known (laid d log) (λ x. part-known d log back x.origin) (parts-laid d log is) in
-    All-from_recursion Known (sent_units d log) (all-parts Known d log laid_known).0
+    All-from_recursion Known (sent_laid d log) (all-parts Known d log laid_known).0

@@ -6,6 +6,7 @@ pub mod CollectingLemmas
 pub mod ClosingLemmas
 pub mod LogLemmas
 pub mod ThinnedLemmas
+pub mod TogetherLemmas
 pub mod LaidLemmas
 pub mod ReplyLemmas
 pub mod DisguiseLemmas

@@ -8,7 +8,8 @@ use Rattle.session.specs.declared.profile.Profile.{Profile}
 use Rattle.slave_outbox.specs.Deeds.{Deed, passes}
 use Rattle.slave_outbox.specs.Deeds.{Took as TookItem}
 use Rattle.slave_outbox.specs.Deeds.{runs as runs_there}
-use Rattle.slave.specs.Log.{Act, CameBack, Discarded, Heard, HungUp, Opened, Refused, Sent, Took, deeds_of, is_newest, opened, ordered_by, origins, past_of, starts_at, starts_on, stops_at, waits, with_starts}
+use Rattle.slave_outbox.specs.Outboxes.{origins_in}
+use Rattle.slave.specs.Log.{Act, CameBack, Discarded, Heard, HungUp, Opened, Refused, Sent, Took, deeds_of, is_newest, opened, ordered_by, past_of, starts_at, starts_on, stops_at, waits, with_starts}
 use Rattle.slave.specs.Laws.{NothingOutsideARun}
 use Rattle.slave.specs.Standing.{IsLog}
 use Rattle.slave.proofs.DeedLemmas.{unsent-runs}
@@ -93,7 +94,7 @@ ties d (HungUp ∷ log) is m c l below there =
     let tells = newest-tells m log in
     newest-if d m c l HungUp log (is_newest m log) tells.0 tells.1 refl below (ties d log is m c l below) there
 ties d (Discarded ∷ log) is m c l below there =
-    ties d log is m c l below (sym (unsent-runs m c (origins (waits d log)) (deeds_of d m c log) l) ∙ there)
+    ties d log is m c l below (sym (unsent-runs m c (origins_in (waits d log)) (deeds_of d m c log) l) ∙ there)
 
 pub nothing_outside : NothingOutsideARun
 nothing_outside d log is m c l below passes = ties d log is m c l below (pass-runs (deeds_of d m c log) l passes)

@@ -23,6 +23,7 @@ use Rattle.slave.specs.Standing.{SlaveState}
 use Rattle.slave.specs.Taking.{IsEmptyAt, IsHeldUp, LooksAt, LooksThrough, LooksTimes, newest_at, newest_part}
 use Rattle.slave.specs.declared.round.Round.{Round}
 use Rattle.slave.specs.declared.round.Round.TheVariants.{Empty, HeldUp, Took}
+use Rattle.slave.specs.declared.limits.TheConstants.{PER_ACT}
 use Rattle.slave.proofs.FairLemmas.{FairSoFar, looked-through, looks-held, looks-turn, still-spent}
 use Rattle.slave.proofs.OutLemmas.{some-at}
 use Rattle.std.proofs.lemmas.Option.{slice_get_within}
@@ -44,7 +45,7 @@ acts-none Nothing none other = refl
 acts-none Full none other = absurd (other refl)
 acts-none (Marked l) none other = absurd (omega (arith, none))
 acts-none (Skipped l) none other = absurd (omega (arith, none))
-acts-none (Wrote l end) none other = absurd (omega (arith, none))
+acts-none (Wrote l len) none other = absurd (omega (arith, none))
 
 module _ {T F : Type 0} (take : TakeGhosts T F) where
   looked-back : (a b : IntakeState T) → OnlyLooked take a b → (deeds : List Deed) → StandsAfter take b deeds → StandsAfter take a deeds
@@ -217,11 +218,11 @@ module _ {S T F : Type 0} (take : TakeGhosts T F) where
 
   -- a round that wasn't the last took something, but for the first one
   pub went-more : (f a b : SlaveState S T) (begin rounds : ℕ) (r : Round) → EndsRound take a b begin r → (r ≡ Took) ⊎ ((r ≡ Empty) × (0 < begin)) → f.acts ≤ a.acts → a.acts ≤ b.acts
-      → (rounds ≡ 0) ⊎ ((begin ≡ 0) × (f.acts + 3 * (rounds - 1) ≤ a.acts)) → f.acts + 3 * (rounds + 1 - 1) ≤ b.acts
+      → (rounds ≡ 0) ⊎ ((begin ≡ 0) × (f.acts + PER_ACT * (rounds - 1) ≤ a.acts)) → f.acts + PER_ACT * (rounds + 1 - 1) ≤ b.acts
   went-more f a b begin rounds r ends kind from grows went =
       elim kind [
         | inl took ↦
-            let more : a.acts + 3 ≤ b.acts = (subst (EndsRound take a b begin) took ends).1 in
+            let more : a.acts + PER_ACT ≤ b.acts = (subst (EndsRound take a b begin) took ends).1 in
             elim went [
               | inl none ↦ omega (arith, none, from, grows)
               | inr w ↦ let so_far = w.1 in omega (arith, more, so_far)
@@ -259,7 +260,7 @@ module _ {S T F : Type 0} (take : TakeGhosts T F) where
       ]
 
   -- or there were 1,024 rounds
-  pub through-many : (f b : SlaveState S T) (begin rounds : ℕ) → rounds ≡ 1024 → (rounds ≡ 0) ⊎ ((begin ≡ 0) × (f.acts + 3 * (rounds - 1) ≤ b.acts)) → b.next ≡ 0 → FairSoFar take f b rounds → LooksThrough take f b
+  pub through-many : (f b : SlaveState S T) (begin rounds : ℕ) → rounds ≡ 1024 → (rounds ≡ 0) ⊎ ((begin ≡ 0) × (f.acts + PER_ACT * (rounds - 1) ≤ b.acts)) → b.next ≡ 0 → FairSoFar take f b rounds → LooksThrough take f b
   through-many f b begin rounds many went first fair =
       elim went [
         | inl none ↦ absurd (omega (arith, many, none))

@@ -1,15 +1,14 @@
 -- What a slave stands after once something was sent.
 use Rattle.std.proofs.Common.{◌≡◌, ℕ, zero, suc, ◌+◌, ◌<◌, ◌≤◌, min, List, [], ◌∷◌, ◌++◌, append-nil, length, drop, take as first, slice_get, refl, sym, ap, ◌∙◌, subst, arith, inl, inr}
 use Rattle.std.proofs.lemmas.Bool.Decides.{leb_tells}
-use Rattle.std.proofs.lemmas.List.{length-map}
 use Rattle.channel_ring.specs.declared.ends.TakeEnd.{Ghosts as TakeGhosts}
 use Rattle.session.specs.Standing.{SessionStandsAfter, SessionState}
-use Rattle.slave_outbox.specs.Outboxes.{Laid, OutboxState, unit_of}
+use Rattle.slave_outbox.specs.Outboxes.{Laid, OutboxState}
 use Rattle.slave_outbox.specs.Outboxes.{StandsAfter as OutboxStandsAfter}
 use Rattle.slave_channels.specs.Calls.{rings_of}
 use Rattle.slave.specs.Hearing.{GoesBy}
 use Rattle.slave.specs.Inner.{PartsGoBy}
-use Rattle.slave.specs.Log.{Act, Sent, entries_of, late_in, past_of, sending, sent_units, waits}
+use Rattle.slave.specs.Log.{Act, Sent, entries_of, late_in, past_of, sending, sent_laid, waits}
 use Rattle.slave_channels.specs.Accounts.{AccountStandsAfter}
 use Rattle.slave.specs.Standing.{PartsStandAfter, SlaveState}
 use Rattle.slave.specs.declared.limits.TheConstants.{MOST_ACTS, PER_PACKET}
@@ -50,7 +49,7 @@ drop-min n m xs is =
 
 module _ {S T F : Type 0} (take : TakeGhosts T F) where
   -- the first of what waited was sent
-  sent-stands : (a b : SlaveState S T) (shown n : ℕ) → n ≡ min shown (length a.outbox.units) → b ≡ record a { outbox = b.outbox }
+  sent-stands : (a b : SlaveState S T) (shown n : ℕ) → n ≡ min shown (length a.outbox.waits) → b ≡ record a { outbox = b.outbox }
       → ((sent waits : List Laid) → OutboxStandsAfter a.outbox sent waits → OutboxStandsAfter b.outbox (sent ++ first shown waits) (drop shown waits))
       → PartsGoBy take a b (Sent n ∷ [])
   sent-stands a b shown n many rest moves = (
@@ -59,9 +58,8 @@ module _ {S T F : Type 0} (take : TakeGhosts T F) where
         let d = a.session.profile in
         let has = stands.has in
         let wait = waits d log in
-        let units : length a.outbox.units ≡ length wait = ap length has.outbox.units ∙ length-map wait unit_of in
-        let n_is : n ≡ min shown (length wait) = many ∙ ap (min shown) units in
-        let moved = moves (sent_units d log) wait has.outbox in
+        let n_is : n ≡ min shown (length wait) = many ∙ ap (λ xs. min shown (length xs)) has.outbox.waiting in
+        let moved = moves (sent_laid d log) wait has.outbox in
         let session = ap (λ (s : SlaveState S T). s.session) rest in
         let channels = ap (λ (s : SlaveState S T). s.channels) rest in
         record {
@@ -70,8 +68,8 @@ module _ {S T F : Type 0} (take : TakeGhosts T F) where
             is_log = (omega (arith, n_is), has.is_log);
             profile = ap (λ (s : SessionState). s.profile) session;
             session = subst (λ s. SessionStandsAfter s (past_of d log)) (sym session) has.session;
-            outbox = subst (λ ys. OutboxStandsAfter b.outbox (sent_units d log ++ ys) (drop n wait)) (take-min shown n wait n_is)
-                (subst (λ ys. OutboxStandsAfter b.outbox (sent_units d log ++ first shown wait) ys) (drop-min shown n wait n_is) moved);
+            outbox = subst (λ ys. OutboxStandsAfter b.outbox (sent_laid d log ++ ys) (drop n wait)) (take-min shown n wait n_is)
+                (subst (λ ys. OutboxStandsAfter b.outbox (sent_laid d log ++ first shown wait) ys) (drop-min shown n wait n_is) moved);
             channels = λ c ch at. has.channels c ch (ap (λ zs. slice_get zs c) (sym channels) ∙ at);
             out = λ c ch at. has.out c ch (ap (λ zs. slice_get zs c) (sym channels) ∙ at);
             as_logged = λ c ch at. has.as_logged c ch (ap (λ zs. slice_get zs c) (sym channels) ∙ at);
@@ -86,7 +84,7 @@ module _ {S T F : Type 0} (take : TakeGhosts T F) where
 
   -- where the outbox alone changed, and it stands after the same
   outbox-alone : (a b : SlaveState S T) (log : List Act) → b ≡ record a { outbox = b.outbox }
-      → OutboxStandsAfter b.outbox (sent_units a.session.profile log) (waits a.session.profile log)
+      → OutboxStandsAfter b.outbox (sent_laid a.session.profile log) (waits a.session.profile log)
       → PartsStandAfter take a.session.profile a log → PartsStandAfter take a.session.profile b log
   outbox-alone a b log rest outbox stands =
       let d = a.session.profile in
@@ -119,12 +117,12 @@ module _ {S T F : Type 0} (take : TakeGhosts T F) where
         let d = a.session.profile in
         let box = stands.has.outbox in
         outbox-alone a b log rest
-        (subst (λ o. OutboxStandsAfter o (sent_units d log) (waits d log)) (sym same)
-        (record { gone = box.gone; counter = box.counter; waiting = box.waiting; units = box.units })) stands,
+        (subst (λ o. OutboxStandsAfter o (sent_laid d log) (waits d log)) (sym same)
+        (record { gone = box.gone; counter = box.counter; waiting = box.waiting })) stands,
   )
 
   -- nothing was sent
-  sent-nothing : (a b : SlaveState S T) (shown n : ℕ) → n ≡ min shown (length a.outbox.units) → b ≡ record a { outbox = b.outbox }
+  sent-nothing : (a b : SlaveState S T) (shown n : ℕ) → n ≡ min shown (length a.outbox.waits) → b ≡ record a { outbox = b.outbox }
       → ((sent waits : List Laid) → OutboxStandsAfter a.outbox sent waits → OutboxStandsAfter b.outbox (sent ++ first shown waits) (drop shown waits))
       → n ≡ 0 → PartsGoBy take a b []
   sent-nothing a b shown n many rest moves none = (
@@ -133,16 +131,15 @@ module _ {S T F : Type 0} (take : TakeGhosts T F) where
         let d = a.session.profile in
         let box = stands.has.outbox in
         let wait = waits d log in
-        let sent = sent_units d log in
-        let units : length a.outbox.units ≡ length wait = ap length box.units ∙ length-map wait unit_of in
-        let n_is : 0 ≡ min shown (length wait) = sym none ∙ many ∙ ap (min shown) units in
+        let sent = sent_laid d log in
+        let n_is : 0 ≡ min shown (length wait) = sym none ∙ many ∙ ap (λ xs. min shown (length xs)) box.waiting in
         outbox-alone a b log rest
         (subst (λ ys. OutboxStandsAfter b.outbox ys wait) (ap (λ ys. sent ++ ys) (take-min shown 0 wait n_is) ∙ append-nil sent)
         (subst (λ ys. OutboxStandsAfter b.outbox (sent ++ first shown wait) ys) (drop-min shown 0 wait n_is) (moves sent wait box))) stands,
   )
 
   -- so many of what waited, if these are any
-  sends : (a b : SlaveState S T) (shown n : ℕ) → n ≡ min shown (length a.outbox.units) → b ≡ record a { outbox = b.outbox } → a.acts < MOST_ACTS + PER_PACKET
+  sends : (a b : SlaveState S T) (shown n : ℕ) → n ≡ min shown (length a.outbox.waits) → b ≡ record a { outbox = b.outbox } → a.acts < MOST_ACTS + PER_PACKET
       → ((sent waits : List Laid) → OutboxStandsAfter a.outbox sent waits → OutboxStandsAfter b.outbox (sent ++ first shown waits) (drop shown waits))
       → GoesBy take a b (sending n)
   sends a b shown n many rest fits moves =
@@ -156,22 +153,10 @@ module _ {S T F : Type 0} (take : TakeGhosts T F) where
       subst (λ (u : SlaveState S T). GoesBy take u (record w { outbox = o }) []) same
       (shows w (record w { outbox = o }) refl rest (subst (λ (u : SlaveState S T). u.acts < MOST_ACTS + PER_PACKET) (sym same) fits))
 
-  pub sent-of : (v w : SlaveState S T) (o : OutboxState) (n : ℕ) → w ≡ v → v.acts < MOST_ACTS + PER_PACKET → n ≡ min v.outbox.shown (length v.outbox.units)
+  pub sent-of : (v w : SlaveState S T) (o : OutboxState) (n : ℕ) → w ≡ v → v.acts < MOST_ACTS + PER_PACKET → n ≡ min v.outbox.shown (length v.outbox.waits)
       → ((sent waits : List Laid) → OutboxStandsAfter w.outbox sent waits → OutboxStandsAfter o (sent ++ first w.outbox.shown waits) (drop w.outbox.shown waits))
       → GoesBy take v (record w { outbox = o }) (sending n)
   sent-of v w o n same fits many moves =
       subst (λ (u : SlaveState S T). ((sent waits : List Laid) → OutboxStandsAfter u.outbox sent waits → OutboxStandsAfter o (sent ++ first u.outbox.shown waits) (drop u.outbox.shown waits))
       → GoesBy take v (record u { outbox = o }) (sending n)) (sym same)
       (λ moved. sends v (record v { outbox = o }) v.outbox.shown n many refl fits moved) moves
-
-  pub put-of : (v w : SlaveState S T) (o : OutboxState) → w ≡ v → v.acts < MOST_ACTS + PER_PACKET
-      → ((sent waits : List Laid) → OutboxStandsAfter w.outbox sent waits → OutboxStandsAfter o (sent ++ waits) [])
-      → GoesBy take v (record w { outbox = o }) (sending (length v.outbox.units))
-  put-of v w o same fits moves =
-      subst (λ (u : SlaveState S T). ((sent waits : List Laid) → OutboxStandsAfter u.outbox sent waits → OutboxStandsAfter o (sent ++ waits) [])
-      → GoesBy take v (record u { outbox = o }) (sending (length v.outbox.units))) (sym same)
-      (λ moved. sends v (record v { outbox = o }) (length v.outbox.units) (length v.outbox.units) (omega arith) refl fits
-      (λ sent waits stands.
-      let many : length v.outbox.units ≡ length waits = ap length stands.units ∙ length-map waits unit_of in
-      subst (λ ys. OutboxStandsAfter o (sent ++ ys) (drop (length v.outbox.units) waits)) (sym (take-whole (length v.outbox.units) waits (omega (arith, many))))
-      (subst (λ ys. OutboxStandsAfter o (sent ++ waits) ys) (sym (drop-whole (length v.outbox.units) waits (omega (arith, many)))) (moved sent waits stands)))) moves

@@ -1,11 +1,10 @@
 -- The law of a slave's log.
-use Rattle.std.proofs.Common.{◌≡◌, ℕ, Bool, true, false, ◌&&◌, ◌||◌, nat_eq, if◌then◌else◌, List, [], ◌∷◌, ◌++◌, append-nil, append_assoc, map, refl, sym, ap, ◌∙◌, subst, arith, ◌⊎◌, inl, inr}
-use Rattle.std.specs.Prelude.{filter, Option, Some, None, Err}
+use Rattle.std.proofs.Common.{◌≡◌, ℕ, Bool, true, false, ◌&&◌, ◌||◌, nat_eq, if◌then◌else◌, List, [], ◌∷◌, ◌++◌, refl, sym, ap, ◌∙◌, subst, arith, inl, inr}
+use Rattle.std.specs.Prelude.{filter, flat_map, Option, Some, None, Err}
 use Rattle.std.specs.List.{AllByRecursion}
 use Rattle.std.proofs.lemmas.Bool.{false≢true}
-use Rattle.std.proofs.lemmas.List.Elements.{All-from_recursion, All-weaker, filter-append, recursion_from_All}
+use Rattle.std.proofs.lemmas.List.Elements.{All-from_recursion, All-weaker, recursion_from_All}
 use Rattle.std.proofs.lemmas.List.Sums.{sum_by-cons}
-use Rattle.xcp_base.specs.Packets.{ArePackets, IsPacket}
 use Rattle.xcp_base.specs.Samples.{SampleParts}
 use Rattle.xcp_base.specs.declared.item.Item.TheVariants.{Marker, Sample}
 use Rattle.session.specs.Exchanges.{reply_in}
@@ -13,27 +12,29 @@ use Rattle.session.specs.Fields.{begins_reply, packet_of}
 use Rattle.session.specs.Profiles.{IsProfile}
 use Rattle.session.specs.declared.profile.Profile.{Profile}
 use Rattle.sampler.specs.Past.{Past as SamplerPast}
+use Rattle.channel_ring.specs.Making.{ArePackets, IsPacket}
 use Rattle.daq_engine.proofs.PidLemmas.{all-append, all-mono}
 use Rattle.slave_outbox.specs.Deeds.{passed, passes}
 use Rattle.slave_outbox.proofs.AccountLemmas.{line-stands}
-use Rattle.slave_outbox.specs.Outboxes.{Laid, packets_in}
-use Rattle.slave_outbox.specs.Units.{is_reply}
-use Rattle.slave_outbox.specs.declared.unit.Origin.{Origin}
-use Rattle.slave_outbox.specs.declared.unit.Origin.TheVariants as origin
+use Rattle.slave_outbox.specs.Outboxes.{Laid, packets_in, together}
+use Rattle.slave_outbox.specs.Origins.{is_reply}
+use Rattle.slave_outbox.specs.declared.origin.Origin.{Origin}
+use Rattle.slave_outbox.specs.declared.origin.Origin.TheVariants as origin
 use Rattle.frame_writer.proofs.SplitLemmas.{split_of_text}
 use Rattle.frame_writer.specs.Split.{Fits}
 use Rattle.slave_channels.specs.Accounts.{Entry, accepted_of, dropped_of, due_of, written_of}
-use Rattle.slave.specs.Log.{Act, CameBack, Discarded, Heard, HungUp, Opened, Refused, Sent, Took, deeds_of, entries_of, is_back, is_of_ring, laid, laid_by, past_of, reply_laid, sample_laid, sent_units, waits}
-use Rattle.slave.specs.Session.{AddsUp, AddsUpIn, BeginsOtherwise, IsKnown, IsNoReply, IsTold, SessionLaw, answers_in, from_ring, left_of, packets_sent, replies_of, sample_of}
+use Rattle.slave.specs.Log.{Act, CameBack, Discarded, Heard, HungUp, Opened, Refused, Sent, Took, deeds_of, entries_of, is_back, is_of_ring, laid, laid_by, past_of, reply_laid, sample_laid, sent_laid}
+use Rattle.slave.specs.Session.{AddsUp, AddsUpIn, BeginsOtherwise, IsKnown, IsTold, SessionLaw, answers_in, from_ring, left_of, packets_sent, replies_of, sample_of}
 use Rattle.slave.specs.Standing.{ComesBack, IsLog}
 use Rattle.slave.proofs.ChangeLemmas.{change-accepted}
 use Rattle.slave.proofs.DisguiseLemmas.{HasPackets, IsDaq, taken-daq}
 use Rattle.slave.proofs.KnownLemmas.{all-known}
-use Rattle.slave.proofs.LaidLemmas.{all-parts, answers-laid, answers-sent, both-same, each-once, in-order, is-answered, is-bool, is-since, log-behind, no-more, sent-are, sent-in-order, unsent-noted, written-laid}
+use Rattle.slave.proofs.LaidLemmas.{all-parts, answers-laid, answers-sent, both-same, each-once, in-order, is-answered, is-bool, is-since, ends-written, log-behind, no-more, sent-are, sent-in-order, unsent-noted, written-laid}
 use Rattle.session.proofs.FitLemmas.{IfReply, IsReply, refusal-is, reply-is}
 use Rattle.slave.proofs.ReplyLemmas.{reply-fits}
 use Rattle.slave.proofs.RunLemmas.{here}
 use Rattle.slave.proofs.StopLemmas.{stop-holds}
+use Rattle.slave.proofs.TogetherLemmas.{all-packets}
 use Rattle.slave.proofs.WithinLemmas.{silent, within}
 
 -- what came back, came back at an act
@@ -73,7 +74,7 @@ or-left false b x = absurd (false≢true x)
 
 -- what was laid out of its ring is what passed till then
 written-back : (d : Profile) (log : List Act) → IsLog d log → (m c : ℕ) (past : SamplerPast) (later earlier : List Act) → log ≡ later ++ CameBack m c past ∷ earlier
-    → from_ring m c (laid d log) ≡ map (sample_of m c) (passed (deeds_of d m c earlier))
+    → from_ring m c (laid d log) ≡ flat_map (sample_of m c) (passed (deeds_of d m c earlier))
 written-back d log is m c past later earlier split =
     let back : is_back m c (CameBack m c past ∷ earlier) ≡ true = or-left (nat_eq m m && nat_eq c c) (is_back m c earlier) (and-both (nat_eq m m) (nat_eq c c) (here m m refl) (here c c refl)) in
     ap (λ xs. from_ring m c (laid d xs)) split
@@ -126,20 +127,21 @@ add-up-all d (Sent n ∷ log) is l = add-up-all d log is.1 l
 add-up-all d (HungUp ∷ log) is l = add-up-all d log is l
 add-up-all d (Discarded ∷ log) is l = add-up-all d log is l
 
--- the packets of something that was laid out
-abbrev AllPackets : (List ℕ → Type 0) → Laid → Type 0
-AllPackets P x = AllByRecursion P x.packets
+-- the packet that was laid out
+abbrev OfPacket : (List ℕ → Type 0) → Laid → Type 0
+OfPacket P x = P x.packet
 
 -- of a ring whose sampler came back each is that of a sample
-samples-daq : (m c : ℕ) (ss : List SampleParts) → AllByRecursion HasPackets ss → AllByRecursion (AllPackets IsDaq) (map (sample_of m c) ss)
+samples-daq : (m c : ℕ) (ss : List SampleParts) → AllByRecursion HasPackets ss → AllByRecursion (OfPacket IsDaq) (flat_map (sample_of m c) ss)
 samples-daq m c [] all = tt
-samples-daq m c (s ∷ ss) all = (all.0, samples-daq m c ss all.1)
+samples-daq m c (s ∷ ss) all =
+    all-append (OfPacket IsDaq) (sample_of m c s) (flat_map (sample_of m c) ss) (all-packets IsDaq (origin.Sample m c s.list) s.packets all.0) (samples-daq m c ss all.1)
 
-ring-daq : (d : Profile) (log : List Act) → IsLog d log → (m c : ℕ) → is_back m c log ≡ true → AllByRecursion (AllPackets IsDaq) (from_ring m c (laid d log))
+ring-daq : (d : Profile) (log : List Act) → IsLog d log → (m c : ℕ) → is_back m c log ≡ true → AllByRecursion (OfPacket IsDaq) (from_ring m c (laid d log))
 ring-daq d log is m c back =
     let at = back-at m c log back in
     let comes = comes-back d log is m c at.past at.later at.earlier at.log_is in
-    subst (AllByRecursion (AllPackets IsDaq)) (sym (written-back d log is m c at.past at.later at.earlier at.log_is))
+    subst (AllByRecursion (OfPacket IsDaq)) (sym (written-back d log is m c at.past at.later at.earlier at.log_is))
     (samples-daq m c (passed (deeds_of d m c at.earlier)) (taken-daq at.past (deeds_of d m c at.earlier) comes.plans comes.front))
 
 of-filter : {X : Type 0} (p : X → Bool) (P : X → Type 0) (xs : List X) → AllByRecursion P (filter p xs) → AllByRecursion (λ x. p x ≡ true → P x) xs
@@ -162,24 +164,27 @@ of-rings : (log : List Act) (Q : Laid → Type 0) (xs : List Laid) → ((m c : �
 of-rings log Q [] each = tt
 of-rings log Q (x ∷ xs) each = (of-origin log (Q x) x.origin (λ m c back. (each m c back).0), of-rings log Q xs (λ m c back. (each m c back).1))
 
-known-daq : (d : Profile) (log : List Act) → IsLog d log → AllByRecursion (OfKnown log (AllPackets IsDaq)) (laid d log)
+known-daq : (d : Profile) (log : List Act) → IsLog d log → AllByRecursion (OfKnown log (OfPacket IsDaq)) (laid d log)
 known-daq d log is =
-    of-rings log (AllPackets IsDaq) (laid d log)
-    (λ m c back. of-filter (λ (x : Laid). is_of_ring m c x.origin) (AllPackets IsDaq) (laid d log) (ring-daq d log is m c back))
+    of-rings log (OfPacket IsDaq) (laid d log)
+    (λ m c back. of-filter (λ (x : Laid). is_of_ring m c x.origin) (OfPacket IsDaq) (laid d log) (ring-daq d log is m c back))
 
 -- each answer is a reply
 abbrev OfAnswer : (Laid → Type 0) → Laid → Type 0
 OfAnswer Q x = is_reply x.origin ≡ true → Q x
 
-reply-one : (P : List ℕ → Type 0) (reply : Option (List ℕ)) → IfReply P reply → AllByRecursion (OfAnswer (AllPackets P)) (reply_laid reply)
+reply-one : (P : List ℕ → Type 0) (reply : Option (List ℕ)) → IfReply P reply → AllByRecursion (OfAnswer (OfPacket P)) (reply_laid reply)
 reply-one P None is = tt
-reply-one P (Some q) is = (λ h. (is, tt), tt)
+reply-one P (Some q) is = (λ h. is, tt)
 
-sample-one : (P : List ℕ → Type 0) (m c : ℕ) (b : Bool) (s : SampleParts) → AllByRecursion (OfAnswer (AllPackets P)) (sample_laid b m c s)
+sample-one : (P : List ℕ → Type 0) (m c : ℕ) (b : Bool) (s : SampleParts) → AllByRecursion (OfAnswer (OfPacket P)) (sample_laid b m c s)
 sample-one P m c false s = tt
-sample-one P m c true s = (λ h. absurd (false≢true h), tt)
+sample-one P m c true s = no-answers s.packets where
+  no-answers : (qs : List (List ℕ)) → AllByRecursion (OfAnswer (OfPacket P)) (together (origin.Sample m c s.list) qs)
+  no-answers [] = tt
+  no-answers (q ∷ qs) = (λ h. absurd (false≢true h), no-answers qs)
 
-by-reply : (d : Profile) (act : Act) (log : List Act) → AllByRecursion (OfAnswer (AllPackets (IsReply d))) (laid_by d act log)
+by-reply : (d : Profile) (act : Act) (log : List Act) → AllByRecursion (OfAnswer (OfPacket (IsReply d))) (laid_by d act log)
 by-reply d (Heard x) log = reply-one (IsReply d) (reply_in d (past_of d log) x) (reply-is d (past_of d log) x)
 by-reply d (Refused packet code) log = reply-one (IsReply d) (Some (packet_of (Err code))) (refusal-is d code)
 by-reply d (Opened at) log = tt
@@ -190,122 +195,100 @@ by-reply d (Sent n) log = tt
 by-reply d HungUp log = tt
 by-reply d Discarded log = tt
 
-answers-reply : (d : Profile) (log : List Act) → AllByRecursion (OfAnswer (AllPackets (IsReply d))) (laid d log)
+answers-reply : (d : Profile) (log : List Act) → AllByRecursion (OfAnswer (OfPacket (IsReply d))) (laid d log)
 answers-reply d [] = tt
-answers-reply d (act ∷ log) = all-append (OfAnswer (AllPackets (IsReply d))) (laid d log) (laid_by d act log) (answers-reply d log) (by-reply d act log)
+answers-reply d (act ∷ log) = all-append (OfAnswer (OfPacket (IsReply d))) (laid d log) (laid_by d act log) (answers-reply d log) (by-reply d act log)
 
 -- so each of them is one or the other
 abbrev IsEither : Profile → List Act → Laid → Type 0
-IsEither d log x = OfAnswer (AllPackets (IsReply d)) x × OfKnown log (AllPackets IsDaq) x
+IsEither d log x = OfAnswer (OfPacket (IsReply d)) x × OfKnown log (OfPacket IsDaq) x
 
 both-all : {X : Type 0} (P Q : X → Type 0) (xs : List X) → AllByRecursion P xs → AllByRecursion Q xs → AllByRecursion (λ x. P x × Q x) xs
 both-all P Q [] a b = tt
 both-all P Q (x ∷ xs) a b = ((a.0, b.0), both-all P Q xs a.1 b.1)
 
 either-all : (d : Profile) (log : List Act) → IsLog d log → AllByRecursion (IsEither d log) (laid d log)
-either-all d log is = both-all (OfAnswer (AllPackets (IsReply d))) (OfKnown log (AllPackets IsDaq)) (laid d log) (answers-reply d log) (known-daq d log is)
+either-all d log is = both-all (OfAnswer (OfPacket (IsReply d))) (OfKnown log (OfPacket IsDaq)) (laid d log) (answers-reply d log) (known-daq d log is)
 
 -- the packets that begin so are those of the answers
-all-begin : (d : Profile) (qs : List (List ℕ)) → AllByRecursion (IsReply d) qs → filter begins_reply qs ≡ qs
-all-begin d [] all = refl
-all-begin d (q ∷ qs) all = ap (λ b. if b then q ∷ filter begins_reply qs else filter begins_reply qs) all.0.0 ∙ ap (λ xs. q ∷ xs) (all-begin d qs all.1)
-
-none-begin : (qs : List (List ℕ)) → AllByRecursion IsDaq qs → filter begins_reply qs ≡ []
-none-begin [] all = refl
-none-begin (q ∷ qs) all = ap (λ b. if b then q ∷ filter begins_reply qs else filter begins_reply qs) all.0.0 ∙ none-begin qs all.1
-
-apart-one : (d : Profile) (log : List Act) (x : Laid) → IsEither d log x → IsKnown log x.origin → filter begins_reply x.packets ≡ packets_in (answers_in (x ∷ []))
-apart-one d log x is known =
-    elim (is-bool (is_reply x.origin)) [
-      | inl answer ↦
-          all-begin d x.packets (is.0 answer) ∙ sym (append-nil x.packets)
-          ∙ sym (ap (λ b. packets_in (if b then x ∷ [] else [])) answer)
-      | inr other ↦ none-begin x.packets (is.1 other known) ∙ sym (ap (λ b. packets_in (if b then x ∷ [] else [])) other)
-    ]
-
-answers-front : (x : Laid) (xs : List Laid) → packets_in (answers_in (x ∷ [])) ++ packets_in (answers_in xs) ≡ packets_in (answers_in (x ∷ xs))
-answers-front x xs =
-    elim (is-bool (is_reply x.origin)) [
-      | inl answer ↦
-          ap (λ b. packets_in (if b then x ∷ [] else []) ++ packets_in (answers_in xs)) answer
-          ∙ append_assoc x.packets [] (packets_in (answers_in xs))
-          ∙ sym (ap (λ b. packets_in (if b then x ∷ answers_in xs else answers_in xs)) answer)
-      | inr other ↦
-          ap (λ b. packets_in (if b then x ∷ [] else []) ++ packets_in (answers_in xs)) other
-          ∙ sym (ap (λ b. packets_in (if b then x ∷ answers_in xs else answers_in xs)) other)
-    ]
-
 apart-all : (d : Profile) (log : List Act) (xs : List Laid) → AllByRecursion (IsEither d log) xs → AllByRecursion (λ (x : Laid). IsKnown log x.origin) xs
     → filter begins_reply (packets_in xs) ≡ packets_in (answers_in xs)
 apart-all d log [] is known = refl
 apart-all d log (x ∷ xs) is known =
-    filter-append begins_reply x.packets (packets_in xs)
-    ∙ ap (λ qs. qs ++ filter begins_reply (packets_in xs)) (apart-one d log x is.0 known.0)
-    ∙ ap (λ qs. packets_in (answers_in (x ∷ [])) ++ qs) (apart-all d log xs is.1 known.1)
-    ∙ answers-front x xs
+    let more = apart-all d log xs is.1 known.1 in
+    let begin : List (List ℕ) = filter begins_reply (packets_in xs) in
+    elim (is-bool (is_reply x.origin)) [
+      | inl answer ↦
+          ap (λ b. if b then x.packet ∷ begin else begin) (is.0.0 answer).0
+          ∙ ap (λ qs. x.packet ∷ qs) more
+          ∙ sym (ap (λ b. packets_in (if b then x ∷ answers_in xs else answers_in xs)) answer)
+      | inr other ↦
+          ap (λ b. if b then x.packet ∷ begin else begin) (is.0.1 other known.0).0
+          ∙ more
+          ∙ sym (ap (λ b. packets_in (if b then x ∷ answers_in xs else answers_in xs)) other)
+    ]
 
 -- each packet finds room in a frame
 abbrev OfRing : (Laid → Type 0) → Laid → Type 0
 OfRing Q x = is_reply x.origin ≡ false → Q x
 
-sample-fits : (m c : ℕ) (b : Bool) (s : SampleParts) → (b ≡ true → ArePackets s.packets) → AllByRecursion (OfRing (AllPackets Fits)) (sample_laid b m c s)
+sample-fits : (m c : ℕ) (b : Bool) (s : SampleParts) → (b ≡ true → ArePackets s.packets) → AllByRecursion (OfRing (OfPacket Fits)) (sample_laid b m c s)
 sample-fits m c false s are = tt
-sample-fits m c true s are = (λ h. recursion_from_All Fits s.packets (All-weaker IsPacket Fits (λ q is. (is.some, omega (arith, is.fits))) s.packets (are refl)), tt)
+sample-fits m c true s are =
+    all-mono (OfPacket Fits) (OfRing (OfPacket Fits)) (sample_of m c s) (λ x fits ring. fits)
+    (all-packets Fits (origin.Sample m c s.list) s.packets
+    (recursion_from_All Fits s.packets (All-weaker IsPacket Fits (λ q is. (is.some, omega (arith, is.fits))) s.packets (are refl).each)))
 
-reply-no-fit : (reply : Option (List ℕ)) → AllByRecursion (OfRing (AllPackets Fits)) (reply_laid reply)
+reply-no-fit : (reply : Option (List ℕ)) → AllByRecursion (OfRing (OfPacket Fits)) (reply_laid reply)
 reply-no-fit None = tt
 reply-no-fit (Some packet) = (λ h. absurd (false≢true (sym h)), tt)
 
-rings-fit : (d : Profile) (log : List Act) → IsLog d log → AllByRecursion (OfRing (AllPackets Fits)) (laid d log)
+rings-fit : (d : Profile) (log : List Act) → IsLog d log → AllByRecursion (OfRing (OfPacket Fits)) (laid d log)
 rings-fit d [] is = tt
-rings-fit d (Heard x ∷ log) is = all-append (OfRing (AllPackets Fits)) (laid d log) (laid_by d (Heard x) log) (rings-fit d log is.2) (reply-no-fit (reply_in d (past_of d log) x))
-rings-fit d (Refused packet code ∷ log) is = all-append (OfRing (AllPackets Fits)) (laid d log) (laid_by d (Refused packet code) log) (rings-fit d log is.2) (reply-no-fit (Some (packet_of (Err code))))
-rings-fit d (Opened at ∷ log) is = all-append (OfRing (AllPackets Fits)) (laid d log) [] (rings-fit d log is.1) tt
+rings-fit d (Heard x ∷ log) is = all-append (OfRing (OfPacket Fits)) (laid d log) (laid_by d (Heard x) log) (rings-fit d log is.2) (reply-no-fit (reply_in d (past_of d log) x))
+rings-fit d (Refused packet code ∷ log) is = all-append (OfRing (OfPacket Fits)) (laid d log) (laid_by d (Refused packet code) log) (rings-fit d log is.2) (reply-no-fit (Some (packet_of (Err code))))
+rings-fit d (Opened at ∷ log) is = all-append (OfRing (OfPacket Fits)) (laid d log) [] (rings-fit d log is.1) tt
 rings-fit d (Took m c (Sample s) ∷ log) is =
-    all-append (OfRing (AllPackets Fits)) (laid d log) (laid_by d (Took m c (Sample s)) log) (rings-fit d log is.2) (sample-fits m c (passes (deeds_of d m c log) s.list) s is.1.packets)
-rings-fit d (Took m c (Marker k) ∷ log) is = all-append (OfRing (AllPackets Fits)) (laid d log) [] (rings-fit d log is.2) tt
-rings-fit d (CameBack m c past ∷ log) is = all-append (OfRing (AllPackets Fits)) (laid d log) [] (rings-fit d log is.1) tt
-rings-fit d (Sent n ∷ log) is = all-append (OfRing (AllPackets Fits)) (laid d log) [] (rings-fit d log is.1) tt
-rings-fit d (HungUp ∷ log) is = all-append (OfRing (AllPackets Fits)) (laid d log) [] (rings-fit d log is) tt
-rings-fit d (Discarded ∷ log) is = all-append (OfRing (AllPackets Fits)) (laid d log) [] (rings-fit d log is) tt
+    all-append (OfRing (OfPacket Fits)) (laid d log) (laid_by d (Took m c (Sample s)) log) (rings-fit d log is.2) (sample-fits m c (passes (deeds_of d m c log) s.list) s is.1.packets)
+rings-fit d (Took m c (Marker k) ∷ log) is = all-append (OfRing (OfPacket Fits)) (laid d log) [] (rings-fit d log is.2) tt
+rings-fit d (CameBack m c past ∷ log) is = all-append (OfRing (OfPacket Fits)) (laid d log) [] (rings-fit d log is.1) tt
+rings-fit d (Sent n ∷ log) is = all-append (OfRing (OfPacket Fits)) (laid d log) [] (rings-fit d log is.1) tt
+rings-fit d (HungUp ∷ log) is = all-append (OfRing (OfPacket Fits)) (laid d log) [] (rings-fit d log is) tt
+rings-fit d (Discarded ∷ log) is = all-append (OfRing (OfPacket Fits)) (laid d log) [] (rings-fit d log is) tt
 
-fits-one : (d : Profile) (x : Laid) → IsProfile d → OfAnswer (AllPackets (IsReply d)) x → OfRing (AllPackets Fits) x → AllByRecursion Fits x.packets
+fits-one : (d : Profile) (x : Laid) → IsProfile d → OfAnswer (OfPacket (IsReply d)) x → OfRing (OfPacket Fits) x → Fits x.packet
 fits-one d x profile reply ring =
     elim (is-bool (is_reply x.origin)) [
-      | inl answer ↦ all-mono (IsReply d) Fits x.packets (λ q. reply-fits d q profile) (reply answer)
+      | inl answer ↦ reply-fits d x.packet profile (reply answer)
       | inr other ↦ ring other
     ]
 
-laid-fits : (d : Profile) (xs : List Laid) → IsProfile d → AllByRecursion (OfAnswer (AllPackets (IsReply d))) xs → AllByRecursion (OfRing (AllPackets Fits)) xs → AllByRecursion (AllPackets Fits) xs
+laid-fits : (d : Profile) (xs : List Laid) → IsProfile d → AllByRecursion (OfAnswer (OfPacket (IsReply d))) xs → AllByRecursion (OfRing (OfPacket Fits)) xs → AllByRecursion (OfPacket Fits) xs
 laid-fits d [] profile reply ring = tt
 laid-fits d (x ∷ xs) profile reply ring = (fits-one d x profile reply.0 ring.0, laid-fits d xs profile reply.1 ring.1)
 
-packets-fit : (xs : List Laid) → AllByRecursion (AllPackets Fits) xs → AllByRecursion Fits (packets_in xs)
+packets-fit : (xs : List Laid) → AllByRecursion (OfPacket Fits) xs → AllByRecursion Fits (packets_in xs)
 packets-fit [] all = tt
-packets-fit (x ∷ xs) all = all-append Fits x.packets (packets_in xs) all.0 (packets-fit xs all.1)
+packets-fit (x ∷ xs) all = (all.0, packets-fit xs all.1)
 
 pub sent-fits : (d : Profile) (log : List Act) → IsLog d log → IsProfile d → AllByRecursion Fits (packets_sent d log)
 sent-fits d log is profile =
-    packets-fit (sent_units d log) (all-parts (AllPackets Fits) d log (laid-fits d (laid d log) profile (answers-reply d log) (rings-fit d log is))).0
-
-pub waits-fit : (d : Profile) (log : List Act) → IsLog d log → IsProfile d → AllByRecursion Fits (packets_in (waits d log))
-waits-fit d log is profile =
-    packets-fit (waits d log) (all-parts (AllPackets Fits) d log (laid-fits d (laid d log) profile (answers-reply d log) (rings-fit d log is))).1
+    packets-fit (sent_laid d log) (all-parts (OfPacket Fits) d log (laid-fits d (laid d log) profile (answers-reply d log) (rings-fit d log is))).0
 
 -- each reply begins so
-answer-begins : (d : Profile) (xs : List Laid) → AllByRecursion (OfAnswer (AllPackets (IsReply d))) xs → AllByRecursion (λ q. begins_reply q ≡ true) (packets_in (answers_in xs))
+answer-begins : (d : Profile) (xs : List Laid) → AllByRecursion (OfAnswer (OfPacket (IsReply d))) xs → AllByRecursion (λ q. begins_reply q ≡ true) (packets_in (answers_in xs))
 answer-begins d [] all = tt
 answer-begins d (x ∷ xs) all =
-    subst (AllByRecursion (λ q. begins_reply q ≡ true)) (answers-front x xs)
-    (all-append (λ q. begins_reply q ≡ true) (packets_in (answers_in (x ∷ []))) (packets_in (answers_in xs)) (one (is-bool (is_reply x.origin))) (answer-begins d xs all.1)) where
-      one : (is_reply x.origin ≡ true) ⊎ (is_reply x.origin ≡ false) → AllByRecursion (λ q. begins_reply q ≡ true) (packets_in (answers_in (x ∷ [])))
-      one (inl answer) =
-          subst (λ b. AllByRecursion (λ q. begins_reply q ≡ true) (packets_in (if b then x ∷ [] else []))) (sym answer)
-          (subst (AllByRecursion (λ q. begins_reply q ≡ true)) (sym (append-nil x.packets)) (all-mono (IsReply d) (λ q. begins_reply q ≡ true) x.packets (λ q is. is.0) (all.0 answer)))
-      one (inr other) = subst (λ b. AllByRecursion (λ q. begins_reply q ≡ true) (packets_in (if b then x ∷ [] else []))) (sym other) tt
+    let more = answer-begins d xs all.1 in
+    elim (is-bool (is_reply x.origin)) [
+      | inl answer ↦
+          subst (λ b. AllByRecursion (λ q. begins_reply q ≡ true) (packets_in (if b then x ∷ answers_in xs else answers_in xs))) (sym answer) ((all.0 answer).0, more)
+      | inr other ↦
+          subst (λ b. AllByRecursion (λ q. begins_reply q ≡ true) (packets_in (if b then x ∷ answers_in xs else answers_in xs))) (sym other) more
+    ]
 
-no-disguise : (log : List Act) (x : Laid) → OfKnown log (AllPackets IsDaq) x → BeginsOtherwise log x
-no-disguise log x is = λ other known. All-from_recursion IsNoReply x.packets (all-mono IsDaq IsNoReply x.packets (λ q both. both.0) (is other known))
+no-disguise : (log : List Act) (x : Laid) → OfKnown log (OfPacket IsDaq) x → BeginsOtherwise log x
+no-disguise log x is = λ other known. (is other known).0
 
 pub session-law : (d : Profile) (log : List Act) → IsLog d log → SessionLaw d log
 session-law d log is =
@@ -318,14 +301,15 @@ session-law d log is =
       each = λ test. each-once d test log;
       since = is-since d log;
       unsent = λ m c l. unsent-noted d m c l log;
+      written = ends-written d log is;
       known = all-known d log is;
       frames = λ profile. split_of_text 0 (packets_sent d log) (All-from_recursion Fits (packets_sent d log) (sent-fits d log is profile));
       answers = answers-laid d log;
       answers_sent = answers-sent d log;
       answered = is-answered d log;
       begins = All-from_recursion (λ q. begins_reply q ≡ true) (replies_of d log) (subst (AllByRecursion (λ q. begins_reply q ≡ true)) (answers-laid d log) (answer-begins d (laid d log) (answers-reply d log)));
-      no_disguise = All-from_recursion (BeginsOtherwise log) (laid d log) (all-mono (OfKnown log (AllPackets IsDaq)) (BeginsOtherwise log) (laid d log) (no-disguise log) (known-daq d log is));
-      told_apart = λ known. apart-all d log (sent_units d log) either (recursion_from_All Known (sent_units d log) known);
+      no_disguise = All-from_recursion (BeginsOtherwise log) (laid d log) (all-mono (OfKnown log (OfPacket IsDaq)) (BeginsOtherwise log) (laid d log) (no-disguise log) (known-daq d log is));
+      told_apart = λ known. apart-all d log (sent_laid d log) either (recursion_from_All Known (sent_laid d log) known);
       changes = λ act l later earlier split other. change-accepted d act earlier l other;
       stops = λ x l later earlier split asks positive. stop-holds d (past_of d earlier) x l asks positive;
       within = within d log is;

@@ -30,7 +30,7 @@ use Rattle.slave_channels.specs.Each.{IsEach}
 use Rattle.slave.specs.Hearing.{KeepsLines}
 use Rattle.slave.proofs.KeepingLemmas.{lines-each, lines-same}
 use Rattle.slave.specs.Inner.{AreSets, HasParts, LooksAtAll, OpensAll, OpensBeside, OpensInVain, SlaveStarted, StartsLists, started}
-use Rattle.slave.specs.Log.{Act, Opened, deeds_of, entries_of, has_part, is_opening, is_out, late_in, opened, past_of, sent_units, waits}
+use Rattle.slave.specs.Log.{Act, Opened, deeds_of, entries_of, has_part, is_opening, is_out, late_in, opened, past_of, sent_laid, waits}
 use Rattle.slave.specs.Openings.{IsOpenedAfter, capacities_of, past_at}
 use Rattle.slave.specs.Standing.{IsAsLogged, logged, ChannelHas, HasEnded, IsOut, NoneRuns, SlaveHas, PartsStandAfter, SlaveState, number_of, AreParts, HasReady}
 use Rattle.slave.proofs.ChannelLemmas.{channel-looks, channel-ordered, channel-same, goes-none, takes-looked}
@@ -79,7 +79,7 @@ module _ {S E T F : Type 0} (send : SendGhosts S E) (ring : EndGhosts E) (take :
     is_log = (none, has.is_log);
     profile = ap (λ (s : SessionState). s.profile) rest.session ∙ has.profile;
     session = subst (λ s. SessionStandsAfter s (past_of d log)) (sym rest.session) has.session;
-    outbox = subst (λ o. OutboxStandsAfter o (sent_units d log) (waits d log)) (sym rest.outbox) has.outbox;
+    outbox = subst (λ o. OutboxStandsAfter o (sent_laid d log) (waits d log)) (sym rest.outbox) has.outbox;
     channels = λ c ch there. subst (λ n. ChannelHas take n (λ m. deeds_of d m c log) ch) (omega (arith, opened-more at log)) (channels c ch there);
     out = out;
     as_logged = as_logged;
@@ -295,7 +295,7 @@ module _ {S T F : Type 0} (take : TakeGhosts T F) where
         is_log = has.is_log;
         profile = ap (λ (s : SessionState). s.profile) session ∙ has.profile;
         session = subst (λ s. SessionStandsAfter s (past_of d log)) (sym session) has.session;
-        outbox = subst (λ o. OutboxStandsAfter o (sent_units d log) (waits d log)) (sym outbox) has.outbox;
+        outbox = subst (λ o. OutboxStandsAfter o (sent_laid d log) (waits d log)) (sym outbox) has.outbox;
         channels = λ c ch at.
             let old = get_or a.channels c ch in
             let was = was-there a.channels b.channels c ch looks.channels.as_many at in
@@ -344,7 +344,7 @@ module _ {S T F : Type 0} (take : TakeGhosts T F) where
         is_log = has.is_log;
         profile = ap (λ (s : SessionState). s.profile) session ∙ has.profile;
         session = subst (λ s. SessionStandsAfter s (past_of d log)) (sym session) has.session;
-        outbox = subst (λ o. OutboxStandsAfter o (sent_units d log) (waits d log)) (sym outbox) has.outbox;
+        outbox = subst (λ o. OutboxStandsAfter o (sent_laid d log) (waits d log)) (sym outbox) has.outbox;
         channels = λ c ch at.
             let old = get_or a.channels c ch in
             let was = was-there a.channels b.channels c ch starts.as_many at in

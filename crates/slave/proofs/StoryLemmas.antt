@@ -1,6 +1,7 @@
 -- What logs have in common after which one slave stands.
-use Rattle.std.proofs.Common.{◌≡◌, ℕ, ◌+◌, ◌<◌, Bool, true, false, List, length, refl, sym, ap, ◌∙◌, subst, arith, ◌⊎◌, inl, inr, slice_get}
+use Rattle.std.proofs.Common.{◌≡◌, ℕ, ◌+◌, ◌%◌, ◌<◌, Bool, true, false, List, length, refl, sym, ap, ◌∙◌, subst, arith, ◌⊎◌, inl, inr, slice_get}
 use Rattle.std.specs.Prelude.{Option, Some, None}
+use Rattle.std.proofs.lemmas.List.{length-map}
 use Rattle.std.proofs.lemmas.List.Elements.{All-from_recursion}
 use Rattle.std.specs.List.{AllByRecursion}
 use Rattle.xcp_base.specs.declared.limits.TheConstants.{MAX_LISTS}
@@ -9,8 +10,9 @@ use Rattle.session.specs.Profiles.{IsProfile}
 use Rattle.session.specs.declared.profile.Profile.{Profile}
 use Rattle.slave_outbox.specs.Deeds.{Deed, taken}
 use Rattle.slave_outbox.specs.Intakes.{StandsAfter}
-use Rattle.slave_outbox.specs.Outboxes.{packets_in}
+use Rattle.slave_outbox.specs.Outboxes.{Laid, packets_in}
 use Rattle.frame_writer.proofs.SplitLemmas.{split_is_unique, split_of_text}
+use Rattle.frame_writer.proofs.TextLemmas.{text-mod}
 use Rattle.frame_writer.specs.Frame.{text}
 use Rattle.frame_writer.specs.Split.{Fits, IsSplit, numbered}
 use Rattle.daq_engine.proofs.FrameLemmas.{packets_of_frames-numbered}
@@ -20,11 +22,11 @@ use Rattle.slave_channels.specs.Accounts.{AccountStandsAfter, AccountState, Agre
 use Rattle.slave_channels.specs.AccountInner.{all_of}
 use Rattle.slave_channels.proofs.SumsLemmas.{all-are}
 use Rattle.slave_channels.specs.Channels.{ChannelState, ShareState}
-use Rattle.slave.specs.Log.{Act, deeds_of, entries_of, is_out, late_in, waits}
+use Rattle.slave.specs.Log.{Act, deeds_of, entries_of, is_out, late_in, sent_laid, waits}
 use Rattle.slave.specs.Session.{SameStory, packets_sent}
 use Rattle.slave.specs.Standing.{IsOut, SlaveHas, PartsStandAfter, SlaveState, number_of}
 use Rattle.slave.proofs.OutLemmas.{some-at}
-use Rattle.slave.proofs.SessionLemmas.{sent-fits, waits-fit}
+use Rattle.slave.proofs.SessionLemmas.{sent-fits}
 
 -- bytes are the frames of one list of packets
 same-packets : (n : ℕ) (xs ys : List (List ℕ)) → AllByRecursion Fits xs → AllByRecursion Fits ys → text n xs ≡ text n ys → xs ≡ ys
@@ -112,10 +114,11 @@ module _ {S T F : Type 0} (take : TakeGhosts T F) where
   same-packets-sent d s a b one other profile =
       same-packets 0 (packets_sent d a) (packets_sent d b) (sent-fits d a one.is_log profile) (sent-fits d b other.is_log profile) (sym one.outbox.gone ∙ other.outbox.gone)
 
-  same-packets-wait : (d : Profile) (s : SlaveState S T) (a b : List Act) → SlaveHas take d s a → SlaveHas take d s b → IsProfile d → packets_in (waits d a) ≡ packets_in (waits d b)
-  same-packets-wait d s a b one other profile =
-      same-packets (length (packets_sent d b)) (packets_in (waits d a)) (packets_in (waits d b)) (waits-fit d a one.is_log profile) (waits-fit d b other.is_log profile)
-      (ap (λ qs. text (length qs) (packets_in (waits d a))) (sym (same-packets-sent d s a b one other profile)) ∙ sym one.outbox.waiting ∙ other.outbox.waiting)
+  -- as many packets were sent, modulo 65536
+  same-counter : (d : Profile) (s : SlaveState S T) (a b : List Act) → SlaveHas take d s a → SlaveHas take d s b → length (packets_sent d a) % 65536 ≡ length (packets_sent d b) % 65536
+  same-counter d s a b one other =
+      let many : (log : List Act) → length (packets_sent d log) ≡ length (sent_laid d log) = λ log. length-map (sent_laid d log) (λ (x : Laid). x.packet) in
+      ap (λ n. n % 65536) (many a) ∙ sym one.outbox.counter ∙ other.outbox.counter ∙ ap (λ n. n % 65536) (sym (many b))
 
   pub same-story : (d : Profile) (s : SlaveState S T) (a b : List Act) → PartsStandAfter take d s a → PartsStandAfter take d s b → SameStory d a b
   same-story d s a b stands_a stands_b =
@@ -124,11 +127,12 @@ module _ {S T F : Type 0} (take : TakeGhosts T F) where
       let totals = λ (l : ℕ) (below : l < MAX_LISTS). same-totals s.account (entries_of d a) (entries_of d b) (late_in d a) (late_in d b) l below one.account other.account in
       record {
         sent = sym one.outbox.gone ∙ other.outbox.gone;
-        waits_are = sym one.outbox.waiting ∙ other.outbox.waiting;
+        waits_are =
+            text-mod (length (packets_sent d a)) (length (packets_sent d b)) (packets_in (waits d a)) (same-counter d s a b one other)
+            ∙ ap (λ xs. text (length (packets_sent d b)) (packets_in xs)) (sym one.outbox.waiting ∙ other.outbox.waiting);
         packets = same-packets-sent d s a b one other;
-        packets_wait = same-packets-wait d s a b one other;
-        counter = sym one.outbox.counter ∙ other.outbox.counter;
-        units = sym one.outbox.units ∙ other.outbox.units;
+        counter = same-counter d s a b one other;
+        waits_are_same = sym one.outbox.waiting ∙ other.outbox.waiting;
         due = λ l below. (totals l below).0;
         dropped = λ l below. (totals l below).1;
         written = λ l below. (totals l below).2;

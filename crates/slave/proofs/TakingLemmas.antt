@@ -1,5 +1,5 @@
 -- What a slave stands after once an item was taken.
-use Rattle.std.proofs.Common.{◌≡◌, ◌≢◌, ℕ, ◌+◌, ◌-◌, ◌*◌, ◌<◌, ◌≤◌, Bool, true, false, ◌&&◌, nat_eq, if◌then◌else◌, List, [], ◌∷◌, ◌++◌, append-nil, length, length-append, slice_get, refl, sym, ap, ◌∙◌, subst, arith, inl, inr}
+use Rattle.std.proofs.Common.{◌≡◌, ◌≢◌, ℕ, ◌+◌, ◌-◌, ◌<◌, ◌≤◌, Bool, true, false, ◌&&◌, nat_eq, if◌then◌else◌, List, [], ◌∷◌, ◌++◌, append-nil, length, length-append, slice_get, refl, sym, ap, ◌∙◌, subst, arith, inl, inr}
 use Rattle.std.specs.Prelude.{Option, Some, None}
 use Rattle.std.proofs.lemmas.Bool.{false≢true}
 use Rattle.std.proofs.lemmas.Bool.Decides.{eqb_tells}
@@ -16,7 +16,7 @@ use Rattle.slave_outbox.specs.Intakes.{IntakeState, OnlyLooked, StandsAfter}
 use Rattle.slave_outbox.specs.Steps.{Takes}
 use Rattle.slave_outbox.specs.declared.step.Step.{Step}
 use Rattle.slave_outbox.specs.declared.step.Step.TheVariants.{Full, Marked, Nothing, Skipped, Wrote}
-use Rattle.slave_outbox.specs.Outboxes.{Laid, LaysOut, OutboxState}
+use Rattle.slave_outbox.specs.Outboxes.{Laid, LaysOut, OutboxState, together}
 use Rattle.slave_outbox.specs.Outboxes.{StandsAfter as OutboxStandsAfter}
 use Rattle.slave_outbox.specs.Taking.{TakesItem}
 use Rattle.tasks.specs.Links.{LinkState, is_running, takes_orders}
@@ -26,21 +26,21 @@ use Rattle.slave_channels.specs.Accounts.{AccountStandsAfter}
 use Rattle.slave_channels.specs.Each.{IsOnlyAt}
 use Rattle.slave.specs.Hearing.{GoesBy, KeepsLines, is_spent}
 use Rattle.slave.specs.Inner.{PartsGoBy, acts_of, counting}
-use Rattle.slave.specs.Log.{Act, Took, deeds_of, entries_of, is_out, laid_by, late_in, opened, past_of, sample_laid, sent_units, waits}
+use Rattle.slave.specs.Log.{Act, Took, deeds_of, entries_of, is_out, laid_by, late_in, opened, past_of, sample_laid, sent_laid, waits}
 use Rattle.slave.specs.Returns.{ends_in}
 use Rattle.slave.specs.Standing.{Logged, logged, ChannelHas, HasEnded, IsOut, PartsStandAfter, SlaveStandsAfter, SlaveState, number_of, IsAsLogged, HasPacketsIfPasses}
 use Rattle.slave.proofs.KeepingLemmas.{lines-but}
 use Rattle.slave.proofs.OutLemmas.{KeepsParts, keeps-same, out-kept, out-same, some-at, opened-kept, opened_of}
 use Rattle.session.specs.declared.profile.Profile.{Profile}
 use Rattle.slave.specs.Taking.{TakesItems, is_take}
-use Rattle.slave.proofs.WaitsLemmas.{waits-took}
+use Rattle.slave.proofs.WaitsLemmas.{laid-behind, waits-took}
 use Rattle.slave.proofs.ChannelLemmas.{channel-same}
-use Rattle.slave_outbox.specs.declared.unit.Origin.TheVariants as origin
+use Rattle.slave_outbox.specs.declared.origin.Origin.TheVariants as origin
 use Rattle.std.specs.List.{list_all}
 use Rattle.std.proofs.lemmas.List.Folds.{list_all-append}
 use Rattle.slave.proofs.DeedLemmas.{deeds-few}
 use Rattle.slave.proofs.HearingLemmas.{assoc}
-use Rattle.slave.proofs.WeightLemmas.{counted, goes-next, recounted}
+use Rattle.slave.proofs.WeightLemmas.{costs, counted, goes-next, recounted}
 use Rattle.slave.specs.declared.limits.TheConstants.{MOST_ACTS, PER_PACKET}
 
 some_inj : {X : Type 0} (x y : X) → Some x ≡ Some y → x ≡ y
@@ -146,8 +146,8 @@ module _ {S T F : Type 0} (take : TakeGhosts T F) where
   abbrev pub LaysBehind : SlaveState S T → SlaveState S T → Act → ℕ → IntakeState T → Type 0
   LaysBehind a b act c i =
       (log : List Act) → ((m : ℕ) (x : Item) → act ≡ Took m c x → StandsAfter take i (deeds_of a.session.profile m c log))
-      → OutboxStandsAfter a.outbox (sent_units a.session.profile log) (waits a.session.profile log)
-      → OutboxStandsAfter b.outbox (sent_units a.session.profile log) (waits a.session.profile log ++ laid_by a.session.profile act log)
+      → OutboxStandsAfter a.outbox (sent_laid a.session.profile log) (waits a.session.profile log)
+      → OutboxStandsAfter b.outbox (sent_laid a.session.profile log) (waits a.session.profile log ++ laid_by a.session.profile act log)
 
   -- the channels behind a change at one of them
   pub channels-changed : (n : ℕ) (f g : ℕ → ℕ → List Deed) (a b : SlaveState S T) (c : ℕ) (x y : ChannelState S T) → ChangesAt a b c x y
@@ -277,7 +277,7 @@ module _ {S T F : Type 0} (take : TakeGhosts T F) where
             );
             profile = ap (λ (z : SessionState). z.profile) changes.session;
             session = subst (λ z. SessionStandsAfter z (past_of d log)) (sym changes.session) has.session;
-            outbox = subst (λ xs. OutboxStandsAfter b.outbox (sent_units d log) xs) (sym (waits-took d m c item log))
+            outbox = subst (λ xs. OutboxStandsAfter b.outbox (sent_laid d log) xs) (sym (waits-took d m c item log))
                 (lays log (λ k z e. subst (λ q. StandsAfter take i (deeds_of d q c log)) (number_of e) before) has.outbox);
             channels = channels-changed n (λ k q. deeds_of d q k log) (λ k q. deeds_of d q k (Took m c item ∷ log)) a b c x y changes
                 (λ k q other. took-else m q c k (TookItem item) (deeds_of d q k log) (λ e z. other (sym z))) here has.channels;
@@ -308,7 +308,7 @@ module _ {S T F : Type 0} (take : TakeGhosts T F) where
             is_log = has.is_log;
             profile = ap (λ (z : SessionState). z.profile) changes.session;
             session = subst (λ z. SessionStandsAfter z (past_of d log)) (sym changes.session) has.session;
-            outbox = subst (λ o. OutboxStandsAfter o (sent_units d log) (waits d log)) (sym outbox) has.outbox;
+            outbox = subst (λ o. OutboxStandsAfter o (sent_laid d log) (waits d log)) (sym outbox) has.outbox;
             channels = channels-changed (opened log) (λ k m. deeds_of d m k log) (λ k m. deeds_of d m k log) a b c x y changes (λ k m other. refl)
                 (same (opened log) (λ m. deeds_of d m c log) (known log stands) (has.channels c x changes.was)) has.channels;
             out = out-changed (λ k q. is_out q k log) (λ k q. is_out q k log) a b c x y changes (λ k q other. refl) (out-kept (λ q. is_out q c log) x y keeps (has.out c x changes.was)) has.out;
@@ -328,15 +328,15 @@ module _ {S T F : Type 0} (take : TakeGhosts T F) where
   lays-none a b act c i same none = λ log there stands.
       let d = a.session.profile in
       let all : waits d log ++ laid_by d act log ≡ waits d log = ap (λ xs. waits d log ++ xs) (none log there) ∙ append-nil (waits d log) in
-      subst (λ xs. OutboxStandsAfter b.outbox (sent_units d log) xs) (sym all)
-      (subst (λ o. OutboxStandsAfter o (sent_units d log) (waits d log)) (sym same) stands)
+      subst (λ xs. OutboxStandsAfter b.outbox (sent_laid d log) xs) (sym all)
+      (subst (λ o. OutboxStandsAfter o (sent_laid d log) (waits d log)) (sym same) stands)
 
-  lays-one : (a b : SlaveState S T) (act : Act) (c : ℕ) (i : IntakeState T) (y : Laid) → LaysOut a.outbox b.outbox y
-      → ((log : List Act) → ((m : ℕ) (x : Item) → act ≡ Took m c x → StandsAfter take i (deeds_of a.session.profile m c log)) → laid_by a.session.profile act log ≡ y ∷ []) → LaysBehind a b act c i
-  lays-one a b act c i y lays one = λ log there stands.
+  lays-some : (a b : SlaveState S T) (act : Act) (c : ℕ) (i : IntakeState T) (xs : List Laid) → LaysOut a.outbox b.outbox xs
+      → ((log : List Act) → ((m : ℕ) (x : Item) → act ≡ Took m c x → StandsAfter take i (deeds_of a.session.profile m c log)) → laid_by a.session.profile act log ≡ xs) → LaysBehind a b act c i
+  lays-some a b act c i xs lays some = λ log there stands.
       let d = a.session.profile in
-      subst (λ xs. OutboxStandsAfter b.outbox (sent_units d log) (waits d log ++ xs)) (sym (one log there))
-      (lays (sent_units d log) (waits d log) stands)
+      subst (λ ys. OutboxStandsAfter b.outbox (sent_laid d log) (waits d log ++ ys)) (sym (some log there))
+      (laid-behind a.outbox b.outbox xs (sent_laid d log) (waits d log) lays stands)
 
   -- it is not spent, counted nothing yet, and showed nothing more
   pub record Counts (a b : SlaveState S T) : Type 0 where
@@ -345,7 +345,7 @@ module _ {S T F : Type 0} (take : TakeGhosts T F) where
     pub fresh : is_spent a ≡ false
     pub shown : b.outbox.shown ≡ a.outbox.shown
 
-  counted-take : (a b : SlaveState S T) (acts : List Act) (n : ℕ) → Counts a b → length acts ≤ 1 → 3 * length acts ≤ n → PartsGoBy take a b acts → GoesBy take a (counting b n) acts
+  counted-take : (a b : SlaveState S T) (acts : List Act) (n : ℕ) → Counts a b → length acts ≤ 1 → costs acts ≤ n → PartsGoBy take a b acts → GoesBy take a (counting b n) acts
   counted-take a b acts n counts few enough goes = counted take a (counting b n) acts counts.fits (omega (arith, few)) (omega (arith, counts.same, enough)) (recounted take a b acts n goes)
 
   -- by what became of the next item
@@ -398,7 +398,7 @@ module _ {S T F : Type 0} (take : TakeGhosts T F) where
         (lays-none a b (Took m c (Sample p)) c i out
         (λ log there. ap (λ z. sample_laid z m c p) (held (deeds_of a.session.profile m c log) (there m (Sample p) refl)))));
   }
-  taken-step a b c x y m i j changes account counts many part (Wrote l end) (p, takes, list, passes, each, lays) = record {
+  taken-step a b c x y m i j changes account counts many part (Wrote l len) (p, takes, list, passes, each, room, lays) = record {
     acts = Took m c (Sample p) ∷ [];
     are = refl;
     few = omega arith;
@@ -407,10 +407,10 @@ module _ {S T F : Type 0} (take : TakeGhosts T F) where
     as_many = many;
     shown = counts.shown;
     spent = λ is. absurd (false≢true (sym counts.fresh ∙ is));
-    goes = counted-take a b (Took m c (Sample p) ∷ []) (acts_of (Wrote l end)) counts (omega arith) (omega arith) (took-item a b c x y m i j (Sample p) changes account part takes
+    goes = counted-take a b (Took m c (Sample p) ∷ []) (acts_of (Wrote l len)) counts (omega arith) (omega arith) (took-item a b c x y m i j (Sample p) changes account part takes
         (λ deeds before pass. each)
-        (lays-one a b (Took m c (Sample p)) c i (record { origin = origin.Sample m c p.list; packets = p.packets })
-        (subst (λ k. LaysOut a.outbox b.outbox (record { origin = origin.Sample m c k; packets = p.packets })) list lays)
+        (lays-some a b (Took m c (Sample p)) c i (together (origin.Sample m c p.list) p.packets)
+        (subst (λ k. LaysOut a.outbox b.outbox (together (origin.Sample m c k) p.packets)) list lays)
         (λ log there. ap (λ z. sample_laid z m c p) (passes (deeds_of a.session.profile m c log) (there m (Sample p) refl)))));
   }
 

@@ -55,11 +55,7 @@ module _ {X : Type 0} where
         by false m us are = (m, are)
 
 -- of the packets of some
-pub without-packets : (n : ℕ) (xs ys : List Laid) → IsWithout n xs ys → (m : ℕ) × IsWithout m (packets_in xs) (packets_in ys)
-without-packets n [] ys one = (0, (refl, ap packets_in one.1))
-without-packets n (x ∷ xs) ys (inl w) =
-    let (m, rest) = without-packets n xs w.0 w.2 in
-    (0 + m, subst (λ zs. IsWithout (0 + m) (packets_in (x ∷ xs)) (packets_in zs)) (sym w.1) (without-append 0 m x.packets x.packets (packets_in xs) (packets_in w.0) (without-none x.packets) rest))
-without-packets n (x ∷ xs) ys (inr w) =
-    let (m, rest) = without-packets w.0 xs ys w.2 in
-    (length x.packets + m, without-append (length x.packets) m x.packets [] (packets_in xs) (packets_in ys) (without-all x.packets) rest)
+pub without-packets : (n : ℕ) (xs ys : List Laid) → IsWithout n xs ys → IsWithout n (packets_in xs) (packets_in ys)
+without-packets n [] ys one = (one.0, ap packets_in one.1)
+without-packets n (x ∷ xs) ys (inl w) = inl (packets_in w.0, ap packets_in w.1, without-packets n xs w.0 w.2)
+without-packets n (x ∷ xs) ys (inr w) = inr (w.0, w.1, without-packets w.0 xs ys w.2)

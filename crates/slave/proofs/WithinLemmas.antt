@@ -16,16 +16,18 @@ use Rattle.session.specs.declared.profile.Profile.{Profile}
 use Rattle.slave_outbox.specs.Deeds.{Deed, Started, Stopped, is_order_of, is_start, passes}
 use Rattle.slave_outbox.specs.Deeds.{Took as TookItem}
 use Rattle.slave_outbox.specs.Deeds.{runs as runs_there}
-use Rattle.slave_outbox.specs.Outboxes.{Laid}
+use Rattle.slave_outbox.specs.Outboxes.{Laid, origins_in}
+use Rattle.slave_outbox.specs.declared.origin.Origin.TheVariants as origin
 use Rattle.slave_channels.specs.Ordering.{one_if, starts_noted, stops_noted}
-use Rattle.slave.specs.Log.{Act, CameBack, Discarded, Heard, HungUp, Opened, Refused, Sent, Took, deeds_of, is_newest, is_sample_of, laid, laid_by, opened, ordered_by, origins, past_of, reply_laid, sample_laid, starts_on, stops_at, waits, with_starts}
-use Rattle.slave.specs.Session.{HasPositive, IsWithin, Rests, from_list, sample_of}
+use Rattle.slave.specs.Log.{Act, CameBack, Discarded, Heard, HungUp, Opened, Refused, Sent, Took, deeds_of, is_newest, is_sample_of, laid, laid_by, opened, ordered_by, past_of, reply_laid, sample_laid, starts_on, stops_at, waits, with_starts}
+use Rattle.slave.specs.Session.{HasPositive, IsWithin, Rests, from_list}
 use Rattle.slave.specs.Standing.{IsLog, IsStart, JustOpened, NoneRuns}
 use Rattle.slave.proofs.ChangeLemmas.{change-accepted}
 use Rattle.slave.proofs.DeedLemmas.{opened-more, unsent-runs}
 use Rattle.slave.proofs.LaidLemmas.{log-behind}
 use Rattle.slave.proofs.LogLemmas.{ties}
 use Rattle.slave.proofs.RunLemmas.{apart, pass-runs}
+use Rattle.slave.proofs.TogetherLemmas.{filter-else}
 
 is-bool : (b : Bool) → (b ≡ true) ⊎ (b ≡ false)
 is-bool true = inl refl
@@ -66,7 +68,7 @@ none-over d m c l (CameBack n k past ∷ log) over = none-over d m c l log over
 none-over d m c l (Sent n ∷ log) over = none-over d m c l log over
 none-over d m c l (HungUp ∷ log) over =
     if-low (is_newest m log) (ordered_by d c HungUp log (deeds_of d m c log)) (deeds_of d m c log) l (ordered-low d c HungUp log (deeds_of d m c log) l over) ∙ none-over d m c l log over
-none-over d m c l (Discarded ∷ log) over = unsent-runs m c (origins (waits d log)) (deeds_of d m c log) l ∙ none-over d m c l log over
+none-over d m c l (Discarded ∷ log) over = unsent-runs m c (origins_in (waits d log)) (deeds_of d m c log) l ∙ none-over d m c l log over
 
 -- a list of which a sample passes is one that there may be
 below-max : (d : Profile) (m c l : ℕ) (log : List Act) → passes (deeds_of d m c log) l ≡ true → l < MAX_LISTS
@@ -239,7 +241,7 @@ reply-no-list l (Some packet) = refl
 
 sample-no-list : (l n k : ℕ) (b : Bool) (s : SampleParts) → (b ≡ true → nat_eq s.list l ≡ false) → from_list l (sample_laid b n k s) ≡ []
 sample-no-list l n k false s other = refl
-sample-no-list l n k true s other = ap (λ b. if b then sample_of n k s ∷ [] else []) (other refl)
+sample-no-list l n k true s other = filter-else (is_sample_of l) (origin.Sample n k s.list) s.packets (other refl)
 
 by-none : (d : Profile) (act : Act) (log : List Act) (l : ℕ) → IsLog d (act ∷ log) → runs (past_of d log) l ≡ false → from_list l (laid_by d act log) ≡ []
 by-none d (Heard x) log l is rests = reply-no-list l (reply_in d (past_of d log) x)

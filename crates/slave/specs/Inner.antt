@@ -30,9 +30,9 @@ use Rattle.slave_outbox.specs.Deeds.{Deed, Unsent}
 use Rattle.slave_outbox.specs.declared.step.Step.{Step}
 use Rattle.slave_outbox.specs.declared.step.Step.TheVariants.{Full, Marked, Nothing, Skipped}
 use Rattle.slave_outbox.specs.declared.step.Step.TheVariants.{Wrote}
-use Rattle.slave_outbox.specs.Outboxes.{LaysOut, OutboxState}
-use Rattle.slave_outbox.specs.declared.unit.Origin.{Origin}
-use Rattle.slave_outbox.specs.declared.unit.Origin.TheVariants as origin
+use Rattle.slave_outbox.specs.Outboxes.{LaysOut, OutboxState, origins_in, together}
+use Rattle.slave_outbox.specs.declared.origin.Origin.{Origin}
+use Rattle.slave_outbox.specs.declared.origin.Origin.TheVariants as origin
 use Rattle.slave_outbox.specs.Intakes.{StandsAfter as IntakeStandsAfter}
 use Rattle.slave_channels.specs.Accounts.{AccountStandsAfter, AccountState, Entry, end_of}
 use Rattle.slave_channels.specs.Accounts.{more_unsent}
@@ -52,7 +52,7 @@ use Rattle.slave.specs.declared.round.Round.{Round}
 use Rattle.slave.specs.declared.round.Round.TheVariants.{Empty, HeldUp, Took}
 use Rattle.slave.specs.Log.{Act, Heard}
 use Rattle.slave.specs.Log.{deeds_of, has_part, is_late, is_newest, is_return, late_in, opened}
-use Rattle.slave.specs.Log.{origins, past_of, unsent_by, waits}
+use Rattle.slave.specs.Log.{past_of, unsent_by, waits}
 use Rattle.slave.specs.Openings.{capacities_of}
 use Rattle.slave.specs.Plans.{IsAsOpened, plan_of}
 use Rattle.slave.specs.Standing.{HasEnded, JustOpened, NoneRuns, PartsStandAfter, SlaveState}
@@ -89,8 +89,7 @@ started d log lists c m =
 -- a reply is laid out, if there is one
 abbrev pub LaysReply : OutboxState → OutboxState → Option (List ℕ) → Type 0
 LaysReply a b None = b ≡ a
-LaysReply a b (Some packet) =
-    LaysOut a b (record { origin = origin.Reply; packets = packet ∷ [] })
+LaysReply a b (Some packet) = LaysOut a b (together origin.Reply (packet ∷ []))
 
 -- where lists run, one of these doesn't stand as it did where the newest measurement was opened
 pub record HasOther (d : Profile) (log : List Act) (lists : ℕ) : Type 0 where
@@ -130,7 +129,7 @@ acts_of Nothing = 0
 acts_of Full = 0
 acts_of (Marked l) = PER_ACT
 acts_of (Skipped l) = PER_ACT
-acts_of (Wrote l end) = PER_ACT
+acts_of (Wrote l len) = PER_ACT
 
 module _ {S T : Type 0} where
   -- the newest measurement's parts are as they were, and the next look begins there too
@@ -409,15 +408,16 @@ module _ {S T F : Type 0} (take : TakeGhosts T F) where
   EndsRound a b begin HeldUp = IsHeldUp take b b.next
   EndsRound a b begin Empty =
       (b.next ≡ 0) × ((is_spent b ≡ true) ⊎ ((c : ℕ) → begin ≤ c → IsEmptyAt take b c))
-  EndsRound a b begin Took = (b.next ≡ 0) × (a.acts + 3 ≤ b.acts)
+  EndsRound a b begin Took = (b.next ≡ 0) × (a.acts + PER_ACT ≤ b.acts)
 
--- of what waits the first n aren't sent: so much was done with each ring, and so much is late
+-- of the replies and samples that wait, as a whole or in part, the first n aren't sent: so much was
+-- done with each ring, and so much is late
 abbrev pub left_deeds : Profile → List Act → ℕ → ℕ → ℕ → List Deed
-left_deeds d log n c m = unsent_by m c (first n (origins (waits d log))) ++ deeds_of d m c log
+left_deeds d log n c m = unsent_by m c (first n (origins_in (waits d log))) ++ deeds_of d m c log
 
 abbrev pub left_late : Profile → List Act → ℕ → ℕ → ℕ → ℕ
 left_late d log n m l =
-    late_in d log m l + count_by (is_late log m l) (first n (origins (waits d log)))
+    late_in d log m l + count_by (is_late log m l) (first n (origins_in (waits d log)))
 
 module _ {S T F : Type 0} (take : TakeGhosts T F) where
   -- the part of measurement m at event channel c was told that a sample of list l isn't sent

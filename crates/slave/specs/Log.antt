@@ -1,8 +1,8 @@
 -- What a slave did, and what follows of it: the past of its session, what was done at each event
--- channel, and the frames that were laid out, and what became of them.
+-- channel, and the packets that were laid out, and what became of them.
 use Rattle.std.specs.Prelude.{◌≡◌, ℕ, ◌+◌, ◌<◌, ◌≤◌, zero, suc}
 use Rattle.std.specs.Prelude.{Bool, true, false, ◌&&◌, ◌||◌, not, nat_eq, if◌then◌else◌}
-use Rattle.std.specs.Prelude.{List, [], ◌∷◌, ◌++◌, length, count_by, drop, map}
+use Rattle.std.specs.Prelude.{List, [], ◌∷◌, ◌++◌, length, count_by, drop}
 use Rattle.std.specs.Prelude.{take as first}
 use Rattle.std.specs.Prelude.{Option, Some, None, Err}
 use Rattle.xcp_base.specs.Counts.{one_if}
@@ -20,18 +20,18 @@ use Rattle.sampler.specs.Past.{Past as SamplerPast}
 use Rattle.slave_outbox.specs.Deeds.{Deed, Unsent, passes}
 use Rattle.slave_outbox.specs.Deeds.{Took as TookItem}
 use Rattle.slave_outbox.specs.Deeds.{runs as runs_there}
-use Rattle.slave_outbox.specs.Outboxes.{Laid}
-use Rattle.slave_outbox.specs.declared.unit.Origin.{Origin}
-use Rattle.slave_outbox.specs.declared.unit.Origin.TheVariants as origin
+use Rattle.slave_outbox.specs.Outboxes.{Laid, origins_in, together}
+use Rattle.slave_outbox.specs.declared.origin.Origin.{Origin}
+use Rattle.slave_outbox.specs.declared.origin.Origin.TheVariants as origin
 use Rattle.slave_channels.specs.Ordering.{starts_noted, stops_noted}
 use Rattle.slave_channels.specs.Accounts.{Entry, end_of, sum_before}
 
 -- a packet was answered by the session; a start was refused by the slave, with an error code, and
 -- changed nothing; a measurement was opened, with a part at these event channels; an item was taken
 -- off the ring that event channel c has in measurement m; what was left of the sampler that event
--- channel c had in measurement m came back, and this is the sampler's past; so many of the replies
--- and samples that waited were sent, the oldest first; the master was lost, as behind DISCONNECT;
--- or all that waited was thrown away
+-- channel c had in measurement m came back, and this is the sampler's past; so many of the packets
+-- that waited were sent, the oldest first; the master was lost, as behind DISCONNECT; or all that
+-- waited was thrown away
 pub data Act : Type 0 where
   Heard : (x : Exchange) → Act
   Refused : (packet : List ℕ) (code : ErrCode) → Act
@@ -126,39 +126,35 @@ ordered_by d c act log deeds = with_stops d act log (with_starts d c act log dee
 abbrev pub is_newest : ℕ → List Act → Bool
 is_newest m log = nat_eq (m + 1) (opened log)
 
--- a reply, if there is one
+-- the packet of a reply, if there is one
 abbrev pub reply_laid : Option (List ℕ) → List Laid
 reply_laid None = []
-reply_laid (Some packet) = record { origin = origin.Reply; packets = packet ∷ [] } ∷ []
+reply_laid (Some packet) = together origin.Reply (packet ∷ [])
 
--- a sample that event channel c has in measurement m, if it passes
+-- the packets of a sample that event channel c has in measurement m, if it passes
 abbrev pub sample_laid : Bool → ℕ → ℕ → SampleParts → List Laid
 sample_laid false m c s = []
-sample_laid true m c s = record { origin = origin.Sample m c s.list; packets = s.packets } ∷ []
+sample_laid true m c s = together (origin.Sample m c s.list) s.packets
 
 -- it is a sample from the ring that event channel c has in measurement m
 abbrev pub is_of_ring : ℕ → ℕ → Origin → Bool
 is_of_ring m c origin.Reply = false
 is_of_ring m c (origin.Sample n k l) = nat_eq n m && nat_eq k c
 
--- it isn't sent: what that is to the ring, if it is from there
+-- it isn't sent, or not whole: what that is to the ring, if it is from there
 abbrev pub unsent_one : ℕ → ℕ → Origin → List Deed
 unsent_one m c origin.Reply = []
 unsent_one m c (origin.Sample n k l) = if nat_eq n m && nat_eq k c then Unsent l ∷ [] else []
 
--- none of what is from these, the oldest first, is sent
+-- so of each of these, the oldest first
 abbrev pub unsent_by : ℕ → ℕ → List Origin → List Deed
 unsent_by m c [] = []
 unsent_by m c (x ∷ xs) = unsent_by m c xs ++ unsent_one m c x
 
--- where some replies and samples are from
-abbrev pub origins : List Laid → List Origin
-origins xs = map (λ (x : Laid). x.origin) xs
-
 abbrev mutual
   -- what was done with the ring that event channel c has in measurement m: the orders of the acts
   -- while the measurement was the newest, the items that were taken, and those of the samples laid
-  -- out that were thrown away
+  -- out whose last packet was thrown away: of such a sample some packets may have been sent
   pub deeds_of : Profile → ℕ → ℕ → List Act → List Deed
   deeds_of d m c [] = []
   deeds_of d m c (Heard x ∷ log) =
@@ -173,10 +169,11 @@ abbrev mutual
   deeds_of d m c (HungUp ∷ log) =
       if is_newest m log then ordered_by d c HungUp log (deeds_of d m c log)
       else deeds_of d m c log
-  deeds_of d m c (Discarded ∷ log) = unsent_by m c (origins (waits d log)) ++ deeds_of d m c log
+  deeds_of d m c (Discarded ∷ log) =
+      unsent_by m c (origins_in (waits d log)) ++ deeds_of d m c log
 
-  -- the replies and samples that wait, the oldest first: what was laid out, and neither sent nor
-  -- thrown away
+  -- the packets of replies and samples that wait, the oldest first: what was laid out, and neither
+  -- sent nor thrown away
   pub waits : Profile → List Act → List Laid
   waits d [] = []
   waits d (Heard x ∷ log) = waits d log ++ reply_laid (reply_in d (past_of d log) x)
@@ -190,8 +187,8 @@ abbrev mutual
   waits d (HungUp ∷ log) = waits d log
   waits d (Discarded ∷ log) = []
 
--- what an act lays out: a reply, or a sample whose list runs there and that is not from before a
--- stop of it
+-- what an act lays out: the packet of a reply, or those of a sample whose list runs there and that
+-- is not from before a stop of it
 abbrev pub laid_by : Profile → Act → List Act → List Laid
 laid_by d (Heard x) log = reply_laid (reply_in d (past_of d log) x)
 laid_by d (Refused packet code) log = reply_laid (Some (packet_of (Err code)))
@@ -203,24 +200,24 @@ laid_by d (Sent n) log = []
 laid_by d HungUp log = []
 laid_by d Discarded log = []
 
--- the replies and samples that were laid out, oldest first
+-- the packets that were laid out, oldest first
 abbrev pub laid : Profile → List Act → List Laid
 laid d [] = []
 laid d (act ∷ log) = laid d log ++ laid_by d act log
 
--- those that were sent, oldest first: each time the first so many of what waited
-abbrev pub sent_units : Profile → List Act → List Laid
-sent_units d [] = []
-sent_units d (Heard x ∷ log) = sent_units d log
-sent_units d (Refused packet code ∷ log) = sent_units d log
-sent_units d (Opened at ∷ log) = sent_units d log
-sent_units d (Took m c x ∷ log) = sent_units d log
-sent_units d (CameBack m c past ∷ log) = sent_units d log
-sent_units d (Sent n ∷ log) = sent_units d log ++ first n (waits d log)
-sent_units d (HungUp ∷ log) = sent_units d log
-sent_units d (Discarded ∷ log) = sent_units d log
+-- the packets that were sent, oldest first: each time the first so many of those that waited
+abbrev pub sent_laid : Profile → List Act → List Laid
+sent_laid d [] = []
+sent_laid d (Heard x ∷ log) = sent_laid d log
+sent_laid d (Refused packet code ∷ log) = sent_laid d log
+sent_laid d (Opened at ∷ log) = sent_laid d log
+sent_laid d (Took m c x ∷ log) = sent_laid d log
+sent_laid d (CameBack m c past ∷ log) = sent_laid d log
+sent_laid d (Sent n ∷ log) = sent_laid d log ++ first n (waits d log)
+sent_laid d (HungUp ∷ log) = sent_laid d log
+sent_laid d (Discarded ∷ log) = sent_laid d log
 
--- those that were thrown away, oldest first: each time all that waited
+-- the packets that were thrown away, oldest first: each time all that waited
 abbrev pub thrown : Profile → List Act → List Laid
 thrown d [] = []
 thrown d (Heard x ∷ log) = thrown d log
@@ -232,8 +229,8 @@ thrown d (Sent n ∷ log) = thrown d log
 thrown d (HungUp ∷ log) = thrown d log
 thrown d (Discarded ∷ log) = thrown d log ++ waits d log
 
--- what a log weighs: its acts, the replies and samples that wait, and one more while a master is
--- connected. So what waits is sent or thrown away, and a master lost, at no more weight
+-- what a log weighs: its acts, the packets that wait, and one more while a master is connected. So
+-- what waits is sent or thrown away, and a master lost, at no more weight
 abbrev pub weight : Profile → List Act → ℕ
 weight d log = length log + length (waits d log) + one_if (past_of d log).connected
 
@@ -300,8 +297,8 @@ abbrev pub is_late : List Act → ℕ → ℕ → Origin → Bool
 is_late log m l origin.Reply = false
 is_late log m l (origin.Sample n c k) = nat_eq n m && (nat_eq k l && not (is_out n c log))
 
--- how many samples of list l in measurement m were thrown away behind the return of their part,
--- which had counted them as written
+-- how many samples of list l in measurement m were thrown away, at least their last packet, behind
+-- the return of their part, which had counted them as written
 abbrev pub late_in : Profile → List Act → ℕ → ℕ → ℕ
 late_in d [] m l = 0
 late_in d (Heard x ∷ log) m l = late_in d log m l
@@ -312,7 +309,7 @@ late_in d (CameBack n c past ∷ log) m l = late_in d log m l
 late_in d (Sent n ∷ log) m l = late_in d log m l
 late_in d (HungUp ∷ log) m l = late_in d log m l
 late_in d (Discarded ∷ log) m l =
-    late_in d log m l + count_by (is_late log m l) (origins (waits d log))
+    late_in d log m l + count_by (is_late log m l) (origins_in (waits d log))
 
 -- and in all measurements
 abbrev pub late_of : Profile → List Act → ℕ → ℕ

@@ -1,7 +1,7 @@
 -- What a slave laid out and sent, and what a log says of it.
 use Rattle.std.specs.Prelude.{◌≡◌, ◌≢◌, ℕ, ◌+◌, ◌-◌, ◌<◌, ◌%◌, ◌==◌, ◌&&◌, Bool, true}
 use Rattle.std.specs.Prelude.{false, Option, Some, Err, Ok, ◌⊎◌}
-use Rattle.std.specs.Prelude.{All, List, [], ◌∷◌, ◌++◌, count_by, filter, length, map}
+use Rattle.std.specs.Prelude.{All, List, [], ◌∷◌, ◌++◌, count_by, filter, flat_map, length}
 use Rattle.std.specs.Prelude.{option_to_list}
 use Rattle.std.specs.List.{list_any, sum_by}
 use mathlib.Core.List.{IsPrefix}
@@ -27,17 +27,17 @@ use Rattle.sampler.specs.Past.{Past as SamplerPast}
 use Rattle.transmitter.specs.Items.{samples}
 use Rattle.daq_engine.specs.Order.{items_of}
 use Rattle.daq_engine.specs.Overload.{HasMarks}
-use Rattle.slave_outbox.specs.Deeds.{passed, passes, taken, unsent_of}
-use Rattle.slave_outbox.specs.Outboxes.{Laid, packets_in, unit_of}
-use Rattle.slave_outbox.specs.Units.{is_reply}
-use Rattle.slave_outbox.specs.declared.unit.Origin.{Origin}
-use Rattle.slave_outbox.specs.declared.unit.Origin.TheVariants as origin
+use Rattle.slave_outbox.specs.Deeds.{passed, passes, taken, unsent_of, written_by}
+use Rattle.slave_outbox.specs.Origins.{is_reply}
+use Rattle.slave_outbox.specs.Outboxes.{Laid, packets_in, together}
+use Rattle.slave_outbox.specs.declared.origin.Origin.{Origin}
+use Rattle.slave_outbox.specs.declared.origin.Origin.TheVariants as origin
 use Rattle.slave_channels.specs.Accounts.{Agree, Entry, accepted_in, accepted_of}
 use Rattle.slave_channels.specs.Accounts.{dropped_in, dropped_of, due_in, due_of}
 use Rattle.slave_channels.specs.Accounts.{written_in, written_of}
 use Rattle.slave.specs.Log.{AllBack, Act, CameBack, Discarded, Heard, HungUp, Opened, Refused}
 use Rattle.slave.specs.Log.{Sent, Took, deeds_of, entries_of, is_back, is_of_ring, is_out}
-use Rattle.slave.specs.Log.{is_sample_of, laid, late_of, opened, past_of, sent_units, thrown}
+use Rattle.slave.specs.Log.{is_sample_of, laid, late_of, opened, past_of, sent_laid, thrown}
 use Rattle.slave.specs.Log.{waits}
 use Rattle.slave.specs.Plans.{plan_at}
 use Rattle.slave.specs.Standing.{NoneRuns}
@@ -45,7 +45,7 @@ use Rattle.slave.specs.Thinned.{IsWithout}
 
 -- In each definition below the log has the acts so far, the newest first.
 
--- those of these that are replies
+-- those of these packets that are replies
 abbrev pub answers_in : List Laid → List Laid
 answers_in xs = filter (λ (x : Laid). is_reply x.origin) xs
 
@@ -53,17 +53,22 @@ answers_in xs = filter (λ (x : Laid). is_reply x.origin) xs
 abbrev pub from_ring : ℕ → ℕ → List Laid → List Laid
 from_ring m c xs = filter (λ (x : Laid). is_of_ring m c x.origin) xs
 
--- those of these that are samples of list l, of whichever measurement
+-- those of these that are of samples of list l, of whichever measurement
 abbrev pub from_list : ℕ → List Laid → List Laid
 from_list l xs = filter (λ (x : Laid). is_sample_of l x.origin) xs
 
--- a sample that event channel c has in measurement m, as it is laid out
-abbrev pub sample_of : ℕ → ℕ → SampleParts → Laid
-sample_of m c s = record { origin = origin.Sample m c s.list; packets = s.packets }
+-- the packets of a sample that event channel c has in measurement m, as they are laid out
+abbrev pub sample_of : ℕ → ℕ → SampleParts → List Laid
+sample_of m c s = together (origin.Sample m c s.list) s.packets
+
+-- a packet is the last one of a sample of list l, from the ring that event channel c has in
+-- measurement m
+abbrev pub ends : ℕ → ℕ → ℕ → Laid → Bool
+ends m c l x = x.last && (is_of_ring m c x.origin && is_sample_of l x.origin)
 
 -- the packets that were sent, and their bytes
 abbrev pub packets_sent : Profile → List Act → List (List ℕ)
-packets_sent d log = packets_in (sent_units d log)
+packets_sent d log = packets_in (sent_laid d log)
 
 abbrev pub sent_text : Profile → List Act → List ℕ
 sent_text d log = text 0 (packets_sent d log)
@@ -130,10 +135,9 @@ AsksToStop d past l packet =
 abbrev pub IsNoReply : List ℕ → Type 0
 IsNoReply q = begins_reply q ≡ false
 
--- no packet of it does, if it is from a ring and known
+-- so it is with a packet that was laid out, if it is from a ring and known
 abbrev pub BeginsOtherwise : List Act → Laid → Type 0
-BeginsOtherwise log x =
-    is_reply x.origin ≡ false → IsKnown log x.origin → All IsNoReply x.packets
+BeginsOtherwise log x = is_reply x.origin ≡ false → IsKnown log x.origin → IsNoReply x.packet
 
 -- the act threw what waited away
 abbrev pub throws : Act → Bool
@@ -156,7 +160,7 @@ pub record IsSince (d : Profile) (log earlier : List Act) : Type 0 where
   pub since : List Laid
   pub laid_is : laid d log ≡ laid d earlier ++ since
   pub sent_is :
-      sent_units d log ++ waits d log ≡ sent_units d earlier ++ (waits d earlier ++ since)
+      sent_laid d log ++ waits d log ≡ sent_laid d earlier ++ (waits d earlier ++ since)
 
 -- the replies since the acts `earlier`, if nothing waited then: the answers that were sent since
 -- are the first of these
@@ -164,8 +168,8 @@ pub record IsAnswered (d : Profile) (log earlier : List Act) : Type 0 where
   pub since : List (List ℕ)
   pub replies_are : replies_of d log ≡ replies_of d earlier ++ since
   pub first_are :
-      IsPrefix (packets_in (answers_in (sent_units d log)))
-      (packets_in (answers_in (sent_units d earlier)) ++ since)
+      IsPrefix (packets_in (answers_in (sent_laid d log)))
+      (packets_in (answers_in (sent_laid d earlier)) ++ since)
 
 -- measurement m is the newest, and list l runs. The measurement was opened just before the start
 -- that it was opened for, with no list running, and the start has a positive reply; since then some
@@ -192,7 +196,7 @@ Rests d l since before =
     → runs (past_of d (sooner ++ before)) l ≡ false
 
 -- how many samples of list l were accepted in a part and not written: not laid out, or thrown away
--- before they were sent
+-- before their last packet was sent
 abbrev pub left_of : Entry → ℕ → ℕ
 left_of e l = accepted_of e l - written_of e l
 
@@ -212,17 +216,17 @@ pub record AddsUpIn (entries : List Entry) (l : ℕ) : Type 0 where
 
 -- what is left of the sampler that event channel c had in measurement m came back behind the acts
 -- `earlier`, with this past. It had not come back before. What had been taken of its ring are the
--- first of the items that the sampler sent; those of the samples among these that passed where they
--- were taken are what was laid out of the ring, in order and each once, then and ever after; the
--- samples among these are marked exactly behind drops; and the numbers of each list add up, where
--- what had been thrown away by then is left
+-- first of the items that the sampler sent; the packets of those of the samples among these that
+-- passed where they were taken are what was laid out of the ring, in order and each once, then and
+-- ever after; the samples among these are marked exactly behind drops; and the numbers of each list
+-- add up, where what had been thrown away by then is left
 pub record IsTold (d : Profile) (log : List Act) (m c : ℕ) (past : SamplerPast)
     (earlier : List Act)
     : Type 0 where
   pub once : is_back m c earlier ≡ false
   pub front : IsPrefix (taken (deeds_of d m c earlier)) (items_of past)
   pub written :
-      from_ring m c (laid d log) ≡ map (sample_of m c) (passed (deeds_of d m c earlier))
+      from_ring m c (laid d log) ≡ flat_map (sample_of m c) (passed (deeds_of d m c earlier))
   pub marks : HasMarks past (samples (taken (deeds_of d m c earlier)))
   pub adds_up :
       (l : ℕ) → AddsUp (record { number = m; past = past; deeds = deeds_of d m c earlier }) l
@@ -235,27 +239,32 @@ pub record SessionLaw (d : Profile) (log : List Act) : Type 0 where
       (later earlier : List Act) → log ≡ later ++ earlier → IsPrefix (laid d earlier) (laid d log)
   pub sent_in_order :
       (later earlier : List Act) → log ≡ later ++ earlier
-      → IsPrefix (sent_units d earlier) (sent_units d log)
+      → IsPrefix (sent_laid d earlier) (sent_laid d log)
   -- what was sent is what was laid out, in order, without what was thrown away and what waits
   pub sent_are :
-      IsWithout (length (thrown d log) + length (waits d log)) (laid d log) (sent_units d log)
-  -- each reply and sample that was laid out was sent or thrown away, or waits, once
+      IsWithout (length (thrown d log) + length (waits d log)) (laid d log) (sent_laid d log)
+  -- each packet that was laid out was sent or thrown away, or waits, once
   pub each :
       (test : Laid → Bool)
       → count_by test (laid d log)
-      ≡ count_by test (sent_units d log) + count_by test (thrown d log)
+      ≡ count_by test (sent_laid d log) + count_by test (thrown d log)
       + count_by test (waits d log)
   -- and as long as nothing was thrown away, all that is laid out is sent or waits, in order
   pub since :
       (later earlier : List Act) → log ≡ later ++ earlier → NoneThrows later
       → IsSince d log earlier
-  -- what was thrown away of a ring is noted there
+  -- each sample of a ring whose last packet was thrown away is noted there once, also one of which
+  -- some packets had been sent
   pub unsent :
+      (m c l : ℕ) → unsent_of (deeds_of d m c log) l ≡ count_by (ends m c l) (thrown d log)
+  -- so of the samples of a list that were laid out of a ring those count as written whose last
+  -- packet was sent, or waits
+  pub written :
       (m c l : ℕ)
-      → unsent_of (deeds_of d m c log) l
-      ≡ count_by (λ (x : Laid). is_of_ring m c x.origin && is_sample_of l x.origin) (thrown d log)
+      → written_by (deeds_of d m c log) l
+      ≡ count_by (ends m c l) (sent_laid d log) + count_by (ends m c l) (waits d log)
   -- once all parts came back, all that was sent is known
-  pub known : AllBack d log → AreKnown log (sent_units d log)
+  pub known : AllBack d log → AreKnown log (sent_laid d log)
   -- the bytes sent split into frames with the packets that were sent, whose counters are 0, 1, ..
   -- modulo 65536
   pub frames : IsProfile d → IsSplit (sent_text d log) (numbered 0 (packets_sent d log))
@@ -264,7 +273,7 @@ pub record SessionLaw (d : Profile) (log : List Act) : Type 0 where
   -- the first of them
   pub answers : packets_in (answers_in (laid d log)) ≡ replies_of d log
   pub answers_sent :
-      (n : ℕ) × IsWithout n (replies_of d log) (packets_in (answers_in (sent_units d log)))
+      (n : ℕ) × IsWithout n (replies_of d log) (packets_in (answers_in (sent_laid d log)))
   pub answered :
       (later earlier : List Act) → log ≡ later ++ earlier → NoneThrows later
       → waits d earlier ≡ [] → IsAnswered d log earlier
@@ -275,8 +284,8 @@ pub record SessionLaw (d : Profile) (log : List Act) : Type 0 where
   -- so the packets that begin so among those that were sent are the answers that were sent, if the
   -- parts came back of which samples were sent
   pub told_apart :
-      AreKnown log (sent_units d log)
-      → filter begins_reply (packets_sent d log) ≡ packets_in (answers_in (sent_units d log))
+      AreKnown log (sent_laid d log)
+      → filter begins_reply (packets_sent d log) ≡ packets_in (answers_in (sent_laid d log))
   -- which lists run changes only at packets with a positive reply, and where the master is lost
   pub changes :
       (act : Act) (l : ℕ) (later earlier : List Act) → log ≡ later ++ act ∷ earlier
@@ -298,10 +307,11 @@ pub record SessionLaw (d : Profile) (log : List Act) : Type 0 where
       (l : ℕ) (later since before : List Act) → log ≡ later ++ (since ++ before)
       → Rests d l since before
       → from_list l (laid d (since ++ before)) ≡ from_list l (laid d before)
-  -- what was laid out of a ring are, in order and each once, those of the samples taken from it
-  -- that passed where they were taken
+  -- what was laid out of a ring are, in order and each once, the packets of those of the samples
+  -- taken from it that passed where they were taken
   pub rings :
-      (m c : ℕ) → from_ring m c (laid d log) ≡ map (sample_of m c) (passed (deeds_of d m c log))
+      (m c : ℕ)
+      → from_ring m c (laid d log) ≡ flat_map (sample_of m c) (passed (deeds_of d m c log))
   -- what came back of each part
   pub parts :
       (m c : ℕ) (past : SamplerPast) (later earlier : List Act)
@@ -310,22 +320,19 @@ pub record SessionLaw (d : Profile) (log : List Act) : Type 0 where
   pub adds_up : (l : ℕ) → AddsUpIn (entries_of d log) l
 
 -- what two logs have in common after which one slave stands: the bytes sent, and those that wait;
--- their packets; the counter of the next frame; what waits, by origin and length; the sums of all
--- parts that came back, as far as 64 bits tell them, those of the samples written less what was
--- thrown away behind the return of its part; how many measurements were opened, how the lists were
--- set up where the newest was, and which parts did not come back, with the items that were taken of
--- these
+-- the packets that were sent; the counter of the next frame that is sent; the packets that wait,
+-- and where they are from; the sums of all parts that came back, as far as 64 bits tell them, those
+-- of the samples written less what was thrown away behind the return of its part; how many
+-- measurements were opened, how the lists were set up where the newest was, and which parts did not
+-- come back, with the items that were taken of these
 pub record SameStory (d : Profile) (a b : List Act) : Type 0 where
   pub sent : sent_text d a ≡ sent_text d b
   pub waits_are :
       text (length (packets_sent d a)) (packets_in (waits d a))
       ≡ text (length (packets_sent d b)) (packets_in (waits d b))
   pub packets : IsProfile d → packets_sent d a ≡ packets_sent d b
-  pub packets_wait : IsProfile d → packets_in (waits d a) ≡ packets_in (waits d b)
-  pub counter :
-      length (packets_in (sent_units d a ++ waits d a)) % 65536
-      ≡ length (packets_in (sent_units d b ++ waits d b)) % 65536
-  pub units : map unit_of (waits d a) ≡ map unit_of (waits d b)
+  pub counter : length (packets_sent d a) % 65536 ≡ length (packets_sent d b) % 65536
+  pub waits_are_same : waits d a ≡ waits d b
   pub due :
       (l : ℕ) → l < MAX_LISTS → Agree (due_in (entries_of d a) l) (due_in (entries_of d b) l)
   pub dropped :

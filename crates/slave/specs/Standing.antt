@@ -3,12 +3,12 @@ use Rattle.std.specs.Prelude.{◌≡◌, ℕ, ◌+◌, ◌-◌, ◌*◌, ◌<◌
 use Rattle.std.specs.Prelude.{List, [], ◌∷◌}
 use Rattle.std.specs.Prelude.{length, slice_get, Some}
 use mathlib.Core.List.{IsPrefix}
-use Rattle.xcp_base.specs.Packets.{ArePackets}
 use Rattle.xcp_base.specs.declared.err_code.ErrCode.{ErrCode}
 use Rattle.xcp_base.specs.declared.err_code.ErrCode.TheVariants.{Sequence}
 use Rattle.xcp_base.specs.declared.item.Item.{Item}
 use Rattle.xcp_base.specs.declared.item.Item.TheVariants.{Marker, Sample}
 use Rattle.xcp_base.specs.declared.limits.TheConstants.{MAX_LISTS, MAX_TAKEN}
+use Rattle.channel_ring.specs.Making.{ArePackets}
 use Rattle.channel_ring.specs.declared.ends.TakeEnd.{Ghosts as TakeGhosts}
 use Rattle.daq_store.specs.Configuration.{Configuration}
 use Rattle.session.specs.Past.{Past}
@@ -33,14 +33,14 @@ use Rattle.daq_engine.specs.Overload.{HasMarks}
 use Rattle.transmitter.specs.Items.{samples}
 use Rattle.slave.specs.Log.{Act, CameBack, Discarded, Heard, HungUp, Opened, Refused, Sent, Took}
 use Rattle.slave.specs.Log.{deeds_of, entries_of, has_part, is_back, is_out, late_in, opened}
-use Rattle.slave.specs.Log.{past_of, sent_units, waits, weight}
+use Rattle.slave.specs.Log.{past_of, sent_laid, waits, weight}
 use Rattle.slave_channels.specs.Accounts.{AccountStandsAfter, AccountState}
 use Rattle.slave.specs.Plans.{IsAsOpened, plan_at}
 use Rattle.slave.specs.Openings.{IsOpenedAfter, IsOpeningAfter, past_at}
 use Rattle.slave.specs.Returns.{AreReturns, ends_in, returns_at}
 
--- the session with the master, the frames that were laid out, the event channels, how the DAQ lists
--- were set up where the newest measurement was opened, how many measurements were opened, the
+-- the session with the master, the packets that were laid out, the event channels, how the DAQ
+-- lists were set up where the newest measurement was opened, how many measurements were opened, the
 -- account of what came back, how much it counted of what it did, and the event channel at whose
 -- ring the next look begins
 pub record SlaveState (S T : Type 0) : Type 0 where
@@ -131,7 +131,7 @@ pub record ComesBack (d : Profile) (log : List Act) (m c : ℕ) (past : SamplerP
   pub front : IsPrefix (taken (deeds_of d m c log)) (items_of past)
   pub marks : HasMarks past (samples (taken (deeds_of d m c log)))
 
--- the packets of a sample that passes have 1 to MAX_DTO bytes each
+-- a sample that passes has 1 to 124 packets of 1 to MAX_PACKET bytes each
 abbrev pub HasPacketsIfPasses : List Deed → Item → Type 0
 HasPacketsIfPasses deeds (Sample s) = passes deeds s.list ≡ true → ArePackets s.packets
 HasPacketsIfPasses deeds (Marker k) = Unit {0}
@@ -225,7 +225,7 @@ module _ {T F : Type 0} (take : TakeGhosts T F) where
     pub is_log : IsLog d log
     pub profile : s.session.profile ≡ d
     pub session : SessionStandsAfter s.session (past_of d log)
-    pub outbox : OutboxStandsAfter s.outbox (sent_units d log) (waits d log)
+    pub outbox : OutboxStandsAfter s.outbox (sent_laid d log) (waits d log)
     pub channels :
         (c : ℕ) (ch : ChannelState S T) → slice_get s.channels c ≡ Some ch
         → ChannelHas (opened log) (deeds c) ch

@@ -1,19 +1,21 @@
 -- What a slave does with the items of its rings.
-use Rattle.std.specs.Prelude.{◌≡◌, ◌⊎◌, ℕ, ◌+◌, ◌*◌, ◌<◌, ◌≤◌, Bool, true, false}
+use Rattle.std.specs.Prelude.{◌≡◌, ◌⊎◌, ℕ, ◌+◌, ◌*◌, ◌<◌, ◌≤◌, Bool, true, false, max}
 use Rattle.std.specs.Prelude.{List, [], ◌∷◌, ◌++◌, length, slice_get, Option, Some, None}
 use mathlib.Core.List.{IsPrefix}
 use Rattle.xcp_base.specs.Samples.{SampleParts}
 use Rattle.xcp_base.specs.declared.item.Item.{Item}
 use Rattle.xcp_base.specs.declared.item.Item.TheVariants.{Sample}
 use Rattle.std.specs.List.{list_all}
-use Rattle.xcp_base.specs.declared.limits.TheConstants.{MAX_CHANNELS}
+use Rattle.xcp_base.specs.declared.limits.TheConstants.{MAX_CHANNELS, MAX_DTO}
 use Rattle.channel_ring.specs.declared.ends.TakeEnd.{Ghosts as TakeGhosts}
 use Rattle.slave_outbox.specs.Steps.{Passes}
 use Rattle.slave_outbox.specs.Taking.{HasNoRoom}
 use Rattle.slave_channels.specs.Channels.{ChannelState, ShareState}
+use Rattle.session.specs.declared.profile.Profile.{Profile}
 use Rattle.slave.specs.Hearing.{GoesBy, is_spent}
 use Rattle.slave.specs.Log.{Act, CameBack, Discarded, Heard, HungUp, Opened, Refused, Sent, Took}
 use Rattle.slave.specs.Standing.{SlaveState}
+use Rattle.slave.specs.declared.limits.TheConstants.{PER_ACT}
 
 abbrev pub is_take : Act → Bool
 is_take (Heard x) = false
@@ -29,6 +31,11 @@ is_take Discarded = false
 -- ring of items has places
 abbrev pub most_taken : ℕ
 most_taken = 2 * 1024 * MAX_CHANNELS
+
+-- the bytes of the longest frame: LEN and CTR, and a packet of the greater of MAX_CTO and MAX_DTO
+-- bytes
+abbrev pub least_peek : Profile → ℕ
+least_peek d = 4 + max d.max_cto MAX_DTO
 
 -- the newest measurement's part at an event channel, if there is one
 abbrev pub newest_part : {S T : Type 0} → Option (ChannelState S T) → Option (ShareState T)
@@ -52,13 +59,13 @@ ComesBefore begin end c =
     ((begin ≤ c) × (c < end)) ⊎ ((end < begin) × ((begin ≤ c) ⊎ (c < end)))
 
 module _ {S T F : Type 0} (take : TakeGhosts T F) where
-  -- items were taken, if there were some, and no more than so many; each counts as three. What the
+  -- items were taken, if there were some, and no more than so many; each counts as 126. What the
   -- last peek showed is shown still; and of a slave that is spent nothing changes, but for where
   -- the next look begins
   pub record TakesItems (most : ℕ) (a b : SlaveState S T) : Type 0 where
     pub acts : List Act
     pub few : length acts ≤ most
-    pub counted : b.acts ≡ a.acts + 3 * length acts
+    pub counted : b.acts ≡ a.acts + PER_ACT * length acts
     pub are : list_all is_take acts ≡ true
     pub session : b.session ≡ a.session
     pub as_many : length b.channels ≡ length a.channels
@@ -136,7 +143,7 @@ module _ {S T F : Type 0} (take : TakeGhosts T F) where
       ⊎ ((b.next ≡ 0)
       × (((c : ℕ) → IsEmptyAt take b c)
       ⊎ ((is_spent b ≡ true)
-      ⊎ ((a.acts + 3 * 1023 ≤ b.acts)
+      ⊎ ((a.acts + PER_ACT * 1023 ≤ b.acts)
       × ((c : ℕ) → LooksAt 1023 a b c ⊎ LooksAt 1024 a b c)))))
 
   -- the ring of the measurement before the newest was looked at 1,024 times at event channel c: so

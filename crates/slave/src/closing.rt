@@ -27,8 +27,8 @@ pub struct Closed {
 
 impl<R: Ring> Slave<R> {
     /// The account of the session so far: of each DAQ list what was due, written, dropped and left,
-    /// over all parts of measurements that came back. What was laid out counts as written, as long
-    /// as it isn't thrown away.
+    /// over all parts of measurements that came back. A sample that was laid out counts as written,
+    /// as long as its last packet isn't thrown away.
     pub fn account(&self) -> &Account
         ensures { result.now ≡ self.now.account }
     {

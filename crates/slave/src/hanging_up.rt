@@ -1,6 +1,6 @@
 //! The master is lost, and what waits for it is thrown away.
 ghost use Rattle.std.specs.Prelude.{◌≡◌, ◌++◌, [], ◌∷◌, length};
-ghost use Rattle.slave_outbox.specs.Outboxes.{has_waiting};
+ghost use Rattle.slave_outbox.specs.Outboxes.{has_waiting, origins_in};
 ghost use Rattle.slave.specs.Hearing.{GoesBy};
 ghost use Rattle.slave.specs.Inner.{LeavesFirst, LeavesOne, PartsGoBy};
 ghost use Rattle.slave.specs.Log.{Discarded, HungUp, discarding, losing};
@@ -13,12 +13,13 @@ use xcp_base::{ListId, ListSet};
 impl<R: Ring> Slave<R> {
     /// The transport was lost: it is as behind DISCONNECT, but nothing is replied; and what waits
     /// to be sent is thrown away, with a peek that wasn't sent, so that nothing of one master
-    /// reaches the next. Samples that are thrown away are left. The next frame has the CTR behind
-    /// that of the last frame that was sent.
+    /// reaches the next. Samples that are thrown away are left, also one of which only some frames
+    /// were sent: the others are never sent. The next frame has the CTR behind that of the last
+    /// frame that was sent.
     pub fn hang_up(&mut self)
         ensures hangs_up { GoesBy R.Take.TakeEnd self.old self.new
             (discarding (has_waiting self.old.outbox) ++ losing self.old.session.connected) }
-        ensures none_waits { self.new.outbox.units ≡ [] }
+        ensures none_waits { self.new.outbox.waits ≡ [] }
         ensures none_shown { self.new.outbox.shown ≡ 0 }
         ensures profile_stays { self.new.session.profile ≡ self.old.session.profile }
         ensures acts_stay { self.new.acts ≡ self.old.acts }
@@ -61,7 +62,7 @@ impl<R: Ring> Slave<R> {
     fn discard(&mut self)
         ensures discards { GoesBy R.Take.TakeEnd self.old self.new
             (discarding (has_waiting self.old.outbox)) }
-        ensures none_waits { self.new.outbox.units ≡ [] }
+        ensures none_waits { self.new.outbox.waits ≡ [] }
         ensures none_shown { self.new.outbox.shown ≡ 0 }
         ensures session_stays { self.new.session ≡ self.old.session }
         ensures acts_stay { self.new.acts ≡ self.old.acts }
@@ -75,7 +76,7 @@ impl<R: Ring> Slave<R> {
     /// What waits is thrown away.
     fn throw_away(&mut self)
         ensures discards { PartsGoBy R.Take.TakeEnd self.old self.new (Discarded ∷ []) }
-        ensures none_waits { self.new.outbox.units ≡ [] }
+        ensures none_waits { self.new.outbox.waits ≡ [] }
         ensures none_shown { self.new.outbox.shown ≡ 0 }
         ensures session_stays { self.new.session ≡ self.old.session }
         ensures acts_stay { self.new.acts ≡ self.old.acts }
@@ -85,9 +86,9 @@ impl<R: Ring> Slave<R> {
         self.outbox.discard();
     }
 
-    /// Each sample that waits is left: its part is told, or the account.
+    /// Each sample that waits, as a whole or in part, is left: its part is told, or the account.
     fn leave_all(&mut self)
-        ensures leaves { LeavesFirst R.Take.TakeEnd (length self.old.outbox.units)
+        ensures leaves { LeavesFirst R.Take.TakeEnd (length (origins_in self.old.outbox.waits))
             self.old self.new }
     {
         for i in 0..self.outbox.len() {

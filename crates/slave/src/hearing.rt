@@ -13,7 +13,7 @@ use std::alloc::Global;
 
 impl<R: Ring> Slave<R> {
     /// Whether it did so much that it hears and takes nothing any more: it counted some 2^57 acts,
-    /// of which a packet counts as 128 and an item as three. What waits is still sent.
+    /// of which a packet counts as 128 and an item as 126. What waits is still sent.
     pub fn is_spent(&self) -> bool
         ensures { result ≡ is_spent self.now }
     {

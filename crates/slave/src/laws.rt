@@ -12,13 +12,14 @@ pub fn nothing_outside_a_run()
 
 /// The law of a session: what a slave's log says of the bytes that were sent. They split into
 /// frames whose counters rise by one. What is laid out and what is sent stand in the order of the
-/// acts; each reply and sample that was laid out was sent or thrown away, or waits, once; and as
-/// long as nothing was thrown away, what was sent are the first of what was laid out. The replies
-/// that were laid out are those to the packets heard, in order and each once; and once the parts
-/// came back of which samples were sent, the packets that begin as replies do are the replies that
-/// were sent. Samples stand only within their measurement and where their DAQ list runs; and what
-/// came back of each event channel tells which samples they are, which of them are marked, and how
-/// many were due, written, dropped and left.
+/// acts; each packet that was laid out was sent or thrown away, or waits, once; and as long as
+/// nothing was thrown away, what was sent are the first of what was laid out. The replies that were
+/// laid out are those to the packets heard, in order and each once; and once the parts came back of
+/// which samples were sent, the packets that begin as replies do are the replies that were sent.
+/// Samples stand only within their measurement and where their DAQ list runs; a sample counts as
+/// written as long as its last packet is not thrown away; and what came back of each event channel
+/// tells which samples they are, which of them are marked, and how many were due, written, dropped
+/// and left.
 pub fn session()
     ensures { SessionOfLog }
 {}

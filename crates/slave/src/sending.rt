@@ -1,11 +1,9 @@
 //! Items are taken off the rings, and what waits is sent.
-ghost use Rattle.std.specs.Prelude.{◌≡◌, ◌*◌, ◌<◌, ◌≤◌, [], min, length, drop, IsOk};
-ghost use Rattle.std.specs.Prelude.{OnErr, OnOk};
+ghost use Rattle.std.specs.Prelude.{◌≡◌, ◌*◌, ◌<◌, ◌≤◌, [], min, length, drop};
 ghost use Rattle.std.specs.Prelude.{take as first};
 ghost use Rattle.xcp_base.specs.declared.limits.TheConstants.{MAX_CHANNELS};
-ghost use Rattle.slave_outbox.specs.Outboxes.{Shows};
-ghost use Rattle.slave_outbox.specs.Putting.{Hands};
-ghost use Rattle.frame_writer.specs.Shown.{shown};
+ghost use Rattle.frame_writer.specs.Frame.{text};
+ghost use Rattle.slave_outbox.specs.Outboxes.{Shows, packets_in};
 ghost use Rattle.slave.specs.Hearing.{GoesBy};
 ghost use Rattle.slave.specs.Inner.{EndsRound, GoesRound, KeepsNewest, KeepsOlder};
 ghost use Rattle.slave.specs.Inner.{LetsGoThere, LooksOlder, LooksOnce, acts_of};
@@ -18,8 +16,7 @@ use crate::limits::PER_ACT;
 use crate::round::{Round, is_full};
 use crate::slave::Slave;
 use daq_engine::Ring;
-use frame_writer::Out;
-use slave_outbox::{PutFault, Step};
+use slave_outbox::Step;
 
 /// The most items that are taken off one ring in a call.
 const MOST_ITEMS: usize = 1024;
@@ -147,13 +144,17 @@ impl<R: Ring> Slave<R> {
         step
     }
 
-    /// Copies as many whole replies and samples as find room to the front of a buffer, in the order
-    /// in which they were laid out, and returns how many bytes these are. They still wait: the next
-    /// peek begins with the same, unless `sent` comes between.
+    /// Copies as many whole frames as find room to the front of a buffer, in the order in which
+    /// they were laid out, and returns how many bytes these are. They still wait: the next peek
+    /// begins with the same, unless `sent` comes between. A sample may so go out in several
+    /// datagrams.
     pub fn peek(&mut self, buffer: &mut [u8]) -> usize
         ensures shows { Shows self.old.outbox (length buffer.old) self.new.outbox.shown result }
-        ensures bytes { first result buffer.new ≡ first result self.old.outbox.waits }
+        ensures bytes { first result buffer.new ≡ text self.old.outbox.counter
+            (packets_in (first self.new.outbox.shown self.old.outbox.waits)) }
         ensures behind { drop result buffer.new ≡ drop result buffer.old }
+        ensures outbox { self.new.outbox
+            ≡ record self.old.outbox { shown = self.new.outbox.shown } }
         ensures stays { GoesBy R.Take.TakeEnd self.old self.new [] }
         ensures profile_stays { self.new.session.profile ≡ self.old.session.profile }
         ensures acts_stay { self.new.acts ≡ self.old.acts }
@@ -162,34 +163,15 @@ impl<R: Ring> Slave<R> {
         self.outbox.peek(buffer)
     }
 
-    /// What the last peek showed was sent, and waits no more.
+    /// The frames that the last peek showed were sent, and wait no more.
     pub fn sent(&mut self)
         ensures sends { GoesBy R.Take.TakeEnd self.old self.new
-            (sending (min self.old.outbox.shown (length self.old.outbox.units))) }
+            (sending (min self.old.outbox.shown (length self.old.outbox.waits))) }
         ensures none_shown { self.new.outbox.shown ≡ 0 }
         ensures profile_stays { self.new.session.profile ≡ self.old.session.profile }
         ensures acts_stay { self.new.acts ≡ self.old.acts }
         ensures next_stays { self.new.next ≡ self.old.next }
     {
         self.outbox.sent();
-    }
-
-    /// Hands all that waits to a writer in one call, the oldest first. If the writer takes all of
-    /// it, it was sent, and nothing waits. If nothing waits, the writer isn't called.
-    ///
-    /// Refused with `Failed` if the writer fails, and with `Cut` if it takes a part of the bytes
-    /// or none: then the slave is unchanged, and what the writer took may break off within a frame.
-    pub fn put<O: Out>(&mut self, out: &mut O) -> Result<(), PutFault>
-        ensures hands { Hands (shown O.Out out.old) (shown O.Out out.new)
-            self.old.outbox.waits result }
-        ensures none { self.old.outbox.waits ≡ [] → IsOk result × (out.new ≡ out.old) }
-        ensures none_shown { OnOk result (self.new.outbox.shown ≡ 0) }
-        ensures ok { OnOk result (GoesBy R.Take.TakeEnd self.old self.new
-            (sending (length self.old.outbox.units))) }
-        ensures err { OnErr result (self.new ≡ self.old) }
-        ensures acts_stay { self.new.acts ≡ self.old.acts }
-        ensures next_stays { self.new.next ≡ self.old.next }
-    {
-        self.outbox.put(out)
     }
 }

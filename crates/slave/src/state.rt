@@ -1,9 +1,12 @@
 //! What a slave is about.
-ghost use Rattle.std.specs.Prelude.{◌≡◌, length, true, false};
+ghost use Rattle.std.specs.Prelude.{◌≡◌, true, false};
 ghost use Rattle.slave.specs.Standing.{Busy, Idle};
+ghost use Rattle.slave.specs.Taking.{least_peek};
+ghost use Rattle.slave_outbox.specs.Outboxes.{bytes_in};
 
 use crate::slave::Slave;
 use daq_engine::Ring;
+use xcp_base::limits::MAX_DTO;
 
 impl<R: Ring> Slave<R> {
     /// Whether a master is connected.
@@ -23,8 +26,16 @@ impl<R: Ring> Slave<R> {
 
     /// How many bytes wait to be sent: the frames of replies and samples that were laid out.
     pub fn waiting(&self) -> usize
-        ensures { result ≡ length self.now.outbox.waits }
+        ensures { result ≡ bytes_in self.now.outbox.waits }
     {
         self.outbox.waiting()
+    }
+
+    /// The bytes of a buffer in which a peek shows a frame, if one waits: LEN and CTR, and a packet
+    /// of the greater of MAX_CTO and MAX_DTO bytes.
+    pub fn least_peek(&self) -> usize
+        ensures { result ≡ least_peek self.now.session.profile }
+    {
+        4 + (self.session.max_cto() as usize).max(MAX_DTO)
     }
 }

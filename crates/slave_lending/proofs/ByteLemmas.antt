@@ -37,13 +37,13 @@ module _ {S T F : Type 0} (take : TakeGhosts T F) (slave : SlaveState S T) (stre
       (record { hears = hears; within = within; all = all; stream = refl; tasks = refl })
 
   pub hangs-up : (b : SlaveState S T) (new : ReaderState) → GoesBy take slave b (discarding (has_waiting slave.outbox) ++ losing slave.session.connected)
-      → b.outbox.units ≡ [] → b.outbox.shown ≡ 0 → b.acts ≡ slave.acts → b.next ≡ slave.next → b.session.profile ≡ slave.session.profile
+      → b.outbox.waits ≡ [] → b.outbox.shown ≡ 0 → b.acts ≡ slave.acts → b.next ≡ slave.next → b.session.profile ≡ slave.session.profile
       → ReaderStandsAfter new [] [] → new.closed ≡ false → new.max_cto ≡ b.session.profile.max_cto → HangsUp take a (with_slots b new tasks)
   hangs-up b new goes none none_shown counted next profile fresh open_still by_profile =
       subst (λ (x : LendingSlaveState S T). HangsUp take x (with_slots b new tasks)) is
       (record { hangs_up = goes; none_waits = none; none_shown = none_shown; counted = counted; next = next; profile = profile; fresh = fresh; is_open = open_still; max_cto = by_profile; tasks = refl })
 
-  pub sends : (b : SlaveState S T) → GoesBy take slave b (sending (min slave.outbox.shown (length slave.outbox.units)))
+  pub sends : (b : SlaveState S T) → GoesBy take slave b (sending (min slave.outbox.shown (length slave.outbox.waits)))
       → b.outbox.shown ≡ 0 → b.acts ≡ slave.acts → b.next ≡ slave.next → b.session.profile ≡ slave.session.profile → Sends take a (with_slots b stream tasks)
   sends b goes none counted next profile =
       subst (λ (x : LendingSlaveState S T). Sends take x (with_slots b stream tasks)) is

@@ -7,7 +7,6 @@ use denote.Struct.Struct.{exits_of}
 use denote.Struct.Owning.{shape as owned_shape, fields as owned_fields, to}
 use Rattle.std.proofs.Crossing.{crosses, frees}
 use Rattle.std_alloc.proofs.SendSync.{quiet}
-use Rattle.frame_writer.specs.contracts.byte_log.ByteLog as Log
 use Rattle.std.specs.contracts.alloc.Global as Global
 use Rattle.std.specs.contracts.impls.GlobalAllocator.TheImpl.{ghosts as heap_ghosts}
 use Rattle.circular_buffer.proofs.Crosses.{Cells-send, Deed-send}
@@ -22,7 +21,10 @@ use Rattle.channel_ring.specs.declared.ends.TakeEnd.{Ghosts as TakeGhosts}
 use Rattle.channel_ring.specs.declared.item_ends.ItemTake.{Ghosts as ItemGhosts}
 use Rattle.daq_engine.specs.declared.ring.Ring.{Ghosts as RingGhosts}
 use Rattle.slave_outbox.specs.contracts.outbox.Outbox as Outbox
-use Rattle.slave_outbox.specs.contracts.unit.Unit as OutUnit
+use Rattle.slave_outbox.specs.contracts.origin.Origin as Origin
+use Rattle.slave_outbox.specs.contracts.sent_log.SentLog as Log
+use Rattle.frame_page.specs.contracts.page.FramePage as Page
+use Rattle.frame_page.specs.contracts.unit.Unit as Unit
 use Rattle.session.specs.contracts.session.Session as Session
 use Rattle.slave_channels.specs.contracts.account.Account as Account
 use Rattle.slave.specs.contracts.plan.Plan as Plan
@@ -41,24 +43,30 @@ use Rattle.slave_lending.specs.contracts.slot.Slot as Slot
 session_send : IsSend Session.the_row
 session_send = search (sendable, crosses) depth 60 fits 20000
 
-deed_send : IsSend (Deed.the_row OutUnit.the_row Global.the_row heap_ghosts)
-deed_send = Deed-send OutUnit.the_row Global.the_row heap_ghosts frees
+abbrev unit_row : RattleType
+unit_row = Unit.the_row Origin.the_row
 
-cells_send : IsSend (Cells.the_row OutUnit.the_row)
-cells_send = Cells-send OutUnit.the_row (search (sendable, crosses) depth 40)
+deed_send : IsSend (Deed.the_row unit_row Global.the_row heap_ghosts)
+deed_send = Deed-send unit_row Global.the_row heap_ghosts frees
 
-ring_send : IsSend (Ring.the_field OutUnit.the_row Global.the_row heap_ghosts).row
+cells_send : IsSend (Cells.the_row unit_row)
+cells_send = Cells-send unit_row (search (sendable, crosses) depth 40)
+
+ring_send : IsSend (Ring.the_field unit_row Global.the_row heap_ghosts).row
 ring_send = search (sendable, crosses, cells_send, deed_send) depth 60 fits 20000
 
-inside_send : IsSend (BufferInside.the_row OutUnit.the_row Global.the_row heap_ghosts)
+inside_send : IsSend (BufferInside.the_row unit_row Global.the_row heap_ghosts)
 inside_send =
-    let inside = BufferInside.the_type OutUnit.the_row Global.the_row heap_ghosts in
+    let inside = BufferInside.the_type unit_row Global.the_row heap_ghosts in
     recorded_send _ _ _ inside.to_one (struct_send (shape inside) (ring_send, tt))
 
-buffer_send : IsSend (Buffer.the_row OutUnit.the_row Global.the_row heap_ghosts)
+buffer_send : IsSend (Buffer.the_row unit_row Global.the_row heap_ghosts)
 buffer_send = view_send _ _ _ _ _ inside_send
 
--- a list of bytes of which none is kept owns nothing
+page_send : IsSend (Page.the_row Origin.the_row)
+page_send = search (sendable, crosses, buffer_send) depth 60 fits 20000
+
+-- lists of bytes of which none is kept own nothing
 log_send : IsSend Log.the_row
 log_send =
     let all : AllSend (owned_fields Log.the_type) = (search sendable, tt) in
@@ -66,7 +74,7 @@ log_send =
     (λ k. quiet (to Log.the_type) (exits_of k (owned_fields Log.the_type)) ((struct_send (owned_shape Log.the_type) all).leaving k))
 
 outbox_send : IsSend Outbox.the_row
-outbox_send = search (sendable, crosses, buffer_send, log_send) depth 60 fits 20000
+outbox_send = search (sendable, crosses, page_send, log_send) depth 60 fits 20000
 
 plan_send : IsSend Plan.the_row
 plan_send = search (sendable, crosses) depth 60 fits 20000

@@ -49,7 +49,7 @@ module _ {S T F : Type 0} (take : TakeGhosts T F) where
     pub hangs_up :
         GoesBy take a.slave b.slave
         (discarding (has_waiting a.slave.outbox) ++ losing a.slave.session.connected)
-    pub none_waits : b.slave.outbox.units ≡ []
+    pub none_waits : b.slave.outbox.waits ≡ []
     pub none_shown : b.slave.outbox.shown ≡ 0
     pub counted : b.slave.acts ≡ a.slave.acts
     pub next : b.slave.next ≡ a.slave.next

@@ -2,7 +2,8 @@
 use Rattle.std.specs.Prelude.{◌≡◌, ℕ, List, [], drop, length, min}
 use Rattle.std.specs.Prelude.{take as first}
 use Rattle.channel_ring.specs.declared.ends.TakeEnd.{Ghosts as TakeGhosts}
-use Rattle.slave_outbox.specs.Outboxes.{Shows}
+use Rattle.frame_writer.specs.Frame.{text}
+use Rattle.slave_outbox.specs.Outboxes.{Shows, packets_in}
 use Rattle.slave.specs.Hearing.{GoesBy}
 use Rattle.slave.specs.Log.{sending}
 use Rattle.slave.specs.Standing.{SlaveState}
@@ -12,8 +13,8 @@ use Rattle.slave_lending.specs.States.{LendingSlaveState}
 
 module _ {S T F : Type 0} (take : TakeGhosts T F) where
   -- items were taken, by turns, as far as some were known and found room, and what measurements
-  -- before the newest held was let go; and then as many of the
-  -- replies and samples that waited as find room were copied to the front of the buffer, n bytes
+  -- before the newest held was let go; and then as many of the frames that waited as find room were
+  -- copied to the front of the buffer, n bytes
   pub record Peeks (a b : LendingSlaveState S T) (before after : List ℕ) (n : ℕ) : Type 0 where
     pub taken : SlaveState S T
     pub takes : TakesItems take most_taken a.slave taken
@@ -21,7 +22,9 @@ module _ {S T F : Type 0} (take : TakeGhosts T F) where
     pub fair : TakesFairly take a.slave taken
     pub lets_go : LetsGo take a.slave taken
     pub shows : Shows taken.outbox (length before) b.slave.outbox.shown n
-    pub bytes : first n after ≡ first n taken.outbox.waits
+    pub bytes :
+        first n after
+        ≡ text taken.outbox.counter (packets_in (first b.slave.outbox.shown taken.outbox.waits))
     pub behind : drop n after ≡ drop n before
     pub stays : GoesBy take taken b.slave []
     pub counted : b.slave.acts ≡ taken.acts
@@ -34,7 +37,7 @@ module _ {S T F : Type 0} (take : TakeGhosts T F) where
   pub record Sends (a b : LendingSlaveState S T) : Type 0 where
     pub sends :
         GoesBy take a.slave b.slave
-        (sending (min a.slave.outbox.shown (length a.slave.outbox.units)))
+        (sending (min a.slave.outbox.shown (length a.slave.outbox.waits)))
     pub none_shown : b.slave.outbox.shown ≡ 0
     pub counted : b.slave.acts ≡ a.slave.acts
     pub next : b.slave.next ≡ a.slave.next

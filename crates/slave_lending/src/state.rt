@@ -1,5 +1,6 @@
 //! What the slave is about.
-ghost use Rattle.std.specs.Prelude.{◌≡◌, length, true, false};
+ghost use Rattle.std.specs.Prelude.{◌≡◌, true, false};
+ghost use Rattle.slave_outbox.specs.Outboxes.{bytes_in};
 ghost use Rattle.slave.specs.Standing.{Busy, Idle};
 
 use crate::lending_slave::LendingSlave;
@@ -23,7 +24,7 @@ impl<R: Ring> LendingSlave<R> {
 
     /// How many bytes wait to be sent, as `Slave::waiting`.
     pub fn waiting(&self) -> usize
-        ensures { result ≡ length self.now.slave.outbox.waits }
+        ensures { result ≡ bytes_in self.now.slave.outbox.waits }
     {
         self.slave.waiting()
     }

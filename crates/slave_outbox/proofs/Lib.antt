@@ -4,5 +4,6 @@ pub mod StopLemmas
 pub mod AccountLemmas
 pub mod AbsentLemmas
 pub mod LaidLemmas
-pub mod FrontLemmas
+pub mod KeptLemmas
+pub mod BoxLemmas
 pub mod TakingLemmas

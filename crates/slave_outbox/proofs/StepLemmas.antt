@@ -7,25 +7,28 @@ use Rattle.xcp_base.specs.declared.item.Item.{Item}
 use Rattle.xcp_base.specs.declared.item.Item.TheVariants.{Marker, Sample}
 use Rattle.xcp_base.specs.Bodies.{body_of}
 use Rattle.xcp_base.specs.declared.limits.TheConstants.{MAX_LISTS}
-use Rattle.frame_writer.specs.Frame.{frame, text}
+use Rattle.frame_writer.specs.Frame.{unnumbered}
+use Rattle.frame_page.specs.Pages.{PageState}
 use Rattle.channel_ring.specs.Ends.{PassesFirst}
 use Rattle.channel_ring.specs.declared.ends.TakeEnd.{Ghosts as TakeGhosts}
 use Rattle.transmitter.proofs.TakenLemmas.{same_first}
 use Rattle.slave_outbox.specs.Deeds.{Deed, passes}
 use Rattle.slave_outbox.specs.Intakes.{IntakeState, OnlyLooked, StandsAfter, list_after}
 use Rattle.slave_outbox.specs.IntakeInner.{BeginsWith, LaysFirst, LaysSample, Notes, lets_pass, takes_one}
-use Rattle.slave_outbox.specs.Steps.{IsHeldBack, Page, Passes, StepMeans}
+use Rattle.slave_outbox.specs.Steps.{IsHeldBack, LaysOut, Passes, StepMeans}
+use Rattle.slave_outbox.specs.declared.origin.Origin.{Origin}
+use Rattle.slave_outbox.specs.declared.origin.Origin.TheVariants as origin
 use Rattle.slave_outbox.specs.declared.list_intake.ListIntake.{ListIntake}
 use Rattle.slave_outbox.specs.declared.step.Step.{Step}
 use Rattle.slave_outbox.specs.declared.step.Step.TheVariants.{Full, Marked, Nothing, Skipped, Wrote}
 use Rattle.slave_outbox.proofs.DeedLemmas.{goes_on-marker, goes_on-skipped, goes_on-wrote, lets_pass-after, same_some}
 
 -- the frames of packets, by their body: each has a header of four bytes in the place of one
-pub length-text_by : (n : ℕ) (qs : List (List ℕ)) → length (text n qs) ≡ length (body_of qs) + 3 * length qs
+pub unnumbered_by : (qs : List (List ℕ)) → length (unnumbered qs) ≡ length (body_of qs) + 3 * length qs
 unfolding body_of
-length-text_by n [] = refl
-length-text_by n (q ∷ qs) =
-    omega (arith, length-text_by (n + 1) qs, length-append (frame n q) (text (n + 1) qs), length-append q (body_of qs))
+unnumbered_by [] = refl
+unnumbered_by (q ∷ qs) =
+    omega (arith, unnumbered_by qs, length-append q (unnumbered qs), length-append q (body_of qs))
 
 -- what the first item comes to is what its sample or its marker comes to
 pub begins-with : (known : List Item) (lists : List ListIntake) (s : SampleParts) (i : ℕ) (kept : ListIntake) (may : Bool) → IsPrefix (Sample s ∷ []) known
@@ -38,17 +41,17 @@ begins-with known lists s i kept may first is below found passed = record {
   may_is = passed;
 }
 
-pub lays-marker : (known : List Item) (lists : List ListIntake) (m : MarkParts) (p : Page) (at limit l : ℕ) → IsPrefix (Marker m ∷ []) known
-    → l ≡ m.list → l < MAX_LISTS → LaysFirst known lists p p at limit (Marked l)
-lays-marker known lists m p at limit l first is below = (m, first, is, below, refl)
+pub lays-marker : (known : List Item) (lists : List ListIntake) (m : MarkParts) (p : PageState Origin) (n c room l : ℕ) → IsPrefix (Marker m ∷ []) known
+    → l ≡ m.list → l < MAX_LISTS → LaysFirst known lists p p n c room (Marked l)
+lays-marker known lists m p n c room l first is below = (m, first, is, below, refl)
 
-pub lays-first : (known : List Item) (lists : List ListIntake) (s : SampleParts) (may : Bool) (p q : Page) (at limit : ℕ) (step : Step)
-    → BeginsWith known lists s may → LaysSample may s p q at limit step → LaysFirst known lists p q at limit step
-lays-first known lists s may p q at limit Nothing first lays = lays
-lays-first known lists s may p q at limit Full first lays = (s, may, first, lays)
-lays-first known lists s may p q at limit (Marked l) first lays = elim lays [ ]
-lays-first known lists s may p q at limit (Skipped l) first lays = (s, may, first, lays)
-lays-first known lists s may p q at limit (Wrote l end) first lays = (s, may, first, lays)
+pub lays-first : (known : List Item) (lists : List ListIntake) (s : SampleParts) (may : Bool) (p q : PageState Origin) (n c room : ℕ) (step : Step)
+    → BeginsWith known lists s may → LaysSample may s p q (origin.Sample n c s.list) room step → LaysFirst known lists p q n c room step
+lays-first known lists s may p q n c room Nothing first lays = lays
+lays-first known lists s may p q n c room Full first lays = (s, may, first, lays)
+lays-first known lists s may p q n c room (Marked l) first lays = elim lays [ ]
+lays-first known lists s may p q n c room (Skipped l) first lays = (s, may, first, lays)
+lays-first known lists s may p q n c room (Wrote l len) first lays = (s, may, first, lays)
 
 module _ {T E : Type 0} (take : TakeGhosts T E) where
   -- whether the samples of a list pass is what is kept of it
@@ -85,11 +88,11 @@ module _ {T E : Type 0} (take : TakeGhosts T E) where
       × (takes_one step ≡ false → b.end ≡ m.end)
 
   -- a step is a look, what the first item comes to, its letting go, and the note of it
-  pub step-means : (a m b : IntakeState T) (p q : Page) (at limit : ℕ) (step : Step)
-      → OnlyLooked take a m → LaysFirst (take.known m.end) m.lists p q at limit step → Lets step m b → take.ring b.end ≡ take.ring m.end → Notes m.lists b.lists step
-      → StepMeans take a b p q at limit step
-  step-means a m b p q at limit Nothing looked lays lets ring notes = absurd lays
-  step-means a m b p q at limit Full looked (s, may, begins, lays) lets ring notes =
+  pub step-means : (a m b : IntakeState T) (p q : PageState Origin) (n c room : ℕ) (step : Step)
+      → OnlyLooked take a m → LaysFirst (take.known m.end) m.lists p q n c room step → Lets step m b → take.ring b.end ≡ take.ring m.end → Notes m.lists b.lists step
+      → StepMeans take a b p q n c room step
+  step-means a m b p q n c room Nothing looked lays lets ring notes = absurd lays
+  step-means a m b p q n c room Full looked (s, may, begins, lays) lets ring notes =
       let same = lets.1 refl in (
         s,
         record {
@@ -103,7 +106,7 @@ module _ {T E : Type 0} (take : TakeGhosts T E) where
         lays.1,
         lays.2,
       )
-  step-means a m b p q at limit (Marked l) looked (k, first, is, below, same) lets ring notes =
+  step-means a m b p q n c room (Marked l) looked (k, first, is, below, same) lets ring notes =
       let go = lets_go a m b (Marker k) looked first (lets.0 refl) in (
         k,
         record {
@@ -115,7 +118,7 @@ module _ {T E : Type 0} (take : TakeGhosts T E) where
         is,
         same,
       )
-  step-means a m b p q at limit (Skipped l) looked (s, may, begins, lays) lets ring notes =
+  step-means a m b p q n c room (Skipped l) looked (s, may, begins, lays) lets ring notes =
       let go = lets_go a m b (Sample s) looked begins.first (lets.0 refl) in
       let held : IsHeldBack take a s.list = λ deeds stands. passes-kept m (take.known m.end) s may begins deeds (stands-looked a m looked deeds stands) ∙ lays.0 in (
         s,
@@ -129,17 +132,17 @@ module _ {T E : Type 0} (take : TakeGhosts T E) where
         held,
         lays.2,
       )
-  step-means a m b p q at limit (Wrote l end) looked (s, may, begins, lays) lets ring notes =
+  step-means a m b p q n c room (Wrote l len) looked (s, may, begins, lays) lets ring notes =
       let go = lets_go a m b (Sample s) looked begins.first (lets.0 refl) in
       let may_pass : Passes take a s.list = λ deeds stands. passes-kept m (take.known m.end) s may begins deeds (stands-looked a m looked deeds stands) ∙ lays.0 in (
         s,
         record {
-          goes_on = goes_on-wrote take a b s (subst (λ x. Notes a.lists b.lists (Wrote x end)) lays.1 (subst (λ xs. Notes xs b.lists (Wrote l end)) looked.lists notes)) go.gains may_pass;
+          goes_on = goes_on-wrote take a b s (subst (λ x. Notes a.lists b.lists (Wrote x len)) lays.1 (subst (λ xs. Notes xs b.lists (Wrote l len)) looked.lists notes)) go.gains may_pass;
           gains = go.gains;
           first_known = go.first_known;
           ring = ring ∙ looked.ring;
         },
         lays.1,
         may_pass,
-        lays.2,
+        subst (λ k. LaysOut p q s (origin.Sample n c k) len room) (sym lays.1) lays.2,
       )

@@ -1,33 +1,37 @@
 -- An item is taken off a ring.
-use Rattle.std.proofs.Common.{◌≡◌, ℕ, ◌≤◌, List, length, take, refl, sym, ap, ◌∙◌, arith}
-use Rattle.std.proofs.lemmas.List.{length-take-le}
+use Rattle.std.proofs.Common.{◌≡◌, ℕ, ◌-◌, List, ap, ◌∙◌, arith}
 use Rattle.channel_ring.specs.declared.ends.TakeEnd.{Ghosts as TakeGhosts}
+use Rattle.frame_page.specs.Pages.{PageState}
+use Rattle.slave_outbox.specs.Inner.{laid_of}
 use Rattle.slave_outbox.specs.Intakes.{IntakeState}
-use Rattle.slave_outbox.specs.Steps.{Page, StepMeans}
+use Rattle.slave_outbox.specs.Steps.{StepMeans}
+use Rattle.slave_outbox.specs.declared.origin.Origin.{Origin}
 use Rattle.slave_outbox.specs.declared.step.Step.{Step}
 use Rattle.slave_outbox.specs.declared.step.Step.TheVariants.{Full, Marked, Nothing, Skipped, Wrote}
-use Rattle.frame_writer.proofs.LayoutLemmas.{length-text}
-use Rattle.slave_outbox.specs.Outboxes.{OutboxState}
+use Rattle.slave_outbox.specs.Outboxes.{OutboxState, bytes_in}
 use Rattle.slave_outbox.specs.Taking.{TakesItem}
 use Rattle.slave_outbox.specs.declared.limits.TheConstants.{PAGE}
-use Rattle.slave_outbox.specs.declared.unit.Unit.{Unit}
+use Rattle.slave_outbox.proofs.KeptLemmas.{laid_push, some_bytes}
 
 -- the outbox whose page this is
-abbrev pub box_of : List ℕ → Page → ℕ → List Unit → ℕ → OutboxState
-box_of sent p end units shown = record { writer = p.writer; sent = sent; waits = take end p.bytes; units = units; shown = shown }
+abbrev pub box_of : List ℕ → PageState Origin → ℕ → OutboxState
+box_of sent p shown = record { sent = sent; counter = p.counter; waits = laid_of p.waits; shown = shown }
 
 module _ {T E : Type 0} (take_end : TakeGhosts T E) where
-  -- where no sample was laid out, the outbox is as it was
-  pub takes-other : (a b : IntakeState T) (p q : Page) (at limit : ℕ) (gone : List ℕ) (units : List Unit) (shown m k : ℕ) (step : Step) (o : OutboxState)
-      → box_of gone p at units shown ≡ o → at ≤ length p.bytes → PAGE ≤ limit → ((l end : ℕ) → step ≡ Wrote l end → ⊥)
-      → StepMeans take_end a b p q at limit step → TakesItem take_end a b o (box_of gone q at units shown) m k step
-  takes-other a b p q at limit gone units shown m k Nothing o is within page none (looked, empty, same) =
-      (looked, empty, ap (λ x. box_of gone x at units shown) same ∙ is)
-  takes-other a b p q at limit gone units shown m k Full o is within page none (s, looked, first, passes, over, same) =
-      let waits : length o.waits ≡ at = sym (ap (λ (x : OutboxState). length x.waits) is) ∙ length-take-le at p.bytes within in
-      (s, looked, first, passes, omega (arith, over, page, waits, length-text 0 s.packets, length-text p.writer.counter s.packets), ap (λ x. box_of gone x at units shown) same ∙ is)
-  takes-other a b p q at limit gone units shown m k (Marked l) o is within page none (x, takes, list, same) =
-      (x, takes, list, ap (λ x. box_of gone x at units shown) same ∙ is)
-  takes-other a b p q at limit gone units shown m k (Skipped l) o is within page none (s, takes, list, held, same) =
-      (s, takes, list, held, ap (λ x. box_of gone x at units shown) same ∙ is)
-  takes-other a b p q at limit gone units shown m k (Wrote l end) o is within page none means = absurd (none l end refl)
+  -- what became of the item is what became of it in the page
+  pub takes-item : (a b : IntakeState T) (p q : PageState Origin) (room : ℕ) (gone : List ℕ) (shown m k : ℕ) (step : Step)
+      → room ≡ PAGE - bytes_in (laid_of p.waits) → StepMeans take_end a b p q m k room step → TakesItem take_end a b (box_of gone p shown) (box_of gone q shown) m k step
+  takes-item a b p q room gone shown m k Nothing is (looked, empty, same) = (looked, empty, ap (λ x. box_of gone x shown) same)
+  takes-item a b p q room gone shown m k Full is (s, looked, first, passes, over, same) =
+      (s, looked, first, passes, omega (arith, over, is), ap (λ x. box_of gone x shown) same)
+  takes-item a b p q room gone shown m k (Marked l) is (x, takes, list, same) = (x, takes, list, ap (λ x. box_of gone x shown) same)
+  takes-item a b p q room gone shown m k (Skipped l) is (s, takes, list, held, same) = (s, takes, list, held, ap (λ x. box_of gone x shown) same)
+  takes-item a b p q room gone shown m k (Wrote l len) is (s, takes, list, passes, lays) = (
+    s,
+    takes,
+    list,
+    passes,
+    lays.packets,
+    omega (arith, is, lays.within, lays.long, some_bytes s.packets lays.packets.some),
+    ap (λ x. box_of gone x shown) lays.page ∙ ap (λ xs. record { sent = gone; counter = p.counter; waits = xs; shown = shown }) (laid_push p.waits _),
+  )

@@ -4,8 +4,7 @@ pub mod Steps
 pub mod Accounts
 pub mod Laws
 pub mod IntakeInner
-pub mod Units
+pub mod Origins
 pub mod Outboxes
 pub mod Taking
-pub mod Putting
 pub mod Inner

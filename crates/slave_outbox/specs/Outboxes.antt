@@ -1,61 +1,74 @@
 -- What contracts see of an outbox, and what it stands after.
-use Rattle.std.specs.Prelude.{◌≡◌, ℕ, ◌+◌, ◌%◌, ◌<◌, ◌≤◌, ◌⊎◌, ◌&&◌, Bool, nat_le, nat_lt}
-use Rattle.std.specs.Prelude.{List, [], ◌∷◌, ◌++◌, length, map, flat_map}
-use Rattle.std.specs.Prelude.{take as first}
-use Rattle.frame_writer.specs.Frame.{text}
-use Rattle.frame_writer.specs.Writing.{WriterState}
-use Rattle.slave_outbox.specs.Units.{bytes_in, replies_in}
-use Rattle.slave_outbox.specs.declared.limits.TheConstants.{MAX_REPLIES, MAX_REPLY, MAX_UNITS, MOST}
-use Rattle.slave_outbox.specs.declared.unit.Origin.{Origin}
-use Rattle.slave_outbox.specs.declared.unit.Unit.{Unit}
+use Rattle.std.specs.Prelude.{◌≡◌, ℕ, ◌+◌, ◌%◌, ◌&&◌, Bool, true, false, if◌then◌else◌}
+use Rattle.std.specs.Prelude.{nat_le, nat_lt, count_by}
+use Rattle.std.specs.Prelude.{List, [], ◌∷◌, ◌++◌, length, map}
+use Rattle.frame_writer.specs.Frame.{text, unnumbered}
+use Rattle.frame_ring.specs.Sending.{FrontFits}
+use Rattle.slave_outbox.specs.Origins.{is_reply}
+use Rattle.slave_outbox.specs.declared.limits.TheConstants.{MAX_REPLIES, MAX_REPLY, MOST}
+use Rattle.slave_outbox.specs.declared.origin.Origin.{Origin}
 
--- the frame writer, the bytes that were sent, those that wait, the units that these are, and how
--- many units the last peek showed
-pub record OutboxState : Type 0 where
-  pub writer : WriterState
-  pub sent : List ℕ
-  pub waits : List ℕ
-  pub units : List Unit
-  pub shown : ℕ
-
--- packets that go together, and where they are from
+-- a packet that was laid out: where it is from, and whether it is the last of those that were laid
+-- out together
 pub record Laid : Type 0 where
   pub origin : Origin
-  pub packets : List (List ℕ)
+  pub packet : List ℕ
+  pub last : Bool
 
--- all packets of these, in order
+-- the bytes that were sent, CTR of the next frame that is sent, the packets that wait, the oldest
+-- first, and how many of them the last peek showed
+pub record OutboxState : Type 0 where
+  pub sent : List ℕ
+  pub counter : ℕ
+  pub waits : List Laid
+  pub shown : ℕ
+
+-- all of these, in order
 abbrev pub packets_in : List Laid → List (List ℕ)
-packets_in laid = flat_map (λ (x : Laid). x.packets) laid
+packets_in laid = map (λ (x : Laid). x.packet) laid
 
--- their unit
-abbrev pub unit_of : Laid → Unit
-unit_of x = record { origin = x.origin; len = length (text 0 x.packets) }
+abbrev pub is_none : List (List ℕ) → Bool
+is_none [] = true
+is_none (q ∷ qs) = false
+
+-- packets that are laid out together, in order
+abbrev pub together : Origin → List (List ℕ) → List Laid
+together origin [] = []
+together origin (q ∷ qs) =
+    record { origin = origin; packet = q; last = is_none qs } ∷ together origin qs
+
+-- where those are from whose last packet is one of these
+abbrev pub origins_in : List Laid → List Origin
+origins_in [] = []
+origins_in (x ∷ xs) = if x.last then x.origin ∷ origins_in xs else origins_in xs
+
+-- how many of them are replies
+abbrev pub replies_in : List Laid → ℕ
+replies_in laid = count_by is_reply (origins_in laid)
+
+-- how many bytes their frames have
+abbrev pub bytes_in : List Laid → ℕ
+bytes_in laid = length (unnumbered (packets_in laid))
 
 -- an outbox stands after these: so much was laid out and sent, in order, and so much waits
 pub record StandsAfter (o : OutboxState) (sent waits : List Laid) : Type 0 where
   pub gone : o.sent ≡ text 0 (packets_in sent)
-  pub counter : o.writer.counter ≡ length (packets_in (sent ++ waits)) % 65536
-  pub waiting : o.waits ≡ text (length (packets_in sent)) (packets_in waits)
-  pub units : o.units ≡ map unit_of waits
+  pub counter : o.counter ≡ length sent % 65536
+  pub waiting : o.waits ≡ waits
 
 -- a reply finds room
 abbrev pub has_room : OutboxState → Bool
 has_room o =
-    nat_lt (replies_in o.units) MAX_REPLIES && nat_le (length o.waits + MAX_REPLY) MOST
-    && nat_lt (length o.units) MAX_UNITS
+    nat_lt (replies_in o.waits) MAX_REPLIES && nat_le (bytes_in o.waits + MAX_REPLY) MOST
 
 -- something waits
 abbrev pub has_waiting : OutboxState → Bool
-has_waiting o = nat_lt 0 (length o.units)
+has_waiting o = nat_lt 0 (length o.waits)
 
--- whatever the one stands after, this waits too behind the other
-abbrev pub LaysOut : OutboxState → OutboxState → Laid → Type 0
-LaysOut a b x =
-    (sent waits : List Laid) → StandsAfter a sent waits → StandsAfter b sent (waits ++ x ∷ [])
+-- these wait too, behind all others
+abbrev pub LaysOut : OutboxState → OutboxState → List Laid → Type 0
+LaysOut a b xs = b ≡ record a { waits = a.waits ++ xs }
 
--- a peek shows so many units in so many bytes: as many as fit
-pub record Shows (o : OutboxState) (room count len : ℕ) : Type 0 where
-  pub there : count ≤ length o.units
-  pub bytes : len ≡ bytes_in (first count o.units)
-  pub fits : len ≤ room
-  pub most : (count ≡ length o.units) ⊎ (room < bytes_in (first (count + 1) o.units))
+-- a peek shows so many packets, whose frames have so many bytes: as many as find room
+abbrev pub Shows : OutboxState → ℕ → ℕ → ℕ → Type 0
+Shows o room count len = FrontFits (packets_in o.waits) room (record { count = count; len = len })

@@ -1,36 +1,38 @@
 -- A step at a ring: what was there, what was taken, and what was written.
-use Rattle.std.specs.Prelude.{◌≡◌, ℕ, ◌+◌, ◌<◌, ◌≤◌, false, true, List, [], ◌∷◌, ◌++◌, drop, length}
-use Rattle.std.specs.Prelude.{take as first}
+use Rattle.std.specs.Prelude.{◌≡◌, ℕ, ◌+◌, ◌<◌, ◌≤◌, false, true, List, [], ◌∷◌, ◌++◌, length}
 use mathlib.Core.List.{IsPrefix}
-use Rattle.xcp_base.specs.Packets.{ArePackets}
 use Rattle.xcp_base.specs.Samples.{MarkParts, SampleParts}
 use Rattle.xcp_base.specs.declared.item.Item.{Item}
 use Rattle.xcp_base.specs.declared.item.Item.TheVariants.{Marker, Sample}
+use Rattle.channel_ring.specs.Making.{ArePackets}
 use Rattle.channel_ring.specs.declared.ends.TakeEnd.{Ghosts as TakeGhosts}
-use Rattle.frame_writer.specs.Frame.{text}
-use Rattle.frame_writer.specs.Writing.{WriterState, after_text}
+use Rattle.frame_writer.specs.Frame.{unnumbered}
+use Rattle.frame_ring.specs.Records.{blocks_for}
+use Rattle.frame_page.specs.Pages.{PageState}
+use Rattle.slave_outbox.specs.declared.origin.Origin.{Origin}
+use Rattle.slave_outbox.specs.declared.origin.Origin.TheVariants as origin
 use Rattle.slave_outbox.specs.Deeds.{Deed, Took, passes}
 use Rattle.slave_outbox.specs.Intakes.{GoesOn, IntakeState, OnlyLooked, StandsAfter}
 use Rattle.slave_outbox.specs.declared.step.Step.{Step}
 use Rattle.slave_outbox.specs.declared.step.Step.TheVariants.{Full, Marked, Nothing, Skipped}
 use Rattle.slave_outbox.specs.declared.step.Step.TheVariants.{Wrote}
 
--- the frame writer, and the buffer with its frames
-pub record Page : Type 0 where
-  pub writer : WriterState
-  pub bytes : List ℕ
-
--- the frames of a sample were written, and stand in the buffer from `at` to `end`; behind them
--- nothing changed. A sample has a packet at least, and each has 1 to MAX_DTO bytes
-pub record LaysOut (a b : Page) (s : SampleParts) (at end limit : ℕ) : Type 0 where
-  pub some : 0 < length s.packets
-  pub each : ArePackets s.packets
-  pub writer : b.writer ≡ after_text a.writer s.packets
-  pub front : first end b.bytes ≡ first at a.bytes ++ text a.writer.counter s.packets
-  pub end_is : end ≡ at + length (text a.writer.counter s.packets)
-  pub within : end ≤ limit
-  pub behind : drop end b.bytes ≡ drop end a.bytes
-  pub len : length b.bytes ≡ length a.bytes
+-- the packets of a sample wait behind all others, as from there; their frames have so many bytes,
+-- which find room
+pub record LaysOut (a b : PageState Origin) (s : SampleParts) (origin : Origin) (len room : ℕ)
+    : Type 0 where
+  pub packets : ArePackets s.packets
+  pub long : len ≡ length (unnumbered s.packets)
+  pub within : len ≤ room
+  pub page :
+      b ≡ record a {
+        waits = a.waits ++ record {
+          origin = origin;
+          packets = s.packets;
+          blocks = blocks_for len;
+        } ∷ [];
+        used = a.used + blocks_for len;
+      }
 
 module _ {T E : Type 0} (take : TakeGhosts T E) where
   -- whatever the intake stands after, a sample of list l passes, or doesn't
@@ -48,18 +50,20 @@ module _ {T E : Type 0} (take : TakeGhosts T E) where
     pub first_known : IsPrefix (take.known a.end) (x ∷ take.known b.end)
     pub ring : take.ring b.end ≡ take.ring a.end
 
-  -- what a step did
+  -- what a step did with the next item: it is let go, or laid out in a page, where so many bytes
+  -- find room, as a sample that event channel c has in measurement m
   abbrev pub StepMeans :
-      IntakeState T → IntakeState T → Page → Page → ℕ → ℕ → Step → Type 0
-  StepMeans a b p q at limit Nothing =
+      IntakeState T → IntakeState T → PageState Origin → PageState Origin → ℕ → ℕ → ℕ → Step
+      → Type 0
+  StepMeans a b p q m c room Nothing =
       OnlyLooked take a b × (take.known b.end ≡ []) × (q ≡ p)
-  StepMeans a b p q at limit Full =
+  StepMeans a b p q m c room Full =
       (s : SampleParts) × OnlyLooked take a b × IsPrefix (Sample s ∷ []) (take.known b.end)
-      × Passes a s.list × (limit < at + length (text p.writer.counter s.packets)) × (q ≡ p)
-  StepMeans a b p q at limit (Marked l) =
-      (m : MarkParts) × Takes a b (Marker m) × (l ≡ m.list) × (q ≡ p)
-  StepMeans a b p q at limit (Skipped l) =
+      × Passes a s.list × (room < length (unnumbered s.packets)) × (q ≡ p)
+  StepMeans a b p q m c room (Marked l) =
+      (x : MarkParts) × Takes a b (Marker x) × (l ≡ x.list) × (q ≡ p)
+  StepMeans a b p q m c room (Skipped l) =
       (s : SampleParts) × Takes a b (Sample s) × (l ≡ s.list) × IsHeldBack a s.list × (q ≡ p)
-  StepMeans a b p q at limit (Wrote l end) =
+  StepMeans a b p q m c room (Wrote l len) =
       (s : SampleParts) × Takes a b (Sample s) × (l ≡ s.list) × Passes a s.list
-      × LaysOut p q s at end limit
+      × LaysOut p q s (origin.Sample m c l) len room

@@ -6,9 +6,10 @@ ghost use Rattle.slave_outbox.specs.IntakeInner.{IsOfList, Notes, takes_one};
 
 use crate::laying::lay_first;
 use crate::list_intake::{FIRST, ListIntake};
+use crate::origin::Origin;
 use crate::step::Step;
 use channel_ring::{ItemTake, TakeEnd};
-use frame_writer::{FrameWriter, SinkOut};
+use frame_page::FramePage;
 use std::marker::Model;
 use xcp_base::{ListId, PerList};
 
@@ -37,8 +38,7 @@ impl<T> Model for Intake<T> {
 
 impl<T: ItemTake> Intake<T> {
     ghost use Rattle.std.specs.Prelude.{◌≡◌, ◌+◌, ◌<◌, ◌≤◌, [], List, false, length};
-    ghost use Rattle.frame_writer.specs.Sinks.{sink_writer};
-    ghost use Rattle.frame_writer.specs.declared.layout.TheConstants.{MAX_SAMPLE_BYTES};
+    ghost use Rattle.frame_ring.specs.Records.{blocks_for};
     ghost use Rattle.slave_outbox.specs.Deeds.{Deed, Started, Stopped, Unsent, written_by};
     ghost use Rattle.slave_outbox.specs.Intakes.{GoesOn, StandsAfter};
     ghost use Rattle.slave_outbox.specs.Steps.{StepMeans};
@@ -83,32 +83,27 @@ impl<T: ItemTake> Intake<T> {
         self.lists.set(l, kept);
     }
 
-    /// Takes the next item of the ring, if one is there. The frames of a sample that is written are
-    /// laid out in the buffer from `at` on, and end at `limit` or before it; if they wouldn't,
-    /// the sample stays in the ring.
+    /// Takes the next item of the ring, if one is there. A sample that passes is laid out in the
+    /// page, as one that the event channel has in the measurement, if its frames have no more than
+    /// `room` bytes; if they have more, it stays in the ring.
     ///
-    /// It takes no memory. Behind `limit` the buffer has `MAX_SAMPLE_BYTES` bytes at least.
+    /// It takes no memory. The page has blocks for so many bytes, and a place.
     pub fn step(
         &mut self,
-        writer: &mut FrameWriter<SinkOut>,
-        buffer: &mut [u8],
-        at: usize,
-        limit: usize,
+        page: &mut FramePage<Origin>,
+        room: usize,
+        measurement: u64,
+        channel: u8,
     ) -> Step
-        requires was_open { (sink_writer writer.old).closed ≡ false }
-        requires within { at ≤ limit }
-        requires room { limit + MAX_SAMPLE_BYTES ≤ length buffer.old }
-        ensures means { StepMeans T.TakeEnd self.old self.new
-            (record { writer = sink_writer writer.old; bytes = buffer.old })
-            (record { writer = sink_writer writer.new; bytes = buffer.new })
-            at limit result }
-        ensures stays_open { (sink_writer writer.new).closed ≡ false }
-        ensures len { length buffer.new ≡ length buffer.old }
+        requires blocks { page.old.used + blocks_for room ≤ page.old.blocks }
+        requires place { length page.old.waits < page.old.most }
+        ensures means { StepMeans T.TakeEnd self.old self.new page.old page.new measurement channel
+            room result }
     {
         if !self.end.look() {
             return Step::Nothing;
         }
-        let step = lay_first(&self.end, &self.lists, writer, buffer, at, limit);
+        let step = lay_first(&self.end, &self.lists, page, room, measurement, channel);
         let_go(&mut self.end, step);
         note_step(&mut self.lists, step);
         step

@@ -5,21 +5,19 @@
 
 mod account;
 mod discarding;
-mod front;
 mod intake;
 pub mod laws;
 mod laying;
 mod limits;
 mod list_intake;
+mod origin;
 mod outbox;
-mod putting;
+mod sent_log;
 mod step;
 mod taking;
-mod unit;
 
 pub use intake::Intake;
 pub use limits::{MAX_REPLIES, PAGE};
+pub use origin::Origin;
 pub use outbox::Outbox;
-pub use putting::PutFault;
 pub use step::Step;
-pub use unit::{Origin, Unit};

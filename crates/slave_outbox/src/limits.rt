@@ -1,5 +1,6 @@
 //! The limits of an outbox.
-use frame_writer::MAX_SAMPLE_BYTES;
+use frame_page::REPLY_BLOCKS;
+use frame_ring::BLOCK;
 use xcp_base::limits::MAX_CTO;
 
 /// Samples are laid out up to so many bytes: what fits one datagram.
@@ -14,9 +15,13 @@ pub(crate) const MAX_REPLY: usize = 4 + MAX_CTO;
 /// What waits is never more: samples up to the page's end, and replies behind them.
 pub(crate) const MOST: usize = PAGE + MAX_REPLIES * MAX_REPLY;
 
-/// The room for it, with that of the longest sample behind it.
-pub(crate) const ROOM: usize = MOST + MAX_SAMPLE_BYTES;
+/// The blocks of the longest sample that finds room.
+pub(crate) const LONGEST: usize = (PAGE + BLOCK - 1) / BLOCK;
 
-/// The most replies and samples that wait: more than find room, since each sample has a frame of at
-/// least four bytes within the page.
-pub(crate) const MAX_UNITS: usize = 640;
+/// The blocks of the page: a sample or a reply takes up three for each five of its bytes at most,
+/// also one of which only the last frame waits; and one more reply finds room.
+pub(crate) const BLOCKS: usize = (3 * MOST + 4) / 5 + LONGEST + REPLY_BLOCKS;
+
+/// The samples and replies that find a place in the page: a sample has a frame of four bytes at
+/// least.
+pub(crate) const PLACES: usize = PAGE / 4 + MAX_REPLIES + 1;

@@ -1,59 +1,77 @@
 //! What waits to be sent: frames are laid out, shown to the transport, and let go once sent.
-ghost use Rattle.std.specs.Prelude.{◌<◌};
+ghost use Rattle.std.specs.Prelude.{◌≡◌, ◌≤◌, true, false};
+ghost use Rattle.slave_outbox.specs.Inner.{replies_kept};
 
-use crate::front::{Front, front_of, replies_in};
-use crate::limits::{MAX_REPLIES, MAX_REPLY, MAX_UNITS, MOST, ROOM};
-use crate::unit::{Origin, Unit};
-use circular_buffer::HeapCircularBuffer;
-use frame_writer::{ByteLog, FrameWriter, SinkOut};
+use crate::limits::{BLOCKS, MAX_REPLIES, MAX_REPLY, MOST, PLACES};
+use crate::origin::Origin;
+use crate::sent_log::SentLog;
+use frame_page::FramePage;
+use frame_ring::Front;
 use std::alloc::{AllocError, Global};
 use std::marker::Model;
 
-/// What a slave has laid out and its transport has not taken yet, behind one frame writer.
+/// What a slave has laid out and its transport has not taken yet, frame by frame.
 ///
-/// Contracts speak of what was laid out: what was sent of it, and what waits.
+/// Contracts speak of the packets that were laid out: those that were sent, and those that wait.
 #[derive(Drop)]
 pub struct Outbox {
-    pub(crate) writer: FrameWriter<SinkOut>,
-    pub(crate) page: [u8; ROOM],
-    pub(crate) end: usize,
-    pub(crate) units: HeapCircularBuffer<Unit>,
+    pub(crate) page: FramePage<Origin>,
+    // The bytes that wait.
+    pub(crate) len: usize,
     pub(crate) shown: Front,
     // contracts alone see it: it has no bytes
-    pub(crate) log: ByteLog,
+    pub(crate) log: SentLog,
 }
 
 impl Model for Outbox {
-    ghost use Rattle.std.specs.Prelude.{◌≡◌, false, length, take};
-    ghost use Rattle.frame_writer.specs.Sinks.{sink_writer};
-    ghost use Rattle.slave_outbox.specs.Inner.{IsOutbox};
+    ghost use Rattle.slave_outbox.specs.Inner.{IsOutbox, laid_of};
     ghost use Rattle.slave_outbox.specs.Outboxes.{OutboxState};
-    ghost use Rattle.slave_outbox.specs.declared.limits.TheConstants.{ROOM};
 
     ghost Value = { OutboxState };
 
     ghost view = { λ o. record {
-      writer = sink_writer o.writer;
-      sent = o.log.bytes;
-      waits = take o.end o.page;
-      units = o.units.items;
+      sent = o.log.sent;
+      counter = o.page.counter;
+      waits = laid_of o.page.waits;
       shown = o.shown.count;
     } };
 
-    ghost invariant = { λ o.
-        ((sink_writer o.writer).closed ≡ false)
-        × (length o.page ≡ ROOM)
-        × IsOutbox o.end o.end o.units o.shown };
+    ghost invariant = { λ o. IsOutbox o.page o.len o.shown o.log.shown };
+}
+
+/// What is shown where no peek was.
+pub(crate) const NONE_SHOWN: Front = Front { count: 0, len: 0 };
+
+/// One, if it is so.
+fn one_if(is: bool) -> usize
+    ensures yes { is ≡ true → result ≡ 1 }
+    ensures no { is ≡ false → result ≡ 0 }
+    ensures limit { result ≤ 1 }
+{
+    if is { 1 } else { 0 }
+}
+
+/// How many of those that wait in a page are replies.
+fn replies_in(page: &FramePage<Origin>) -> usize
+    ensures { result ≡ replies_kept page.now.waits }
+{
+    let mut count = 0;
+    for i in 0..page.len() {
+        count += one_if(page.origin(i).is_reply());
+    }
+    count
 }
 
 impl Outbox {
     ghost use Rattle.std.specs.Prelude.{◌≡◌, ◌+◌, ◌<◌, ◌≤◌, ◌++◌, [], ◌∷◌, List, true, false};
     ghost use Rattle.std.specs.Prelude.{IfOk, Some, not, drop, length, slice_get, take};
+    ghost use Rattle.frame_writer.specs.Frame.{text};
     ghost use Rattle.xcp_base.specs.declared.limits.TheConstants.{MAX_CTO};
-    ghost use Rattle.slave_outbox.specs.Outboxes.{Laid, LaysOut, Shows, StandsAfter};
-    ghost use Rattle.slave_outbox.specs.Outboxes.{has_room, has_waiting};
-    ghost use Rattle.slave_outbox.specs.declared.unit.Unit.{Unit};
-    ghost use Rattle.slave_outbox.specs.declared.limits.TheConstants.{MAX_REPLY, MAX_UNITS, MOST};
+    ghost use Rattle.slave_outbox.specs.Outboxes.{Laid, LaysOut, Shows, StandsAfter, bytes_in};
+    ghost use Rattle.slave_outbox.specs.Outboxes.{has_room, has_waiting, origins_in, packets_in};
+    ghost use Rattle.slave_outbox.specs.Outboxes.{replies_in, together};
+    ghost use Rattle.slave_outbox.specs.declared.limits.TheConstants.{MAX_REPLIES, MAX_REPLY};
+    ghost use Rattle.slave_outbox.specs.declared.limits.TheConstants.{MOST};
 
     /// An outbox in which nothing waits. Its first frame has CTR 0.
     pub fn new(alloc: Global) -> Result<Outbox, AllocError>
@@ -61,12 +79,10 @@ impl Outbox {
         ensures none_shown { IfOk result (λ o. o.shown ≡ 0) }
     {
         Ok(Outbox {
-            writer: FrameWriter::new(SinkOut::new()),
-            page: [0; ROOM],
-            end: 0,
-            units: HeapCircularBuffer::with_capacity(alloc, MAX_UNITS)?,
-            shown: Front { count: 0, len: 0 },
-            log: ByteLog::new(),
+            page: FramePage::new(alloc, BLOCKS, PLACES)?,
+            len: 0,
+            shown: NONE_SHOWN,
+            log: SentLog::new(),
         })
     }
 
@@ -74,10 +90,7 @@ impl Outbox {
     pub fn has_room(&self) -> bool
         ensures { result ≡ has_room self.now }
     {
-        if replies_in(&self.units) >= MAX_REPLIES {
-            return false;
-        }
-        self.end + MAX_REPLY <= MOST && !self.units.is_full()
+        replies_in(&self.page) < MAX_REPLIES && self.len + MAX_REPLY <= MOST
     }
 
     /// Lays a reply out behind all that waits, if it finds room, and returns whether it does.
@@ -86,7 +99,7 @@ impl Outbox {
         requires fits { length packet.now ≤ MAX_CTO }
         ensures room { result ≡ has_room self.old }
         ensures lays_out { result ≡ true → LaysOut self.old self.new
-            (record { origin = Origin.Reply; packets = packet.now ∷ [] }) }
+            (together Origin.Reply (packet.now ∷ [])) }
         ensures stays { result ≡ false → self.new ≡ self.old }
         ensures shown_stays { self.new.shown ≡ self.old.shown }
     {
@@ -101,84 +114,74 @@ impl Outbox {
     fn lay(&mut self, packet: &[u8])
         requires not_empty { 0 < length packet.now }
         requires fits { length packet.now ≤ MAX_CTO }
-        requires room { length self.old.waits + MAX_REPLY ≤ MOST }
-        requires units { length self.old.units < MAX_UNITS }
-        ensures lays_out { LaysOut self.old self.new
-            (record { origin = Origin.Reply; packets = packet.now ∷ [] }) }
-        ensures shown_stays { self.new.shown ≡ self.old.shown }
+        requires few { replies_in self.old.waits < MAX_REPLIES }
+        requires room { bytes_in self.old.waits + MAX_REPLY ≤ MOST }
+        ensures lays_out { LaysOut self.old self.new (together Origin.Reply (packet.now ∷ [])) }
     {
-        let end = self.writer.send_one_into(&mut self.page, self.end, packet);
-        let len = end - self.end;
-        let _ = self.units.push_back(Unit {
-            origin: Origin::Reply,
-            len,
-        });
-        self.end = end;
+        self.page.put_reply(packet, Origin::Reply);
+        self.len += 4 + packet.len();
     }
 
-    /// Copies as many whole replies and samples as find room to the front of a buffer, in the order
-    /// in which they were laid out, and returns how many bytes these are. They still wait: the next
-    /// peek begins with the same, unless `sent` comes between.
+    /// Copies as many whole frames as find room to the front of a buffer, in the order in which
+    /// they were laid out, and returns how many bytes these are. They still wait: the next peek
+    /// begins with the same, unless `sent` comes between. A sample may so go out in several
+    /// datagrams.
     pub fn peek(&mut self, buffer: &mut [u8]) -> usize
         ensures shows { Shows self.old (length buffer.old) self.new.shown result }
-        ensures bytes { take result buffer.new ≡ take result self.old.waits }
+        ensures bytes { take result buffer.new
+            ≡ text self.old.counter (packets_in (take self.new.shown self.old.waits)) }
         ensures behind { drop result buffer.new ≡ drop result buffer.old }
         ensures rest_stays { self.new ≡ record self.old { shown = self.new.shown } }
     {
-        let front = front_of(&self.units, buffer.len());
-        buffer[..front.len].copy_from_slice(&self.page[..front.len]);
+        let front = self.page.peek(buffer);
+        // for the proof: clauses speak of the bytes that are sent
+        self.log.show(&buffer[..front.len]);
         self.shown = front;
         front.len
     }
 
-    /// What the last peek showed was sent, and waits no more.
+    /// The frames that the last peek showed were sent, and wait no more.
     pub fn sent(&mut self)
         ensures stands { (sent waits : List Laid) → StandsAfter self.old sent waits
             → StandsAfter self.new (sent ++ take self.old.shown waits)
             (drop self.old.shown waits) }
         ensures none_shown { self.new.shown ≡ 0 }
     {
-        let Front { count, len } = self.shown;
-        // for the proof: clauses speak of the bytes that were sent
-        self.log.note(&self.page[..len]);
-        self.page.copy_within(len..self.end, 0);
-        self.end -= len;
-        let left = self.units.len() - count;
-        self.units.truncate_front(left);
-        self.shown = Front { count: 0, len: 0 };
+        self.page.sent(self.shown.count);
+        self.len -= self.shown.len;
+        // for the proof, as above
+        self.log.sent(&[]);
+        self.shown = NONE_SHOWN;
     }
 
-    /// How many replies and samples wait.
+    /// How many replies and samples wait, as a whole or in part.
     pub fn len(&self) -> usize
-        ensures { result ≡ length self.now.units }
+        ensures { result ≡ length (origins_in self.now.waits) }
     {
-        self.units.len()
+        self.page.len()
     }
 
     /// How many bytes wait.
     pub fn waiting(&self) -> usize
-        ensures { result ≡ length self.now.waits }
+        ensures { result ≡ bytes_in self.now.waits }
     {
-        self.end
+        self.len
     }
 
     /// Whether nothing waits.
     pub fn is_empty(&self) -> bool
         ensures waiting { result ≡ not (has_waiting self.now) }
-        ensures none { result ≡ true → self.now.units ≡ [] }
+        ensures none { result ≡ true → self.now.waits ≡ [] }
         ensures none_shown { result ≡ true → self.now.shown ≡ 0 }
     {
-        self.units.is_empty()
+        self.page.len() == 0
     }
 
-    /// Where the frames are from that wait at place `i`, of the oldest first.
+    /// Where the reply or the sample is from that waits at place `i`, of the oldest first.
     pub fn origin(&self, i: usize) -> Origin
-        requires place { i < length self.now.units }
-        ensures origin { (u : Unit) → slice_get self.now.units i ≡ Some u → result ≡ u.origin }
+        requires place { i < length (origins_in self.now.waits) }
+        ensures { slice_get (origins_in self.now.waits) i ≡ Some result }
     {
-        let Some(unit) = self.units.get(i) else {
-            unreachable!()
-        };
-        unit.origin
+        self.page.origin(i)
     }
 }

@@ -4,13 +4,13 @@
 pub enum Step {
     /// No item was there.
     Nothing,
-    /// The next sample is of a list that runs, and its frames found no room in the buffer. It stays
+    /// The next sample is of a list that runs, and its frames found no room in the page. It stays
     /// in the ring.
     Full,
     /// The stop marker of this DAQ list was taken.
     Marked(u8),
     /// A sample of this DAQ list was taken, and not written: the list was stopped meanwhile.
     Skipped(u8),
-    /// A sample of this DAQ list was taken, and its frames were laid out up to this place.
+    /// A sample of this DAQ list was taken, and its frames were laid out, which have so many bytes.
     Wrote(u8, usize),
 }

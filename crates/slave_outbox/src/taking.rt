@@ -1,26 +1,22 @@
 //! Samples are taken off the rings of event channels, and laid out.
-ghost use Rattle.std.specs.Prelude.{◌≡◌, ◌≤◌, max};
+ghost use Rattle.std.specs.Prelude.{◌≡◌, ◌-◌};
+ghost use Rattle.slave_outbox.specs.Outboxes.{bytes_in};
 ghost use Rattle.slave_outbox.specs.Taking.{TakesItem};
-ghost use Rattle.slave_outbox.specs.declared.limits.TheConstants.{MOST, PAGE};
+ghost use Rattle.slave_outbox.specs.declared.limits.TheConstants.{PAGE};
 
 use crate::limits::PAGE;
 use crate::outbox::Outbox;
-use crate::unit::{Origin, Unit};
 use crate::{Intake, Step};
 use channel_ring::{ItemTake, TakeEnd};
 
-/// Up to where a sample's frames may go behind so many bytes: to the page's end, or nowhere.
-fn limit_of(end: usize) -> usize
-    requires few { end ≤ MOST }
-    ensures value { result ≡ max end PAGE }
-    ensures within { end ≤ result }
-    ensures most { result ≤ MOST }
-    ensures page { PAGE ≤ result }
-{
-    if end > PAGE { end } else { PAGE }
-}
-
 impl Outbox {
+    /// The bytes that samples still find room in: up to the page's end, or none.
+    fn room(&self) -> usize
+        ensures { result ≡ PAGE - bytes_in self.now.waits }
+    {
+        PAGE.saturating_sub(self.len)
+    }
+
     /// Takes the next item of an event channel's ring, if one is there, by its intake. A sample
     /// that passes is laid out behind all that waits, as one of this measurement and event channel,
     /// if its frames end within the page; else it stays in the ring. It takes no memory.
@@ -34,15 +30,11 @@ impl Outbox {
             measurement channel result }
         ensures shown_stays { self.new.shown ≡ self.old.shown }
     {
-        let limit = limit_of(self.end);
-        let step = intake.step(&mut self.writer, &mut self.page, self.end, limit);
-        let Step::Wrote(list, end) = step else {
-            return step;
-        };
-        let origin = Origin::Sample(measurement, channel, list);
-        let len = end - self.end;
-        let _ = self.units.push_back(Unit { origin, len });
-        self.end = end;
+        let room = self.room();
+        let step = intake.step(&mut self.page, room, measurement, channel);
+        if let Step::Wrote(_, len) = step {
+            self.len += len;
+        }
         step
     }
 }

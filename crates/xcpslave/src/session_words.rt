@@ -33,6 +33,9 @@ fn write_line(text: &mut String, line: &Line) -> Result<(), AllocError> {
         }
         Line::Memory(memory) => write_memory(text, memory),
         Line::Send => text.push_str("send: all that waits is sent\n"),
+        Line::SendIn(room) => {
+            writeln!(text, "send: of what waits, frames of {room} bytes at most")
+        }
         Line::Lose => text.push_str("lose: the transport refuses what waits\n"),
         Line::HangUp => text.push_str("hang_up: the transport is lost\n"),
     }

@@ -1,89 +1,16 @@
-use Rattle.std.proofs.Common.{◌≡◌, ℕ, ◌+◌, ◌-◌, ◌/◌, ◌≤◌, List, [], ◌∷◌, ◌++◌, length, take, refl, sym, ap, ◌∙◌, subst, arith}
-use Rattle.std.proofs.lemmas.List.{with_items_is}
-use borrow.Rule.Slice.PartMut.{put_mid}
-use Rattle.std.proofs.lemmas.Slice.{take-put_mid}
-use Rattle.std.specs.Simd.{first_chunks}
-use Rattle.std.specs.Vec.{with_items}
-use Rattle.frame_writer.specs.Frame.{frame}
+use Rattle.std.proofs.Common.{◌++◌, [], ◌∷◌, ◌+◌, ap, ◌∙◌}
 use Rattle.frame_ring.specs.Records.{blocks_for}
-use Rattle.frame_ring.proofs.BlockLemmas.{length-chunks}
-use Rattle.frame_page.specs.Inner.{IsPage, IsUnit}
-use Rattle.frame_page.specs.Pages.{PageState, laid_in, waits_in}
-use Rattle.frame_page.specs.declared.unit.Unit.{Unit}
-use Rattle.frame_page.proofs.ReplyLemmas.{reply_is, reply_laid, reply_unit}
-use Rattle.frame_page.proofs.TakeLemmas.{OneMore, one_more, page_is}
-use Rattle.frame_page.proofs.UnitLemmas.{how_many, length-put_mid}
-use Rattle.frame_page.proofs.page.FramePage.put_reply.Given.{Over}
+use Rattle.frame_page.proofs.PutLemmas.{one_packet}
 use Rattle.frame_page.proofs.page.FramePage.put_reply.Goals as goal
-use Rattle.frame_page.proofs.page.FramePage.put_reply.Goals.{After-push_back}
 
--- the blocks of its frame
-abbrev many : (g : Over) (c : After-push_back g) → ℕ
-many g c = blocks_for (4 + length c.args.packet.now)
+pub put-requires-clause-frames : goal.put-requires-clause-frames
+put-requires-clause-frames g c = record {
+  packets = c.args.packet.now ∷ [];
+  of = one_packet c.framed-len.result.0 c.args.packet.now c.framed-len.result.1 c.requires.not_empty c.requires.fits c.framed-len.ensures.bytes;
+}
 
-size : (g : Over) (c : After-push_back g) → (c.framed-len.result.1 + 8 - 1) / 8 ≡ many g c
-size g c = omega (arith, c.framed-len.ensures.len)
-
-framed : (g : Over) (c : After-push_back g) → take (4 + length c.args.packet.now) c.framed-len.result.0 ≡ frame 0 c.args.packet.now
-framed g c = ap (λ n. take n c.framed-len.result.0) (sym c.framed-len.ensures.len) ∙ c.framed-len.ensures.bytes
-
-copied : (g : Over) (c : After-push_back g) → c.copy_from_slice.new.self ≡ first_chunks 8 (many g c) c.framed-len.result.0
-copied g c = c.copy_from_slice.ensures.after ∙ c.first_blocks.ensures.blocks ∙ ap (λ n. first_chunks 8 n c.framed-len.result.0) (size g c)
-
--- the blocks of the page with these behind those that are taken up
-abbrev blocks_then : (g : Over) (c : After-push_back g) → List (List ℕ)
-blocks_then g c = put_mid c.self.inside.end (c.self.inside.end + (c.framed-len.result.1 + 8 - 1) / 8 - c.self.inside.end) c.deref_mut.result.now c.copy_from_slice.new.self
-
-fits : (g : Over) (c : After-push_back g) → c.self.inside.end + many g c ≤ length c.self.inside.blocks.items
-fits g c = omega (arith, c.requires.room, ap (λ (p : PageState _). p.used) c.self.view_is, ap (λ (p : PageState _). p.blocks) c.self.view_is)
-
-count : (g : Over) (c : After-push_back g) → length c.copy_from_slice.new.self ≡ many g c
-count g c = ap length (copied g c) ∙ length-chunks (many g c) c.framed-len.result.0
-
-long : (g : Over) (c : After-push_back g) → length (blocks_then g c) ≡ length c.self.inside.blocks.items
-long g c =
-    length-put_mid c.self.inside.end (c.self.inside.end + (c.framed-len.result.1 + 8 - 1) / 8 - c.self.inside.end) c.deref_mut.result.now c.copy_from_slice.new.self
-    (omega (arith, fits g c, size g c, ap length c.deref_mut.ensures.value)) (count g c ∙ omega (arith, size g c))
-    ∙ ap length c.deref_mut.ensures.value
-
-same_unit : {O : Type 0} (origin : O) (q : List ℕ) (blocks len : ℕ) → blocks ≡ blocks_for (4 + length q) → len ≡ 4 + length q
-    → ◌≡◌ {A = Unit O} (record { origin = origin; blocks = blocks; at = 0; len = len; count = 1 }) (reply_unit origin q)
-same_unit origin q blocks len e f = rw (e, f) refl
-
-laid : (g : Over) (c : After-push_back g) → OneMore c.self.inside.blocks.items (blocks_then g c) c.self.inside.end (length c.copy_from_slice.new.self) c.self.inside.units c.push_back.new.self (laid_in c.copy_from_slice.new.self (reply_unit c.args.origin c.args.packet.now))
-laid g c =
-    let s = c.self.inside in
-    let region = c.copy_from_slice.new.self in
-    one_more s.blocks.items (blocks_then g c) region s.end s.units c.push_back.new.self (reply_unit c.args.origin c.args.packet.now) _
-    c.self.invariant (subst (λ r. IsUnit r (reply_unit c.args.origin c.args.packet.now)) (sym (copied g c)) (reply_is c.args.origin c.args.packet.now c.framed-len.result.0 c.requires.not_empty c.requires.fits c.framed-len.ensures.room (framed g c)))
-    (same_unit c.args.origin c.args.packet.now ((c.framed-len.result.1 + 8 - 1) / 8) c.framed-len.result.1 (size g c) c.framed-len.ensures.len)
-    (long g c)
-    (take-put_mid s.end (s.end + (c.framed-len.result.1 + 8 - 1) / 8 - s.end) c.deref_mut.result.now region (s.end + length region) refl (omega (arith, fits g c, ap length c.deref_mut.ensures.value))
-    ∙ ap (λ b. take s.end b ++ region) c.deref_mut.ensures.value)
-    (omega (arith, fits g c, count g c))
-    (omega (arith, c.requires.place, ap (λ (p : PageState _). length p.waits) c.self.view_is, ap (λ (p : PageState _). p.most) c.self.view_is, how_many (take s.end s.blocks.items) s.units.items))
-    c.push_back.ensures.items
-
-items : (g : Over) (c : After-push_back g) → (with_items c.self.inside.blocks (blocks_then g c)).items ≡ blocks_then g c
-items g c = with_items_is c.self.inside.blocks (blocks_then g c) (long g c ∙ sym (ap length c.deref_mut.ensures.value) ∙ c.deref_mut.ensures.len)
-
-ends : (g : Over) (c : After-push_back g) → c.self.inside.end + length c.copy_from_slice.new.self ≡ c.self.inside.end + (c.framed-len.result.1 + 8 - 1) / 8
-ends g c = omega (arith, count g c, size g c)
-
-pub invariant_of-self : goal.invariant_of-self
-invariant_of-self g c =
-    let w = (goal.at.invariant_of-self g c).After-push_back in
-    subst (λ b. IsPage b (c.self.inside.end + (c.framed-len.result.1 + 8 - 1) / 8) c.push_back.new.self) (sym (items g w)) (subst (λ n. IsPage (blocks_then g w) n c.push_back.new.self) (ends g w) (laid g w).page)
-
+-- its frame has so many bytes
 pub returns : goal.returns
 returns g c =
-    let w = (goal.at.returns g c).After-push_back in
-    let s = c.self.inside in
-    let n = (c.framed-len.result.1 + 8 - 1) / 8 in
-    let q = c.args.packet.now in
-    let waits : waits_in (take (s.end + n) (with_items s.blocks (blocks_then g w)).items) c.push_back.new.self.items ≡ waits_in (take s.end s.blocks.items) s.units.items ++ record { origin = c.args.origin; packets = q ∷ []; blocks = blocks_for (4 + length q) } ∷ [] =
-    ap (λ b. waits_in (take (s.end + n) b) c.push_back.new.self.items) (items g w) ∙ ap (λ k. waits_in (take k (blocks_then g w)) c.push_back.new.self.items) (sym (ends g w)) ∙ (laid g w).waits
-    ∙ ap (λ r. waits_in (take s.end s.blocks.items) s.units.items ++ laid_in r (reply_unit c.args.origin q) ∷ []) (copied g w)
-    ∙ ap (λ l. waits_in (take s.end s.blocks.items) s.units.items ++ l ∷ []) (reply_laid c.args.origin q c.framed-len.result.0 c.requires.not_empty c.requires.fits c.framed-len.ensures.room (framed g w)) in
-    subst (λ (old : PageState _). ◌≡◌ {A = PageState _} (record { waits = waits_in (take (s.end + n) (with_items s.blocks (blocks_then g w)).items) c.push_back.new.self.items; counter = s.counter; used = s.end + n; blocks = length (with_items s.blocks (blocks_then g w)).items; most = c.push_back.new.self.capacity }) (record old { waits = old.waits ++ record { origin = c.args.origin; packets = q ∷ []; blocks = blocks_for (4 + length q) } ∷ []; used = old.used + blocks_for (4 + length q) })) c.self.view_is
-    (page_is _ _ s.counter _ _ _ _ _ _ waits (ap (λ k. s.end + k) (size g w)) (ap length (items g w) ∙ long g w) (laid g w).most)
+    c.put.ensures (c.args.packet.now ∷ []) (one_packet c.framed-len.result.0 c.args.packet.now c.framed-len.result.1 c.requires.not_empty c.requires.fits c.framed-len.ensures.bytes)
+    ∙ ap (λ n. record c.args.self.now { waits = c.args.self.now.waits ++ record { origin = c.args.origin; packets = c.args.packet.now ∷ []; blocks = blocks_for n } ∷ []; used = c.args.self.now.used + blocks_for n }) c.framed-len.ensures.len

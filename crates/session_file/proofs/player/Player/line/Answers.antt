@@ -48,6 +48,20 @@ returns-in-Send g c =
       tasks = ap (λ (ts : Vec _ _). lines_of ts.items) c.send.ensures.tasks_stay;
     }
 
+pub returns-in-SendIn : goal.returns-in-SendIn
+returns-in-SendIn g c =
+    let take = g.R.Take.TakeEnd in
+    let was = c.args.self.now in
+    let now = c.send-in-SendIn.new.self in
+    let stays = c.send-in-SendIn.ensures.refused_stays in
+    record {
+      does = on_ok c.send-in-SendIn.result
+          (does-other take (sending was.slave was.out.contents) (sending now.slave now.out.contents) was.refused now.refused (line_data c.args.line.now)
+          (ap (λ l. masters (line_data l ∷ [])) c.in-SendIn.is) (omega (arith, stays)) (omega (arith, stays)))
+          c.send-in-SendIn.ensures.sends;
+      tasks = ap (λ (ts : Vec _ _). lines_of ts.items) c.send-in-SendIn.ensures.tasks_stay;
+    }
+
 pub returns-in-Lose : goal.returns-in-Lose
 returns-in-Lose g c =
     let was = c.args.self.now in

@@ -1,4 +1,5 @@
-use Rattle.std.proofs.Common.{◌<◌, ap, length, arith}
+use Rattle.std.proofs.Common.{ap, length, arith}
+use Rattle.slave_outbox.specs.Outboxes.{origins_in}
 use Rattle.slave.proofs.DiscardingLemmas.{leaves-all, leaves-next, leaves-none}
 use Rattle.slave.proofs.slave.Slave.leave_all.Goals as goal
 
@@ -8,12 +9,10 @@ loop-i-init g c = leaves-none g.R.Take.TakeEnd c.args.self.now
 -- one more
 pub loop-i-preserved : goal.loop-i-preserved
 loop-i-preserved g c =
-    let below : c.loop-i.i < length c.args.self.now.outbox.units =
-    omega (arith, c.loop-i-test.true, c.len-i-end.ensures, ap (λ s. length s.outbox.units) c.self.view_is) in
-    leaves-next g.R.Take.TakeEnd c.loop-i.i c.args.self.now c.loop-i.self c.leave.new.self _ c.origin-origin.result c.self-in-loop-i.view_is below c.origin-origin.ensures.origin c.loop-i.invariant c.leave.ensures.leaves
+    leaves-next g.R.Take.TakeEnd c.loop-i.i c.args.self.now c.loop-i.self c.leave.new.self _ c.origin-origin.result c.self-in-loop-i.view_is c.origin-origin.ensures c.loop-i.invariant c.leave.ensures.leaves
 
 pub returns : goal.returns
 returns g c = record {
-  leaves = leaves-all g.R.Take.TakeEnd c.loop-i.i (length c.args.self.now.outbox.units) c.args.self.now c.loop-i.self
-      (omega (arith, c.loop-i.auto.i-end, c.loop-i-test.false, c.len-i-end.ensures, ap (λ s. length s.outbox.units) c.self.view_is)) c.loop-i.invariant;
+  leaves = leaves-all g.R.Take.TakeEnd c.loop-i.i (length (origins_in c.args.self.now.outbox.waits)) c.args.self.now c.loop-i.self
+      (omega (arith, c.loop-i.auto.i-end, c.loop-i-test.false, c.len-i-end.ensures, ap (λ s. length (origins_in s.outbox.waits)) c.self.view_is)) c.loop-i.invariant;
 }

@@ -1,6 +1,7 @@
 use Rattle.std.proofs.Common.{◌≡◌, ◌⊎◌, ◌≤◌, ◌+◌, ◌*◌, ◌-◌}
 use Rattle.xcp_base.specs.declared.limits.TheConstants.{MAX_CHANNELS}
 use Rattle.slave.specs.Taking.{LetsGo, TakesItems}
+use Rattle.slave.specs.declared.limits.TheConstants.{PER_ACT}
 use Rattle.slave.proofs.FairLemmas.{Begins, FairSoFar}
 use Rattle.slave.proofs.slave.Slave.take.Given as goal
 
@@ -10,7 +11,7 @@ abbrev pub invariant-loop-rounds : goal.invariant-loop-rounds
 invariant-loop-rounds g l = record {
   takes : TakesItems g.R.Take.TakeEnd (1024 * MAX_CHANNELS + MAX_CHANNELS * l.rounds) l.fn.self l.self;
   few : l.rounds ≤ 1024;
-  went : (l.rounds ≡ 0) ⊎ ((l.begin ≡ 0) × (l.fn.self.acts + 3 * (l.rounds - 1) ≤ l.self.acts));
+  went : (l.rounds ≡ 0) ⊎ ((l.begin ≡ 0) × (l.fn.self.acts + PER_ACT * (l.rounds - 1) ≤ l.self.acts));
   first : (l.rounds ≡ 0) ⊎ (l.self.next ≡ 0);
   begins : Begins l.fn.self l.rounds l.begin;
   goes : LetsGo g.R.Take.TakeEnd l.fn.self l.self;
